@@ -1,0 +1,1 @@
+// Worked cases of paper 01, computed by the definitions of `model`. No code.

@@ -1,0 +1,29 @@
+-- Choice by a test, and what a call decides. Ordered refusals read as in the paper:
+--     3 if not-held else 4 if lease-over else ..
+-- Assumes nothing.
+use Prim.Native.Nat.{ℕ}
+use mathlib.Core.Bool.{Bool, true, false}
+use mathlib.Core.List.{List}
+
+-- a where t holds, else b
+abbrev pub pick : {A : Type 0} → Bool → A → A → A
+pick true a b = a
+pick false a b = b
+
+-- What a server's call decides; `R` is the type of log records.
+--     refuse n     the refusal's number, and nothing changes
+--     deny n b     the refusal's number, and the packet b is made
+--     reply b      0, and the packet or image b is made
+--     append r     0, the record r is logged and applied
+--     marks m      0, and the sync mark becomes m
+pub data Decision (R : Type 0) : Type 0 where
+  refuse : ℕ → Decision R
+  deny : ℕ → List ℕ → Decision R
+  reply : List ℕ → Decision R
+  append : R → Decision R
+  marks : ℕ → Decision R
+
+-- the refusal n where the test holds, else what follows
+infixr 5 _if_else_
+abbrev pub _if_else_ : {R : Type 0} → ℕ → Bool → Decision R → Decision R
+_if_else_ n t d = pick t (refuse n) d

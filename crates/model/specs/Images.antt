@@ -1,0 +1,194 @@
+-- The image of a point on its way to another server.
+--     0 4D 56 49 31    4 point, destination, source, 0    8 move    12 heard time
+--     16 three pairs of offset and length: the point's part, the floors, the completion records
+--     40 value, quality, three zeros    48 floors, 8 bytes each    then completion records, 20 bytes each
+-- Assumes nothing.
+use Prim.Native.Nat.{ℕ, _+_, _*_, _/_}
+use mathlib.Core.Bool.{Bool, true, false, _&&_, _||_}
+use mathlib.Core.List.{List, [], _∷_, _++_}
+use mathlib.Core.Option.{Option, none, some}
+use lib.ListN.{length, drop}
+use lib.Dec.{eqb, leb, ltb}
+use Rattle.model.specs.declared.PlanEntry.{PlanEntry}
+use Rattle.model.specs.declared.Floor.{Floor}
+use Rattle.model.specs.declared.ImageEntry.{ImageEntry}
+use Rattle.model.specs.declared.ImageHead.{ImageHead}
+use Rattle.model.specs.Choice.{pick}
+use Rattle.model.specs.Numbers.{byteAt, le32At, le32, signedAt, signed32, zeroAt, zeros3At, quad}
+use Rattle.model.specs.Tables.{rows, everyRow, bytesOf, every}
+use Rattle.model.specs.Plan.{inRange}
+use Rattle.model.specs.Packets.{idOk, commandOk, outcomeOk}
+use Rattle.model.specs.Limits.{lastPoint, lastServer, lastQuality, lastInWindow, clientCount, greatestImage, leastImage, floorRow, entryRow}
+
+pub record Image : Type 0 where
+  pub point : ℕ
+  pub destination : ℕ
+  pub source : ℕ
+  pub number : ℕ  -- the move number
+  pub heard : ℕ
+  pub value : ℕ
+  pub quality : ℕ
+  pub floors : List Floor
+  pub entries : List ImageEntry
+
+-- the four bytes that open an image
+abbrev pub imageMagic : List ℕ
+imageMagic = quad 77 86 73 49
+
+-- ---- rows
+
+unfoldable pub floorOfBytes : List ℕ → Floor
+floorOfBytes s = record { client = le32At s 0; floor = le32At s 4 }
+
+unfoldable pub floorBytes : Floor → List ℕ
+floorBytes f = le32 (f .client) ++ le32 (f .floor)
+
+-- client, call, argument, value, op, outcome, quality, 0
+unfoldable pub imageEntryOf : List ℕ → ImageEntry
+imageEntryOf s =
+    record {
+      client = le32At s 0;
+      call = le32At s 4;
+      argument = signedAt s 8;
+      value = signedAt s 12;
+      op = byteAt s 16;
+      outcome = byteAt s 17;
+      quality = byteAt s 18;
+    }
+
+unfoldable pub imageEntryBytes : ImageEntry → List ℕ
+imageEntryBytes e =
+    le32 (e .client) ++ (le32 (e .call) ++ (signed32 (e .argument) ++ (signed32 (e .value) ++ quad (e .op) (e .outcome) (e .quality) 0)))
+
+-- the floor of a client among floors, 0 where it has none (floors are ≥ 1)
+unfoldable pub floorOf : ℕ → List Floor → ℕ
+floorOf x [] = 0
+floorOf x (f ∷ fs) = pick (eqb (f .client) x) (f .floor) (floorOf x fs)
+
+-- the call is from floor to floor + 15, and the client has a floor
+unfoldable pub inWindow : ℕ → ℕ → Bool
+inWindow floor call = leb 1 floor && (leb floor call && leb call (floor + lastInWindow))
+
+-- strictly ascending by client
+unfoldable pub clientsAscend : List Floor → Bool
+clientsAscend [] = true
+clientsAscend (f ∷ fs) = elim fs [ [] ↦ true | g ∷ gs ↦ ltb (f .client) (g .client) ] && clientsAscend fs
+
+-- an id is before another: by client, then call
+unfoldable pub idBefore : ℕ → ℕ → ℕ → ℕ → Bool
+idBefore x c y d = ltb x y || (eqb x y && ltb c d)
+
+-- strictly ascending by client, then call
+unfoldable pub idsAscend : List ImageEntry → Bool
+idsAscend [] = true
+idsAscend (e ∷ es) = elim es [ [] ↦ true | f ∷ fs ↦ idBefore (e .client) (e .call) (f .client) (f .call) ] && idsAscend es
+
+unfoldable pub floorOk : Floor → Bool
+floorOk f = leb 1 (f .client) && leb 1 (f .floor)
+
+-- a record of the point p among floors fs
+unfoldable pub imageEntryOk : ℕ → List Floor → ImageEntry → Bool
+imageEntryOk p fs e =
+    commandOk (e .op) p (e .argument)
+    && (outcomeOk (e .outcome) (e .quality) && (idOk (e .client) (e .call) && inWindow (floorOf (e .client) fs) (e .call)))
+
+-- ---- the whole
+
+unfoldable pub imageHeadOf : List ℕ → ImageHead
+imageHeadOf s =
+    record {
+      point = byteAt s 4;
+      destination = byteAt s 5;
+      source = byteAt s 6;
+      number = le32At s 8;
+      heard = le32At s 12;
+      value = signedAt s 40;
+      quality = byteAt s 44;
+      floors = le32At s 28 / 8;
+      entries = le32At s 36 / 20;
+    }
+
+-- the image of a head and its tables, read from the bytes behind it
+unfoldable pub imageAt : ImageHead → List ℕ → Image
+imageAt h s =
+    record {
+      point = h .point;
+      destination = h .destination;
+      source = h .source;
+      number = h .number;
+      heard = h .heard;
+      value = h .value;
+      quality = h .quality;
+      floors = rows floorOfBytes floorRow (h .floors) (drop leastImage s);
+      entries = rows imageEntryOf entryRow (h .entries) (drop (leastImage + floorRow * h .floors) s);
+    }
+
+-- 4D 56 49 31, and the zero bytes
+unfoldable pub imageFramed : List ℕ → Bool
+imageFramed s =
+    eqb (byteAt s 0) 77 && (eqb (byteAt s 1) 86 && (eqb (byteAt s 2) 73 && (eqb (byteAt s 3) 49 && (zeroAt s 7 && zeros3At s 45))))
+
+-- three parts without gaps from byte 40 to the slice's end: 8 bytes, 8 a floor, 20 a record
+unfoldable pub imageParts : ImageHead → List ℕ → Bool
+imageParts h s =
+    eqb (le32At s 16) 40
+    && (eqb (le32At s 20) 8
+    && (eqb (le32At s 24) leastImage
+    && (eqb (le32At s 28) (floorRow * h .floors)
+    && (eqb (le32At s 32) (leastImage + floorRow * h .floors)
+    && (eqb (le32At s 36) (entryRow * h .entries) && eqb (length s) (leastImage + floorRow * h .floors + entryRow * h .entries))))))
+
+unfoldable pub imageHeadOk : ImageHead → Bool
+imageHeadOk h =
+    leb (h .point) lastPoint
+    && (leb (h .destination) lastServer
+    && (leb (h .source) lastServer && (leb (h .quality) lastQuality && leb (h .floors) clientCount)))
+
+-- the zero byte of each record's row
+unfoldable pub entryRowOk : List ℕ → Bool
+entryRowOk s = zeroAt s 19
+
+unfoldable pub imageTablesOk : Image → Bool
+imageTablesOk i =
+    every floorOk (i .floors)
+    && (clientsAscend (i .floors) && (every (imageEntryOk (i .point) (i .floors)) (i .entries) && idsAscend (i .entries)))
+
+-- all rules but the one on values, which needs the plan
+unfoldable pub imageOk : List ℕ → Bool
+imageOk s =
+    leb leastImage (length s)
+    && (leb (length s) greatestImage
+    && (imageFramed s
+    && (imageHeadOk (imageHeadOf s)
+    && (imageParts (imageHeadOf s) s
+    && (everyRow entryRowOk entryRow (imageHeadOf s .entries) (drop (leastImage + floorRow * imageHeadOf s .floors) s)
+    && imageTablesOk (imageAt (imageHeadOf s) s))))))
+
+unfoldable pub parseImage : List ℕ → Option Image
+parseImage s = pick (imageOk s) (some (imageAt (imageHeadOf s) s)) none
+
+-- the values lie in the point's range
+unfoldable pub entryInRange : PlanEntry → ImageEntry → Bool
+entryInRange e r = inRange e (r .value)
+
+unfoldable pub imageInRange : PlanEntry → Image → Bool
+imageInRange e i = inRange e (i .value) && every (entryInRange e) (i .entries)
+
+unfoldable pub imageLength : Image → ℕ
+imageLength i = leastImage + floorRow * length (i .floors) + entryRow * length (i .entries)
+
+unfoldable pub imageHeadBytes : Image → List ℕ
+imageHeadBytes i =
+    imageMagic
+    ++ (quad (i .point) (i .destination) (i .source) 0
+    ++ (le32 (i .number)
+    ++ (le32 (i .heard)
+    ++ (le32 40
+    ++ (le32 8
+    ++ (le32 leastImage
+    ++ (le32 (floorRow * length (i .floors))
+    ++ (le32 (leastImage + floorRow * length (i .floors))
+    ++ (le32 (entryRow * length (i .entries)) ++ (signed32 (i .value) ++ quad (i .quality) 0 0 0))))))))))
+
+unfoldable pub imageBytes : Image → List ℕ
+imageBytes i = imageHeadBytes i ++ (bytesOf floorBytes (i .floors) ++ bytesOf imageEntryBytes (i .entries))

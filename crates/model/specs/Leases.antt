@@ -1,0 +1,115 @@
+-- The lease manager (paper: lease office), values in and values out. Client numbers rise from 1 and never return. A refused call
+-- leaves time and leases as they were.
+-- Assumes nothing.
+use Prim.Native.Nat.{ℕ, zero, suc, _+_, max}
+use mathlib.Core.Bool.{Bool, true, false, _&&_, _||_, not}
+use mathlib.Core.List.{List, [], _∷_, map}
+use lib.ListN.{replicate}
+use lib.Dec.{eqb, leb, ltb}
+use Rattle.model.specs.declared.Grant.{Grant}
+use Rattle.model.specs.declared.Notice.{Notice}
+use Rattle.model.specs.declared.Lease.{Lease}
+use Rattle.model.specs.declared.LeaseManager.{LeaseManager}
+use Rattle.model.specs.declared.Told.{Told}
+use Rattle.model.specs.declared.Told.the-variants.{NotTold, ByGrant, ByNotice}
+use Rattle.model.specs.declared.LeaseAnswer.{LeaseAnswer}
+use Rattle.model.specs.Choice.{pick}
+use Rattle.model.specs.Refusals.{malformed, numbersOut, unknown, leasesFull}
+use Rattle.model.specs.Limits.{last32, leaseCount, longestSpan}
+use Rattle.model.specs.Tables.{every}
+use Rattle.model.specs.Packets.{grantBytes, noticeBytes}
+
+abbrev pub noLease : Lease
+noLease = record { client = 0; lease = 0 }
+
+-- time 0, no leases
+abbrev pub newManager : LeaseManager
+newManager = record { time = 0; issued = 0; leases = replicate leaseCount noLease }
+
+-- the greater of the manager's time and the given one
+unfoldable pub timeAt : LeaseManager → ℕ → ℕ
+timeAt m t = max (m .time) t
+
+-- a lease with end ≤ time has ended
+unfoldable pub endedAt : ℕ → Lease → Lease
+endedAt now l = pick (leb (l .lease) now || eqb (l .client) 0) noLease l
+
+unfoldable pub runningAt : ℕ → List Lease → List Lease
+runningAt now ls = map (endedAt now) ls
+
+-- the end of a client's lease among running ones, 0 where it has none
+unfoldable pub leaseEnd : ℕ → List Lease → ℕ
+leaseEnd x [] = 0
+leaseEnd x (l ∷ ls) = pick (eqb (l .client) x) (l .lease) (leaseEnd x ls)
+
+unfoldable pub isTaken : Lease → Bool
+isTaken l = not (eqb (l .client) 0)
+
+-- a new lease, at the first free place
+unfoldable pub entered : Lease → List Lease → List Lease
+entered n [] = []
+entered n (l ∷ ls) = pick (isTaken l) (l ∷ entered n ls) (n ∷ ls)
+
+-- the client's lease with the end e
+unfoldable pub extended : ℕ → ℕ → List Lease → List Lease
+extended x e [] = []
+extended x e (l ∷ ls) = pick (eqb (l .client) x) (record { client = x; lease = e } ∷ ls) (l ∷ extended x e ls)
+
+unfoldable pub spanOk : ℕ → Bool
+spanOk span = leb 1 span && leb span longestSpan
+
+unfoldable pub manager : ℕ → ℕ → List Lease → LeaseManager
+manager time issued ls = record { time = time; issued = issued; leases = ls }
+
+unfoldable pub notTold : LeaseManager → ℕ → LeaseAnswer
+notTold m n = record { manager = m; answer = NotTold n }
+
+unfoldable pub granted : LeaseManager → ℕ → ℕ → LeaseAnswer
+granted m x e = record { manager = m; answer = ByGrant (record { client = x; lease = e }) }
+
+-- ---- Open (time, span): 1 span outside 1 to 86,400; 18 full; 16 client number or end past 32 bits
+
+unfoldable pub openOf : LeaseManager → ℕ → ℕ → LeaseAnswer
+openOf m t span =
+    let now = timeAt m t in
+    let ls = runningAt now (m .leases) in
+    let x = suc (m .issued) in
+    pick (not (spanOk span)) (notTold m malformed)
+    (pick (every isTaken ls) (notTold m leasesFull)
+    (pick (ltb last32 x || ltb last32 (now + span)) (notTold m numbersOut)
+    (granted (manager now x (entered (record { client = x; lease = now + span }) ls)) x (now + span))))
+
+-- ---- Renew (client, time, span): 1; 17 no running lease; 16. The end becomes the time + span if that is greater
+
+unfoldable pub renewOf : LeaseManager → ℕ → ℕ → ℕ → LeaseAnswer
+renewOf m x t span =
+    let now = timeAt m t in
+    let ls = runningAt now (m .leases) in
+    let e = max (leaseEnd x ls) (now + span) in
+    pick (not (spanOk span)) (notTold m malformed)
+    (pick (eqb (leaseEnd x ls) 0) (notTold m unknown)
+    (pick (ltb last32 (now + span)) (notTold m numbersOut)
+    (granted (manager now (m .issued) (extended x e ls)) x e)))
+
+-- ---- Query (client, time): 17 never issued; a grant if running, else a notice with the manager's time
+
+unfoldable pub queryOf : LeaseManager → ℕ → ℕ → LeaseAnswer
+queryOf m x t =
+    let now = timeAt m t in
+    let ls = runningAt now (m .leases) in
+    pick (eqb x 0 || ltb (m .issued) x) (notTold m unknown)
+    (pick (eqb (leaseEnd x ls) 0)
+    (record { manager = manager now (m .issued) ls; answer = ByNotice (record { client = x; time = now }) })
+    (granted (manager now (m .issued) ls) x (leaseEnd x ls)))
+
+-- ---- the paper's number for every answer, and its packet
+
+unfoldable pub toldNumber : Told → ℕ
+toldNumber (NotTold n) = n
+toldNumber (ByGrant g) = 0
+toldNumber (ByNotice n) = 0
+
+unfoldable pub toldBytes : Told → List ℕ
+toldBytes (NotTold n) = []
+toldBytes (ByGrant g) = grantBytes g
+toldBytes (ByNotice n) = noticeBytes 5 n

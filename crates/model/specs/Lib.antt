@@ -1,0 +1,19 @@
+-- What is promised: the definitions of paper 01, in its order. Other crates' contracts and theorems cite these.
+pub mod Choice
+pub mod Numbers
+pub mod Tables
+pub mod Limits
+pub mod Refusals
+pub mod Plan
+pub mod Rules
+pub mod Sequential
+pub mod Packets
+pub mod Images
+pub mod Logs
+pub mod States
+pub mod Apply
+pub mod Decisions
+pub mod Operations
+pub mod Clients
+pub mod Leases
+pub mod Yard

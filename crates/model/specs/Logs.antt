@@ -1,0 +1,178 @@
+-- The log: a head and records, appended one after the other. Recovery walks the records first, then replays them.
+-- Assumes nothing.
+use Prim.Native.Nat.{ℕ, zero, suc, _+_}
+use mathlib.Core.Bool.{Bool, true, false, _&&_, _||_}
+use mathlib.Core.List.{List, [], _∷_, _++_}
+use mathlib.Core.Option.{Option, none, some}
+use lib.ListN.{length, take, drop}
+use lib.Dec.{eqb, leb, ltb}
+use Rattle.model.specs.declared.Executed.{Executed}
+use Rattle.model.specs.declared.Notice.{Notice}
+use Rattle.model.specs.declared.Give.{Give}
+use Rattle.model.specs.declared.Release.{Release}
+use Rattle.model.specs.Choice.{pick}
+use Rattle.model.specs.Numbers.{byteAt, le32At, le32, signedAt, signed32, zeroAt, zeros3At, quad}
+use Rattle.model.specs.Packets.{idOk, doneOk, commandOk, outcomeOk, noticeAt, noticeOk, noticeBytes}
+use Rattle.model.specs.Images.{Image, parseImage, imageBytes, imageLength}
+use Rattle.model.specs.Limits.{lastPoint, lastServer, leastImage, greatestImage, headSize, executedSize, goneSize, giveSize, takeHead, releaseSize}
+
+-- ---- head: 57 4C 47 31, server number, three zeros
+
+abbrev pub logMagic : List ℕ
+logMagic = quad 87 76 71 49
+
+unfoldable pub headBytes : ℕ → List ℕ
+headBytes n = logMagic ++ quad n 0 0 0
+
+unfoldable pub headServer : List ℕ → ℕ
+headServer s = byteAt s 4
+
+unfoldable pub headOk : List ℕ → Bool
+headOk s =
+    leb headSize (length s)
+    && (eqb (byteAt s 0) 87
+    && (eqb (byteAt s 1) 76 && (eqb (byteAt s 2) 71 && (eqb (byteAt s 3) 49 && (leb (headServer s) lastServer && zeros3At s 5)))))
+
+-- ---- records
+
+pub data LogRecord : Type 0 where
+  executed : Executed → LogRecord
+  gone : Notice → LogRecord
+  gave : Give → LogRecord
+  took : Image → LogRecord
+  released : Release → LogRecord
+
+-- 1 executed: kind, op, point, outcome, client, call, done, argument, value, quality, three zeros
+unfoldable pub executedAt : List ℕ → Executed
+executedAt s =
+    record {
+      op = byteAt s 1;
+      point = byteAt s 2;
+      outcome = byteAt s 3;
+      client = le32At s 4;
+      call = le32At s 8;
+      done = le32At s 12;
+      argument = signedAt s 16;
+      value = signedAt s 20;
+      quality = byteAt s 24;
+    }
+
+unfoldable pub executedOk : Executed → Bool
+executedOk x =
+    commandOk (x .op) (x .point) (x .argument)
+    && (outcomeOk (x .outcome) (x .quality) && (idOk (x .client) (x .call) && doneOk (x .done) (x .call)))
+
+unfoldable pub executedBytes : Executed → List ℕ
+executedBytes x =
+    quad 1 (x .op) (x .point) (x .outcome)
+    ++ (le32 (x .client)
+    ++ (le32 (x .call) ++ (le32 (x .done) ++ (signed32 (x .argument) ++ (signed32 (x .value) ++ quad (x .quality) 0 0 0)))))
+
+-- 3 give: kind, point, destination, 0, move
+unfoldable pub giveAt : List ℕ → Give
+giveAt s = record { point = byteAt s 1; destination = byteAt s 2; number = le32At s 4 }
+
+unfoldable pub giveOk : Give → Bool
+giveOk g = leb (g .point) lastPoint && leb (g .destination) lastServer
+
+unfoldable pub giveBytes : Give → List ℕ
+giveBytes g = quad 3 (g .point) (g .destination) 0 ++ le32 (g .number)
+
+-- 4 take: kind, three zeros, image length, image
+unfoldable pub takeBytes : Image → List ℕ
+takeBytes i = quad 4 0 0 0 ++ (le32 (imageLength i) ++ imageBytes i)
+
+-- 5 release: kind, point, two zeros, move (the give's)
+unfoldable pub releaseAt : List ℕ → Release
+releaseAt s = record { point = byteAt s 1; number = le32At s 4 }
+
+unfoldable pub releaseOk : Release → Bool
+releaseOk r = leb (r .point) lastPoint
+
+unfoldable pub releaseBytes : Release → List ℕ
+releaseBytes r = quad 5 (r .point) 0 0 ++ le32 (r .number)
+
+unfoldable pub recordBytes : LogRecord → List ℕ
+recordBytes (executed x) = executedBytes x
+recordBytes (gone n) = noticeBytes 2 n
+recordBytes (gave g) = giveBytes g
+recordBytes (took i) = takeBytes i
+recordBytes (released r) = releaseBytes r
+
+unfoldable pub recordSize : LogRecord → ℕ
+recordSize (executed x) = executedSize
+recordSize (gone n) = goneSize
+recordSize (gave g) = giveSize
+recordSize (took i) = takeHead + imageLength i
+recordSize (released r) = releaseSize
+
+-- ---- what stands at the front of s, the rest of a log
+
+pub data Extent : Type 0 where
+  off : Extent  -- a kind outside 1 to 5, or an image length outside 48 to 10,544
+  cut : Extent  -- an incomplete record
+  spans : ℕ → Extent  -- a record of that many bytes, all there
+
+-- a record of n bytes, where they are all there
+unfoldable pub within : List ℕ → ℕ → Extent
+within s n = pick (ltb (length s) n) cut (spans n)
+
+-- a take: its image's length is read once its 4 bytes are there
+unfoldable pub takeExtent : List ℕ → Extent
+takeExtent s =
+    pick (ltb (length s) takeHead) cut
+    (pick (ltb (le32At s 4) leastImage || ltb greatestImage (le32At s 4)) off (within s (takeHead + le32At s 4)))
+
+-- the extent of the record at the front of s, of at least one byte
+unfoldable pub extentOf : List ℕ → Extent
+extentOf s =
+    pick (eqb (byteAt s 0) 1) (within s executedSize)
+    (pick (eqb (byteAt s 0) 2) (within s goneSize)
+    (pick (eqb (byteAt s 0) 3) (within s giveSize)
+    (pick (eqb (byteAt s 0) 4) (takeExtent s)
+    (pick (eqb (byteAt s 0) 5) (within s releaseSize) off))))
+
+-- a whole take record's image, read from its place
+unfoldable pub takeParsed : Option Image → Option LogRecord
+takeParsed none = none
+takeParsed (some i) = some (took i)
+
+-- the whole record at the front of s, if it keeps its layout
+unfoldable pub recordAt : List ℕ → Option LogRecord
+recordAt s =
+    pick (eqb (byteAt s 0) 1) (pick (zeros3At s 25 && executedOk (executedAt s)) (some (executed (executedAt s))) none)
+    (pick (eqb (byteAt s 0) 2) (pick (zeros3At s 1 && noticeOk (noticeAt s)) (some (gone (noticeAt s))) none)
+    (pick (eqb (byteAt s 0) 3) (pick (zeroAt s 3 && giveOk (giveAt s)) (some (gave (giveAt s))) none)
+    (pick (eqb (byteAt s 0) 4) (pick (zeros3At s 1) (takeParsed (parseImage (take (le32At s 4) (drop takeHead s)))) none)
+    (pick (eqb (byteAt s 0) 5) (pick (zeroAt s 2 && (zeroAt s 3 && releaseOk (releaseAt s))) (some (released (releaseAt s))) none) none))))
+
+-- ---- the walk over all records
+
+-- a log record with its end: the log's length once it is appended
+pub record Entry : Type 0 where
+  pub item : LogRecord
+  pub end : ℕ
+
+-- the records of the log's rest s, which starts at place k; none if one breaks its layout; an incomplete last one is dropped.
+-- Each record has at least 8 bytes, so that the length is fuel enough
+unfoldable pub walk : ℕ → ℕ → List ℕ → Option (List Entry)
+walk zero k s = some []
+walk (suc n) k [] = some []
+walk (suc n) k (b ∷ s) =
+    elim (extentOf (b ∷ s)) [
+      | off ↦ none
+      | cut ↦ some []
+      | spans m ↦
+          elim (recordAt (b ∷ s)) [
+            | none ↦ none
+            | some r ↦ elim (walk n (k + m) (drop m (b ∷ s))) [ none ↦ none | some es ↦ some (record { item = r; end = k + m } ∷ es) ]
+          ]
+    ]
+
+unfoldable pub entriesOf : List ℕ → Option (List Entry)
+entriesOf log = walk (length log) headSize (drop headSize log)
+
+-- the bytes of entries, and the end of the last of them
+unfoldable pub entriesBytes : List Entry → List ℕ
+entriesBytes [] = []
+entriesBytes (e ∷ es) = recordBytes (e .item) ++ entriesBytes es

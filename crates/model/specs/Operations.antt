@@ -1,0 +1,134 @@
+-- Each operation of a server (paper: cabinet) on lent bytes: its answer and what every lent slice holds afterwards, for all
+-- arguments. 2 and 19 come first; a refusal leaves every slice as it was, a request's refusal packet aside; bytes past what is
+-- written are kept. An operation with no output is lent the empty one.
+-- Assumes nothing.
+use Prim.Native.Nat.{ℕ, zero, suc, _+_, _-_}
+use mathlib.Core.Bool.{Bool, true, false, _&&_, _||_, not}
+use mathlib.Core.List.{List, [], _∷_, _++_}
+use mathlib.Core.Option.{Option, none, some}
+use lib.ListN.{length}
+use lib.Dec.{eqb, leb, ltb}
+use Rattle.model.specs.declared.PlanEntry.{PlanEntry}
+use Rattle.model.specs.declared.Answer.{Answer}
+use Rattle.model.specs.Choice.{pick, Decision, refuse, deny, reply, append, marks, _if_else_}
+use Rattle.model.specs.Refusals.{malformed, tooShort, badLog, unsound}
+use Rattle.model.specs.Limits.{lastServer, stateSize, headSize, resultSize, receiptSize, greatestImage}
+use Rattle.model.specs.Tables.{written}
+use Rattle.model.specs.Plan.{planOk, planOf}
+use Rattle.model.specs.Packets.{parsePacket}
+use Rattle.model.specs.Images.{parseImage}
+use Rattle.model.specs.Logs.{LogRecord, Entry, headBytes, headOk, headServer, recordBytes, recordSize, entriesOf}
+use Rattle.model.specs.States.{State, load, stateBytes, sound}
+use Rattle.model.specs.Apply.{applyRecord, apply, founded, withMark}
+use Rattle.model.specs.Decisions.{Decided, onRequest, onFetch, onSync, onNotice, onGive, onImage, onTake, onReceipt, onRelease, follows}
+
+-- what a call leaves: its answer and the lent slices
+pub record After : Type 0 where
+  pub answer : Answer
+  pub state : List ℕ
+  pub log : List ℕ
+  pub out : List ℕ
+
+-- 0 or the refusal's number, and the number of bytes written to the output
+abbrev pub answerOf : ℕ → ℕ → Answer
+answerOf n w = record { number = n; wrote = w }
+
+abbrev pub after : Answer → List ℕ → List ℕ → List ℕ → After
+after a s l o = record { answer = a; state = s; log = l; out = o }
+
+-- a slice has fewer than n bytes
+unfoldable pub short : List ℕ → ℕ → Bool
+short s n = ltb (length s) n
+
+-- 19: the state is not sound, or the log slice is shorter than its recorded length
+unfoldable pub unfit : List ℕ → List ℕ → Bool
+unfit state log = not (sound state) || ltb (length log) (load state .size)
+
+-- the space left in the log
+unfoldable pub freeIn : List ℕ → List ℕ → ℕ
+freeIn state log = length log - load state .size
+
+-- a state's bytes in the lent buffer
+unfoldable pub stored : List ℕ → State → List ℕ
+stored state st = written state 0 (stateBytes st)
+
+-- a decision carried out on the lent slices
+unfoldable pub settle : List ℕ → List ℕ → List ℕ → Decided → After
+settle state log out (refuse n) = after (answerOf n 0) state log out
+settle state log out (deny n b) = after (answerOf n (length b)) state log (written out 0 b)
+settle state log out (reply b) = after (answerOf 0 (length b)) state log (written out 0 b)
+settle state log out (append r) =
+    after (answerOf 0 0) (stored state (applyRecord r (load state .size + recordSize r) (load state)))
+    (written log (load state .size) (recordBytes r)) out
+settle state log out (marks m) = after (answerOf 0 0) (stored state (withMark m (load state))) log out
+
+-- 2 state or output too short; 19; else what the operation decides
+unfoldable pub lent : List ℕ → List ℕ → List ℕ → ℕ → Decided → Decided
+lent state log out need d =
+    tooShort if (short state stateSize || short out need)
+    else unsound if unfit state log
+    else d
+
+-- Found (plan, server number): 2 state, or log under 8 bytes; 1 bad plan or server number
+unfoldable pub foundOf : List ℕ → List ℕ → List ℕ → ℕ → After
+foundOf state log plan n =
+    pick (short state stateSize || short log headSize) (after (answerOf tooShort 0) state log [])
+    (pick (not (planOk plan) || ltb lastServer n) (after (answerOf malformed 0) state log [])
+    (after (answerOf 0 0) (stored state (founded (planOf plan) n)) (written log 0 (headBytes n)) []))
+
+unfoldable pub requestOf : List ℕ → List ℕ → List ℕ → List ℕ → After
+requestOf state log packet out =
+    settle state log out (lent state log out resultSize (onRequest (load state) (freeIn state log) (parsePacket packet)))
+
+unfoldable pub fetchOf : List ℕ → List ℕ → ℕ → ℕ → List ℕ → After
+fetchOf state log client call out = settle state log out (lent state log out resultSize (onFetch (load state) client call))
+
+unfoldable pub syncOf : List ℕ → List ℕ → ℕ → After
+syncOf state log mark = settle state log [] (lent state log [] 0 (onSync (load state) mark))
+
+unfoldable pub noticeOf : List ℕ → List ℕ → List ℕ → After
+noticeOf state log packet =
+    settle state log [] (lent state log [] 0 (onNotice (load state) (freeIn state log) (parsePacket packet)))
+
+unfoldable pub giveOf : List ℕ → List ℕ → ℕ → ℕ → After
+giveOf state log point destination =
+    settle state log [] (lent state log [] 0 (onGive (load state) (freeIn state log) point destination))
+
+unfoldable pub imageOf : List ℕ → List ℕ → ℕ → List ℕ → After
+imageOf state log point out = settle state log out (lent state log out greatestImage (onImage (load state) point))
+
+unfoldable pub takeOf : List ℕ → List ℕ → List ℕ → After
+takeOf state log image =
+    settle state log [] (lent state log [] 0 (onTake (load state) (freeIn state log) (parseImage image)))
+
+unfoldable pub receiptOf : List ℕ → List ℕ → ℕ → List ℕ → After
+receiptOf state log point out = settle state log out (lent state log out receiptSize (onReceipt (load state) point))
+
+unfoldable pub releaseOf : List ℕ → List ℕ → List ℕ → After
+releaseOf state log packet =
+    settle state log [] (lent state log [] 0 (onRelease (load state) (freeIn state log) (parsePacket packet)))
+
+-- ---- Recover (plan, kept log): 2; 1 plan; 14; else the replay of the whole records, and the mark is their end
+
+-- the replay of records, none where one cannot follow the state
+unfoldable pub recovered : State → List Entry → Option State
+recovered st [] = some st
+recovered st (e ∷ es) = elim (follows st (e .item)) [ true ↦ recovered (apply st e) es | false ↦ none ]
+
+unfoldable pub recoveredAll : State → Option (List Entry) → Option State
+recoveredAll st none = none
+recoveredAll st (some es) = recovered st es
+
+-- the state that a kept log gives, none for 14
+unfoldable pub recoveredState : List PlanEntry → List ℕ → Option State
+recoveredState plan log = elim (headOk log) [ true ↦ recoveredAll (founded plan (headServer log)) (entriesOf log) | false ↦ none ]
+
+unfoldable pub settleRecovered : List ℕ → List ℕ → Option State → After
+settleRecovered state log none = after (answerOf badLog 0) state log []
+settleRecovered state log (some st) = after (answerOf 0 0) (stored state (withMark (st .size) st)) log []
+
+unfoldable pub recoverOf : List ℕ → List ℕ → List ℕ → After
+recoverOf state log plan =
+    pick (short state stateSize) (after (answerOf tooShort 0) state log [])
+    (pick (not (planOk plan)) (after (answerOf malformed 0) state log [])
+    (settleRecovered state log (recoveredState (planOf plan) log)))

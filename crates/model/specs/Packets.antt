@@ -1,0 +1,160 @@
+-- The six packets: parse and write. The first byte is the kind. Malformed means another length or kind, a zero byte that is
+-- not zero, or a field outside its range, the op's argument included.
+-- Assumes nothing.
+use Prim.Native.Nat.{ℕ, _+_}
+use mathlib.Core.Bool.{Bool, _&&_}
+use mathlib.Core.List.{List, [], _∷_, _++_}
+use lib.ListN.{length, getD}
+use lib.Dec.{eqb, leb}
+use Rattle.model.specs.declared.Request.{Request}
+use Rattle.model.specs.declared.ResultPacket.{ResultPacket}
+use Rattle.model.specs.declared.RefusalPacket.{RefusalPacket}
+use Rattle.model.specs.declared.Receipt.{Receipt}
+use Rattle.model.specs.declared.Notice.{Notice}
+use Rattle.model.specs.declared.Grant.{Grant}
+use Rattle.model.specs.declared.Command.{Command}
+use Rattle.model.specs.declared.Packet.{Packet}
+use Rattle.model.specs.declared.Packet.the-variants.{Malformed, Requested, Resulted, Refused, Receipted, Noticed, Granted}
+use Rattle.model.specs.Choice.{pick}
+use Rattle.model.specs.Numbers.{byteAt, le32At, le32, signedAt, signed32, zeroAt, zeros3At, quad}
+use Rattle.model.specs.Rules.{argumentOk}
+use Rattle.model.specs.Limits.{lastPoint, lastServer, lastOp, lastOutcome, lastQuality, lastInWindow}
+
+-- the lengths by kind; there is no kind 0
+abbrev pub packetLengths : List ℕ
+packetLengths = 0 ∷ 24 ∷ 16 ∷ 12 ∷ 8 ∷ 12 ∷ 12 ∷ []
+
+unfoldable pub packetLength : ℕ → ℕ
+packetLength kind = getD packetLengths kind 0
+
+-- fields that stand in several packets and records
+unfoldable pub idOk : ℕ → ℕ → Bool
+idOk client call = leb 1 client && leb 1 call
+
+-- 1 ≤ done ≤ call, and call − done ≤ 15
+unfoldable pub doneOk : ℕ → ℕ → Bool
+doneOk done call = leb 1 done && (leb done call && leb call (done + lastInWindow))
+
+-- op 0 to 5, point 0 to 63, the op's argument in its range
+unfoldable pub commandOk : ℕ → ℕ → ℕ → Bool
+commandOk op point a = leb op lastOp && (leb point lastPoint && argumentOk op a)
+
+-- outcome 0 to 3, quality 0 or 1
+unfoldable pub outcomeOk : ℕ → ℕ → Bool
+outcomeOk outcome quality = leb outcome lastOutcome && leb quality lastQuality
+
+-- ---- 1 request: op, point, 0, client, call, done, lease end, argument
+
+unfoldable pub requestAt : List ℕ → Request
+requestAt p =
+    record { op = byteAt p 1; point = byteAt p 2; client = le32At p 4; call = le32At p 8; done = le32At p 12; lease = le32At p 16; argument = signedAt p 20 }
+
+unfoldable pub requestOk : Request → Bool
+requestOk q = commandOk (q .op) (q .point) (q .argument) && (idOk (q .client) (q .call) && doneOk (q .done) (q .call))
+
+unfoldable pub requestBytes : Request → List ℕ
+requestBytes q =
+    quad 1 (q .op) (q .point) 0
+    ++ (le32 (q .client) ++ (le32 (q .call) ++ (le32 (q .done) ++ (le32 (q .lease) ++ signed32 (q .argument)))))
+
+-- the command of a request
+unfoldable pub commandOf : Request → Command
+commandOf q = record { client = q .client; call = q .call; op = q .op; point = q .point; argument = q .argument }
+
+-- ---- 2 result: outcome, point, quality, client, call, value
+
+unfoldable pub resultAt : List ℕ → ResultPacket
+resultAt p = record { outcome = byteAt p 1; point = byteAt p 2; quality = byteAt p 3; client = le32At p 4; call = le32At p 8; value = signedAt p 12 }
+
+unfoldable pub resultOk : ResultPacket → Bool
+resultOk r = leb (r .point) lastPoint && (outcomeOk (r .outcome) (r .quality) && idOk (r .client) (r .call))
+
+unfoldable pub resultBytes : ResultPacket → List ℕ
+resultBytes r = quad 2 (r .outcome) (r .point) (r .quality) ++ (le32 (r .client) ++ (le32 (r .call) ++ signed32 (r .value)))
+
+-- ---- 3 refusal: number (3 to 9), point, 0, client, call
+
+unfoldable pub refusalAt : List ℕ → RefusalPacket
+refusalAt p = record { number = byteAt p 1; point = byteAt p 2; client = le32At p 4; call = le32At p 8 }
+
+unfoldable pub refusalOk : RefusalPacket → Bool
+refusalOk r = leb 3 (r .number) && (leb (r .number) 9 && (leb (r .point) lastPoint && idOk (r .client) (r .call)))
+
+unfoldable pub refusalBytes : RefusalPacket → List ℕ
+refusalBytes r = quad 3 (r .number) (r .point) 0 ++ (le32 (r .client) ++ le32 (r .call))
+
+-- ---- 4 receipt: point, server (the taker), 0, move
+
+unfoldable pub receiptAt : List ℕ → Receipt
+receiptAt p = record { point = byteAt p 1; server = byteAt p 2; number = le32At p 4 }
+
+unfoldable pub receiptOk : Receipt → Bool
+receiptOk r = leb (r .point) lastPoint && leb (r .server) lastServer
+
+unfoldable pub receiptBytes : Receipt → List ℕ
+receiptBytes r = quad 4 (r .point) (r .server) 0 ++ le32 (r .number)
+
+-- ---- 5 notice: three zeros, client, time; log record 2 is the same with its own kind
+
+unfoldable pub noticeAt : List ℕ → Notice
+noticeAt p = record { client = le32At p 4; time = le32At p 8 }
+
+unfoldable pub noticeOk : Notice → Bool
+noticeOk n = leb 1 (n .client)
+
+unfoldable pub noticeBytes : ℕ → Notice → List ℕ
+noticeBytes kind n = quad kind 0 0 0 ++ (le32 (n .client) ++ le32 (n .time))
+
+-- ---- 6 grant: three zeros, client, lease end
+
+unfoldable pub grantAt : List ℕ → Grant
+grantAt p = record { client = le32At p 4; lease = le32At p 8 }
+
+unfoldable pub grantOk : Grant → Bool
+grantOk g = leb 1 (g .client)
+
+unfoldable pub grantBytes : Grant → List ℕ
+grantBytes g = quad 6 0 0 0 ++ (le32 (g .client) ++ le32 (g .lease))
+
+-- ---- all kinds
+
+-- a packet of its kind's length whose zero bytes and fields are as they should be
+unfoldable pub whole : List ℕ → ℕ → Bool → Packet → Packet
+whole p kind ok found = pick (eqb (length p) (packetLength kind)) (pick ok found Malformed) Malformed
+
+unfoldable pub parseRequest : List ℕ → Packet
+parseRequest p = whole p 1 (zeroAt p 3 && requestOk (requestAt p)) (Requested (requestAt p))
+
+unfoldable pub parseResult : List ℕ → Packet
+parseResult p = whole p 2 (resultOk (resultAt p)) (Resulted (resultAt p))
+
+unfoldable pub parseRefusal : List ℕ → Packet
+parseRefusal p = whole p 3 (zeroAt p 3 && refusalOk (refusalAt p)) (Refused (refusalAt p))
+
+unfoldable pub parseReceipt : List ℕ → Packet
+parseReceipt p = whole p 4 (zeroAt p 3 && receiptOk (receiptAt p)) (Receipted (receiptAt p))
+
+unfoldable pub parseNotice : List ℕ → Packet
+parseNotice p = whole p 5 (zeros3At p 1 && noticeOk (noticeAt p)) (Noticed (noticeAt p))
+
+unfoldable pub parseGrant : List ℕ → Packet
+parseGrant p = whole p 6 (zeros3At p 1 && grantOk (grantAt p)) (Granted (grantAt p))
+
+unfoldable pub parsePacket : List ℕ → Packet
+parsePacket p =
+    pick (eqb (byteAt p 0) 1) (parseRequest p)
+    (pick (eqb (byteAt p 0) 2) (parseResult p)
+    (pick (eqb (byteAt p 0) 3) (parseRefusal p)
+    (pick (eqb (byteAt p 0) 4) (parseReceipt p)
+    (pick (eqb (byteAt p 0) 5) (parseNotice p)
+    (pick (eqb (byteAt p 0) 6) (parseGrant p) Malformed)))))
+
+-- the bytes of a packet
+unfoldable pub packetBytes : Packet → List ℕ
+packetBytes Malformed = []
+packetBytes (Requested q) = requestBytes q
+packetBytes (Resulted r) = resultBytes r
+packetBytes (Refused r) = refusalBytes r
+packetBytes (Receipted r) = receiptBytes r
+packetBytes (Noticed n) = noticeBytes 5 n
+packetBytes (Granted g) = grantBytes g

@@ -1,0 +1,142 @@
+-- The sequential specification (paper: the book): the six ops' rules over the integers, and a run over an order of commands.
+-- It knows the plan and the commands alone, nothing of servers. Each command carries the version of the rules it was
+-- executed under, so that a later change of a rule adds a version and leaves old commands as they were.
+-- Assumes nothing.
+use Prim.Native.Nat.{ℕ, zero, suc, _/_}
+use mathlib.Core.Bool.{Bool, _&&_}
+use mathlib.Core.List.{List, [], _∷_}
+use lib.Dec.{eqb}
+use lib.IntN.{ℤ, pos, negsuc, _+ℤ_, _-ℤ_, _*ℤ_}
+use lib.Signed.{leZ}
+use Rattle.model.specs.declared.PlanEntry.{PlanEntry}
+use Rattle.model.specs.declared.Reading.{Reading}
+use Rattle.model.specs.declared.CommandResult.{CommandResult}
+use Rattle.model.specs.declared.Command.{Command}
+use Rattle.model.specs.Choice.{pick}
+use Rattle.model.specs.Numbers.{signed}
+use Rattle.model.specs.Plan.{entryAt}
+
+-- the versions of the rules; the first is paper 01's
+pub data Version : Type 0 where
+  first : Version
+
+-- the rules that servers execute by today
+abbrev pub today : Version
+today = first
+
+-- ---- over the integers
+
+pub record EntryZ : Type 0 where
+  pub low : ℤ
+  pub high : ℤ
+  pub fallback : ℤ
+
+pub record ReadingZ : Type 0 where
+  pub value : ℤ
+  pub quality : ℕ
+
+pub record ResultZ : Type 0 where
+  pub outcome : ℕ
+  pub value : ℤ
+  pub quality : ℕ
+
+abbrev pub readingZ : ℤ → ℕ → ReadingZ
+readingZ v q = record { value = v; quality = q }
+
+abbrev pub resultZ : ℕ → ℤ → ℕ → ResultZ
+resultZ n v q = record { outcome = n; value = v; quality = q }
+
+-- what the kernel's numbers stand for
+unfoldable pub entryZ : PlanEntry → EntryZ
+entryZ e = record { low = signed (e .low); high = signed (e .high); fallback = signed (e .fallback) }
+
+unfoldable pub readingMeant : Reading → ReadingZ
+readingMeant r = readingZ (signed (r .value)) (r .quality)
+
+unfoldable pub resultMeant : CommandResult → ResultZ
+resultMeant r = resultZ (r .outcome) (signed (r .value)) (r .quality)
+
+-- a value and quality after a result
+unfoldable pub afterZ : ResultZ → ReadingZ
+afterZ r = readingZ (r .value) (r .quality)
+
+unfoldable pub inRangeZ : EntryZ → ℤ → Bool
+inRangeZ e a = leZ (e .low) a && leZ a (e .high)
+
+-- the quotient by n, rounded down
+unfoldable pub quotientDown : ℤ → ℕ → ℤ
+quotientDown (pos m) n = pos (m / n)
+quotientDown (negsuc m) n = negsuc (m / n)
+
+-- ---- the six ops
+
+-- 0 read: outcome 0, no change
+unfoldable pub readZ : ReadingZ → ResultZ
+readZ r = resultZ 0 (r .value) (r .quality)
+
+-- 1 set: in range, value a, quality 0, outcome 0; else outcome 1, no change
+unfoldable pub setZ : EntryZ → ℤ → ReadingZ → ResultZ
+setZ e a r = pick (inRangeZ e a) (resultZ 0 a 0) (resultZ 1 (r .value) (r .quality))
+
+-- 2 step: on quality 1, outcome 2; if value + a is out of range, outcome 1; both change nothing. Else add, outcome 0
+unfoldable pub stepZ : EntryZ → ℤ → ReadingZ → ResultZ
+stepZ e a r =
+    pick (eqb (r .quality) 1) (resultZ 2 (r .value) (r .quality))
+    (pick (inRangeZ e (r .value +ℤ a)) (resultZ 0 (r .value +ℤ a) (r .quality)) (resultZ 1 (r .value) (r .quality)))
+
+-- 3 report: in range, as set; else value = fallback, quality 1, outcome 3
+unfoldable pub reportZ : EntryZ → ℤ → ResultZ
+reportZ e a = pick (inRangeZ e a) (resultZ 0 a 0) (resultZ 3 (e .fallback) 1)
+
+-- 4 fault: value = fallback, quality 1, outcome 3
+unfoldable pub faultZ : EntryZ → ResultZ
+faultZ e = resultZ 3 (e .fallback) 1
+
+-- 5 part: value = low + (high − low) × a / 1000, the quotient rounded down; quality 0, outcome 0
+unfoldable pub partZ : EntryZ → ℤ → ResultZ
+partZ e a = resultZ 0 (e .low +ℤ quotientDown ((e .high -ℤ e .low) *ℤ a) 1000) 0
+
+-- by the version and the op; commands have no other op, and one would change nothing
+unfoldable pub ruleZ : Version → EntryZ → ℕ → ℤ → ReadingZ → ResultZ
+ruleZ first e op a r =
+    pick (eqb op 0) (readZ r)
+    (pick (eqb op 1) (setZ e a r)
+    (pick (eqb op 2) (stepZ e a r)
+    (pick (eqb op 3) (reportZ e a)
+    (pick (eqb op 4) (faultZ e)
+    (pick (eqb op 5) (partZ e a) (resultZ 1 (r .value) (r .quality)))))))
+
+-- ---- the run
+
+-- a command with the version of the rules it was executed under
+pub record Marked : Type 0 where
+  pub version : Version
+  pub command : Command
+
+-- each point's value and quality
+abbrev pub Book : Type 0
+Book = ℕ → ReadingZ
+
+-- first fallback and quality 1
+unfoldable pub opened : List PlanEntry → Book
+opened plan p = readingZ (entryZ (entryAt plan p) .fallback) 1
+
+-- the answer to a command
+unfoldable pub answerZ : List PlanEntry → Book → Marked → ResultZ
+answerZ plan b m =
+    ruleZ (m .version) (entryZ (entryAt plan (m .command .point))) (m .command .op) (signed (m .command .argument)) (b (m .command .point))
+
+-- a command changes only its point
+unfoldable pub entered : List PlanEntry → Book → Marked → Book
+entered plan b m p = pick (eqb p (m .command .point)) (afterZ (answerZ plan b m)) (b p)
+
+-- the book after an order of commands, from b
+unfoldable pub bookAfter : List PlanEntry → Book → List Marked → Book
+bookAfter plan b [] = b
+bookAfter plan b (m ∷ ms) = bookAfter plan (entered plan b m) ms
+
+-- `Answers plan b ms c r`: run over ms from b, the book answers r to the entry of command c
+pub data Answers (plan : List PlanEntry) : Book → List Marked → Command → ResultZ → Type 0 where
+  here : {b : Book} {m : Marked} {ms : List Marked} → Answers plan b (m ∷ ms) (m .command) (answerZ plan b m)
+  later : {b : Book} {m : Marked} {c : Command} {ms : List Marked} {r : ResultZ}
+      → Answers plan (entered plan b m) ms c r → Answers plan b (m ∷ ms) c r

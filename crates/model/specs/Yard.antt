@@ -1,0 +1,332 @@
+-- The simulator (paper: the yard): servers 0 and 1, clients 1 and 2 at desks 0 and 1 with lease end 1000, each point −100 to 1000,
+-- fallback 0, home 0, logs of 16,384 bytes. It runs up to 60 lines. Packets and images are numbered together from 1 as they are
+-- made.
+-- Assumes nothing.
+use Prim.Native.Nat.{ℕ, zero, suc, _+_, _-_, _*_, _/_, _%_}
+use mathlib.Core.Bool.{Bool, true, false, _&&_, _||_, not}
+use mathlib.Core.List.{List, [], _∷_, _++_}
+use mathlib.Core.Option.{Option, none, some}
+use lib.ListN.{length, getD, getElem?, take, replicate}
+use lib.Dec.{eqb, leb, ltb}
+use Rattle.model.specs.declared.PlanEntry.{PlanEntry}
+use Rattle.model.specs.declared.ResultPacket.{ResultPacket}
+use Rattle.model.specs.declared.Client.{Client}
+use Rattle.model.specs.declared.Sent.{Sent}
+use Rattle.model.specs.declared.Sent.the-variants.{NotSent, Packet as SentPacket}
+use Rattle.model.specs.declared.Received.{Received}
+use Rattle.model.specs.declared.Received.the-variants.{NotReceived, Completed, Denied, Extended}
+use Rattle.model.specs.declared.SendAnswer.{SendAnswer}
+use Rattle.model.specs.declared.ReceiveAnswer.{ReceiveAnswer}
+use Rattle.model.specs.Choice.{pick}
+use Rattle.model.specs.Numbers.{half, byteAt}
+use Rattle.model.specs.Refusals.{malformed, badMark, unknown}
+use Rattle.model.specs.Limits.{last32, stateSize, resultSize, receiptSize, greatestImage, pointCount, callWindow}
+use Rattle.model.specs.Plan.{planBytes}
+use Rattle.model.specs.States.{State, load}
+use Rattle.model.specs.Operations.{After, foundOf, requestOf, syncOf, giveOf, imageOf, takeOf, receiptOf, releaseOf, recoverOf}
+use Rattle.model.specs.Clients.{issueOf, resendOf, receiveOf, sendNumber, receiveNumber, sentBytes, noCall}
+
+-- ---- lines
+
+pub data Line : Type 0 where
+  unreadable : Line
+  issue : ℕ → ℕ → ℕ → ℕ → Line  -- i desk op point arg
+  resend : ℕ → ℕ → Line  -- s desk call
+  deliver : ℕ → ℕ → Line  -- d packet server
+  receive : ℕ → ℕ → Line  -- r packet desk
+  sync : ℕ → Line  -- y server
+  cut : ℕ → ℕ → Line  -- k server bytes
+  give : ℕ → ℕ → ℕ → Line  -- g server point destination
+  image : ℕ → ℕ → Line  -- x server point
+  receipt : ℕ → ℕ → Line  -- f server point
+
+-- what a line answers: number or 0, packet made or 0, value received by a desk (as x + 2 ^ 31) or 0
+pub record Reply : Type 0 where
+  pub number : ℕ
+  pub made : ℕ
+  pub value : ℕ
+
+abbrev pub answered : ℕ → ℕ → ℕ → Reply
+answered n p v = record { number = n; made = p; value = v }
+
+-- a refusal, or 0 with nothing made
+abbrev pub plain : ℕ → Reply
+plain n = answered n 0 half
+
+-- ---- the world of the simulator
+
+pub record Server : Type 0 where
+  pub state : List ℕ
+  pub log : List ℕ
+
+pub record Yard : Type 0 where
+  pub server0 : Server
+  pub server1 : Server
+  pub client0 : Client
+  pub client1 : Client
+  pub packets : List (List ℕ)
+
+pub record Step : Type 0 where
+  pub yard : Yard
+  pub reply : Reply
+
+abbrev pub step : Yard → Reply → Step
+step y r = record { yard = y; reply = r }
+
+unfoldable pub yardPlan : List ℕ
+yardPlan = planBytes (replicate pointCount (record { low = half - 100; high = half + 1000; fallback = half; home = 0 }))
+
+unfoldable pub yardServer : ℕ → Server
+yardServer n =
+    let a = foundOf (replicate stateSize 0) (replicate 16384 0) yardPlan n in
+    record { state = a .state; log = a .log }
+
+unfoldable pub yardClient : ℕ → Client
+yardClient n = record { client = n; lease = 1000; next = 1; calls = replicate callWindow noCall }
+
+unfoldable pub newYard : Yard
+newYard =
+    record { server0 = yardServer 0; server1 = yardServer 1; client0 = yardClient 1; client1 = yardClient 2; packets = [] }
+
+unfoldable pub serverOf : Yard → ℕ → Server
+serverOf y n = pick (eqb n 0) (y .server0) (y .server1)
+
+unfoldable pub clientOf : Yard → ℕ → Client
+clientOf y n = pick (eqb n 0) (y .client0) (y .client1)
+
+unfoldable pub withServer : Yard → ℕ → Server → Yard
+withServer y n s =
+    record {
+      server0 = pick (eqb n 0) s (y .server0);
+      server1 = pick (eqb n 0) (y .server1) s;
+      client0 = y .client0;
+      client1 = y .client1;
+      packets = y .packets;
+    }
+
+unfoldable pub withClient : Yard → ℕ → Client → Yard
+withClient y n d =
+    record {
+      server0 = y .server0;
+      server1 = y .server1;
+      client0 = pick (eqb n 0) d (y .client0);
+      client1 = pick (eqb n 0) (y .client1) d;
+      packets = y .packets;
+    }
+
+unfoldable pub withPacket : Yard → List ℕ → Yard
+withPacket y b =
+    record {
+      server0 = y .server0;
+      server1 = y .server1;
+      client0 = y .client0;
+      client1 = y .client1;
+      packets = y .packets ++ (b ∷ []);
+    }
+
+-- ---- a line's work
+
+-- a server's call: its slices, its number, and the packet that it wrote
+unfoldable pub called : Yard → ℕ → After → Step
+called y n a =
+    let z = withServer y n (record { state = a .state; log = a .log }) in
+    pick (eqb (a .answer .wrote) 0) (step z (plain (a .answer .number)))
+    (step (withPacket z (take (a .answer .wrote) (a .out))) (answered (a .answer .number) (suc (length (y .packets))) half))
+
+unfoldable pub room : ℕ → List ℕ
+room n = replicate n 0
+
+-- delivery is request, take or release by kind
+unfoldable pub delivered : Server → List ℕ → Option After
+delivered s b =
+    pick (eqb (byteAt b 0) 1) (some (requestOf (s .state) (s .log) b (room resultSize)))
+    (pick (eqb (byteAt b 0) 4) (some (releaseOf (s .state) (s .log) b))
+    (pick (eqb (byteAt b 0) 77) (some (takeOf (s .state) (s .log) b)) none))
+
+unfoldable pub deliverTo : Yard → ℕ → Option After → Step
+deliverTo y n none = step y (plain malformed)
+deliverTo y n (some a) = called y n a
+
+-- cut, recover; 10 outside mark to length
+unfoldable pub cutAt : Server → ℕ → After
+cutAt s k = recoverOf (s .state) (take k (s .log)) yardPlan
+
+unfoldable pub cutServer : Yard → ℕ → ℕ → Step
+cutServer y n k =
+    let s = serverOf y n in
+    let a = cutAt s k in
+    pick (ltb k (load (s .state) .mark) || ltb (load (s .state) .size) k) (step y (plain badMark))
+    (step (withServer y n (record { state = a .state; log = s .log })) (plain (a .answer .number)))
+
+unfoldable pub issued : Yard → ℕ → SendAnswer → Step
+issued y n a =
+    elim (a .answer) [
+      | NotSent k ↦ step y (plain k)
+      | SentPacket q ↦ step (withPacket (withClient y n (a .client)) (sentBytes (SentPacket q))) (answered 0 (suc (length (y .packets))) half)
+    ]
+
+unfoldable pub receivedAt : Yard → ℕ → ReceiveAnswer → Step
+receivedAt y n a =
+    elim (a .answer) [
+      | NotReceived k ↦ step y (plain k)
+      | Completed r ↦ step (withClient y n (a .client)) (answered 0 0 (r .value))
+      | Denied r ↦ step y (plain 0)
+      | Extended g ↦ step (withClient y n (a .client)) (plain 0)
+    ]
+
+unfoldable pub deliverAt : Yard → ℕ → Option (List ℕ) → Step
+deliverAt y n none = step y (plain unknown)
+deliverAt y n (some b) = deliverTo y n (delivered (serverOf y n) b)
+
+unfoldable pub receiveAt : Yard → ℕ → Option (List ℕ) → Step
+receiveAt y n none = step y (plain unknown)
+receiveAt y n (some b) = receivedAt y n (receiveOf (clientOf y n) b)
+
+-- packet k, none for 0 and for one not made
+unfoldable pub packetAt : Yard → ℕ → Option (List ℕ)
+packetAt y zero = none
+packetAt y (suc k) = getElem? (y .packets) k
+
+-- desks and servers are 0 and 1; else 1
+unfoldable pub known : ℕ → Yard → Step → Step
+known n y s = elim (ltb n 2) [ true ↦ s | false ↦ step y (plain malformed) ]
+
+unfoldable pub ran : Yard → Line → Step
+ran y unreadable = step y (plain malformed)
+ran y (issue n op p a) = known n y (issued y n (issueOf (clientOf y n) op p a))
+ran y (resend n c) = known n y (issued y n (resendOf (clientOf y n) c))
+ran y (deliver k n) = known n y (deliverAt y n (packetAt y k))
+ran y (receive k n) = known n y (receiveAt y n (packetAt y k))
+ran y (sync n) = known n y (called y n (syncOf (serverOf y n .state) (serverOf y n .log) (load (serverOf y n .state) .size)))
+ran y (cut n k) = known n y (cutServer y n k)
+ran y (give n p d) = known n y (called y n (giveOf (serverOf y n .state) (serverOf y n .log) p d))
+ran y (image n p) = known n y (called y n (imageOf (serverOf y n .state) (serverOf y n .log) p (room greatestImage)))
+ran y (receipt n p) = known n y (called y n (receiptOf (serverOf y n .state) (serverOf y n .log) p (room receiptSize)))
+
+unfoldable pub runLines : Yard → List Line → List Reply
+runLines y [] = []
+runLines y (l ∷ ls) = let s = ran y l in (s .reply) ∷ runLines (s .yard) ls
+
+-- ---- text: fields with one space between, decimal digits, '-' only before the argument of `i`; a number that does not fit its 32
+-- bits is unreadable
+
+unfoldable pub isDigit : ℕ → Bool
+isDigit b = leb 48 b && leb b 57
+
+-- the number of a run of digits, none where a byte is no digit
+unfoldable pub digitsFrom : ℕ → List ℕ → Option ℕ
+digitsFrom n [] = some n
+digitsFrom n (b ∷ s) = pick (isDigit b) (digitsFrom (10 * n + (b - 48)) s) none
+
+unfoldable pub atMost : ℕ → Option ℕ → Option ℕ
+atMost m none = none
+atMost m (some n) = pick (leb n m) (some n) none
+
+unfoldable pub numberIn : List ℕ → Option ℕ
+numberIn [] = none
+numberIn (b ∷ s) = atMost last32 (digitsFrom 0 (b ∷ s))
+
+unfoldable pub negative : Option ℕ → Option ℕ
+negative none = none
+negative (some n) = pick (leb n half) (some (half - n)) none
+
+unfoldable pub positive : Option ℕ → Option ℕ
+positive none = none
+positive (some n) = pick (ltb n half) (some (half + n)) none
+
+-- a signed number, as x + 2 ^ 31
+unfoldable pub argumentIn : List ℕ → Option ℕ
+argumentIn [] = none
+argumentIn (b ∷ s) = pick (eqb b 45) (negative (numberIn s)) (positive (numberIn (b ∷ s)))
+
+-- the fields of a line
+unfoldable pub fieldsFrom : List ℕ → List ℕ → List (List ℕ)
+fieldsFrom f [] = f ∷ []
+fieldsFrom f (b ∷ s) = pick (eqb b 32) (f ∷ fieldsFrom [] s) (fieldsFrom (f ++ (b ∷ [])) s)
+
+unfoldable pub line1 : (ℕ → Line) → Option ℕ → Line
+line1 f none = unreadable
+line1 f (some a) = f a
+
+unfoldable pub line2 : (ℕ → ℕ → Line) → Option ℕ → Option ℕ → Line
+line2 f none b = unreadable
+line2 f (some a) b = line1 (f a) b
+
+unfoldable pub line3 : (ℕ → ℕ → ℕ → Line) → Option ℕ → Option ℕ → Option ℕ → Line
+line3 f none b c = unreadable
+line3 f (some a) b c = line2 (f a) b c
+
+unfoldable pub line4 : (ℕ → ℕ → ℕ → ℕ → Line) → Option ℕ → Option ℕ → Option ℕ → Option ℕ → Line
+line4 f none b c d = unreadable
+line4 f (some a) b c d = line3 (f a) b c d
+
+-- the letter of a line's first field, 0 where it is not one byte
+unfoldable pub letterIn : List ℕ → ℕ
+letterIn [] = 0
+letterIn (b ∷ s) = pick (eqb (length s) 0) b 0
+
+unfoldable pub with1 : ℕ → List ℕ → Line
+with1 c a = pick (eqb c 121) (line1 sync (numberIn a)) unreadable
+
+unfoldable pub with2 : ℕ → List ℕ → List ℕ → Line
+with2 c a b =
+    pick (eqb c 115) (line2 resend (numberIn a) (numberIn b))
+    (pick (eqb c 100) (line2 deliver (numberIn a) (numberIn b))
+    (pick (eqb c 114) (line2 receive (numberIn a) (numberIn b))
+    (pick (eqb c 107) (line2 cut (numberIn a) (numberIn b))
+    (pick (eqb c 120) (line2 image (numberIn a) (numberIn b))
+    (pick (eqb c 102) (line2 receipt (numberIn a) (numberIn b)) unreadable)))))
+
+unfoldable pub with3 : ℕ → List ℕ → List ℕ → List ℕ → Line
+with3 c a b d = pick (eqb c 103) (line3 give (numberIn a) (numberIn b) (numberIn d)) unreadable
+
+unfoldable pub with4 : ℕ → List ℕ → List ℕ → List ℕ → List ℕ → Line
+with4 c a b d e = pick (eqb c 105) (line4 issue (numberIn a) (numberIn b) (numberIn d) (argumentIn e)) unreadable
+
+unfoldable pub lineOfFields : List (List ℕ) → Line
+lineOfFields [] = unreadable
+lineOfFields (c ∷ []) = unreadable
+lineOfFields (c ∷ a ∷ []) = with1 (letterIn c) a
+lineOfFields (c ∷ a ∷ b ∷ []) = with2 (letterIn c) a b
+lineOfFields (c ∷ a ∷ b ∷ d ∷ []) = with3 (letterIn c) a b d
+lineOfFields (c ∷ a ∷ b ∷ d ∷ e ∷ []) = with4 (letterIn c) a b d e
+lineOfFields (c ∷ a ∷ b ∷ d ∷ e ∷ f ∷ fs) = unreadable
+
+unfoldable pub lineOf : List ℕ → Line
+lineOf s = lineOfFields (fieldsFrom [] s)
+
+-- the lines of a text; a last line without a line feed counts
+unfoldable pub endLine : List ℕ → List Line
+endLine [] = []
+endLine (b ∷ s) = lineOf (b ∷ s) ∷ []
+
+unfoldable pub linesFrom : List ℕ → List ℕ → List Line
+linesFrom f [] = endLine f
+linesFrom f (b ∷ s) = pick (eqb b 10) (lineOf f ∷ linesFrom [] s) (linesFrom (f ++ (b ∷ [])) s)
+
+-- up to 60 lines; later ones are not read
+unfoldable pub linesOf : List ℕ → List Line
+linesOf s = take 60 (linesFrom [] s)
+
+-- a number's decimal digits; a number of 32 bits has at most 10
+unfoldable pub digitsOf : ℕ → ℕ → List ℕ
+digitsOf zero n = []
+digitsOf (suc k) n = pick (ltb n 10) ((48 + n) ∷ []) (digitsOf k (n / 10) ++ ((48 + n % 10) ∷ []))
+
+unfoldable pub shown : ℕ → List ℕ
+shown n = digitsOf 10 n
+
+unfoldable pub shownSigned : ℕ → List ℕ
+shownSigned x = pick (ltb x half) (45 ∷ shown (half - x)) (shown (x - half))
+
+-- line, number, packet made, value received
+unfoldable pub replyText : ℕ → Reply → List ℕ
+replyText k r = shown k ++ (32 ∷ (shown (r .number) ++ (32 ∷ (shown (r .made) ++ (32 ∷ (shownSigned (r .value) ++ (10 ∷ [])))))))
+
+unfoldable pub repliesText : ℕ → List Reply → List ℕ
+repliesText k [] = []
+repliesText k (r ∷ rs) = replyText k r ++ repliesText (suc k) rs
+
+-- a schedule in, answers out
+unfoldable pub yardOf : List ℕ → List ℕ
+yardOf s = repliesText 1 (runLines newYard (linesOf s))

@@ -1,0 +1,272 @@
+// The kernel's types: plain data, no logic. What they mean stands in specs/.
+// A signed number x of 32 bits is kept as x + 2^31, unsigned, in every field.
+
+// ---- plan and commands
+
+// One point's entry of the plan.
+pub struct PlanEntry {
+    pub low: u32,
+    pub high: u32,
+    pub fallback: u32,
+    pub home: u8,
+}
+
+// A point's value and quality: 0 valid, 1 invalid.
+pub struct Reading {
+    pub value: u32,
+    pub quality: u8,
+}
+
+// What a command answers: its outcome, and the point's value and quality after it.
+pub struct CommandResult {
+    pub outcome: u8,
+    pub value: u32,
+    pub quality: u8,
+}
+
+// A command with its id: client and call.
+pub struct Command {
+    pub client: u32,
+    pub call: u32,
+    pub op: u8,
+    pub point: u8,
+    pub argument: u32,
+}
+
+// ---- packets
+
+// Packet 1. `lease` is the lease end.
+pub struct Request {
+    pub op: u8,
+    pub point: u8,
+    pub client: u32,
+    pub call: u32,
+    pub done: u32,
+    pub lease: u32,
+    pub argument: u32,
+}
+
+// Packet 2.
+pub struct ResultPacket {
+    pub outcome: u8,
+    pub point: u8,
+    pub quality: u8,
+    pub client: u32,
+    pub call: u32,
+    pub value: u32,
+}
+
+// Packet 3.
+pub struct RefusalPacket {
+    pub number: u8,
+    pub point: u8,
+    pub client: u32,
+    pub call: u32,
+}
+
+// Packet 4. `server` is the taker; `number` is the move number.
+pub struct Receipt {
+    pub point: u8,
+    pub server: u8,
+    pub number: u32,
+}
+
+// Packet 5, and log record 2 (gone).
+pub struct Notice {
+    pub client: u32,
+    pub time: u32,
+}
+
+// Packet 6. `lease` is the lease end.
+pub struct Grant {
+    pub client: u32,
+    pub lease: u32,
+}
+
+// What a parser finds: one of the six kinds, or that the bytes are none.
+pub enum Packet {
+    Malformed,
+    Requested(Request),
+    Resulted(ResultPacket),
+    Refused(RefusalPacket),
+    Receipted(Receipt),
+    Noticed(Notice),
+    Granted(Grant),
+}
+
+// ---- log records (gone is a Notice; a take is the image, read from its place in the log)
+
+// Log record 1.
+pub struct Executed {
+    pub op: u8,
+    pub point: u8,
+    pub outcome: u8,
+    pub client: u32,
+    pub call: u32,
+    pub done: u32,
+    pub argument: u32,
+    pub value: u32,
+    pub quality: u8,
+}
+
+// Log record 3. `number` is the move number.
+pub struct Give {
+    pub point: u8,
+    pub destination: u8,
+    pub number: u32,
+}
+
+// Log record 5. `number` is the give's move number.
+pub struct Release {
+    pub point: u8,
+    pub number: u32,
+}
+
+// ---- images
+
+// A client with its floor: a row of an image and of a server's state.
+pub struct Floor {
+    pub client: u32,
+    pub floor: u32,
+}
+
+// A completion record in an image.
+pub struct ImageEntry {
+    pub client: u32,
+    pub call: u32,
+    pub argument: u32,
+    pub value: u32,
+    pub op: u8,
+    pub outcome: u8,
+    pub quality: u8,
+}
+
+// The fields of an image outside its two tables, with the numbers of their rows.
+pub struct ImageHead {
+    pub point: u8,
+    pub destination: u8,
+    pub source: u8,
+    pub number: u32,
+    pub heard: u32,
+    pub value: u32,
+    pub quality: u8,
+    pub floors: u32,
+    pub entries: u32,
+}
+
+// ---- a server's state (paper: cabinet), rows of the lent buffer
+
+// A point at a server. `status`: 0 absent, 1 held, 2 given, 3 released. `number` is the move number, `taken` the latest
+// taken one (0: never taken); `gave` and `took` are the log ends of the latest give and take (0: none).
+pub struct Point {
+    pub status: u8,
+    pub quality: u8,
+    pub destination: u8,
+    pub value: u32,
+    pub number: u32,
+    pub taken: u32,
+    pub gave: u64,
+    pub took: u64,
+}
+
+// A completion record. `end` is the end of the log record that brought it.
+pub struct Completion {
+    pub client: u32,
+    pub call: u32,
+    pub argument: u32,
+    pub value: u32,
+    pub op: u8,
+    pub outcome: u8,
+    pub quality: u8,
+    pub point: u8,
+    pub end: u64,
+}
+
+// The answer of a server's call: 0 or the refusal's number, and the bytes written to the output.
+pub struct Answer {
+    pub number: u32,
+    pub wrote: u32,
+}
+
+// ---- the client (paper: desk)
+
+// An open call; call 0 is a free place.
+pub struct OpenCall {
+    pub call: u32,
+    pub op: u8,
+    pub point: u8,
+    pub argument: u32,
+}
+
+// A client: its number, lease end, next call number, and the open calls, each at the place call mod 16.
+pub struct Client {
+    pub client: u32,
+    pub lease: u32,
+    pub next: u32,
+    pub calls: [OpenCall; 16],
+}
+
+// What start answers.
+pub enum Started {
+    NotStarted(u32),
+    Running,
+}
+
+// What issue and resend answer.
+pub enum Sent {
+    NotSent(u32),
+    Packet(Request),
+}
+
+// What receive answers.
+pub enum Received {
+    NotReceived(u32),
+    // a result: its call is closed
+    Completed(ResultPacket),
+    // a refusal of an open call: it stays open
+    Denied(RefusalPacket),
+    // a later, or the same, lease end
+    Extended(Grant),
+}
+
+pub struct StartAnswer {
+    pub client: Client,
+    pub answer: Started,
+}
+
+pub struct SendAnswer {
+    pub client: Client,
+    pub answer: Sent,
+}
+
+pub struct ReceiveAnswer {
+    pub client: Client,
+    pub answer: Received,
+}
+
+// ---- the lease manager (paper: lease office)
+
+// A lease; client 0 is a free place. `lease` is its end.
+pub struct Lease {
+    pub client: u32,
+    pub lease: u32,
+}
+
+// `issued` is the latest client number granted.
+pub struct LeaseManager {
+    pub time: u32,
+    pub issued: u32,
+    pub leases: [Lease; 32],
+}
+
+// What open, renew and query answer.
+pub enum Told {
+    NotTold(u32),
+    ByGrant(Grant),
+    ByNotice(Notice),
+}
+
+pub struct LeaseAnswer {
+    pub manager: LeaseManager,
+    pub answer: Told,
+}

@@ -1,0 +1,62 @@
+#!/usr/bin/env bash
+# The whole check: the kit's identity, the format, every proof and must-fail edit (rt ci), the tests of the second program.
+# Prints seconds per part and per crate; the last line is 'N passed, M failed'; any failure exits non-zero.
+set -u
+cd "$(dirname "$0")/.." || exit 2
+began=$SECONDS
+passed=0
+failed=0
+logs=$(mktemp -d)
+trap 'rm -rf "$logs"' EXIT
+
+# part NAME: runs the command that follows; its output is kept in $logs/NAME and shown if it fails
+part() {
+  local name=$1 start=$SECONDS
+  shift
+  echo "== $name"
+  if "$@" >"$logs/$name" 2>&1; then
+    echo "   ok, $((SECONDS - start)) s"
+    return 0
+  fi
+  cat "$logs/$name"
+  echo "   FAILED: $name, $((SECONDS - start)) s"
+  return 1
+}
+
+count() { if [ "$1" = 0 ]; then passed=$((passed + 1)); else failed=$((failed + 1)); fi; }
+
+same_kit() {
+  local want have
+  want=$(cat tools/kit-id)
+  have=$(rt version) || { echo "rt is not on the PATH: install the Rattle kit ($want)"; return 1; }
+  [ "$want" = "$have" ] || { echo "this repository is proved with the kit '$want', and here is '$have'."; echo "install that kit, or prove all anew and write the new identity to tools/kit-id."; return 1; }
+}
+
+part kit same_kit; count $?
+part format rt fmt --check; count $?
+
+part proofs rt ci
+proofs=$?
+grep -E '^rt: .* \([0-9]+ s\)$|^rt: must-fail' "$logs/proofs" | sed 's/^/   /'
+line=$(grep -E '^[0-9]+ passed, [0-9]+ failed$' "$logs/proofs" | tail -n 1)
+if [ -n "$line" ]; then
+  passed=$((passed + ${line%% passed*}))
+  n=${line#*, }
+  failed=$((failed + ${n%% failed*}))
+fi
+[ "$proofs" = 0 ] || { [ -n "$line" ] && [ "${n%% failed*}" != 0 ]; } || failed=$((failed + 1))
+
+if [ -f second/Cargo.toml ]; then
+  part second cargo test --release --quiet --offline --manifest-path second/Cargo.toml
+  second=$?
+  ran=$(grep -oE '[0-9]+ passed' "$logs/second" | awk '{ s += $1 } END { print s + 0 }')
+  bad=$(grep -oE '[0-9]+ failed' "$logs/second" | awk '{ s += $1 } END { print s + 0 }')
+  passed=$((passed + ran))
+  failed=$((failed + bad))
+  [ "$second" = 0 ] || [ "$bad" != 0 ] || failed=$((failed + 1))
+  [ "$ran" != 0 ] || failed=$((failed + 1))
+fi
+
+echo "== all: $((SECONDS - began)) s"
+echo "$passed passed, $failed failed"
+[ "$failed" = 0 ]
