@@ -17,7 +17,7 @@ use Rattle.model.specs.declared.Client.{Client}
 use Rattle.model.specs.declared.Started.{Started}
 use Rattle.model.specs.declared.Started.the-variants.{NotStarted, Running}
 use Rattle.model.specs.declared.Sent.{Sent}
-use Rattle.model.specs.declared.Sent.the-variants.{NotSent, Packet as SentPacket}
+use Rattle.model.specs.declared.Sent.the-variants.{NotSent, Asked}
 use Rattle.model.specs.declared.Received.{Received}
 use Rattle.model.specs.declared.Received.the-variants.{NotReceived, Completed, Denied, Extended}
 use Rattle.model.specs.declared.StartAnswer.{StartAnswer}
@@ -104,7 +104,7 @@ unfoldable pub notSent : Client → ℕ → SendAnswer
 notSent d n = record { client = d; answer = NotSent n }
 
 unfoldable pub sent : Client → OpenCall → SendAnswer
-sent d k = record { client = d; answer = SentPacket (requestFor d k) }
+sent d k = record { client = d; answer = Asked (requestFor d k) }
 
 unfoldable pub issueOf : Client → ℕ → ℕ → ℕ → SendAnswer
 issueOf d op point a =
@@ -161,7 +161,7 @@ startNumber Running = 0
 
 unfoldable pub sendNumber : Sent → ℕ
 sendNumber (NotSent n) = n
-sendNumber (SentPacket q) = 0
+sendNumber (Asked q) = 0
 
 unfoldable pub receiveNumber : Received → ℕ
 receiveNumber (NotReceived n) = n
@@ -172,4 +172,4 @@ receiveNumber (Extended g) = 0
 -- the packet that an answer carries
 unfoldable pub sentBytes : Sent → List ℕ
 sentBytes (NotSent n) = []
-sentBytes (SentPacket q) = requestBytes q
+sentBytes (Asked q) = requestBytes q

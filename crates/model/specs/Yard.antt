@@ -12,7 +12,7 @@ use Rattle.model.specs.declared.PlanEntry.{PlanEntry}
 use Rattle.model.specs.declared.ResultPacket.{ResultPacket}
 use Rattle.model.specs.declared.Client.{Client}
 use Rattle.model.specs.declared.Sent.{Sent}
-use Rattle.model.specs.declared.Sent.the-variants.{NotSent, Packet as SentPacket}
+use Rattle.model.specs.declared.Sent.the-variants.{NotSent, Asked}
 use Rattle.model.specs.declared.Received.{Received}
 use Rattle.model.specs.declared.Received.the-variants.{NotReceived, Completed, Denied, Extended}
 use Rattle.model.specs.declared.SendAnswer.{SendAnswer}
@@ -162,7 +162,7 @@ unfoldable pub issued : Yard → ℕ → SendAnswer → Step
 issued y n a =
     elim (a .answer) [
       | NotSent k ↦ step y (plain k)
-      | SentPacket q ↦ step (withPacket (withClient y n (a .client)) (sentBytes (SentPacket q))) (answered 0 (suc (length (y .packets))) half)
+      | Asked q ↦ step (withPacket (withClient y n (a .client)) (sentBytes (Asked q))) (answered 0 (suc (length (y .packets))) half)
     ]
 
 unfoldable pub receivedAt : Yard → ℕ → ReceiveAnswer → Step

@@ -215,7 +215,7 @@ pub enum Started {
 // What issue and resend answer.
 pub enum Sent {
     NotSent(u32),
-    Packet(Request),
+    Asked(Request),
 }
 
 // What receive answers.
