@@ -1,0 +1,95 @@
+-- The provisos of demand 3, each with the customer's words, as conditions on a schedule. These hold by the world's construction:
+--     "packets and images are only those the parties made": an event names one by its number among those made
+--     "only the operations change state and log": `running` holds what the last call left, and a call is lent just that
+--     "the lease office keeps its state": there is one manager, and each call of it gets what the last one left
+-- Assumes nothing.
+use Prim.Native.Nat.{ℕ, _*_, _≤_, _<_}
+use mathlib.Core.Path.{_≡_}
+use mathlib.Core.List.{List, []}
+use mathlib.Core.Option.{Option, none, some}
+use lib.ListN.{length, getD, getElem?}
+use Rattle.model.specs.declared.Client.{Client}
+use Rattle.model.specs.declared.Started.the-variants.{Running}
+use Rattle.model.specs.Numbers.{word}
+use Rattle.model.specs.Operations.{After, foundOf, recoverOf}
+use Rattle.model.specs.States.{load}
+use Rattle.model.specs.Clients.{startOf}
+use Rattle.claim.specs.World.{Event, found, request, fetch, sync, notice, give, image, take·image, receipt, release, recover, crash, start, issue, resend, receive, open·lease, renew, query, Lent, World, Server, nothing, running, crashed, after, packet}
+
+-- a list of bytes
+unfoldable pub Bytes : List ℕ → Type 0
+Bytes s = (i : ℕ) → getD s i 0 < 256
+
+-- a slice: bytes, as many as a machine's address counts
+pub record Slice (s : List ℕ) : Type 0 where
+  pub bytes : Bytes s
+  pub counted : length s < word * word
+
+pub record LentOk (l : Lent) : Type 0 where
+  pub counted : l .log < word * word
+  pub tail : Bytes (l .tail)
+  pub out : Slice (l .out)
+
+-- the arguments of a call are slices of bytes and numbers of 32 bits, a mark of 64, as in the interface
+unfoldable pub Typed : Event → Type 0
+Typed (found c state log plan n) = Slice state × Slice log × Slice plan × (n < word)
+Typed (request c p l) = LentOk l
+Typed (fetch c x k l) = LentOk l × (x < word) × (k < word)
+Typed (sync c m l) = LentOk l × (m < word * word)
+Typed (notice c p l) = LentOk l
+Typed (give c p d l) = LentOk l × (p < word) × (d < word)
+Typed (image c p l) = LentOk l × (p < word)
+Typed (take·image c p l) = LentOk l
+Typed (receipt c p l) = LentOk l × (p < word)
+Typed (release c p l) = LentOk l
+Typed (recover c state log plan) = Slice state × Slice log × Slice plan
+Typed (crash c k) = Unit
+Typed (start p) = Unit
+Typed (issue x op p a) = (op < 256) × (p < 256) × (a < word)
+Typed (resend x c) = c < word
+Typed (receive x p) = Unit
+Typed (open·lease t span) = (t < word) × (span < word)
+Typed (renew x t span) = (x < word) × (t < word) × (span < word)
+Typed (query x t) = (x < word) × (t < word)
+
+-- the log that a running server has, or that a crash kept
+unfoldable pub keptBy : Server → Option (List ℕ)
+keptBy nothing = none
+keptBy (running state log) = some log
+keptBy (crashed kept mark) = some kept
+
+-- the sync mark and the length of a server's log
+unfoldable pub markOf : Server → ℕ
+markOf nothing = 0
+markOf (running state log) = load state .mark
+markOf (crashed kept mark) = mark
+
+unfoldable pub lengthOf : Server → ℕ
+lengthOf nothing = 0
+lengthOf (running state log) = length log
+lengthOf (crashed kept mark) = length kept
+
+module _ (plan : List ℕ) (es : List Event) where
+  -- event number n
+  unfoldable pub At : ℕ → Event → Type 0
+  At n e = getElem? es n ≡ some e
+
+  pub record Provisos : Type 0 where
+    -- what the interface's types say
+    pub typed : (n : ℕ) (e : Event) → At n e → Typed e
+    -- "all cabinets have one plan, given again at each recovery"
+    pub one-plan : (n c : ℕ) (state log p : List ℕ) (k : ℕ) → At n (found c state log p k) → foundOf state log p k .answer .number ≡ 0 → p ≡ plan
+    pub plan-again : (n c : ℕ) (state log p : List ℕ) → At n (recover c state log p) → recoverOf state log p .answer .number ≡ 0 → p ≡ plan
+    -- "and different numbers": a server is named by the number it was founded with
+    pub own-number : (n c : ℕ) (state log p : List ℕ) (k : ℕ) → At n (found c state log p k) → foundOf state log p k .answer .number ≡ 0 → k ≡ c
+    -- "and are founded once": only a refused found is called again
+    pub founded-once : (n c : ℕ) (state log p : List ℕ) (k : ℕ) → At n (found c state log p k) → foundOf state log p k .answer .number ≡ 0
+        → after es n .servers c ≡ nothing
+    -- "a crash keeps a prefix of the log not shorter than its synced part"
+    pub crash-keeps : (n c k : ℕ) → At n (crash c k) → (markOf (after es n .servers c) ≤ k) × (k ≤ lengthOf (after es n .servers c))
+    -- "recovery uses that prefix"
+    pub recovery-uses : (n c : ℕ) (state log p : List ℕ) → At n (recover c state log p) → recoverOf state log p .answer .number ≡ 0
+        → keptBy (after es n .servers c) ≡ some log
+    -- "each client number starts one desk, once"
+    pub started-once : (n p : ℕ) (b : List ℕ) → At n (start p) → packet (after es n) p ≡ some b → startOf b .answer ≡ Running
+        → after es n .clients (startOf b .client .client) ≡ none

@@ -1,0 +1,191 @@
+-- All parties, run over a schedule: servers (paper: cabinets) with their bytes, clients (desks), the lease manager (lease office),
+-- and every packet and image made. Each event runs the definition that the call's contract cites.
+-- Assumes nothing.
+use Prim.Native.Nat.{ℕ, zero, suc, _+_}
+use mathlib.Core.Bool.{Bool, true, false}
+use mathlib.Core.List.{List, [], _∷_, _++_}
+use mathlib.Core.Option.{Option, none, some}
+use lib.ListN.{length, take, drop, getElem?}
+use lib.Dec.{eqb}
+use Rattle.model.specs.declared.Answer.{Answer}
+use Rattle.model.specs.declared.Client.{Client}
+use Rattle.model.specs.declared.LeaseManager.{LeaseManager}
+use Rattle.model.specs.declared.Started.{Started}
+use Rattle.model.specs.declared.Started.the-variants.{NotStarted, Running}
+use Rattle.model.specs.declared.Sent.{Sent}
+use Rattle.model.specs.declared.Sent.the-variants.{NotSent, Asked}
+use Rattle.model.specs.declared.StartAnswer.{StartAnswer}
+use Rattle.model.specs.declared.SendAnswer.{SendAnswer}
+use Rattle.model.specs.declared.LeaseAnswer.{LeaseAnswer}
+use Rattle.model.specs.Choice.{pick}
+use Rattle.model.specs.States.{State, load}
+use Rattle.model.specs.Operations.{After, foundOf, requestOf, fetchOf, syncOf, noticeOf, giveOf, imageOf, takeOf, receiptOf, releaseOf, recoverOf}
+use Rattle.model.specs.Clients.{startOf, issueOf, resendOf, receiveOf, sentBytes}
+use Rattle.model.specs.Leases.{newManager, openOf, renewOf, queryOf, toldBytes}
+
+-- ---- parties
+
+-- `running state log`: the whole state buffer, and the log up to its recorded length. `crashed kept mark`: no state, the bytes
+-- that a crash kept, and the sync mark of the time before it
+pub data Server : Type 0 where
+  nothing : Server
+  running : List ℕ → List ℕ → Server
+  crashed : List ℕ → ℕ → Server
+
+pub record World : Type 0 where
+  pub servers : ℕ → Server
+  pub clients : ℕ → Option Client  -- by client number
+  pub manager : LeaseManager
+  pub made : List (List ℕ)  -- packets and images, in the order made
+
+-- ---- events
+
+-- what a call of a server is lent: the first `state` bytes of the state buffer; the first `log` bytes of the log followed by
+-- `tail` (bytes past the recorded length are free); an output of any length and content. Fewer bytes than are due give 2 or 19
+pub record Lent : Type 0 where
+  pub state : ℕ
+  pub log : ℕ
+  pub tail : List ℕ
+  pub out : List ℕ
+
+-- the calls of the paper, with their arguments, and crashes. A packet or image is named by its number among those made, from 0
+pub data Event : Type 0 where
+  found : ℕ → List ℕ → List ℕ → List ℕ → ℕ → Event  -- server, state and log buffers, plan, server number
+  request : ℕ → ℕ → Lent → Event  -- server, packet
+  fetch : ℕ → ℕ → ℕ → Lent → Event  -- server, client, call
+  sync : ℕ → ℕ → Lent → Event  -- server, mark
+  notice : ℕ → ℕ → Lent → Event  -- server, packet
+  give : ℕ → ℕ → ℕ → Lent → Event  -- server, point, destination
+  image : ℕ → ℕ → Lent → Event  -- server, point
+  take·image : ℕ → ℕ → Lent → Event  -- server, image
+  receipt : ℕ → ℕ → Lent → Event  -- server, point
+  release : ℕ → ℕ → Lent → Event  -- server, packet
+  recover : ℕ → List ℕ → List ℕ → List ℕ → Event  -- server, state buffer, kept log, plan
+  crash : ℕ → ℕ → Event  -- server, bytes kept
+  start : ℕ → Event  -- packet
+  issue : ℕ → ℕ → ℕ → ℕ → Event  -- client, op, point, argument
+  resend : ℕ → ℕ → Event  -- client, call
+  receive : ℕ → ℕ → Event  -- client, packet
+  open·lease : ℕ → ℕ → Event  -- time, span
+  renew : ℕ → ℕ → ℕ → Event  -- client, time, span
+  query : ℕ → ℕ → Event  -- client, time
+
+-- ---- changes of one part
+
+unfoldable pub withServer : ℕ → Server → World → World
+withServer c s w = record { servers = λ d. pick (eqb d c) s (w .servers d); clients = w .clients; manager = w .manager; made = w .made }
+
+unfoldable pub withClient : ℕ → Client → World → World
+withClient x d w = record { servers = w .servers; clients = λ y. pick (eqb y x) (some d) (w .clients y); manager = w .manager; made = w .made }
+
+unfoldable pub withManager : LeaseManager → World → World
+withManager m w = record { servers = w .servers; clients = w .clients; manager = m; made = w .made }
+
+-- a packet or image is made; no bytes are none
+unfoldable pub making : List ℕ → World → World
+making [] w = w
+making (b ∷ bs) w = record { servers = w .servers; clients = w .clients; manager = w .manager; made = w .made ++ ((b ∷ bs) ∷ []) }
+
+-- ---- servers
+
+-- the slices that a call is lent
+unfoldable pub lentState : Lent → List ℕ → List ℕ
+lentState l state = take (l .state) state
+
+unfoldable pub lentLog : Lent → List ℕ → List ℕ
+lentLog l log = take (l .log) (log ++ l .tail)
+
+-- the whole buffers once the lent parts have come back; the log up to its recorded length
+unfoldable pub stateBack : Lent → List ℕ → After → List ℕ
+stateBack l state a = a .state ++ drop (l .state) state
+
+unfoldable pub logBack : Lent → List ℕ → List ℕ → After → List ℕ
+logBack l state log a = take (load (stateBack l state a) .size) (a .log ++ drop (l .log) (log ++ l .tail))
+
+-- a call of a running server: its buffers, and what it made. A server that is not running takes no call but found and recover
+unfoldable pub calls : ℕ → Lent → (List ℕ → List ℕ → After) → Server → World → World
+calls c l f nothing w = w
+calls c l f (running state log) w =
+    let a = f (lentState l state) (lentLog l log) in
+    making (take (a .answer .wrote) (a .out)) (withServer c (running (stateBack l state a) (logBack l state log a)) w)
+calls c l f (crashed kept mark) w = w
+
+-- a call of a server on a packet or image made
+unfoldable pub callsOn : ℕ → Lent → (List ℕ → List ℕ → List ℕ → After) → Option (List ℕ) → World → World
+callsOn c l f none w = w
+callsOn c l f (some b) w = calls c l (λ s g. f s g b) (w .servers c) w
+
+-- found and recover: on success the server runs with what they wrote; a refusal leaves it as it was
+unfoldable pub foundAs : ℕ → After → World → World
+foundAs c a w = pick (eqb (a .answer .number) 0) (withServer c (running (a .state) (take (load (a .state) .size) (a .log))) w) w
+
+-- a crash leaves no state and the log's first k bytes
+unfoldable pub crashAt : ℕ → ℕ → Server → World → World
+crashAt c k nothing w = w
+crashAt c k (running state log) w = withServer c (crashed (take k log) (load state .mark)) w
+crashAt c k (crashed kept mark) w = withServer c (crashed (take k kept) mark) w
+
+-- ---- clients
+
+unfoldable pub startsAs : StartAnswer → World → World
+startsAs a w = elim (a .answer) [ NotStarted n ↦ w | Running ↦ withClient (a .client .client) (a .client) w ]
+
+unfoldable pub startsOn : Option (List ℕ) → World → World
+startsOn none w = w
+startsOn (some b) w = startsAs (startOf b) w
+
+unfoldable pub sends : ℕ → (Client → SendAnswer) → Option Client → World → World
+sends x f none w = w
+sends x f (some d) w = making (sentBytes (f d .answer)) (withClient x (f d .client) w)
+
+unfoldable pub receives : ℕ → Option Client → Option (List ℕ) → World → World
+receives x none p w = w
+receives x (some d) none w = w
+receives x (some d) (some b) w = withClient x (receiveOf d b .client) w
+
+-- ---- the lease manager
+
+unfoldable pub told : LeaseAnswer → World → World
+told a w = making (toldBytes (a .answer)) (withManager (a .manager) w)
+
+-- ---- a run
+
+-- a packet or image made
+unfoldable pub packet : World → ℕ → Option (List ℕ)
+packet w n = getElem? (w .made) n
+
+unfoldable pub step : World → Event → World
+step w (found c state log plan n) = foundAs c (foundOf state log plan n) w
+step w (request c p l) = callsOn c l (λ s g b. requestOf s g b (l .out)) (packet w p) w
+step w (fetch c x k l) = calls c l (λ s g. fetchOf s g x k (l .out)) (w .servers c) w
+step w (sync c m l) = calls c l (λ s g. syncOf s g m) (w .servers c) w
+step w (notice c p l) = callsOn c l noticeOf (packet w p) w
+step w (give c p d l) = calls c l (λ s g. giveOf s g p d) (w .servers c) w
+step w (image c p l) = calls c l (λ s g. imageOf s g p (l .out)) (w .servers c) w
+step w (take·image c p l) = callsOn c l takeOf (packet w p) w
+step w (receipt c p l) = calls c l (λ s g. receiptOf s g p (l .out)) (w .servers c) w
+step w (release c p l) = callsOn c l releaseOf (packet w p) w
+step w (recover c state log plan) = foundAs c (recoverOf state log plan) w
+step w (crash c k) = crashAt c k (w .servers c) w
+step w (start p) = startsOn (packet w p) w
+step w (issue x op p a) = sends x (λ d. issueOf d op p a) (w .clients x) w
+step w (resend x c) = sends x (λ d. resendOf d c) (w .clients x) w
+step w (receive x p) = receives x (w .clients x) (packet w p) w
+step w (open·lease t span) = told (openOf (w .manager) t span) w
+step w (renew x t span) = told (renewOf (w .manager) x t span) w
+step w (query x t) = told (queryOf (w .manager) x t) w
+
+-- nothing founded or started, the lease manager at time 0 without leases
+unfoldable pub emptyWorld : World
+emptyWorld = record { servers = λ c. nothing; clients = λ x. none; manager = newManager; made = [] }
+
+unfoldable pub runFrom : World → List Event → World
+runFrom w [] = w
+runFrom w (e ∷ es) = runFrom (step w e) es
+
+unfoldable pub run : List Event → World
+run es = runFrom emptyWorld es
+
+-- the world after the first n events
+unfoldable pub after : List Event → ℕ → World
+after es n = run (take n es)
