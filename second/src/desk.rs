@@ -1,0 +1,156 @@
+//! Paper 01, "Operations and their numbers": the desk (client) with its start,
+//! issue, resend and receive.
+
+use crate::answer::*;
+use crate::packet::{
+    parse_grant, parse_packet, write_request, Grant, Packet, Refusal, Reply, Request, REQUEST_LEN,
+    WINDOW,
+};
+use crate::plan::POINTS;
+use crate::rule::{Effect, Op};
+
+#[derive(Clone, Copy, PartialEq, Eq, Debug)]
+pub struct OpenCall {
+    pub op: Op,
+    pub point: u8,
+    pub argument: i32,
+}
+
+#[derive(Clone, PartialEq, Eq, Debug)]
+pub struct Client {
+    pub client: u32,
+    pub lease_end: u32,
+    /// Next call number.
+    pub next: u32,
+    /// First open call, `next` if none is open.
+    pub first: u32,
+    /// Open calls, at call mod 16.
+    pub open: [Option<OpenCall>; WINDOW as usize],
+}
+
+/// What a desk received.
+#[derive(Clone, Copy, PartialEq, Eq, Debug)]
+pub enum Received {
+    /// The result that closed the call.
+    Result {
+        call: u32,
+        effect: Effect,
+    },
+    Refusal(u8),
+    Grant(u32),
+}
+
+impl Client {
+    /// Start.
+    pub fn start(packet: &[u8]) -> Result<Client, u32> {
+        let grant = parse_grant(packet).ok_or(MALFORMED)?;
+        Ok(Client {
+            client: grant.client,
+            lease_end: grant.lease_end,
+            next: 1,
+            first: 1,
+            open: [None; WINDOW as usize],
+        })
+    }
+
+    pub fn open_call(&self, call: u32) -> Option<OpenCall> {
+        if call < self.first || call >= self.next {
+            return None;
+        }
+        self.open[slot(call)]
+    }
+
+    pub fn issue(&mut self, op: u32, point: u32, argument: i32) -> Result<[u8; REQUEST_LEN], u32> {
+        let command = command(op, point, argument).ok_or(MALFORMED)?;
+        if self.next - self.first >= WINDOW {
+            return Err(WINDOW_FULL);
+        }
+        if self.next == u32::MAX {
+            return Err(NUMBER_SPENT);
+        }
+        let call = self.next;
+        self.open[slot(call)] = Some(command);
+        self.next += 1;
+        Ok(self.packet(call, &command))
+    }
+
+    pub fn resend(&self, call: u32) -> Result<[u8; REQUEST_LEN], u32> {
+        let command = self.open_call(call).ok_or(UNKNOWN)?;
+        Ok(self.packet(call, &command))
+    }
+
+    pub fn receive(&mut self, packet: &[u8]) -> Result<Received, u32> {
+        match parse_packet(packet) {
+            Some(Packet::Result(reply)) => self.receive_result(&reply),
+            Some(Packet::Refusal(refusal)) => self.receive_refusal(&refusal),
+            Some(Packet::Grant(grant)) => self.receive_grant(&grant),
+            _ => Err(MALFORMED),
+        }
+    }
+
+    fn packet(&self, call: u32, command: &OpenCall) -> [u8; REQUEST_LEN] {
+        write_request(&Request {
+            op: command.op,
+            point: command.point,
+            client: self.client,
+            call,
+            done: self.first,
+            lease_end: self.lease_end,
+            argument: command.argument,
+        })
+    }
+
+    fn test_open(&self, client: u32, call: u32, point: u8) -> Result<(), u32> {
+        match self.open_call(call) {
+            Some(command) if self.client == client && command.point == point => Ok(()),
+            _ => Err(UNKNOWN),
+        }
+    }
+
+    fn receive_result(&mut self, reply: &Reply) -> Result<Received, u32> {
+        self.test_open(reply.client, reply.call, reply.point)?;
+        self.close(reply.call);
+        Ok(Received::Result {
+            call: reply.call,
+            effect: Effect {
+                outcome: reply.outcome,
+                value: reply.value,
+                quality: reply.quality,
+            },
+        })
+    }
+
+    fn receive_refusal(&self, refusal: &Refusal) -> Result<Received, u32> {
+        self.test_open(refusal.client, refusal.call, refusal.point)?;
+        Ok(Received::Refusal(refusal.number))
+    }
+
+    fn receive_grant(&mut self, grant: &Grant) -> Result<Received, u32> {
+        if grant.client != self.client || grant.lease_end < self.lease_end {
+            return Err(UNKNOWN);
+        }
+        self.lease_end = grant.lease_end;
+        Ok(Received::Grant(grant.lease_end))
+    }
+
+    fn close(&mut self, call: u32) {
+        self.open[slot(call)] = None;
+        while self.first < self.next && self.open[slot(self.first)].is_none() {
+            self.first += 1;
+        }
+    }
+}
+
+fn slot(call: u32) -> usize {
+    (call % WINDOW) as usize
+}
+
+fn command(op: u32, point: u32, argument: i32) -> Option<OpenCall> {
+    let op = Op::from_byte(u8::try_from(op).ok()?)?;
+    let ok = (point as usize) < POINTS && op.accepts(argument);
+    ok.then_some(OpenCall {
+        op,
+        point: point as u8,
+        argument,
+    })
+}

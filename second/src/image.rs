@@ -1,0 +1,257 @@
+//! Paper 01, "Moving a point": the moving image, read and written.
+
+use crate::bytes::{all_zero, get_i32, get_u32, put_i32, put_u32};
+use crate::packet::{cabinet_ok, point_ok, WINDOW};
+use crate::plan::{Entry, Plan};
+use crate::rule::Op;
+use std::cmp::Ordering;
+
+pub const IMAGE_MAGIC: [u8; 4] = [0x4D, 0x56, 0x49, 0x31];
+pub const IMAGE_MIN: usize = 48;
+pub const IMAGE_MAX: usize = 10_544;
+pub const CLIENTS_MAX: usize = 32;
+pub const FLOOR_LEN: usize = 8;
+pub const MOVED_LEN: usize = 20;
+
+const PAIRS_AT: usize = 16;
+const POINT_AT: usize = 40;
+const POINT_LEN: usize = 8;
+const FLOORS_AT: usize = 48;
+
+#[derive(Clone, Copy, PartialEq, Eq, Debug)]
+pub struct ImageHead {
+    pub point: u8,
+    pub destination: u8,
+    pub source: u8,
+    pub move_number: u32,
+    pub heard: u32,
+    pub value: i32,
+    pub quality: u8,
+}
+
+#[derive(Clone, Copy, PartialEq, Eq, Debug)]
+pub struct Floor {
+    pub client: u32,
+    pub floor: u32,
+}
+
+/// A completion record of the point.
+#[derive(Clone, Copy, PartialEq, Eq, Debug)]
+pub struct Moved {
+    pub client: u32,
+    pub call: u32,
+    pub argument: i32,
+    pub value: i32,
+    pub op: Op,
+    pub outcome: u8,
+    pub quality: u8,
+}
+
+/// A well-formed image; floors and records stay in their place.
+#[derive(Clone, Copy, PartialEq, Eq, Debug)]
+pub struct Image<'a> {
+    pub head: ImageHead,
+    floors: &'a [u8],
+    records: &'a [u8],
+}
+
+impl<'a> Image<'a> {
+    pub fn floors(&self) -> impl Iterator<Item = Floor> + 'a {
+        self.floors.chunks_exact(FLOOR_LEN).map(read_floor)
+    }
+
+    pub fn records(&self) -> impl Iterator<Item = Moved> + 'a {
+        self.records.chunks_exact(MOVED_LEN).filter_map(read_moved)
+    }
+
+    /// Whether an id stands among the records, which are sorted by id.
+    pub fn has_record(&self, client: u32, call: u32) -> bool {
+        let (mut from, mut to) = (0, self.record_count());
+        while from < to {
+            let middle = (from + to) / 2;
+            let at = middle * MOVED_LEN;
+            let id = (get_u32(self.records, at), get_u32(self.records, at + 4));
+            match id.cmp(&(client, call)) {
+                Ordering::Equal => return true,
+                Ordering::Less => from = middle + 1,
+                Ordering::Greater => to = middle,
+            }
+        }
+        false
+    }
+
+    pub fn floor_count(&self) -> usize {
+        self.floors.len() / FLOOR_LEN
+    }
+
+    pub fn record_count(&self) -> usize {
+        self.records.len() / MOVED_LEN
+    }
+}
+
+fn read_floor(b: &[u8]) -> Floor {
+    Floor {
+        client: get_u32(b, 0),
+        floor: get_u32(b, 4),
+    }
+}
+
+/// Tests the op alone; `moved_ok` tests the other fields.
+fn read_moved(b: &[u8]) -> Option<Moved> {
+    Some(Moved {
+        client: get_u32(b, 0),
+        call: get_u32(b, 4),
+        argument: get_i32(b, 8),
+        value: get_i32(b, 12),
+        op: Op::from_byte(b[16])?,
+        outcome: b[17],
+        quality: b[18],
+    })
+}
+
+/// The image, or nothing if it is malformed under this plan.
+pub fn parse_image<'a>(bytes: &'a [u8], plan: &Plan) -> Option<Image<'a>> {
+    let head = parse_image_head(bytes)?;
+    let (floors, records) = split_parts(bytes)?;
+    let entry = plan.entry(head.point);
+    let ok = entry.contains(head.value) && floors_ok(floors) && records_ok(records, floors, entry);
+    ok.then_some(Image {
+        head,
+        floors,
+        records,
+    })
+}
+
+fn parse_image_head(b: &[u8]) -> Option<ImageHead> {
+    if b.len() < IMAGE_MIN || b[..4] != IMAGE_MAGIC {
+        return None;
+    }
+    let head = ImageHead {
+        point: b[4],
+        destination: b[5],
+        source: b[6],
+        move_number: get_u32(b, 8),
+        heard: get_u32(b, 12),
+        value: get_i32(b, POINT_AT),
+        quality: b[POINT_AT + 4],
+    };
+    let ok = point_ok(head.point)
+        && cabinet_ok(head.destination)
+        && cabinet_ok(head.source)
+        && b[7] == 0
+        && head.quality <= 1
+        && all_zero(&b[POINT_AT + 5..POINT_AT + POINT_LEN]);
+    ok.then_some(head)
+}
+
+/// The floors and the records, if the pairs are (40, 8), (48, 8n) and
+/// (48 + 8n, 20k) and the parts end where the slice does.
+fn split_parts(b: &[u8]) -> Option<(&[u8], &[u8])> {
+    let pair = |i: usize| {
+        (
+            get_u32(b, PAIRS_AT + 8 * i) as usize,
+            get_u32(b, PAIRS_AT + 8 * i + 4) as usize,
+        )
+    };
+    let floors_len = pair(1).1;
+    if floors_len % FLOOR_LEN != 0 || floors_len > CLIENTS_MAX * FLOOR_LEN {
+        return None;
+    }
+    let records_at = FLOORS_AT + floors_len;
+    let records_len = b.len().checked_sub(records_at)?;
+    let ok = pair(0) == (POINT_AT, POINT_LEN)
+        && pair(1).0 == FLOORS_AT
+        && pair(2) == (records_at, records_len)
+        && records_len % MOVED_LEN == 0;
+    ok.then(|| b[FLOORS_AT..].split_at(floors_len))
+}
+
+/// Clients and floors at least 1, clients strictly ascending.
+fn floors_ok(floors: &[u8]) -> bool {
+    let mut last = 0;
+    floors.chunks_exact(FLOOR_LEN).map(read_floor).all(|f| {
+        let ok = f.client > last && f.floor >= 1;
+        last = f.client;
+        ok
+    })
+}
+
+/// Ids strictly ascending, fields in range, each client among the floors.
+fn records_ok(records: &[u8], floors: &[u8], entry: &Entry) -> bool {
+    let mut floors = floors.chunks_exact(FLOOR_LEN).map(read_floor).peekable();
+    let mut last = (0, 0);
+    records.chunks_exact(MOVED_LEN).all(|b| {
+        let Some(r) = read_moved(b) else {
+            return false;
+        };
+        while floors.next_if(|f| f.client < r.client).is_some() {}
+        let ascending = (r.client, r.call) > last;
+        last = (r.client, r.call);
+        let floor = floors.peek().filter(|f| f.client == r.client);
+        ascending && b[19] == 0 && moved_ok(&r, entry) && floor.is_some_and(|f| in_window(&r, f))
+    })
+}
+
+fn moved_ok(r: &Moved, entry: &Entry) -> bool {
+    r.op.accepts(r.argument) && r.outcome <= 3 && r.quality <= 1 && entry.contains(r.value)
+}
+
+fn in_window(r: &Moved, f: &Floor) -> bool {
+    f.floor <= r.call && r.call - f.floor < WINDOW
+}
+
+/// Writes an image to a slice of at least `IMAGE_MAX` bytes, answers its
+/// length. Floors come by client, records by client then call.
+pub fn write_image(
+    head: &ImageHead,
+    floors: impl Iterator<Item = Floor>,
+    records: impl Iterator<Item = Moved>,
+    out: &mut [u8],
+) -> usize {
+    let mut at = FLOORS_AT;
+    for f in floors {
+        put_u32(out, at, f.client);
+        put_u32(out, at + 4, f.floor);
+        at += FLOOR_LEN;
+    }
+    let records_at = at;
+    for r in records {
+        write_moved(&r, &mut out[at..at + MOVED_LEN]);
+        at += MOVED_LEN;
+    }
+    write_image_head(head, &mut out[..FLOORS_AT]);
+    let parts = [
+        (POINT_AT, POINT_LEN),
+        (FLOORS_AT, records_at - FLOORS_AT),
+        (records_at, at - records_at),
+    ];
+    for (i, (offset, len)) in parts.into_iter().enumerate() {
+        put_u32(out, PAIRS_AT + 8 * i, offset as u32);
+        put_u32(out, PAIRS_AT + 8 * i + 4, len as u32);
+    }
+    at
+}
+
+fn write_image_head(head: &ImageHead, b: &mut [u8]) {
+    b[..4].copy_from_slice(&IMAGE_MAGIC);
+    b[4] = head.point;
+    b[5] = head.destination;
+    b[6] = head.source;
+    b[7] = 0;
+    put_u32(b, 8, head.move_number);
+    put_u32(b, 12, head.heard);
+    put_i32(b, POINT_AT, head.value);
+    b[POINT_AT + 4] = head.quality;
+    b[POINT_AT + 5..POINT_AT + POINT_LEN].fill(0);
+}
+
+fn write_moved(r: &Moved, b: &mut [u8]) {
+    put_u32(b, 0, r.client);
+    put_u32(b, 4, r.call);
+    put_i32(b, 8, r.argument);
+    put_i32(b, 12, r.value);
+    b[16] = r.op as u8;
+    b[17] = r.outcome;
+    b[18] = r.quality;
+    b[19] = 0;
+}

@@ -1,0 +1,23 @@
+//! A second program of the command kernel, written from paper 01 alone.
+//!
+//! Parties: the cabinet is the server, the desk the client, the lease office
+//! the lease manager; the yard is the simulator and the book the sequential
+//! specification. Words of the formats are those of paper 01.
+
+pub mod answer;
+pub mod book;
+pub mod bytes;
+pub mod cabinet;
+pub mod checker;
+pub mod desk;
+pub mod faults;
+pub mod image;
+pub mod office;
+pub mod packet;
+pub mod plan;
+pub mod random;
+pub mod record;
+pub mod rule;
+pub mod schedule;
+pub mod world;
+pub mod yard;

@@ -1,0 +1,237 @@
+//! A cabinet with its lent slices, and short ways to make packets.
+#![allow(dead_code)]
+
+use second::answer::Answer;
+use second::cabinet::{Server, STATE_LEN};
+use second::image::{write_image, Floor, ImageHead, Moved, IMAGE_MAX};
+use second::packet::{
+    write_notice, write_receipt, write_request, Notice, Receipt, Request, REQUEST_LEN,
+};
+use second::plan::{write_plan, Entry, Plan, PLAN_LEN};
+use second::rule::Op;
+
+pub const FILL: u8 = 0xA5;
+
+pub const RANGE: Entry = Entry {
+    low: -100,
+    high: 1000,
+    fallback: 0,
+    home: 0,
+};
+
+/// Every point from -100 to 1000, fallback 0, home 0; points from 32 on have
+/// home 1.
+pub fn plan() -> Plan {
+    let mut plan = Plan::uniform(RANGE);
+    for entry in &mut plan.entries[32..] {
+        entry.home = 1;
+    }
+    plan
+}
+
+pub fn plan_bytes() -> [u8; PLAN_LEN] {
+    write_plan(&plan())
+}
+
+pub struct Rig {
+    pub server: Server,
+    pub log: Vec<u8>,
+    pub output: Vec<u8>,
+}
+
+impl Rig {
+    pub fn new(cabinet: u32, log_len: usize) -> Rig {
+        let mut rig = Rig {
+            server: Server::new(),
+            log: vec![FILL; log_len],
+            output: vec![FILL; IMAGE_MAX],
+        };
+        let answer = rig
+            .server
+            .found(STATE_LEN, &mut rig.log, &plan_bytes(), cabinet);
+        assert_eq!(answer, Answer::DONE);
+        rig
+    }
+
+    /// A cabinet whose state is not sound.
+    pub fn unsound() -> Rig {
+        let mut rig = Rig::new(0, 500);
+        rig.server.points[3].quality = 2;
+        rig
+    }
+
+    /// Makes the call and tests the answer. A refusal leaves state, log and
+    /// output as found, but for its packet; a call not refused leaves the
+    /// state sound; bytes past what is written are kept.
+    pub fn expect(
+        &mut self,
+        number: u32,
+        written: usize,
+        call: impl FnOnce(&mut Server, &mut [u8], &mut [u8]) -> Answer,
+    ) -> Vec<u8> {
+        let (server, log) = (self.server.clone(), self.log.clone());
+        self.output.fill(FILL);
+        let answer = call(&mut self.server, &mut self.log, &mut self.output);
+        assert_eq!(answer, Answer { number, written });
+        assert!(self.output[written..].iter().all(|&b| b == FILL));
+        if number != 0 {
+            assert_eq!(self.server, server);
+            assert_eq!(self.log, log);
+        } else {
+            assert!(self.server.sound());
+            let (from, to) = (server.length as usize, self.server.length as usize);
+            assert_eq!(self.log[..from], log[..from]);
+            assert_eq!(self.log[to..], log[to..]);
+        }
+        self.output[..written].to_vec()
+    }
+
+    pub fn request(&mut self, number: u32, written: usize, packet: &[u8]) -> Vec<u8> {
+        self.expect(number, written, |s, log, out| {
+            s.request(STATE_LEN, log, packet, out)
+        })
+    }
+
+    pub fn execute(&mut self, packet: &[u8]) {
+        self.request(0, 0, packet);
+    }
+
+    pub fn fetch(&mut self, number: u32, written: usize, client: u32, call: u32) -> Vec<u8> {
+        self.expect(number, written, |s, log, out| {
+            s.fetch(STATE_LEN, log, client, call, out)
+        })
+    }
+
+    pub fn sync(&mut self, number: u32, mark: u64) {
+        self.expect(number, 0, |s, log, _| s.sync(STATE_LEN, log, mark));
+    }
+
+    pub fn sync_all(&mut self) {
+        self.sync(0, self.server.length);
+    }
+
+    pub fn notice(&mut self, number: u32, packet: &[u8]) {
+        self.expect(number, 0, |s, log, _| s.notice(STATE_LEN, log, packet));
+    }
+
+    pub fn give(&mut self, number: u32, point: u32, destination: u32) {
+        self.expect(number, 0, |s, log, _| {
+            s.give(STATE_LEN, log, point, destination)
+        });
+    }
+
+    pub fn image(&mut self, number: u32, written: usize, point: u32) -> Vec<u8> {
+        self.expect(number, written, |s, log, out| {
+            s.image(STATE_LEN, log, point, out)
+        })
+    }
+
+    pub fn take(&mut self, number: u32, image: &[u8]) {
+        self.expect(number, 0, |s, log, _| s.take(STATE_LEN, log, image));
+    }
+
+    pub fn receipt(&mut self, number: u32, written: usize, point: u32) -> Vec<u8> {
+        self.expect(number, written, |s, log, out| {
+            s.receipt(STATE_LEN, log, point, out)
+        })
+    }
+
+    pub fn release(&mut self, number: u32, packet: &[u8]) {
+        self.expect(number, 0, |s, log, _| s.release(STATE_LEN, log, packet));
+    }
+
+    /// Shortens the log slice so that `free` bytes are left.
+    pub fn leave(&mut self, free: usize) {
+        let to = self.server.length as usize + free;
+        self.log.resize(to, FILL);
+    }
+
+    /// Adds known clients from 1000 on, until there are `count`.
+    pub fn fill_clients(&mut self, count: usize) {
+        for client in 1000.. {
+            if self.server.clients.len() == count {
+                return;
+            }
+            self.execute(&read(client, 1, 31));
+        }
+    }
+}
+
+pub fn request(op: Op, point: u8, client: u32, call: u32, argument: i32) -> Request {
+    Request {
+        op,
+        point,
+        client,
+        call,
+        done: call.saturating_sub(15).max(1),
+        lease_end: 1000,
+        argument,
+    }
+}
+
+pub fn set(client: u32, call: u32, point: u8, value: i32) -> [u8; REQUEST_LEN] {
+    write_request(&request(Op::Set, point, client, call, value))
+}
+
+pub fn read(client: u32, call: u32, point: u8) -> [u8; REQUEST_LEN] {
+    write_request(&request(Op::Read, point, client, call, 0))
+}
+
+pub fn set_done(client: u32, call: u32, done: u32, point: u8, value: i32) -> [u8; REQUEST_LEN] {
+    write_request(&Request {
+        done,
+        ..request(Op::Set, point, client, call, value)
+    })
+}
+
+pub fn notice(client: u32, time: u32) -> [u8; 12] {
+    write_notice(&Notice { client, time })
+}
+
+pub fn receipt(point: u8, cabinet: u8, move_number: u32) -> [u8; 8] {
+    write_receipt(&Receipt {
+        point,
+        cabinet,
+        move_number,
+    })
+}
+
+pub fn head(point: u8, destination: u8, source: u8, move_number: u32) -> ImageHead {
+    ImageHead {
+        point,
+        destination,
+        source,
+        move_number,
+        heard: 0,
+        value: 0,
+        quality: 1,
+    }
+}
+
+pub fn floor(client: u32, floor: u32) -> Floor {
+    Floor { client, floor }
+}
+
+pub fn moved(client: u32, call: u32) -> Moved {
+    Moved {
+        client,
+        call,
+        argument: 7,
+        value: 7,
+        op: Op::Set,
+        outcome: 0,
+        quality: 0,
+    }
+}
+
+pub fn image(head: &ImageHead, floors: &[Floor], records: &[Moved]) -> Vec<u8> {
+    let mut bytes = vec![0; IMAGE_MAX];
+    let len = write_image(
+        head,
+        floors.iter().copied(),
+        records.iter().copied(),
+        &mut bytes,
+    );
+    bytes.truncate(len);
+    bytes
+}

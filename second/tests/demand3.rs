@@ -1,0 +1,215 @@
+//! Demand 3 over random schedules, and tests of the checker itself.
+
+mod common;
+
+use common::*;
+use second::book::SequentialSpec;
+use second::checker::{check, Command, Finals, Violation};
+use second::plan::{Plan, POINTS};
+use second::random::Random;
+use second::rule::{Effect, Op};
+use second::schedule::generate;
+use second::world::{run, Counts, Options};
+
+const FIRST_SEED: u64 = 1_000_000;
+const SCHEDULES: u64 = 20_000;
+const VERIFIED: u64 = 3_000;
+
+fn run_all(count: u64, options: Options) -> Counts {
+    let mut counts = Counts::default();
+    for seed in FIRST_SEED..FIRST_SEED + count {
+        let found = run(&generate(seed), options);
+        assert_eq!(found.result, Ok(()), "seed {seed}");
+        counts.add(&found.counts);
+    }
+    counts
+}
+
+/// The dangerous things happen, and happen often.
+fn assert_eventful(counts: &Counts, schedules: u64) {
+    assert!(counts.executed > 5 * schedules);
+    assert!(counts.completed > 2 * schedules);
+    assert!(counts.repeats > 2 * schedules);
+    assert!(counts.crashes > schedules);
+    assert!(counts.takes > schedules);
+    assert!(counts.lost > schedules / 10);
+    assert!(counts.gone > schedules / 4);
+    assert!(counts.releases > schedules / 4);
+    for number in [1, 2, 3, 4, 5, 7, 9, 10, 11, 12, 17, 19] {
+        assert!(counts.refusals[number] > schedules / 50, "refusal {number}");
+    }
+}
+
+#[test]
+fn no_violation_in_random_schedules() {
+    let counts = run_all(SCHEDULES, Options::default());
+    assert_eventful(&counts, SCHEDULES);
+    assert!(counts.refusals[8] > 0 && counts.refusals[18] > 0);
+}
+
+/// Every call leaves a sound state; refusals leave everything as found.
+#[test]
+fn calls_in_random_schedules_change_only_what_they_may() {
+    let options = Options {
+        verify: true,
+        ..Options::default()
+    };
+    let counts = run_all(VERIFIED, options);
+    assert_eventful(&counts, VERIFIED);
+}
+
+// The checker.
+
+fn command(call: u32, op: Op, point: u8, argument: i32, issued: u32) -> Command {
+    Command {
+        client: 1,
+        call,
+        op,
+        point,
+        argument,
+        issued,
+        completed: None,
+        survives: true,
+        hint: issued,
+    }
+}
+
+fn completed(command: Command, at: u32, outcome: u8, value: i32, quality: u8) -> Command {
+    let effect = Effect {
+        outcome,
+        value,
+        quality,
+    };
+    Command {
+        completed: Some((at, effect)),
+        ..command
+    }
+}
+
+fn finals_of(point: usize, value: i32, quality: u8) -> Finals {
+    let mut finals = [Some((0, 1)); POINTS];
+    finals[point] = Some((value, quality));
+    finals
+}
+
+#[test]
+fn checker_by_hand() {
+    let plan = Plan::uniform(RANGE);
+    let first = completed(command(1, Op::Set, 5, 40, 1), 2, 0, 40, 0);
+    let second = completed(command(2, Op::Set, 5, 50, 3), 4, 0, 50, 0);
+    let no_order = Err(Violation::NoOrder { point: 5 });
+    let verdict = |commands: &[Command], value, quality| {
+        check(&plan, commands, &finals_of(5, value, quality))
+    };
+    assert_eq!(verdict(&[], 0, 1), Ok(()));
+    assert_eq!(verdict(&[], 40, 0), no_order);
+    assert_eq!(verdict(&[first], 40, 0), Ok(()));
+    assert_eq!(verdict(&[first], 40, 1), no_order);
+    assert_eq!(verdict(&[first, second], 50, 0), Ok(()));
+    // The first was completed before the second was issued.
+    assert_eq!(verdict(&[first, second], 40, 0), no_order);
+    // Had they overlapped, either could stand last.
+    let overlapping = completed(command(2, Op::Set, 5, 50, 1), 4, 0, 50, 0);
+    assert_eq!(verdict(&[first, overlapping], 40, 0), Ok(()));
+    // A step carried out twice.
+    let step = completed(command(2, Op::Step, 5, 20, 3), 4, 0, 60, 0);
+    assert_eq!(verdict(&[first, step], 60, 0), Ok(()));
+    assert_eq!(verdict(&[first, step], 80, 0), no_order);
+    // A result received of a command that a crash removed.
+    let lost = Command {
+        survives: false,
+        ..first
+    };
+    let expected = Err(Violation::Lost { client: 1, call: 1 });
+    assert_eq!(verdict(&[lost], 0, 1), expected);
+    // Commands that do not survive and were not completed are no entries.
+    let unseen = Command {
+        completed: None,
+        ..lost
+    };
+    assert_eq!(verdict(&[unseen], 0, 1), Ok(()));
+    // A surviving command must be an entry, received or not.
+    let pending = command(1, Op::Set, 5, 40, 1);
+    assert_eq!(verdict(&[pending], 0, 1), no_order);
+    assert_eq!(verdict(&[pending], 40, 0), Ok(()));
+    // A holder not founded is left out.
+    let mut finals = finals_of(5, 0, 1);
+    finals[5] = None;
+    assert_eq!(check(&plan, &[pending], &finals), Ok(()));
+}
+
+/// All orders of the surviving commands, of all points together.
+fn some_order(rest: &mut Vec<Command>, book: &SequentialSpec, finals: &Finals) -> bool {
+    if rest.is_empty() {
+        return (0..POINTS).all(|p| finals[p].is_none_or(|f| f == book.point(p as u8)));
+    }
+    (0..rest.len()).any(|i| {
+        let c = rest.remove(i);
+        let early = rest
+            .iter()
+            .any(|d| d.completed.is_some_and(|(at, _)| at < c.issued));
+        let mut book = book.clone();
+        let effect = book.run(c.op, c.point, c.argument);
+        let agrees = c.completed.is_none_or(|(_, received)| received == effect);
+        let found = !early && agrees && some_order(rest, &book, finals);
+        rest.insert(i, c);
+        found
+    })
+}
+
+/// Commands run in a random order, results and finals at times changed.
+fn random_history(random: &mut Random, plan: &Plan) -> (Vec<Command>, Finals) {
+    let mut book = SequentialSpec::new(*plan);
+    let mut commands = Vec::new();
+    let mut places: Vec<u32> = (1..40).collect();
+    for call in 1..=random.below(7) {
+        let op = *random.pick(&[Op::Read, Op::Set, Op::Step, Op::Step]);
+        let argument = match op {
+            Op::Read => 0,
+            _ => random.between(0, 2),
+        };
+        let point = random.below(2) as u8;
+        let mut place = || {
+            let at = random.below(places.len() as u32) as usize;
+            places.remove(at)
+        };
+        let (a, b) = (place(), place());
+        let mut c = command(call, op, point, argument, a.min(b));
+        let effect = book.run(op, point, argument);
+        if random.chance(70) {
+            let at = a.max(b);
+            c = completed(c, at, effect.outcome, effect.value, effect.quality);
+        }
+        commands.push(c);
+    }
+    let mut finals: Finals = [0; POINTS].map(|_| Some((0, 1)));
+    finals[0] = Some(book.point(0));
+    finals[1] = Some(book.point(1));
+    if random.chance(30) {
+        finals[random.below(2) as usize] = Some((random.between(0, 3), 0));
+    }
+    (commands, finals)
+}
+
+/// One search for each point decides as a search over whole orders does.
+#[test]
+fn checker_agrees_with_a_search_over_whole_orders() {
+    let plan = Plan::uniform(RANGE);
+    let mut random = Random::new(8);
+    let (mut suits, mut fails) = (0, 0);
+    for _ in 0..3000 {
+        let (mut commands, finals) = random_history(&mut random, &plan);
+        let verdict = check(&plan, &commands, &finals).is_ok();
+        let book = SequentialSpec::new(plan);
+        assert_eq!(
+            verdict,
+            some_order(&mut commands, &book, &finals),
+            "{commands:?}"
+        );
+        match verdict {
+            true => suits += 1,
+            false => fails += 1,
+        }
+    }
+    assert!(suits > 300 && fails > 300);
+}
