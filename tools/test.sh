@@ -34,6 +34,7 @@ same_kit() {
 
 part kit same_kit; count $?
 part format rt fmt --check; count $?
+part yard-cases tools/yard_cases.py --check; count $?
 
 part proofs rt ci
 proofs=$?
@@ -56,6 +57,8 @@ if [ -f second/Cargo.toml ]; then
   [ "$second" = 0 ] || [ "$bad" != 0 ] || failed=$((failed + 1))
   [ "$ran" != 0 ] || failed=$((failed + 1))
 fi
+
+part run tools/run.sh; count $?
 
 echo "== all: $((SECONDS - began)) s"
 echo "$passed passed, $failed failed"

@@ -1,2 +1,2 @@
 pub mod Cases
-pub mod YardCase
+pub mod YardCases
