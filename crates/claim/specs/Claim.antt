@@ -43,9 +43,9 @@ pub data Before (a b : Marked) : List Marked → Type 0 where
   first : {ms : List Marked} → b ∈ ms → Before a b (a ∷ ms)
   later : {m : Marked} {ms : List Marked} → Before a b ms → Before a b (m ∷ ms)
 
--- the rules in force at event n
-unfoldable pub versionAt : ℕ → Version
-versionAt n = today
+-- the version of an op's rule in force at event n of a schedule; no event changes a rule today
+unfoldable pub versionAt : List Event → ℕ → ℕ → Version
+versionAt es n op = today
 
 -- the command of an open call, and what a result packet says
 unfoldable pub commandAt : Client → ℕ → Command
@@ -112,7 +112,7 @@ module _ (plan : List ℕ) (es : List Event) where
   pub record Survives (m : Marked) : Type 0 where
     pub at : ℕ
     pub survives : SurvivesAt at (m .command)
-    pub version : m .version ≡ versionAt at
+    pub version : m .version ≡ versionAt es at (m .command .op)
 
   -- "until it succeeds, or if the list ends first, the cabinet counts with the state that Recover gives from these"
   unfoldable pub stateGiven : Server → Option State
@@ -148,7 +148,8 @@ module _ (plan : List ℕ) (es : List Event) where
         → a ∈ order → b ∈ order → Before a b order
     -- a completed command survives
     pub completed : (n : ℕ) (k : Command) (r : CommandResult) → Completes n k r → (a : Marked) × (a .command ≡ k) × (a ∈ order)
-    -- the order keeps each point's sequence of surviving executions
+    -- the order keeps each point's sequence of surviving executions. With `once` this leaves a command one surviving execution at the
+    -- most: of two, the command would stand before itself
     pub sequence : (m n : ℕ) (a b : Marked) → SurvivesAt m (a .command) → SurvivesAt n (b .command) → m < n
         → a .command .point ≡ b .command .point → a ∈ order → b ∈ order → Before a b order
     -- Recover accepts what a crash kept

@@ -87,7 +87,7 @@ module _ (plan : List ℕ) (es : List Event) where
         → after es n .servers c ≡ nothing
     -- "a crash keeps a prefix of the log not shorter than its synced part"
     pub crash-keeps : (n c k : ℕ) → At n (crash c k) → (markOf (after es n .servers c) ≤ k) × (k ≤ lengthOf (after es n .servers c))
-    -- "recovery uses that prefix"
+    -- "recovery uses that prefix": what the crash kept; without a crash, the log up to its recorded length (bytes past it are no log)
     pub recovery-uses : (n c : ℕ) (state log p : List ℕ) → At n (recover c state log p) → recoverOf state log p .answer .number ≡ 0
         → keptBy (after es n .servers c) ≡ some log
     -- "each client number starts one desk, once"

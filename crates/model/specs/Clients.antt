@@ -4,6 +4,7 @@
 use Prim.Native.Nat.{ℕ, zero, suc, _+_, _%_}
 use mathlib.Core.Bool.{Bool, true, false, _&&_, _||_, not}
 use mathlib.Core.List.{List, [], _∷_}
+use mathlib.Core.Option.{Option, none, some}
 use lib.ListN.{length, getD, set, replicate}
 use lib.Dec.{eqb, leb, ltb}
 use Rattle.model.specs.declared.Request.{Request}
@@ -23,7 +24,9 @@ use Rattle.model.specs.declared.Received.the-variants.{NotReceived, Comp
 use Rattle.model.specs.declared.StartAnswer.{StartAnswer}
 use Rattle.model.specs.declared.SendAnswer.{SendAnswer}
 use Rattle.model.specs.declared.ReceiveAnswer.{ReceiveAnswer}
+use Rattle.model.specs.declared.CommandResult.{CommandResult}
 use Rattle.model.specs.Choice.{pick}
+use Rattle.model.specs.Numbers.{half}
 use Rattle.model.specs.Refusals.{malformed, windowFull, numbersOut, unknown}
 use Rattle.model.specs.Limits.{last32, callWindow}
 use Rattle.model.specs.Packets.{parsePacket, commandOk, requestBytes}
@@ -168,6 +171,25 @@ receiveNumber (NotReceived n) = n
 receiveNumber (Completed r) = 0
 receiveNumber (Denied r) = 0
 receiveNumber (Extended g) = 0
+
+-- what a receive brings: a result's outcome, value and quality; the value alone (x + 2 ^ 31), 0 where there is none; a lease end
+unfoldable pub receivedResult : Received → Option CommandResult
+receivedResult (NotReceived n) = none
+receivedResult (Completed r) = some (record { outcome = r .outcome; value = r .value; quality = r .quality })
+receivedResult (Denied r) = none
+receivedResult (Extended g) = none
+
+unfoldable pub receivedValue : Received → ℕ
+receivedValue (NotReceived n) = half
+receivedValue (Completed r) = r .value
+receivedValue (Denied r) = half
+receivedValue (Extended g) = half
+
+unfoldable pub receivedLease : Received → Option ℕ
+receivedLease (NotReceived n) = none
+receivedLease (Completed r) = none
+receivedLease (Denied r) = none
+receivedLease (Extended g) = some (g .lease)
 
 -- the packet that an answer carries
 unfoldable pub sentBytes : Sent → List ℕ

@@ -18,7 +18,7 @@ use Rattle.model.specs.Numbers.{byteAt, le32At, le32, signedAt, signed32
 use Rattle.model.specs.Tables.{rows, everyRow, bytesOf, every}
 use Rattle.model.specs.Plan.{inRange}
 use Rattle.model.specs.Packets.{idOk, commandOk, outcomeOk}
-use Rattle.model.specs.Limits.{lastPoint, lastServer, lastQuality, lastInWindow, clientCount, greatestImage, leastImage, floorRow, entryRow}
+use Rattle.model.specs.Limits.{lastPoint, lastServer, lastQuality, lastInWindow, clientCount, greatestImage, leastImage, partsStart, pointPart, floorRow, entryRow}
 
 pub record Image : Type 0 where
   pub point : ℕ
@@ -104,8 +104,8 @@ imageHeadOf s =
       heard = le32At s 12;
       value = signedAt s 40;
       quality = byteAt s 44;
-      floors = le32At s 28 / 8;
-      entries = le32At s 36 / 20;
+      floors = le32At s 28 / floorRow;
+      entries = le32At s 36 / entryRow;
     }
 
 -- the image of a head and its tables, read from the bytes behind it
@@ -131,8 +131,8 @@ imageFramed s =
 -- three parts without gaps from byte 40 to the slice's end: 8 bytes, 8 a floor, 20 a record
 unfoldable pub imageParts : ImageHead → List ℕ → Bool
 imageParts h s =
-    eqb (le32At s 16) 40
-    && (eqb (le32At s 20) 8
+    eqb (le32At s 16) partsStart
+    && (eqb (le32At s 20) pointPart
     && (eqb (le32At s 24) leastImage
     && (eqb (le32At s 28) (floorRow * h .floors)
     && (eqb (le32At s 32) (leastImage + floorRow * h .floors)
@@ -183,8 +183,8 @@ imageHeadBytes i =
     ++ (quad (i .point) (i .destination) (i .source) 0
     ++ (le32 (i .number)
     ++ (le32 (i .heard)
-    ++ (le32 40
-    ++ (le32 8
+    ++ (le32 partsStart
+    ++ (le32 pointPart
     ++ (le32 leastImage
     ++ (le32 (floorRow * length (i .floors))
     ++ (le32 (leastImage + floorRow * length (i .floors))

@@ -83,12 +83,42 @@ takeHead = 8
 abbrev pub releaseSize : ℕ
 releaseSize = 8
 
--- outputs
+-- bytes of the packets, by kind; a result and a receipt are also what an output must hold
+abbrev pub requestSize : ℕ
+requestSize = 24
+
 abbrev pub resultSize : ℕ
 resultSize = 16
 
+abbrev pub refusalSize : ℕ
+refusalSize = 12
+
 abbrev pub receiptSize : ℕ
 receiptSize = 8
+
+abbrev pub noticeSize : ℕ
+noticeSize = 12
+
+abbrev pub grantSize : ℕ
+grantSize = 12
+
+-- the refusals that make a packet
+abbrev pub firstDenied : ℕ
+firstDenied = 3
+
+abbrev pub lastDenied : ℕ
+lastDenied = 9
+
+-- the argument of part that means the whole range
+abbrev pub wholePart : ℕ
+wholePart = 1000
+
+-- an image's parts: where the first starts, and its bytes; the floors start at the least length of an image
+abbrev pub partsStart : ℕ
+partsStart = 40
+
+abbrev pub pointPart : ℕ
+pointPart = 8
 
 -- rows of an image
 abbrev pub floorRow : ℕ

@@ -18,11 +18,11 @@ use Rattle.model.specs.declared.Packet.the-variants.{Malformed, Requeste
 use Rattle.model.specs.Choice.{pick}
 use Rattle.model.specs.Numbers.{byteAt, le32At, le32, signedAt, signed32, zeroAt, zeros3At, quad}
 use Rattle.model.specs.Rules.{argumentOk}
-use Rattle.model.specs.Limits.{lastPoint, lastServer, lastOp, lastOutcome, lastQuality, lastInWindow}
+use Rattle.model.specs.Limits.{lastPoint, lastServer, lastOp, lastOutcome, lastQuality, lastInWindow, requestSize, resultSize, refusalSize, receiptSize, noticeSize, grantSize, firstDenied, lastDenied}
 
 -- the lengths by kind; there is no kind 0
 abbrev pub packetLengths : List ℕ
-packetLengths = 0 ∷ 24 ∷ 16 ∷ 12 ∷ 8 ∷ 12 ∷ 12 ∷ []
+packetLengths = 0 ∷ requestSize ∷ resultSize ∷ refusalSize ∷ receiptSize ∷ noticeSize ∷ grantSize ∷ []
 
 unfoldable pub packetLength : ℕ → ℕ
 packetLength kind = getD packetLengths kind 0
@@ -78,7 +78,7 @@ unfoldable pub refusalAt : List ℕ → RefusalPacket
 refusalAt p = record { number = byteAt p 1; point = byteAt p 2; client = le32At p 4; call = le32At p 8 }
 
 unfoldable pub refusalOk : RefusalPacket → Bool
-refusalOk r = leb 3 (r .number) && (leb (r .number) 9 && (leb (r .point) lastPoint && idOk (r .client) (r .call)))
+refusalOk r = leb firstDenied (r .number) && (leb (r .number) lastDenied && (leb (r .point) lastPoint && idOk (r .client) (r .call)))
 
 unfoldable pub refusalBytes : RefusalPacket → List ℕ
 refusalBytes r = quad 3 (r .number) (r .point) 0 ++ (le32 (r .client) ++ le32 (r .call))
@@ -158,3 +158,13 @@ packetBytes (Refused r) = refusalBytes r
 packetBytes (Receipted r) = receiptBytes r
 packetBytes (Noticed n) = noticeBytes 5 n
 packetBytes (Granted g) = grantBytes g
+
+-- the paper's number for what a parser finds: 1 malformed
+unfoldable pub packetNumber : Packet → ℕ
+packetNumber Malformed = 1
+packetNumber (Requested q) = 0
+packetNumber (Resulted r) = 0
+packetNumber (Refused r) = 0
+packetNumber (Receipted r) = 0
+packetNumber (Noticed n) = 0
+packetNumber (Granted g) = 0

@@ -12,6 +12,7 @@ use Rattle.model.specs.declared.CommandResult.{CommandResult}
 use Rattle.model.specs.Choice.{pick}
 use Rattle.model.specs.Numbers.{half}
 use Rattle.model.specs.Plan.{inRange}
+use Rattle.model.specs.Limits.{wholePart}
 
 -- the least and the greatest argument by op: read and fault 0, part 0 to 1000, others any
 abbrev pub leastArguments : List ℕ
@@ -56,7 +57,7 @@ unfoldable pub faultRule : PlanEntry → CommandResult
 faultRule e = result 3 (e .fallback) 1
 
 unfoldable pub partRule : PlanEntry → ℕ → CommandResult
-partRule e a = result 0 (e .low + (e .high - e .low) * (a - half) / 1000) 0
+partRule e a = result 0 (e .low + (e .high - e .low) * (a - half) / wholePart) 0
 
 -- by the op; another op is refused before (malformed)
 unfoldable pub ruleOf : PlanEntry → ℕ → ℕ → Reading → CommandResult

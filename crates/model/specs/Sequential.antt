@@ -15,6 +15,7 @@ use Rattle.model.specs.declared.Command.{Command}
 use Rattle.model.specs.Choice.{pick}
 use Rattle.model.specs.Numbers.{signed}
 use Rattle.model.specs.Plan.{entryAt}
+use Rattle.model.specs.Limits.{wholePart}
 
 -- the versions of the rules; the first is paper 01's
 pub data Version : Type 0 where
@@ -94,7 +95,7 @@ faultZ e = resultZ 3 (e .fallback) 1
 
 -- 5 part: value = low + (high − low) × a / 1000, the quotient rounded down; quality 0, outcome 0
 unfoldable pub partZ : EntryZ → ℤ → ResultZ
-partZ e a = resultZ 0 (e .low +ℤ quotientDown ((e .high -ℤ e .low) *ℤ a) 1000) 0
+partZ e a = resultZ 0 (e .low +ℤ quotientDown ((e .high -ℤ e .low) *ℤ a) wholePart) 0
 
 -- by the version and the op; commands have no other op, and one would change nothing
 unfoldable pub ruleZ : Version → EntryZ → ℕ → ℤ → ReadingZ → ResultZ

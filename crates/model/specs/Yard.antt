@@ -9,12 +9,7 @@ use mathlib.Core.Option.{Option, none, some}
 use lib.ListN.{length, getD, getElem?, take, replicate}
 use lib.Dec.{eqb, leb, ltb}
 use Rattle.model.specs.declared.PlanEntry.{PlanEntry}
-use Rattle.model.specs.declared.ResultPacket.{ResultPacket}
 use Rattle.model.specs.declared.Client.{Client}
-use Rattle.model.specs.declared.Sent.{Sent}
-use Rattle.model.specs.declared.Sent.the-variants.{NotSent, Asked}
-use Rattle.model.specs.declared.Received.{Received}
-use Rattle.model.specs.declared.Received.the-variants.{NotReceived, Completed, Denied, Extended}
 use Rattle.model.specs.declared.SendAnswer.{SendAnswer}
 use Rattle.model.specs.declared.ReceiveAnswer.{ReceiveAnswer}
 use Rattle.model.specs.Choice.{pick}
@@ -24,7 +19,14 @@ use Rattle.model.specs.Limits.{last32, stateSize, resultSize, receiptSiz
 use Rattle.model.specs.Plan.{planBytes}
 use Rattle.model.specs.States.{State, load}
 use Rattle.model.specs.Operations.{After, foundOf, requestOf, syncOf, giveOf, imageOf, takeOf, receiptOf, releaseOf, recoverOf}
-use Rattle.model.specs.Clients.{issueOf, resendOf, receiveOf, sendNumber, receiveNumber, sentBytes, noCall}
+use Rattle.model.specs.Clients.{issueOf, resendOf, receiveOf, sendNumber, receiveNumber, receivedValue, sentBytes, noCall}
+
+-- lines read at the most, and the bytes of a log
+abbrev pub mostLines : ℕ
+mostLines = 60
+
+abbrev pub yardLog : ℕ
+yardLog = 16384
 
 -- ---- lines
 
@@ -78,7 +80,7 @@ yardPlan = planBytes (replicate pointCount (record { low = half - 100; high = ha
 
 unfoldable pub yardServer : ℕ → Server
 yardServer n =
-    let a = foundOf (replicate stateSize 0) (replicate 16384 0) yardPlan n in
+    let a = foundOf (replicate stateSize 0) (replicate yardLog 0) yardPlan n in
     record { state = a .state; log = a .log }
 
 unfoldable pub yardClient : ℕ → Client
@@ -160,19 +162,12 @@ cutServer y n k =
 
 unfoldable pub issued : Yard → ℕ → SendAnswer → Step
 issued y n a =
-    elim (a .answer) [
-      | NotSent k ↦ step y (plain k)
-      | Asked q ↦ step (withPacket (withClient y n (a .client)) (sentBytes (Asked q))) (answered 0 (suc (length (y .packets))) half)
-    ]
+    let z = withClient y n (a .client) in
+    pick (eqb (sendNumber (a .answer)) 0) (step (withPacket z (sentBytes (a .answer))) (answered 0 (suc (length (y .packets))) half))
+    (step z (plain (sendNumber (a .answer))))
 
 unfoldable pub receivedAt : Yard → ℕ → ReceiveAnswer → Step
-receivedAt y n a =
-    elim (a .answer) [
-      | NotReceived k ↦ step y (plain k)
-      | Completed r ↦ step (withClient y n (a .client)) (answered 0 0 (r .value))
-      | Denied r ↦ step y (plain 0)
-      | Extended g ↦ step (withClient y n (a .client)) (plain 0)
-    ]
+receivedAt y n a = step (withClient y n (a .client)) (answered (receiveNumber (a .answer)) 0 (receivedValue (a .answer)))
 
 unfoldable pub deliverAt : Yard → ℕ → Option (List ℕ) → Step
 deliverAt y n none = step y (plain unknown)
@@ -306,7 +301,7 @@ linesFrom f (b ∷ s) = pick (eqb b 10) (lineOf f ∷ linesFrom [] s) (linesFrom
 
 -- up to 60 lines; later ones are not read
 unfoldable pub linesOf : List ℕ → List Line
-linesOf s = take 60 (linesFrom [] s)
+linesOf s = take mostLines (linesFrom [] s)
 
 -- a number's decimal digits; a number of 32 bits has at most 10
 unfoldable pub digitsOf : ℕ → ℕ → List ℕ
