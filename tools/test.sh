@@ -35,6 +35,7 @@ same_kit() {
 part kit same_kit; count $?
 part format rt fmt --check; count $?
 part yard-cases tools/yard_cases.py --check; count $?
+part claims tools/claims.py; count $?
 
 part proofs rt ci
 proofs=$?
