@@ -191,6 +191,7 @@ pub struct Answer {
 // ---- the client (paper: desk)
 
 // An open call; call 0 is a free place.
+#[repr(C)]
 pub struct OpenCall {
     pub call: u32,
     pub op: u8,
@@ -199,6 +200,7 @@ pub struct OpenCall {
 }
 
 // A client: its number, lease end, next call number, and the open calls, each at the place call mod 16.
+#[repr(C)]
 pub struct Client {
     pub client: u32,
     pub lease: u32,
@@ -247,12 +249,14 @@ pub struct ReceiveAnswer {
 // ---- the lease manager (paper: lease office)
 
 // A lease; client 0 is a free place. `lease` is its end.
+#[repr(C)]
 pub struct Lease {
     pub client: u32,
     pub lease: u32,
 }
 
 // `issued` is the latest client number granted.
+#[repr(C)]
 pub struct LeaseManager {
     pub time: u32,
     pub issued: u32,
