@@ -1,0 +1,11 @@
+pub mod Tests
+pub mod Numbers
+pub mod Written
+pub mod Tables
+pub mod Packets
+pub mod Images
+pub mod Windows
+pub mod Logs
+pub mod Plans
+pub mod States
+pub mod Stores

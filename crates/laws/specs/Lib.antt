@@ -1,0 +1,4 @@
+pub mod Bytes
+pub mod Codec
+pub mod Fits
+pub mod Layout

@@ -1,0 +1,1 @@
+// Laws about the definitions of `model`: reading back what was written, and writing again what was read. No code.
