@@ -1,0 +1,133 @@
+// The six packets as they are written, into the front of a lent slice and by value. Bytes past a packet are kept.
+use model::Grant;
+use model::Notice;
+use model::Packet;
+use model::Receipt;
+use model::RefusalPacket;
+use model::Request;
+use model::ResultPacket;
+ghost use mathlib.Core.Path.{_≡_};
+ghost use Prim.Native.Nat.{_≤_};
+ghost use lib.ListN.{length};
+ghost use Rattle.model.specs.Tables.{written};
+ghost use Rattle.model.specs.Packets.{requestBytes, resultBytes, refusalBytes, receiptBytes, noticeBytes, grantBytes, packetBytes};
+
+// ---- into a lent slice
+
+pub fn write_request(out: &mut [u8], q: Request)
+    requires { ⌜ 24 ≤ length (now out) ⌝ }
+    ensures { λ r. ⌜ now (out .exit) ≡ written (now (out .entry)) 0 (requestBytes q) ⌝ }
+{
+    wire::write_4(out, 0, 1, q.op, q.point, 0);
+    wire::write_u32(out, 4, q.client);
+    wire::write_u32(out, 8, q.call);
+    wire::write_u32(out, 12, q.done);
+    wire::write_u32(out, 16, q.lease);
+    wire::write_signed(out, 20, q.argument);
+}
+
+pub fn write_result(out: &mut [u8], q: ResultPacket)
+    requires { ⌜ 16 ≤ length (now out) ⌝ }
+    ensures { λ r. ⌜ now (out .exit) ≡ written (now (out .entry)) 0 (resultBytes q) ⌝ }
+{
+    wire::write_4(out, 0, 2, q.outcome, q.point, q.quality);
+    wire::write_u32(out, 4, q.client);
+    wire::write_u32(out, 8, q.call);
+    wire::write_signed(out, 12, q.value);
+}
+
+pub fn write_refusal(out: &mut [u8], q: RefusalPacket)
+    requires { ⌜ 12 ≤ length (now out) ⌝ }
+    ensures { λ r. ⌜ now (out .exit) ≡ written (now (out .entry)) 0 (refusalBytes q) ⌝ }
+{
+    wire::write_4(out, 0, 3, q.number, q.point, 0);
+    wire::write_u32(out, 4, q.client);
+    wire::write_u32(out, 8, q.call);
+}
+
+pub fn write_receipt(out: &mut [u8], q: Receipt)
+    requires { ⌜ 8 ≤ length (now out) ⌝ }
+    ensures { λ r. ⌜ now (out .exit) ≡ written (now (out .entry)) 0 (receiptBytes q) ⌝ }
+{
+    wire::write_4(out, 0, 4, q.point, q.server, 0);
+    wire::write_u32(out, 4, q.number);
+}
+
+// Kind 5; log record 2 is the same with its own kind.
+pub fn write_notice(out: &mut [u8], kind: u8, q: Notice)
+    requires { ⌜ 12 ≤ length (now out) ⌝ }
+    ensures { λ r. ⌜ now (out .exit) ≡ written (now (out .entry)) 0 (noticeBytes kind q) ⌝ }
+{
+    wire::write_4(out, 0, kind, 0, 0, 0);
+    wire::write_u32(out, 4, q.client);
+    wire::write_u32(out, 8, q.time);
+}
+
+pub fn write_grant(out: &mut [u8], q: Grant)
+    requires { ⌜ 12 ≤ length (now out) ⌝ }
+    ensures { λ r. ⌜ now (out .exit) ≡ written (now (out .entry)) 0 (grantBytes q) ⌝ }
+{
+    wire::write_4(out, 0, 6, 0, 0, 0);
+    wire::write_u32(out, 4, q.client);
+    wire::write_u32(out, 8, q.lease);
+}
+
+// Any packet; the answer is its length. Malformed has no bytes.
+pub fn write_packet(out: &mut [u8], p: Packet) -> u32
+    requires { ⌜ 24 ≤ length (now out) ⌝ }
+    ensures { λ r. ⌜ (r ≡ length (packetBytes p)) × (now (out .exit) ≡ written (now (out .entry)) 0 (packetBytes p)) ⌝ }
+{
+    match p {
+        Packet::Malformed => 0,
+        Packet::Requested(q) => {
+            write_request(out, q);
+            24
+        }
+        Packet::Resulted(q) => {
+            write_result(out, q);
+            16
+        }
+        Packet::Refused(q) => {
+            write_refusal(out, q);
+            12
+        }
+        Packet::Receipted(q) => {
+            write_receipt(out, q);
+            8
+        }
+        Packet::Noticed(q) => {
+            write_notice(out, 5, q);
+            12
+        }
+        Packet::Granted(q) => {
+            write_grant(out, q);
+            12
+        }
+    }
+}
+
+// ---- by value, for the client and the lease manager
+
+pub fn request_packet(q: Request) -> [u8; 24]
+    ensures { λ r. ⌜ r ≡ requestBytes q ⌝ }
+{
+    let mut p = [0u8; 24];
+    write_request(&mut p, q);
+    p
+}
+
+pub fn notice_packet(q: Notice) -> [u8; 12]
+    ensures { λ r. ⌜ r ≡ noticeBytes 5 q ⌝ }
+{
+    let mut p = [0u8; 12];
+    write_notice(&mut p, 5, q);
+    p
+}
+
+pub fn grant_packet(q: Grant) -> [u8; 12]
+    ensures { λ r. ⌜ r ≡ grantBytes q ⌝ }
+{
+    let mut p = [0u8; 12];
+    write_grant(&mut p, q);
+    p
+}

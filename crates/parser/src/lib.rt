@@ -1,0 +1,106 @@
+// The parsers of the six packets: one of each kind, and one of any.
+use model::Packet;
+ghost use mathlib.Core.Path.{_≡_};
+ghost use Rattle.model.specs.Choice.{pick};
+ghost use Rattle.model.specs.declared.Packet.the-variants.{Malformed};
+ghost use Rattle.model.specs.Packets.{parseRequest, parseResult, parseRefusal, parseReceipt, parseNotice, parseGrant, parsePacket};
+
+// What was found, if its zero bytes and fields are as they should be.
+fn checked(ok: bool, found: Packet) -> Packet
+    ensures { λ r. ⌜ r ≡ pick ok found Malformed ⌝ }
+{
+    if ok { found } else { Packet::Malformed }
+}
+
+fn parse_request(p: &[u8]) -> Packet
+    ensures { λ r. ⌜ r ≡ parseRequest (now (p .entry)) ⌝ }
+{
+    if p.len() != wire::PACKET_LENGTHS[1] {
+        return Packet::Malformed;
+    }
+    let q = wire::request_at(p);
+    checked(
+        wire::zero_at(p, 3) & wire::request_ok(q),
+        Packet::Requested(q),
+    )
+}
+
+fn parse_result(p: &[u8]) -> Packet
+    ensures { λ r. ⌜ r ≡ parseResult (now (p .entry)) ⌝ }
+{
+    if p.len() != wire::PACKET_LENGTHS[2] {
+        return Packet::Malformed;
+    }
+    let q = wire::result_at(p);
+    checked(wire::result_ok(q), Packet::Resulted(q))
+}
+
+fn parse_refusal(p: &[u8]) -> Packet
+    ensures { λ r. ⌜ r ≡ parseRefusal (now (p .entry)) ⌝ }
+{
+    if p.len() != wire::PACKET_LENGTHS[3] {
+        return Packet::Malformed;
+    }
+    let q = wire::refusal_at(p);
+    checked(
+        wire::zero_at(p, 3) & wire::refusal_ok(q),
+        Packet::Refused(q),
+    )
+}
+
+fn parse_receipt(p: &[u8]) -> Packet
+    ensures { λ r. ⌜ r ≡ parseReceipt (now (p .entry)) ⌝ }
+{
+    if p.len() != wire::PACKET_LENGTHS[4] {
+        return Packet::Malformed;
+    }
+    let q = wire::receipt_at(p);
+    checked(
+        wire::zero_at(p, 3) & wire::receipt_ok(q),
+        Packet::Receipted(q),
+    )
+}
+
+fn parse_notice(p: &[u8]) -> Packet
+    ensures { λ r. ⌜ r ≡ parseNotice (now (p .entry)) ⌝ }
+{
+    if p.len() != wire::PACKET_LENGTHS[5] {
+        return Packet::Malformed;
+    }
+    let q = wire::notice_at(p);
+    checked(
+        wire::zeros3_at(p, 1) & wire::notice_ok(q),
+        Packet::Noticed(q),
+    )
+}
+
+fn parse_grant(p: &[u8]) -> Packet
+    ensures { λ r. ⌜ r ≡ parseGrant (now (p .entry)) ⌝ }
+{
+    if p.len() != wire::PACKET_LENGTHS[6] {
+        return Packet::Malformed;
+    }
+    let q = wire::grant_at(p);
+    checked(
+        wire::zeros3_at(p, 1) & wire::grant_ok(q),
+        Packet::Granted(q),
+    )
+}
+
+// The first byte is the kind.
+pub fn parse_packet(p: &[u8]) -> Packet
+    ensures { λ r. ⌜ r ≡ parsePacket (now (p .entry)) ⌝ }
+{
+    if p.len() == 0 {
+        return Packet::Malformed;
+    }
+    match p[0] {
+        1 => parse_request(p),
+        2 => parse_result(p),
+        3 => parse_refusal(p),
+        4 => parse_receipt(p),
+        5 => parse_notice(p),
+        6 => parse_grant(p),
+        0 | 7..=255 => Packet::Malformed,
+    }
+}

@@ -1,0 +1,3 @@
+-- Laws that the proofs of `wire` cite.
+pub mod Past
+pub mod Picks

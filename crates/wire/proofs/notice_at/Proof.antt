@@ -1,0 +1,13 @@
+-- `wire::notice_at` meets its contract.
+-- Assumes nothing.
+use Rattle.model.specs.Packets.{noticeAt}
+use borrow.Author.Needs.{needs}
+use Rattle.wire.proofs.notice_at.Statement.{statement}
+use Rattle.wire.proofs.notice_at.Tie as tie
+
+returns : tie.Need-returns
+unfolding noticeAt
+returns c = cc
+
+pub notice-at-spec : {M : Type 1} → statement M
+notice-at-spec = tie.close (tie.spec (λ c κs. search needs) (λ c κs. search needs) returns)

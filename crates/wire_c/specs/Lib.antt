@@ -1,0 +1,2 @@
+-- What the contracts of `wire_c` cite.
+pub mod Words
