@@ -1,0 +1,22 @@
+-- `command::plan_entry` meets its contract.
+-- Assumes nothing.
+use Rattle.command.proofs.Plan.{plan-entry-at}
+use borrow.Author.Needs.{needs}
+use Rattle.command.proofs.plan_entry.Statement.{statement}
+use Rattle.command.proofs.plan_entry.Tie as tie
+
+returns : tie.Need-returns
+returns c = cc (plan-entry-at (c .before .before .before .before .before .args .s .now) (c .before .before .before .before .before .args .at))
+
+pub plan-entry-spec : {M : Type 1} → statement M
+plan-entry-spec =
+    tie.close
+    (tie.spec
+    (λ c κs. search needs)
+    (λ c. search needs)
+    (λ c κs. search needs)
+    (λ c. search needs)
+    (λ c κs. search needs)
+    (λ c. search needs)
+    (λ c. search needs)
+    returns)
