@@ -1,0 +1,168 @@
+-- Open calls of a well-formed client.
+--     open-is, is-open-of     what it is for a call to be open
+--     open-once               a call is open at one place only
+--     open-from, open-below, open-within    an open call is from the first open one, below next, and next is at most 16 over it
+--     none-under              no call under the first open one, and none from next on, is open
+--     first-found             the first open call is next, where none is open, or is open
+--     first-from              it is from 1
+--     apart                   an open call and next stand at two places, while next is less than 16 over the first open one
+--     issued-at, issued-keeps, issued-open, issued-only    the lookups after a new call: just it and those before, with their data
+--     closed-off, closed-keeps, closed-open, closed-only   the lookups after a call is closed: just the others, with their data
+-- Assumes nothing.
+use mathlib.Core.Path.{_≡_, refl, sym, _∙_, ap, subst}
+use mathlib.Core.Bool.{Bool, true, false, _&&_, false≢true}
+use mathlib.Core.Logic.{_⊎_, inl, inr}
+use Prim.Native.Nat.{ℕ, suc, _+_, _≤_, _<_, _%_}
+use native.Mathlib.Omega.{arith}
+use lib.Dec.{eqb, leb}
+use lib.ListN.{length, getD, set}
+use lib.Seq.{getD-set-same, getD-set-other}
+use borrow.Author.Tests.{leb-true, eqb-true, eqb-false, le-leb, eq-eqb, ne-eqb}
+use Rattle.laws.proofs.Tests.{and-left, and-right, and-both}
+use Rattle.model.specs.declared.OpenCall.{OpenCall}
+use Rattle.model.specs.declared.Client.{Client}
+use Rattle.model.specs.Clients.{noCall, placeOf, callAt, isOpen, firstOpen, withCalls, withCall, closed}
+use Rattle.client.specs.WellFormed.{WellFormed, callIn}
+use Rattle.client.proofs.Least.{least-under, least-each, least-over, least-found, Found}
+
+-- ---- what it is to be open
+
+pub record Open (d : Client) (c : ℕ) : Type 0 where
+  pub from : 1 ≤ c
+  pub at : callAt d c .call ≡ c
+
+pub open-is : (d : Client) (c : ℕ) → isOpen d c ≡ true → Open d c
+unfolding isOpen
+open-is d c e = record { from = leb-true 1 c (and-left (leb 1 c) _ e); at = eqb-true _ _ (and-right (leb 1 c) _ e) }
+
+pub is-open-of : (d : Client) (c : ℕ) → Open d c → isOpen d c ≡ true
+unfolding isOpen
+is-open-of d c o = and-both (leb 1 c) _ (le-leb 1 c (o .from)) (eq-eqb _ _ (o .at))
+
+-- a test that is not true
+pub not-open : (d : Client) (c : ℕ) → (Open d c → ⊥) → isOpen d c ≡ false
+not-open d c f = go (isOpen d c) refl
+  where
+    go : (b : Bool) → isOpen d c ≡ b → isOpen d c ≡ false
+    go true e = absurd (f (open-is d c e))
+    go false e = e
+
+pub place-under : (c : ℕ) → placeOf c < 16
+unfolding placeOf
+place-under c = omega arith
+
+-- ---- a well-formed client
+
+module _ {d : Client} (w : WellFormed d) where
+  place-in : (c : ℕ) → placeOf c < length (d .calls)
+  place-in c = omega (arith, w .places, place-under c)
+
+  pub open-once : (i j : ℕ) → i < 16 → j < 16 → 1 ≤ callIn d i .call → callIn d i .call ≡ callIn d j .call → i ≡ j
+  open-once i j h k p e = sym (w .placed i h p) ∙ ap placeOf e ∙ w .placed j k (omega arith)
+
+  pub open-from : (c : ℕ) → Open d c → firstOpen d ≤ c
+  unfolding firstOpen callAt
+  open-from c o =
+      let p = place-under c in
+      let f = o .at in
+      let h = least-each (d .next) (d .calls) (placeOf c) (omega (arith, w .places)) (omega (arith, o .from)) in
+      omega arith
+
+  pub open-below : (c : ℕ) → Open d c → c < d .next
+  unfolding callAt
+  open-below c o = let f = o .at in let h = w .below (placeOf c) (place-under c) in omega arith
+
+  pub open-within : (c : ℕ) → Open d c → d .next ≤ c + 16
+  open-within c o = let h = open-from c o in omega (arith, w .window)
+
+  pub none-under : (c : ℕ) → c < firstOpen d → isOpen d c ≡ false
+  none-under c h = not-open d c (λ o. let k = open-from c o in omega arith)
+
+  pub none-over : (c : ℕ) → d .next ≤ c → isOpen d c ≡ false
+  none-over c h = not-open d c (λ o. let k = open-below c o in omega arith)
+
+  pub first-under : firstOpen d ≤ d .next
+  unfolding firstOpen
+  first-under = least-under (d .next) (d .calls)
+
+  pub first-from : 1 ≤ firstOpen d
+  unfolding firstOpen
+  first-from = least-over 1 (d .next) (d .calls) (w .started) (λ i h p. p)
+
+  pub first-found : (firstOpen d ≡ d .next) ⊎ Open d (firstOpen d)
+  unfolding firstOpen callAt
+  first-found = go (least-found (d .next) (d .calls))
+    where
+      go : (firstOpen d ≡ d .next) ⊎ Found (d .next) (d .calls) → (firstOpen d ≡ d .next) ⊎ Open d (firstOpen d)
+      go (inl e) = inl e
+      go (inr f) =
+          let s : placeOf (firstOpen d) ≡ f .place = ap placeOf (f .is) ∙ w .placed (f .place) (omega (arith, f .inside, w .places)) (f .from) in
+          inr (record { from = omega (arith, f .is, f .from); at = ap (λ (i : ℕ). callIn d i .call) s ∙ sym (f .is) })
+
+  -- ---- a new call
+
+  module _ (room : d .next < firstOpen d + 16) (k : OpenCall) (new : k .call ≡ d .next) where
+    pub apart : (c : ℕ) → Open d c → placeOf c ≡ placeOf (k .call) → ⊥
+    unfolding placeOf
+    apart c o e = let f = open-from c o in let b = open-below c o in omega arith
+
+    pub issued-at : callAt (withCall d k) (d .next) ≡ k
+    unfolding callAt withCall withCalls
+    issued-at = rw (← new) (getD-set-same (d .calls) (placeOf (k .call)) k noCall (place-in (k .call)))
+
+    pub issued-keeps : (c : ℕ) → Open d c → callAt (withCall d k) c ≡ callAt d c
+    unfolding callAt withCall withCalls
+    issued-keeps c o = getD-set-other (d .calls) (placeOf (k .call)) (placeOf c) k noCall (apart c o)
+
+    pub issued-next : Open (withCall d k) (d .next)
+    issued-next = record { from = w .started; at = ap (λ (x : OpenCall). x .call) issued-at ∙ new }
+
+    pub issued-open : (c : ℕ) → Open d c → Open (withCall d k) c
+    issued-open c o = record { from = o .from; at = ap (λ (x : OpenCall). x .call) (issued-keeps c o) ∙ o .at }
+
+    pub issued-only : (c : ℕ) → Open (withCall d k) c → (c ≡ d .next) ⊎ Open d c
+    unfolding callAt withCall withCalls
+    issued-only c o = go (eqb (placeOf c) (placeOf (k .call))) refl
+      where
+        go : (b : Bool) → eqb (placeOf c) (placeOf (k .call)) ≡ b → (c ≡ d .next) ⊎ Open d c
+        go true e =
+            let s = eqb-true _ _ e in
+            let g = getD-set-same (d .calls) (placeOf (k .call)) k noCall (place-in (k .call)) in
+            inl (sym (o .at) ∙ ap (λ (i : ℕ). getD (set (d .calls) (placeOf (k .call)) k) i noCall .call) s ∙ ap (λ (x : OpenCall). x .call) g ∙ new)
+        go false e =
+            let g = getD-set-other (d .calls) (placeOf (k .call)) (placeOf c) k noCall (eqb-false _ _ e) in
+            inr (record { from = o .from; at = sym (ap (λ (x : OpenCall). x .call) g) ∙ o .at })
+
+  -- ---- a call is closed
+
+  module _ (c : ℕ) (o : Open d c) where
+    pub two-apart : (e : ℕ) → Open d e → (e ≡ c → ⊥) → placeOf e ≡ placeOf c → ⊥
+    unfolding callAt
+    two-apart e p n s = n (sym (p .at) ∙ ap (λ (i : ℕ). callIn d i .call) s ∙ o .at)
+
+    pub closed-off : Open (closed d c) c → ⊥
+    unfolding callAt closed withCalls
+    closed-off p =
+        let g = getD-set-same (d .calls) (placeOf c) noCall noCall (place-in c) in
+        let z : _≡_ {A = ℕ} c 0 = sym (p .at) ∙ ap (λ (x : OpenCall). x .call) g in
+        omega (arith, p .from)
+
+    pub closed-keeps : (e : ℕ) → Open d e → (e ≡ c → ⊥) → callAt (closed d c) e ≡ callAt d e
+    unfolding callAt closed withCalls
+    closed-keeps e p n = getD-set-other (d .calls) (placeOf c) (placeOf e) noCall noCall (two-apart e p n)
+
+    pub closed-open : (e : ℕ) → Open d e → (e ≡ c → ⊥) → Open (closed d c) e
+    closed-open e p n = record { from = p .from; at = ap (λ (x : OpenCall). x .call) (closed-keeps e p n) ∙ p .at }
+
+    pub closed-only : (e : ℕ) → Open (closed d c) e → Open d e
+    unfolding callAt closed withCalls
+    closed-only e p = go (eqb (placeOf e) (placeOf c)) refl
+      where
+        go : (b : Bool) → eqb (placeOf e) (placeOf c) ≡ b → Open d e
+        go true q =
+            let g = getD-set-same (d .calls) (placeOf c) noCall noCall (place-in c) in
+            let z : _≡_ {A = ℕ} e 0 = sym (p .at) ∙ ap (λ (i : ℕ). getD (set (d .calls) (placeOf c) noCall) i noCall .call) (eqb-true _ _ q) ∙ ap (λ (x : OpenCall). x .call) g in
+            absurd (omega (arith, p .from))
+        go false q =
+            let g = getD-set-other (d .calls) (placeOf c) (placeOf e) noCall noCall (eqb-false _ _ q) in
+            record { from = p .from; at = sym (ap (λ (x : OpenCall). x .call) g) ∙ p .at }

@@ -1,0 +1,107 @@
+-- The exits of each operation, with what each was told.
+--     issue-case, resend-case, receive-case
+-- Assumes nothing.
+use mathlib.Core.Path.{_≡_, refl, sym, _∙_, ap, subst}
+use mathlib.Core.Bool.{Bool, true, false, _&&_, not}
+use mathlib.Core.List.{List}
+use mathlib.Core.Logic.{_⊎_, inl, inr}
+use Prim.Native.Nat.{ℕ, suc, _+_, _≤_, _<_}
+use native.Mathlib.Omega.{arith}
+use lib.Dec.{eqb, leb}
+use lib.ListN.{length, getD, set, replicate, length-set, getD-replicate}
+use lib.Seq.{getD-set-same, getD-set-other}
+use borrow.Author.Tests.{leb-true, leb-false, eqb-true, eqb-false, le-leb}
+use Rattle.laws.proofs.Tests.{and-left, and-right, and-both}
+use Rattle.model.specs.declared.OpenCall.{OpenCall}
+use Rattle.model.specs.declared.Client.{Client}
+use Rattle.model.specs.declared.Request.{Request}
+use Rattle.model.specs.declared.ResultPacket.{ResultPacket}
+use Rattle.model.specs.declared.RefusalPacket.{RefusalPacket}
+use Rattle.model.specs.declared.Grant.{Grant}
+use Rattle.model.specs.declared.Packet.{Packet}
+use Rattle.model.specs.declared.Packet.the-variants.{Malformed, Requested, Resulted, Refused, Receipted, Noticed, Granted}
+use Rattle.model.specs.declared.Started.the-variants.{NotStarted, Running}
+use Rattle.model.specs.declared.Sent.{Sent}
+use Rattle.model.specs.declared.Sent.the-variants.{NotSent, Asked}
+use Rattle.model.specs.declared.Received.the-variants.{NotReceived, Completed, Denied, Extended}
+use Rattle.model.specs.declared.SendAnswer.{SendAnswer}
+use Rattle.model.specs.declared.ReceiveAnswer.{ReceiveAnswer}
+use Rattle.model.specs.Choice.{pick}
+use Rattle.model.specs.Packets.{commandOk, idOk, doneOk, requestOk, grantOk}
+use Rattle.model.specs.Clients.{noCall, placeOf, callAt, isOpen, firstOpen, withCalls, withLease, closed, requestFor, startWith, newCall, withCall, notSent, sent, issueOf, resendOf, isOwn, notReceived, receiveResult, receiveRefusal, receiveGrant, receiveWith}
+use Rattle.client.specs.WellFormed.{WellFormed, callIn}
+use Rattle.client.proofs.Least.{least-over}
+use Rattle.client.proofs.Open.{Open, open-is, open-from, open-below, open-within, first-under, first-from, place-under, issued-at, issued-keeps, issued-next, issued-open, issued-only, closed-keeps, closed-open, closed-only}
+
+-- ---- the exits
+
+pub data IssueCase (d : Client) (op point a : ℕ) : Type 0 where
+  refused : (n : ℕ) → issueOf d op point a ≡ notSent d n → IssueCase d op point a
+  issued : commandOk op point a ≡ true → d .next < firstOpen d + 16 → d .next < 4294967295
+      → issueOf d op point a ≡ sent (withCall d (newCall d op point a)) (newCall d op point a)
+      → IssueCase d op point a
+
+pub issue-case : (d : Client) (op point a : ℕ) → IssueCase d op point a
+unfolding issueOf
+issue-case d op point a = go (commandOk op point a) (leb (firstOpen d + 16) (d .next)) (leb 4294967295 (d .next)) refl refl refl
+  where
+    go : (u v w : Bool) → commandOk op point a ≡ u → leb (firstOpen d + 16) (d .next) ≡ v → leb 4294967295 (d .next) ≡ w → IssueCase d op point a
+    go false v w p q r = refused 1 (rw p refl)
+    go true true w p q r = refused 15 (rw (p, q) refl)
+    go true false true p q r = refused 16 (rw (p, q, r) refl)
+    go true false false p q r = issued p (leb-false _ _ q) (leb-false _ _ r) (rw (p, q, r) refl)
+
+pub data ResendCase (d : Client) (c : ℕ) : Type 0 where
+  refused : resendOf d c ≡ notSent d 17 → ResendCase d c
+  resent : Open d c → resendOf d c ≡ sent d (callAt d c) → ResendCase d c
+
+pub resend-case : (d : Client) (c : ℕ) → ResendCase d c
+unfolding resendOf
+resend-case d c = go (isOpen d c) refl
+  where
+    go : (u : Bool) → isOpen d c ≡ u → ResendCase d c
+    go true e = resent (open-is d c e) (rw e refl)
+    go false e = refused (rw e refl)
+
+-- a packet of this client, and of an open call on its point
+pub record Own (d : Client) (client call point : ℕ) : Type 0 where
+  pub client-is : client ≡ d .client
+  pub open-call : Open d call
+  pub point-is : callAt d call .point ≡ point
+
+own-is : (d : Client) (client call point : ℕ) → isOwn d client call point ≡ true → Own d client call point
+unfolding isOwn
+own-is d client call point e =
+    let r = and-right (eqb client (d .client)) _ e in
+    record { client-is = eqb-true _ _ (and-left (eqb client (d .client)) _ e); open-call = open-is d call (and-left (isOpen d call) _ r); point-is = eqb-true _ _ (and-right (isOpen d call) _ r) }
+
+pub data ReceiveCase (d : Client) (p : Packet) : Type 0 where
+  refused : (n : ℕ) → receiveWith d p ≡ notReceived d n → ReceiveCase d p
+  completed : (r : ResultPacket) → p ≡ Resulted r → Own d (r .client) (r .call) (r .point)
+      → receiveWith d p ≡ record { client = closed d (r .call); answer = Completed r } → ReceiveCase d p
+  denied : (r : RefusalPacket) → p ≡ Refused r → Own d (r .client) (r .call) (r .point)
+      → receiveWith d p ≡ record { client = d; answer = Denied r } → ReceiveCase d p
+  extended : (g : Grant) → p ≡ Granted g → g .client ≡ d .client → d .lease ≤ g .lease
+      → receiveWith d p ≡ record { client = withLease d (g .lease); answer = Extended g } → ReceiveCase d p
+
+pub receive-case : (d : Client) (p : Packet) → ReceiveCase d p
+unfolding receiveWith receiveResult receiveRefusal receiveGrant
+receive-case d Malformed = refused 1 refl
+receive-case d (Requested q) = refused 1 refl
+receive-case d (Resulted r) = go (isOwn d (r .client) (r .call) (r .point)) refl
+  where
+    go : (u : Bool) → isOwn d (r .client) (r .call) (r .point) ≡ u → ReceiveCase d (Resulted r)
+    go true e = completed r refl (own-is d _ _ _ e) (rw e refl)
+    go false e = refused 17 (rw e refl)
+receive-case d (Refused r) = go (isOwn d (r .client) (r .call) (r .point)) refl
+  where
+    go : (u : Bool) → isOwn d (r .client) (r .call) (r .point) ≡ u → ReceiveCase d (Refused r)
+    go true e = denied r refl (own-is d _ _ _ e) (rw e refl)
+    go false e = refused 17 (rw e refl)
+receive-case d (Receipted r) = refused 1 refl
+receive-case d (Noticed n) = refused 1 refl
+receive-case d (Granted g) = go (eqb (g .client) (d .client) && leb (d .lease) (g .lease)) refl
+  where
+    go : (u : Bool) → (eqb (g .client) (d .client) && leb (d .lease) (g .lease)) ≡ u → ReceiveCase d (Granted g)
+    go true e = extended g refl (eqb-true _ _ (and-left (eqb (g .client) (d .client)) _ e)) (leb-true _ _ (and-right (eqb (g .client) (d .client)) _ e)) (rw e refl)
+    go false e = refused 17 (rw e refl)

@@ -1,0 +1,363 @@
+// The client (paper: desk): start, issue, resend, receive. Values in and values out; every value of the struct is taken.
+ghost use mathlib.Core.Path.{_≡_};
+ghost use mathlib.Core.Bool.{_&&_};
+ghost use Prim.Native.Nat.{_<_};
+ghost use lib.Dec.{leb, ltb};
+ghost use lib.ListN.{set, replicate};
+ghost use Rattle.model.specs.Choice.{pick};
+ghost use Rattle.model.specs.Clients.{noCall, noClient, placeOf, callAt, isOpen, leastOpen, firstOpen, withCalls, withLease, closed, requestFor, newCall, withCall, notSent, sent, startWith, startOf, issueOf, resendOf, isOwn, notReceived, receiveResult, receiveRefusal, receiveGrant, receiveWith, receiveOf};
+use model::Client;
+use model::Grant;
+use model::OpenCall;
+use model::Packet;
+use model::ReceiveAnswer;
+use model::Received;
+use model::RefusalPacket;
+use model::Request;
+use model::ResultPacket;
+use model::SendAnswer;
+use model::Sent;
+use model::StartAnswer;
+use model::Started;
+
+// ---- open calls
+
+fn no_call() -> OpenCall
+    ensures { λ r. ⌜ r ≡ noCall ⌝ }
+{
+    OpenCall {
+        call: 0,
+        op: 0,
+        point: 0,
+        argument: 0,
+    }
+}
+
+fn place_of(c: u32) -> usize
+    ensures { λ r. ⌜ (r ≡ placeOf c) × (r < 16) ⌝ }
+{
+    (c % 16) as usize
+}
+
+fn call_at(d: Client, c: u32) -> OpenCall
+    ensures { λ r. ⌜ r ≡ callAt d c ⌝ }
+{
+    let ks = d.calls;
+    let i = place_of(c);
+    ks[i]
+}
+
+fn is_open(d: Client, c: u32) -> bool
+    ensures { λ r. ⌜ r ≡ isOpen d c ⌝ }
+{
+    let k = call_at(d, c);
+    (1 <= c) & (k.call == c)
+}
+
+fn lesser(k: OpenCall, n: u32) -> u32
+    ensures { λ r. ⌜ r ≡ pick (leb 1 (k .call) && ltb (k .call) n) (k .call) n ⌝ }
+{
+    if (1 <= k.call) & (k.call < n) {
+        return k.call;
+    }
+    n
+}
+
+fn least_open(n: u32, ks: [OpenCall; 16]) -> u32
+    ensures { λ r. ⌜ r ≡ leastOpen n ks ⌝ }
+{
+    let mut least = n;
+    let mut i: usize = 0;
+    while i < 16 {
+        let k = ks[i];
+        least = lesser(k, least);
+        i += 1;
+    }
+    least
+}
+
+pub fn first_open(d: Client) -> u32
+    ensures { λ r. ⌜ r ≡ firstOpen d ⌝ }
+{
+    let ks = d.calls;
+    least_open(d.next, ks)
+}
+
+fn with_calls(d: Client, next: u32, ks: [OpenCall; 16]) -> Client
+    ensures { λ r. ⌜ r ≡ withCalls d next ks ⌝ }
+{
+    Client {
+        client: d.client,
+        lease: d.lease,
+        next,
+        calls: ks,
+    }
+}
+
+// The open calls with k at the place of the call c.
+fn placed(ks: [OpenCall; 16], c: u32, k: OpenCall) -> [OpenCall; 16]
+    ensures { λ r. ⌜ r ≡ set ks (placeOf c) k ⌝ }
+{
+    let mut out = ks;
+    let i = place_of(c);
+    out[i] = k;
+    out
+}
+
+fn closed(d: Client, c: u32) -> Client
+    ensures { λ r. ⌜ r ≡ closed d c ⌝ }
+{
+    let ks = d.calls;
+    let out = placed(ks, c, no_call());
+    with_calls(d, d.next, out)
+}
+
+fn with_call(d: Client, k: OpenCall) -> Client
+    requires { ⌜ d .next < 4294967295 ⌝ }
+    ensures { λ r. ⌜ r ≡ withCall d k ⌝ }
+{
+    let ks = d.calls;
+    let out = placed(ks, k.call, k);
+    with_calls(d, d.next + 1, out)
+}
+
+fn request_for(d: Client, k: OpenCall) -> Request
+    ensures { λ r. ⌜ r ≡ requestFor d k ⌝ }
+{
+    Request {
+        op: k.op,
+        point: k.point,
+        client: d.client,
+        call: k.call,
+        done: first_open(d),
+        lease: d.lease,
+        argument: k.argument,
+    }
+}
+
+// ---- answers
+
+fn not_sent(d: Client, n: u32) -> SendAnswer
+    ensures { λ r. ⌜ r ≡ notSent d n ⌝ }
+{
+    SendAnswer {
+        client: d,
+        answer: Sent::NotSent(n),
+    }
+}
+
+fn sent(d: Client, k: OpenCall) -> SendAnswer
+    ensures { λ r. ⌜ r ≡ sent d k ⌝ }
+{
+    let q = request_for(d, k);
+    SendAnswer {
+        client: d,
+        answer: Sent::Asked(q),
+    }
+}
+
+// ---- a packet
+
+fn no_calls() -> [OpenCall; 16]
+    ensures { λ r. ⌜ r ≡ replicate 16 noCall ⌝ }
+{
+    let k = no_call();
+    [k; 16]
+}
+
+fn no_client() -> Client
+    ensures { λ r. ⌜ r ≡ noClient ⌝ }
+{
+    let ks = no_calls();
+    Client {
+        client: 0,
+        lease: 0,
+        next: 0,
+        calls: ks,
+    }
+}
+
+fn not_started() -> StartAnswer
+    ensures { λ r. ⌜ r ≡ startWith Packet.Malformed ⌝ }
+{
+    let d = no_client();
+    StartAnswer {
+        client: d,
+        answer: Started::NotStarted(1),
+    }
+}
+
+fn started(g: Grant) -> StartAnswer
+    ensures { λ r. ⌜ r ≡ startWith (Packet.Granted g) ⌝ }
+{
+    let ks = no_calls();
+    StartAnswer {
+        client: Client {
+            client: g.client,
+            lease: g.lease,
+            next: 1,
+            calls: ks,
+        },
+        answer: Started::Running,
+    }
+}
+
+fn start_with(p: Packet) -> StartAnswer
+    ensures { λ r. ⌜ r ≡ startWith p ⌝ }
+{
+    match p {
+        Packet::Malformed => not_started(),
+        Packet::Requested(_) => not_started(),
+        Packet::Resulted(_) => not_started(),
+        Packet::Refused(_) => not_started(),
+        Packet::Receipted(_) => not_started(),
+        Packet::Noticed(_) => not_started(),
+        Packet::Granted(g) => started(g),
+    }
+}
+
+// The packet is of this client and of an open call on its point.
+fn is_own(d: Client, client: u32, call: u32, point: u8) -> bool
+    ensures { λ r. ⌜ r ≡ isOwn d client call point ⌝ }
+{
+    let is = is_open(d, call);
+    let k = call_at(d, call);
+    (client == d.client) & (is & (k.point == point))
+}
+
+fn not_received(d: Client, n: u32) -> ReceiveAnswer
+    ensures { λ r. ⌜ r ≡ notReceived d n ⌝ }
+{
+    ReceiveAnswer {
+        client: d,
+        answer: Received::NotReceived(n),
+    }
+}
+
+fn with_lease(d: Client, lease: u32) -> Client
+    ensures { λ r. ⌜ r ≡ withLease d lease ⌝ }
+{
+    let ks = d.calls;
+    Client {
+        client: d.client,
+        lease,
+        next: d.next,
+        calls: ks,
+    }
+}
+
+// The client after a packet of its open call.
+fn after(d: Client, call: u32, closes: bool) -> Client
+    ensures { λ r. ⌜ r ≡ pick closes (closed d call) d ⌝ }
+{
+    if closes {
+        return closed(d, call);
+    }
+    d
+}
+
+// Only a result closes a call.
+fn receive_result(d: Client, r: ResultPacket) -> ReceiveAnswer
+    ensures { λ a. ⌜ a ≡ receiveResult d r ⌝ }
+{
+    if is_own(d, r.client, r.call, r.point) {
+        let k = after(d, r.call, true);
+        return ReceiveAnswer {
+            client: k,
+            answer: Received::Completed(r),
+        };
+    }
+    not_received(d, 17)
+}
+
+fn receive_refusal(d: Client, r: RefusalPacket) -> ReceiveAnswer
+    ensures { λ a. ⌜ a ≡ receiveRefusal d r ⌝ }
+{
+    if is_own(d, r.client, r.call, r.point) {
+        let k = after(d, r.call, false);
+        return ReceiveAnswer {
+            client: k,
+            answer: Received::Denied(r),
+        };
+    }
+    not_received(d, 17)
+}
+
+fn receive_grant(d: Client, g: Grant) -> ReceiveAnswer
+    ensures { λ a. ⌜ a ≡ receiveGrant d g ⌝ }
+{
+    if (g.client == d.client) & (d.lease <= g.lease) {
+        let k = with_lease(d, g.lease);
+        return ReceiveAnswer {
+            client: k,
+            answer: Received::Extended(g),
+        };
+    }
+    not_received(d, 17)
+}
+
+fn receive_with(d: Client, p: Packet) -> ReceiveAnswer
+    ensures { λ r. ⌜ r ≡ receiveWith d p ⌝ }
+{
+    match p {
+        Packet::Malformed => not_received(d, 1),
+        Packet::Requested(_) => not_received(d, 1),
+        Packet::Resulted(r) => receive_result(d, r),
+        Packet::Refused(r) => receive_refusal(d, r),
+        Packet::Receipted(_) => not_received(d, 1),
+        Packet::Noticed(_) => not_received(d, 1),
+        Packet::Granted(g) => receive_grant(d, g),
+    }
+}
+
+// ---- the operations
+
+// Start: 1 not a grant. The next number is 1.
+pub fn start(packet: &[u8]) -> StartAnswer
+    ensures { λ r. ⌜ r ≡ startOf (now (packet .entry)) ⌝ }
+{
+    let p = parser::parse_packet(packet);
+    start_with(p)
+}
+
+// Issue: 1; 15 next − first open ≥ 16; 16 next is 4,294,967,295.
+pub fn issue(d: Client, op: u8, point: u8, argument: u32) -> SendAnswer
+    ensures { λ r. ⌜ r ≡ issueOf d op point argument ⌝ }
+{
+    if !wire::command_ok(op, point, argument) {
+        return not_sent(d, 1);
+    }
+    let first = first_open(d);
+    if first as u64 + 16 <= d.next as u64 {
+        return not_sent(d, 15);
+    }
+    if 4294967295 <= d.next {
+        return not_sent(d, 16);
+    }
+    let k = OpenCall {
+        call: d.next,
+        op,
+        point,
+        argument,
+    };
+    sent(with_call(d, k), k)
+}
+
+// Resend: 17 call not open.
+pub fn resend(d: Client, c: u32) -> SendAnswer
+    ensures { λ r. ⌜ r ≡ resendOf d c ⌝ }
+{
+    if is_open(d, c) {
+        let k = call_at(d, c);
+        return sent(d, k);
+    }
+    not_sent(d, 17)
+}
+
+// Receive: 1 malformed, or not kind 2, 3 or 6; 17 other client, call not open, other point, or an earlier lease end.
+pub fn receive(d: Client, packet: &[u8]) -> ReceiveAnswer
+    ensures { λ r. ⌜ r ≡ receiveOf d (now (packet .entry)) ⌝ }
+{
+    let p = parser::parse_packet(packet);
+    receive_with(d, p)
+}
