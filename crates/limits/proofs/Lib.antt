@@ -1,0 +1,14 @@
+pub mod Lists
+pub mod Floors
+pub mod Count
+pub mod Tests
+pub mod Steps
+pub mod Decided
+pub mod Kept
+pub mod Recovery
+pub mod Images
+pub mod Formats
+pub mod Crash
+pub mod Loaded
+pub mod Calls
+pub mod Running

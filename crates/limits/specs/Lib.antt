@@ -1,0 +1,4 @@
+pub mod Sound
+pub mod Passed
+pub mod History
+pub mod Calls
