@@ -1,0 +1,159 @@
+-- The order of a run: the points' pasts, merged by event.
+--     order          the order;  timeline   its executions, the newest first;  H   each point's past
+--     once           no id stands twice;  results   every result received is the book's;  values   so is every holder's value
+-- Assumes nothing.
+use mathlib.Core.Path.{_≡_, refl, sym, _∙_, ap, subst}
+use mathlib.Core.Bool.{Bool, true, false}
+use mathlib.Core.List.{List, [], _∷_, _++_, List·Memᴰ, List·Memᴰ·head, List·Memᴰ·tail, List·Memᴰ·not-nil, List·Memᴰ·cases-cons, List·Memᴰ·append-cases, List·Memᴰ·eq-of-singleton}
+use mathlib.Core.Logic.{_⊎_, inl, inr}
+use native.Mathlib.Omega.{arith}
+use Prim.Native.Nat.{ℕ, _+_, _<_}
+use lib.Dec.{eqb}
+use borrow.Author.Tests.{eqb-false}
+use Rattle.model.specs.Sequential.{ResultZ, Marked, opened, bookAfter, Answers}
+use Rattle.model.specs.declared.Command.{Command}
+use Rattle.model.specs.Choice.{pick}
+use Rattle.protocol.specs.Servers.{Plan, Execution, Entry, LogRecord, replay}
+use Rattle.protocol.specs.Servers as S
+use Rattle.protocol.specs.World.{World, Event, run, stateOf, issued, received}
+use Rattle.protocol.specs.Explains.{Holder, Once, final}
+use Rattle.protocol.specs.Explains as E
+use Rattle.protocol.proofs.Basics.{impossible, eqb-same}
+use Rattle.protocol.proofs.Invert.{Written}
+use Rattle.protocol.proofs.Invert as I
+use Rattle.protocol.proofs.Memory.{Past, more, valueAfter, Same}
+use Rattle.protocol.proofs.Logs.{Tail-mem, Tail-trans, Legit, Legit-tail}
+use Rattle.protocol.proofs.Logs as Logs
+use Rattle.protocol.proofs.Core.{In}
+use Rattle.protocol.proofs.Facts.{Shown, past-tail}
+use Rattle.protocol.proofs.Clients.{Saw}
+use Rattle.protocol.proofs.Inv.{Inv, run-inv}
+use Rattle.protocol.proofs.Top.{Top, one-past}
+use Rattle.protocol.proofs.Order as Order
+use Rattle.protocol.proofs.Order.{merged, marked, ordered, only, merged-good, merged-only, merged-in, book-values, book-answers}
+
+module _ (plan : Plan) (es : List Event) where
+  abbrev w : World
+  w = run plan es
+
+  pub inv : Inv plan w
+  inv = run-inv plan es
+
+  unfoldable pub H : ℕ → List Execution
+  H p = one-past plan es p .0
+
+  pub tops : (p : ℕ) → Top plan w (run-inv plan es) p (H p)
+  unfolding H
+  tops p = one-past plan es p .1
+
+  unfoldable pub timeline : List Execution
+  timeline = merged H 64
+
+  unfoldable pub order : List Marked
+  order = ordered timeline
+
+  good : (p : ℕ) → Past plan p (only p timeline)
+  unfolding timeline
+  good p = merged-good plan H (λ q. tops q .past) 64 p
+
+  -- ---- every execution in a past was issued
+
+  pub executed-issued : {c : ℕ} {l : List Entry} {k : Command} {done : ℕ} {r : ResultZ} (e : Entry) → Legit plan (In (w .made)) c (w .clock) (e ∷ l) → e .item ≡ S.executed k done r → Saw (w .seen) (issued k)
+  executed-issued {c} {l} {k} {done} {r} e (Logs.then wr a o g) q = go (e .item) q wr
+    where
+      go : (x : LogRecord) → x ≡ S.executed k done r → Written plan c (replay plan c l) (In (w .made)) x → Saw (w .seen) (issued k)
+      go x h (I.executing a m b d f n) = let z : a .cmd ≡ k = cc in subst (λ (y : Command). Saw (w .seen) (issued y)) z (inv .clients .asked a m)
+      go x h (I.going y t m) = let z : _≡_ {A = ℕ} 0 1 = cc in absurd (omega arith)
+      go x h (I.giving p d hd) = let z : _≡_ {A = ℕ} 0 1 = cc in absurd (omega arith)
+      go x h (I.taking i m b d f) = let z : _≡_ {A = ℕ} 0 1 = cc in absurd (omega arith)
+      go x h (I.freeing p d m b f g) = let z : _≡_ {A = ℕ} 0 1 = cc in absurd (omega arith)
+
+  pub issued-past : (p : ℕ) (d : Execution) → List·Memᴰ d (H p) → Saw (w .seen) (issued (d .cmd))
+  issued-past p d m = let s = tops p .rooted d m in executed-issued (s .1 .entry) (Legit-tail (s .1 .tail) (inv .core .legit (s .0))) (s .1 .item)
+
+  -- ---- results
+
+  pub shown-top : (c : ℕ) (k : Command) (r : ResultZ) (s : Shown plan c (w .servers c .mark) (w .servers c .log) k r) → List·Memᴰ (s .done) (H (k .point))
+  shown-top c k r s = Tail-mem (Tail-trans (past-tail (k .point) (s .tail) (inv .facts .grows c)) (tops (k .point) .all c)) (s .among)
+
+  pub results : (k : Command) (r : ResultZ) → Saw (w .seen) (received k r) → Answers plan (opened plan) order k r
+  unfolding order timeline
+  results k r m =
+      let h = inv .clients .results k r m in
+      let b = h .1 in
+      let s = inv .facts .shown (b .other) r (b .packet) in
+      let t = shown-top (s .0) (b .other) r (s .1) in
+      let i = subst (λ (z : Command). Saw (w .seen) (issued z)) (s .1 .cmd) (issued-past (b .other .point) (s .1 .done) t) in
+      let same : b .other ≡ k = inv .clients .single (b .other) k i (h .0) (b .same) in
+      let a = book-answers plan (merged H 64) good (s .1 .done) (merged-in H (s .1 .done) (b .other .point) 64 (inv .clients .small (b .other) i) t) in
+      subst (λ (z : ResultZ). Answers plan (opened plan) (ordered (merged H 64)) k z) (s .1 .res)
+      (subst (λ (z : Command). Answers plan (opened plan) (ordered (merged H 64)) z (s .1 .done .res)) (s .1 .cmd ∙ same) a)
+
+  -- ---- values
+
+  pub values : (p c : ℕ) → p < 64 → Holder plan es p c → stateOf plan (final plan es) c .points p .value ≡ bookAfter plan (opened plan) order p
+  unfolding order timeline final stateOf
+  values p c lt h =
+      let v = tops p .holder c (record {
+        founded = h .founded;
+        greatest = λ d f. h .greatest d f;
+        taker = λ d f e. h .taker d f e;
+        home = h .home;
+      }) .1 in
+      v ∙ ap (valueAfter plan p) (sym (merged-only plan H (λ q. tops q .past) p 64 lt)) ∙ sym (book-values plan (merged H 64) good p)
+
+  -- ---- each once
+
+  clear : (d : Execution) (ds : List Execution) → ((p : ℕ) → Past plan p (only p (d ∷ ds))) → (e : Execution) → List·Memᴰ e (only (d .cmd .point) ds) → Same (e .cmd) (d .cmd) → ⊥
+  unfolding only
+  clear d ds g e m s = go (eqb (d .cmd .point) (d .cmd .point)) (eqb-same (d .cmd .point)) (g (d .cmd .point))
+    where
+      go : (b : Bool) → b ≡ true → Past plan (d .cmd .point) (pick b (d ∷ only (d .cmd .point) ds) (only (d .cmd .point) ds)) → ⊥
+      go true q (more pt r f old rest) = f e m s
+      go false q k = impossible (sym q)
+
+  only-in : (e : Execution) (l : List Execution) (p : ℕ) → List·Memᴰ e l → e .cmd .point ≡ p → List·Memᴰ e (only p l)
+  unfolding only
+  only-in e [] p m q = absurd (List·Memᴰ·not-nil m)
+  only-in e (d ∷ ds) p m q = go (λ j. only-in e ds p j q) (eqb (d .cmd .point) p) refl (List·Memᴰ·cases-cons m)
+    where
+      go : (List·Memᴰ e ds → List·Memᴰ e (only p ds)) → (b : Bool) → eqb (d .cmd .point) p ≡ b → (e ≡ d) ⊎ List·Memᴰ e ds → List·Memᴰ e (pick b (d ∷ only p ds) (only p ds))
+      go ih true x (inl y) = List·Memᴰ·head y
+      go ih true x (inr j) = List·Memᴰ·tail (ih j)
+      go ih false x (inl y) = absurd (eqb-false _ _ x (ap (λ (z : Execution). z .cmd .point) (sym y) ∙ q))
+      go ih false x (inr j) = ih j
+
+  once-last : (xs : List Marked) (c : Marked) → Once xs → ((d : Marked) → List·Memᴰ d xs → d .command .client ≡ c .command .client → d .command .call ≡ c .command .call → ⊥) → Once (xs ++ (c ∷ []))
+  once-last [] c E.none-left f = E.one-more (λ d m. absurd (List·Memᴰ·not-nil m)) E.none-left
+  once-last (x ∷ xs) c (E.one-more g o) f = E.one-more (λ d m. either d (List·Memᴰ·append-cases xs m)) (once-last xs c o (λ d m. f d (List·Memᴰ·tail m)))
+    where
+      either : (d : Marked) → List·Memᴰ d xs ⊎ List·Memᴰ d (c ∷ []) → d .command .client ≡ x .command .client → d .command .call ≡ x .command .call → ⊥
+      either d (inl m) a b = g d m a b
+      either d (inr m) a b = let e = List·Memᴰ·eq-of-singleton m in f x (List·Memᴰ·head refl) (sym a ∙ ap (λ (z : Marked). z .command .client) e) (sym b ∙ ap (λ (z : Marked). z .command .call) e)
+
+  pub ordered-out : (l : List Execution) (k : Marked) → List·Memᴰ k (ordered l) → (d : Execution) × List·Memᴰ d l × (marked d ≡ k)
+  unfolding ordered
+  ordered-out [] k m = absurd (List·Memᴰ·not-nil m)
+  ordered-out (d ∷ ds) k m = go (λ j. ordered-out ds k j) (List·Memᴰ·append-cases (ordered ds) m)
+    where
+      go : (List·Memᴰ k (ordered ds) → (x : Execution) × List·Memᴰ x ds × (marked x ≡ k)) → List·Memᴰ k (ordered ds) ⊎ List·Memᴰ k (marked d ∷ []) → (x : Execution) × List·Memᴰ x (d ∷ ds) × (marked x ≡ k)
+      go ih (inl j) = let r = ih j in (r .0, List·Memᴰ·tail (r .1), r .2)
+      go ih (inr j) = (d, List·Memᴰ·head refl, sym (List·Memᴰ·eq-of-singleton j))
+
+  once-all : (l : List Execution) → ((p : ℕ) → Past plan p (only p l)) → ((d : Execution) → List·Memᴰ d l → Saw (w .seen) (issued (d .cmd))) → Once (ordered l)
+  unfolding ordered
+  once-all [] g iss = E.none-left
+  once-all (d ∷ ds) g iss = once-last (ordered ds) (marked d) (once-all ds (rest g) (λ e m. iss e (List·Memᴰ·tail m))) (λ k m a b. no-twin k a b (ordered-out ds k m))
+    where
+      rest : ((p : ℕ) → Past plan p (only p (d ∷ ds))) → (p : ℕ) → Past plan p (only p ds)
+      rest g p = Order.tail-good plan d ds g p
+
+      no-twin : (k : Marked) → k .command .client ≡ d .cmd .client → k .command .call ≡ d .cmd .call → (e : Execution) × List·Memᴰ e ds × (marked e ≡ k) → ⊥
+      no-twin k a b e =
+          let sm : Same (e .0 .cmd) (d .cmd) = record { client = ap (λ (z : Marked). z .command .client) (e .2) ∙ a; call = ap (λ (z : Marked). z .command .call) (e .2) ∙ b } in
+          let q = inv .clients .single (e .0 .cmd) (d .cmd) (iss (e .0) (List·Memᴰ·tail (e .1))) (iss d (List·Memᴰ·head refl)) sm in
+          clear d ds g (e .0) (only-in (e .0) ds (d .cmd .point) (e .1) (ap (λ (z : Command). z .point) q)) sm
+
+  pub once : Once order
+  unfolding order timeline
+  once = once-all (merged H 64) good (λ d m. let s = Order.merged-out H d 64 m in issued-past (s .0) d (s .1))
