@@ -1,0 +1,6 @@
+pub mod Runs
+pub mod Lists
+pub mod Final
+pub mod Events
+pub mod Survive
+pub mod Demand3

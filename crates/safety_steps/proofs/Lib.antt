@@ -1,0 +1,10 @@
+pub mod Made
+pub mod Worlds
+pub mod Clients
+pub mod Manager
+pub mod Servers
+pub mod Calls
+pub mod Requests
+pub mod Sizes
+pub mod Crashes
+pub mod Steps

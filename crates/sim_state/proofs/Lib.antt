@@ -1,0 +1,10 @@
+pub mod Places
+pub mod Mapped
+pub mod Applied
+pub mod Replays
+pub mod Packed
+pub mod Chosen
+pub mod Requests
+pub mod Moves
+pub mod Imaged
+pub mod Changed
