@@ -1,0 +1,2 @@
+-- Laws that the proofs of `image_rows` cite.
+pub mod Rows

@@ -1,0 +1,182 @@
+// Rows and head of a moving image at their places in a slice, and the tests of one row, of two neighbours and of the head.
+use model::Floor;
+use model::ImageEntry;
+use model::ImageHead;
+use model::PlanEntry;
+ghost use mathlib.Core.Path.{_≡_};
+ghost use Prim.Native.Nat.{_+_, _≤_};
+ghost use lib.ListN.{length, drop};
+ghost use lib.Dec.{ltb};
+ghost use Rattle.model.specs.Plan.{inRange};
+ghost use Rattle.model.specs.Limits.{floorRow, entryRow};
+ghost use Rattle.model.specs.Images.{floorOfBytes, imageEntryOf, imageHeadOf};
+ghost use Rattle.model.specs.Images.{imageFramed, imageHeadOk, imageParts, floorOk, inWindow, entryRowOk, entryInRange};
+ghost use Rattle.image_rows.specs.Order.{entryBefore};
+
+// ---- limits
+
+// The four bytes that open an image: 4D 56 49 31.
+pub const MAGIC: [u8; 4] = *b"MVI1";
+
+// The least and the greatest length of an image; the first is also where the floors start.
+pub const LEAST_IMAGE: usize = 48;
+
+pub const GREATEST_IMAGE: usize = 10544;
+
+// Bytes of a floor and of a completion record.
+pub const FLOOR_ROW: usize = 8;
+
+pub const ENTRY_ROW: usize = 20;
+
+pub const CLIENT_COUNT: u32 = 32;
+
+// ---- rows and head, at their places
+
+// The floor in the 8 bytes from k.
+pub fn floor_from(s: &[u8], k: usize) -> Floor
+    requires { ⌜ k + 8 ≤ length (now s) ⌝ }
+    ensures { λ r. ⌜ r ≡ floorOfBytes (drop k (now (s .entry))) ⌝ }
+{
+    Floor {
+        client: wire::read_u32(s, k),
+        floor: wire::read_u32(s, k + 4),
+    }
+}
+
+// The completion record in the 20 bytes from k.
+pub fn entry_from(s: &[u8], k: usize) -> ImageEntry
+    requires { ⌜ k + 20 ≤ length (now s) ⌝ }
+    ensures { λ r. ⌜ r ≡ imageEntryOf (drop k (now (s .entry))) ⌝ }
+{
+    ImageEntry {
+        client: wire::read_u32(s, k),
+        call: wire::read_u32(s, k + 4),
+        argument: wire::read_signed(s, k + 8),
+        value: wire::read_signed(s, k + 12),
+        op: s[k + 16],
+        outcome: s[k + 17],
+        quality: s[k + 18],
+    }
+}
+
+// The fields outside the two tables, with the numbers of their rows.
+pub fn head_from(s: &[u8]) -> ImageHead
+    requires { ⌜ 48 ≤ length (now s) ⌝ }
+    ensures { λ r. ⌜ r ≡ imageHeadOf (now (s .entry)) ⌝ }
+{
+    ImageHead {
+        point: s[4],
+        destination: s[5],
+        source: s[6],
+        number: wire::read_u32(s, 8),
+        heard: wire::read_u32(s, 12),
+        value: wire::read_signed(s, 40),
+        quality: s[44],
+        floors: wire::read_u32(s, 28) / 8,
+        entries: wire::read_u32(s, 36) / 20,
+    }
+}
+
+// ---- tests of the head
+
+// The four bytes, and the zero bytes.
+pub fn framed(s: &[u8]) -> bool
+    requires { ⌜ 48 ≤ length (now s) ⌝ }
+    ensures { λ r. ⌜ r ≡ imageFramed (now (s .entry)) ⌝ }
+{
+    let zeros = wire::zeros3_at(s, 45);
+    (s[0] == MAGIC[0])
+        & ((s[1] == MAGIC[1]) & ((s[2] == MAGIC[2]) & ((s[3] == MAGIC[3]) & ((s[7] == 0) & zeros))))
+}
+
+pub fn head_ok(h: ImageHead) -> bool
+    ensures { λ r. ⌜ r ≡ imageHeadOk h ⌝ }
+{
+    (h.point <= wire::LAST_POINT)
+        & ((h.destination <= wire::LAST_SERVER)
+            & ((h.source <= wire::LAST_SERVER)
+                & ((h.quality <= wire::LAST_QUALITY) & (h.floors <= CLIENT_COUNT))))
+}
+
+// Three parts without gaps from byte 40 to the slice's end.
+pub fn parts_ok(s: &[u8], h: ImageHead) -> bool
+    requires { ⌜ 48 ≤ length (now s) ⌝ }
+    ensures { λ r. ⌜ r ≡ imageParts h (now (s .entry)) ⌝ }
+{
+    let floors = FLOOR_ROW * (h.floors as usize);
+    let entries = ENTRY_ROW * (h.entries as usize);
+    let records = LEAST_IMAGE + floors;
+    let first = wire::read_u32(s, 16);
+    let first_length = wire::read_u32(s, 20);
+    let second = wire::read_u32(s, 24);
+    let second_length = wire::read_u32(s, 28) as usize;
+    let third = wire::read_u32(s, 32) as usize;
+    let third_length = wire::read_u32(s, 36) as usize;
+    (first == 40)
+        & ((first_length == 8)
+            & ((second == 48)
+                & ((second_length == floors)
+                    & ((third == records)
+                        & ((third_length == entries) & (s.len() == records + entries))))))
+}
+
+// ---- tests of a row
+
+// The call is from floor to floor + 15, and the client has a floor.
+pub fn in_window(floor: u32, call: u32) -> bool
+    ensures { λ r. ⌜ r ≡ inWindow floor call ⌝ }
+{
+    (1 <= floor) & ((floor <= call) & (call as u64 <= floor as u64 + wire::LAST_IN_WINDOW))
+}
+
+// The floor from k: client and floor are from 1.
+pub fn floor_ok(s: &[u8], k: usize) -> bool
+    requires { ⌜ k + 8 ≤ length (now s) ⌝ }
+    ensures { λ r. ⌜ r ≡ floorOk (floorOfBytes (drop k (now (s .entry)))) ⌝ }
+{
+    let f = floor_from(s, k);
+    (1 <= f.client) & (1 <= f.floor)
+}
+
+// The client of the floor from k is below that of the next.
+pub fn client_before(s: &[u8], k: usize) -> bool
+    requires { ⌜ k + 16 ≤ length (now s) ⌝ }
+    ensures { λ r. ⌜ r ≡ ltb (floorOfBytes (drop k (now (s .entry))) .client) (floorOfBytes (drop (k + floorRow) (now (s .entry))) .client) ⌝ }
+{
+    let f = floor_from(s, k);
+    let g = floor_from(s, k + FLOOR_ROW);
+    f.client < g.client
+}
+
+// The zero byte of the row from k.
+pub fn entry_row_ok(s: &[u8], k: usize) -> bool
+    requires { ⌜ k + 20 ≤ length (now s) ⌝ }
+    ensures { λ r. ⌜ r ≡ entryRowOk (drop k (now (s .entry))) ⌝ }
+{
+    wire::zero_at(s, k + 19)
+}
+
+// The id of the record from k is before that of the next.
+pub fn id_before(s: &[u8], k: usize) -> bool
+    requires { ⌜ k + 40 ≤ length (now s) ⌝ }
+    ensures { λ r. ⌜ r ≡ entryBefore (imageEntryOf (drop k (now (s .entry)))) (imageEntryOf (drop (k + entryRow) (now (s .entry)))) ⌝ }
+{
+    let e = entry_from(s, k);
+    let f = entry_from(s, k + ENTRY_ROW);
+    (e.client < f.client) | ((e.client == f.client) & (e.call < f.call))
+}
+
+pub fn in_range(e: PlanEntry, a: u32) -> bool
+    ensures { λ r. ⌜ r ≡ inRange e a ⌝ }
+{
+    (e.low <= a) & (a <= e.high)
+}
+
+// The value of the record from k.
+pub fn entry_in_range(s: &[u8], e: PlanEntry, k: usize) -> bool
+    requires { ⌜ k + 20 ≤ length (now s) ⌝ }
+    ensures { λ r. ⌜ r ≡ entryInRange e (imageEntryOf (drop k (now (s .entry)))) ⌝ }
+{
+    let x = entry_from(s, k);
+    in_range(e, x.value)
+}

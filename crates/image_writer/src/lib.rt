@@ -1,0 +1,112 @@
+// The writer of moving images: head, floors and completion records, each at its place. Bytes past what is written are kept.
+use image_rows::ENTRY_ROW;
+use image_rows::FLOOR_ROW;
+use image_rows::LEAST_IMAGE;
+use image_rows::MAGIC;
+use model::Floor;
+use model::ImageEntry;
+use model::ImageHead;
+ghost use mathlib.Core.Path.{_≡_};
+ghost use Prim.Native.Nat.{_+_, _*_, _≤_};
+ghost use lib.ListN.{length};
+ghost use Rattle.model.specs.Limits.{leastImage, floorRow, entryRow, clientCount, recordCount};
+ghost use Rattle.model.specs.Tables.{rows, bytesOf, written};
+ghost use Rattle.model.specs.Images.{floorOfBytes, floorBytes, imageEntryBytes};
+ghost use Rattle.image_writer.specs.Heads.{headBytes, frameBytes, pairBytes, pointBytes};
+
+// ---- rows, from a place
+
+// Stores a floor in the 8 bytes from k.
+pub fn put_floor(out: &mut [u8], k: usize, f: Floor)
+    requires { ⌜ k + 8 ≤ length (now out) ⌝ }
+    ensures { λ r. ⌜ now (out .exit) ≡ written (now (out .entry)) k (floorBytes f) ⌝ }
+{
+    wire::write_u32(out, k, f.client);
+    wire::write_u32(out, k + 4, f.floor);
+}
+
+// Stores a completion record in the 20 bytes from k.
+pub fn put_entry(out: &mut [u8], k: usize, e: ImageEntry)
+    requires { ⌜ k + 20 ≤ length (now out) ⌝ }
+    ensures { λ r. ⌜ now (out .exit) ≡ written (now (out .entry)) k (imageEntryBytes e) ⌝ }
+{
+    wire::write_u32(out, k, e.client);
+    wire::write_u32(out, k + 4, e.call);
+    wire::write_signed(out, k + 8, e.argument);
+    wire::write_signed(out, k + 12, e.value);
+    wire::write_4(out, k + 16, e.op, e.outcome, e.quality, 0);
+}
+
+// ---- the head
+
+fn write_frame(out: &mut [u8], h: ImageHead)
+    requires { ⌜ 48 ≤ length (now out) ⌝ }
+    ensures { λ r. ⌜ now (out .exit) ≡ written (now (out .entry)) 0 (frameBytes h) ⌝ }
+{
+    wire::write_4(out, 0, MAGIC[0], MAGIC[1], MAGIC[2], MAGIC[3]);
+    wire::write_4(out, 4, h.point, h.destination, h.source, 0);
+    wire::write_u32(out, 8, h.number);
+    wire::write_u32(out, 12, h.heard);
+}
+
+// The three pairs of offset and length, for m floors and n records.
+fn write_pairs(out: &mut [u8], m: u32, n: u32)
+    requires { ⌜ (48 ≤ length (now out)) × (m ≤ clientCount) × (n ≤ recordCount) ⌝ }
+    ensures { λ r. ⌜ now (out .exit) ≡ written (now (out .entry)) 16 (pairBytes m n) ⌝ }
+{
+    wire::write_u32(out, 16, 40);
+    wire::write_u32(out, 20, 8);
+    wire::write_u32(out, 24, 48);
+    wire::write_u32(out, 28, 8 * m);
+    wire::write_u32(out, 32, 48 + 8 * m);
+    wire::write_u32(out, 36, 20 * n);
+}
+
+fn write_point(out: &mut [u8], value: u32, quality: u8)
+    requires { ⌜ 48 ≤ length (now out) ⌝ }
+    ensures { λ r. ⌜ now (out .exit) ≡ written (now (out .entry)) 40 (pointBytes value quality) ⌝ }
+{
+    wire::write_signed(out, 40, value);
+    wire::write_4(out, 44, quality, 0, 0, 0);
+}
+
+// All that stands before the tables.
+pub fn write_head(out: &mut [u8], h: ImageHead)
+    requires { ⌜ (48 ≤ length (now out)) × (h .floors ≤ clientCount) × (h .entries ≤ recordCount) ⌝ }
+    ensures { λ r. ⌜ now (out .exit) ≡ written (now (out .entry)) 0 (headBytes h) ⌝ }
+{
+    write_frame(out, h);
+    write_pairs(out, h.floors, h.entries);
+    write_point(out, h.value, h.quality);
+}
+
+// ---- the tables
+
+// The floor of index i.
+pub fn write_floor(out: &mut [u8], i: usize, f: Floor)
+    requires { ⌜ 48 + 8 * (i + 1) ≤ length (now out) ⌝ }
+    ensures { λ r. ⌜ now (out .exit) ≡ written (now (out .entry)) (leastImage + floorRow * i) (floorBytes f) ⌝ }
+{
+    put_floor(out, LEAST_IMAGE + FLOOR_ROW * i, f);
+}
+
+// The completion record of index i behind n floors.
+pub fn write_entry(out: &mut [u8], n: usize, i: usize, e: ImageEntry)
+    requires { ⌜ 48 + 8 * n + 20 * (i + 1) ≤ length (now out) ⌝ }
+    ensures { λ r. ⌜ now (out .exit) ≡ written (now (out .entry)) (leastImage + floorRow * n + entryRow * i) (imageEntryBytes e) ⌝ }
+{
+    put_entry(out, LEAST_IMAGE + FLOOR_ROW * n + ENTRY_ROW * i, e);
+}
+
+// n floors, from a table of rows of the same layout.
+pub fn write_floors(out: &mut [u8], table: &[u8], n: usize)
+    requires { ⌜ (48 + 8 * n ≤ length (now out)) × (8 * n ≤ length (now table)) ⌝ }
+    ensures { λ r. ⌜ now (out .exit) ≡ written (now (out .entry)) leastImage (bytesOf floorBytes (rows floorOfBytes floorRow n (now (table .entry)))) ⌝ }
+{
+    let mut i = 0;
+    while i < n {
+        let f = image_rows::floor_from(table, FLOOR_ROW * i);
+        put_floor(out, LEAST_IMAGE + FLOOR_ROW * i, f);
+        i += 1;
+    }
+}

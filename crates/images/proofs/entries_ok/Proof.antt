@@ -1,0 +1,46 @@
+-- `images::entries_ok` meets its contract.
+-- Assumes nothing.
+use Prim.Native.Nat.{_-_}
+use borrow.Author.Needs.{needs}
+use lib.ListN.{drop}
+use Rattle.model.specs.Tables.{rows, every}
+use Rattle.model.specs.Images.{floorOfBytes, imageEntryOf, imageEntryOk}
+use Rattle.images.proofs.Loops.{Open, rowTest, every-open, open-next, open-false, open-true}
+use Rattle.images.proofs.entries_ok.Statement.{statement}
+use Rattle.images.proofs.entries_ok.Tie as tie
+
+abbrev Inv-loop : tie.InvT-loop
+Inv-loop s n point at m i₀ i =
+    Open (rowTest imageEntryOf (imageEntryOk point (rows floorOfBytes 8 n (drop 48 s)))) 20 at
+    (every (imageEntryOk point (rows floorOfBytes 8 n (drop 48 s))) (rows imageEntryOf 20 m (drop at s))) s m i
+
+abbrev μ-loop : tie.MeasureT-loop
+μ-loop s n point at m i₀ i = m - i
+
+loop-holds : tie.Need-loop-holds Inv-loop μ-loop
+loop-holds c = every-open imageEntryOf 20 _ _ _ _
+
+returns : tie.Need-returns Inv-loop μ-loop
+returns c = open-false (c .before .before .before .loop .inv) (c .before .before .loop-test .taken) (c .before .entry-ok .ensures) (c .if1 .taken)
+
+loop-again : tie.Need-loop-again Inv-loop μ-loop
+loop-again c = open-next (c .before .before .before .loop .inv) (c .before .before .loop-test .taken) (c .before .entry-ok .ensures) (c .if1 .left)
+
+returns-2 : tie.Need-returns-2 Inv-loop μ-loop
+returns-2 c = open-true (c .before .loop .inv) (c .loop-test .left)
+
+pub entries-ok-spec : {M : Type 1} → statement M
+entries-ok-spec =
+    tie.close
+    (tie.spec
+    Inv-loop
+    μ-loop
+    loop-holds
+    (λ c. search needs)
+    (λ c. search needs)
+    (λ c κs. search needs)
+    returns
+    (λ c. search needs)
+    (λ c. search needs)
+    loop-again
+    returns-2)

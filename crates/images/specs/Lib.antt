@@ -1,0 +1,2 @@
+-- What the contracts of `images` cite beside `model`.
+pub mod Answers

@@ -1,0 +1,2 @@
+-- What the contracts of `images_c` cite beside `model`.
+pub mod Packed
