@@ -1,0 +1,2 @@
+-- Laws that the proofs of `appends` cite.
+pub mod Writing

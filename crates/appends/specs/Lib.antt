@@ -1,0 +1,2 @@
+-- What the contracts of `appends` cite.
+pub mod Fronts

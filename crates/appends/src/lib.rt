@@ -1,0 +1,139 @@
+// The log's head and its records as they are written: a record behind the log's last one.
+use model::Executed;
+use model::Give;
+use model::Notice;
+use model::Release;
+ghost use mathlib.Core.Path.{_≡_};
+ghost use Prim.Native.Nat.{_+_, _≤_};
+ghost use mathlib.Core.Bool.{true};
+ghost use lib.ListN.{length};
+ghost use Rattle.model.specs.Tables.{written};
+ghost use Rattle.model.specs.Images.{imageHeadOf, imageAt, imageOk};
+ghost use Rattle.model.specs.Logs.{headBytes, executed, gone, gave, took, released, recordBytes, executedBytes, giveBytes, releaseBytes};
+ghost use Rattle.appends.specs.Fronts.{takeFront};
+
+// ---- limits
+
+// The four bytes that open a log: 57 4C 47 31.
+pub const MAGIC: [u8; 4] = *b"WLG1";
+
+pub const HEAD_SIZE: usize = 8;
+
+// Bytes of the records; a take has 8 and its image.
+pub const EXECUTED_SIZE: usize = 28;
+
+pub const GONE_SIZE: usize = 12;
+
+pub const GIVE_SIZE: usize = 8;
+
+pub const TAKE_HEAD: usize = 8;
+
+pub const RELEASE_SIZE: usize = 8;
+
+// ---- into a lent part
+
+pub fn write_head(log: &mut [u8], n: u8)
+    requires { ⌜ 8 ≤ length (now log) ⌝ }
+    ensures { λ r. ⌜ now (log .exit) ≡ written (now (log .entry)) 0 (headBytes n) ⌝ }
+{
+    wire::write_4(log, 0, MAGIC[0], MAGIC[1], MAGIC[2], MAGIC[3]);
+    wire::write_4(log, 4, n, 0, 0, 0);
+}
+
+fn write_executed(out: &mut [u8], x: Executed)
+    requires { ⌜ 28 ≤ length (now out) ⌝ }
+    ensures { λ r. ⌜ now (out .exit) ≡ written (now (out .entry)) 0 (executedBytes x) ⌝ }
+{
+    wire::write_4(out, 0, 1, x.op, x.point, x.outcome);
+    wire::write_u32(out, 4, x.client);
+    wire::write_u32(out, 8, x.call);
+    wire::write_u32(out, 12, x.done);
+    wire::write_signed(out, 16, x.argument);
+    wire::write_signed(out, 20, x.value);
+    wire::write_4(out, 24, x.quality, 0, 0, 0);
+}
+
+fn write_give(out: &mut [u8], x: Give)
+    requires { ⌜ 8 ≤ length (now out) ⌝ }
+    ensures { λ r. ⌜ now (out .exit) ≡ written (now (out .entry)) 0 (giveBytes x) ⌝ }
+{
+    wire::write_4(out, 0, 3, x.point, x.destination, 0);
+    wire::write_u32(out, 4, x.number);
+}
+
+fn write_release(out: &mut [u8], x: Release)
+    requires { ⌜ 8 ≤ length (now out) ⌝ }
+    ensures { λ r. ⌜ now (out .exit) ≡ written (now (out .entry)) 0 (releaseBytes x) ⌝ }
+{
+    wire::write_4(out, 0, 5, x.point, 0, 0);
+    wire::write_u32(out, 4, x.number);
+}
+
+// A take record's bytes before its image of n bytes.
+fn write_take_front(out: &mut [u8], n: u32)
+    requires { ⌜ 8 ≤ length (now out) ⌝ }
+    ensures { λ r. ⌜ now (out .exit) ≡ written (now (out .entry)) 0 (takeFront n) ⌝ }
+{
+    wire::write_4(out, 0, 4, 0, 0, 0);
+    wire::write_u32(out, 4, n);
+}
+
+// All bytes of src, from the front of out.
+pub fn copy_bytes(out: &mut [u8], src: &[u8])
+    requires { ⌜ length (now src) ≤ length (now out) ⌝ }
+    ensures { λ r. ⌜ now (out .exit) ≡ written (now (out .entry)) 0 (now (src .entry)) ⌝ }
+{
+    let mut i = 0;
+    while i < src.len() {
+        out[i] = src[i];
+        i += 1;
+    }
+}
+
+// ---- appending: the log's part from its length is lent on to the record's writer
+
+pub fn append_executed(log: &mut [u8], at: usize, x: Executed)
+    requires { ⌜ at + 28 ≤ length (now log) ⌝ }
+    ensures { λ r. ⌜ now (log .exit) ≡ written (now (log .entry)) at (recordBytes (executed x)) ⌝ }
+{
+    write_executed(&mut log[at..], x);
+}
+
+pub fn append_gone(log: &mut [u8], at: usize, x: Notice)
+    requires { ⌜ at + 12 ≤ length (now log) ⌝ }
+    ensures { λ r. ⌜ now (log .exit) ≡ written (now (log .entry)) at (recordBytes (gone x)) ⌝ }
+{
+    packets::write_notice(&mut log[at..], 2, x);
+}
+
+pub fn append_give(log: &mut [u8], at: usize, x: Give)
+    requires { ⌜ at + 8 ≤ length (now log) ⌝ }
+    ensures { λ r. ⌜ now (log .exit) ≡ written (now (log .entry)) at (recordBytes (gave x)) ⌝ }
+{
+    write_give(&mut log[at..], x);
+}
+
+pub fn append_release(log: &mut [u8], at: usize, x: Release)
+    requires { ⌜ at + 8 ≤ length (now log) ⌝ }
+    ensures { λ r. ⌜ now (log .exit) ≡ written (now (log .entry)) at (recordBytes (released x)) ⌝ }
+{
+    write_release(&mut log[at..], x);
+}
+
+// The record's 8 bytes, for an image of n bytes.
+pub fn append_take_head(log: &mut [u8], at: usize, n: u32)
+    requires { ⌜ at + 8 ≤ length (now log) ⌝ }
+    ensures { λ r. ⌜ now (log .exit) ≡ written (now (log .entry)) at (takeFront n) ⌝ }
+{
+    write_take_front(&mut log[at..], n);
+}
+
+// A take of a well-formed image.
+pub fn append_take(log: &mut [u8], at: usize, image: &[u8])
+    requires { ⌜ (imageOk (now image) ≡ true) × (at + 8 + length (now image) ≤ length (now log)) ⌝ }
+    ensures { λ r. ⌜ now (log .exit) ≡ written (now (log .entry)) at (recordBytes (took (imageAt (imageHeadOf (now (image .entry))) (now (image .entry))))) ⌝ }
+{
+    append_take_head(log, at, image.len() as u32);
+    let from = at + TAKE_HEAD;
+    copy_bytes(&mut log[from..], image);
+}

@@ -1,0 +1,32 @@
+-- `records::take_extent` meets its contract.
+-- Assumes nothing.
+use Rattle.records.proofs.Reading.{take-off, take-rest}
+use Rattle.wire.proofs.Picks.{picks}
+use Rattle.records.specs.Answers.{extentMeans}
+use Rattle.model.specs.Logs.{takeExtent}
+use borrow.Author.Needs.{needs}
+use Rattle.records.proofs.take_extent.Statement.{statement}
+use Rattle.records.proofs.take_extent.Tie as tie
+
+returns : tie.Need-returns
+unfolding extentMeans takeExtent
+returns c = search picks depth 24
+
+returns-2 : tie.Need-returns-2
+unfolding extentMeans
+returns-2 c = take-off _ (c .before .read-u32 .ensures) (c .before .before .if1 .left) (c .if2 .taken)
+
+returns-3 : tie.Need-returns-3
+returns-3 c = take-rest _ (c .before .before .read-u32 .ensures) (c .before .before .before .if1 .left) (c .before .if2 .left) (c .extent-within .ensures)
+
+pub take-extent-spec : {M : Type 1} → statement M
+take-extent-spec =
+    tie.close
+    (tie.spec
+    returns
+    (λ c κs. search needs)
+    (λ c. search needs)
+    returns-2
+    (λ c. search needs)
+    (λ c κs. search needs)
+    returns-3)

@@ -1,0 +1,2 @@
+-- Laws that the proofs of `records_c` cite.
+pub mod Answering

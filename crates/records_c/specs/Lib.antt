@@ -1,0 +1,2 @@
+-- What the contracts of `records_c` cite.
+pub mod Shown
