@@ -3,7 +3,7 @@
 --     issue-bad, issue-full, issue-out, issue-done
 --     result-own, result-unknown, refusal-own, refusal-unknown, grant-later, grant-unknown
 -- Assumes nothing.
-use mathlib.Core.Path.{_≡_, refl}
+use mathlib.Core.Path.{_≡_}
 use mathlib.Core.Bool.{Bool, true, false, _&&_}
 use Prim.Native.Nat.{ℕ, _+_, _≤_, _<_}
 use lib.Dec.{leb, eqb}

@@ -5,15 +5,15 @@
 --     parsed-fits                  what is parsed of bytes fits
 --     start-kept, receive-kept     start and receive, over bytes, keep a client well formed
 -- Assumes nothing.
-use mathlib.Core.Path.{_≡_, refl, sym, _∙_, ap, subst}
-use mathlib.Core.Bool.{Bool, true, false, _&&_}
+use mathlib.Core.Path.{_≡_, refl, subst}
+use mathlib.Core.Bool.{true}
 use mathlib.Core.List.{List}
-use Prim.Native.Nat.{ℕ, zero, suc, _+_, _≤_, _<_}
+use Prim.Native.Nat.{ℕ, zero, suc, _≤_, _<_}
 use native.Mathlib.Omega.{arith}
 use lib.Dec.{leb}
 use borrow.Author.Tests.{leb-true}
 use Rattle.laws.specs.Bytes.{Bytes}
-use Rattle.laws.specs.Fits.{RequestFits, GrantFits, packetFits, packetOk, IsPacket}
+use Rattle.laws.specs.Fits.{RequestFits, packetFits, IsPacket}
 use Rattle.laws.proofs.Tests.{and-left, and-right}
 use Rattle.laws.proofs.Packets.{packet-back, packet-found}
 use Rattle.model.specs.declared.OpenCall.{OpenCall}
@@ -21,15 +21,14 @@ use Rattle.model.specs.declared.Client.{Client}
 use Rattle.model.specs.declared.Request.{Request}
 use Rattle.model.specs.declared.Packet.{Packet}
 use Rattle.model.specs.declared.Packet.the-variants.{Malformed, Requested, Resulted, Refused, Receipted, Noticed, Granted}
-use Rattle.model.specs.declared.Started.the-variants.{NotStarted, Running}
+use Rattle.model.specs.declared.Started.the-variants.{Running}
 use Rattle.model.specs.declared.Sent.the-variants.{Asked}
-use Rattle.model.specs.declared.StartAnswer.{StartAnswer}
 use Rattle.model.specs.Rules.{greatestArgument, leastArgument, argumentOk}
 use Rattle.model.specs.Packets.{commandOk, requestOk, grantOk, requestBytes, packetBytes, parsePacket}
-use Rattle.model.specs.Clients.{callAt, firstOpen, withCalls, withCall, newCall, requestFor, startWith, startOf, issueOf, resendOf, receiveWith, receiveOf}
+use Rattle.model.specs.Clients.{callAt, withCalls, withCall, newCall, requestFor, startWith, startOf, issueOf, resendOf, receiveOf}
 use Rattle.client.specs.WellFormed.{WellFormed}
-use Rattle.client.proofs.Open.{Open, open-below, first-under}
-use Rattle.client.proofs.Kept.{start-well, receive-well, issue-well, issue-asked, issue-ok, issue-opens, resend-asked, resend-ok}
+use Rattle.client.proofs.Open.{open-below, first-under}
+use Rattle.client.proofs.Kept.{start-well, receive-well, issue-well, issue-asked, issue-ok, resend-asked, resend-ok}
 
 greatest-under : (op : ℕ) → greatestArgument op ≤ 4294967295
 unfolding greatestArgument

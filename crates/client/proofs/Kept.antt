@@ -9,13 +9,13 @@
 use mathlib.Core.Path.{_≡_, refl, sym, _∙_, ap, subst}
 use mathlib.Core.Bool.{Bool, true, false, _&&_}
 use mathlib.Core.List.{List}
-use mathlib.Core.Logic.{_⊎_, inl, inr}
+use mathlib.Core.Logic.{_⊎_, inr}
 use Prim.Native.Nat.{ℕ, suc, _+_, _-_, _≤_, _<_}
 use native.Mathlib.Omega.{arith}
 use lib.Dec.{eqb, leb}
 use lib.ListN.{length, getD, set, replicate, length-set, getD-replicate}
 use lib.Seq.{getD-set-same, getD-set-other}
-use borrow.Author.Tests.{eqb-true, eqb-false, le-leb, leb-true}
+use borrow.Author.Tests.{eqb-true, eqb-false, le-leb}
 use Rattle.laws.specs.Fits.{GrantFits, packetFits}
 use Rattle.laws.proofs.Tests.{and-both}
 use Rattle.model.specs.declared.OpenCall.{OpenCall}
@@ -25,16 +25,15 @@ use Rattle.model.specs.declared.ResultPacket.{ResultPacket}
 use Rattle.model.specs.declared.Grant.{Grant}
 use Rattle.model.specs.declared.Packet.{Packet}
 use Rattle.model.specs.declared.Packet.the-variants.{Resulted, Granted}
-use Rattle.model.specs.declared.Sent.{Sent}
 use Rattle.model.specs.declared.Sent.the-variants.{NotSent, Asked}
 use Rattle.model.specs.declared.Received.the-variants.{Completed}
 use Rattle.model.specs.declared.SendAnswer.{SendAnswer}
 use Rattle.model.specs.declared.ReceiveAnswer.{ReceiveAnswer}
-use Rattle.model.specs.Packets.{commandOk, idOk, doneOk, requestOk, grantOk}
+use Rattle.model.specs.Packets.{commandOk, idOk, doneOk, requestOk}
 use Rattle.model.specs.Clients.{noCall, placeOf, callAt, firstOpen, withCalls, withLease, closed, requestFor, startWith, newCall, withCall, notSent, sent, issueOf, resendOf, notReceived, receiveWith}
 use Rattle.client.specs.WellFormed.{WellFormed, callIn}
 use Rattle.client.proofs.Least.{least-over, least-each}
-use Rattle.client.proofs.Open.{Open, open-from, open-below, open-within, first-under, first-from, place-under, issued-at, issued-keeps, issued-next, issued-open, issued-only, closed-off, closed-keeps, closed-open, closed-only}
+use Rattle.client.proofs.Open.{Open, open-from, open-below, first-under, first-from, place-under, issued-at, issued-keeps, issued-next, issued-open, issued-only, closed-off, closed-keeps, closed-open, closed-only}
 use Rattle.client.proofs.Steps.{IssueCase, ResendCase, ReceiveCase, Own, issue-case, resend-case, receive-case}
 
 -- ---- start

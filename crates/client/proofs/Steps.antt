@@ -1,37 +1,22 @@
 -- The exits of each operation, with what each was told.
 --     issue-case, resend-case, receive-case
 -- Assumes nothing.
-use mathlib.Core.Path.{_≡_, refl, sym, _∙_, ap, subst}
-use mathlib.Core.Bool.{Bool, true, false, _&&_, not}
-use mathlib.Core.List.{List}
-use mathlib.Core.Logic.{_⊎_, inl, inr}
-use Prim.Native.Nat.{ℕ, suc, _+_, _≤_, _<_}
-use native.Mathlib.Omega.{arith}
+use mathlib.Core.Path.{_≡_, refl}
+use mathlib.Core.Bool.{Bool, true, false, _&&_}
+use Prim.Native.Nat.{ℕ, _+_, _≤_, _<_}
 use lib.Dec.{eqb, leb}
-use lib.ListN.{length, getD, set, replicate, length-set, getD-replicate}
-use lib.Seq.{getD-set-same, getD-set-other}
-use borrow.Author.Tests.{leb-true, leb-false, eqb-true, eqb-false, le-leb}
-use Rattle.laws.proofs.Tests.{and-left, and-right, and-both}
-use Rattle.model.specs.declared.OpenCall.{OpenCall}
+use borrow.Author.Tests.{leb-true, leb-false, eqb-true}
+use Rattle.laws.proofs.Tests.{and-left, and-right}
 use Rattle.model.specs.declared.Client.{Client}
-use Rattle.model.specs.declared.Request.{Request}
 use Rattle.model.specs.declared.ResultPacket.{ResultPacket}
 use Rattle.model.specs.declared.RefusalPacket.{RefusalPacket}
 use Rattle.model.specs.declared.Grant.{Grant}
 use Rattle.model.specs.declared.Packet.{Packet}
 use Rattle.model.specs.declared.Packet.the-variants.{Malformed, Requested, Resulted, Refused, Receipted, Noticed, Granted}
-use Rattle.model.specs.declared.Started.the-variants.{NotStarted, Running}
-use Rattle.model.specs.declared.Sent.{Sent}
-use Rattle.model.specs.declared.Sent.the-variants.{NotSent, Asked}
-use Rattle.model.specs.declared.Received.the-variants.{NotReceived, Completed, Denied, Extended}
-use Rattle.model.specs.declared.SendAnswer.{SendAnswer}
-use Rattle.model.specs.declared.ReceiveAnswer.{ReceiveAnswer}
-use Rattle.model.specs.Choice.{pick}
-use Rattle.model.specs.Packets.{commandOk, idOk, doneOk, requestOk, grantOk}
-use Rattle.model.specs.Clients.{noCall, placeOf, callAt, isOpen, firstOpen, withCalls, withLease, closed, requestFor, startWith, newCall, withCall, notSent, sent, issueOf, resendOf, isOwn, notReceived, receiveResult, receiveRefusal, receiveGrant, receiveWith}
-use Rattle.client.specs.WellFormed.{WellFormed, callIn}
-use Rattle.client.proofs.Least.{least-over}
-use Rattle.client.proofs.Open.{Open, open-is, open-from, open-below, open-within, first-under, first-from, place-under, issued-at, issued-keeps, issued-next, issued-open, issued-only, closed-keeps, closed-open, closed-only}
+use Rattle.model.specs.declared.Received.the-variants.{Completed, Denied, Extended}
+use Rattle.model.specs.Packets.{commandOk}
+use Rattle.model.specs.Clients.{callAt, isOpen, firstOpen, withLease, closed, newCall, withCall, notSent, sent, issueOf, resendOf, isOwn, notReceived, receiveResult, receiveRefusal, receiveGrant, receiveWith}
+use Rattle.client.proofs.Open.{Open, open-is}
 
 -- ---- the exits
 

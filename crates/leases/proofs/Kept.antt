@@ -13,14 +13,14 @@
 --     gone-covers     every grant to such a client has ended: a notice (x, t) says that each grant to x ends at or under t
 -- Assumes nothing.
 use mathlib.Core.Path.{_≡_, refl, sym, _∙_, ap, subst}
-use mathlib.Core.Bool.{Bool, true, false, _&&_, _||_, not}
-use mathlib.Core.List.{List, [], _∷_, map}
+use mathlib.Core.Bool.{Bool, true, false, _||_}
+use mathlib.Core.List.{List}
 use mathlib.Core.Logic.{_⊎_, inl, inr}
 use Prim.Native.Nat.{ℕ, zero, suc, _+_, _≤_, _<_, max}
 use native.Mathlib.Omega.{arith}
-use lib.Dec.{eqb, leb, ltb}
+use lib.Dec.{eqb, ltb}
 use lib.ListN.{length, length-map, replicate}
-use borrow.Author.Tests.{eqb-true, eqb-false, ltb-true, ltb-false}
+use borrow.Author.Tests.{eqb-true, eqb-false, ltb-false}
 use Rattle.laws.specs.Bytes.{All}
 use Rattle.model.specs.declared.Grant.{Grant}
 use Rattle.model.specs.declared.Notice.{Notice}
@@ -28,8 +28,7 @@ use Rattle.model.specs.declared.Lease.{Lease}
 use Rattle.model.specs.declared.LeaseManager.{LeaseManager}
 use Rattle.model.specs.declared.LeaseAnswer.{LeaseAnswer}
 use Rattle.model.specs.declared.Told.{Told}
-use Rattle.model.specs.declared.Told.the-variants.{NotTold, ByGrant, ByNotice}
-use Rattle.model.specs.Choice.{pick}
+use Rattle.model.specs.declared.Told.the-variants.{ByGrant, ByNotice}
 use Rattle.model.specs.Tables.{every}
 use Rattle.model.specs.Leases.{noLease, newManager, timeAt, runningAt, leaseEnd, isTaken, entered, extended, spanOk, manager, notTold, granted, openOf, renewOf, queryOf}
 use Rattle.leases.specs.WellFormed.{Fresh, Distinct, Placed, WellFormed, Lasts, Covers, Gone, LeaseCall, answerOf, givenTime}

@@ -1,0 +1,2 @@
+-- Laws that the proofs of `client_c` cite.
+pub mod Cases

@@ -1,0 +1,52 @@
+-- `client_c::receive_reply` meets its contract.
+-- Assumes nothing.
+use mathlib.Core.Path.{refl}
+use Rattle.client_c.specs.Replies.{receiveReply}
+use borrow.Author.Needs.{needs}
+use Rattle.client_c.proofs.receive_reply.Statement.{statement}
+use Rattle.client_c.proofs.receive_reply.Tie as tie
+
+enum-known-a : tie.Need-enum-known-a
+enum-known-a c = search needs
+
+enum-known-a-2 : tie.Need-enum-known-a-2
+enum-known-a-2 c = search needs
+
+flipped-requires : tie.Need-flipped-requires
+flipped-requires c κs = search needs
+
+enum-known-a-3 : tie.Need-enum-known-a-3
+enum-known-a-3 c = search needs
+
+enum-known-a-4 : tie.Need-enum-known-a-4
+enum-known-a-4 c = search needs
+
+returns : tie.Need-returns
+unfolding receiveReply
+returns c = rw (c .before .a .given .1) refl
+
+returns-2 : tie.Need-returns-2
+unfolding receiveReply
+returns-2 c = rw (c .before .before .a2 .given .1, c .flipped .ensures) refl
+
+returns-3 : tie.Need-returns-3
+unfolding receiveReply
+returns-3 c = rw (c .before .a3 .given .1) refl
+
+returns-4 : tie.Need-returns-4
+unfolding receiveReply
+returns-4 c = rw (c .before .a4 .given .1) refl
+
+pub receive-reply-spec : {M : Type 1} → statement M
+receive-reply-spec =
+    tie.close
+    (tie.spec
+    enum-known-a
+    enum-known-a-2
+    flipped-requires
+    enum-known-a-3
+    enum-known-a-4
+    returns
+    returns-2
+    returns-3
+    returns-4)

@@ -1,0 +1,334 @@
+// The client and the lease manager for a host program in C: numbers, structs with C's layout, byte slices. A signed number is
+// in two's complement here.
+ghost use mathlib.Core.Path.{_≡_};
+ghost use Rattle.model.specs.Numbers.{flip};
+ghost use Rattle.model.specs.Clients.{startOf, startNumber, issueOf, resendOf, receiveOf};
+ghost use Rattle.model.specs.Leases.{newManager, openOf, renewOf, queryOf};
+ghost use Rattle.client_c.specs.Replies.{startReply, sendReply, sending, receiveReply, receiving, leaseReply};
+use model::Client;
+use model::Grant;
+use model::Lease;
+use model::LeaseAnswer;
+use model::LeaseManager;
+use model::Notice;
+use model::ReceiveAnswer;
+use model::Received;
+use model::RefusalPacket;
+use model::Request;
+use model::ResultPacket;
+use model::SendAnswer;
+use model::Sent;
+use model::StartAnswer;
+use model::Started;
+use model::Told;
+
+// ---- what C is given
+
+// number: 0 or the refusal's.
+#[repr(C)]
+pub struct StartReply {
+    pub client: Client,
+    pub number: u32,
+}
+
+// number: 0 or the refusal's. length: of the request in packet, 0 where refused.
+#[repr(C)]
+pub struct SendReply {
+    pub number: u32,
+    pub length: u32,
+    pub packet: [u8; 24],
+}
+
+// number: 0 or the refusal's. kind: 2 a result, 3 a refusal (its number in refusal), 6 a grant (its end in lease).
+#[repr(C)]
+pub struct ReceiveReply {
+    pub number: u32,
+    pub kind: u32,
+    pub call: u32,
+    pub value: u32,
+    pub lease: u32,
+    pub point: u8,
+    pub outcome: u8,
+    pub quality: u8,
+    pub refusal: u8,
+}
+
+// number: 0 or the refusal's. length: of the grant or the notice in packet, 0 where refused.
+#[repr(C)]
+pub struct LeaseReply {
+    pub manager: LeaseManager,
+    pub number: u32,
+    pub length: u32,
+    pub packet: [u8; 12],
+}
+
+// ---- replies, by value
+
+pub struct Sending {
+    pub client: Client,
+    pub reply: SendReply,
+}
+
+pub struct Receiving {
+    pub client: Client,
+    pub reply: ReceiveReply,
+}
+
+fn send_reply(a: Sent) -> SendReply
+    ensures { λ r. ⌜ r ≡ sendReply a ⌝ }
+{
+    match a {
+        Sent::NotSent(n) => SendReply {
+            number: n,
+            length: 0,
+            packet: [0u8; 24],
+        },
+        Sent::Asked(q) => {
+            let p = packets::request_packet(q);
+            SendReply {
+                number: 0,
+                length: 24,
+                packet: p,
+            }
+        }
+    }
+}
+
+fn with_send_reply(a: SendAnswer) -> Sending
+    ensures { λ r. ⌜ r ≡ sending a ⌝ }
+{
+    let d = a.client;
+    let s = a.answer;
+    let r = send_reply(s);
+    Sending {
+        client: d,
+        reply: r,
+    }
+}
+
+fn receive_reply(a: Received) -> ReceiveReply
+    ensures { λ r. ⌜ r ≡ receiveReply a ⌝ }
+{
+    match a {
+        Received::NotReceived(n) => ReceiveReply {
+            number: n,
+            kind: 0,
+            call: 0,
+            value: 0,
+            lease: 0,
+            point: 0,
+            outcome: 0,
+            quality: 0,
+            refusal: 0,
+        },
+        Received::Completed(r) => ReceiveReply {
+            number: 0,
+            kind: 2,
+            call: r.call,
+            value: wire::flipped(r.value),
+            lease: 0,
+            point: r.point,
+            outcome: r.outcome,
+            quality: r.quality,
+            refusal: 0,
+        },
+        Received::Denied(r) => ReceiveReply {
+            number: 0,
+            kind: 3,
+            call: r.call,
+            value: 0,
+            lease: 0,
+            point: r.point,
+            outcome: 0,
+            quality: 0,
+            refusal: r.number,
+        },
+        Received::Extended(g) => ReceiveReply {
+            number: 0,
+            kind: 6,
+            call: 0,
+            value: 0,
+            lease: g.lease,
+            point: 0,
+            outcome: 0,
+            quality: 0,
+            refusal: 0,
+        },
+    }
+}
+
+fn with_receive_reply(a: ReceiveAnswer) -> Receiving
+    ensures { λ r. ⌜ r ≡ receiving a ⌝ }
+{
+    let d = a.client;
+    let s = a.answer;
+    let r = receive_reply(s);
+    Receiving {
+        client: d,
+        reply: r,
+    }
+}
+
+fn start_number(a: Started) -> u32
+    ensures { λ r. ⌜ r ≡ startNumber a ⌝ }
+{
+    match a {
+        Started::NotStarted(n) => n,
+        Started::Running => 0,
+    }
+}
+
+fn lease_reply(a: LeaseAnswer) -> LeaseReply
+    ensures { λ r. ⌜ r ≡ leaseReply a ⌝ }
+{
+    let m = a.manager;
+    let s = a.answer;
+    match s {
+        Told::NotTold(n) => LeaseReply {
+            manager: m,
+            number: n,
+            length: 0,
+            packet: [0u8; 12],
+        },
+        Told::ByGrant(g) => {
+            let p = packets::grant_packet(g);
+            LeaseReply {
+                manager: m,
+                number: 0,
+                length: 12,
+                packet: p,
+            }
+        }
+        Told::ByNotice(n) => {
+            let p = packets::notice_packet(n);
+            LeaseReply {
+                manager: m,
+                number: 0,
+                length: 12,
+                packet: p,
+            }
+        }
+    }
+}
+
+// ---- the client's operations, by value
+
+// The argument in two's complement; an op or a point past a byte is malformed, as any past its range.
+fn issue_value(d: Client, op: u32, point: u32, argument: u32) -> Sending
+    ensures { λ r. ⌜ r ≡ sending (issueOf d op point (flip argument)) ⌝ }
+{
+    if (255 < op) | (255 < point) {
+        let q = SendAnswer {
+            client: d,
+            answer: Sent::NotSent(1),
+        };
+        return with_send_reply(q);
+    }
+    let a = client::issue(d, op as u8, point as u8, wire::flipped(argument));
+    with_send_reply(a)
+}
+
+fn resend_value(d: Client, call: u32) -> Sending
+    ensures { λ r. ⌜ r ≡ sending (resendOf d call) ⌝ }
+{
+    let a = client::resend(d, call);
+    with_send_reply(a)
+}
+
+fn receive_value(d: Client, packet: &[u8]) -> Receiving
+    ensures { λ r. ⌜ r ≡ receiving (receiveOf d (now (packet .entry))) ⌝ }
+{
+    let a = client::receive(d, packet);
+    with_receive_reply(a)
+}
+
+// ---- for C: the client. Start makes one; the others are lent it.
+
+#[no_mangle]
+pub extern "C" fn mantelorris_start(packet: &[u8]) -> StartReply
+    ensures { λ r. ⌜ r ≡ startReply (startOf (now (packet .entry))) ⌝ }
+{
+    let a = client::start(packet);
+    let d = a.client;
+    let s = a.answer;
+    let n = start_number(s);
+    StartReply {
+        client: d,
+        number: n,
+    }
+}
+
+#[no_mangle]
+pub extern "C" fn mantelorris_issue(d: &mut Client, op: u32, point: u32, argument: u32) -> SendReply
+    ensures { λ r. ⌜ (r ≡ sendReply (issueOf (now (d .entry)) op point (flip argument) .answer))
+        × (now (d .exit) ≡ issueOf (now (d .entry)) op point (flip argument) .client) ⌝ }
+{
+    let r = issue_value(*d, op, point, argument);
+    *d = r.client;
+    r.reply
+}
+
+#[no_mangle]
+pub extern "C" fn mantelorris_resend(d: &mut Client, call: u32) -> SendReply
+    ensures { λ r. ⌜ (r ≡ sendReply (resendOf (now (d .entry)) call .answer)) × (now (d .exit) ≡ resendOf (now (d .entry)) call .client) ⌝ }
+{
+    let r = resend_value(*d, call);
+    *d = r.client;
+    r.reply
+}
+
+#[no_mangle]
+pub extern "C" fn mantelorris_receive(d: &mut Client, packet: &[u8]) -> ReceiveReply
+    ensures { λ r. ⌜ (r ≡ receiveReply (receiveOf (now (d .entry)) (now (packet .entry)) .answer))
+        × (now (d .exit) ≡ receiveOf (now (d .entry)) (now (packet .entry)) .client) ⌝ }
+{
+    let r = receive_value(*d, packet);
+    *d = r.client;
+    r.reply
+}
+
+// ---- for C: the lease manager, by value
+
+#[no_mangle]
+pub extern "C" fn mantelorris_leases() -> LeaseManager
+    ensures { λ r. ⌜ r ≡ newManager ⌝ }
+{
+    let l = Lease {
+        client: 0,
+        lease: 0,
+    };
+    LeaseManager {
+        time: 0,
+        issued: 0,
+        leases: [l; 32],
+    }
+}
+
+#[no_mangle]
+pub extern "C" fn mantelorris_open(m: LeaseManager, time: u32, span: u32) -> LeaseReply
+    ensures { λ r. ⌜ r ≡ leaseReply (openOf m time span) ⌝ }
+{
+    let a = leases::open_lease(m, time, span);
+    lease_reply(a)
+}
+
+#[no_mangle]
+pub extern "C" fn mantelorris_renew(
+    m: LeaseManager,
+    client: u32,
+    time: u32,
+    span: u32,
+) -> LeaseReply
+    ensures { λ r. ⌜ r ≡ leaseReply (renewOf m client time span) ⌝ }
+{
+    let a = leases::renew(m, client, time, span);
+    lease_reply(a)
+}
+
+#[no_mangle]
+pub extern "C" fn mantelorris_query(m: LeaseManager, client: u32, time: u32) -> LeaseReply
+    ensures { λ r. ⌜ r ≡ leaseReply (queryOf m client time) ⌝ }
+{
+    let a = leases::query(m, client, time);
+    lease_reply(a)
+}
