@@ -1,13 +1,16 @@
 -- Requests and syncs on slices that are refused with neither 2 nor 19.
 --     find-has                      a record found is held, and has the id
---     request-is, sync-is           the call carries out the operation's decision
+--     result-length, result-front, packet-read     a result packet: its 16 bytes, at the front of the output, read back
 --     held-replies                  an id held with the same command, and synced, is answered
---     packet-read                   the result packet of a sound state's record is read back
---     result-length                 it has 16 bytes
---     ready-sound, ready-stored     the state is sound; slices with another sound state stored
---     sync-all, ready-synced        a sync to the log's length
---     request-result                a request that answers with a packet
---     Executed below: a request that answers 0 and makes nothing: decided, passed, terms, result, sound, ready, loads, found, size
+--     request-point                 a request's point is one of the 64
+--     pass-on                       a property of ordered refusals
+--     ready-stored                  slices with a sound state stored
+--     ready-sound                   the state in the slices is sound
+--     request-is                    a request carries out what is decided
+--     sync-all, ready-synced, synced-loads     a sync to the log's length
+--     request-held, request-replied     a request that answers with a packet
+--     executed-decided, executed-passed, executed-terms, executed-result, executed-space, executed-sound, executed-loads,
+--     executed-ready, executed-found, executed-point     a request that answers 0 and makes no packet
 -- Assumes nothing.
 use Prim.Native.Nat.{ℕ, _+_, _*_, _≤_, _<_}
 use mathlib.Core.Path.{_≡_, refl, sym, ap, _∙_, subst}
@@ -183,11 +186,11 @@ module _ {state log out : List ℕ} (R : Ready state log out) where
   request-is b q e =
       ap (settle state log out) (lent-decides out resultSize (R .output) (onRequest st free (parsePacket b)) ∙ ap (onRequest st free) e)
 
-  pub sync-is : (m : ℕ) → syncOf state log m ≡ settle state log [] (onSync st m)
+  sync-is : (m : ℕ) → syncOf state log m ≡ settle state log [] (onSync st m)
   unfolding syncOf
   sync-is m = ap (settle state log []) (lent-decides [] 0 (lit≤ tt) (onSync st m))
 
-  pub loads : (new : State) → Sound new → load (stored state new) ≡ new
+  loads : (new : State) → Sound new → load (stored state new) ≡ new
   loads new S = stored-load state new S (omega (arith, R .long))
 
   -- ---- sync to the log's length

@@ -2,7 +2,7 @@
 -- definitions that the contracts of the calls cite. `Ready` are slices that are refused with neither 2 nor 19; nothing else is
 -- asked of the state in them but that it is sound, so each theorem holds of reachable and unreachable states alike.
 --     served-after-sync     a server that stays at 7 after sync
---     recovered-keeps       one that recovers to the founding state; recovered-same: recovery of the whole log loses nothing
+--     recovered-keeps       one that recovers to the founding state; recovered-same, recovered-later: recovery loses nothing of the log kept
 --     own-result            one that echoes its first result; own-results-differ: two ids, two packets
 --     places-and-space      one that says 8 or 9 with places and space free; it holds of all slices, ready or not
 --     not-refuses-all       one that refuses all
@@ -17,8 +17,9 @@ use mathlib.Core.Option.{Option, none, some}
 use mathlib.Core.Logic.{_≢_, _⊎_, inl, inr}
 use native.Mathlib.Omega.{arith}
 use lib.ListN.{length, take, getD}
+use lib.Seq.{take-take}
 use lib.Dec.{eqb, leb, ltb, lit≤}
-use borrow.Author.Tests.{eqb-true, eq-eqb, ne-eqb, le-ltb, lt-leb}
+use borrow.Author.Tests.{eqb-true, eq-eqb, ne-eqb, le-ltb, lt-leb, le-leb}
 use Rattle.model.specs.declared.PlanEntry.{PlanEntry}
 use Rattle.model.specs.declared.Point.{Point}
 use Rattle.model.specs.declared.Request.{Request}
@@ -31,19 +32,20 @@ use Rattle.model.specs.Choice.{refuse, append}
 use Rattle.model.specs.Refusals
 use Rattle.model.specs.Numbers.{word}
 use Rattle.model.specs.Limits.{lastServer, clientCount, stateSize, headSize, resultSize, executedSize}
-use Rattle.model.specs.Tables.{written}
+use Rattle.model.specs.Tables.{written, keep}
 use Rattle.model.specs.Plan.{planOk, planOf, entryAt, inRange, noEntry}
 use Rattle.model.specs.Rules.{ruleOf, setRule}
 use Rattle.model.specs.Packets.{parsePacket, resultBytes}
 use Rattle.model.specs.Images.{floorOf}
 use Rattle.model.specs.Logs.{Entry, executed, recordSize, headBytes, recordBytes, entriesBytes}
 use Rattle.model.specs.States.{State, load, pointAt, noPoint, isHeld, isSynced, held}
-use Rattle.model.specs.Apply.{completion, executedPoint, applyExecuted, foundedPoint, founded, replay, withMark}
+use Rattle.model.specs.Apply.{completion, executedPoint, applyExecuted, foundedPoint, founded, replay, withMark, apply, replayFrom}
 use Rattle.model.specs.Decisions.{Decided, find, sameCommand, resultOfRecord, onHeld, resultFor, executedFor, noPlace, onNew, onId, decideRequest, withPacket, onRequest}
 use Rattle.model.specs.Operations.{After, answerOf, after, short, freeIn, stored, settle, foundOf, requestOf, syncOf, recoverOf, settleRecovered, recoveredState}
 use Rattle.laws.specs.Bytes.{Bytes}
-use Rattle.laws.specs.Fits.{Incomplete}
+use Rattle.laws.specs.Fits.{Incomplete, EntriesFrom, lastEnd}
 use Rattle.laws.proofs.Tests.{choose}
+use Rattle.laws.proofs.Tables.{keep-append}
 use Rattle.laws.proofs.Written.{take-written-run, length-written}
 use Rattle.laws.proofs.Logs.{record-length}
 use Rattle.limits.specs.Sound.{GoodCompletion}
@@ -54,9 +56,9 @@ use Rattle.limits.proofs.Floors.{eqb-same}
 use Rattle.limits.proofs.Tests.{split}
 use Rattle.limits.proofs.Steps.{sound-mark}
 use Rattle.limits.proofs.Decided.{fresh-find, request-appends}
-use Rattle.limits.proofs.Kept.{founded-sound}
+use Rattle.limits.proofs.Kept.{founded-sound, apply-mark}
 use Rattle.limits.proofs.Recovery.{recovers}
-use Rattle.limits.proofs.Crash.{replay-end, log-recovers}
+use Rattle.limits.proofs.Crash.{replay-end, log-recovers, decided-from, decided-cut, crash-recovers}
 use Rattle.limits.proofs.Calls.{lent-elim}
 use Rattle.limits.proofs.Formats.{parsed-request}
 use Rattle.limits.proofs.Running.{holds-size, operation-holds}
@@ -298,6 +300,34 @@ not-one-result R R′ b b′ q q′ A A′ z z′ o o′ i i′ other e =
 
 -- ---- "one that executes well and recovers to the founding state (both)"
 
+-- entries end one after the other
+from-low : (k : ℕ) (es : List Entry) → EntriesFrom k es → k ≤ lastEnd k es
+unfolding lastEnd
+from-low k [] f = omega arith
+from-low k (e ∷ es) f = omega (arith, f .0 .end, from-low (e .end) es (f .1))
+
+-- a cut behind the last one keeps all
+from-kept : (c k : ℕ) (es : List Entry) → EntriesFrom k es → lastEnd k es ≤ c → keep (λ (e : Entry). leb (e .end) c) es ≡ es
+unfolding lastEnd keep
+from-kept c k [] f l = refl
+from-kept c k (e ∷ es) f l =
+    rw (le-leb (e .end) c (omega (arith, from-low (e .end) es (f .1), l))) (ap (λ (y : List Entry). e ∷ y) (from-kept c (e .end) es (f .1) l))
+
+replay-on : (st : State) (es fs : List Entry) → replayFrom st (es ++ fs) ≡ replayFrom (replayFrom st es) fs
+unfolding replayFrom
+replay-on st [] fs = refl
+replay-on st (e ∷ es) fs = replay-on (apply st e) es fs
+
+replay-append : (plan : List PlanEntry) (n : ℕ) (es fs : List Entry) → replay plan n (es ++ fs) ≡ replayFrom (replay plan n es) fs
+unfolding replay
+replay-append plan n es fs = replay-on (founded plan n) es fs
+
+-- replay does not depend on the mark
+replay-mark : (m : ℕ) (st : State) (es : List Entry) → replayFrom (withMark m st) es ≡ withMark m (replayFrom st es)
+unfolding replayFrom apply
+replay-mark m st [] = refl
+replay-mark m st (e ∷ es) = ap (λ (y : State). replayFrom y es) (apply-mark (e .item) (e .end) m st) ∙ replay-mark m (apply st e) es
+
 module _ (plan : List PlanEntry) (n : ℕ) (g : GoodPlan plan) (h : n ≤ lastServer) where
   -- recovery from a server's log, and part of one more record behind it, gives the state that the server had, all of it synced
   pub recovered-same : (es : List Entry) (state log : List ℕ) → Holds plan n es state log → (rest fresh p : List ℕ) → Incomplete rest
@@ -341,6 +371,37 @@ module _ (plan : List PlanEntry) (n : ℕ) (g : GoodPlan plan) (h : n ≤ lastSe
         quality = ap (λ (y : State). pointAt y (q .point) .quality) (k .1) ∙ C .quality;
         synced = ap (λ (y : State). y .mark) (k .1) ∙ sym (ap (λ (y : State). y .size) (k .1));
       }
+
+  -- and of a later log, from any kept prefix that includes what the server had: that state with the later records kept replayed on it
+  pub recovered-later : (es fs : List Entry) (state log state₂ log₂ : List ℕ) → Holds plan n es state log → Holds plan n (es ++ fs) state₂ log₂
+      → (c : ℕ) → load state .size ≤ c → c ≤ load state₂ .size → (fresh p : List ℕ) → stateSize ≤ length fresh → planOk p ≡ true → planOf p ≡ plan
+      → (recoverOf fresh (take c log₂) p .answer ≡ answerOf 0 0)
+      × (load (recoverOf fresh (take c log₂) p .state)
+      ≡ withMark (load (recoverOf fresh (take c log₂) p .state) .size) (replayFrom (load state) (keep (λ (e : Entry). leb (e .end) c) fs)))
+  unfolding recoverOf settleRecovered short withMark
+  recovered-later es fs state log state₂ log₂ H K c low high fresh p l ok same =
+      let t : Entry → Bool = λ (e : Entry). leb (e .end) c in
+      let rp = replay plan n (keep t (es ++ fs)) in
+      let f = decided-from plan n g h es (H .decided) in
+      let size : load state .size ≡ lastEnd headSize es = holds-size plan n g h es state log H ∙ replay-end plan n es in
+      let size₂ : load state₂ .size ≡ lastEnd headSize (es ++ fs) = holds-size plan n g h (es ++ fs) state₂ log₂ K ∙ replay-end plan n (es ++ fs) in
+      let kept : take c log₂ ≡ take c (headBytes n ++ entriesBytes (es ++ fs))
+      = sym (take-take c (lastEnd headSize (es ++ fs)) log₂ (omega (arith, size₂, high))) ∙ ap (λ (x : List ℕ). take c x) (K .logged) in
+      let r : recoveredState (planOf p) (take c log₂) ≡ some rp
+      = ap (λ (y : List PlanEntry). recoveredState y (take c log₂)) same ∙ ap (recoveredState plan) kept
+      ∙ crash-recovers plan n g h (es ++ fs) c (K .decided) (omega (arith, from-low headSize es f, size, low)) in
+      let S = recovers plan n g h (keep t (es ++ fs)) (decided-cut plan n g h c (es ++ fs) (K .decided)) .sound in
+      let M = sound-mark rp (rp .size) S (S .mark) (omega arith) in
+      let e : recoverOf fresh (take c log₂) p ≡ after (answerOf 0 0) (stored fresh (withMark (rp .size) rp)) (take c log₂) []
+      = rw (le-ltb (length fresh) stateSize l, ok, r) in
+      let ld : load (recoverOf fresh (take c log₂) p .state) ≡ withMark (rp .size) rp
+      = ap (λ (y : After). load (y .state)) e ∙ stored-load fresh (withMark (rp .size) rp) M (omega arith) in
+      let k : keep t (es ++ fs) ≡ es ++ keep t fs
+      = keep-append t es fs ∙ ap (λ (y : List Entry). y ++ keep t fs) (from-kept c headSize es f (omega (arith, size, low))) in
+      let w : replayFrom (load state) (keep t fs) ≡ withMark (load state .mark) rp
+      = ap (λ (y : State). replayFrom y (keep t fs)) (H .same) ∙ replay-mark (load state .mark) (replay plan n es) (keep t fs)
+      ∙ ap (withMark (load state .mark)) (sym (ap (replay plan n) k ∙ replay-append plan n es (keep t fs))) in
+      (ap (λ (y : After). y .answer) e, ld ∙ ap (λ (y : ℕ). withMark y rp) (sym (ap (λ (y : State). y .size) ld)) ∙ ap (withMark (load (recoverOf fresh (take c log₂) p .state) .size)) (sym w))
 
 -- ---- "one that refuses all (2)"
 
