@@ -1,8 +1,13 @@
-# make run: what the product does today. make test: the whole check.
-.PHONY: run test
+# make run: what the product does today. make test: the whole check. make bench: nanoseconds per call of the proved code and of
+# the second program.
+.PHONY: run test bench
 
 run:
 	@tools/run.sh
 
 test:
 	@tools/test.sh
+
+bench:
+	@tools/staticlib.sh test_c client_c >/dev/null
+	@cargo run --release --quiet --offline --manifest-path compare/Cargo.toml --bin bench

@@ -1,5 +1,6 @@
 #!/usr/bin/env bash
-# The whole check: the kit's identity, the format, every proof and must-fail edit (rt ci), the tests of the second program.
+# The whole check: the kit's identity, the format, every proof and must-fail edit (rt ci), the tests of the second program,
+# the comparison of both, the C programs.
 # Prints seconds per part and per crate; the last line is 'N passed, M failed'; any failure exits non-zero.
 set -u
 cd "$(dirname "$0")/.." || exit 2
@@ -37,9 +38,12 @@ part format rt fmt --check; count $?
 part yard-cases tools/yard_cases.py --check; count $?
 part claims tools/claims.py; count $?
 
-part proofs rt ci
-proofs=$?
-grep -E '^rt: .* \([0-9]+ s\)$|^rt: must-fail' "$logs/proofs" | sed 's/^/   /'
+# every proof and must-fail edit: the lines of each crate and edit are shown as they come
+echo "== proofs"
+start=$SECONDS
+rt ci 2>&1 | tee "$logs/proofs" | grep --line-buffered -E '^rt: ' | sed -u 's/^/   /'
+proofs=${PIPESTATUS[0]}
+if [ "$proofs" = 0 ]; then echo "   ok, $((SECONDS - start)) s"; else grep -vE ': proved$' "$logs/proofs"; echo "   FAILED: proofs, $((SECONDS - start)) s"; fi
 line=$(grep -E '^[0-9]+ passed, [0-9]+ failed$' "$logs/proofs" | tail -n 1)
 if [ -n "$line" ]; then
   passed=$((passed + ${line%% passed*}))
@@ -48,16 +52,25 @@ if [ -n "$line" ]; then
 fi
 [ "$proofs" = 0 ] || { [ -n "$line" ] && [ "${n%% failed*}" != 0 ]; } || failed=$((failed + 1))
 
-if [ -f second/Cargo.toml ]; then
-  part second cargo test --release --quiet --offline --manifest-path second/Cargo.toml
-  second=$?
-  ran=$(grep -oE '[0-9]+ passed' "$logs/second" | awk '{ s += $1 } END { print s + 0 }')
-  bad=$(grep -oE '[0-9]+ failed' "$logs/second" | awk '{ s += $1 } END { print s + 0 }')
+# tests PACKAGE WORDS..: the tests of a cargo package, each counted
+tests() {
+  local package=$1 status ran bad
+  shift
+  part "$package" cargo test --release --quiet --offline --manifest-path "$package/Cargo.toml" "$@"
+  status=$?
+  ran=$(grep -oE '[0-9]+ passed' "$logs/$package" | awk '{ s += $1 } END { print s + 0 }')
+  bad=$(grep -oE '[0-9]+ failed' "$logs/$package" | awk '{ s += $1 } END { print s + 0 }')
   passed=$((passed + ran))
   failed=$((failed + bad))
-  [ "$second" = 0 ] || [ "$bad" != 0 ] || failed=$((failed + 1))
+  [ "$status" = 0 ] || [ "$bad" != 0 ] || failed=$((failed + 1))
   [ "$ran" != 0 ] || failed=$((failed + 1))
-fi
+}
+
+tests second
+part static-libraries tools/staticlib.sh test_c client_c; count $?
+tests compare -- --nocapture
+sed -nE 's/^\.*(compare [^:]*: seed [0-9]+, [0-9]+ in [0-9.]+ s):.*/   \1/p' "$logs/compare"
+part client-in-c tests/c/client.sh; count $?
 
 part run tools/run.sh; count $?
 

@@ -1,0 +1,509 @@
+//! Nanoseconds per call of the proved code and of the second program, on the
+//! same inputs and outputs, in the same run. Each is the best of several
+//! rounds; the sides take turns, and neither is inlined into the loop. "Own
+//! value": the second program takes or gives its own value in place of the
+//! eight numbers that the proved code is tested with.
+
+use compare::inputs::{self, Tables};
+use compare::{other, proved};
+use second::desk::Client;
+use second::office::LeaseManager;
+use second::packet::{
+    parse_packet, write_grant, write_notice, write_packet, write_receipt, write_refusal,
+    write_request, write_result, Grant, Packet, Reply,
+};
+use second::plan::{write_plan, Plan};
+use second::random::Random;
+use second::record::{parse_record, Parsed};
+use second::rule::ARGUMENTS;
+use std::hint::black_box;
+use std::time::{Duration, Instant};
+
+const ROUNDS: u32 = 15;
+const ROUND: Duration = Duration::from_millis(2);
+const INPUTS: usize = 256;
+
+/// Nanoseconds per item of one pass, over rounds of equal work on both sides.
+fn measure(items: u64, mut have: impl FnMut(), mut want: impl FnMut()) -> (f64, f64) {
+    let passes = passes_of(&mut have).max(passes_of(&mut want));
+    let (mut best_have, mut best_want) = (f64::MAX, f64::MAX);
+    for _ in 0..ROUNDS {
+        best_have = best_have.min(round(passes, &mut have));
+        best_want = best_want.min(round(passes, &mut want));
+    }
+    let calls = (passes * items) as f64;
+    (best_have / calls, best_want / calls)
+}
+
+/// Passes that fill a round.
+fn passes_of(pass: &mut impl FnMut()) -> u64 {
+    let mut passes = 1;
+    loop {
+        if round(passes, pass) >= ROUND.as_nanos() as f64 {
+            return passes;
+        }
+        passes *= 2;
+    }
+}
+
+fn round(passes: u64, pass: &mut impl FnMut()) -> f64 {
+    let began = Instant::now();
+    for _ in 0..passes {
+        pass();
+    }
+    began.elapsed().as_nanos() as f64
+}
+
+fn row(name: &str, (have, want): (f64, f64)) {
+    println!("{name:<34} {have:>9.2} {want:>9.2} {:>7.2}", have / want);
+}
+
+// ---- the second program behind calls, as the proved code is
+
+#[inline(never)]
+fn parse(packet: &[u8], numbers: &mut [u8]) -> u32 {
+    other::parse(packet, numbers)
+}
+
+#[inline(never)]
+fn write(numbers: &[u8], out: &mut [u8]) -> u32 {
+    other::write(numbers, out)
+}
+
+#[inline(never)]
+fn parse_own(packet: &[u8]) -> Option<Packet> {
+    parse_packet(packet)
+}
+
+#[inline(never)]
+fn write_own(packet: &Packet, out: &mut [u8; 24]) {
+    match packet {
+        Packet::Request(p) => *out = write_request(p),
+        Packet::Result(p) => out[..16].copy_from_slice(&write_result(p)),
+        Packet::Refusal(p) => out[..12].copy_from_slice(&write_refusal(p)),
+        Packet::Receipt(p) => out[..8].copy_from_slice(&write_receipt(p)),
+        Packet::Notice(p) => out[..12].copy_from_slice(&write_notice(p)),
+        Packet::Grant(p) => out[..12].copy_from_slice(&write_grant(p)),
+    }
+}
+
+#[inline(never)]
+fn rule(range: (i32, i32, i32), op: u8, argument: i32, value: i32, quality: u8) -> u64 {
+    other::rule(range, op, argument, value, quality)
+}
+
+#[inline(never)]
+fn plan_ok(plan: &[u8]) -> bool {
+    other::plan_ok(plan)
+}
+
+#[inline(never)]
+fn image(bytes: &[u8], plan: &Plan) -> u64 {
+    other::image(bytes, plan)
+}
+
+#[inline(never)]
+fn image_copy(bytes: &[u8], out: &mut [u8]) -> u64 {
+    other::image_copy(bytes, out)
+}
+
+// ---- rows
+
+const KINDS: [&str; 6] = ["request", "result", "refusal", "receipt", "notice", "grant"];
+const OPS: [&str; 6] = ["read", "set", "step", "report", "fault", "part"];
+
+/// With the second program's answer as the same numbers, and as its own value.
+fn parses(name: &str, packets: &[Vec<u8>]) {
+    let (mut numbers, mut numbers2) = ([0; 32], [0; 32]);
+    let mut have = || {
+        for p in packets {
+            black_box(proved::parse(black_box(p), &mut numbers));
+            black_box(&numbers);
+        }
+    };
+    let numbered = || {
+        for p in packets {
+            black_box(parse(black_box(p), &mut numbers2));
+            black_box(&numbers2);
+        }
+    };
+    let own = || {
+        for p in packets {
+            black_box(&parse_own(black_box(p)));
+        }
+    };
+    let count = packets.len() as u64;
+    row(
+        &format!("parse {name}"),
+        measure(count, &mut have, numbered),
+    );
+    row(
+        &format!("parse {name}, own value"),
+        measure(count, have, own),
+    );
+}
+
+/// From the same numbers, and from the second program's own value.
+fn writes(name: &str, packets: &[Packet]) {
+    let numbers: Vec<[u8; 32]> = packets.iter().map(other::numbers_of).collect();
+    let (mut out, mut out2, mut out3) = ([0; 24], [0; 24], [0; 24]);
+    let mut have = || {
+        for n in &numbers {
+            black_box(proved::write(black_box(n), &mut out));
+            black_box(&out);
+        }
+    };
+    let numbered = || {
+        for n in &numbers {
+            black_box(write(black_box(n), &mut out2));
+            black_box(&out2);
+        }
+    };
+    let own = || {
+        for p in packets {
+            write_own(black_box(p), &mut out3);
+            black_box(&out3);
+        }
+    };
+    let count = packets.len() as u64;
+    row(
+        &format!("write {name}"),
+        measure(count, &mut have, numbered),
+    );
+    row(
+        &format!("write {name}, own value"),
+        measure(count, have, own),
+    );
+}
+
+fn packets(random: &mut Random) {
+    let made: Vec<Vec<Packet>> = (1..=6)
+        .map(|kind| {
+            (0..INPUTS)
+                .map(|_| inputs::packet_of_kind(random, kind))
+                .collect()
+        })
+        .collect();
+    for (name, packets) in KINDS.iter().zip(&made) {
+        let bytes: Vec<Vec<u8>> = packets.iter().map(write_packet).collect();
+        parses(name, &bytes);
+    }
+    let damaged: Vec<Vec<u8>> = (0..INPUTS)
+        .map(|i| {
+            let mut bytes = write_packet(&made[i % 6][i]);
+            bytes[random.below(4) as usize] = 200;
+            bytes
+        })
+        .collect();
+    parses("a damaged packet", &damaged);
+    for (name, packets) in KINDS.iter().zip(&made) {
+        writes(name, packets);
+    }
+}
+
+fn rules(random: &mut Random) {
+    for (op, name) in (0..).zip(OPS) {
+        let commands: Vec<_> = (0..INPUTS)
+            .map(|_| {
+                let e = inputs::entry(random);
+                let (least, greatest) = ARGUMENTS[usize::from(op)];
+                let argument = inputs::signed(random).clamp(least, greatest);
+                let value = inputs::within(random, (e.low, e.high));
+                let range = (e.low, e.high, e.fallback);
+                (range, argument, value, random.below(2) as u8)
+            })
+            .collect();
+        let times = measure(
+            INPUTS as u64,
+            || {
+                for &(range, argument, value, quality) in &commands {
+                    black_box(proved::rule(black_box(range), op, argument, value, quality));
+                }
+            },
+            || {
+                for &(range, argument, value, quality) in &commands {
+                    black_box(rule(black_box(range), op, argument, value, quality));
+                }
+            },
+        );
+        row(&format!("rule {name}"), times);
+    }
+}
+
+fn plans(random: &mut Random) {
+    let plan = write_plan(&inputs::plan(random));
+    let times = measure(
+        1,
+        || {
+            black_box(proved::plan_ok(black_box(&plan)));
+        },
+        || {
+            black_box(plan_ok(black_box(&plan)));
+        },
+    );
+    row("plan", times);
+}
+
+fn images(random: &mut Random) {
+    let range = (-100, 1000);
+    let plan = other::range_plan(range);
+    let full = inputs::image(random, Tables::Full, range);
+    let empty = loop {
+        let bytes = inputs::image(random, Tables::Small, range);
+        if bytes.len() == 48 {
+            break bytes;
+        }
+    };
+    for (name, bytes, entries) in [
+        ("image, empty", &empty, 1),
+        ("image, per entry of 512", &full, 512),
+    ] {
+        let times = measure(
+            entries,
+            || {
+                black_box(proved::image(black_box(bytes), range));
+            },
+            || {
+                black_box(image(black_box(bytes), &plan));
+            },
+        );
+        row(name, times);
+        let (mut out, mut out2) = (vec![0; bytes.len()], vec![0; bytes.len()]);
+        let times = measure(
+            entries,
+            || {
+                black_box(proved::image_copy(black_box(bytes), &mut out));
+                black_box(&out);
+            },
+            || {
+                black_box(image_copy(black_box(bytes), &mut out2));
+                black_box(&out2);
+            },
+        );
+        row(&format!("{name}, and written"), times);
+    }
+}
+
+#[inline(never)]
+fn record(log: &[u8], at: u64, out: &mut [u8]) -> u64 {
+    other::record(log, at, out)
+}
+
+#[inline(never)]
+fn record_own(log: &[u8], at: usize) -> Parsed<'_> {
+    parse_record(log, at)
+}
+
+/// A log of many records of one kind, each read at its place. The second
+/// program's own value of a take has its image untested, so it is left out.
+fn records(random: &mut Random) {
+    for (kind, name) in (1..).zip(["executed", "gone", "give", "take", "release"]) {
+        let (mut log, mut places) = (vec![0; 8], Vec::new());
+        for _ in 0..INPUTS {
+            places.push(log.len() as u64);
+            log.extend(inputs::record(random, kind));
+        }
+        let (mut out, mut out2) = ([0; 44], [0; 44]);
+        let mut have = || {
+            for &at in &places {
+                black_box(proved::record(black_box(&log), at, &mut out));
+                black_box(&out);
+            }
+        };
+        let numbered = || {
+            for &at in &places {
+                black_box(record(black_box(&log), at, &mut out2));
+                black_box(&out2);
+            }
+        };
+        let own = || {
+            for &at in &places {
+                black_box(&record_own(black_box(&log), at as usize));
+            }
+        };
+        let count = INPUTS as u64;
+        row(
+            &format!("record {name}"),
+            measure(count, &mut have, numbered),
+        );
+        if kind != 4 {
+            row(
+                &format!("record {name}, own value"),
+                measure(count, have, own),
+            );
+        }
+    }
+}
+
+/// Packets of the client: its answers by value on both sides.
+fn clients() {
+    let grant = write_grant(&Grant {
+        client: 7,
+        lease_end: 1000,
+    });
+    let started = proved::Client::start(&grant).client;
+    let started2 = Client::start(&grant).expect("a grant");
+    let result = |call| {
+        write_result(&Reply {
+            outcome: 0,
+            point: 5,
+            quality: 0,
+            client: 7,
+            call,
+            value: 40,
+        })
+    };
+    let results: Vec<[u8; 16]> = (1..=16).map(result).collect();
+    let (mut client, mut client2) = (started, started2.clone());
+    let times = measure(
+        16,
+        || {
+            client = started;
+            for _ in 0..16 {
+                black_box(client.issue(black_box(1), 5, 40));
+            }
+            black_box(&client);
+        },
+        || {
+            client2.clone_from(&started2);
+            for _ in 0..16 {
+                black_box(issue(&mut client2, black_box(1), 5, 40));
+            }
+            black_box(&client2);
+        },
+    );
+    row("client: issue", times);
+    let (mut busy, mut busy2) = (client, client2.clone());
+    let times = measure(
+        16,
+        || {
+            for call in 1..=16 {
+                black_box(client.resend(black_box(call)));
+            }
+        },
+        || {
+            for call in 1..=16 {
+                black_box(resend(&client2, black_box(call)));
+            }
+        },
+    );
+    row("client: resend", times);
+    let times = measure(
+        16,
+        || {
+            busy = client;
+            for r in &results {
+                black_box(busy.receive(black_box(r)));
+            }
+            black_box(&busy);
+        },
+        || {
+            busy2.clone_from(&client2);
+            for r in &results {
+                let _ = black_box(receive(&mut busy2, black_box(r)));
+            }
+            black_box(&busy2);
+        },
+    );
+    row("client: receive a result", times);
+}
+
+#[inline(never)]
+fn issue(client: &mut Client, op: u32, point: u32, argument: i32) -> proved::SendReply {
+    other::sent(client.issue(op, point, argument))
+}
+
+#[inline(never)]
+fn resend(client: &Client, call: u32) -> proved::SendReply {
+    other::sent(client.resend(call))
+}
+
+#[inline(never)]
+fn receive(client: &mut Client, packet: &[u8]) -> Result<second::desk::Received, u32> {
+    client.receive(packet)
+}
+
+#[inline(never)]
+fn open(manager: &mut LeaseManager, time: u32, span: u32) -> (u32, u32, [u8; 12]) {
+    other::told(manager.open(time, span))
+}
+
+#[inline(never)]
+fn renew(manager: &mut LeaseManager, client: u32, time: u32, span: u32) -> (u32, u32, [u8; 12]) {
+    other::told(manager.renew(client, time, span))
+}
+
+#[inline(never)]
+fn query(manager: &mut LeaseManager, client: u32, time: u32) -> (u32, u32, [u8; 12]) {
+    other::told(manager.query(client, time))
+}
+
+/// 32 leases are opened, renewed and queried.
+fn leases() {
+    let new = proved::LeaseManager::new();
+    let new2 = LeaseManager::new();
+    let (mut manager, mut manager2) = (new, new2.clone());
+    let times = measure(
+        32,
+        || {
+            manager = new;
+            for time in 1..=32 {
+                let reply = manager.open(black_box(time), 1000);
+                manager = reply.manager;
+                black_box(reply.packet);
+            }
+        },
+        || {
+            manager2.clone_from(&new2);
+            for time in 1..=32 {
+                black_box(open(&mut manager2, black_box(time), 1000));
+            }
+        },
+    );
+    row("lease manager: open", times);
+    let times = measure(
+        32,
+        || {
+            for client in 1..=32 {
+                let reply = manager.renew(black_box(client), 40, 1000);
+                manager = reply.manager;
+                black_box(reply.packet);
+            }
+        },
+        || {
+            for client in 1..=32 {
+                black_box(renew(&mut manager2, black_box(client), 40, 1000));
+            }
+        },
+    );
+    row("lease manager: renew", times);
+    let times = measure(
+        32,
+        || {
+            for client in 1..=32 {
+                let reply = manager.query(black_box(client), 40);
+                manager = reply.manager;
+                black_box(reply.packet);
+            }
+        },
+        || {
+            for client in 1..=32 {
+                black_box(query(&mut manager2, black_box(client), 40));
+            }
+        },
+    );
+    row("lease manager: query", times);
+}
+
+fn main() {
+    let mut random = Random::new(1);
+    println!("nanoseconds per call, best of {ROUNDS} rounds");
+    println!("{:<34} {:>9} {:>9} {:>7}", "", "proved", "second", "ratio");
+    packets(&mut random);
+    rules(&mut random);
+    plans(&mut random);
+    images(&mut random);
+    records(&mut random);
+    clients();
+    leases();
+}

@@ -1,0 +1,11 @@
+//! The proved code and the second program, side by side: the same functions
+//! over the same bytes and numbers.
+//!
+//! `proved` calls the static libraries of the proved crates, `other` the second
+//! program. `inputs` makes random, damaged and well-formed bytes, `tally`
+//! counts what a test met.
+
+pub mod inputs;
+pub mod other;
+pub mod proved;
+pub mod tally;

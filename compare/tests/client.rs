@@ -1,0 +1,246 @@
+//! The client: random sequences of calls, the same answers, packets and fields
+//! after every step.
+
+use compare::inputs;
+use compare::tally::{runs, seed, Tally};
+use compare::{other, proved};
+use second::answer::UNKNOWN;
+use second::desk::Client;
+use second::packet::{parse_packet, write_grant, write_packet, Grant, Packet};
+use second::random::Random;
+
+const CLASSES: [&str; 23] = [
+    "start",
+    "start: 1",
+    "issue",
+    "issue: 1, op",
+    "issue: 1, point",
+    "issue: 1, argument",
+    "issue: 15",
+    "issue: 16",
+    "resend",
+    "resend: 17, not yet issued",
+    "resend: 17, closed",
+    "resend: 17, call 0",
+    "receive: a result",
+    "receive: a refusal",
+    "receive: a later lease end",
+    "receive: the same lease end",
+    "receive: 1, malformed",
+    "receive: 1, request, receipt or notice",
+    "receive: 17, other client",
+    "receive: 17, not yet issued",
+    "receive: 17, closed",
+    "receive: 17, other point",
+    "receive: 17, earlier lease end",
+];
+
+/// A client of both programs.
+struct Pair {
+    have: proved::Client,
+    want: Client,
+}
+
+impl Pair {
+    /// Started by the same grant; some near their last numbers.
+    fn start(random: &mut Random, tally: &mut Tally) -> Pair {
+        loop {
+            let grant = Grant {
+                client: inputs::at_least_1(random),
+                lease_end: inputs::number(random),
+            };
+            let mut packet = write_grant(&grant).to_vec();
+            if random.chance(30) {
+                let kind = 1 + random.below(6);
+                packet = write_packet(&inputs::packet_of_kind(random, kind));
+                inputs::damage(random, &mut packet);
+            }
+            let reply = proved::Client::start(&packet);
+            let (client, number) = other::start(&packet);
+            assert_eq!(reply.number, number, "start {packet:02x?}");
+            let Some(want) = client else {
+                tally.meet("start: 1");
+                continue;
+            };
+            tally.meet("start");
+            let mut pair = Pair {
+                have: reply.client,
+                want,
+            };
+            pair.compare("start");
+            if random.chance(20) {
+                pair.skip_to(u32::MAX - random.below(40));
+            }
+            return pair;
+        }
+    }
+
+    /// As if all calls below `next` had been issued and closed.
+    fn skip_to(&mut self, next: u32) {
+        self.have.next = next;
+        self.want.next = next;
+        self.want.first = next;
+    }
+
+    fn compare(&self, step: &str) {
+        assert_eq!(self.have, other::client_fields(&self.want), "{step}");
+        let calls = self.have.calls.iter().map(|c| c.call);
+        let first = calls.filter(|&c| c != 0).min();
+        assert_eq!(self.want.first, first.unwrap_or(self.have.next), "{step}");
+    }
+
+    /// Often an open call, else one near them.
+    fn call(&self, random: &mut Random) -> u32 {
+        let (first, next) = (self.want.first, self.want.next);
+        match random.below(12) {
+            0 => 0,
+            1 => next.saturating_add(random.below(3)),
+            2 => first.saturating_sub(1 + random.below(20)),
+            3 => inputs::number(random),
+            _ if first < next => first + random.below(next - first),
+            _ => next,
+        }
+    }
+
+    fn issue(&mut self, random: &mut Random, tally: &mut Tally) {
+        let (op, argument) = inputs::op_argument(random);
+        let (mut op, mut argument) = (op as u32, argument);
+        let mut point = random.below(64);
+        match random.below(30) {
+            0 => op = 6 + random.below(600),
+            1 => point = 64 + random.below(600),
+            2 => argument = inputs::signed(random),
+            3 => (op, point) = (inputs::number(random), inputs::number(random)),
+            _ => {}
+        }
+        let have = self.have.issue(op, point, argument);
+        let want = other::sent(self.want.issue(op, point, argument));
+        assert_eq!(have, want, "issue {op} {point} {argument}");
+        tally.meet(match have.number {
+            0 => "issue",
+            15 => "issue: 15",
+            16 => "issue: 16",
+            _ if op > 5 => "issue: 1, op",
+            _ if point > 63 => "issue: 1, point",
+            _ => "issue: 1, argument",
+        });
+    }
+
+    fn resend(&mut self, random: &mut Random, tally: &mut Tally) {
+        let call = self.call(random);
+        let have = self.have.resend(call);
+        let want = other::sent(self.want.resend(call));
+        assert_eq!(have, want, "resend {call}");
+        tally.meet(match have.number {
+            0 => "resend",
+            _ if call == 0 => "resend: 17, call 0",
+            _ if call >= self.want.next => "resend: 17, not yet issued",
+            _ => "resend: 17, closed",
+        });
+    }
+
+    /// A packet to this client, or a hostile one.
+    fn packet(&self, random: &mut Random, bytes: &mut Vec<u8>) {
+        let client = match random.below(20) {
+            0 => inputs::at_least_1(random),
+            _ => self.want.client,
+        };
+        let call = self.call(random);
+        let point = match self.want.open_call(call) {
+            Some(open) if random.chance(95) => open.point,
+            _ => random.below(64) as u8,
+        };
+        let kind = match random.below(20) {
+            0 => 1 + random.below(6),
+            1..=5 => 3,
+            6..=9 => 6,
+            _ => 2,
+        };
+        let mut packet = inputs::packet_of_kind(random, kind);
+        match &mut packet {
+            Packet::Request(p) => p.client = client,
+            Packet::Result(p) => (p.client, p.call, p.point) = (client, call, point),
+            Packet::Refusal(p) => (p.client, p.call, p.point) = (client, call, point),
+            Packet::Receipt(p) => p.point = point,
+            Packet::Notice(p) => p.client = client,
+            Packet::Grant(p) => {
+                p.client = client;
+                p.lease_end = match random.below(4) {
+                    0 => self.want.lease_end,
+                    1 => self.want.lease_end.saturating_sub(random.below(3)),
+                    2 => self.want.lease_end.saturating_add(random.below(1000)),
+                    _ => p.lease_end,
+                };
+            }
+        }
+        *bytes = write_packet(&packet);
+        match random.below(20) {
+            0 | 1 => inputs::damage(random, bytes),
+            2 => inputs::string(random, 30, bytes),
+            _ => {}
+        }
+    }
+
+    fn receive(&mut self, random: &mut Random, tally: &mut Tally, bytes: &mut Vec<u8>) {
+        self.packet(random, bytes);
+        let before = self.want.clone();
+        let have = self.have.receive(bytes);
+        let want = other::receive(&mut self.want, bytes);
+        assert_eq!(have, want, "receive {bytes:02x?} at {before:?}");
+        tally.meet(match (have.kind, parse_packet(bytes)) {
+            (2, _) => "receive: a result",
+            (3, _) => "receive: a refusal",
+            (6, _) if have.lease > before.lease_end => "receive: a later lease end",
+            (6, _) => "receive: the same lease end",
+            (_, None) => "receive: 1, malformed",
+            (_, Some(packet)) => refusal_class(&before, have.number, &packet),
+        });
+    }
+}
+
+fn refusal_class(client: &Client, number: u32, packet: &Packet) -> &'static str {
+    let (to, call) = match packet {
+        Packet::Result(p) => (p.client, p.call),
+        Packet::Refusal(p) => (p.client, p.call),
+        Packet::Grant(p) if p.client == client.client => return "receive: 17, earlier lease end",
+        Packet::Grant(p) => (p.client, 1),
+        _ => return "receive: 1, request, receipt or notice",
+    };
+    assert_eq!(number, UNKNOWN);
+    match client.open_call(call) {
+        _ if to != client.client => "receive: 17, other client",
+        Some(_) => "receive: 17, other point",
+        None if call >= client.next => "receive: 17, not yet issued",
+        None => "receive: 17, closed",
+    }
+}
+
+#[test]
+fn client() {
+    let mut random = Random::new(seed());
+    let mut tally = Tally::new("client", &CLASSES);
+    let mut pair = Pair::start(&mut random, &mut tally);
+    let mut bytes = Vec::new();
+    for _ in 0..runs() {
+        let step = match random.below(100) {
+            0..=37 => {
+                pair.issue(&mut random, &mut tally);
+                "issue"
+            }
+            38..=50 => {
+                pair.resend(&mut random, &mut tally);
+                "resend"
+            }
+            51..=98 => {
+                pair.receive(&mut random, &mut tally, &mut bytes);
+                "receive"
+            }
+            _ => {
+                pair = Pair::start(&mut random, &mut tally);
+                "start"
+            }
+        };
+        pair.compare(step);
+    }
+    tally.finish();
+}
