@@ -1,5 +1,5 @@
 //! The proved code, from its static libraries. Structs and functions are those
-//! of include/mantelorris_client.h and of the crates' exported functions.
+//! of include/mantelorris_client.h and of the crate test_c.
 
 use second::record::Record;
 
@@ -124,10 +124,6 @@ mod c {
             out: *mut u8,
             out_len: usize,
         ) -> u64;
-    }
-
-    // the same library
-    extern "C" {
         pub fn mantelorris_test_record(
             log: *const u8,
             log_len: usize,
