@@ -16,8 +16,9 @@ use Rattle.model.specs.Choice.{pick}
 use Rattle.protocol.specs.Servers.{Plan, Execution, Entry, LogRecord, replay}
 use Rattle.protocol.specs.Servers as S
 use Rattle.protocol.specs.World.{World, Event, run, stateOf, issued, received}
-use Rattle.protocol.specs.Explains.{Holder, Once, final}
-use Rattle.protocol.specs.Explains as E
+use Rattle.claim.specs.Claim.{Once}
+use Rattle.claim.specs.Claim as Claim
+use Rattle.protocol.specs.Explains.{Holder, final}
 use Rattle.protocol.proofs.Basics.{impossible, eqb-same}
 use Rattle.protocol.proofs.Invert.{Written}
 use Rattle.protocol.proofs.Invert as I
@@ -124,8 +125,8 @@ module _ (plan : Plan) (es : List Event) where
       go ih false x (inr j) = ih j
 
   once-last : (xs : List Marked) (c : Marked) → Once xs → ((d : Marked) → List·Memᴰ d xs → d .command .client ≡ c .command .client → d .command .call ≡ c .command .call → ⊥) → Once (xs ++ (c ∷ []))
-  once-last [] c E.none-left f = E.one-more (λ d m. absurd (List·Memᴰ·not-nil m)) E.none-left
-  once-last (x ∷ xs) c (E.one-more g o) f = E.one-more (λ d m. either d (List·Memᴰ·append-cases xs m)) (once-last xs c o (λ d m. f d (List·Memᴰ·tail m)))
+  once-last [] c Claim.none-left f = Claim.one-more (λ d m. absurd (List·Memᴰ·not-nil m)) Claim.none-left
+  once-last (x ∷ xs) c (Claim.one-more g o) f = Claim.one-more (λ d m. either d (List·Memᴰ·append-cases xs m)) (once-last xs c o (λ d m. f d (List·Memᴰ·tail m)))
     where
       either : (d : Marked) → List·Memᴰ d xs ⊎ List·Memᴰ d (c ∷ []) → d .command .client ≡ x .command .client → d .command .call ≡ x .command .call → ⊥
       either d (inl m) a b = g d m a b
@@ -142,7 +143,7 @@ module _ (plan : Plan) (es : List Event) where
 
   once-all : (l : List Execution) → ((p : ℕ) → Past plan p (only p l)) → ((d : Execution) → List·Memᴰ d l → Saw (w .seen) (issued (d .cmd))) → Once (ordered l)
   unfolding ordered
-  once-all [] g iss = E.none-left
+  once-all [] g iss = Claim.none-left
   once-all (d ∷ ds) g iss = once-last (ordered ds) (marked d) (once-all ds (rest g) (λ e m. iss e (List·Memᴰ·tail m))) (λ k m a b. no-twin k a b (ordered-out ds k m))
     where
       rest : ((p : ℕ) → Past plan p (only p (d ∷ ds))) → (p : ℕ) → Past plan p (only p ds)

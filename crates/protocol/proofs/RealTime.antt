@@ -27,8 +27,9 @@ use Rattle.protocol.specs.Servers.{Plan, Execution, Entry}
 use Rattle.protocol.specs.Servers as S
 use Rattle.protocol.specs.World.{World, Event, issued, received, run, packet, deliver, commandAt, asReceive, receiveResult, seeing, withClient, tick, change, step}
 use Rattle.protocol.specs.World as W
-use Rattle.protocol.specs.Explains.{after, final, Before, Issues, Completes, SurvivesAt, Explained}
-use Rattle.protocol.specs.Explains as E
+use Rattle.claim.specs.Claim.{Before}
+use Rattle.claim.specs.Claim as Claim
+use Rattle.protocol.specs.Explains.{after, final, Issues, Completes, SurvivesAt, Explained}
 use Rattle.protocol.proofs.Memory.{on-point, Same, Past, begun, more}
 use Rattle.protocol.proofs.Logs.{Tail, Tail-trans, Tail-mem, Legit-tail}
 use Rattle.protocol.proofs.Events.{Source, packet-made, point-small}
@@ -101,12 +102,12 @@ module _ (plan : Plan) (es : List Event) where
       end (y ∷ ys) = List·Memᴰ·tail (end ys)
 
       go : (List·Memᴰ k xs → Before k l (xs ++ (l ∷ []))) → (k ≡ x) ⊎ List·Memᴰ k xs → Before k l (x ∷ (xs ++ (l ∷ [])))
-      go ih (inl e) = subst (λ (z : Marked). Before k l (z ∷ (xs ++ (l ∷ [])))) e (E.first (end xs))
-      go ih (inr j) = E.later (ih j)
+      go ih (inl e) = subst (λ (z : Marked). Before k l (z ∷ (xs ++ (l ∷ [])))) e (Claim.first (end xs))
+      go ih (inr j) = Claim.later (ih j)
 
   before-more : (k l : Marked) (xs ys : List Marked) → Before k l xs → Before k l (xs ++ ys)
-  before-more k l xs ys (E.first m) = E.first (Memᴰ·append-left ys m)
-  before-more k l xs ys (E.later b) = E.later (before-more k l _ ys b)
+  before-more k l xs ys (Claim.first m) = Claim.first (Memᴰ·append-left ys m)
+  before-more k l xs ys (Claim.later b) = Claim.later (before-more k l _ ys b)
 
   by-time : (x y : Execution) (ls : List Execution) → Falls ls → List·Memᴰ x ls → List·Memᴰ y ls → x .at < y .at → Before (marked x) (marked y) (ordered ls)
   unfolding ordered

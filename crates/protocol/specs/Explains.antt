@@ -5,7 +5,7 @@
 use Prim.Native.Nat.{ℕ, suc, _≤_, _<_}
 use mathlib.Core.Path.{_≡_}
 use mathlib.Core.Bool.{Bool, true}
-use mathlib.Core.List.{List, [], _∷_, List·Memᴰ}
+use mathlib.Core.List.{List}
 use mathlib.Core.Logic.{_↔_}
 use mathlib.Core.Option.{some}
 use lib.ListN.{length, take, getElem?}
@@ -18,25 +18,11 @@ use Rattle.model.specs.Plan.{entryAt}
 use Rattle.model.specs.Packets.{commandOf}
 use Rattle.model.specs.Clients.{isOwn, issueOf}
 use Rattle.model.specs.Sequential.{Version, today, Marked, ResultZ, opened, bookAfter, Answers}
+use Rattle.claim.specs.Claim.{_∈_, Once, Before}
 use Rattle.protocol.specs.Servers.{Plan}
 use Rattle.protocol.specs.Servers as S
 use Rattle.protocol.specs.World.{World, Event, run, stateOf, packet, commandAt}
 use Rattle.protocol.specs.World as W
-
-abbrev pub _∈_ {ℓ} : {A : Type ℓ} → A → List A → Type ℓ
-_∈_ a l = List·Memᴰ a l
-
-infix 20 _∈_
--- no id stands twice
-pub data Once : List Marked → Type 0 where
-  none-left : Once []
-  one-more : {m : Marked} {ms : List Marked}
-      → ((o : Marked) → o ∈ ms → o .command .client ≡ m .command .client → o .command .call ≡ m .command .call → ⊥) → Once ms → Once (m ∷ ms)
-
--- a stands before b
-pub data Before (a b : Marked) : List Marked → Type 0 where
-  first : {ms : List Marked} → b ∈ ms → Before a b (a ∷ ms)
-  later : {m : Marked} {ms : List Marked} → Before a b ms → Before a b (m ∷ ms)
 
 -- the rules in force at event n
 unfoldable pub versionAt : ℕ → Version

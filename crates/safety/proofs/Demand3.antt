@@ -30,7 +30,6 @@ use Rattle.sim_bytes.proofs.Starts.{recovered-kept}
 use Rattle.safety.specs.Follows.{Follows}
 use Rattle.safety.specs.Given.{Given}
 use Rattle.safety.proofs.Runs.{allowed, follows-run, empty-like, empty-parties, same-length}
-use Rattle.safety.proofs.Lists.{once-said, before-said}
 use Rattle.safety.proofs.Final.{given-like, given-of}
 use Rattle.safety.proofs.Events.{like, issues-there, completes-there}
 use Rattle.safety.proofs.Survive.{survives-there, survives-here}
@@ -101,15 +100,15 @@ module _ (plan : List ℕ) (es : List Event) (is : List Abstract.Event) (F : Fol
   pub explains-here : (order : List Marked) → X.Explains (planOf plan) is order → Explains plan es order
   explains-here order E =
       record {
-        once = once-said (E .once);
+        once = E .once;
         survivors = λ m. (λ s. E .survivors m .0 (survivor-there m s), λ i. survivor-here m (E .survivors m .1 i));
         results = λ n k r c. E .results n k _ (completes-there plan es is F n k r c);
         values = λ p c st h H. sym (same-point c p st h (H .founded) .value) ∙ E .values p c h (holder-there p c st h H);
-        real-time = λ m n a b r c i h x y. before-said (E .real-time m n a b _ (completes-there plan es is F m (a .command) r c) (issues-there plan es is F n (b .command) i) h x y);
+        real-time = λ m n a b r c i h x y. E .real-time m n a b _ (completes-there plan es is F m (a .command) r c) (issues-there plan es is F n (b .command) i) h x y;
         completed = λ n k r c. E .completed n k _ (completes-there plan es is F n k r c);
         sequence =
             λ m n a b s t h e x y.
-            before-said (E .sequence m n a b (survives-there plan es is F m (a .command) s) (survives-there plan es is F n (b .command) t) h e x y);
+            E .sequence m n a b (survives-there plan es is F m (a .command) s) (survives-there plan es is F n (b .command) t) h e x y;
         recovers = recovers-end;
       }
 

@@ -1,5 +1,4 @@
 pub mod Runs
-pub mod Lists
 pub mod Final
 pub mod Events
 pub mod Survive
