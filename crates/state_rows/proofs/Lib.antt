@@ -1,0 +1,2 @@
+-- Laws that the proofs of `state_rows` cite.
+pub mod Rows

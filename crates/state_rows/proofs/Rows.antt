@@ -1,0 +1,76 @@
+-- Rows of a state's tables, at their places.
+--     point-drop, completion-drop     the fields of a row at a place
+--     point-runs, completion-runs     the stores of a row's fields, one after the other
+-- Assumes nothing.
+use Prim.Native.Nat.{ℕ, _+_}
+use mathlib.Core.Path.{_≡_, refl, sym, ap, _∙_}
+use mathlib.Core.List.{List, _++_}
+use native.Mathlib.Nat.{add-zero}
+use lib.ListN.{length, drop, getD}
+use lib.Seq.{getD-drop}
+use Rattle.model.specs.declared.Point.{Point}
+use Rattle.model.specs.declared.Completion.{Completion}
+use Rattle.model.specs.Numbers.{le32At, le64At, le32, le64, quad}
+use Rattle.model.specs.Tables.{written}
+use Rattle.model.specs.States.{pointOf, pointBytes, completionOf, completionBytes}
+use Rattle.laws.proofs.Numbers.{le32-drop, le64-drop}
+use Rattle.laws.proofs.Written.{written-append}
+
+-- ---- reads
+
+abbrev pub pointAtPlace : List ℕ → ℕ → Point
+pointAtPlace s k =
+    record { status = getD s k 0; quality = getD s (k + 1) 0; destination = getD s (k + 2) 0; value = le32At s (k + 4); number = le32At s (k + 8); taken = le32At s (k + 12); gave = le64At s (k + 16); took = le64At s (k + 24) }
+
+pub point-drop : (s : List ℕ) (k : ℕ) → pointOf (drop k s) ≡ pointAtPlace s k
+unfolding pointOf
+point-drop s k =
+    rw (getD-drop k s 0 0, getD-drop k s 1 0, getD-drop k s 2 0, le32-drop k s 4, le32-drop k s 8, le32-drop k s 12, le64-drop k s 16, le64-drop k s 24, add-zero)
+
+abbrev pub completionAtPlace : List ℕ → ℕ → Completion
+completionAtPlace s k =
+    record { client = le32At s k; call = le32At s (k + 4); argument = le32At s (k + 8); value = le32At s (k + 12); op = getD s (k + 16) 0; outcome = getD s (k + 17) 0; quality = getD s (k + 18) 0; point = getD s (k + 19) 0; end = le64At s (k + 20) }
+
+pub completion-drop : (s : List ℕ) (k : ℕ) → completionOf (drop k s) ≡ completionAtPlace s k
+unfolding completionOf
+completion-drop s k =
+    rw (le32-drop k s 0, le32-drop k s 4, le32-drop k s 8, le32-drop k s 12, getD-drop k s 16 0, getD-drop k s 17 0, getD-drop k s 18 0, getD-drop k s 19 0, le64-drop k s 20, add-zero)
+
+-- ---- stores
+
+-- a run behind a run
+behind : (s : List ℕ) (k : ℕ) (a b : List ℕ) {n j : ℕ} → length a ≡ n → j ≡ k + n → written (written s k a) j b ≡ written s k (a ++ b)
+behind s k a b p q = rw (q, ← p) (sym (written-append s k a b))
+
+pub point-runs : (s : List ℕ) (k : ℕ) (x : Point)
+    → written (written (written (written (written (written s k (quad (x .status) (x .quality) (x .destination) 0)) (k + 4) (le32 (x .value))) (k + 8) (le32 (x .number))) (k + 12) (le32 (x .taken))) (k + 16) (le64 (x .gave))) (k + 24) (le64 (x .took))
+    ≡ written s k (pointBytes x)
+unfolding pointBytes le64
+point-runs s k x =
+    let a : List ℕ = quad (x .status) (x .quality) (x .destination) 0 in
+    let b : List ℕ = a ++ le32 (x .value) in
+    let c : List ℕ = b ++ le32 (x .number) in
+    let d : List ℕ = c ++ le32 (x .taken) in
+    let e : List ℕ = d ++ le64 (x .gave) in
+    ap (λ (z : List ℕ). written (written (written (written z (k + 8) (le32 (x .number))) (k + 12) (le32 (x .taken))) (k + 16) (le64 (x .gave))) (k + 24) (le64 (x .took))) (behind s k a (le32 (x .value)) refl refl)
+    ∙ ap (λ (z : List ℕ). written (written (written z (k + 12) (le32 (x .taken))) (k + 16) (le64 (x .gave))) (k + 24) (le64 (x .took))) (behind s k b (le32 (x .number)) refl refl)
+    ∙ ap (λ (z : List ℕ). written (written z (k + 16) (le64 (x .gave))) (k + 24) (le64 (x .took))) (behind s k c (le32 (x .taken)) refl refl)
+    ∙ ap (λ (z : List ℕ). written z (k + 24) (le64 (x .took))) (behind s k d (le64 (x .gave)) refl refl)
+    ∙ behind s k e (le64 (x .took)) refl refl
+
+pub completion-runs : (s : List ℕ) (k : ℕ) (r : Completion)
+    → written (written (written (written (written (written s k (le32 (r .client))) (k + 4) (le32 (r .call))) (k + 8) (le32 (r .argument))) (k + 12) (le32 (r .value))) (k + 16) (quad (r .op) (r .outcome) (r .quality) (r .point))) (k + 20) (le64 (r .end))
+    ≡ written s k (completionBytes r)
+unfolding completionBytes le64
+completion-runs s k r =
+    let q : List ℕ = quad (r .op) (r .outcome) (r .quality) (r .point) in
+    let a : List ℕ = le32 (r .client) in
+    let b : List ℕ = a ++ le32 (r .call) in
+    let c : List ℕ = b ++ le32 (r .argument) in
+    let d : List ℕ = c ++ le32 (r .value) in
+    let e : List ℕ = d ++ q in
+    ap (λ (z : List ℕ). written (written (written (written z (k + 8) (le32 (r .argument))) (k + 12) (le32 (r .value))) (k + 16) q) (k + 20) (le64 (r .end))) (behind s k a (le32 (r .call)) refl refl)
+    ∙ ap (λ (z : List ℕ). written (written (written z (k + 12) (le32 (r .value))) (k + 16) q) (k + 20) (le64 (r .end))) (behind s k b (le32 (r .argument)) refl refl)
+    ∙ ap (λ (z : List ℕ). written (written z (k + 16) q) (k + 20) (le64 (r .end))) (behind s k c (le32 (r .value)) refl refl)
+    ∙ ap (λ (z : List ℕ). written z (k + 20) (le64 (r .end))) (behind s k d q refl refl)
+    ∙ behind s k e (le64 (r .end)) refl refl

@@ -1,0 +1,13 @@
+-- `state_rows::clients_in` meets its contract.
+-- Assumes nothing.
+use Rattle.model.specs.States.{clientsIn, recordsIn}
+use borrow.Author.Needs.{needs}
+use Rattle.state_rows.proofs.clients_in.Statement.{statement}
+use Rattle.state_rows.proofs.clients_in.Tie as tie
+
+returns : tie.Need-returns
+unfolding clientsIn recordsIn
+returns c = search needs
+
+pub clients-in-spec : {M : Type 1} → statement M
+clients-in-spec = tie.close (tie.spec (λ c κs. search needs) returns)

@@ -1,0 +1,32 @@
+-- `state_rows::completion_from` meets its contract.
+-- Assumes nothing.
+use Rattle.state_rows.proofs.Rows.{completion-drop}
+use borrow.Author.Needs.{needs}
+use Rattle.state_rows.proofs.completion_from.Statement.{statement}
+use Rattle.state_rows.proofs.completion_from.Tie as tie
+
+returns : tie.Need-returns
+returns c = let start = c .before .before .before .before .before .before .before .before .before .before .args in cc (completion-drop (start .s .now) (start .k))
+
+pub completion-from-spec : {M : Type 1} → statement M
+completion-from-spec =
+    tie.close
+    (tie.spec
+    (λ c κs. search needs)
+    (λ c. search needs)
+    (λ c κs. search needs)
+    (λ c. search needs)
+    (λ c κs. search needs)
+    (λ c. search needs)
+    (λ c κs. search needs)
+    (λ c. search needs)
+    (λ c. search needs)
+    (λ c. search needs)
+    (λ c. search needs)
+    (λ c. search needs)
+    (λ c. search needs)
+    (λ c. search needs)
+    (λ c. search needs)
+    (λ c. search needs)
+    (λ c κs. search needs)
+    returns)
