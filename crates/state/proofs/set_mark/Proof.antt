@@ -1,0 +1,15 @@
+-- `state::set_mark` meets its contract.
+-- Assumes nothing.
+use mathlib.Core.Path.{_∙_}
+use Rattle.state.proofs.Access.{mark-put}
+use borrow.Author.Needs.{needs}
+use Rattle.state.proofs.set_mark.Statement.{statement}
+use Rattle.state.proofs.set_mark.Tie as tie
+
+returns : tie.Need-returns
+returns c =
+    let start = c .before .before .before .before .before in
+    c .before .before .put-mark .ensures ∙ mark-put (start .args .s .now) (start .pre) (start .args .v)
+
+pub set-mark-spec : {M : Type 1} → statement M
+set-mark-spec = tie.close (tie.spec (λ c κs. search needs) (λ c. search needs) returns)
