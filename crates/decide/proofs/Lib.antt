@@ -1,0 +1,3 @@
+-- Laws that the proofs of `decide`, and of the operations, cite.
+pub mod Nots
+pub mod Decided

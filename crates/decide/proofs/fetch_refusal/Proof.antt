@@ -1,0 +1,19 @@
+-- `decide::fetch_refusal` meets its contract.
+-- Assumes nothing.
+use Rattle.decide.proofs.Nots.{yes-not, no-not}
+use Rattle.wire.proofs.Picks.{picks}
+use Rattle.decide.specs.Tests.{fetchRefusal}
+use borrow.Author.Needs.{needs}
+use Rattle.decide.proofs.fetch_refusal.Statement.{statement}
+use Rattle.decide.proofs.fetch_refusal.Tie as tie
+
+returns : tie.Need-returns
+unfolding fetchRefusal
+returns c = search (picks, yes-not, no-not) depth 24
+
+returns-2 : tie.Need-returns-2
+unfolding fetchRefusal
+returns-2 c = search (picks, yes-not, no-not) depth 24
+
+pub fetch-refusal-spec : {M : Type 1} → statement M
+fetch-refusal-spec = tie.close (tie.spec (λ c κs. search needs) returns returns-2)

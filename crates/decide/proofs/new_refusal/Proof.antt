@@ -1,0 +1,21 @@
+-- `decide::new_refusal` meets its contract.
+-- Assumes nothing.
+use Rattle.wire.proofs.Picks.{picks}
+use Rattle.decide.specs.Tests.{newRefusal}
+use Rattle.decide.proofs.new_refusal.Statement.{statement}
+use Rattle.decide.proofs.new_refusal.Tie as tie
+
+returns : tie.Need-returns
+unfolding newRefusal
+returns c = search picks depth 24
+
+returns-2 : tie.Need-returns-2
+unfolding newRefusal
+returns-2 c = search picks depth 24
+
+returns-3 : tie.Need-returns-3
+unfolding newRefusal
+returns-3 c = search picks depth 24
+
+pub new-refusal-spec : {M : Type 1} → statement M
+new-refusal-spec = tie.close (tie.spec returns returns-2 returns-3)

@@ -1,0 +1,21 @@
+-- `decide::notice_refusal` meets its contract.
+-- Assumes nothing.
+use Rattle.wire.proofs.Picks.{picks}
+use Rattle.decide.specs.Tests.{noticeRefusal}
+use Rattle.decide.proofs.notice_refusal.Statement.{statement}
+use Rattle.decide.proofs.notice_refusal.Tie as tie
+
+returns : tie.Need-returns
+unfolding noticeRefusal
+returns c = search picks depth 24
+
+returns-2 : tie.Need-returns-2
+unfolding noticeRefusal
+returns-2 c = search picks depth 24
+
+returns-3 : tie.Need-returns-3
+unfolding noticeRefusal
+returns-3 c = search picks depth 24
+
+pub notice-refusal-spec : {M : Type 1} → statement M
+notice-refusal-spec = tie.close (tie.spec returns returns-2 returns-3)

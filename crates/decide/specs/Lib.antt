@@ -1,0 +1,2 @@
+-- What the contracts of `decide` cite beside `model`.
+pub mod Tests
