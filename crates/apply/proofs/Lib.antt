@@ -1,0 +1,4 @@
+-- Laws that the proofs of `apply` cite.
+pub mod Composed
+pub mod Stages
+pub mod Gave

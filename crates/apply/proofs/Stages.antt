@@ -1,0 +1,85 @@
+-- The changes of one operation, one after the other.
+--     stage-start, stage-next           the first buffer; one more change
+--     stage-canonical, stage-load, stage-length     what holds of a buffer on the way
+--     raise-fits, merge-fits            floors in their widths
+-- Assumes nothing.
+use Prim.Native.Nat.{ℕ, zero, suc, _*_, _<_, _≤_, max}
+use mathlib.Core.Path.{_≡_, refl, sym, ap, _∙_, subst}
+use mathlib.Core.Bool.{Bool, true, false}
+use mathlib.Core.List.{List, [], _∷_}
+use native.Mathlib.Omega.{arith}
+use lib.ListN.{length, getD}
+use lib.Dec.{eqb, ltb, lit<}
+use Rattle.model.specs.declared.Floor.{Floor}
+use Rattle.model.specs.declared.Point.{Point}
+use Rattle.model.specs.declared.Give.{Give}
+use Rattle.model.specs.Choice.{pick}
+use Rattle.model.specs.Numbers.{word}
+use Rattle.model.specs.States.{State, load, stateEnd, pointAt, noPoint}
+use Rattle.model.specs.Operations.{stored}
+use Rattle.model.specs.Apply.{raise, mergeFloors, gavePoint}
+use Rattle.laws.specs.Bytes.{All}
+use Rattle.laws.specs.Fits.{StateFits, FloorFits, PointFits}
+use Rattle.state.specs.Canonical.{Canonical}
+use Rattle.state.proofs.Chains.{canonical-stored, load-stored, stored-stored, stored-same, length-stored}
+use Rattle.apply.specs.Stage.{Stage}
+
+pub stage-start : (s : List ℕ) → Canonical s → Stage s s (load s)
+stage-start s w = record { long = w .long; is = sym (stored-same s w); fits = w .fits }
+
+module _ {s now : List ℕ} {st : State} (g : Stage s now st) where
+  pub stage-load : load now ≡ st
+  stage-load = rw (g .is) (load-stored s (g .long) st (g .fits))
+
+  pub stage-canonical : Canonical now
+  stage-canonical = rw (g .is) (canonical-stored s (g .long) st (g .fits))
+
+  pub stage-length : length now ≡ length s
+  stage-length = rw (g .is) (length-stored s st)
+
+  pub stage-next : (f : State → State) {next : List ℕ} → next ≡ stored now (f (load now)) → StateFits (f st) → Stage s next (f st)
+  stage-next f {next} e h =
+      record {
+        long = g .long;
+        is = e ∙ ap (λ (x : State). stored now (f x)) stage-load ∙ ap (λ (x : List ℕ). stored x (f st)) (g .is) ∙ stored-stored s st (f st) (g .fits) h;
+        fits = h;
+      }
+
+-- ---- floors
+
+max-below : (a b k : ℕ) → a < k → b < k → max a b < k
+max-below a b k p q = omega arith
+
+pub raise-fits : (x n : ℕ) (fs : List Floor) → x < word → n < word → All FloorFits fs → All FloorFits (raise x n fs)
+unfolding raise
+raise-fits x n [] h k a = (record { client = h; floor = k }, tt)
+raise-fits x n (f ∷ fs) h k a = known (raise-fits x n fs h k (a .1)) (eqb (f .client) x)
+  where
+    above : All FloorFits (raise x n fs) → (t : Bool) → All FloorFits (pick t (record { client = x; floor = n } ∷ (f ∷ fs)) (f ∷ raise x n fs))
+    above rest true = (record { client = h; floor = k }, a)
+    above rest false = (a .0, rest)
+
+    known : All FloorFits (raise x n fs) → (t : Bool) → All FloorFits (pick t (record { client = x; floor = max (f .floor) n } ∷ fs) (pick (ltb x (f .client)) (record { client = x; floor = n } ∷ (f ∷ fs)) (f ∷ raise x n fs)))
+    known rest true = (record { client = h; floor = max-below (f .floor) n word (a .0 .floor) k }, a .1)
+    known rest false = above rest (ltb x (f .client))
+
+pub merge-fits : (gs fs : List Floor) → All FloorFits gs → All FloorFits fs → All FloorFits (mergeFloors gs fs)
+unfolding mergeFloors
+merge-fits [] fs a b = b
+merge-fits (g ∷ gs) fs a b = merge-fits gs (raise (g .client) (g .floor) fs) (a .1) (raise-fits (g .client) (g .floor) fs (a .0 .client) (a .0 .floor) b)
+
+-- ---- points
+
+point-at-fits : (xs : List Point) (p : ℕ) → All PointFits xs → PointFits (getD xs p noPoint)
+point-at-fits [] p a = record { status = lit< tt; quality = lit< tt; destination = lit< tt; value = lit< tt; number = lit< tt; taken = lit< tt; gave = lit< tt; took = lit< tt }
+point-at-fits (x ∷ xs) zero a = a .0
+point-at-fits (x ∷ xs) (suc p) a = point-at-fits xs p (a .1)
+
+pub point-fits : (st : State) (p : ℕ) → StateFits st → PointFits (pointAt st p)
+unfolding pointAt
+point-fits st p f = point-at-fits (st .points) p (f .points)
+
+pub gave-fits : (g : Give) (end : ℕ) (x : Point) → g .destination < 256 → g .number < word → end < word * word → PointFits x → PointFits (gavePoint g end x)
+unfolding gavePoint
+gave-fits g end x d n e f =
+    record { status = lit< tt; quality = f .quality; destination = d; value = f .value; number = n; taken = f .taken; gave = e; took = f .took }

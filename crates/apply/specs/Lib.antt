@@ -1,0 +1,2 @@
+-- What the laws of `apply` speak of.
+pub mod Stage
