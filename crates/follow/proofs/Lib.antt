@@ -1,0 +1,2 @@
+-- Laws that recovery cites.
+pub mod Follows

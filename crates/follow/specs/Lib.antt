@@ -1,0 +1,2 @@
+-- What the contracts of `follow` cite beside `model`.
+pub mod Tests
