@@ -40,7 +40,8 @@ pub enum Mark {
     Outside(bool),
 }
 
-/// Bytes that a crash keeps: from the mark to the length.
+/// Bytes that a crash keeps: from the mark to the length. Of a server that is
+/// crashed already, the length is what the last crash kept.
 #[derive(Clone, Copy, PartialEq, Eq, Debug)]
 pub enum Keep {
     Synced,
@@ -103,7 +104,17 @@ pub enum Call {
         at: Party,
         keep: Keep,
     },
+    /// A crash of a server that is not recovered since its last one.
+    CrashAgain {
+        at: Party,
+        keep: Keep,
+    },
+    /// After a crash, from the bytes kept.
     Recover {
+        at: Party,
+    },
+    /// Without a crash, from the log up to its recorded length.
+    RecoverRunning {
         at: Party,
     },
     Start {
@@ -174,6 +185,9 @@ pub fn generate(seed: u64) -> Schedule {
     }
     for _ in 0..16 + generator.random.below(40) {
         generator.sequence();
+    }
+    if generator.random.chance(12) {
+        generator.end_crashed();
     }
     generator.disturb();
     Schedule {
@@ -278,11 +292,13 @@ impl Generator {
 
     fn sequence(&mut self) {
         match self.random.below(100) {
-            0..=30 => self.command(),
-            31..=43 => self.late_request(),
-            44..=47 => self.resend(),
-            48..=50 => self.sync(),
-            51..=57 => self.crash(),
+            0..=28 => self.command(),
+            29..=41 => self.late_request(),
+            42..=45 => self.resend(),
+            46..=48 => self.sync(),
+            49..=53 => self.crash(),
+            54..=55 => self.crash_again(),
+            56..=57 => self.recover_running(),
             58..=67 => self.move_point(),
             68..=76 => self.carry_on_move(),
             77..=80 => self.finish_move(),
@@ -325,14 +341,24 @@ impl Generator {
     }
 
     fn command(&mut self) {
-        if self.issues == ISSUES_MAX {
-            return;
+        if self.issues < ISSUES_MAX {
+            self.new_request();
+            self.reply();
         }
+    }
+
+    /// A command that is not synced when its sequence goes on.
+    fn maybe_unsynced(&mut self, percent: u32) {
+        if self.random.chance(percent) && self.issues < ISSUES_MAX {
+            self.new_request();
+        }
+    }
+
+    fn new_request(&mut self) {
         self.issues += 1;
         let call = self.issue();
         self.add(call);
         self.send_latest(90);
-        self.reply();
     }
 
     fn issue(&mut self) -> Call {
@@ -357,13 +383,7 @@ impl Generator {
     fn reply(&mut self) {
         let at = Party::Apt;
         let latest = Which::Latest;
-        self.maybe(
-            75,
-            Call::Sync {
-                at,
-                mark: Mark::All,
-            },
-        );
+        self.sync_all(75);
         match self.random.chance(75) {
             true => self.maybe(90, Call::Request { at, packet: latest }),
             false => self.maybe(90, Call::Fetch { at, id: latest }),
@@ -408,18 +428,103 @@ impl Generator {
         self.add(Call::Sync { at, mark });
     }
 
-    fn crash(&mut self) {
-        let at = match self.random.chance(60) {
-            true => Party::Apt,
-            false => Party::Number(self.cabinet()),
+    /// Puts the mark at the log's end: by a sync, at times by a recovery
+    /// without a crash.
+    fn sync_all(&mut self, percent: u32) {
+        let at = Party::Apt;
+        let mark = Mark::All;
+        let call = match self.random.chance(95) {
+            true => Call::Sync { at, mark },
+            false => Call::RecoverRunning { at },
         };
-        let keep = match self.random.below(4) {
+        self.maybe(percent, call);
+    }
+
+    fn crash(&mut self) {
+        let at = self.party(60);
+        let keep = self.keep();
+        self.add(Call::Crash { at, keep });
+        self.maybe(90, Call::Recover { at: Party::Apt });
+    }
+
+    fn keep(&mut self) -> Keep {
+        match self.random.below(4) {
             0..=1 => Keep::Synced,
             2 => Keep::All,
             _ => Keep::Between(self.random.next_u32()),
-        };
+        }
+    }
+
+    /// Mostly more than the mark, if there is more.
+    fn keep_more(&mut self) -> Keep {
+        match self.random.chance(50) {
+            true => Keep::All,
+            false => Keep::Between(self.random.next_u32()),
+        }
+    }
+
+    /// Two crashes or more before the recovery; the first leaves the next
+    /// one something to remove.
+    fn crash_again(&mut self) {
+        self.maybe_unsynced(70);
+        self.maybe_unsynced(40);
+        let at = self.party(80);
+        let keep = self.keep_more();
         self.add(Call::Crash { at, keep });
-        self.maybe(90, Call::Recover { at: Party::Apt });
+        self.more_crashes();
+        self.maybe(75, Call::Recover { at: Party::Apt });
+    }
+
+    fn more_crashes(&mut self) {
+        let at = Party::Apt;
+        loop {
+            self.between_crashes();
+            let keep = self.keep();
+            self.add(Call::CrashAgain { at, keep });
+            if self.random.chance(65) {
+                return;
+            }
+        }
+    }
+
+    /// Nothing, a refused recovery, or calls at other servers.
+    fn between_crashes(&mut self) {
+        let call = Call::Recover { at: Party::Apt };
+        match self.random.below(10) {
+            0..=1 => self.steps.push(Step {
+                call,
+                flaw: Flaw::State,
+            }),
+            2 => self.late_request(),
+            3 => self.late_image(),
+            _ => {}
+        }
+    }
+
+    /// A recovery without a crash; a reply or a crash may follow.
+    fn recover_running(&mut self) {
+        self.maybe_unsynced(60);
+        let at = self.party(80);
+        self.add(Call::RecoverRunning { at });
+        if self.random.chance(50) {
+            self.reply();
+        }
+        if self.random.chance(30) {
+            self.crash();
+        }
+    }
+
+    /// One server or two crash and are not recovered before the list ends.
+    fn end_crashed(&mut self) {
+        self.maybe_unsynced(50);
+        for _ in 0..1 + self.random.below(2) {
+            let at = self.party(60);
+            let keep = self.keep();
+            self.add(Call::Crash { at, keep });
+        }
+        if self.random.chance(30) {
+            self.more_crashes();
+        }
     }
 
     fn move_point(&mut self) {
@@ -431,13 +536,7 @@ impl Generator {
             point,
             destination,
         });
-        self.maybe(
-            85,
-            Call::Sync {
-                at,
-                mark: Mark::All,
-            },
-        );
+        self.sync_all(85);
         self.add(Call::Image { at, point });
         if self.random.chance(20) {
             self.crash();
@@ -449,13 +548,7 @@ impl Generator {
                 image: Which::Latest,
             },
         );
-        self.maybe(
-            70,
-            Call::Sync {
-                at,
-                mark: Mark::All,
-            },
-        );
+        self.sync_all(70);
         if self.random.chance(30) {
             self.finish_move();
         }
@@ -467,13 +560,7 @@ impl Generator {
         let point = self.point();
         let at = Party::Apt;
         self.add(Call::Image { at, point });
-        self.maybe(
-            80,
-            Call::Sync {
-                at,
-                mark: Mark::All,
-            },
-        );
+        self.sync_all(80);
         self.add(Call::Image { at, point });
         let image = Which::Latest;
         self.add(Call::Take { at, image });

@@ -31,14 +31,37 @@ const DESK_PACKETS: &[u8] = &[RESULT, REFUSAL, GRANT];
 enum Phase {
     New,
     Running,
-    /// Crashed with the first bytes of the log kept.
-    Crashed(usize),
+    /// Crashed with the first `kept` bytes of the log; `mark` is the one
+    /// before the first crash since the server ran.
+    Crashed {
+        mark: u64,
+        kept: u64,
+    },
 }
 
 struct Cabinet {
     phase: Phase,
     server: Server,
     log: Vec<u8>,
+}
+
+impl Cabinet {
+    /// The bytes that its crashes have kept; none if it is not crashed.
+    fn kept(&self) -> Option<u64> {
+        match self.phase {
+            Phase::Crashed { kept, .. } => Some(kept),
+            _ => None,
+        }
+    }
+
+    /// What a crash may keep: from the mark to the length. A crashed one has
+    /// the mark from before and the length that was kept.
+    fn mark_and_length(&self) -> (u64, u64) {
+        match self.phase {
+            Phase::Crashed { mark, kept } => (mark, kept),
+            _ => (self.server.mark, self.server.length),
+        }
+    }
 }
 
 /// A request that executed a command: the log's length after it.
@@ -59,6 +82,14 @@ pub struct Counts {
     pub completed: u64,
     pub repeats: u64,
     pub crashes: u64,
+    /// Crashes of a server that was not recovered since its last one, and
+    /// the executions that they removed.
+    pub crashes_again: u64,
+    pub lost_again: u64,
+    /// Servers not recovered when the list ends.
+    pub left_crashed: u64,
+    /// Recoveries without a crash.
+    pub recovered_running: u64,
     pub takes: u64,
     pub releases: u64,
     pub gone: u64,
@@ -73,6 +104,10 @@ impl Counts {
         self.completed += other.completed;
         self.repeats += other.repeats;
         self.crashes += other.crashes;
+        self.crashes_again += other.crashes_again;
+        self.lost_again += other.lost_again;
+        self.left_crashed += other.left_crashed;
+        self.recovered_running += other.recovered_running;
         self.takes += other.takes;
         self.releases += other.releases;
         self.gone += other.gone;
@@ -103,6 +138,7 @@ pub fn run(schedule: &Schedule, options: Options) -> Run {
     for step in &schedule.steps {
         world.step(step);
     }
+    world.count_left_crashed();
     let result = check(&schedule.plan, &world.commands(), &world.finals());
     Run {
         result,
@@ -200,7 +236,9 @@ impl<'a> World<'a> {
             Call::Receipt { at, point } => self.receipt(at, point, flaw),
             Call::Release { at, packet } => self.release(at, packet, flaw),
             Call::Crash { at, keep } => self.crash(at, keep),
+            Call::CrashAgain { at, keep } => self.crash_again(at, keep),
             Call::Recover { at } => self.recover(at, flaw),
+            Call::RecoverRunning { at } => self.recover_running(at, flaw),
             Call::Start { packet } => self.start(packet),
             Call::Issue {
                 desk,
@@ -293,6 +331,16 @@ impl<'a> World<'a> {
             self.last = cabinet;
             cabinet
         })
+    }
+
+    /// The crashed cabinet meant and the bytes that it kept; none if it is
+    /// not crashed. Apt is the first crashed one.
+    fn crashed(&self, at: Party) -> Option<(usize, u64)> {
+        let is_crashed = |c: &Cabinet| c.kept().is_some();
+        let apt = self.cabinets.iter().position(is_crashed);
+        let cabinet = self.party(at, apt.unwrap_or(self.last));
+        let kept = self.cabinets[cabinet].kept()?;
+        Some((cabinet, kept))
     }
 
     fn party(&self, at: Party, apt: usize) -> usize {
@@ -564,57 +612,106 @@ impl<'a> World<'a> {
         });
     }
 
-    /// The state is lost; the log keeps its first bytes, from mark to length.
+    /// The cabinet may be running or crashed already.
     fn crash(&mut self, at: Party, keep: Keep) {
-        let Some(cabinet) = self.running(at, self.last) else {
-            return;
-        };
+        let cabinet = self.party(at, self.last);
+        if self.cabinets[cabinet].phase != Phase::New {
+            self.crash_at(cabinet, keep);
+        }
+    }
+
+    fn crash_again(&mut self, at: Party, keep: Keep) {
+        if let Some((cabinet, _)) = self.crashed(at) {
+            self.crash_at(cabinet, keep);
+        }
+    }
+
+    /// The state is lost; the log keeps its first bytes, from mark to length.
+    fn crash_at(&mut self, cabinet: usize, keep: Keep) {
         let c = &mut self.cabinets[cabinet];
-        let (from, to) = (c.server.mark, c.server.length);
+        let again = c.kept().is_some();
+        let (mark, length) = c.mark_and_length();
         let kept = match keep {
-            Keep::Synced => from,
-            Keep::All => to,
-            Keep::Between(n) => from + u64::from(n) % (to - from + 1),
+            Keep::Synced => mark,
+            Keep::All => length,
+            Keep::Between(n) => mark + u64::from(n) % (length - mark + 1),
         };
         c.log[kept as usize..].fill(FILL);
-        c.phase = Phase::Crashed(kept as usize);
+        c.phase = Phase::Crashed { mark, kept };
         c.server = Server::new();
         c.server.faults = self.options.faults;
+        self.last = cabinet;
+        let lost = self.lose(cabinet, kept);
+        self.counts.crashes += 1;
+        self.counts.lost += lost;
+        if again {
+            self.counts.crashes_again += 1;
+            self.counts.lost_again += lost;
+        }
+        self.note(|| format!("crash cabinet {cabinet}, {kept} of {length} bytes kept"));
+    }
+
+    /// The executions past the bytes kept do not survive; answers how many.
+    fn lose(&mut self, cabinet: usize, kept: u64) -> u64 {
+        let mut lost = 0;
         for e in &mut self.executions {
             if e.cabinet == cabinet && e.end > kept && e.survives {
                 e.survives = false;
-                self.counts.lost += 1;
+                lost += 1;
             }
         }
-        self.counts.crashes += 1;
-        self.note(|| format!("crash cabinet {cabinet}, {kept} of {to} bytes kept"));
+        lost
     }
 
-    /// Apt is a crashed cabinet.
     fn recover(&mut self, at: Party, flaw: Flaw) {
-        let crashed = |c: &Cabinet| matches!(c.phase, Phase::Crashed(_));
-        let apt = self.cabinets.iter().position(crashed).unwrap_or(self.last);
-        let cabinet = self.party(at, apt);
-        let Phase::Crashed(kept) = self.cabinets[cabinet].phase else {
+        if let Some((cabinet, kept)) = self.crashed(at) {
+            self.recover_from(cabinet, kept, flaw);
+        }
+    }
+
+    /// The state stays but for the mark.
+    fn recover_running(&mut self, at: Party, flaw: Flaw) {
+        let Some(cabinet) = self.running(at, self.last) else {
             return;
         };
+        let server = &self.cabinets[cabinet].server;
+        let length = server.length;
+        let expected = self.options.verify.then(|| Server {
+            mark: length,
+            ..server.clone()
+        });
+        if !self.recover_from(cabinet, length, flaw) {
+            return;
+        }
+        let server = &self.cabinets[cabinet].server;
+        assert!(
+            expected.is_none_or(|e| e == *server),
+            "a recovery without a crash leaves the state but for the mark"
+        );
+        self.counts.recovered_running += 1;
+    }
+
+    /// Recovers from the log's first bytes; false if it is refused.
+    fn recover_from(&mut self, cabinet: usize, kept: u64, flaw: Flaw) -> bool {
         let plan = self.plan;
         let flaw = match flaw {
             Flaw::State => Flaw::State,
             _ => Flaw::None,
         };
         let (answer, _) = self.call(cabinet, flaw, 0, |s, len, log, _| {
-            s.recover(len, &log[..kept], &plan)
+            s.recover(len, &log[..kept as usize], &plan)
         });
-        assert!(
-            answer.number == 0 || flaw == Flaw::State,
-            "a kept log recovers"
-        );
-        if answer.number == 0 {
+        let recovered = answer.number == 0;
+        assert!(recovered || flaw == Flaw::State, "a kept log recovers");
+        if recovered {
             self.cabinets[cabinet].phase = Phase::Running;
             self.last = cabinet;
         }
-        self.note(|| format!("recover cabinet {cabinet} -> {}", answer.number));
+        self.note(|| {
+            let number = answer.number;
+            format!("recover cabinet {cabinet} from {kept} bytes -> {number}")
+        });
+        recovered
     }
 
     // Calls at desks.
@@ -757,7 +854,18 @@ impl<'a> World<'a> {
         &self.cabinets[cabinet].log
     }
 
+    /// The bytes that the crashes of a cabinet not recovered have kept.
+    pub fn kept(&self, cabinet: usize) -> Option<&[u8]> {
+        let c = &self.cabinets[cabinet];
+        c.kept().map(|kept| &c.log[..kept as usize])
+    }
+
     // What the checker is given.
+
+    fn count_left_crashed(&mut self) {
+        let crashed = self.cabinets.iter().filter(|c| c.kept().is_some());
+        self.counts.left_crashed = crashed.count() as u64;
+    }
 
     /// The commands issued; one survives if an execution of it does.
     pub fn commands(&self) -> Vec<Command> {
@@ -789,10 +897,10 @@ impl<'a> World<'a> {
         match c.phase {
             Phase::New => None,
             Phase::Running => Some(c.server.clone()),
-            Phase::Crashed(kept) => {
+            Phase::Crashed { kept, .. } => {
                 let mut server = Server::new();
                 server.faults = self.options.faults;
-                let answer = server.recover(STATE_LEN, &c.log[..kept], &self.plan);
+                let answer = server.recover(STATE_LEN, &c.log[..kept as usize], &self.plan);
                 assert_eq!(answer.number, 0, "a kept log recovers");
                 Some(server)
             }

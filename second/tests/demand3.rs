@@ -33,6 +33,10 @@ fn assert_eventful(counts: &Counts, schedules: u64) {
     assert!(counts.crashes > schedules);
     assert!(counts.takes > schedules);
     assert!(counts.lost > schedules / 10);
+    assert!(counts.crashes_again > schedules / 2);
+    assert!(counts.lost_again > schedules / 20);
+    assert!(counts.left_crashed > schedules / 20);
+    assert!(counts.recovered_running > schedules / 2);
     assert!(counts.gone > schedules / 4);
     assert!(counts.releases > schedules / 4);
     for number in [1, 2, 3, 4, 5, 7, 9, 10, 11, 12, 17, 19] {
