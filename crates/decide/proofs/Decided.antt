@@ -1,8 +1,8 @@
 -- What a call decides, by the refusal's number of its tests.
 --     request-decided, held-decided, new-decided, fetch-decided, sync-decided, notice-decided, give-decided, image-decided,
---     receipt-decided, release-decided
+--     receipt-decided, release-decided, take-decided
 -- Assumes nothing.
-use Prim.Native.Nat.{ℕ, suc}
+use Prim.Native.Nat.{ℕ, suc, _+_}
 use mathlib.Core.Path.{_≡_, refl, sym, ap, _∙_}
 use mathlib.Core.Bool.{Bool, true, false, _||_, not}
 use mathlib.Core.Option.{some}
@@ -11,14 +11,19 @@ use lib.ListN.{length}
 use Rattle.model.specs.declared.Request.{Request}
 use Rattle.model.specs.declared.Notice.{Notice}
 use Rattle.model.specs.declared.Completion.{Completion}
-use Rattle.model.specs.Choice.{pick, refuse, reply, append, marks}
-use Rattle.model.specs.Limits.{lastPoint, lastServer, last32, clientCount, executedSize, goneSize, giveSize, releaseSize}
+use Rattle.model.specs.declared.ImageHead.{ImageHead}
+use Rattle.model.specs.Choice.{pick, refuse, reply, append, marks, _if_else_}
+use Rattle.model.specs.Refusals.{clientsFull, logFull}
+use Rattle.model.specs.Limits.{lastPoint, lastServer, last32, clientCount, executedSize, goneSize, giveSize, takeHead, releaseSize}
 use Rattle.model.specs.Packets.{resultBytes, receiptBytes}
-use Rattle.model.specs.Images.{floorOf, imageBytes}
-use Rattle.model.specs.Logs.{executed, gone, gave, released}
+use Rattle.model.specs.Tables.{every}
+use Rattle.model.specs.Plan.{entryAt}
+use Rattle.model.specs.Images.{Image, floorOf, imageBytes, imageInRange, imageLength}
+use Rattle.model.specs.Logs.{executed, gone, gave, took, released}
 use Rattle.model.specs.States.{State, pointAt, isHeld, isGiven, isSynced}
-use Rattle.model.specs.Decisions.{Decided, find, resultOfRecord, sameCommand, onHeld, executedFor, noPlace, onNew, onId, decideRequest, onFound, onSync, decideNotice, onGive, imageFor, onImage, onReceipt, decideRelease}
-use Rattle.decide.specs.Tests.{byNumber, synced, requestRefusal, heldRefusal, newRefusal, fetchRefusal, syncRefusal, noticeRefusal, placesBad, giveRefusal, imageRefusal, receiptRefusal, releaseRefusal}
+use Rattle.model.specs.Decisions.{Decided, find, resultOfRecord, sameCommand, onHeld, executedFor, noPlace, onNew, onId, decideRequest, onFound, onSync, decideNotice, onGive, imageFor, onImage, onReceipt, decideRelease, freeFor, decideTake}
+use Rattle.model.specs.Apply.{mergeFloors}
+use Rattle.decide.specs.Tests.{byNumber, synced, requestRefusal, heldRefusal, newRefusal, fetchRefusal, syncRefusal, noticeRefusal, placesBad, giveRefusal, imageRefusal, receiptRefusal, releaseRefusal, takeRefusal, spaceRefusal}
 
 -- one step of a chain; n is no 0
 step : (t : Bool) (n m : ℕ) (d e : Decided) → eqb n 0 ≡ false → e ≡ byNumber m d → pick t (refuse n) e ≡ byNumber (pick t n m) d
@@ -29,6 +34,11 @@ step false n m d e z p = p
 end : (d : Decided) → d ≡ byNumber 0 d
 unfolding byNumber
 end d = refl
+
+-- one of two tests, with one refusal
+either : (a b : Bool) (r d : Decided) → pick (a || b) r d ≡ pick a r (pick b r d)
+either true b r d = refl
+either false b r d = refl
 
 module _ (st : State) where
   pub request-decided : (free : ℕ) (q : Request)
@@ -96,3 +106,22 @@ module _ (st : State) where
   release-decided free p m =
       let x : Decided = append (released (record { point = p; number = pointAt st p .number })) in
       step (not (isGiven (pointAt st p))) 3 _ x _ refl (step (ltb m (pointAt st p .number)) 12 _ x _ refl (step (ltb free releaseSize) 9 _ x _ refl (end x)))
+
+  pub take-decided : (free : ℕ) (i : Image) (h : ImageHead) → h .destination ≡ i .destination → h .number ≡ i .number
+      → decideTake st free i
+      ≡ byNumber (takeRefusal (pointAt st (i .point)) (st .server) (imageInRange (entryAt (st .plan) (i .point)) i) h)
+      (pick (not (every (freeFor (i .point) (st .records)) (i .entries))) (refuse 13)
+      (byNumber (spaceRefusal (length (mergeFloors (i .floors) (st .floors))) free (takeHead + imageLength i)) (append (took i))))
+  unfolding decideTake takeRefusal spaceRefusal
+  take-decided free i h d n =
+      let x = pointAt st (i .point) in
+      let new : Bool = not (every (freeFor (i .point) (st .records)) (i .entries)) in
+      let space : Decided = byNumber (spaceRefusal (length (mergeFloors (i .floors) (st .floors))) free (takeHead + imageLength i)) (append (took i)) in
+      let last : Decided = pick new (refuse 13) space in
+      let back : (clientsFull if ltb clientCount (length (mergeFloors (i .floors) (st .floors))) else logFull if ltb free (takeHead + imageLength i) else append (took i)) ≡ space =
+      step (ltb clientCount (length (mergeFloors (i .floors) (st .floors)))) 8 _ (append (took i)) _ refl (step (ltb free (takeHead + imageLength i)) 9 _ (append (took i)) _ refl (end (append (took i)))) in
+      rw (d, n)
+      (step (not (imageInRange (entryAt (st .plan) (i .point)) i)) 1 _ last _ refl
+      (step (not (eqb (i .destination) (st .server))) 11 _ last _ refl
+      (step (leb (i .number) (x .number)) 12 _ last _ refl
+      (either (isHeld x) new _ _ ∙ step (isHeld x) 13 _ last _ refl (ap (λ (e : Decided). pick new (refuse 13) e) back ∙ end last)))))

@@ -7,8 +7,9 @@ use lib.Dec.{eqb, leb, ltb}
 use Rattle.model.specs.declared.Request.{Request}
 use Rattle.model.specs.declared.Point.{Point}
 use Rattle.model.specs.declared.Completion.{Completion}
+use Rattle.model.specs.declared.ImageHead.{ImageHead}
 use Rattle.model.specs.Choice.{pick, refuse}
-use Rattle.model.specs.Refusals.{notHeld, leaseOver, underFloor, otherCommand, notSynced, clientsFull, logFull, badMark, wrongDestination, oldMove, numbersOut, unknown}
+use Rattle.model.specs.Refusals.{malformed, alreadyHeld, notHeld, leaseOver, underFloor, otherCommand, notSynced, clientsFull, logFull, badMark, wrongDestination, oldMove, numbersOut, unknown}
 use Rattle.model.specs.Limits.{lastPoint, lastServer, last32, clientCount, executedSize, goneSize, giveSize, releaseSize}
 use Rattle.model.specs.States.{isHeld, isGiven}
 use Rattle.model.specs.Decisions.{Decided, sameCommand}
@@ -67,3 +68,14 @@ receiptRefusal x mark = pick (eqb (x .taken) 0) notHeld (pick (not (synced mark 
 -- Release: 3 not given, or released; 12 receipt's move below the given move; 9
 unfoldable pub releaseRefusal : Point → ℕ → ℕ → ℕ
 releaseRefusal x free m = pick (not (isGiven x)) notHeld (pick (ltb m (x .number)) oldMove (pick (ltb free releaseSize) logFull 0))
+
+-- Take: 1 values not in the point's range; 11 other destination; 12 move ≤ own move number; 13 point held here
+unfoldable pub takeRefusal : Point → ℕ → Bool → ImageHead → ℕ
+takeRefusal x server ranged h =
+    pick (not ranged) malformed
+    (pick (not (eqb (h .destination) server)) wrongDestination
+    (pick (leb (h .number) (x .number)) oldMove (pick (isHeld x) alreadyHeld 0)))
+
+-- with the ids free for the point: 8 more than 32 clients after merging; 9
+unfoldable pub spaceRefusal : ℕ → ℕ → ℕ → ℕ
+spaceRefusal merged free need = pick (ltb clientCount merged) clientsFull (pick (ltb free need) logFull 0)

@@ -1,12 +1,13 @@
 // The tests of each call of a server, on values: the refusal's number, 0 if it is not refused. They stand in the order of the paper's
 // lines; those of lent memory (2, 19) come before.
 use model::Completion;
+use model::ImageHead;
 use model::Point;
 use model::Request;
 ghost use mathlib.Core.Path.{_≡_};
 ghost use Rattle.model.specs.States.{isHeld, isGiven};
 ghost use Rattle.model.specs.Decisions.{sameCommand};
-ghost use Rattle.decide.specs.Tests.{synced, requestRefusal, heldRefusal, newRefusal, fetchRefusal, syncRefusal, noticeRefusal, placesBad, giveRefusal, imageRefusal, receiptRefusal, releaseRefusal};
+ghost use Rattle.decide.specs.Tests.{synced, requestRefusal, heldRefusal, newRefusal, fetchRefusal, syncRefusal, noticeRefusal, placesBad, giveRefusal, imageRefusal, receiptRefusal, releaseRefusal, takeRefusal, spaceRefusal};
 
 // ---- single tests
 
@@ -180,6 +181,38 @@ pub fn release_refusal(x: Point, free: usize, m: u32) -> u32
         return 12;
     }
     if free < 8 {
+        return 9;
+    }
+    0
+}
+
+// 1 values not in the point's range; 11 other destination; 12 move <= own move number; 13 point held here.
+pub fn take_refusal(x: Point, server: u8, ranged: bool, h: ImageHead) -> u32
+    ensures { λ r. ⌜ r ≡ takeRefusal x server ranged h ⌝ }
+{
+    if !ranged {
+        return 1;
+    }
+    if !(h.destination == server) {
+        return 11;
+    }
+    if h.number <= x.number {
+        return 12;
+    }
+    if is_held(x) {
+        return 13;
+    }
+    0
+}
+
+// 8 more than 32 clients after merging; 9 log lacks the bytes needed.
+pub fn space_refusal(merged: usize, free: usize, need: usize) -> u32
+    ensures { λ r. ⌜ r ≡ spaceRefusal merged free need ⌝ }
+{
+    if 32 < merged {
+        return 8;
+    }
+    if free < need {
         return 9;
     }
     0
