@@ -1,0 +1,2 @@
+-- Laws that the proofs of `lent`, and of the operations, cite.
+pub mod Settled

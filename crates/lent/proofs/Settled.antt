@@ -1,0 +1,50 @@
+-- A call's refusals, carried out.
+--     lent-number                       2 and 19, as a number
+--     lent-fit                          what holds where neither is given
+--     settle-refused, settle-passed     a decision by a number; refused-by, passed-by: where the number n came from a call
+-- Assumes nothing.
+use Prim.Native.Nat.{ℕ, _≤_}
+use mathlib.Core.Path.{_≡_, refl, sym, ap, _∙_}
+use mathlib.Core.Bool.{Bool, true, false, _||_, not}
+use mathlib.Core.List.{List}
+use native.Mathlib.Omega.{arith}
+use lib.ListN.{length}
+use lib.Dec.{eqb, ltb}
+use borrow.Author.Tests.{ne-eqb, ltb-false, not-false}
+use Rattle.model.specs.Choice.{pick, refuse}
+use Rattle.model.specs.Limits.{stateSize}
+use Rattle.model.specs.States.{load, sound}
+use Rattle.model.specs.Decisions.{Decided}
+use Rattle.model.specs.Operations.{After, after, answerOf, short, unfit, settle, lent}
+use Rattle.decide.specs.Tests.{byNumber}
+use Rattle.lent.specs.Memory.{lentRefusal, Fit}
+
+pub lent-number : (state log out : List ℕ) (need : ℕ) (d : Decided) → lent state log out need d ≡ byNumber (lentRefusal state log (length out) need) d
+unfolding lent lentRefusal short byNumber
+lent-number state log out need d = go (ltb (length state) stateSize || ltb (length out) need) (unfit state log)
+  where
+    go : (a b : Bool) → pick a (refuse 2) (pick b (refuse 19) d) ≡ pick (eqb (pick a 2 (pick b 19 0)) 0) d (refuse (pick a 2 (pick b 19 0)))
+    go true b = refl
+    go false true = refl
+    go false false = refl
+
+pub lent-fit : (state log : List ℕ) (n need : ℕ) → lentRefusal state log n need ≡ 0 → Fit state log n need
+unfolding lentRefusal short unfit
+lent-fit state log n need e = go (ltb (length state) stateSize) (ltb n need) (sound state) (ltb (length log) (load state .size)) refl refl refl refl e
+  where
+    go : (a b c d : Bool) → ltb (length state) stateSize ≡ a → ltb n need ≡ b → sound state ≡ c → ltb (length log) (load state .size) ≡ d
+        → pick {A = ℕ} (a || b) 2 (pick (not c || d) 19 0) ≡ 0 → Fit state log n need
+    go true b c d p q r t e = absurd (omega (arith, e))
+    go false true c d p q r t e = absurd (omega (arith, e))
+    go false false false d p q r t e = absurd (omega (arith, e))
+    go false false true true p q r t e = absurd (omega (arith, e))
+    go false false true false p q r t e = record { long = ltb-false (length state) stateSize p; room = ltb-false n need q; sound = r; logged = ltb-false (length log) (load state .size) t }
+
+module _ (state log out : List ℕ) (d : Decided) where
+  pub settle-refused : (n : ℕ) → (n ≡ 0 → ⊥) → settle state log out (byNumber n d) ≡ after (answerOf n 0) state log out
+  unfolding byNumber settle
+  settle-refused n h = rw (ne-eqb n 0 h)
+
+  pub settle-passed : (n : ℕ) → n ≡ 0 → settle state log out (byNumber n d) ≡ settle state log out d
+  unfolding byNumber
+  settle-passed n h = rw h

@@ -1,0 +1,2 @@
+-- What the contracts of `lent` cite beside `model`.
+pub mod Memory

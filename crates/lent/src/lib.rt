@@ -1,0 +1,1 @@
+// The tests of lent memory.
