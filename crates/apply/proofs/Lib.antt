@@ -2,3 +2,4 @@
 pub mod Composed
 pub mod Stages
 pub mod Gave
+pub mod Released

@@ -17,7 +17,7 @@ use Rattle.model.specs.Choice.{pick}
 use Rattle.model.specs.Numbers.{word}
 use Rattle.model.specs.States.{State, load, stateEnd, pointAt, noPoint}
 use Rattle.model.specs.Operations.{stored}
-use Rattle.model.specs.Apply.{raise, mergeFloors, gavePoint}
+use Rattle.model.specs.Apply.{raise, mergeFloors, gavePoint, releasedPoint}
 use Rattle.laws.specs.Bytes.{All}
 use Rattle.laws.specs.Fits.{StateFits, FloorFits, PointFits}
 use Rattle.state.specs.Canonical.{Canonical}
@@ -83,3 +83,8 @@ pub gave-fits : (g : Give) (end : ℕ) (x : Point) → g .destination < 256 → 
 unfolding gavePoint
 gave-fits g end x d n e f =
     record { status = lit< tt; quality = f .quality; destination = d; value = f .value; number = n; taken = f .taken; gave = e; took = f .took }
+
+pub released-fits : (x : Point) → PointFits x → PointFits (releasedPoint x)
+unfolding releasedPoint
+released-fits x f =
+    record { status = lit< tt; quality = f .quality; destination = f .destination; value = f .value; number = f .number; taken = f .taken; gave = f .gave; took = f .took }

@@ -1,0 +1,6 @@
+-- Laws that the proofs of `record_table`, and of those who call it, cite.
+pub mod Search
+pub mod Kept
+pub mod Gather
+pub mod Loops
+pub mod Whole
