@@ -3,3 +3,5 @@ pub mod Composed
 pub mod Stages
 pub mod Gave
 pub mod Released
+pub mod Gone
+pub mod Executed

@@ -1,25 +1,22 @@
 -- The changes of one operation, one after the other.
 --     stage-start, stage-next           the first buffer; one more change
 --     stage-canonical, stage-load, stage-length     what holds of a buffer on the way
---     raise-fits, merge-fits            floors in their widths
+--     max-below                         the greater of two numbers below a third
 -- Assumes nothing.
 use Prim.Native.Nat.{ℕ, zero, suc, _*_, _<_, _≤_, max}
 use mathlib.Core.Path.{_≡_, refl, sym, ap, _∙_, subst}
-use mathlib.Core.Bool.{Bool, true, false}
 use mathlib.Core.List.{List, [], _∷_}
 use native.Mathlib.Omega.{arith}
 use lib.ListN.{length, getD}
-use lib.Dec.{eqb, ltb, lit<}
-use Rattle.model.specs.declared.Floor.{Floor}
+use lib.Dec.{lit<}
 use Rattle.model.specs.declared.Point.{Point}
 use Rattle.model.specs.declared.Give.{Give}
-use Rattle.model.specs.Choice.{pick}
 use Rattle.model.specs.Numbers.{word}
 use Rattle.model.specs.States.{State, load, stateEnd, pointAt, noPoint}
 use Rattle.model.specs.Operations.{stored}
-use Rattle.model.specs.Apply.{raise, mergeFloors, gavePoint, releasedPoint}
+use Rattle.model.specs.Apply.{gavePoint, releasedPoint}
 use Rattle.laws.specs.Bytes.{All}
-use Rattle.laws.specs.Fits.{StateFits, FloorFits, PointFits}
+use Rattle.laws.specs.Fits.{StateFits, PointFits}
 use Rattle.state.specs.Canonical.{Canonical}
 use Rattle.state.proofs.Chains.{canonical-stored, load-stored, stored-stored, stored-same, length-stored}
 use Rattle.apply.specs.Stage.{Stage}
@@ -45,28 +42,8 @@ module _ {s now : List ℕ} {st : State} (g : Stage s now st) where
         fits = h;
       }
 
--- ---- floors
-
-max-below : (a b k : ℕ) → a < k → b < k → max a b < k
+pub max-below : (a b k : ℕ) → a < k → b < k → max a b < k
 max-below a b k p q = omega arith
-
-pub raise-fits : (x n : ℕ) (fs : List Floor) → x < word → n < word → All FloorFits fs → All FloorFits (raise x n fs)
-unfolding raise
-raise-fits x n [] h k a = (record { client = h; floor = k }, tt)
-raise-fits x n (f ∷ fs) h k a = known (raise-fits x n fs h k (a .1)) (eqb (f .client) x)
-  where
-    above : All FloorFits (raise x n fs) → (t : Bool) → All FloorFits (pick t (record { client = x; floor = n } ∷ (f ∷ fs)) (f ∷ raise x n fs))
-    above rest true = (record { client = h; floor = k }, a)
-    above rest false = (a .0, rest)
-
-    known : All FloorFits (raise x n fs) → (t : Bool) → All FloorFits (pick t (record { client = x; floor = max (f .floor) n } ∷ fs) (pick (ltb x (f .client)) (record { client = x; floor = n } ∷ (f ∷ fs)) (f ∷ raise x n fs)))
-    known rest true = (record { client = h; floor = max-below (f .floor) n word (a .0 .floor) k }, a .1)
-    known rest false = above rest (ltb x (f .client))
-
-pub merge-fits : (gs fs : List Floor) → All FloorFits gs → All FloorFits fs → All FloorFits (mergeFloors gs fs)
-unfolding mergeFloors
-merge-fits [] fs a b = b
-merge-fits (g ∷ gs) fs a b = merge-fits gs (raise (g .client) (g .floor) fs) (a .1) (raise-fits (g .client) (g .floor) fs (a .0 .client) (a .0 .floor) b)
 
 -- ---- points
 

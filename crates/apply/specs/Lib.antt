@@ -1,2 +1,3 @@
 -- What the laws of `apply` speak of.
 pub mod Stage
+pub mod Room

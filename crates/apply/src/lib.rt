@@ -1,15 +1,86 @@
 // One log record applied to a state's buffer: what replay does with it, for the operations and for recovery alike.
+use model::Completion;
+use model::Executed;
 use model::Give;
+use model::Notice;
 use model::Point;
 use model::Release;
 use record_table::Rule;
 ghost use mathlib.Core.Path.{_≡_};
-ghost use Prim.Native.Nat.{_≤_};
+ghost use Prim.Native.Nat.{_≤_, max};
 ghost use Rattle.model.specs.Limits.{lastPoint};
 ghost use Rattle.model.specs.States.{load};
-ghost use Rattle.model.specs.Apply.{gavePoint, applyGave, releasedPoint, applyReleased};
+ghost use Rattle.model.specs.Apply.{completion, executedPoint, applyExecuted, applyGone, gavePoint, applyGave, releasedPoint, applyReleased};
 ghost use Rattle.model.specs.Operations.{stored};
 ghost use Rattle.state.specs.Canonical.{Canonical};
+ghost use Rattle.apply.specs.Room.{Room};
+
+// ---- executed
+
+fn completion(x: Executed, end: u64) -> Completion
+    ensures { λ r. ⌜ r ≡ completion x end ⌝ }
+{
+    Completion {
+        client: x.client,
+        call: x.call,
+        argument: x.argument,
+        value: x.value,
+        op: x.op,
+        outcome: x.outcome,
+        quality: x.quality,
+        point: x.point,
+        end,
+    }
+}
+
+fn executed_point(x: Executed, q: Point) -> Point
+    ensures { λ r. ⌜ r ≡ executedPoint x q ⌝ }
+{
+    Point {
+        status: q.status,
+        quality: x.quality,
+        destination: q.destination,
+        value: x.value,
+        number: q.number,
+        taken: q.taken,
+        gave: q.gave,
+        took: q.took,
+    }
+}
+
+// The point's value and quality, a completion record, the client's floor; its records under the floor go.
+pub fn apply_executed(s: &mut [u8], x: Executed, end: u64)
+    requires { ⌜ Canonical (now s) × (x .point ≤ lastPoint) × Room x (load (now s)) ⌝ }
+    ensures { λ r. ⌜ now (s .exit) ≡ stored (now (s .entry)) (applyExecuted x end (load (now (s .entry)))) ⌝ }
+{
+    let q = state::point_at(s, x.point);
+    client_table::raise(s, x.client, x.done);
+    let floor = client_table::floor_in(s, x.client);
+    record_table::keep_records(s, Rule::OverFloor(x.client, floor));
+    record_table::append(s, completion(x, end));
+    state::set_point(s, x.point, executed_point(x, q));
+    state::set_size(s, end);
+}
+
+// ---- gone
+
+fn greater(a: u32, b: u32) -> u32
+    ensures { λ r. ⌜ r ≡ max a b ⌝ }
+{
+    if a < b { b } else { a }
+}
+
+// The client and its records go, heard time rises to the notice's time.
+pub fn apply_gone(s: &mut [u8], n: Notice, end: u64)
+    requires { ⌜ Canonical (now s) ⌝ }
+    ensures { λ r. ⌜ now (s .exit) ≡ stored (now (s .entry)) (applyGone n end (load (now (s .entry)))) ⌝ }
+{
+    let heard = greater(state::heard_of(s), n.time);
+    client_table::remove(s, n.client);
+    record_table::keep_records(s, Rule::OfOther(n.client));
+    state::set_heard(s, heard);
+    state::set_size(s, end);
+}
 
 // ---- give
 

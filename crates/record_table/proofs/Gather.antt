@@ -10,7 +10,7 @@ use mathlib.Core.Bool.{Bool, true, false}
 use mathlib.Core.List.{List, [], _∷_, _++_}
 use native.Mathlib.Omega.{arith}
 use native.Mathlib.Nat.{add-zero, mul-add}
-use lib.ListN.{length, set, drop, replicate, length-append, length-replicate, replicate-append-replicate, length-set}
+use lib.ListN.{length, set, replicate, length-append, length-replicate, replicate-append-replicate, length-set}
 use Rattle.model.specs.Choice.{pick}
 use Rattle.model.specs.Limits.{clientCount}
 use Rattle.model.specs.Tables.{bytesOf, keep, written}

@@ -4,10 +4,10 @@
 -- Assumes nothing.
 use Prim.Native.Nat.{ℕ, _+_, _-_, _*_, _≤_, _<_}
 use mathlib.Core.Path.{_≡_, refl, sym, ap, _∙_}
-use mathlib.Core.Bool.{Bool, true, false}
+use mathlib.Core.Bool.{Bool}
 use mathlib.Core.List.{List, [], _∷_, _++_, map, map-append}
 use native.Mathlib.Omega.{arith}
-use native.Mathlib.Nat.{add-zero}
+use native.Mathlib.Nat.{zero-add}
 use lib.ListN.{length, drop, length-append}
 use lib.Seq.{drop-drop}
 use Rattle.model.specs.declared.ImageEntry.{ImageEntry}
@@ -18,15 +18,17 @@ use Rattle.model.specs.Limits.{clientCount, recordCount}
 use Rattle.model.specs.Tables.{rows, bytesOf, keep, written}
 use Rattle.model.specs.Images.{imageEntryOf, imageAt}
 use Rattle.model.specs.States.{load, stateEnd, clientsIn, recordsIn, completionOf, completionBytes, recordsStart, recordRow}
-use Rattle.model.specs.Apply.{staysOverFloors, takenRecord}
+use Rattle.model.specs.Apply.{takenRecord}
+use Rattle.laws.specs.Bytes.{Bytes}
 use Rattle.laws.proofs.Written.{drop-written-past}
-use Rattle.laws.proofs.Tables.{length-rows, rows-append, rows-snoc, length-bytesOf, length-keep, keep-append}
+use Rattle.laws.proofs.Tables.{length-rows, everyRow-true, written-rows, rows-append, rows-snoc, length-bytesOf, length-keep, keep-append}
 use Rattle.laws.proofs.States.{completionCodec}
 use Rattle.state.specs.Canonical.{Canonical}
 use Rattle.state.proofs.Access.{records-count}
 use Rattle.record_table.specs.declared.Rule.{Rule}
 use Rattle.record_table.specs.declared.Rule.the-variants.{OverFloors}
-use Rattle.record_table.specs.Rules.{staysBy, keptBy, brought}
+use Rattle.record_table.specs.Rules.{staysBy, front, keptBy, brought}
+use Rattle.record_table.proofs.Unmoved.{front-most, front-rows}
 use Rattle.record_table.proofs.Gather.{Gathered, gathered-start, gathered-next, gathered-few, clients-kept, floors-kept}
 
 -- ---- what stays of the floors while records are stored
@@ -49,17 +51,29 @@ pub record Compacting (rule : Rule) (s₀ : List ℕ) (n : ℕ) (s : List ℕ) (
   pub long : stateEnd ≤ length s
   pub kept : Gathered completionCodec (staysBy rule (load s₀ .floors)) 3368 0 s₀ (rows completionOf 28 i (drop 3368 s₀)) s j
 
-pub compact-start : (rule : Rule) {s : List ℕ} {n : ℕ} → Canonical s → n ≡ length (load s .records) → Compacting rule s n s 0 0
-unfolding rows
-compact-start rule {s} {n} w e =
-    let m : n ≡ recordsIn s = e ∙ records-count s in
+-- the records in front that stay are not moved
+kept-front : (t : Completion → Bool) (s : List ℕ) {k : ℕ} → Bytes s → 3368 + 28 * k ≤ length s → k ≡ front t (load s .records)
+    → Gathered completionCodec t 3368 0 s (rows completionOf 28 k (drop 3368 s)) s k
+kept-front t s {k} b l e =
     record {
-      below = omega arith;
-      few = omega (arith, w .few-records);
+      same = refl;
+      count = rw (front-rows t s e, length-rows, zero-add);
+      bytes = rw (front-rows t s e) (sym (written-rows completionCodec s 3368 k b l (everyRow-true 28 k (drop 3368 s))));
+    }
+
+pub compact-start : (rule : Rule) {s : List ℕ} {n k : ℕ} → Bytes s → Canonical s → n ≡ length (load s .records) → k ≡ front (staysBy rule (load s .floors)) (load s .records)
+    → Compacting rule s n s k k
+compact-start rule {s} {n} {k} b w e f =
+    let m : n ≡ recordsIn s = e ∙ records-count s in
+    let few : n ≤ 512 = omega (arith, w .few-records) in
+    let below : k ≤ n = omega (arith, front-most (staysBy rule (load s .floors)) (load s .records)) in
+    record {
+      below = below;
+      few = few;
       all = m;
       clients = w .few-clients;
       long = w .long;
-      kept = gathered-start completionCodec (staysBy rule (load s .floors)) 3368 0 s;
+      kept = kept-front (staysBy rule (load s .floors)) s b (omega (arith, w .long)) f;
     }
 
 module _ {rule : Rule} {s₀ : List ℕ} {n : ℕ} {s : List ℕ} {i j : ℕ} (o : Compacting rule s₀ n s i j) where

@@ -1,12 +1,12 @@
 -- The search for an id among the completion records.
 --     id-there                                       the id of a row, by its two words
+--     all-records                                    the records, by their count
 --     find-start, find-hit, find-next, find-none     the loop
 -- Assumes nothing.
 use Prim.Native.Nat.{ℕ, _+_, _-_, _*_, _≤_, _<_}
-use mathlib.Core.Path.{_≡_, refl, sym, ap, _∙_}
+use mathlib.Core.Path.{_≡_, sym, ap, _∙_}
 use mathlib.Core.Bool.{Bool, true, false, _&&_}
-use mathlib.Core.List.{List, [], _∷_}
-use mathlib.Core.Option.{none, some}
+use mathlib.Core.List.{List}
 use native.Mathlib.Omega.{arith}
 use native.Mathlib.Nat.{add-zero, sub-zero}
 use lib.ListN.{length, drop}
@@ -33,7 +33,7 @@ pub record Sought (x c : ℕ) (s : List ℕ) (n i : ℕ) : Type 0 where
   pub few : n ≤ 512
   pub rest : find x c (load s .records) ≡ find x c (rows completionOf 28 (n - i) (drop (3368 + 28 * i) s))
 
-all-records : (s : List ℕ) (n : ℕ) → n ≡ recordsIn s → load s .records ≡ rows completionOf 28 n (drop 3368 s)
+pub all-records : (s : List ℕ) (n : ℕ) → n ≡ recordsIn s → load s .records ≡ rows completionOf 28 n (drop 3368 s)
 unfolding load
 all-records s n e = rw e
 

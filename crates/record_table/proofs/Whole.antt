@@ -6,13 +6,12 @@ use Prim.Native.Nat.{ℕ, _+_, _-_, _*_, _≤_, _<_}
 use mathlib.Core.Path.{_≡_, refl, sym, ap, _∙_}
 use mathlib.Core.List.{List, [], _∷_, _++_}
 use native.Mathlib.Omega.{arith}
-use native.Mathlib.Nat.{add-zero}
 use lib.ListN.{length, take, replicate, length-append, length-replicate}
 use lib.Seq.{take-length}
 use Rattle.model.specs.declared.Completion.{Completion}
 use Rattle.model.specs.Numbers.{le32}
 use Rattle.model.specs.Tables.{bytesOf, written}
-use Rattle.model.specs.States.{State, load, stateBytes, padded, completionBytes, recordsStart, recordRow}
+use Rattle.model.specs.States.{load, padded, completionBytes, recordsStart, recordRow}
 use Rattle.model.specs.Limits.{recordCount}
 use Rattle.model.specs.Operations.{stored}
 use Rattle.laws.specs.Layout.{withRecords}

@@ -1,12 +1,13 @@
 -- What a search of the completion records answers, and which of them a rule lets stay.
 -- Assumes nothing.
-use Prim.Native.Nat.{ℕ}
+use Prim.Native.Nat.{ℕ, suc}
 use mathlib.Core.Bool.{Bool}
-use mathlib.Core.List.{List, map}
+use mathlib.Core.List.{List, [], _∷_, map}
 use mathlib.Core.Option.{Option, none, some}
 use Rattle.model.specs.declared.Floor.{Floor}
 use Rattle.model.specs.declared.ImageHead.{ImageHead}
 use Rattle.model.specs.declared.Completion.{Completion}
+use Rattle.model.specs.Choice.{pick}
 use Rattle.model.specs.Tables.{keep}
 use Rattle.model.specs.Images.{imageAt}
 use Rattle.model.specs.States.{State}
@@ -26,6 +27,11 @@ staysBy (OverFloor x n) fs = staysOver x n
 staysBy (OfOther x) fs = isOfOther x
 staysBy (OnOther p) fs = isOnOther p
 staysBy OverFloors fs = staysOverFloors fs
+
+-- how many elements in front pass a test, before the first that does not
+unfoldable pub front : {A : Type 0} → (A → Bool) → List A → ℕ
+front t [] = 0
+front t (r ∷ rs) = pick (t r) (suc (front t rs)) 0
 
 -- the completion records of a state that stay by a rule, in their order
 abbrev pub keptBy : Rule → State → List Completion

@@ -22,7 +22,7 @@ ghost use Rattle.model.specs.Decisions.{find};
 ghost use Rattle.model.specs.Operations.{stored};
 ghost use Rattle.laws.specs.Layout.{withRecords};
 ghost use Rattle.state.specs.Canonical.{Canonical};
-ghost use Rattle.record_table.specs.Rules.{foundOf, staysBy, keptBy, brought};
+ghost use Rattle.record_table.specs.Rules.{foundOf, staysBy, front, keptBy, brought};
 
 // What a search finds.
 pub enum Found {
@@ -100,13 +100,30 @@ fn put_kept(s: &mut [u8], rule: Rule, j: usize, r: Completion) -> usize
     j + 1
 }
 
+// How many of the n records in front stay, before the first that does not.
+fn front(s: &[u8], rule: Rule, n: usize) -> usize
+    requires { ⌜ Canonical (now s) × (n ≡ length (load (now s) .records)) ⌝ }
+    ensures { λ k. ⌜ k ≡ front (staysBy rule (load (now (s .entry)) .floors)) (load (now (s .entry)) .records) ⌝ }
+{
+    let mut i = 0;
+    while i < n {
+        let r = state_rows::completion_from(s, RECORDS_START + RECORD_ROW * i);
+        if !stays(s, rule, r) {
+            return i;
+        }
+        i += 1;
+    }
+    n
+}
+
 // Moves the rows that stay to the front, in their order; their number.
 fn compact(s: &mut [u8], rule: Rule, n: usize) -> usize
     requires { ⌜ Canonical (now s) × (n ≡ length (load (now s) .records)) ⌝ }
     ensures { λ j. ⌜ (now (s .exit) ≡ written (now (s .entry)) recordsStart (bytesOf completionBytes (keptBy rule (load (now (s .entry)))))) × (j ≡ length (keptBy rule (load (now (s .entry))))) × (j ≤ n) ⌝ }
 {
-    let mut i = 0;
-    let mut j = 0;
+    let first = front(s, rule, n);
+    let mut i = first;
+    let mut j = first;
     while i < n {
         let r = state_rows::completion_from(s, RECORDS_START + RECORD_ROW * i);
         j = put_kept(s, rule, j, r);
@@ -134,11 +151,8 @@ pub fn keep_records(s: &mut [u8], rule: Rule)
 {
     let n = state::records_of(s);
     let j = compact(s, rule, n);
-    clear(
-        s,
-        RECORDS_START + RECORD_ROW * j,
-        RECORDS_START + RECORD_ROW * n,
-    );
+    let end = RECORDS_START + RECORD_ROW * n;
+    clear(s, RECORDS_START + RECORD_ROW * j, end);
     state_rows::put_records(s, j as u32);
 }
 
@@ -189,7 +203,8 @@ fn put_entries(s: &mut [u8], n: usize, image: &[u8], h: ImageHead, end: u64) -> 
     j
 }
 
-// The records of an image that stay over the state's floors, behind the others.
+// The records of an image that stay over the state's floors, behind the others. Those under a floor are never stored: with them there
+// could be more than 512 until they go.
 pub fn append_image(s: &mut [u8], image: &[u8], h: ImageHead, end: u64)
     requires { ⌜ Canonical (now s) × (leastImage + floorRow * h .floors + entryRow * h .entries ≤ length (now image)) × (length (load (now s) .records) + length (brought (load (now s)) h end (now image)) ≤ recordCount) ⌝ }
     ensures { λ r. ⌜ now (s .exit) ≡ stored (now (s .entry)) (withRecords (load (now (s .entry)) .records ++ brought (load (now (s .entry))) h end (now (image .entry))) (load (now (s .entry)))) ⌝ }

@@ -7,13 +7,16 @@ use Rattle.record_table.proofs.compact.Statement.{statement}
 use Rattle.record_table.proofs.compact.Tie as tie
 
 abbrev Inv-loop : tie.InvT-loop
-Inv-loop s₀ rule n i₀ j₀ s i j = Compacting rule s₀ n s i j
+Inv-loop s₀ rule n first i₀ j₀ s i j = Compacting rule s₀ n s i j
 
 abbrev μ-loop : tie.MeasureT-loop
-μ-loop s₀ rule n i₀ j₀ s i j = n - i
+μ-loop s₀ rule n first i₀ j₀ s i j = n - i
 
 loop-holds : tie.Need-loop-holds Inv-loop μ-loop
-loop-holds c = compact-start _ (c .before .pre .0) (c .before .pre .1)
+loop-holds c =
+    let known = c .before .before in
+    let start = known .before in
+    compact-start _ (λ i. known .slice-known .given i .fits) (start .pre .0) (start .pre .1) (c .front .ensures)
 
 put-kept-requires : tie.Need-put-kept-requires Inv-loop μ-loop
 put-kept-requires c κs =
@@ -38,6 +41,7 @@ compact-spec =
     (tie.spec
     Inv-loop
     μ-loop
+    (λ c κs. search needs)
     loop-holds
     (λ c. search needs)
     (λ c. search needs)

@@ -1,0 +1,24 @@
+-- The tables of a state have room for what an executed command brings, and its call is not under its client's floor.
+-- Assumes nothing.
+use Prim.Native.Nat.{ℕ, _≤_, _<_}
+use mathlib.Core.List.{List}
+use lib.ListN.{length}
+use Rattle.model.specs.declared.Executed.{Executed}
+use Rattle.model.specs.declared.Floor.{Floor}
+use Rattle.model.specs.Tables.{keep}
+use Rattle.model.specs.Limits.{clientCount, recordCount}
+use Rattle.model.specs.Images.{floorOf}
+use Rattle.model.specs.States.{State}
+use Rattle.model.specs.Apply.{raise, staysOver}
+
+-- the floors, and its client's floor, once it is executed
+abbrev pub floorsWith : Executed → State → List Floor
+floorsWith x st = raise (x .client) (x .done) (st .floors)
+
+abbrev pub floorWith : Executed → State → ℕ
+floorWith x st = floorOf (x .client) (floorsWith x st)
+
+pub record Room (x : Executed) (st : State) : Type 0 where
+  pub clients : length (floorsWith x st) ≤ clientCount
+  pub call : floorWith x st ≤ x .call
+  pub records : length (keep (staysOver (x .client) (floorWith x st)) (st .records)) < recordCount

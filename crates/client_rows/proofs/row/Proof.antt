@@ -1,0 +1,13 @@
+-- `client_rows::row` meets its contract.
+-- Assumes nothing.
+use mathlib.Core.Path.{sym, _∙_}
+use Rattle.state.proofs.Access.{client-there}
+use borrow.Author.Needs.{needs}
+use Rattle.client_rows.proofs.row.Statement.{statement}
+use Rattle.client_rows.proofs.row.Tie as tie
+
+returns : tie.Need-returns
+returns c = let start = c .before .before in c .client-at .ensures ∙ sym (client-there (start .args .s .now) (start .args .i) _ (start .pre .1))
+
+pub row-spec : {M : Type 1} → statement M
+row-spec = tie.close (tie.spec (λ c κs. search needs) returns)

@@ -1,0 +1,2 @@
+-- What the contracts of `client_table` cite beside `model` and `laws`.
+pub mod Places
