@@ -1,7 +1,9 @@
 -- A call's refusals, carried out.
 --     lent-number                       2 and 19, as a number
 --     lent-fit                          what holds where neither is given
---     settle-refused, settle-passed     a decision by a number; refused-by, passed-by: where the number n came from a call
+--     settle-refused, settle-passed     a decision by a number; by-refused, by-passed: where the number came from a call
+--     unfit-yes, unfit-no, long-enough     the tests in code
+--     passed-fit, passed-long, passed-canonical     what they leave known
 -- Assumes nothing.
 use Prim.Native.Nat.{ℕ, _≤_}
 use mathlib.Core.Path.{_≡_, refl, sym, ap, _∙_}
@@ -11,11 +13,15 @@ use native.Mathlib.Omega.{arith}
 use lib.ListN.{length}
 use lib.Dec.{eqb, ltb}
 use borrow.Author.Tests.{ne-eqb, ltb-false, not-false}
+use Rattle.model.specs.declared.Answer.{Answer}
 use Rattle.model.specs.Choice.{pick, refuse}
 use Rattle.model.specs.Limits.{stateSize}
-use Rattle.model.specs.States.{load, sound}
+use Rattle.model.specs.States.{load, sound, stateEnd}
 use Rattle.model.specs.Decisions.{Decided}
 use Rattle.model.specs.Operations.{After, after, answerOf, short, unfit, settle, lent}
+use Rattle.laws.specs.Bytes.{Bytes}
+use Rattle.state.specs.Canonical.{Canonical}
+use Rattle.state.proofs.Chains.{canonical-sound}
 use Rattle.decide.specs.Tests.{byNumber}
 use Rattle.lent.specs.Memory.{lentRefusal, Fit}
 
@@ -48,3 +54,42 @@ module _ (state log out : List ℕ) (d : Decided) where
   pub settle-passed : (n : ℕ) → n ≡ 0 → settle state log out (byNumber n d) ≡ settle state log out d
   unfolding byNumber
   settle-passed n h = rw h
+
+-- ---- the tests in code
+
+module _ (s log : List ℕ) {u : Bool} (p : u ≡ sound s) where
+  pub unfit-yes : not u ≡ true → true ≡ unfit s log
+  unfolding unfit
+  unfit-yes e = rw (← p, e)
+
+  pub unfit-no : not u ≡ false → {k : ℕ} → k ≡ load s .size → ltb (length log) k ≡ unfit s log
+  unfolding unfit
+  unfit-no e q = rw (← p, e, q)
+
+pub long-enough : (s : List ℕ) (n need : ℕ) → (ltb (length s) stateSize || ltb n need) ≡ false → stateEnd ≤ length s
+long-enough s n need e = omega (arith, ltb-false (length s) stateSize (or-left (ltb (length s) stateSize) (ltb n need) e))
+  where
+    or-left : (a b : Bool) → (a || b) ≡ false → a ≡ false
+    or-left true b e = e
+    or-left false b e = refl
+
+-- ---- a number from a call
+
+module _ (state log out : List ℕ) (d : Decided) {n m : ℕ} (p : n ≡ m) where
+  pub by-refused : (n ≡ 0 → ⊥) → {r : Answer} → r ≡ answerOf n 0 → after r state log out ≡ settle state log out (byNumber m d)
+  by-refused h {r} e = rw (e, ← p) (sym (settle-refused state log out d n h))
+
+  pub by-passed : n ≡ 0 → {a : After} → a ≡ settle state log out d → a ≡ settle state log out (byNumber m d)
+  by-passed h {a} e = e ∙ sym (settle-passed state log out d m (sym p ∙ h))
+
+-- ---- once the tests of lent memory are passed
+
+module _ (s log : List ℕ) (k need : ℕ) {n : ℕ} (p : n ≡ lentRefusal s log k need) (z : n ≡ 0) where
+  pub passed-fit : Fit s log k need
+  passed-fit = lent-fit s log k need (sym p ∙ z)
+
+  pub passed-long : stateEnd ≤ length s
+  passed-long = omega (arith, passed-fit .long)
+
+  pub passed-canonical : Bytes s → Canonical s
+  passed-canonical h = canonical-sound s h (passed-fit .sound)

@@ -1,1 +1,32 @@
-// The tests of lent memory.
+// The tests of lent memory, which come first in each call of a server.
+ghost use mathlib.Core.Path.{_≡_};
+ghost use Prim.Native.Nat.{_≤_};
+ghost use lib.ListN.{length};
+ghost use Rattle.model.specs.States.{stateEnd};
+ghost use Rattle.model.specs.Operations.{unfit};
+ghost use Rattle.lent.specs.Memory.{lentRefusal};
+
+// 19: the state is not sound, or the log slice is shorter than its recorded length.
+fn is_unfit(s: &[u8], log: &[u8]) -> bool
+    requires { ⌜ stateEnd ≤ length (now s) ⌝ }
+    ensures { λ r. ⌜ r ≡ unfit (now (s .entry)) (now (log .entry)) ⌝ }
+{
+    if !soundness::state_ok(s) {
+        return true;
+    }
+    let size = state::size_of(s);
+    (log.len() as u64) < size
+}
+
+// 2 state or output too short; 19; 0 if neither is given. The output has n bytes, of which need are asked.
+pub fn lent_refusal(s: &[u8], log: &[u8], n: usize, need: usize) -> u32
+    ensures { λ r. ⌜ r ≡ lentRefusal (now (s .entry)) (now (log .entry)) n need ⌝ }
+{
+    if (s.len() < state_rows::STATE_SIZE) | (n < need) {
+        return 2;
+    }
+    if is_unfit(s, log) {
+        return 19;
+    }
+    0
+}

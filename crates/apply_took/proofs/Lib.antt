@@ -1,0 +1,2 @@
+-- Laws that the proofs of `apply_took` cite.
+pub mod Taken

@@ -1,0 +1,2 @@
+-- Laws that the proofs of `serve` cite.
+pub mod Chains
