@@ -25,7 +25,7 @@ use Rattle.model.specs.Packets.{parsePacket, commandOf}
 use Rattle.model.specs.States.{State, load, pointAt}
 use Rattle.model.specs.Operations.{After, answerOf, requestOf, recoveredState}
 use Rattle.model.specs.Clients.{callAt, issueOf, receiveOf}
-use Rattle.claim.specs.World.{Event, request, crash, issue, receive, Lent, World, Server, nothing, running, crashed, run, after, packet, lentState, lentLog}
+use Rattle.claim.specs.World.{Event, request, crash, issue, receive, Lent, WorldOf, Server, nothing, running, crashed, run, after, packet, lentState, lentLog}
 use Rattle.claim.specs.Provisos.{Provisos, At, lengthOf}
 
 abbrev pub _∈_ {ℓ} : {A : Type ℓ} → A → List A → Type ℓ
@@ -44,7 +44,7 @@ pub data Before (a b : Marked) : List Marked → Type 0 where
   later : {m : Marked} {ms : List Marked} → Before a b ms → Before a b (m ∷ ms)
 
 -- the version of an op's rule in force at event n of a schedule; no event changes a rule today
-unfoldable pub versionAt : List Event → ℕ → ℕ → Version
+unfoldable pub versionAt : {E : Type 0} → List E → ℕ → ℕ → Version
 versionAt es n op = today
 
 -- the command of an open call, and what a result packet says
@@ -59,33 +59,93 @@ resultIn r = record { outcome = r .outcome; value = r .value; quality = r .quali
 unfoldable pub readingAt : Point → Reading
 readingAt x = record { value = x .value; quality = x .quality }
 
-module _ (plan : List ℕ) (es : List Event) where
-  -- "An Issue not refused issues a command": event n issues k
-  pub record Issues (n : ℕ) (k : Command) : Type 0 where
+-- ---- demand 3 of any run: servers of type S, and `world n` is the world after n events
+
+module _ {S : Type 0} (world : ℕ → WorldOf S) where
+  -- "An Issue not refused issues a command": event n issues k. `Is n x op p a`: event n is that call of Issue
+  pub record IssuesBy (Is : ℕ → ℕ → ℕ → ℕ → ℕ → Type 0) (n : ℕ) (k : Command) : Type 0 where
     pub client : ℕ
     pub op : ℕ
     pub point : ℕ
     pub argument : ℕ
-    pub event : At plan es n (issue client op point argument)
+    pub event : Is n client op point argument
     pub state : Client
-    pub started : after es n .clients client ≡ some state
+    pub started : world n .clients client ≡ some state
     pub asked : Request
     pub answer : issueOf state op point argument .answer ≡ Asked asked
     pub its : commandOf asked ≡ k
 
-  -- "A Receive of its result, not refused, completes it": event n completes k, with the result r
-  pub record Completes (n : ℕ) (k : Command) (r : CommandResult) : Type 0 where
+  -- "A Receive of its result, not refused, completes it": event n completes k, with the result r. `Is n x p`: event n is that call
+  pub record CompletesBy (Is : ℕ → ℕ → ℕ → Type 0) (n : ℕ) (k : Command) (r : CommandResult) : Type 0 where
     pub client : ℕ
     pub number : ℕ
-    pub event : At plan es n (receive client number)
+    pub event : Is n client number
     pub state : Client
-    pub started : after es n .clients client ≡ some state
+    pub started : world n .clients client ≡ some state
     pub bytes : List ℕ
-    pub delivered : packet (after es n) number ≡ some bytes
+    pub delivered : packet (world n) number ≡ some bytes
     pub received : ResultPacket
     pub answer : receiveOf state bytes .answer ≡ Completed received
     pub its : commandAt state (received .call) ≡ k
     pub result : resultIn received ≡ r
+
+-- what demand 3 reads of a run: the event that issues a command, that completes it with a result, that executes it so that it survives;
+-- the version of an op's rule at an event; the state that each server counts with at the end; that Recover accepts what a crash kept
+pub record Account : Type 1 where
+  pub Issues : ℕ → Command → Type 0
+  pub Completes : ℕ → Command → CommandResult → Type 0
+  pub SurvivesAt : ℕ → Command → Type 0
+  pub version : ℕ → ℕ → Version
+  pub final : ℕ → Option State
+  pub Recovers : Type 0
+
+module _ (plan : List ℕ) (seen : Account) where
+  -- a surviving command, marked with the rules that it was executed under
+  pub record SurvivesBy (m : Marked) : Type 0 where
+    pub at : ℕ
+    pub survives : seen .SurvivesAt at (m .command)
+    pub version : m .version ≡ seen .version at (m .command .op)
+
+  -- "The holder of a point is the cabinet with the greatest move number; of giver and taker, the taker; at 0 its home."
+  -- "A holder not founded is left out": there is none then
+  pub record HolderBy (p c : ℕ) (st : State) : Type 0 where
+    pub founded : seen .final c ≡ some st
+    pub greatest : (d : ℕ) (other : State) → seen .final d ≡ some other → pointAt other p .number ≤ pointAt st p .number
+    pub taker : (d : ℕ) (other : State) → seen .final d ≡ some other → pointAt other p .number ≡ pointAt st p .number
+        → pointAt other p .taken ≤ pointAt st p .taken
+    pub home : pointAt st p .number ≡ 0 → entryAt (planOf plan) p .home ≡ c
+
+  -- the order explains the run
+  pub record ExplainedBy (order : List Marked) : Type 0 where
+    -- "each once"
+    pub once : Once order
+    -- "one order of all surviving commands"
+    pub survivors : (m : Marked) → SurvivesBy m ↔ (m ∈ order)
+    -- "the book of document 01, run over it, gives every result that a desk received"
+    pub results : (n : ℕ) (k : Command) (r : CommandResult) → seen .Completes n k r → Answers (planOf plan) (opened (planOf plan)) order k (resultMeant r)
+    -- "and, at its end, each point's value and quality at its holder"
+    pub values : (p c : ℕ) (st : State) → p < pointCount → HolderBy p c st
+        → readingMeant (readingAt (pointAt st p)) ≡ bookAfter (planOf plan) (opened (planOf plan)) order p
+    -- "a command completed before another was issued stands first"
+    pub real-time : (m n : ℕ) (a b : Marked) (r : CommandResult) → seen .Completes m (a .command) r → seen .Issues n (b .command) → m < n
+        → a ∈ order → b ∈ order → Before a b order
+    -- a completed command survives
+    pub completed : (n : ℕ) (k : Command) (r : CommandResult) → seen .Completes n k r → (a : Marked) × (a .command ≡ k) × (a ∈ order)
+    -- the order keeps each point's sequence of surviving executions. With `once` this leaves a command one surviving execution at the
+    -- most: of two, the command would stand before itself
+    pub sequence : (m n : ℕ) (a b : Marked) → seen .SurvivesAt m (a .command) → seen .SurvivesAt n (b .command) → m < n
+        → a .command .point ≡ b .command .point → a ∈ order → b ∈ order → Before a b order
+    -- Recover accepts what a crash kept
+    pub recovers : seen .Recovers
+
+-- ---- over bytes
+
+module _ (plan : List ℕ) (es : List Event) where
+  abbrev pub Issues : ℕ → Command → Type 0
+  Issues = IssuesBy (after es) (λ n x op p a. At plan es n (issue x op p a))
+
+  abbrev pub Completes : ℕ → Command → CommandResult → Type 0
+  Completes = CompletesBy (after es) (λ n x p. At plan es n (receive x p))
 
   -- "A Request of it that gives neither number nor packet executes it": event n executes k at server c
   pub record Executes (n c : ℕ) (k : Command) : Type 0 where
@@ -108,12 +168,6 @@ module _ (plan : List ℕ) (es : List Event) where
     pub executes : Executes n server k
     pub kept : (m b : ℕ) → n < m → At plan es m (crash server b) → lengthOf (after es (suc n) .servers server) ≤ b
 
-  -- a surviving command, marked with the rules that it was executed under
-  pub record Survives (m : Marked) : Type 0 where
-    pub at : ℕ
-    pub survives : SurvivesAt at (m .command)
-    pub version : m .version ≡ versionAt es at (m .command .op)
-
   -- "until it succeeds, or if the list ends first, the cabinet counts with the state that Recover gives from these"
   unfoldable pub stateGiven : Server → Option State
   stateGiven nothing = none
@@ -123,38 +177,30 @@ module _ (plan : List ℕ) (es : List Event) where
   unfoldable pub finalState : ℕ → Option State
   finalState c = stateGiven (run es .servers c)
 
-  -- "The holder of a point is the cabinet with the greatest move number; of giver and taker, the taker; at 0 its home."
-  -- "A holder not founded is left out": there is none then
-  pub record Holder (p c : ℕ) (st : State) : Type 0 where
-    pub founded : finalState c ≡ some st
-    pub greatest : (d : ℕ) (other : State) → finalState d ≡ some other → pointAt other p .number ≤ pointAt st p .number
-    pub taker : (d : ℕ) (other : State) → finalState d ≡ some other → pointAt other p .number ≡ pointAt st p .number
-        → pointAt other p .taken ≤ pointAt st p .taken
-    pub home : pointAt st p .number ≡ 0 → entryAt (planOf plan) p .home ≡ c
+  -- every server that a crash left recovers from what the crash kept
+  abbrev pub Recovers : Type 0
+  Recovers = (c : ℕ) (kept : List ℕ) (mark : ℕ) → run es .servers c ≡ crashed kept mark → (st : State) × (recoveredState (planOf plan) kept ≡ some st)
+
+  abbrev pub account : Account
+  account =
+      record {
+        Issues = Issues;
+        Completes = Completes;
+        SurvivesAt = SurvivesAt;
+        version = versionAt es;
+        final = finalState;
+        Recovers = Recovers;
+      }
+
+  abbrev pub Survives : Marked → Type 0
+  Survives = SurvivesBy plan account
+
+  abbrev pub Holder : ℕ → ℕ → State → Type 0
+  Holder = HolderBy plan account
 
   -- the order explains the schedule
-  pub record Explains (order : List Marked) : Type 0 where
-    -- "each once"
-    pub once : Once order
-    -- "one order of all surviving commands"
-    pub survivors : (m : Marked) → Survives m ↔ (m ∈ order)
-    -- "the book of document 01, run over it, gives every result that a desk received"
-    pub results : (n : ℕ) (k : Command) (r : CommandResult) → Completes n k r → Answers (planOf plan) (opened (planOf plan)) order k (resultMeant r)
-    -- "and, at its end, each point's value and quality at its holder"
-    pub values : (p c : ℕ) (st : State) → p < pointCount → Holder p c st
-        → readingMeant (readingAt (pointAt st p)) ≡ bookAfter (planOf plan) (opened (planOf plan)) order p
-    -- "a command completed before another was issued stands first"
-    pub real-time : (m n : ℕ) (a b : Marked) (r : CommandResult) → Completes m (a .command) r → Issues n (b .command) → m < n
-        → a ∈ order → b ∈ order → Before a b order
-    -- a completed command survives
-    pub completed : (n : ℕ) (k : Command) (r : CommandResult) → Completes n k r → (a : Marked) × (a .command ≡ k) × (a ∈ order)
-    -- the order keeps each point's sequence of surviving executions. With `once` this leaves a command one surviving execution at the
-    -- most: of two, the command would stand before itself
-    pub sequence : (m n : ℕ) (a b : Marked) → SurvivesAt m (a .command) → SurvivesAt n (b .command) → m < n
-        → a .command .point ≡ b .command .point → a ∈ order → b ∈ order → Before a b order
-    -- Recover accepts what a crash kept
-    pub recovers : (c : ℕ) (kept : List ℕ) (mark : ℕ) → run es .servers c ≡ crashed kept mark
-        → (st : State) × (recoveredState (planOf plan) kept ≡ some st)
+  abbrev pub Explains : List Marked → Type 0
+  Explains = ExplainedBy plan account
 
 -- the claim
 unfoldable pub Demand3 : Type 0

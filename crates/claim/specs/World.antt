@@ -32,11 +32,15 @@ pub data Server : Type 0 where
   running : List ℕ → List ℕ → Server
   crashed : List ℕ → ℕ → Server
 
-pub record World : Type 0 where
-  pub servers : ℕ → Server
+-- a world whose servers are of type S: here bytes, in `record_claim` states and log records
+pub record WorldOf (S : Type 0) : Type 0 where
+  pub servers : ℕ → S
   pub clients : ℕ → Option Client  -- by client number
   pub manager : LeaseManager
   pub made : List (List ℕ)  -- packets and images, in the order made
+
+abbrev pub World : Type 0
+World = WorldOf Server
 
 -- ---- events
 
@@ -72,17 +76,17 @@ pub data Event : Type 0 where
 
 -- ---- changes of one part
 
-unfoldable pub withServer : ℕ → Server → World → World
+unfoldable pub withServer : {S : Type 0} → ℕ → S → WorldOf S → WorldOf S
 withServer c s w = record { servers = λ d. pick (eqb d c) s (w .servers d); clients = w .clients; manager = w .manager; made = w .made }
 
-unfoldable pub withClient : ℕ → Client → World → World
+unfoldable pub withClient : {S : Type 0} → ℕ → Client → WorldOf S → WorldOf S
 withClient x d w = record { servers = w .servers; clients = λ y. pick (eqb y x) (some d) (w .clients y); manager = w .manager; made = w .made }
 
-unfoldable pub withManager : LeaseManager → World → World
+unfoldable pub withManager : {S : Type 0} → LeaseManager → WorldOf S → WorldOf S
 withManager m w = record { servers = w .servers; clients = w .clients; manager = m; made = w .made }
 
 -- a packet or image is made; no bytes are none
-unfoldable pub making : List ℕ → World → World
+unfoldable pub making : {S : Type 0} → List ℕ → WorldOf S → WorldOf S
 making [] w = w
 making (b ∷ bs) w = record { servers = w .servers; clients = w .clients; manager = w .manager; made = w .made ++ ((b ∷ bs) ∷ []) }
 
@@ -127,31 +131,31 @@ crashAt c k (crashed kept mark) w = withServer c (crashed (take k kept) mark) w
 
 -- ---- clients
 
-unfoldable pub startsAs : StartAnswer → World → World
+unfoldable pub startsAs : {S : Type 0} → StartAnswer → WorldOf S → WorldOf S
 startsAs a w = elim (a .answer) [ NotStarted n ↦ w | Running ↦ withClient (a .client .client) (a .client) w ]
 
-unfoldable pub startsOn : Option (List ℕ) → World → World
+unfoldable pub startsOn : {S : Type 0} → Option (List ℕ) → WorldOf S → WorldOf S
 startsOn none w = w
 startsOn (some b) w = startsAs (startOf b) w
 
-unfoldable pub sends : ℕ → (Client → SendAnswer) → Option Client → World → World
+unfoldable pub sends : {S : Type 0} → ℕ → (Client → SendAnswer) → Option Client → WorldOf S → WorldOf S
 sends x f none w = w
 sends x f (some d) w = making (sentBytes (f d .answer)) (withClient x (f d .client) w)
 
-unfoldable pub receives : ℕ → Option Client → Option (List ℕ) → World → World
+unfoldable pub receives : {S : Type 0} → ℕ → Option Client → Option (List ℕ) → WorldOf S → WorldOf S
 receives x none p w = w
 receives x (some d) none w = w
 receives x (some d) (some b) w = withClient x (receiveOf d b .client) w
 
 -- ---- the lease manager
 
-unfoldable pub told : LeaseAnswer → World → World
+unfoldable pub told : {S : Type 0} → LeaseAnswer → WorldOf S → WorldOf S
 told a w = making (toldBytes (a .answer)) (withManager (a .manager) w)
 
 -- ---- a run
 
 -- a packet or image made
-unfoldable pub packet : World → ℕ → Option (List ℕ)
+unfoldable pub packet : {S : Type 0} → WorldOf S → ℕ → Option (List ℕ)
 packet w n = getElem? (w .made) n
 
 unfoldable pub step : World → Event → World
