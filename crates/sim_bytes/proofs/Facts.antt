@@ -8,6 +8,7 @@
 --     holds-replay                  the replay of the log is sound
 --     holds-chain, holds-length     decided-from and decided-length, of a running server
 --     holds-recorded, holds-size    the recorded length is the replay's and the log's
+--     holds-next                    a record applied to the state in the buffer is the replay with one more record
 --     holds-bytes                   the log is bytes
 --     holds-mark                    the sync mark lies between the head and the log's length
 --     holds-end                     the log's length is its last record's end
@@ -20,9 +21,9 @@ use lib.ListN.{length, take}
 use lib.Seq.{take-append-add}
 use Rattle.model.specs.declared.PlanEntry.{PlanEntry}
 use Rattle.model.specs.Limits.{lastServer, headSize}
-use Rattle.model.specs.Logs.{Entry, recordSize, headBytes, recordBytes, entriesBytes}
+use Rattle.model.specs.Logs.{LogRecord, Entry, recordSize, headBytes, recordBytes, entriesBytes}
 use Rattle.model.specs.States.{State, load}
-use Rattle.model.specs.Apply.{apply, founded, replayFrom, replay, withMark}
+use Rattle.model.specs.Apply.{applyRecord, apply, founded, replayFrom, replay, withMark}
 use Rattle.laws.specs.Bytes.{Bytes}
 use Rattle.laws.specs.Fits.{EntriesFrom, EntryFrom, lastEnd, StateFits}
 use Rattle.laws.proofs.Numbers.{bytes-nil, bytes-append}
@@ -31,7 +32,7 @@ use Rattle.laws.proofs.States.{sound-is, load-fits}
 use Rattle.limits.specs.Sound.{Sound}
 use Rattle.limits.specs.History as History
 use Rattle.limits.specs.History.{GoodPlan, entryFor, DecidedLog, next}
-use Rattle.limits.proofs.Kept.{decided-good}
+use Rattle.limits.proofs.Kept.{decided-good, apply-mark}
 use Rattle.limits.proofs.Recovery.{replay-next, recovers, apply-size}
 use Rattle.simulation.specs.Holds.{Holds}
 use Rattle.sim_bytes.specs.Chains.{Chain}
@@ -109,6 +110,17 @@ module _ {plan : List PlanEntry} {c : ℕ} {es : List Entry} {state log : List �
 
   pub holds-size : load state .size ≡ length log
   holds-size = holds-recorded ∙ sym holds-length
+
+  pub holds-next : (r : LogRecord)
+      → applyRecord r (load state .size + recordSize r) (load state) ≡ withMark (load state .mark) (replay plan c (es ++ (entryFor (replay plan c es) r ∷ [])))
+  unfolding apply
+  holds-next r =
+      let st : State = load state in
+      let R : State = replay plan c es in
+      ap (λ (k : ℕ). applyRecord r (k + recordSize r) st) holds-recorded
+      ∙ ap (λ (x : State). applyRecord r (R .size + recordSize r) x) (H .loaded)
+      ∙ apply-mark r (R .size + recordSize r) (st .mark) R
+      ∙ ap (withMark (st .mark)) (sym (replay-next plan c es (entryFor R r)))
 
   pub holds-bytes : Bytes log
   holds-bytes = subst Bytes (sym (H .logged)) (log-bytes c es (H .number) (holds-chain .entries))

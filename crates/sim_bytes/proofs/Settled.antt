@@ -2,9 +2,10 @@
 --     stored-load, stored-sound, stored-bytes, length-stored     a sound state stored at the front of a buffer
 --     same-state, same-log          slices that come back as they were lent
 --     says, refuses, makes          a decision that changes nothing
---     lent-load                     a lent part of the state buffer that is long enough holds the same state
+--     lent-load, lent-sound         a lent part of the state buffer that is long enough holds the same state, and is sound
 --     appended, marked              a record appended, a mark set
 --     settled, called               every decision; the call with its tests of lent memory
+--     called-whole                  a call with a state buffer and an output that are long enough
 -- Assumes nothing.
 use Prim.Native.Nat.{ℕ, _+_, _-_, _*_, _≤_, _<_}
 use mathlib.Core.Path.{_≡_, refl, sym, ap, _∙_, subst}
@@ -14,7 +15,7 @@ use native.Mathlib.Omega.{arith}
 use lib.ListN.{length, take, drop, length-take, take-append-drop}
 use lib.Seq.{take-append-le, take-take, take-append-seam, length-front}
 use lib.Dec.{ltb}
-use borrow.Author.Tests.{ltb-false}
+use borrow.Author.Tests.{ltb-false, le-ltb}
 use Rattle.model.specs.declared.PlanEntry.{PlanEntry}
 use Rattle.model.specs.Choice.{pick, refuse, deny, reply, append, marks}
 use Rattle.model.specs.Refusals.{tooShort, unsound}
@@ -23,7 +24,7 @@ use Rattle.model.specs.Limits.{headSize, stateSize}
 use Rattle.model.specs.Tables.{written}
 use Rattle.model.specs.Logs.{LogRecord, Entry, recordSize, headBytes, recordBytes, entriesBytes}
 use Rattle.model.specs.States.{State, load, stateBytes, stateEnd, sound}
-use Rattle.model.specs.Apply.{applyRecord, apply, replay, withMark}
+use Rattle.model.specs.Apply.{applyRecord, replay, withMark}
 use Rattle.model.specs.Decisions.{Decided}
 use Rattle.model.specs.Operations.{After, answerOf, after, short, unfit, freeIn, stored, settle, lent}
 use Rattle.laws.specs.Bytes.{Bytes}
@@ -36,15 +37,15 @@ use Rattle.limits.specs.Sound.{Sound}
 use Rattle.limits.specs.History.{Decides, entryFor, DecidedLog, next}
 use Rattle.limits.proofs.Tests.{state-of}
 use Rattle.limits.proofs.Steps.{sound-mark}
-use Rattle.limits.proofs.Kept.{decided-sound, decided-space, decides-mark, apply-mark}
-use Rattle.limits.proofs.Recovery.{replay-next, apply-size}
+use Rattle.limits.proofs.Kept.{decided-sound, decided-space, decides-mark}
+use Rattle.limits.proofs.Recovery.{apply-size}
 use Rattle.claim.specs.World.{Lent, lentState, lentLog, stateBack, logBack}
 use Rattle.claim.specs.Provisos.{LentOk}
 use Rattle.simulation.specs.Holds.{Holds}
 use Rattle.sim_bytes.specs.Calls.{spaceIn, Admissible, Says, Leaves, Outcome, Called, short as shortCall, lacking, decided}
 use Rattle.sim_bytes.specs.Chains.{Chain}
 use Rattle.limits.proofs.Tests.{fits-of}
-use Rattle.sim_bytes.proofs.Facts.{take-front, holds-fits, holds-sound, holds-chain, holds-length, holds-recorded, holds-size}
+use Rattle.sim_bytes.proofs.Facts.{take-front, holds-fits, holds-sound, holds-chain, holds-length, holds-recorded, holds-size, holds-next}
 
 -- ---- a sound state at the front of a buffer
 
@@ -130,6 +131,9 @@ module _ {plan : List PlanEntry} {c : ℕ} {es : List Entry} {state log : List �
     pub lent-load : load s ≡ load state
     lent-load = ap load lent-front ∙ load-front (load state) (holds-fits H) (take (l .state - stateEnd) (drop stateEnd state))
 
+    pub lent-sound : sound s ≡ true
+    lent-sound = ap sound lent-front ∙ sound-front (load state) (holds-fits H) (take (l .state - stateEnd) (drop stateEnd state)) (state-of (load state) (holds-sound H))
+
     -- a state stored in the lent part, and a log slice whose whole part are the entries
     leaves : (fs : List Entry) (m : ℕ) (st : State) → Sound st → st ≡ withMark m (replay plan c fs) → DecidedLog plan c fs → (h : List ℕ)
         → take (st .size) (h ++ drop (l .log) (log ++ l .tail)) ≡ headBytes c ++ entriesBytes fs → (out : List ℕ)
@@ -191,14 +195,6 @@ module _ {plan : List PlanEntry} {c : ℕ} {es : List Entry} {state log : List �
         small : R .size + recordSize r < word * word
         small = omega (arith, space, counted, holds-length H)
 
-        next-state : applyRecord r (st .size + recordSize r) st ≡ withMark (st .mark) (replay plan c (es ++ (e ∷ [])))
-        unfolding apply
-        next-state =
-            ap (λ (k : ℕ). applyRecord r (k + recordSize r) st) (holds-recorded H)
-            ∙ ap (λ (x : State). applyRecord r (R .size + recordSize r) x) (H .loaded)
-            ∙ apply-mark r (R .size + recordSize r) (st .mark) R
-            ∙ ap (withMark (st .mark)) (sym (replay-next plan c es e))
-
         next-log : take (length log + recordSize r) (written g (length log) (recordBytes r)) ≡ headBytes c ++ entriesBytes (es ++ (e ∷ []))
         next-log =
             let C : Chain plan c es = holds-chain H in
@@ -219,7 +215,7 @@ module _ {plan : List PlanEntry} {c : ℕ} {es : List Entry} {state log : List �
             (after (answerOf 0 0) (stored s (applyRecord r (st .size + recordSize r) st)) (written g (length log) (recordBytes r)) out)
         appended out =
             leaves (es ++ (e ∷ [])) (st .mark) (applyRecord r (st .size + recordSize r) st)
-            (decided-sound st (spaceIn l state log) r (holds-sound H) D (omega (arith, small, holds-recorded H))) next-state
+            (decided-sound st (spaceIn l state log) r (holds-sound H) D (omega (arith, small, holds-recorded H))) (holds-next H r)
             (next es (spaceIn l state log) r (H .decided)
             (decides-mark R (spaceIn l state log) (st .mark) r (subst (λ (x : State). Decides x (spaceIn l state log) r) (H .loaded) D)) small)
             (written g (length log) (recordBytes r))
@@ -280,3 +276,20 @@ module _ {plan : List PlanEntry} {c : ℕ} {es : List Entry} {state log : List �
           let holding : length log ≤ length g = omega (arith, ltb-false (length g) (load s .size) k, ap (λ (x : State). x .size) same, holds-size H) in
           let sames : D ≡ E = ap (λ (x : State). d x (length g - x .size)) (sym same) in
           decided (subst (λ (x : Decided). Outcome plan c es l state log (settle s g out x) D) sames (settled whole ok holding out need (ltb-false _ _ f) D a))
+
+  -- with a state buffer and an output that are long enough: 19 where the log slice is short, else the operation's decision
+  pub called-whole : stateSize ≤ length s → LentOk l → (out : List ℕ) (need : ℕ) → need ≤ length out → (d : State → ℕ → Decided)
+      → Admissible (load state) (spaceIn l state log) need (d (load state) (spaceIn l state log))
+      → Outcome plan c es l state log (settle s g out (lent s g out need (d (load s) (freeIn s g))))
+      (pick (ltb (length g) (load state .size)) (refuse unsound) (d (load state) (spaceIn l state log)))
+  unfolding settle lent short unfit freeIn spaceIn
+  called-whole whole ok out need enough d a =
+      rw (le-ltb (length s) stateSize whole, le-ltb (length out) need enough, lent-sound whole, lent-load whole) (go (ltb (length g) (load state .size)) refl)
+    where
+      D : Decided
+      D = d (load state) (length g - load state .size)
+
+      go : (t : Bool) → ltb (length g) (load state .size) ≡ t → Outcome plan c es l state log (settle s g out (pick t (refuse unsound) D)) (pick t (refuse unsound) D)
+      go true e = refuses unsound out
+      go false e =
+          settled whole ok (omega (arith, ltb-false (length g) (load state .size) e, holds-size H)) out need enough D a

@@ -2,7 +2,7 @@
 --     found-passed, found-does      found answers 0 exactly where its tests pass
 --     found-refused                 a refused found leaves its slices
 --     found-started                 a server that found starts
---     recovered-kept                what a crash kept is recovered as the replay of its entries
+--     kept-recovers, recovered-kept     recovery replays the entries that a crash kept, with any plan, and with the server's own
 --     recover-passed, recover-short, recover-bad, recover-does     what recover answers, by its tests
 --     recover-refused               a refused recover leaves its slices
 --     recover-started               a server that recover starts from what a crash kept: 0, never 14
@@ -28,7 +28,7 @@ use Rattle.model.specs.Plan.{planOk, planOf}
 use Rattle.model.specs.Logs.{Entry, headBytes, headOk, headServer, entriesBytes, entriesOf}
 use Rattle.model.specs.States.{State, load, stateEnd, sound}
 use Rattle.model.specs.Apply.{founded, replayFrom, replay, withMark}
-use Rattle.model.specs.Operations.{After, answerOf, after, short, stored, foundOf, recoveredAll, recoveredState, settleRecovered, recoverOf}
+use Rattle.model.specs.Operations.{After, answerOf, after, short, stored, foundOf, recovered, recoveredAll, recoveredState, settleRecovered, recoverOf}
 use Rattle.laws.specs.Bytes.{Bytes}
 use Rattle.laws.proofs.Numbers.{bytes-nil}
 use Rattle.laws.proofs.Written.{written-front}
@@ -132,17 +132,21 @@ unfolding recoveredState
 head-recovers plan log h = rw (h, recoveredState)
 
 module _ {plan : List PlanEntry} {c : ℕ} {es : List Entry} {kept : List ℕ} {mark : ℕ} (K : Kept plan c es kept mark) where
-  -- what a crash kept is recovered
-  pub recovered-kept : recoveredState plan kept ≡ some (replay plan c es)
+  -- recovery, with any plan, replays the entries that a crash kept
+  pub kept-recovers : (q : List PlanEntry) → recoveredState q kept ≡ recovered (founded q c) es
   unfolding recoveredAll
-  recovered-kept =
+  kept-recovers q =
       let C : Chain plan c es = decided-from plan c (K .good) (K .number) es (K .decided) in
       let rest : List ℕ = entriesBytes es ++ K .rest in
       let split : kept ≡ headBytes c ++ rest = K .logged ∙ append-assoc (headBytes c) (entriesBytes es) (K .rest) in
       let head : headOk kept ≡ true = ap headOk split ∙ head-back c rest (K .number) in
       let server : headServer kept ≡ c = ap headServer split ∙ head-server c rest in
       let entries : entriesOf kept ≡ some es = ap entriesOf split ∙ entries-back c es (K .rest) (C .entries) (K .incomplete) in
-      head-recovers plan kept head ∙ rw (server, entries) (recovers plan c (K .good) (K .number) es (K .decided) .same)
+      head-recovers q kept head ∙ rw (server, entries) refl
+
+  -- with the server's own, it gives their replay
+  pub recovered-kept : recoveredState plan kept ≡ some (replay plan c es)
+  recovered-kept = kept-recovers plan ∙ recovers plan c (K .good) (K .number) es (K .decided) .same
 
 module _ (state log p : List ℕ) where
   pub recover-passed : recoverOf state log p .answer .number ≡ 0 → (stateSize ≤ length state) × (planOk p ≡ true)

@@ -1,0 +1,80 @@
+-- Demand 3 over states and log records: after every schedule there is one order of all surviving commands, each once, that explains every
+-- result and every final value, in real-time order. The clauses are those of `claim`.
+-- Assumes nothing.
+use Prim.Native.Nat.{ℕ, suc, _≤_, _<_}
+use mathlib.Core.Path.{_≡_}
+use mathlib.Core.List.{List, []}
+use mathlib.Core.Option.{Option, none, some}
+use Rattle.model.specs.declared.CommandResult.{CommandResult}
+use Rattle.model.specs.declared.Command.{Command}
+use Rattle.model.specs.declared.Request.{Request}
+use Rattle.model.specs.declared.Packet.the-variants.{Requested}
+use Rattle.model.specs.Sequential.{Marked}
+use Rattle.model.specs.Packets.{parsePacket, commandOf}
+use Rattle.model.specs.States.{State}
+use Rattle.model.specs.Decisions.{onRequest}
+use Rattle.claim.specs.World.{packet}
+use Rattle.claim.specs.Claim.{versionAt, IssuesBy, CompletesBy, Account, ExplainedBy}
+use Rattle.record_claim.specs.World.{Event, request, crash, issue, receive, Log, Server, nothing, running, crashed, callOf, recoveredFrom, run, after}
+use Rattle.record_claim.specs.Provisos.{Provisos, At, lengthOf}
+
+module _ (plan : List ℕ) (es : List Event) where
+  abbrev pub Issues : ℕ → Command → Type 0
+  Issues = IssuesBy (after es) (λ n x op p a. At plan es n (issue x op p a))
+
+  abbrev pub Completes : ℕ → Command → CommandResult → Type 0
+  Completes = CompletesBy (after es) (λ n x p. At plan es n (receive x p))
+
+  -- "A Request of it that gives neither number nor packet executes it": event n executes k at server c
+  pub record Executes (n c : ℕ) (k : Command) : Type 0 where
+    pub number : ℕ
+    pub room : ℕ
+    pub event : At plan es n (request c number room)
+    pub state : State
+    pub log : Log
+    pub up : after es n .servers c ≡ running state log
+    pub bytes : List ℕ
+    pub delivered : packet (after es n) number ≡ some bytes
+    pub no-number : callOf state log room (λ st free. onRequest st free (parsePacket bytes)) .number ≡ 0
+    pub no-packet : callOf state log room (λ st free. onRequest st free (parsePacket bytes)) .made ≡ []
+    pub asked : Request
+    pub parsed : parsePacket bytes ≡ Requested asked
+    pub its : commandOf asked ≡ k
+
+  -- "It survives if, after one such Request, no crash left that log shorter than the Request left it"
+  pub record SurvivesAt (n : ℕ) (k : Command) : Type 0 where
+    pub server : ℕ
+    pub executes : Executes n server k
+    pub kept : (m b : ℕ) → n < m → At plan es m (crash server b) → lengthOf (after es (suc n) .servers server) ≤ b
+
+  -- "until it succeeds, or if the list ends first, the cabinet counts with the state that Recover gives from these"
+  unfoldable pub stateGiven : Server → Option State
+  stateGiven nothing = none
+  stateGiven (running st log) = some st
+  stateGiven (crashed log k mark) = recoveredFrom plan log
+
+  unfoldable pub finalState : ℕ → Option State
+  finalState c = stateGiven (run es .servers c)
+
+  -- every server that a crash left recovers from what the crash kept
+  abbrev pub Recovers : Type 0
+  Recovers = (c : ℕ) (log : Log) (k mark : ℕ) → run es .servers c ≡ crashed log k mark → (st : State) × (recoveredFrom plan log ≡ some st)
+
+  abbrev pub account : Account
+  account =
+      record {
+        Issues = Issues;
+        Completes = Completes;
+        SurvivesAt = SurvivesAt;
+        version = versionAt es;
+        final = finalState;
+        Recovers = Recovers;
+      }
+
+  -- the order explains the schedule
+  abbrev pub Explains : List Marked → Type 0
+  Explains = ExplainedBy plan account
+
+-- the claim
+unfoldable pub Demand3 : Type 0
+Demand3 = (plan : List ℕ) (es : List Event) → Provisos plan es → (order : List Marked) × Explains plan es order

@@ -1,0 +1,5 @@
+-- Demand 3 over states and log records: World runs the decisions of `model` over a schedule, Provisos are the customer's conditions, Claim
+-- is the statement.
+pub mod World
+pub mod Provisos
+pub mod Claim
