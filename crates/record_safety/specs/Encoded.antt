@@ -47,3 +47,7 @@ encoded w (R.query x t) = B.query x t
 unfoldable pub encodedFrom : B.World → List R.Event → List B.Event
 encodedFrom w [] = []
 encodedFrom w (e ∷ es) = encoded w e ∷ encodedFrom (B.step w (encoded w e)) es
+
+-- a whole schedule
+abbrev pub schedule : List R.Event → List B.Event
+schedule es = encodedFrom B.emptyWorld es
