@@ -89,6 +89,13 @@ module _ {S : Type 0} (world : ℕ → WorldOf S) where
     pub its : commandAt state (received .call) ≡ k
     pub result : resultIn received ≡ r
 
+-- "It survives if, after one such Request, no crash left that log shorter than the Request left it": event n executes k. `Is m c b`: event
+-- m is a crash of server c that keeps b bytes; `size n c`: the bytes of its log after n events
+pub record SurvivesAtBy (Executes : ℕ → ℕ → Command → Type 0) (Is : ℕ → ℕ → ℕ → Type 0) (size : ℕ → ℕ → ℕ) (n : ℕ) (k : Command) : Type 0 where
+  pub server : ℕ
+  pub executes : Executes n server k
+  pub kept : (m b : ℕ) → n < m → Is m server b → size (suc n) server ≤ b
+
 -- what demand 3 reads of a run: the event that issues a command, that completes it with a result, that executes it so that it survives;
 -- the version of an op's rule at an event; the state that each server counts with at the end; that Recover accepts what a crash kept
 pub record Account : Type 1 where
@@ -162,11 +169,8 @@ module _ (plan : List ℕ) (es : List Event) where
     pub parsed : parsePacket bytes ≡ Requested asked
     pub its : commandOf asked ≡ k
 
-  -- "It survives if, after one such Request, no crash left that log shorter than the Request left it"
-  pub record SurvivesAt (n : ℕ) (k : Command) : Type 0 where
-    pub server : ℕ
-    pub executes : Executes n server k
-    pub kept : (m b : ℕ) → n < m → At plan es m (crash server b) → lengthOf (after es (suc n) .servers server) ≤ b
+  abbrev pub SurvivesAt : ℕ → Command → Type 0
+  SurvivesAt = SurvivesAtBy Executes (λ n c b. At plan es n (crash c b)) (λ n c. lengthOf (after es n .servers c))
 
   -- "until it succeeds, or if the list ends first, the cabinet counts with the state that Recover gives from these"
   unfoldable pub stateGiven : Server → Option State

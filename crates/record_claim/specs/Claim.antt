@@ -1,7 +1,7 @@
 -- Demand 3 over states and log records: after every schedule there is one order of all surviving commands, each once, that explains every
 -- result and every final value, in real-time order. The clauses are those of `claim`.
 -- Assumes nothing.
-use Prim.Native.Nat.{ℕ, suc, _≤_, _<_}
+use Prim.Native.Nat.{ℕ}
 use mathlib.Core.Path.{_≡_}
 use mathlib.Core.List.{List, []}
 use mathlib.Core.Option.{Option, none, some}
@@ -14,7 +14,7 @@ use Rattle.model.specs.Packets.{parsePacket, commandOf}
 use Rattle.model.specs.States.{State}
 use Rattle.model.specs.Decisions.{onRequest}
 use Rattle.claim.specs.World.{packet}
-use Rattle.claim.specs.Claim.{versionAt, IssuesBy, CompletesBy, Account, ExplainedBy}
+use Rattle.claim.specs.Claim.{versionAt, IssuesBy, CompletesBy, SurvivesAtBy, Account, ExplainedBy}
 use Rattle.record_claim.specs.World.{Event, request, crash, issue, receive, Log, Server, nothing, running, crashed, callOf, recoveredFrom, run, after}
 use Rattle.record_claim.specs.Provisos.{Provisos, At, lengthOf}
 
@@ -41,11 +41,8 @@ module _ (plan : List ℕ) (es : List Event) where
     pub parsed : parsePacket bytes ≡ Requested asked
     pub its : commandOf asked ≡ k
 
-  -- "It survives if, after one such Request, no crash left that log shorter than the Request left it"
-  pub record SurvivesAt (n : ℕ) (k : Command) : Type 0 where
-    pub server : ℕ
-    pub executes : Executes n server k
-    pub kept : (m b : ℕ) → n < m → At plan es m (crash server b) → lengthOf (after es (suc n) .servers server) ≤ b
+  abbrev pub SurvivesAt : ℕ → Command → Type 0
+  SurvivesAt = SurvivesAtBy Executes (λ n c b. At plan es n (crash c b)) (λ n c. lengthOf (after es n .servers c))
 
   -- "until it succeeds, or if the list ends first, the cabinet counts with the state that Recover gives from these"
   unfoldable pub stateGiven : Server → Option State

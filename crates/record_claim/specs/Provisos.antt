@@ -9,7 +9,6 @@ use mathlib.Core.Path.{_≡_}
 use mathlib.Core.List.{List}
 use mathlib.Core.Option.{none, some}
 use lib.ListN.{getElem?}
-use Rattle.model.specs.declared.Client.{Client}
 use Rattle.model.specs.declared.Started.the-variants.{Running}
 use Rattle.model.specs.Numbers.{word}
 use Rattle.model.specs.States.{State}

@@ -5,7 +5,7 @@ use mathlib.Core.List.{List, [], _∷_}
 use mathlib.Core.Option.{Option, none, some}
 use lib.ListN.{length}
 use Rattle.model.specs.Yard.{yardPlan}
-use Rattle.record_claim.specs.World.{Event, found, request, sync, give, image, take·image, receipt, release, recover, crash, open·lease, start, issue, receive, Log, World, keptBy, step, emptyWorld}
+use Rattle.record_claim.specs.World.{Event, found, request, sync, give, image, take·image, receipt, release, recover, crash, open·lease, start, issue, Log, World, keptBy, step, emptyWorld}
 use Rattle.record_claim.specs.Provisos.{lengthOf, markOf}
 
 -- a client sets point 5 to 40: executed, refused with 7, cut off by a crash inside its record, executed again, recovered whole, told;

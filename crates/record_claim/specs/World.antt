@@ -2,12 +2,12 @@
 -- its state and what recovery makes of records are the definitions that `model` uses on bytes. Clients, lease manager and packets are those of
 -- `claim`; packets are bytes, parsed by the server. Lent buffers and the layouts of state and log are all that is left out.
 -- Assumes nothing.
-use Prim.Native.Nat.{ℕ, zero, suc, _+_, _-_}
-use mathlib.Core.Bool.{Bool, true, false, _||_, not}
+use Prim.Native.Nat.{ℕ, _+_, _-_}
+use mathlib.Core.Bool.{_||_, not}
 use mathlib.Core.List.{List, [], _∷_, _++_}
 use mathlib.Core.Option.{Option, none, some}
-use lib.ListN.{length, take}
-use lib.Dec.{eqb, leb, ltb}
+use lib.ListN.{take}
+use lib.Dec.{leb, ltb}
 use Rattle.model.specs.Choice.{pick, refuse, deny, reply, append, marks, _if_else_}
 use Rattle.model.specs.Refusals.{unsound}
 use Rattle.model.specs.Limits.{lastServer}

@@ -3,9 +3,9 @@
 --     recovers-end             recovery
 --     demand3-records
 -- Assumes nothing.
-use Prim.Native.Nat.{ℕ, suc}
+use Prim.Native.Nat.{ℕ}
 use mathlib.Core.Path.{_≡_, refl, sym, _∙_, ap, subst}
-use mathlib.Core.List.{List, [], _∷_}
+use mathlib.Core.List.{List}
 use mathlib.Core.Option.{some}
 use native.Mathlib.Omega.{arith}
 use lib.ListN.{length, take}
@@ -13,7 +13,6 @@ use lib.Seq.{take-length}
 use Rattle.model.specs.Plan.{planOf}
 use Rattle.model.specs.States.{State}
 use Rattle.model.specs.Apply.{replay}
-use Rattle.model.specs.Sequential.{Marked}
 use Rattle.sim_bytes.proofs.Starts.{recovered-kept}
 use Rattle.safety.proofs.Demand3.{demand3}
 use Rattle.claim.specs.World as B
@@ -21,17 +20,12 @@ use Rattle.claim.specs.Claim as BC
 use Rattle.record_claim.specs.World as R
 use Rattle.record_claim.specs.Provisos.{Provisos}
 use Rattle.record_claim.specs.Claim as RC
-use Rattle.record_safety.specs.Encoded.{encoded, encodedFrom, schedule}
+use Rattle.record_safety.specs.Encoded.{schedule}
 use Rattle.record_safety.specs.Alike.{ServerAlike, nothing, running, crashed, WorldAlike}
 use Rattle.record_safety.proofs.Starts.{recovered-either}
-use Rattle.record_safety.proofs.Runs.{both-at, provisos-there}
+use Rattle.record_safety.proofs.Runs.{same-count, provisos-there, along-there, both-at}
 use Rattle.record_safety.proofs.Carried.{explained-too}
 use Rattle.record_safety.proofs.Events.{issues-there, completes-there, survives-there, survives-here}
-
-same-count : (es : List R.Event) (b : B.World) → length (encodedFrom b es) ≡ length es
-unfolding encodedFrom
-same-count [] b = refl
-same-count (e ∷ es) b = ap suc (same-count es (B.step b (encoded b e)))
 
 module _ (plan : List ℕ) (es : List R.Event) (P : Provisos plan es) where
   -- ---- the end
@@ -41,7 +35,7 @@ module _ (plan : List ℕ) (es : List R.Event) (P : Provisos plan es) where
   end-alike =
       let w : take (length es) es ≡ es = take-length es in
       let v : take (length es) (schedule es) ≡ schedule es
-      = subst (λ (n : ℕ). take n (schedule es) ≡ schedule es) (same-count es B.emptyWorld) (take-length (schedule es)) in
+      = subst (λ (n : ℕ). take n (schedule es) ≡ schedule es) (sym (same-count plan (along-there plan es P))) (take-length (schedule es)) in
       rw (w, v) at (both-at plan es P (length es) .alike)
 
   same-given : (c : ℕ) {x : R.Server} {y : B.Server} → ServerAlike (planOf plan) c x y → RC.stateGiven plan es x ≡ BC.stateGiven plan (schedule es) y
@@ -68,7 +62,7 @@ module _ (plan : List ℕ) (es : List R.Event) (P : Provisos plan es) where
 pub demand3-records : RC.Demand3
 unfolding RC.Demand3 BC.Demand3 BC.versionAt
 demand3-records plan es P =
-    let x = demand3 plan (schedule es) (provisos-there plan es P) in (
+    let x = demand3 plan (schedule es) (provisos-there plan (along-there plan es P)) in (
       x .0,
       explained-too plan (RC.account plan es) (BC.account plan (schedule es)) (issues-there plan es P) (completes-there plan es P) (survives-there plan es P)
           (survives-here plan es P) (λ n op. refl) (same-final plan es P) (recovers-end plan es P) (x .0) (x .1),

@@ -18,11 +18,10 @@ use Rattle.model.specs.declared.Command.{Command}
 use Rattle.model.specs.declared.CommandResult.{CommandResult}
 use Rattle.model.specs.Numbers.{word}
 use Rattle.model.specs.Limits.{resultSize, greatestImage}
-use Rattle.model.specs.Plan.{planOf}
 use Rattle.model.specs.Packets.{parsePacket}
 use Rattle.model.specs.States.{State}
 use Rattle.model.specs.Decisions.{onRequest}
-use Rattle.model.specs.Operations.{After, answerOf, requestOf}
+use Rattle.model.specs.Operations.{answerOf, requestOf}
 use Rattle.laws.specs.Bytes.{Bytes}
 use Rattle.sim_bytes.proofs.Terms.{request-terms}
 use Rattle.safety_steps.specs.Left.{Delivered, absent, here}
@@ -36,10 +35,9 @@ use Rattle.record_claim.specs.World as R
 use Rattle.record_claim.specs.Provisos as RP
 use Rattle.record_claim.specs.Claim as RC
 use Rattle.record_safety.specs.Encoded.{blank, lentFor, encoded, schedule}
-use Rattle.record_safety.specs.Alike.{RunningAlike, ServerAlike, nothing, running, crashed, LeftAlike, Performs}
-use Rattle.record_safety.specs.Runs.{Both}
+use Rattle.record_safety.specs.Alike.{RunningAlike, ServerAlike, nothing, running, crashed, Performs}
 use Rattle.record_safety.proofs.Worlds.{same-packet, alike-length}
-use Rattle.record_safety.proofs.Calls.{blank-length, call-left}
+use Rattle.record_safety.proofs.Calls.{blank-length, lent-ok, lent-whole, lent-room, call-left}
 use Rattle.record_safety.proofs.Runs.{both-at, at-there, at-back}
 
 -- ---- the events that are encoded so
@@ -114,9 +112,10 @@ request-left : (room : ℕ) → room < word * word → (b : List ℕ) → Bytes 
     → requestOf (lentState (lentFor room) state) (lentLog (lentFor room) bytes) b (blank greatestImage) .answer
     ≡ answerOf (R.callOf st log room (λ s free. onRequest s free (parsePacket b)) .number) (length (R.callOf st log room (λ s free. onRequest s free (parsePacket b)) .made))
 unfolding Performs requestOf
-request-left room ok b h K =
-    call-left room ok (λ s g. requestOf s g b (blank greatestImage)) (blank greatestImage) resultSize (rw (blank-length greatestImage) (lit≤ tt))
-    (λ s free. onRequest s free (parsePacket b)) (λ s g. refl) (λ s free S. request-terms s free b h (parsePacket b) refl) K .answer
+request-left room ok b h {state = state} {bytes = bytes} K =
+    call-left (λ s g. requestOf s g b (blank greatestImage)) (blank greatestImage) resultSize (λ s free. onRequest s free (parsePacket b)) (λ s g. refl)
+    (λ s free S. request-terms s free b h (parsePacket b) refl) (lentFor room) (lent-ok room ok) K (lent-whole room state (K .holds .long))
+    (rw (blank-length greatestImage) (lit≤ tt)) room (lent-room room bytes) .answer
 
 no-bytes : (b : List ℕ) → length b ≡ 0 → b ≡ []
 no-bytes [] e = refl

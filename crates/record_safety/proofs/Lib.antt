@@ -2,7 +2,10 @@ pub mod Worlds
 pub mod Calls
 pub mod Starts
 pub mod Steps
+pub mod Encoding
+pub mod Decoding
 pub mod Runs
 pub mod Carried
 pub mod Events
 pub mod Demand3
+pub mod Complete

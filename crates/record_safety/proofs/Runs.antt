@@ -1,67 +1,39 @@
--- A schedule under the provisos and its encoding: the worlds stay alike, and the encoding is under the provisos over bytes.
---     both-at                       the worlds after n events
---     at-there, at-back             event n of both schedules
---     provisos-there                the provisos over bytes
+-- A schedule under the provisos, over records or over bytes, and the one that does the same over the other: the worlds stay alike, and the
+-- provisos hold there.
+--     along-encoded, along-decoded          they run together
+--     both-from, same-count                 the worlds after n events
+--     provisos-there, provisos-here         the provisos, over bytes and over records
+--     both-at, at-there, at-back            of a schedule over records: worlds and events by number
 -- Assumes nothing.
 use Prim.Native.Nat.{ℕ, zero, suc}
-use mathlib.Core.Path.{_≡_, refl, sym, ap, subst}
+use mathlib.Core.Path.{_≡_, refl, ap, subst}
 use mathlib.Core.List.{List, [], _∷_}
-use mathlib.Core.Option.{none, some}
+use mathlib.Core.Option.{some}
 use native.Mathlib.Omega.{arith}
 use lib.ListN.{length, take, getElem?}
 use Rattle.model.specs.Plan.{planOf}
-use Rattle.leases.proofs.Kept.{new-well}
 use Rattle.protocol.specs.World as Abstract
 use Rattle.safety_steps.specs.Allowed as Bytes
 use Rattle.safety_steps.proofs.Steps.{follows}
-use Rattle.safety.proofs.Runs.{empty-like, empty-parties}
+use Rattle.safety.proofs.Runs.{allowed, empty-like, empty-parties}
 use Rattle.claim.specs.World as B
 use Rattle.claim.specs.Provisos as BP
 use Rattle.record_claim.specs.World as R
 use Rattle.record_claim.specs.Provisos as RP
 use Rattle.record_safety.specs.Encoded.{encoded, encodedFrom, schedule}
-use Rattle.record_safety.specs.Alike.{WorldAlike, nothing}
+use Rattle.record_safety.specs.Decoded.{decoded, decodedFrom}
+use Rattle.record_safety.specs.Alike.{nothing}
+use Rattle.record_safety.specs.Stands.{Stands}
 use Rattle.record_safety.specs.Allowed.{Keeps, Allowed}
-use Rattle.record_safety.specs.Runs.{Both}
-use Rattle.record_safety.proofs.Steps.{step-alike, encoded-typed, encoded-keeps}
+use Rattle.record_safety.specs.Runs.{Both, Along, done, more}
+use Rattle.record_safety.proofs.Steps.{step-alike}
+use Rattle.record_safety.proofs.Encoding.{encoded-stands, encoded-typed, encoded-keeps}
+use Rattle.record_safety.proofs.Decoding.{decoded-stands, decoded-typed, decoded-keeps}
 
--- ---- events
-
--- the byte world before event n
-abbrev before : B.World → List R.Event → ℕ → B.World
-before b es n = B.runFrom b (take n (encodedFrom b es))
-
-pub event-there : (es : List R.Event) (b : B.World) (n : ℕ) (e : R.Event) → getElem? es n ≡ some e → getElem? (encodedFrom b es) n ≡ some (encoded (before b es n) e)
-unfolding encodedFrom B.runFrom
-event-there [] b n e q = let z : _≡_ {A = ℕ} 0 1 = cc in absurd (omega arith)
-event-there (x ∷ es) b zero e q = let z : x ≡ e = cc in ap (λ (y : R.Event). some (encoded b y)) z
-event-there (x ∷ es) b (suc n) e q = event-there es (B.step b (encoded b x)) n e q
-
-pub event-back : (es : List R.Event) (b : B.World) (n : ℕ) (y : B.Event) → getElem? (encodedFrom b es) n ≡ some y
-    → (e : R.Event) × (getElem? es n ≡ some e) × (y ≡ encoded (before b es n) e)
-unfolding encodedFrom B.runFrom
-event-back [] b n y q = let z : _≡_ {A = ℕ} 0 1 = cc in absurd (omega arith)
-event-back (x ∷ es) b zero y q = let z : y ≡ encoded b x = cc in (x, refl, z)
-event-back (x ∷ es) b (suc n) y q = event-back es (B.step b (encoded b x)) n y q
-
--- ---- worlds
+-- ---- both schedules together
 
 module _ (plan : List ℕ) where
-  both-step : {r : R.World} {b : B.World} → Both plan r b → (e : R.Event) → Allowed plan r e → Both plan (R.step r e) (B.step b (encoded b e))
-  both-step {r} {b} l e a =
-      let s = follows plan (l .like) (l .parties) (encoded b e) (encoded-typed plan (l .alike) (l .like) e (a .typed)) (encoded-keeps plan (l .alike) (l .like) e (a .keeps)) in
-      record { alike = step-alike plan (l .alike) (l .like) e (a .typed) (a .keeps); abstract = _; like = s .like; parties = s .parties }
-
-  pub both-from : (es : List R.Event) {r : R.World} {b : B.World} → Both plan r b
-      → ((n : ℕ) (e : R.Event) → getElem? es n ≡ some e → Allowed plan (R.runFrom r (take n es)) e)
-      → (n : ℕ) → Both plan (R.runFrom r (take n es)) (before b es n)
-  unfolding encodedFrom B.runFrom R.runFrom
-  both-from [] l a zero = l
-  both-from [] l a (suc n) = l
-  both-from (e ∷ es) l a zero = l
-  both-from (e ∷ es) l a (suc n) = both-from es (both-step l e (a zero e refl)) (λ m x q. a (suc m) x q) n
-
-  empty-both : Both plan R.emptyWorld B.emptyWorld
+  pub empty-both : Both plan R.emptyWorld B.emptyWorld
   unfolding R.emptyWorld B.emptyWorld
   empty-both =
       record {
@@ -71,7 +43,120 @@ module _ (plan : List ℕ) where
         parties = empty-parties;
       }
 
--- ---- a schedule under the provisos
+  -- two events that do the same
+  both-step : {r : R.World} {b : B.World} → Both plan r b → {e : R.Event} {y : B.Event} → Stands plan r b e y → Bytes.Allowed plan b y → Both plan (R.step r e) (B.step b y)
+  both-step l {y = y} s a =
+      let f = follows plan (l .like) (l .parties) y (a .typed) (a .keeps) in
+      record { alike = step-alike plan (l .alike) (l .like) s (a .typed); abstract = _; like = f .like; parties = f .parties }
+
+  pub along-encoded : (es : List R.Event) {r : R.World} {b : B.World} → Both plan r b
+      → ((n : ℕ) (e : R.Event) → getElem? es n ≡ some e → Allowed plan (R.runFrom r (take n es)) e) → Along plan r b es (encodedFrom b es)
+  unfolding encodedFrom R.runFrom
+  along-encoded [] l a = done l
+  along-encoded (e ∷ es) {b = b} l a =
+      let x = a zero e refl in
+      let y : Bytes.Allowed plan b (encoded b e) = record { typed = encoded-typed plan (l .alike) e (x .typed); keeps = encoded-keeps plan (l .alike) e (x .keeps) } in
+      more l x y (along-encoded es (both-step l (encoded-stands plan (l .alike) e (x .keeps)) y) (λ n f q. a (suc n) f q))
+
+  pub along-decoded : (ys : List B.Event) {r : R.World} {b : B.World} → Both plan r b
+      → ((n : ℕ) (y : B.Event) → getElem? ys n ≡ some y → Bytes.Allowed plan (B.runFrom b (take n ys)) y) → Along plan r b (decodedFrom b ys) ys
+  unfolding decodedFrom B.runFrom
+  along-decoded [] l a = done l
+  along-decoded (y ∷ ys) {r = r} {b = b} l a =
+      let x = a zero y refl in
+      let e : Allowed plan r (decoded b y) = record { typed = decoded-typed plan (l .alike) y (x .typed); keeps = decoded-keeps plan (l .alike) y (x .keeps) } in
+      more l e x (along-decoded ys (both-step l (decoded-stands plan (l .alike) y (x .keeps)) x) (λ n f q. a (suc n) f q))
+
+  -- ---- by number
+
+  pub both-from : {r : R.World} {b : B.World} {es : List R.Event} {ys : List B.Event} → Along plan r b es ys → (n : ℕ)
+      → Both plan (R.runFrom r (take n es)) (B.runFrom b (take n ys))
+  unfolding R.runFrom B.runFrom
+  both-from (done l) zero = l
+  both-from (done l) (suc n) = l
+  both-from (more l a c f) zero = l
+  both-from (more l a c f) (suc n) = both-from f n
+
+  pub same-count : {r : R.World} {b : B.World} {es : List R.Event} {ys : List B.Event} → Along plan r b es ys → length es ≡ length ys
+  same-count (done l) = refl
+  same-count (more l a c f) = ap suc (same-count f)
+
+  allowed-here : {r : R.World} {b : B.World} {es : List R.Event} {ys : List B.Event} → Along plan r b es ys → (n : ℕ) (e : R.Event) → getElem? es n ≡ some e
+      → Allowed plan (R.runFrom r (take n es)) e
+  unfolding R.runFrom
+  allowed-here (done l) n e q = let z : _≡_ {A = ℕ} 0 1 = cc in absurd (omega arith)
+  allowed-here (more {r = r} {e = x} l a c f) zero e q = let z : x ≡ e = cc in subst (Allowed plan r) z a
+  allowed-here (more l a c f) (suc n) e q = allowed-here f n e q
+
+  allowed-there : {r : R.World} {b : B.World} {es : List R.Event} {ys : List B.Event} → Along plan r b es ys → (n : ℕ) (y : B.Event) → getElem? ys n ≡ some y
+      → Bytes.Allowed plan (B.runFrom b (take n ys)) y
+  unfolding B.runFrom
+  allowed-there (done l) n y q = let z : _≡_ {A = ℕ} 0 1 = cc in absurd (omega arith)
+  allowed-there (more {b = b} {y = x} l a c f) zero y q = let z : x ≡ y = cc in subst (Bytes.Allowed plan b) z c
+  allowed-there (more l a c f) (suc n) y q = allowed-there f n y q
+
+  -- ---- the provisos
+
+  module _ {es : List R.Event} {ys : List B.Event} (f : Along plan R.emptyWorld B.emptyWorld es ys) where
+    keeps-there : (n : ℕ) (y : B.Event) → BP.At plan ys n y → Bytes.Allowed plan (B.after ys n) y
+    unfolding BP.At B.after B.run
+    keeps-there n y q = allowed-there f n y q
+
+    pub provisos-there : BP.Provisos plan ys
+    unfolding Bytes.Keeps
+    provisos-there =
+        record {
+          typed = λ n y a. keeps-there n y a .typed;
+          one-plan = λ n c state log p k a z. keeps-there n (B.found c state log p k) a .keeps z .one-plan;
+          plan-again = λ n c state log p a z. keeps-there n (B.recover c state log p) a .keeps z .one-plan;
+          own-number = λ n c state log p k a z. keeps-there n (B.found c state log p k) a .keeps z .own-number;
+          founded-once = λ n c state log p k a z. keeps-there n (B.found c state log p k) a .keeps z .once;
+          crash-keeps = λ n c k a. let x = keeps-there n (B.crash c k) a .keeps in (x .synced, x .within);
+          recovery-uses = λ n c state log p a z. keeps-there n (B.recover c state log p) a .keeps z .uses;
+          started-once = λ n p b a q z. keeps-there n (B.start p) a .keeps b q z;
+        }
+
+    keeps-here : (n : ℕ) (e : R.Event) → RP.At plan es n e → Allowed plan (R.after es n) e
+    unfolding RP.At R.after R.run
+    keeps-here n e q = allowed-here f n e q
+
+    pub provisos-here : RP.Provisos plan es
+    unfolding Keeps
+    provisos-here =
+        record {
+          typed = λ n e a. keeps-here n e a .typed;
+          one-plan = λ n c p k st a z. keeps-here n (R.found c p k) a .keeps st z .one-plan;
+          plan-again = λ n c p log st a q z. keeps-here n (R.recover c p) a .keeps log st q z;
+          own-number = λ n c p k st a z. keeps-here n (R.found c p k) a .keeps st z .own-number;
+          founded-once = λ n c p k st a z. keeps-here n (R.found c p k) a .keeps st z .once;
+          crash-keeps = λ n c k a. keeps-here n (R.crash c k) a .keeps;
+          started-once = λ n p b a q z. keeps-here n (R.start p) a .keeps b q z;
+        }
+
+-- ---- a schedule over bytes
+
+pub along-here : (plan : List ℕ) (ys : List B.Event) → BP.Provisos plan ys → Along plan R.emptyWorld B.emptyWorld (decodedFrom B.emptyWorld ys) ys
+unfolding BP.At B.after B.run
+along-here plan ys P = along-decoded plan ys (empty-both plan) (λ n y a. allowed plan ys P n y a)
+
+-- ---- a schedule over records
+
+-- the byte world before event n
+abbrev before : B.World → List R.Event → ℕ → B.World
+before b es n = B.runFrom b (take n (encodedFrom b es))
+
+event-there : (es : List R.Event) (b : B.World) (n : ℕ) (e : R.Event) → getElem? es n ≡ some e → getElem? (encodedFrom b es) n ≡ some (encoded (before b es n) e)
+unfolding encodedFrom B.runFrom
+event-there [] b n e q = let z : _≡_ {A = ℕ} 0 1 = cc in absurd (omega arith)
+event-there (x ∷ es) b zero e q = let z : x ≡ e = cc in ap (λ (y : R.Event). some (encoded b y)) z
+event-there (x ∷ es) b (suc n) e q = event-there es (B.step b (encoded b x)) n e q
+
+event-back : (es : List R.Event) (b : B.World) (n : ℕ) (y : B.Event) → getElem? (encodedFrom b es) n ≡ some y
+    → (e : R.Event) × (getElem? es n ≡ some e) × (y ≡ encoded (before b es n) e)
+unfolding encodedFrom B.runFrom
+event-back [] b n y q = let z : _≡_ {A = ℕ} 0 1 = cc in absurd (omega arith)
+event-back (x ∷ es) b zero y q = let z : y ≡ encoded b x = cc in (x, refl, z)
+event-back (x ∷ es) b (suc n) y q = event-back es (B.step b (encoded b x)) n y q
 
 module _ (plan : List ℕ) (es : List R.Event) (P : RP.Provisos plan es) where
   keeps : (n : ℕ) (e : R.Event) → RP.At plan es n e → Keeps plan (R.after es n) e
@@ -96,12 +181,14 @@ module _ (plan : List ℕ) (es : List R.Event) (P : RP.Provisos plan es) where
   keeps n (R.renew x t span) a = tt
   keeps n (R.query x t) a = tt
 
-  -- the worlds after n events
-  pub both-at : (n : ℕ) → Both plan (R.after es n) (B.after (schedule es) n)
-  unfolding R.after R.run B.after B.run RP.At
-  both-at = both-from plan es (empty-both plan) (λ n e a. record { typed = P .typed n e a; keeps = keeps n e a })
+  pub along-there : Along plan R.emptyWorld B.emptyWorld es (schedule es)
+  unfolding R.after R.run RP.At
+  along-there = along-encoded plan es (empty-both plan) (λ n e a. record { typed = P .typed n e a; keeps = keeps n e a })
 
-  -- event n of both schedules
+  pub both-at : (n : ℕ) → Both plan (R.after es n) (B.after (schedule es) n)
+  unfolding R.after R.run B.after B.run
+  both-at = both-from plan along-there
+
   pub at-there : (n : ℕ) (e : R.Event) → RP.At plan es n e → BP.At plan (schedule es) n (encoded (B.after (schedule es) n) e)
   unfolding B.after B.run RP.At BP.At
   at-there n e a = event-there es B.emptyWorld n e a
@@ -109,31 +196,3 @@ module _ (plan : List ℕ) (es : List R.Event) (P : RP.Provisos plan es) where
   pub at-back : (n : ℕ) (y : B.Event) → BP.At plan (schedule es) n y → (e : R.Event) × RP.At plan es n e × (y ≡ encoded (B.after (schedule es) n) e)
   unfolding B.after B.run RP.At BP.At
   at-back n y a = event-back es B.emptyWorld n y a
-
-  -- ---- the provisos over bytes
-
-  typed-there : (n : ℕ) (y : B.Event) → BP.At plan (schedule es) n y → BP.Typed y
-  typed-there n y a =
-      let k = at-back n y a in
-      let l = both-at n in
-      subst BP.Typed (sym (k .2)) (encoded-typed plan (l .alike) (l .like) (k .0) (P .typed n (k .0) (k .1)))
-
-  keeps-there : (n : ℕ) (y : B.Event) → BP.At plan (schedule es) n y → Bytes.Keeps plan (B.after (schedule es) n) y
-  keeps-there n y a =
-      let k = at-back n y a in
-      let l = both-at n in
-      subst (Bytes.Keeps plan (B.after (schedule es) n)) (sym (k .2)) (encoded-keeps plan (l .alike) (l .like) (k .0) (keeps n (k .0) (k .1)))
-
-  pub provisos-there : BP.Provisos plan (schedule es)
-  unfolding Bytes.Keeps
-  provisos-there =
-      record {
-        typed = typed-there;
-        one-plan = λ n c state log p k a z. keeps-there n (B.found c state log p k) a z .one-plan;
-        plan-again = λ n c state log p a z. keeps-there n (B.recover c state log p) a z .one-plan;
-        own-number = λ n c state log p k a z. keeps-there n (B.found c state log p k) a z .own-number;
-        founded-once = λ n c state log p k a z. keeps-there n (B.found c state log p k) a z .once;
-        crash-keeps = λ n c k a. let x = keeps-there n (B.crash c k) a in (x .synced, x .within);
-        recovery-uses = λ n c state log p a z. keeps-there n (B.recover c state log p) a z .uses;
-        started-once = λ n p b a q z. keeps-there n (B.start p) a b q z;
-      }

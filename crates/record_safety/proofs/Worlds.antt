@@ -3,12 +3,14 @@
 --     same-packet                        packets by number
 --     alike-starts, alike-sends, alike-receives, alike-told       calls of clients and of the lease manager
 --     alike-mark, alike-length           the sync mark and the length of a server's log
+--     alike-nothing, nothing-back        a server that is not there
 -- Assumes nothing.
 use Prim.Native.Nat.{ℕ}
-use mathlib.Core.Path.{_≡_, refl, sym, _∙_, ap, subst}
+use mathlib.Core.Path.{_≡_, refl, sym, _∙_, ap}
 use mathlib.Core.Bool.{Bool, true, false}
 use mathlib.Core.List.{List, [], _∷_, _++_}
 use mathlib.Core.Option.{Option, none, some}
+use native.Mathlib.Omega.{arith}
 use lib.Dec.{eqb}
 use lib.ListN.{getElem?}
 use borrow.Author.Tests.{eqb-true}
@@ -116,3 +118,15 @@ unfolding RP.lengthOf BP.lengthOf
 alike-length nothing = refl
 alike-length (running k) = ap (λ (st : State). st .size) (sym (k .loads)) ∙ holds-size (k .holds)
 alike-length (crashed k) = sym (k .size)
+
+-- ---- a server that is not there
+
+pub alike-nothing : {plan : List PlanEntry} {c : ℕ} {s : R.Server} {t : B.Server} → ServerAlike plan c s t → s ≡ R.nothing → t ≡ B.nothing
+alike-nothing nothing e = refl
+alike-nothing (running k) e = let z : _≡_ {A = ℕ} 0 1 = cc in absurd (omega arith)
+alike-nothing (crashed k) e = let z : _≡_ {A = ℕ} 0 1 = cc in absurd (omega arith)
+
+pub nothing-back : {plan : List PlanEntry} {c : ℕ} {s : R.Server} {t : B.Server} → ServerAlike plan c s t → t ≡ B.nothing → s ≡ R.nothing
+nothing-back nothing e = refl
+nothing-back (running k) e = let z : _≡_ {A = ℕ} 0 1 = cc in absurd (omega arith)
+nothing-back (crashed k) e = let z : _≡_ {A = ℕ} 0 1 = cc in absurd (omega arith)

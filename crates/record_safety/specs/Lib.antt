@@ -1,6 +1,8 @@
--- A schedule of states and log records as one of bytes (Encoded); when the two worlds are alike (Alike), also on the way (Runs); the provisos
--- at one event (Allowed).
+-- When the world of records and the byte world are alike (Alike), when two events do the same in them (Stands), the provisos at one event
+-- (Allowed), a schedule over records as one over bytes (Encoded) and back (Decoded), both run together (Runs).
 pub mod Encoded
+pub mod Decoded
 pub mod Alike
+pub mod Stands
 pub mod Allowed
 pub mod Runs
