@@ -5,10 +5,10 @@ use mathlib.Core.List.{List, [], _∷_}
 use mathlib.Core.Option.{Option, none, some}
 use lib.ListN.{length}
 use Rattle.model.specs.Yard.{yardPlan}
-use Rattle.record_claim.specs.World.{Event, found, request, sync, give, image, take·image, receipt, release, recover, crash, open·lease, start, issue, Log, World, keptBy, step, emptyWorld}
+use Rattle.record_claim.specs.World.{Event, found, request, sync, give, image, take·image, receipt, release, recover, crash, open·lease, start, issue, receive, Log, World, keptBy, step, emptyWorld}
 use Rattle.record_claim.specs.Provisos.{lengthOf, markOf}
 
--- a client sets point 5 to 40: executed, refused with 7, cut off by a crash inside its record, executed again, recovered whole, told;
+-- a client sets point 5 to 40: executed, refused with 7, cut off by a crash inside its record, executed again, recovered whole, told, completed;
 -- call 2 finds a log slice shorter than the log (19), one without space (9), and one with space
 unfoldable pub lost : List Event
 lost =
@@ -24,6 +24,7 @@ lost =
     ∷ crash 0 36
     ∷ recover 0 yardPlan
     ∷ request 0 1 100
+    ∷ receive 1 3
     ∷ issue 1 2 5 2147483649
     ∷ request 0 4 35
     ∷ request 0 4 63

@@ -9,3 +9,4 @@ pub mod Carried
 pub mod Events
 pub mod Demand3
 pub mod Complete
+pub mod NotVacuous

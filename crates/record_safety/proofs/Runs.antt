@@ -3,6 +3,7 @@
 --     along-encoded, along-decoded          they run together
 --     both-from, same-count                 the worlds after n events
 --     provisos-there, provisos-here         the provisos, over bytes and over records
+--     provisos-of, provisos-from            from what is allowed of each event
 --     both-at, at-there, at-back            of a schedule over records: worlds and events by number
 -- Assumes nothing.
 use Prim.Native.Nat.{ℕ, zero, suc}
@@ -24,7 +25,7 @@ use Rattle.record_safety.specs.Encoded.{encoded, encodedFrom, schedule}
 use Rattle.record_safety.specs.Decoded.{decoded, decodedFrom}
 use Rattle.record_safety.specs.Alike.{nothing}
 use Rattle.record_safety.specs.Stands.{Stands}
-use Rattle.record_safety.specs.Allowed.{Keeps, Allowed}
+use Rattle.record_safety.specs.Allowed.{Keeps, Allowed, AllowedFrom}
 use Rattle.record_safety.specs.Runs.{Both, Along, done, more}
 use Rattle.record_safety.proofs.Steps.{step-alike}
 use Rattle.record_safety.proofs.Encoding.{encoded-stands, encoded-typed, encoded-keeps}
@@ -97,6 +98,30 @@ module _ (plan : List ℕ) where
 
   -- ---- the provisos
 
+  pub provisos-of : (es : List R.Event) → ((n : ℕ) (e : R.Event) → RP.At plan es n e → Allowed plan (R.after es n) e) → RP.Provisos plan es
+  unfolding Keeps
+  provisos-of es a =
+      record {
+        typed = λ n e q. a n e q .typed;
+        one-plan = λ n c p k st q z. a n (R.found c p k) q .keeps st z .one-plan;
+        plan-again = λ n c p log st q x z. a n (R.recover c p) q .keeps log st x z;
+        own-number = λ n c p k st q z. a n (R.found c p k) q .keeps st z .own-number;
+        founded-once = λ n c p k st q z. a n (R.found c p k) q .keeps st z .once;
+        crash-keeps = λ n c k q. a n (R.crash c k) q .keeps;
+        started-once = λ n p b q x z. a n (R.start p) q .keeps b x z;
+      }
+
+  -- a schedule whose events are allowed one after the other
+  allowed-from : (es : List R.Event) (r : R.World) → AllowedFrom plan r es → (n : ℕ) (e : R.Event) → getElem? es n ≡ some e → Allowed plan (R.runFrom r (take n es)) e
+  unfolding R.runFrom AllowedFrom
+  allowed-from [] r a n e q = let z : _≡_ {A = ℕ} 0 1 = cc in absurd (omega arith)
+  allowed-from (x ∷ es) r a zero e q = let z : x ≡ e = cc in subst (Allowed plan r) z (a .0)
+  allowed-from (x ∷ es) r a (suc n) e q = allowed-from es (R.step r x) (a .1) n e q
+
+  pub provisos-from : (es : List R.Event) → AllowedFrom plan R.emptyWorld es → RP.Provisos plan es
+  unfolding RP.At R.after R.run
+  provisos-from es a = provisos-of es (allowed-from es R.emptyWorld a)
+
   module _ {es : List R.Event} {ys : List B.Event} (f : Along plan R.emptyWorld B.emptyWorld es ys) where
     keeps-there : (n : ℕ) (y : B.Event) → BP.At plan ys n y → Bytes.Allowed plan (B.after ys n) y
     unfolding BP.At B.after B.run
@@ -116,22 +141,9 @@ module _ (plan : List ℕ) where
           started-once = λ n p b a q z. keeps-there n (B.start p) a .keeps b q z;
         }
 
-    keeps-here : (n : ℕ) (e : R.Event) → RP.At plan es n e → Allowed plan (R.after es n) e
-    unfolding RP.At R.after R.run
-    keeps-here n e q = allowed-here f n e q
-
     pub provisos-here : RP.Provisos plan es
-    unfolding Keeps
-    provisos-here =
-        record {
-          typed = λ n e a. keeps-here n e a .typed;
-          one-plan = λ n c p k st a z. keeps-here n (R.found c p k) a .keeps st z .one-plan;
-          plan-again = λ n c p log st a q z. keeps-here n (R.recover c p) a .keeps log st q z;
-          own-number = λ n c p k st a z. keeps-here n (R.found c p k) a .keeps st z .own-number;
-          founded-once = λ n c p k st a z. keeps-here n (R.found c p k) a .keeps st z .once;
-          crash-keeps = λ n c k a. keeps-here n (R.crash c k) a .keeps;
-          started-once = λ n p b a q z. keeps-here n (R.start p) a .keeps b q z;
-        }
+    unfolding RP.At R.after R.run
+    provisos-here = provisos-of es (λ n e q. allowed-here f n e q)
 
 -- ---- a schedule over bytes
 

@@ -2,13 +2,13 @@
 -- Assumes nothing.
 use Prim.Native.Nat.{ℕ, _≤_}
 use mathlib.Core.Path.{_≡_}
-use mathlib.Core.List.{List}
+use mathlib.Core.List.{List, [], _∷_}
 use mathlib.Core.Option.{none, some}
 use Rattle.model.specs.declared.Started.the-variants.{Running}
 use Rattle.model.specs.States.{State}
 use Rattle.model.specs.Clients.{startOf}
 use Rattle.claim.specs.World.{packet}
-use Rattle.record_claim.specs.World.{World, Event, Log, nothing, foundOf, recoverOf, keptBy}
+use Rattle.record_claim.specs.World.{World, Event, Log, nothing, foundOf, recoverOf, keptBy, step}
 use Rattle.record_claim.specs.World as R
 use Rattle.record_claim.specs.Provisos.{Typed, markOf, lengthOf}
 
@@ -42,3 +42,8 @@ Keeps plan w (R.query x t) = Unit
 pub record Allowed (plan : List ℕ) (w : World) (e : Event) : Type 0 where
   pub typed : Typed e
   pub keeps : Keeps plan w e
+
+-- every event of a schedule, in the world before it
+unfoldable pub AllowedFrom : List ℕ → World → List Event → Type 0
+AllowedFrom plan w [] = Unit
+AllowedFrom plan w (e ∷ es) = Allowed plan w e × AllowedFrom plan (step w e) es
