@@ -148,9 +148,11 @@ module _ (plan : List ℕ) (seen : Account) where
 -- ---- over bytes
 
 module _ (plan : List ℕ) (es : List Event) where
+  -- event n issues k
   abbrev pub Issues : ℕ → Command → Type 0
   Issues = IssuesBy (after es) (λ n x op p a. At plan es n (issue x op p a))
 
+  -- event n completes k, with the result r
   abbrev pub Completes : ℕ → Command → CommandResult → Type 0
   Completes = CompletesBy (after es) (λ n x p. At plan es n (receive x p))
 
@@ -169,6 +171,7 @@ module _ (plan : List ℕ) (es : List Event) where
     pub parsed : parsePacket bytes ≡ Requested asked
     pub its : commandOf asked ≡ k
 
+  -- event n executes k, and that execution survives
   abbrev pub SurvivesAt : ℕ → Command → Type 0
   SurvivesAt = SurvivesAtBy Executes (λ n c b. At plan es n (crash c b)) (λ n c. lengthOf (after es n .servers c))
 
@@ -185,6 +188,7 @@ module _ (plan : List ℕ) (es : List Event) where
   abbrev pub Recovers : Type 0
   Recovers = (c : ℕ) (kept : List ℕ) (mark : ℕ) → run es .servers c ≡ crashed kept mark → (st : State) × (recoveredState (planOf plan) kept ≡ some st)
 
+  -- what demand 3 reads of the schedule
   abbrev pub account : Account
   account =
       record {

@@ -19,9 +19,11 @@ use Rattle.record_claim.specs.World.{Event, request, crash, issue, recei
 use Rattle.record_claim.specs.Provisos.{Provisos, At, lengthOf}
 
 module _ (plan : List ℕ) (es : List Event) where
+  -- event n issues k
   abbrev pub Issues : ℕ → Command → Type 0
   Issues = IssuesBy (after es) (λ n x op p a. At plan es n (issue x op p a))
 
+  -- event n completes k, with the result r
   abbrev pub Completes : ℕ → Command → CommandResult → Type 0
   Completes = CompletesBy (after es) (λ n x p. At plan es n (receive x p))
 
@@ -41,6 +43,7 @@ module _ (plan : List ℕ) (es : List Event) where
     pub parsed : parsePacket bytes ≡ Requested asked
     pub its : commandOf asked ≡ k
 
+  -- event n executes k, and that execution survives
   abbrev pub SurvivesAt : ℕ → Command → Type 0
   SurvivesAt = SurvivesAtBy Executes (λ n c b. At plan es n (crash c b)) (λ n c. lengthOf (after es n .servers c))
 
@@ -57,6 +60,7 @@ module _ (plan : List ℕ) (es : List Event) where
   abbrev pub Recovers : Type 0
   Recovers = (c : ℕ) (log : Log) (k mark : ℕ) → run es .servers c ≡ crashed log k mark → (st : State) × (recoveredFrom plan log ≡ some st)
 
+  -- what demand 3 reads of the schedule
   abbrev pub account : Account
   account =
       record {
