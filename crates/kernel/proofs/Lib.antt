@@ -1,0 +1,2 @@
+-- Laws that the proofs of `kernel` cite.
+pub mod Words

@@ -1,0 +1,13 @@
+-- `kernel::word_of` meets its contract.
+-- Assumes nothing.
+use Rattle.kernel.specs.Interface.{wordOf}
+use borrow.Author.Needs.{needs}
+use Rattle.kernel.proofs.word_of.Statement.{statement}
+use Rattle.kernel.proofs.word_of.Tie as tie
+
+returns : tie.Need-returns
+unfolding wordOf
+returns c = search needs
+
+pub word-of-spec : {M : Type 1} → statement M
+word-of-spec = tie.close (tie.spec (λ c. search needs) (λ c. search needs) (λ c. search needs) (λ c. search needs) returns)

@@ -1,0 +1,24 @@
+-- What a call of the C interface leaves: its answer in one word of 64 bits, and the lent slices.
+-- Assumes nothing.
+use Prim.Native.Nat.{ℕ, _+_, _*_}
+use mathlib.Core.List.{List}
+use Rattle.model.specs.declared.Answer.{Answer}
+use Rattle.model.specs.Numbers.{word}
+use Rattle.model.specs.Operations.{After}
+
+-- the low 32 bits are 0 or the refusal's number, the high 32 bits the number of bytes written to the output
+unfoldable pub wordOf : Answer → ℕ
+wordOf a = a .number + word * a .wrote
+
+pub record Returned : Type 0 where
+  pub answer : ℕ
+  pub state : List ℕ
+  pub log : List ℕ
+  pub out : List ℕ
+
+abbrev pub returned : ℕ → List ℕ → List ℕ → List ℕ → Returned
+returned r s l o = record { answer = r; state = s; log = l; out = o }
+
+-- an operation, in C's terms
+unfoldable pub inC : After → Returned
+inC a = returned (wordOf (a .answer)) (a .state) (a .log) (a .out)

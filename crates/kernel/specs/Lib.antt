@@ -1,0 +1,2 @@
+-- What the contracts of `kernel` cite beside `model`.
+pub mod Interface
