@@ -1,0 +1,2 @@
+-- Laws that the proofs of `floors`, and of those who call it, cite.
+pub mod Search

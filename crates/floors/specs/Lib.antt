@@ -1,0 +1,2 @@
+-- What the contracts of `floors` cite beside `model`.
+pub mod Places
