@@ -11,7 +11,7 @@ use mathlib.Core.Bool.{Bool, true, false}
 use mathlib.Core.List.{List, [], _∷_}
 use native.Mathlib.Omega.{arith}
 use native.Mathlib.Nat.{add-zero, zero-add, mul-zero, sub-zero}
-use lib.ListN.{length, drop, getD}
+use lib.ListN.{length, drop, getD, List·getD-eq-default}
 use lib.Seq.{drop-drop}
 use lib.Dec.{eqb}
 use borrow.Author.Tests.{eq-eqb, ne-eqb}
@@ -69,14 +69,9 @@ floor-place x (f ∷ fs) = go (eqb (f .client) x) (floor-place x fs)
 
 -- ---- a floor by its index
 
-getD-past : (fs : List Floor) (i : ℕ) → length fs ≤ i → getD fs i noFloor ≡ noFloor
-getD-past [] i h = refl
-getD-past (f ∷ fs) zero h = absurd (omega arith)
-getD-past (f ∷ fs) (suc i) h = getD-past fs i (omega arith)
-
 pub floor-past : (s : List ℕ) (k n i : ℕ) → n ≤ i → 0 ≡ getD (rows floorOfBytes 8 n (drop k s)) i noFloor .floor
 floor-past s k n i h =
-    rw (getD-past (rows floorOfBytes 8 n (drop k s)) i (rw (length-rows floorOfBytes 8 n (drop k s)) h))
+    rw (List·getD-eq-default (rows floorOfBytes 8 n (drop k s)) noFloor {n = i} (rw (length-rows floorOfBytes 8 n (drop k s)) h))
 
 pub floor-within : (s : List ℕ) (k n i : ℕ) {f : Floor} → i < n → f ≡ floorOfBytes (drop (k + 8 * i) s)
     → f .floor ≡ getD (rows floorOfBytes 8 n (drop k s)) i noFloor .floor
