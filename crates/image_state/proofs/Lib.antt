@@ -1,0 +1,3 @@
+-- Laws that the proofs of `image_state`, and of those who call it, cite.
+pub mod Order
+pub mod Filled

@@ -1,0 +1,2 @@
+-- What the contracts of `image_state` cite beside `model`.
+pub mod Slots

@@ -1,0 +1,1 @@
+// The image of a point, written from a server's tables.
