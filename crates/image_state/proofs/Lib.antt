@@ -1,3 +1,4 @@
 -- Laws that the proofs of `image_state`, and of those who call it, cite.
 pub mod Order
 pub mod Filled
+pub mod Picking
