@@ -2,3 +2,6 @@
 pub mod Order
 pub mod Filled
 pub mod Picking
+pub mod Writing
+pub mod Joined
+pub mod Whole

@@ -1,16 +1,26 @@
 // The image of a point, written from a server's tables.
 // Each completion record on the point has its own slot (see `floors`), and the order of slots is that of the image: so the records are
 // put at their slots and then written slot by slot.
+use floors::CALL_WINDOW;
+use image_rows::ENTRY_ROW;
+use image_rows::FLOOR_ROW;
+use image_rows::LEAST_IMAGE;
 use model::ImageEntry;
+use model::ImageHead;
 use state_rows::FLOORS_START;
+use state_rows::POINT_ROW;
+use state_rows::POINTS_START;
 use state_rows::RECORD_ROW;
 use state_rows::RECORDS_START;
 ghost use mathlib.Core.Path.{_≡_};
 ghost use Prim.Native.Nat.{_+_, _*_, _≤_};
 ghost use lib.ListN.{length, drop};
-ghost use Rattle.model.specs.States.{load, completionOf, recordsStart, recordRow};
-ghost use Rattle.model.specs.Decisions.{entryOfRecord};
-ghost use Rattle.laws.specs.Fits.{Sound};
+ghost use Rattle.model.specs.Limits.{lastPoint, leastImage, greatestImage, floorRow};
+ghost use Rattle.model.specs.Tables.{bytesOf, written};
+ghost use Rattle.model.specs.Images.{imageEntryBytes, imageBytes, imageLength};
+ghost use Rattle.model.specs.States.{load, clientsIn, completionOf, recordsStart, recordRow};
+ghost use Rattle.model.specs.Decisions.{entryOfRecord, imageFor};
+ghost use Rattle.laws.specs.Fits.{Sound, imageHead};
 ghost use Rattle.image_state.specs.Slots.{pointSlots};
 
 // ---- the records of a point, by slot
@@ -49,4 +59,59 @@ fn entry_of(s: &[u8], i: usize) -> ImageEntry
         outcome: r.outcome,
         quality: r.quality,
     }
+}
+
+// Stores the point's entries behind the floors, slot by slot, and answers their number.
+fn write_entries(out: &mut [u8], s: &[u8], point: u8) -> usize
+    requires { ⌜ (Sound (now s)) × (greatestImage ≤ length (now out)) ⌝ }
+    ensures { λ r. ⌜ (now (out .exit) ≡ written (now (out .entry)) (leastImage + floorRow * clientsIn (now (s .entry))) (bytesOf imageEntryBytes (imageFor (load (now (s .entry))) point .entries))) × (r ≡ length (imageFor (load (now (s .entry))) point .entries)) ⌝ }
+{
+    let n = state_rows::clients_in(s) as usize;
+    let slots = point_slots(s, point);
+    let mut j = 0;
+    let mut k = 0;
+    while k < CALL_WINDOW * n {
+        let v = slots[k] as usize;
+        k += 1;
+        if v != 0 {
+            let e = entry_of(s, v - 1);
+            image_writer::write_entry(out, n, j, e);
+            j += 1;
+        }
+    }
+    j
+}
+
+// ---- the whole
+
+// The head of the point's image, which has that many entries.
+fn head_for(s: &[u8], point: u8, entries: u32) -> ImageHead
+    requires { ⌜ (Sound (now s)) × (point ≤ lastPoint) × (entries ≡ length (imageFor (load (now s)) point .entries)) ⌝ }
+    ensures { λ r. ⌜ r ≡ imageHead (imageFor (load (now (s .entry))) point) ⌝ }
+{
+    let x = state_rows::point_from(s, POINTS_START + POINT_ROW * (point as usize));
+    ImageHead {
+        point,
+        destination: x.destination,
+        source: state_rows::server_in(s),
+        number: x.number,
+        heard: state_rows::heard_in(s),
+        value: x.value,
+        quality: x.quality,
+        floors: state_rows::clients_in(s),
+        entries,
+    }
+}
+
+// Stores the image of the point at the front of out, and answers its length.
+pub fn write_image(out: &mut [u8], s: &[u8], point: u8) -> usize
+    requires { ⌜ (Sound (now s)) × (point ≤ lastPoint) × (greatestImage ≤ length (now out)) ⌝ }
+    ensures { λ r. ⌜ (now (out .exit) ≡ written (now (out .entry)) 0 (imageBytes (imageFor (load (now (s .entry))) point))) × (r ≡ imageLength (imageFor (load (now (s .entry))) point)) ⌝ }
+{
+    let n = state_rows::clients_in(s) as usize;
+    image_writer::write_floors(out, &s[FLOORS_START..], n);
+    let m = write_entries(out, s, point);
+    let h = head_for(s, point, m as u32);
+    image_writer::write_head(out, h);
+    LEAST_IMAGE + FLOOR_ROW * n + ENTRY_ROW * m
 }
