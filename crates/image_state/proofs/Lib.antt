@@ -5,3 +5,4 @@ pub mod Picking
 pub mod Writing
 pub mod Joined
 pub mod Whole
+pub mod Back
