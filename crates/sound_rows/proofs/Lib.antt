@@ -1,0 +1,6 @@
+-- Laws that the proofs of `sound_rows`, and of those who call it, cite.
+pub mod Loops
+pub mod Zeros
+pub mod Points
+pub mod Neighbours
+pub mod Framing

@@ -1,0 +1,2 @@
+-- Definitions that the contracts of `sound_rows` cite.
+pub mod Parts

@@ -1,0 +1,289 @@
+// Tests of the parts of a server's state buffer, each at its place: rows of zeros, the plan, the points, the clients.
+use model::PlanEntry;
+use model::Point;
+use state_rows::CLIENT_COUNT;
+use state_rows::FLOORS_START;
+use state_rows::POINT_COUNT;
+use state_rows::POINT_ROW;
+use state_rows::RECORD_COUNT;
+use state_rows::RECORD_ROW;
+use state_rows::RECORDS_START;
+ghost use mathlib.Core.Path.{_≡_};
+ghost use Prim.Native.Nat.{_+_, _*_, _≤_};
+ghost use lib.ListN.{length, drop};
+ghost use Rattle.model.specs.Numbers.{zeroAt};
+ghost use Rattle.model.specs.Tables.{rows, everyRow, every, zeros};
+ghost use Rattle.model.specs.Plan.{planEntryOf, planRowOk};
+ghost use Rattle.model.specs.Images.{floorOfBytes, floorOk, clientsAscend};
+ghost use Rattle.model.specs.States.{recordRow, pointRow, pointOf, endOk, giveFieldsOk, takeFieldsOk, pointOk, pointsOk, pointRowOk, stateFramed};
+ghost use Rattle.model.specs.Limits.{floorRow, planRow, pointCount};
+ghost use Rattle.sound_rows.specs.Parts.{tookOk, headFramed};
+
+// ---- limits
+
+// The four bytes that open a state's buffer: 57 53 54 31.
+const MAGIC: [u8; 4] = *b"WST1";
+
+// The most clients and completion records, as counts in the head.
+const LAST_CLIENTS: u32 = 32;
+
+const LAST_RECORDS: u32 = 512;
+
+// Bytes of an entry of the plan, and of a client.
+pub const PLAN_ROW: usize = 16;
+
+pub const FLOOR_ROW: usize = 8;
+
+// A point's greatest status, and the least that has a destination.
+const LAST_STATUS: u8 = 3;
+
+const GIVEN: u8 = 2;
+
+// Bytes of the log's head: no record ends there or before.
+pub const HEAD_SIZE: u64 = 8;
+
+// ---- rows of zeros
+
+// The 4 bytes from k are 0.
+fn zero_4(s: &[u8], k: usize) -> bool
+    requires { ⌜ k + 4 ≤ length (now s) ⌝ }
+    ensures { λ r. ⌜ r ≡ zeros 4 (drop k (now (s .entry))) ⌝ }
+{
+    wire::read_u32(s, k) == 0
+}
+
+// The 8 bytes from k are 0.
+fn zero_8(s: &[u8], k: usize) -> bool
+    requires { ⌜ k + 8 ≤ length (now s) ⌝ }
+    ensures { λ r. ⌜ r ≡ zeros 8 (drop k (now (s .entry))) ⌝ }
+{
+    wire::read_u64(s, k) == 0
+}
+
+// The 28 bytes from k are 0.
+fn zero_28(s: &[u8], k: usize) -> bool
+    requires { ⌜ k + 28 ≤ length (now s) ⌝ }
+    ensures { λ r. ⌜ r ≡ zeros 28 (drop k (now (s .entry))) ⌝ }
+{
+    let a = zero_8(s, k);
+    let b = zero_8(s, k + 8);
+    let c = zero_8(s, k + 16);
+    let d = zero_4(s, k + 24);
+    a & (b & (c & d))
+}
+
+// n rows of a client from at are 0.
+pub fn zero_floors(s: &[u8], at: usize, n: usize) -> bool
+    requires { ⌜ at + 8 * n ≤ length (now s) ⌝ }
+    ensures { λ r. ⌜ r ≡ zeros (floorRow * n) (drop at (now (s .entry))) ⌝ }
+{
+    let mut i = 0;
+    while i < n {
+        if !zero_8(s, at + FLOOR_ROW * i) {
+            return false;
+        }
+        i += 1;
+    }
+    true
+}
+
+// n rows of a completion record from at are 0.
+pub fn zero_records(s: &[u8], at: usize, n: usize) -> bool
+    requires { ⌜ at + 28 * n ≤ length (now s) ⌝ }
+    ensures { λ r. ⌜ r ≡ zeros (recordRow * n) (drop at (now (s .entry))) ⌝ }
+{
+    let mut i = 0;
+    while i < n {
+        if !zero_28(s, at + RECORD_ROW * i) {
+            return false;
+        }
+        i += 1;
+    }
+    true
+}
+
+// ---- the head
+
+// The four bytes, the zero bytes and the counts of the head.
+fn head_framed(s: &[u8]) -> bool
+    requires { ⌜ 40 ≤ length (now s) ⌝ }
+    ensures { λ r. ⌜ r ≡ headFramed (now (s .entry)) ⌝ }
+{
+    let zeros = wire::zeros3_at(s, 5);
+    let word = wire::read_u32(s, 20);
+    let clients = state_rows::clients_in(s);
+    let records = state_rows::records_in(s);
+    (s[0] == MAGIC[0])
+        & ((s[1] == MAGIC[1])
+            & ((s[2] == MAGIC[2])
+                & ((s[3] == MAGIC[3])
+                    & (zeros
+                        & ((word == 0)
+                            & ((clients <= LAST_CLIENTS) & (records <= LAST_RECORDS)))))))
+}
+
+// The head, and the rows past both counts.
+pub fn framed(s: &[u8]) -> bool
+    requires { ⌜ 17704 ≤ length (now s) ⌝ }
+    ensures { λ r. ⌜ r ≡ stateFramed (now (s .entry)) ⌝ }
+{
+    if !head_framed(s) {
+        return false;
+    }
+    let n = state_rows::clients_in(s) as usize;
+    let m = state_rows::records_in(s) as usize;
+    if !zero_floors(s, FLOORS_START + FLOOR_ROW * n, CLIENT_COUNT - n) {
+        return false;
+    }
+    zero_records(s, RECORDS_START + RECORD_ROW * m, RECORD_COUNT - m)
+}
+
+// ---- the plan
+
+// Each of the 64 entries from at.
+pub fn plan_rows_ok(s: &[u8], at: usize) -> bool
+    requires { ⌜ at + 1024 ≤ length (now s) ⌝ }
+    ensures { λ r. ⌜ r ≡ everyRow planRowOk planRow pointCount (drop at (now (s .entry))) ⌝ }
+{
+    let mut i = 0;
+    while i < POINT_COUNT {
+        if !command::plan_row_ok(s, at + PLAN_ROW * i) {
+            return false;
+        }
+        i += 1;
+    }
+    true
+}
+
+// ---- the points
+
+// The zero byte of the point from k.
+fn point_row_ok(s: &[u8], k: usize) -> bool
+    requires { ⌜ k + 32 ≤ length (now s) ⌝ }
+    ensures { λ r. ⌜ r ≡ pointRowOk (drop k (now (s .entry))) ⌝ }
+{
+    wire::zero_at(s, k + 3)
+}
+
+// The zero byte of each of the 64 points from at.
+pub fn point_rows_ok(s: &[u8], at: usize) -> bool
+    requires { ⌜ at + 2048 ≤ length (now s) ⌝ }
+    ensures { λ r. ⌜ r ≡ everyRow pointRowOk pointRow pointCount (drop at (now (s .entry))) ⌝ }
+{
+    let mut i = 0;
+    while i < POINT_COUNT {
+        if !point_row_ok(s, at + POINT_ROW * i) {
+            return false;
+        }
+        i += 1;
+    }
+    true
+}
+
+// The end of a log record in a log of size bytes, or 0 for none.
+fn end_ok(size: u64, end: u64) -> bool
+    ensures { λ r. ⌜ r ≡ endOk size end ⌝ }
+{
+    (end == 0) | ((HEAD_SIZE < end) & (end <= size))
+}
+
+// A given or released point has a destination and the give's end; another has neither.
+fn give_fields_ok(server: u8, x: Point) -> bool
+    ensures { λ r. ⌜ r ≡ giveFieldsOk server x ⌝ }
+{
+    if GIVEN <= x.status {
+        (1 <= x.number) & ((x.destination != server) & (1 <= x.gave))
+    } else {
+        (x.destination == 0) & (x.gave == 0)
+    }
+}
+
+// The take's end is 0 exactly where the latest taken move is.
+fn took_ok(x: Point) -> bool
+    ensures { λ r. ⌜ r ≡ tookOk x ⌝ }
+{
+    if x.taken == 0 {
+        x.took == 0
+    } else {
+        1 <= x.took
+    }
+}
+
+// A point was taken or never was.
+fn take_fields_ok(x: Point) -> bool
+    ensures { λ r. ⌜ r ≡ takeFieldsOk x ⌝ }
+{
+    let took = took_ok(x);
+    (x.taken <= x.number) & took
+}
+
+// A point against its entry of the plan.
+fn point_ok(server: u8, size: u64, e: PlanEntry, x: Point) -> bool
+    ensures { λ r. ⌜ r ≡ pointOk server size e x ⌝ }
+{
+    let value = command::in_range(e, x.value);
+    let gave = end_ok(size, x.gave);
+    let took = end_ok(size, x.took);
+    let gives = give_fields_ok(server, x);
+    let takes = take_fields_ok(x);
+    (x.status <= LAST_STATUS)
+        & ((x.quality <= wire::LAST_QUALITY)
+            & ((x.destination <= wire::LAST_SERVER) & (value & (gave & (took & (gives & takes))))))
+}
+
+// The point from k against its entry of the plan from j.
+fn point_at_ok(s: &[u8], j: usize, k: usize, server: u8, size: u64) -> bool
+    requires { ⌜ (j + 16 ≤ length (now s)) × (k + 32 ≤ length (now s)) ⌝ }
+    ensures { λ r. ⌜ r ≡ pointOk server size (planEntryOf (drop j (now (s .entry)))) (pointOf (drop k (now (s .entry)))) ⌝ }
+{
+    let e = command::plan_entry(s, j);
+    let x = state_rows::point_from(s, k);
+    point_ok(server, size, e, x)
+}
+
+// The 64 points from at against the plan from plan.
+pub fn points_ok(s: &[u8], plan: usize, at: usize, server: u8, size: u64) -> bool
+    requires { ⌜ (plan + 1024 ≤ length (now s)) × (at + 2048 ≤ length (now s)) ⌝ }
+    ensures { λ r. ⌜ r ≡ pointsOk server size (rows planEntryOf planRow pointCount (drop plan (now (s .entry)))) (rows pointOf pointRow pointCount (drop at (now (s .entry)))) ⌝ }
+{
+    let mut i = 0;
+    while i < POINT_COUNT {
+        if !point_at_ok(s, plan + PLAN_ROW * i, at + POINT_ROW * i, server, size) {
+            return false;
+        }
+        i += 1;
+    }
+    true
+}
+
+// ---- the clients
+
+// Each of n clients from at.
+pub fn floors_ok(s: &[u8], at: usize, n: usize) -> bool
+    requires { ⌜ at + 8 * n ≤ length (now s) ⌝ }
+    ensures { λ r. ⌜ r ≡ every floorOk (rows floorOfBytes floorRow n (drop at (now (s .entry)))) ⌝ }
+{
+    let mut i = 0;
+    while i < n {
+        if !image_rows::floor_ok(s, at + FLOOR_ROW * i) {
+            return false;
+        }
+        i += 1;
+    }
+    true
+}
+
+// n clients from at, strictly ascending.
+pub fn clients_ascend(s: &[u8], at: usize, n: usize) -> bool
+    requires { ⌜ at + 8 * n ≤ length (now s) ⌝ }
+    ensures { λ r. ⌜ r ≡ clientsAscend (rows floorOfBytes floorRow n (drop at (now (s .entry)))) ⌝ }
+{
+    let mut i = 0;
+    while i + 1 < n {
+        if !image_rows::client_before(s, at + FLOOR_ROW * i) {
+            return false;
+        }
+        i += 1;
+    }
+    true
+}

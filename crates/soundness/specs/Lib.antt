@@ -1,0 +1,2 @@
+-- Definitions that the contracts of `soundness` cite.
+pub mod Slots

@@ -1,0 +1,45 @@
+-- One pass over the completion records: each passes its test and finds its slot free. A record's slot stands for its id.
+-- Assumes nothing.
+use Prim.Native.Nat.{ℕ}
+use mathlib.Core.Bool.{Bool, true, _&&_}
+use mathlib.Core.List.{List, [], _∷_}
+use lib.ListN.{getD, set}
+use lib.Dec.{eqb, leb, ltb}
+use Rattle.model.specs.declared.Completion.{Completion}
+use Rattle.model.specs.Choice.{pick}
+use Rattle.model.specs.Limits.{headSize, recordCount}
+use Rattle.model.specs.Tables.{every}
+use Rattle.model.specs.Packets.{idOk, commandOk, outcomeOk}
+use Rattle.model.specs.Images.{floorOk, clientsAscend}
+use Rattle.model.specs.States.{State, pointsOk, completionOk, idsDiffer}
+use Rattle.floors.specs.Places.{slotOf}
+
+-- the fields of a record that are tested without plan and clients
+unfoldable pub fieldsOk : ℕ → Completion → Bool
+fieldsOk size r =
+    commandOk (r .op) (r .point) (r .argument)
+    && (outcomeOk (r .outcome) (r .quality) && (idOk (r .client) (r .call) && (ltb headSize (r .end) && leb (r .end) size)))
+
+-- 16 slots for each client, one for each call of its window
+unfoldable pub slotIn : State → Completion → ℕ
+slotIn st r = slotOf (st .floors) (r .client) (r .call)
+
+-- the slot of a record that passes its test, else the number of slots
+unfoldable pub testedSlot : State → Completion → ℕ
+testedSlot st r = pick (completionOk st r) (slotIn st r) recordCount
+
+-- the slot of r is not marked
+unfoldable pub isFree : State → List ℕ → Completion → Bool
+isFree st marks r = eqb (getD marks (slotIn st r) 0) 0
+
+-- each record passes its test, its slot is free, and is then marked with 1
+unfoldable pub slotsPass : State → List ℕ → List Completion → Bool
+slotsPass st marks [] = true
+slotsPass st marks (r ∷ rs) = completionOk st r && (isFree st marks r && slotsPass st (set marks (slotIn st r) 1) rs)
+
+-- the tables of a state whose head's numbers are in range
+unfoldable pub tablesOk : State → Bool
+tablesOk st =
+    pointsOk (st .server) (st .size) (st .plan) (st .points)
+    && (every floorOk (st .floors)
+    && (clientsAscend (st .floors) && (every (completionOk st) (st .records) && idsDiffer (st .records))))

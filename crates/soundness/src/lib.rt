@@ -1,0 +1,171 @@
+// The soundness test of a server's state buffer. Before it, a call on the buffer promises nothing: a buffer that fails it is refused
+// with 19. Its cost is one pass over each table.
+use model::Completion;
+use sound_rows::FLOOR_ROW;
+use sound_rows::HEAD_SIZE;
+use sound_rows::PLAN_ROW;
+use state_rows::FLOORS_START;
+use state_rows::PLAN_START;
+use state_rows::POINTS_START;
+use state_rows::RECORD_COUNT;
+use state_rows::RECORD_ROW;
+use state_rows::RECORDS_START;
+use state_rows::STATE_END;
+ghost use mathlib.Core.Path.{_≡_};
+ghost use mathlib.Core.Bool.{true, _&&_};
+ghost use Prim.Native.Nat.{_+_, _*_, _≤_};
+ghost use lib.ListN.{length, drop};
+ghost use Rattle.model.specs.Numbers.{byteAt, le64At};
+ghost use Rattle.model.specs.Limits.{floorRow, clientCount, recordCount};
+ghost use Rattle.model.specs.Tables.{rows, every};
+ghost use Rattle.model.specs.Images.{floorOfBytes, clientsAscend};
+ghost use Rattle.model.specs.States.{clientsIn, recordsIn, floorsStart, recordsStart, recordRow, stateEnd, completionOf, load, completionOk, idsDiffer, stateOk, sound};
+ghost use Rattle.floors.specs.Places.{placeOf};
+ghost use Rattle.soundness.specs.Slots.{fieldsOk, testedSlot, tablesOk};
+
+// ---- one completion record
+
+// The fields that are tested without plan and clients.
+fn fields_ok(size: u64, r: Completion) -> bool
+    ensures { λ x. ⌜ x ≡ fieldsOk size r ⌝ }
+{
+    let command = wire::command_ok(r.op, r.point, r.argument);
+    let outcome = wire::outcome_ok(r.outcome, r.quality);
+    let id = wire::id_ok(r.client, r.call);
+    command & (outcome & (id & ((HEAD_SIZE < r.end) & (r.end <= size))))
+}
+
+// The place of the client x among n ascending clients. A hint that is right saves the search.
+fn place_by(s: &[u8], n: usize, x: u32, hint: usize) -> usize
+    requires { ⌜ (3112 + 8 * n ≤ length (now s)) × (clientsAscend (rows floorOfBytes floorRow n (drop floorsStart (now s))) ≡ true) ⌝ }
+    ensures { λ r. ⌜ r ≡ placeOf x (rows floorOfBytes floorRow n (drop floorsStart (now (s .entry)))) ⌝ }
+{
+    if hint < n {
+        let f = image_rows::floor_from(s, FLOORS_START + FLOOR_ROW * hint);
+        if f.client == x {
+            return hint;
+        }
+    }
+    floors::client_place(s, FLOORS_START, n, x)
+}
+
+// The slot of the record from k, 512 where it does not pass its test.
+fn record_slot(s: &[u8], n: usize, size: u64, hint: usize, k: usize) -> usize
+    requires { ⌜ (17704 ≤ length (now s)) × (k + 28 ≤ length (now s)) × (n ≤ clientCount) × (n ≡ clientsIn (now s)) × (size ≡ le64At (now s) 24) × (clientsAscend (rows floorOfBytes floorRow n (drop floorsStart (now s))) ≡ true) ⌝ }
+    ensures { λ r. ⌜ r ≡ testedSlot (load (now (s .entry))) (completionOf (drop k (now (s .entry)))) ⌝ }
+{
+    let r = state_rows::completion_from(s, k);
+    if !fields_ok(size, r) {
+        return RECORD_COUNT;
+    }
+    let e = command::plan_entry(s, PLAN_START + PLAN_ROW * (r.point as usize));
+    if !command::in_range(e, r.value) {
+        return RECORD_COUNT;
+    }
+    let i = place_by(s, n, r.client, hint);
+    let floor = floors::floor_at(s, FLOORS_START, n, i);
+    if !image_rows::in_window(floor, r.call) {
+        return RECORD_COUNT;
+    }
+    floors::CALL_WINDOW * i + floors::call_above(r.call, floor)
+}
+
+// ---- all completion records
+
+// Hints for the search of clients: the place of a client stands at its number modulo 256, unless another's does. What they are changes
+// no answer.
+fn hints_of(s: &[u8], n: usize) -> [u8; 256]
+    requires { ⌜ (3112 + 8 * n ≤ length (now s)) × (n ≤ clientCount) ⌝ }
+{
+    let mut hints = [0u8; 256];
+    let mut i = 0;
+    while i < n {
+        let j = (wire::read_u32(s, FLOORS_START + FLOOR_ROW * i) % 256) as usize;
+        hints[j] = i as u8;
+        i += 1;
+    }
+    hints
+}
+
+// Each of m records passes its test, and no id stands twice: each has a slot of its own.
+fn records_ok(s: &[u8], n: usize, m: usize, size: u64) -> bool
+    requires { ⌜ (17704 ≤ length (now s)) × (n ≤ clientCount) × (m ≤ recordCount) × (n ≡ clientsIn (now s)) × (m ≡ recordsIn (now s)) × (size ≡ le64At (now s) 24) × (clientsAscend (rows floorOfBytes floorRow n (drop floorsStart (now s))) ≡ true) ⌝ }
+    ensures { λ r. ⌜ r ≡ (every (completionOk (load (now (s .entry)))) (load (now (s .entry)) .records) && idsDiffer (load (now (s .entry)) .records)) ⌝ }
+{
+    let hints = hints_of(s, n);
+    let mut marks = [0u8; 512];
+    let mut i = 0;
+    while i < m {
+        let k = RECORDS_START + RECORD_ROW * i;
+        let j = (wire::read_u32(s, k) % 256) as usize;
+        let slot = record_slot(s, n, size, hints[j] as usize, k);
+        if RECORD_COUNT <= slot {
+            return false;
+        }
+        if marks[slot] != 0 {
+            return false;
+        }
+        marks[slot] = 1;
+        i += 1;
+    }
+    true
+}
+
+// ---- the whole
+
+// The tables of a state whose counts are in their limits.
+fn tables_ok(s: &[u8]) -> bool
+    requires { ⌜ (17704 ≤ length (now s)) × (clientsIn (now s) ≤ clientCount) × (recordsIn (now s) ≤ recordCount) ⌝ }
+    ensures { λ r. ⌜ r ≡ tablesOk (load (now (s .entry))) ⌝ }
+{
+    let size = state_rows::size_in(s);
+    let n = state_rows::clients_in(s) as usize;
+    let m = state_rows::records_in(s) as usize;
+    if !sound_rows::points_ok(s, PLAN_START, POINTS_START, state_rows::server_in(s), size) {
+        return false;
+    }
+    if !sound_rows::floors_ok(s, FLOORS_START, n) {
+        return false;
+    }
+    if !sound_rows::clients_ascend(s, FLOORS_START, n) {
+        return false;
+    }
+    records_ok(s, n, m, size)
+}
+
+// The head's numbers and the tables.
+fn body_ok(s: &[u8]) -> bool
+    requires { ⌜ (17704 ≤ length (now s)) × (clientsIn (now s) ≤ clientCount) × (recordsIn (now s) ≤ recordCount) ⌝ }
+    ensures { λ r. ⌜ r ≡ stateOk (load (now (s .entry))) ⌝ }
+{
+    let mark = state_rows::mark_in(s);
+    if wire::LAST_SERVER < state_rows::server_in(s) {
+        return false;
+    }
+    if mark < HEAD_SIZE {
+        return false;
+    }
+    if state_rows::size_in(s) < mark {
+        return false;
+    }
+    tables_ok(s)
+}
+
+// The buffer is sound.
+pub fn state_ok(s: &[u8]) -> bool
+    ensures { λ r. ⌜ r ≡ sound (now (s .entry)) ⌝ }
+{
+    if s.len() < STATE_END {
+        return false;
+    }
+    if !sound_rows::framed(s) {
+        return false;
+    }
+    if !sound_rows::plan_rows_ok(s, PLAN_START) {
+        return false;
+    }
+    if !sound_rows::point_rows_ok(s, POINTS_START) {
+        return false;
+    }
+    body_ok(s)
+}
