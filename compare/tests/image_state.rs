@@ -52,7 +52,7 @@ fn image_state() {
     let mut tally = Tally::new("image_state", &CLASSES);
     let log = [0; LOG_LEN];
     let (mut have_out, mut want_out) = (vec![FILL; IMAGE_MAX + 8], vec![FILL; IMAGE_MAX + 8]);
-    for _ in 0..runs() / 10 {
+    for _ in 0..runs() / 20 {
         let point = random.below(64) as u8;
         let server = base(&mut random, point);
         let state = states::buffer(&server);
