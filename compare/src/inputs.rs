@@ -184,7 +184,7 @@ pub enum Tables {
 }
 
 /// Floors by client.
-fn floors(random: &mut Random, tables: Tables) -> Vec<Floor> {
+pub fn floors(random: &mut Random, tables: Tables) -> Vec<Floor> {
     let (count, gap) = match tables {
         Tables::Small => (random.below(5), 1 << 30),
         Tables::Full => (32, 1 << 27),
@@ -202,7 +202,7 @@ fn floors(random: &mut Random, tables: Tables) -> Vec<Floor> {
     floors.collect()
 }
 
-fn moved(random: &mut Random, client: u32, call: u32, range: (i32, i32)) -> Moved {
+pub fn moved(random: &mut Random, client: u32, call: u32, range: (i32, i32)) -> Moved {
     let (op, argument) = op_argument(random);
     Moved {
         client,

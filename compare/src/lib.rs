@@ -2,10 +2,11 @@
 //! over the same bytes and numbers.
 //!
 //! `proved` calls the static libraries of the proved crates, `other` the second
-//! program. `inputs` makes random, damaged and well-formed bytes, `tally`
-//! counts what a test met.
+//! program. `inputs` makes random, damaged and well-formed bytes, `states`
+//! servers and their buffers, `tally` counts what a test met.
 
 pub mod inputs;
 pub mod other;
 pub mod proved;
+pub mod states;
 pub mod tally;

@@ -1,5 +1,5 @@
 //! The proved code, from its static libraries. Structs and functions are those
-//! of include/mantelorris_client.h and of the crate test_c.
+//! of include/mantelorris_client.h and of the crates test_c and image_state_c.
 
 use second::record::Record;
 
@@ -87,6 +87,17 @@ pub struct LeaseReply {
 
 mod c {
     use super::{Client, LeaseManager, LeaseReply, ReceiveReply, SendReply, StartReply};
+
+    #[link(name = "image_state_c", kind = "static")]
+    extern "C" {
+        pub fn mantelorris_test_image_state(
+            state: *const u8,
+            state_len: usize,
+            point: u8,
+            out: *mut u8,
+            out_len: usize,
+        ) -> u64;
+    }
 
     #[link(name = "test_c", kind = "static")]
     extern "C" {
@@ -247,6 +258,21 @@ pub fn image(bytes: &[u8], (low, high): (i32, i32)) -> u64 {
 pub fn image_copy(bytes: &[u8], out: &mut [u8]) -> u64 {
     unsafe {
         c::mantelorris_test_image_copy(bytes.as_ptr(), bytes.len(), out.as_mut_ptr(), out.len())
+    }
+}
+
+/// The image of a point, written from a server's buffer: its length. 0, and
+/// nothing is written, where the output is too short, the buffer not sound, or
+/// there is no such point, tested in this order.
+pub fn image_state(state: &[u8], point: u8, out: &mut [u8]) -> u64 {
+    unsafe {
+        c::mantelorris_test_image_state(
+            state.as_ptr(),
+            state.len(),
+            point,
+            out.as_mut_ptr(),
+            out.len(),
+        )
     }
 }
 

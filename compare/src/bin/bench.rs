@@ -5,8 +5,10 @@
 //! eight numbers that the proved code is tested with.
 
 use compare::inputs::{self, Tables};
-use compare::{other, proved};
+use compare::{other, proved, states};
+use second::cabinet::{Server, STATE_LEN};
 use second::desk::Client;
+use second::image::IMAGE_MAX;
 use second::office::LeaseManager;
 use second::packet::{
     parse_packet, write_grant, write_notice, write_packet, write_receipt, write_refusal,
@@ -285,6 +287,62 @@ fn images(random: &mut Random) {
 }
 
 #[inline(never)]
+fn sound(server: &Server) -> bool {
+    server.sound()
+}
+
+#[inline(never)]
+fn image_state(server: &Server, log: &[u8], point: u8, out: &mut [u8]) -> usize {
+    server.image(STATE_LEN, log, u32::from(point), out).written
+}
+
+/// The image of a point from a server's tables. Both sides test the state
+/// first; a point that is none shows what that costs the proved code.
+fn image_states(random: &mut Random) {
+    let log = [0; states::LOG_LEN];
+    let empty = loop {
+        let server = states::server(random, Tables::Small, 5, 100);
+        if server.clients.is_empty() {
+            break server;
+        }
+    };
+    let full = states::server(random, Tables::Full, 5, 100);
+    let tenth = states::server(random, Tables::Full, 5, 10);
+    for (name, server) in [
+        ("empty", &empty),
+        ("512 records", &full),
+        ("a tenth of 512", &tenth),
+    ] {
+        let state = states::buffer(server);
+        let (mut out, mut out2) = (vec![0; IMAGE_MAX], vec![0; IMAGE_MAX]);
+        let tested = measure(
+            1,
+            || {
+                black_box(proved::image_state(black_box(&state), 64, &mut out));
+            },
+            || {
+                black_box(sound(black_box(server)));
+            },
+        );
+        let all = measure(
+            1,
+            || {
+                black_box(proved::image_state(black_box(&state), 5, &mut out));
+                black_box(&out);
+            },
+            || {
+                black_box(image_state(black_box(server), &log, 5, &mut out2));
+                black_box(&out2);
+            },
+        );
+        row(&format!("state tested, {name}"), tested);
+        row(&format!("and its image, {name}"), all);
+        let written = (all.0 - tested.0, all.1 - tested.1);
+        row(&format!("image from tables, {name}"), written);
+    }
+}
+
+#[inline(never)]
 fn record(log: &[u8], at: u64, out: &mut [u8]) -> u64 {
     other::record(log, at, out)
 }
@@ -503,6 +561,7 @@ fn main() {
     rules(&mut random);
     plans(&mut random);
     images(&mut random);
+    image_states(&mut random);
     records(&mut random);
     clients();
     leases();

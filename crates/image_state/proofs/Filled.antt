@@ -5,12 +5,11 @@
 --     slots-sorted     the entries of the slots are the point's records, sorted
 -- Assumes nothing.
 use Prim.Native.Nat.{ℕ, zero, suc, _+_, _-_, _*_, _≤_, _<_}
-use mathlib.Core.Path.{_≡_, refl, sym, ap, _∙_, subst}
+use mathlib.Core.Path.{_≡_, refl, sym, ap, _∙_}
 use mathlib.Core.Bool.{Bool, true, false}
 use mathlib.Core.List.{List, [], _∷_, map}
 use mathlib.Core.Logic.{_≢_}
 use native.Mathlib.Omega.{arith}
-use native.Mathlib.Nat.{add-zero}
 use lib.ListN.{length, getD, set, replicate, length-replicate, length-set}
 use lib.Seq.{getD-set-same, getD-set-other}
 use lib.Dec.{eqb}
@@ -22,7 +21,7 @@ use Rattle.model.specs.Choice.{pick}
 use Rattle.model.specs.Tables.{keep}
 use Rattle.model.specs.Limits.{clientCount, recordCount}
 use Rattle.model.specs.Images.{floorOf}
-use Rattle.model.specs.Decisions.{isOnPoint, entryOfRecord, insertEntry, sortEntries}
+use Rattle.model.specs.Decisions.{isOnPoint, entryOfRecord, sortEntries}
 use Rattle.laws.specs.Bytes.{All}
 use Rattle.limits.specs.Sound.{Ascending, InWindow, Windowed, Other, Distinct, Before}
 use Rattle.limits.proofs.Lists.{all-to, all-with}

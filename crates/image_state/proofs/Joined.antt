@@ -1,10 +1,10 @@
 -- The slots of a point in a sound buffer, walked: the image's entries.
---     slots-count, slots-few, slot-most      how many slots, and what they hold
+--     slots-count, slot-most                 how many slots, and what they hold
 --     next-skip, next-put, next-room, entries-done     the loop over them
 --     head-of                                the head, by its fields
 -- Assumes nothing.
 use Prim.Native.Nat.{ℕ, _+_, _-_, _*_, _≤_, _<_}
-use mathlib.Core.Path.{_≡_, refl, sym, ap, _∙_}
+use mathlib.Core.Path.{_≡_, sym, ap, _∙_}
 use mathlib.Core.List.{List}
 use mathlib.Core.Logic.{_≢_}
 use native.Mathlib.Omega.{arith}
@@ -24,7 +24,7 @@ use Rattle.laws.specs.Bytes.{Bytes}
 use Rattle.laws.specs.Fits.{Sound, imageHead}
 use Rattle.laws.proofs.Tables.{length-rows, getD-rows}
 use Rattle.limits.specs.Sound.{Sound as StateSound}
-use Rattle.image_state.specs.Slots.{noRecord, slotsFrom, pointSlots, entryIn, entriesIn}
+use Rattle.image_state.specs.Slots.{noRecord, pointSlots, entryIn, entriesIn}
 use Rattle.image_state.proofs.Order.{entries-take}
 use Rattle.image_state.proofs.Filled.{slots-length, slots-most, slots-past, slots-sorted}
 use Rattle.image_state.proofs.Picking.{tables, length-floors, length-records, record-at}

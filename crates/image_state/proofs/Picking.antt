@@ -1,6 +1,6 @@
 -- The loop that fills the slots of a point, over a sound buffer.
 --     tables                               the state in a sound buffer is sound
---     length-floors, length-records        rows of a buffer
+--     length-floors, length-records, record-at     rows of a buffer
 --     Filling, fill-start, fill-skip, fill-put, fill-end     the loop, from the last record to the first
 --     slot-fits                            a record's slot is one of 512
 -- Assumes nothing.

@@ -2,5 +2,4 @@
 pub mod Loops
 pub mod Zeros
 pub mod Points
-pub mod Neighbours
 pub mod Framing

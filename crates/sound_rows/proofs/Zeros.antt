@@ -4,28 +4,25 @@
 --     zeros-open     what a loop over rows of zeros starts from
 -- Assumes nothing.
 use Prim.Native.Nat.{ℕ, zero, suc, _+_, _*_}
-use mathlib.Core.Path.{_≡_, refl, sym, ap, _∙_}
+use mathlib.Core.Path.{_≡_, refl, sym, _∙_}
 use mathlib.Core.Bool.{Bool, true, false, _&&_, and-assoc}
 use mathlib.Core.List.{List, [], _∷_}
 use native.Mathlib.Omega.{arith}
 use native.Mathlib.Nat.{zero-add, suc-add, mul-suc, mul-zero, add-zero}
-use lib.ListN.{getD, drop}
+use lib.ListN.{drop}
 use lib.Seq.{drop-drop}
 use lib.Dec.{eqb}
-use borrow.Author.Tests.{eqb-true, eqb-false, eq-eqb, ne-eqb}
-use Rattle.model.specs.Numbers.{join32, word, le32At, le64At}
+use borrow.Author.Tests.{eqb-true, eqb-false, eq-eqb}
+use Rattle.model.specs.Numbers.{join32, le32At, le64At}
 use Rattle.model.specs.Tables.{everyRow, zeros}
-use Rattle.laws.proofs.Numbers.{le32-drop, le64-drop}
-use Rattle.sound_rows.proofs.Loops.{Open, open-start}
+use Rattle.laws.proofs.Numbers.{le32-drop}
+use Rattle.images.proofs.Loops.{Open}
+use Rattle.sound_rows.proofs.Loops.{open-start}
 
 zeros-nil : (n : ℕ) → zeros n [] ≡ true
 unfolding zeros
 zeros-nil zero = refl
 zeros-nil (suc n) = refl
-
-drop-nil : (m : ℕ) → drop {A = ℕ} m [] ≡ []
-drop-nil zero = refl
-drop-nil (suc m) = refl
 
 zeros-add : (m n : ℕ) (s : List ℕ) → zeros (m + n) s ≡ (zeros m s && zeros n (drop m s))
 unfolding zeros

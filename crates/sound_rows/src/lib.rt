@@ -11,7 +11,6 @@ use state_rows::RECORDS_START;
 ghost use mathlib.Core.Path.{_≡_};
 ghost use Prim.Native.Nat.{_+_, _*_, _≤_};
 ghost use lib.ListN.{length, drop};
-ghost use Rattle.model.specs.Numbers.{zeroAt};
 ghost use Rattle.model.specs.Tables.{rows, everyRow, every, zeros};
 ghost use Rattle.model.specs.Plan.{planEntryOf, planRowOk};
 ghost use Rattle.model.specs.Images.{floorOfBytes, floorOk, clientsAscend};

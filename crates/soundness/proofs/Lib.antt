@@ -1,5 +1,6 @@
 -- Laws that the proofs of `soundness`, and of those who call it, cite.
 pub mod Places
+pub mod Hints
 pub mod Records
 pub mod Slots
 pub mod Pass

@@ -3,7 +3,7 @@
 --                                                              an earlier one, ends
 -- Assumes nothing.
 use Prim.Native.Nat.{ℕ, _+_, _-_, _*_, _≤_, _<_}
-use mathlib.Core.Path.{_≡_, refl, sym, ap, _∙_}
+use mathlib.Core.Path.{_≡_, refl, sym, _∙_}
 use mathlib.Core.Bool.{Bool, true, false, _&&_}
 use mathlib.Core.List.{List}
 use native.Mathlib.Omega.{arith}
@@ -14,11 +14,13 @@ use borrow.Author.Tests.{eq-eqb, ne-eqb}
 use Rattle.model.specs.declared.Completion.{Completion}
 use Rattle.model.specs.Choice.{pick}
 use Rattle.model.specs.Tables.{rows, every}
-use Rattle.model.specs.Images.{floorOfBytes}
+use Rattle.model.specs.Images.{floorOfBytes, clientsAscend}
 use Rattle.model.specs.States.{State, clientsIn, recordsIn, completionOf, load, completionOk, idsDiffer}
 use Rattle.laws.proofs.Tables.{length-rows, rows-cons}
+use Rattle.limits.specs.Sound.{Ascending}
+use Rattle.limits.proofs.Tests.{ascends}
 use Rattle.soundness.specs.Slots.{slotIn, testedSlot, isFree, slotsPass}
-use Rattle.soundness.proofs.Slots.{slot-below, slots-start}
+use Rattle.soundness.proofs.Slots.{slot-few, slots-start}
 
 abbrev pub recordsAnswer : List ℕ → Bool
 recordsAnswer s = every (completionOk (load s)) (load s .records) && idsDiffer (load s .records)
@@ -32,13 +34,14 @@ few : (s : List ℕ) {n : ℕ} → n ≡ clientsIn s → n ≤ 32 → length (lo
 unfolding load
 few s a h = rw (length-rows floorOfBytes 8 (clientsIn s) (drop 3112 s), ← a) h
 
-pub pass-start : (s : List ℕ) {m n : ℕ} → m ≡ recordsIn s → n ≡ clientsIn s → n ≤ 32 → Pass s m (recordsAnswer s) (replicate 512 0) 0
+pub pass-start : (s : List ℕ) {m n : ℕ} → m ≡ recordsIn s → n ≡ clientsIn s → n ≤ 32 → clientsAscend (rows floorOfBytes 8 n (drop 3112 s)) ≡ true → Pass s m (recordsAnswer s) (replicate 512 0) 0
 unfolding load
-pass-start s {m} b a h =
+pass-start s {m} b a h c =
+    let order : Ascending (load s .floors) = ascends (load s .floors) (rw (← a) c) in
     record {
       below = omega arith;
       long = length-replicate {A = ℕ} 512 0;
-      rest = rw (sub-zero, b) (sym (slots-start (load s) (few s a h) (load s .records)));
+      rest = rw (sub-zero, b) (sym (slots-start (load s) order (few s a h) (load s .records)));
     }
 
 -- a tested slot, taken apart
@@ -55,7 +58,7 @@ unfolding testedSlot
 tested-bad st f r {slot} e h = step (completionOk st r) refl e
   where
     step : (b : Bool) → completionOk st r ≡ b → slot ≡ pick b (slotIn st r) 512 → b ≡ false
-    step true p q = absurd (omega (arith, slot-below st f r p))
+    step true p q = absurd (omega (arith, slot-few st f r p))
     step false p q = refl
 
 module _ {s : List ℕ} {m : ℕ} {x : Bool} {marks : List ℕ} {i : ℕ} (o : Pass s m x marks i) where

@@ -2,8 +2,8 @@
 --     ok-parts     completionOk in the order of the code
 --     slot-fields, slot-range, slot-window, slot-all     what each exit answers
 -- Assumes nothing.
-use Prim.Native.Nat.{ℕ, _+_, _-_, _*_, _≤_, _<_}
-use mathlib.Core.Path.{_≡_, refl, sym, ap, _∙_}
+use Prim.Native.Nat.{ℕ, _+_, _-_, _*_, _<_}
+use mathlib.Core.Path.{_≡_, refl, sym, _∙_}
 use mathlib.Core.Bool.{Bool, true, false, _&&_, not, and-assoc}
 use mathlib.Core.List.{List, [], _∷_}
 use native.Mathlib.Omega.{arith}
@@ -12,7 +12,6 @@ use lib.Seq.{drop-drop}
 use lib.Dec.{leb, ltb}
 use borrow.Author.Tests.{not-true, not-false, leb-true}
 use Rattle.model.specs.declared.PlanEntry.{PlanEntry}
-use Rattle.model.specs.declared.Floor.{Floor}
 use Rattle.model.specs.declared.Completion.{Completion}
 use Rattle.model.specs.Numbers.{le64At}
 use Rattle.model.specs.Limits.{headSize}
@@ -24,7 +23,7 @@ use Rattle.model.specs.Images.{floorOfBytes, floorOf, inWindow}
 use Rattle.model.specs.States.{State, clientsIn, completionOf, load, completionOk}
 use Rattle.laws.proofs.Tests.{joined-all}
 use Rattle.laws.proofs.Tables.{getD-rows}
-use Rattle.floors.specs.Places.{placeOf, noFloor, slotOf}
+use Rattle.floors.specs.Places.{placeOf, noFloor}
 use Rattle.floors.proofs.Search.{floor-found, slot-found}
 use Rattle.soundness.specs.Slots.{fieldsOk, slotIn, testedSlot}
 

@@ -1,29 +1,28 @@
 -- Slots and ids of completion records that pass their tests.
---     slot-below     a slot is one of 512
---     same-id     records of one slot have one id
+--     slot-few     a slot is one of 512
 --     slots-ids     the pass over the slots decides what the tests of all records and of their ids decide
 -- Assumes nothing.
-use Prim.Native.Nat.{ℕ, zero, suc, _+_, _-_, _*_, _≤_, _<_}
+use Prim.Native.Nat.{ℕ, zero, suc, _≤_, _<_}
 use mathlib.Core.Path.{_≡_, refl, sym, ap, _∙_}
-use mathlib.Core.Bool.{Bool, true, false, _&&_, not, false≢true}
+use mathlib.Core.Bool.{Bool, true, false, _&&_, not}
 use mathlib.Core.List.{List, [], _∷_}
 use native.Mathlib.Omega.{arith}
 use lib.ListN.{length, getD, set, replicate, length-set, length-replicate}
 use lib.Seq.{getD-set-same, getD-set-other}
-use lib.Dec.{eqb, leb}
-use borrow.Author.Tests.{eqb-true, eqb-false, eq-eqb, ne-eqb, leb-true}
-use Rattle.model.specs.declared.Floor.{Floor}
+use lib.Dec.{eqb}
+use borrow.Author.Tests.{eqb-true, eqb-false, eq-eqb}
 use Rattle.model.specs.declared.Completion.{Completion}
 use Rattle.model.specs.Tables.{every}
 use Rattle.model.specs.Plan.{entryAt, inRange}
 use Rattle.model.specs.Images.{floorOf, inWindow}
 use Rattle.model.specs.States.{State, completionOk, isId, idsDiffer}
 use Rattle.laws.specs.Bytes.{All}
-use Rattle.laws.proofs.Tests.{and-left, and-right, joined-all}
+use Rattle.laws.proofs.Tests.{joined-all}
 use Rattle.laws.proofs.Tables.{every-all, all-every, all-map}
-use Rattle.floors.specs.Places.{placeOf, noFloor, slotOf}
+use Rattle.limits.specs.Sound.{Ascending, InWindow}
+use Rattle.limits.proofs.Tests.{in-window}
+use Rattle.floors.proofs.Slots.{slot-below, slot-id}
 use Rattle.soundness.specs.Slots.{fieldsOk, slotIn, isFree, slotsPass}
-use Rattle.soundness.proofs.Places.{place-below, place-client}
 use Rattle.soundness.proofs.Records.{ok-parts}
 
 and-true : (b : Bool) → (b && true) ≡ b
@@ -39,40 +38,19 @@ getD-zeros zero i = refl
 getD-zeros (suc n) zero = refl
 getD-zeros (suc n) (suc i) = getD-zeros n i
 
--- the window of a record that passes
-record In (floor call : ℕ) : Type 0 where
-  known : 1 ≤ floor
-  low : floor ≤ call
-  high : call ≤ floor + 15
-
-windowed : (st : State) (r : Completion) → completionOk st r ≡ true → In (floorOf (r .client) (st .floors)) (r .call)
-unfolding inWindow
+windowed : (st : State) (r : Completion) → completionOk st r ≡ true → InWindow (floorOf (r .client) (st .floors)) (r .call)
 windowed st r e =
-    let k : ℕ = floorOf (r .client) (st .floors) in
-    let w : inWindow k (r .call) ≡ true =
-    joined-all (fieldsOk (st .size) r ∷ inRange (entryAt (st .plan) (r .point)) (r .value) ∷ inWindow k (r .call) ∷ []) (sym (ok-parts st r) ∙ e) .1 .1 .0 in
-    let t = joined-all (leb 1 k ∷ leb k (r .call) ∷ leb (r .call) (k + 15) ∷ []) w in
-    record { known = leb-true 1 k (t .0); low = leb-true k (r .call) (t .1 .0); high = leb-true (r .call) (k + 15) (t .1 .1 .0) }
+    in-window (floorOf (r .client) (st .floors)) (r .call)
+    (joined-all (fieldsOk (st .size) r ∷ inRange (entryAt (st .plan) (r .point)) (r .value) ∷ inWindow (floorOf (r .client) (st .floors)) (r .call) ∷ []) (sym (ok-parts st r) ∙ e) .1 .1 .0)
 
-module _ (st : State) where
-  pub slot-below : length (st .floors) ≤ 32 → (r : Completion) → completionOk st r ≡ true → slotIn st r < 512
-  unfolding slotIn slotOf
-  slot-below h r e =
-      let w : In (floorOf (r .client) (st .floors)) (r .call) = windowed st r e in
-      omega (arith, place-below (r .client) (st .floors) (w .known))
+pub slot-few : (st : State) → length (st .floors) ≤ 32 → (r : Completion) → completionOk st r ≡ true → slotIn st r < 512
+unfolding slotIn
+slot-few st h r e = omega (arith, slot-below (st .floors) (r .client) (r .call) (windowed st r e))
 
-  pub same-id : (r q : Completion) → completionOk st r ≡ true → completionOk st q ≡ true → slotIn st q ≡ slotIn st r → (q .client ≡ r .client) × (q .call ≡ r .call)
-  unfolding slotIn slotOf
-  same-id r q e f h =
-      let v : In (floorOf (r .client) (st .floors)) (r .call) = windowed st r e in
-      let w : In (floorOf (q .client) (st .floors)) (q .call) = windowed st q f in
-      let places : placeOf (q .client) (st .floors) ≡ placeOf (r .client) (st .floors) = omega arith in
-      let clients : q .client ≡ r .client =
-      sym (place-client (q .client) (st .floors) (place-below (q .client) (st .floors) (w .known)))
-      ∙ ap (λ (i : ℕ). getD (st .floors) i noFloor .client) places
-      ∙ place-client (r .client) (st .floors) (place-below (r .client) (st .floors) (v .known)) in
-      let floors : floorOf (q .client) (st .floors) ≡ floorOf (r .client) (st .floors) = ap (λ (x : ℕ). floorOf x (st .floors)) clients in
-      (clients, omega arith)
+module _ (st : State) (order : Ascending (st .floors)) where
+  same-id : (r q : Completion) → completionOk st r ≡ true → completionOk st q ≡ true → slotIn st q ≡ slotIn st r → (q .client ≡ r .client) × (q .call ≡ r .call)
+  unfolding slotIn
+  same-id r q e f h = slot-id (st .floors) order (q .client) (q .call) (r .client) (r .call) (windowed st q f) (windowed st r e) h
 
   -- records of two slots have two ids
   other-id : (r q : Completion) → (slotIn st q ≡ slotIn st r → ⊥) → (eqb (q .client) (r .client) && eqb (q .call) (r .call)) ≡ false
@@ -113,13 +91,13 @@ module _ {A : Type 0} (t a b : A → Bool) where
       mixed true false false w = refl
       mixed false y z w = refl
 
-module _ (st : State) (few : length (st .floors) ≤ 32) where
+module _ (st : State) (order : Ascending (st .floors)) (few : length (st .floors) ≤ 32) where
   free-after : (marks : List ℕ) (r : Completion) (rs : List Completion) → 512 ≤ length marks → completionOk st r ≡ true → every (completionOk st) rs ≡ true
       → every (isFree st (set marks (slotIn st r) 1)) rs ≡ (every (λ q. not (isId (r .client) (r .call) q)) rs && every (isFree st marks) rs)
   free-after marks r rs h e f =
       every-both (isFree st (set marks (slotIn st r) 1)) (λ q. not (isId (r .client) (r .call) q)) (isFree st marks) rs
       (all-map (λ q. completionOk st q ≡ true) (λ q. isFree st (set marks (slotIn st r) 1) q ≡ (not (isId (r .client) (r .call) q) && isFree st marks q))
-      (λ q g. marked-free st marks r q (omega (arith, slot-below st few r e)) e g) rs (every-all (completionOk st) rs f))
+      (λ q g. marked-free st order marks r q (omega (arith, slot-few st few r e)) e g) rs (every-all (completionOk st) rs f))
 
   pub slots-ids : (marks : List ℕ) (rs : List Completion) → 512 ≤ length marks
       → slotsPass st marks rs ≡ (every (completionOk st) rs && (idsDiffer rs && every (isFree st marks) rs))
@@ -138,19 +116,19 @@ module _ (st : State) (few : length (st .floors) ≤ 32) where
       y : Bool
       y = every (isFree st marks) rs
 
-      order : (f d n' y' : Bool) → (f && (d && (n' && y'))) ≡ ((n' && d) && (f && y'))
-      order true true true y' = refl
-      order true true false y' = refl
-      order true false true y' = refl
-      order true false false y' = refl
-      order false true true y' = refl
-      order false true false y' = refl
-      order false false true y' = refl
-      order false false false y' = refl
+      reorder : (f d n' y' : Bool) → (f && (d && (n' && y'))) ≡ ((n' && d) && (f && y'))
+      reorder true true true y' = refl
+      reorder true true false y' = refl
+      reorder true false true y' = refl
+      reorder true false false y' = refl
+      reorder false true true y' = refl
+      reorder false true false y' = refl
+      reorder false false true y' = refl
+      reorder false false false y' = refl
 
       step : (a b : Bool) → completionOk st r ≡ a → every (completionOk st) rs ≡ b
           → (a && (isFree st marks r && (b && (idsDiffer rs && x)))) ≡ ((a && b) && ((n && idsDiffer rs) && (isFree st marks r && y)))
-      step true true e f = rw (free-after marks r rs h e f) (order (isFree st marks r) (idsDiffer rs) n y)
+      step true true e f = rw (free-after marks r rs h e f) (reorder (isFree st marks r) (idsDiffer rs) n y)
       step true false e f = and-false (isFree st marks r)
       step false b e f = refl
 

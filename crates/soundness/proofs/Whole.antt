@@ -14,7 +14,7 @@ use Rattle.model.specs.Numbers.{byteAt, le64At}
 use Rattle.model.specs.Tables.{rows, everyRow, every}
 use Rattle.model.specs.Plan.{planEntryOf, planRowOk}
 use Rattle.model.specs.Images.{floorOfBytes, floorOk, clientsAscend}
-use Rattle.model.specs.States.{clientsIn, pointOf, load, pointsOk, completionOk, idsDiffer, stateFramed, pointRowOk, stateOk, sound}
+use Rattle.model.specs.States.{clientsIn, pointOf, load, pointsOk, stateFramed, pointRowOk, stateOk, sound}
 use Rattle.soundness.specs.Slots.{tablesOk}
 use Rattle.soundness.proofs.Pass.{recordsAnswer}
 

@@ -1,10 +1,11 @@
 -- One pass over the completion records: each passes its test and finds its slot free. A record's slot stands for its id.
 -- Assumes nothing.
-use Prim.Native.Nat.{ℕ}
+use Prim.Native.Nat.{ℕ, suc, _%_}
 use mathlib.Core.Bool.{Bool, true, _&&_}
 use mathlib.Core.List.{List, [], _∷_}
 use lib.ListN.{getD, set}
 use lib.Dec.{eqb, leb, ltb}
+use Rattle.model.specs.declared.Floor.{Floor}
 use Rattle.model.specs.declared.Completion.{Completion}
 use Rattle.model.specs.Choice.{pick}
 use Rattle.model.specs.Limits.{headSize, recordCount}
@@ -36,6 +37,11 @@ isFree st marks r = eqb (getD marks (slotIn st r) 0) 0
 unfoldable pub slotsPass : State → List ℕ → List Completion → Bool
 slotsPass st marks [] = true
 slotsPass st marks (r ∷ rs) = completionOk st r && (isFree st marks r && slotsPass st (set marks (slotIn st r) 1) rs)
+
+-- hints, with the place of each client, from place i on, at its number modulo 256; a later client takes the entry of an earlier one
+unfoldable pub hintsFrom : ℕ → List ℕ → List Floor → List ℕ
+hintsFrom i hints [] = hints
+hintsFrom i hints (f ∷ fs) = hintsFrom (suc i) (set hints (f .client % 256) i) fs
 
 -- the tables of a state whose head's numbers are in range
 unfoldable pub tablesOk : State → Bool

@@ -14,14 +14,14 @@ use state_rows::STATE_END;
 ghost use mathlib.Core.Path.{_≡_};
 ghost use mathlib.Core.Bool.{true, _&&_};
 ghost use Prim.Native.Nat.{_+_, _*_, _≤_};
-ghost use lib.ListN.{length, drop};
-ghost use Rattle.model.specs.Numbers.{byteAt, le64At};
+ghost use lib.ListN.{length, drop, replicate};
+ghost use Rattle.model.specs.Numbers.{le64At};
 ghost use Rattle.model.specs.Limits.{floorRow, clientCount, recordCount};
 ghost use Rattle.model.specs.Tables.{rows, every};
 ghost use Rattle.model.specs.Images.{floorOfBytes, clientsAscend};
-ghost use Rattle.model.specs.States.{clientsIn, recordsIn, floorsStart, recordsStart, recordRow, stateEnd, completionOf, load, completionOk, idsDiffer, stateOk, sound};
+ghost use Rattle.model.specs.States.{clientsIn, recordsIn, floorsStart, completionOf, load, completionOk, idsDiffer, stateOk, sound};
 ghost use Rattle.floors.specs.Places.{placeOf};
-ghost use Rattle.soundness.specs.Slots.{fieldsOk, testedSlot, tablesOk};
+ghost use Rattle.soundness.specs.Slots.{fieldsOk, testedSlot, hintsFrom, tablesOk};
 
 // ---- one completion record
 
@@ -72,15 +72,17 @@ fn record_slot(s: &[u8], n: usize, size: u64, hint: usize, k: usize) -> usize
 
 // ---- all completion records
 
-// Hints for the search of clients: the place of a client stands at its number modulo 256, unless another's does. What they are changes
-// no answer.
+// Hints for the search of a client: its place stands at its number modulo 256, unless a later client took the entry. A wrong hint
+// costs the search, and changes no answer.
 fn hints_of(s: &[u8], n: usize) -> [u8; 256]
     requires { ⌜ (3112 + 8 * n ≤ length (now s)) × (n ≤ clientCount) ⌝ }
+    ensures { λ r. ⌜ r ≡ hintsFrom 0 (replicate 256 0) (rows floorOfBytes floorRow n (drop floorsStart (now (s .entry)))) ⌝ }
 {
     let mut hints = [0u8; 256];
     let mut i = 0;
     while i < n {
-        let j = (wire::read_u32(s, FLOORS_START + FLOOR_ROW * i) % 256) as usize;
+        let f = image_rows::floor_from(s, FLOORS_START + FLOOR_ROW * i);
+        let j = (f.client % 256) as usize;
         hints[j] = i as u8;
         i += 1;
     }

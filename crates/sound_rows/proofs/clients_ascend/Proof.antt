@@ -1,8 +1,8 @@
 -- `sound_rows::clients_ascend` meets its contract.
 -- Assumes nothing.
 use borrow.Author.Needs.{needs}
-use Rattle.sound_rows.proofs.Neighbours.{clientBefore, clients-open}
-use Rattle.sound_rows.proofs.Loops.{Open, pairTest, pair-at, open-next, open-false, open-true}
+use Rattle.images.proofs.Loops.{Open, open-next, open-false, open-true}
+use Rattle.sound_rows.proofs.Loops.{clientBefore, clients-open, client-pair}
 use Rattle.model.specs.Images.{floorOfBytes, clientsAscend}
 use Rattle.model.specs.Tables.{rows}
 use native.Mathlib.Omega.{arith}
@@ -13,7 +13,7 @@ use Rattle.sound_rows.proofs.clients_ascend.Statement.{statement}
 use Rattle.sound_rows.proofs.clients_ascend.Tie as tie
 
 abbrev Inv-loop : tie.InvT-loop
-Inv-loop s at n i₀ i = Open (pairTest floorOfBytes 8 clientBefore) 8 at (clientsAscend (rows floorOfBytes 8 n (drop at s))) s (n - 1) i
+Inv-loop s at n i₀ i = Open clientBefore 8 at (clientsAscend (rows floorOfBytes 8 n (drop at s))) s (n - 1) i
 
 abbrev μ-loop : tie.MeasureT-loop
 μ-loop s at n i₀ i = n - i
@@ -22,10 +22,10 @@ loop-holds : tie.Need-loop-holds Inv-loop μ-loop
 loop-holds c = clients-open _ _ _
 
 returns : tie.Need-returns Inv-loop μ-loop
-returns c = open-false (c .before .before .before .loop .inv) (omega arith) (pair-at floorOfBytes 8 clientBefore (c .before .before .before .before .before .args .s .now) (c .before .before .before .before .before .args .at + 8 * c .before .before .before .loop .i) (c .before .client-before .ensures)) (c .if1 .taken)
+returns c = open-false (c .before .before .before .loop .inv) (omega arith) (client-pair (c .before .before .before .before .before .args .s .now) (c .before .before .before .before .before .args .at + 8 * c .before .before .before .loop .i) (c .before .client-before .ensures)) (c .if1 .taken)
 
 loop-again : tie.Need-loop-again Inv-loop μ-loop
-loop-again c = open-next (c .before .before .before .loop .inv) (omega arith) (pair-at floorOfBytes 8 clientBefore (c .before .before .before .before .before .args .s .now) (c .before .before .before .before .before .args .at + 8 * c .before .before .before .loop .i) (c .before .client-before .ensures)) (c .if1 .left)
+loop-again c = open-next (c .before .before .before .loop .inv) (omega arith) (client-pair (c .before .before .before .before .before .args .s .now) (c .before .before .before .before .before .args .at + 8 * c .before .before .before .loop .i) (c .before .client-before .ensures)) (c .if1 .left)
 
 returns-2 : tie.Need-returns-2 Inv-loop μ-loop
 returns-2 c = open-true (c .before .loop .inv) (omega arith)

@@ -1,7 +1,7 @@
 -- `sound_rows::floors_ok` meets its contract.
 -- Assumes nothing.
 use borrow.Author.Needs.{needs}
-use Rattle.sound_rows.proofs.Loops.{Open, rowTest, every-open, open-next, open-false, open-true}
+use Rattle.images.proofs.Loops.{Open, rowTest, every-open, open-next, open-false, open-true}
 use Rattle.model.specs.Images.{floorOfBytes, floorOk}
 use Rattle.model.specs.Tables.{rows, every}
 use lib.ListN.{drop}

@@ -1,7 +1,8 @@
 -- `sound_rows::point_rows_ok` meets its contract.
 -- Assumes nothing.
 use borrow.Author.Needs.{needs}
-use Rattle.sound_rows.proofs.Loops.{Open, row-open, open-next, open-false, open-true}
+use Rattle.images.proofs.Loops.{Open, open-next, open-false, open-true}
+use Rattle.sound_rows.proofs.Loops.{row-open}
 use Rattle.model.specs.States.{pointRowOk}
 use Rattle.model.specs.Tables.{everyRow}
 use lib.ListN.{drop}

@@ -2,7 +2,7 @@
 -- Assumes nothing.
 use borrow.Author.Needs.{needs}
 use Rattle.sound_rows.proofs.Zeros.{zeros-open}
-use Rattle.sound_rows.proofs.Loops.{Open, open-next, open-false, open-true}
+use Rattle.images.proofs.Loops.{Open, open-next, open-false, open-true}
 use Rattle.model.specs.Tables.{zeros}
 use Prim.Native.Nat.{_*_}
 use lib.ListN.{drop}

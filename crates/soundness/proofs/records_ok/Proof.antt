@@ -13,7 +13,7 @@ abbrev μ-loop : tie.MeasureT-loop
 μ-loop s n m size hints marks₀ i₀ marks i = m - i
 
 loop-holds : tie.Need-loop-holds Inv-loop μ-loop
-loop-holds c = let start = c .before .before in pass-start (start .args .s .now) (start .pre .4) (start .pre .3) (start .pre .1)
+loop-holds c = let start = c .before .before in pass-start (start .args .s .now) (start .pre .4) (start .pre .3) (start .pre .1) (start .pre .6)
 
 returns : tie.Need-returns Inv-loop μ-loop
 returns c = let start = c .before .before .before .before .before .before .before in pass-bad (c .before .before .before .before .loop .inv) (c .before .before .before .loop-test .taken) (c .before .record-slot .ensures) (start .pre .3) (start .pre .1) (c .if1 .taken)

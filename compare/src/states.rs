@@ -1,0 +1,194 @@
+//! A server's state in its buffer, from docs/STATE.md, and random sound
+//! servers.
+
+use crate::inputs::{self, Tables};
+use second::bytes::put_u32;
+use second::cabinet::{Completion, Hold, Point, Server, Taken, STATE_LEN};
+use second::plan::{write_plan, Entry, POINTS};
+use second::random::Random;
+
+pub const PLAN_AT: usize = 40;
+pub const POINTS_AT: usize = 1064;
+pub const CLIENTS_AT: usize = 3112;
+pub const RECORDS_AT: usize = 3368;
+pub const STATE_END: usize = 17_704;
+
+/// The log that a server's recorded length is of.
+pub const LOG_LEN: usize = 4096;
+
+// ---- the buffer
+
+/// The 32,768 bytes of a server's state; behind the layout's end they are free.
+pub fn buffer(server: &Server) -> Vec<u8> {
+    let mut b = vec![0x5A; STATE_LEN];
+    b[..STATE_END].fill(0);
+    b[..4].copy_from_slice(&[0x57, 0x53, 0x54, 0x31]);
+    b[4] = server.cabinet;
+    put_u32(&mut b, 8, server.heard);
+    put_u32(&mut b, 12, server.clients.len() as u32);
+    put_u32(&mut b, 16, server.records.len() as u32);
+    put_u64(&mut b, 24, server.length);
+    put_u64(&mut b, 32, server.mark);
+    b[PLAN_AT..POINTS_AT].copy_from_slice(&write_plan(&server.plan));
+    for (i, point) in server.points.iter().enumerate() {
+        put_point(&mut b[POINTS_AT + 32 * i..][..32], point, server.cabinet);
+    }
+    for (i, f) in server.clients.iter().enumerate() {
+        put_u32(&mut b, CLIENTS_AT + 8 * i, f.client);
+        put_u32(&mut b, CLIENTS_AT + 8 * i + 4, f.floor);
+    }
+    for (i, r) in server.records.iter().enumerate() {
+        put_record(&mut b[RECORDS_AT + 28 * i..][..28], r);
+    }
+    b
+}
+
+fn put_u64(b: &mut [u8], at: usize, value: u64) {
+    b[at..at + 8].copy_from_slice(&value.to_le_bytes());
+}
+
+/// A signed number is kept as x + 2^31.
+fn put_signed(b: &mut [u8], at: usize, value: i32) {
+    put_u32(b, at, value as u32 ^ 1 << 31);
+}
+
+/// A released point's destination and give are no longer known to the second
+/// program: another server, and the end of a first record.
+fn put_point(b: &mut [u8], point: &Point, server: u8) {
+    let (status, destination, gave) = match point.hold {
+        Hold::Absent => (0, 0, 0),
+        Hold::Held => (1, 0, 0),
+        Hold::Given { destination, end } => (2, destination, end),
+        Hold::Released => (3, (server + 1) % 16, 9),
+    };
+    b[0] = status;
+    b[1] = point.quality;
+    b[2] = destination;
+    put_signed(b, 4, point.value);
+    put_u32(b, 8, point.move_number);
+    put_u32(b, 12, point.taken.map_or(0, |t| t.move_number));
+    put_u64(b, 16, gave);
+    put_u64(b, 24, point.taken.map_or(0, |t| t.end));
+}
+
+fn put_record(b: &mut [u8], r: &Completion) {
+    put_u32(b, 0, r.client);
+    put_u32(b, 4, r.call);
+    put_signed(b, 8, r.argument);
+    put_signed(b, 12, r.value);
+    b[16] = r.op as u8;
+    b[17] = r.outcome;
+    b[18] = r.quality;
+    b[19] = r.point;
+    put_u64(b, 20, r.end);
+}
+
+// ---- random servers
+
+/// A sound server that has given the point, its give synced. That many percent
+/// of its records are the point's.
+pub fn server(random: &mut Random, tables: Tables, point: u8, percent: u32) -> Server {
+    let mut server = Server::new();
+    server.founded = true;
+    server.cabinet = random.below(16) as u8;
+    server.plan = inputs::plan(random);
+    server.heard = inputs::number(random);
+    server.length = u64::from(9 + random.below(LOG_LEN as u32 - 8));
+    server.mark = 9 + random.next_u64() % (server.length - 8);
+    for p in 0..POINTS {
+        server.points[p] = point_state(random, &server, p as u8);
+    }
+    let destination = (server.cabinet + 1 + random.below(15) as u8) % 16;
+    let given = &mut server.points[usize::from(point)];
+    given.hold = Hold::Given {
+        destination,
+        end: 9 + random.next_u64() % (server.mark - 8),
+    };
+    given.move_number = inputs::at_least_1(random);
+    given.taken = None;
+    server.clients = inputs::floors(random, tables);
+    server.records = records(random, &server, tables, point, percent);
+    server
+}
+
+fn end(random: &mut Random, server: &Server) -> u64 {
+    9 + random.next_u64() % (server.length - 8)
+}
+
+fn point_state(random: &mut Random, server: &Server, p: u8) -> Point {
+    let entry: Entry = *server.plan.entry(p);
+    let home = entry.home == server.cabinet;
+    let number = inputs::at_least_1(random).max(2);
+    let taken = Taken {
+        move_number: 1 + random.below(number - 1),
+        end: end(random, server),
+    };
+    let (hold, move_number, taken) = match random.below(4) {
+        0 if home => (Hold::Held, 0, None),
+        0 => (Hold::Absent, 0, None),
+        1 => (Hold::Held, taken.move_number, Some(taken)),
+        2 => (Hold::Released, number, Some(taken)),
+        _ => {
+            let destination = (server.cabinet + 1) % 16;
+            let end = end(random, server);
+            (Hold::Given { destination, end }, number, Some(taken))
+        }
+    };
+    Point {
+        value: inputs::within(random, (entry.low, entry.high)),
+        quality: random.below(2) as u8,
+        move_number,
+        hold,
+        taken,
+    }
+}
+
+/// In any order of ids, as records arrive; their ends do not fall.
+fn records(
+    random: &mut Random,
+    server: &Server,
+    tables: Tables,
+    point: u8,
+    percent: u32,
+) -> Vec<Completion> {
+    let others: Vec<u8> = (0..POINTS as u8)
+        .filter(|&p| matches!(server.point(p).hold, Hold::Held | Hold::Given { .. }))
+        .collect();
+    let mut records = Vec::new();
+    for f in &server.clients {
+        let often = match tables {
+            Tables::Full => 100,
+            Tables::Small => *random.pick(&[0, 10, 50, 100]),
+        };
+        for call in f.floor..=f.floor.saturating_add(15) {
+            if random.chance(often) {
+                let p = match random.chance(percent) {
+                    true => point,
+                    false => *random.pick(&others),
+                };
+                let range = server.plan.entry(p);
+                let m = inputs::moved(random, f.client, call, (range.low, range.high));
+                records.push(Completion {
+                    client: m.client,
+                    call: m.call,
+                    argument: m.argument,
+                    value: m.value,
+                    op: m.op,
+                    point: p,
+                    outcome: m.outcome,
+                    quality: m.quality,
+                    end: end(random, server),
+                });
+            }
+        }
+    }
+    let mut ends: Vec<u64> = records.iter().map(|r| r.end).collect();
+    ends.sort_unstable();
+    for i in (1..records.len()).rev() {
+        records.swap(i, random.below(i as u32 + 1) as usize);
+    }
+    for (r, end) in records.iter_mut().zip(ends) {
+        r.end = end;
+    }
+    records
+}
