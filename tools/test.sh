@@ -37,6 +37,7 @@ part kit same_kit; count $?
 part format rt fmt --check; count $?
 part yard-cases tools/yard_cases.py --check; count $?
 part claims tools/claims.py; count $?
+part entry-points tools/entry_points.py; count $?
 
 # every proof and must-fail edit: the lines of each crate and edit are shown as they come
 echo "== proofs"

@@ -102,6 +102,19 @@ mod c {
             out: *mut u8,
             out_len: usize,
         ) -> u32;
+        pub fn mantelorris_test_put(
+            out: *mut u8,
+            out_len: usize,
+            kind: u32,
+            first: u32,
+            second: u32,
+            third: u32,
+            fourth: u32,
+            fifth: u32,
+            sixth: u32,
+            seventh: u32,
+        ) -> u32;
+        pub fn mantelorris_test_sum(packet: *const u8, packet_len: usize) -> u64;
         pub fn mantelorris_test_rule(
             low: i32,
             high: i32,
@@ -131,6 +144,7 @@ mod c {
             out: *mut u8,
             out_len: usize,
         ) -> u64;
+        pub fn mantelorris_test_record_sum(log: *const u8, log_len: usize, at: u64) -> u64;
         pub fn mantelorris_test_append_executed(
             log: *mut u8,
             log_len: usize,
@@ -225,6 +239,17 @@ pub fn write(numbers: &[u8], out: &mut [u8]) -> u32 {
     }
 }
 
+/// The same from the numbers themselves.
+pub fn write_numbers([k, a, b, c, d, e, f, g]: [u32; 8], out: &mut [u8]) -> u32 {
+    let (start, length) = (out.as_mut_ptr(), out.len());
+    unsafe { c::mantelorris_test_put(start, length, k, a, b, c, d, e, f, g) }
+}
+
+/// The sum of the packet's eight numbers, 0 for a malformed one.
+pub fn sum(packet: &[u8]) -> u64 {
+    unsafe { c::mantelorris_test_sum(packet.as_ptr(), packet.len()) }
+}
+
 /// Bits 0 to 31: the value; 32 to 39: the outcome; 40 to 47: the quality.
 pub fn rule(range: (i32, i32, i32), op: u8, argument: i32, value: i32, quality: u8) -> u64 {
     let (low, high, fallback) = range;
@@ -256,6 +281,11 @@ pub fn image_copy(bytes: &[u8], out: &mut [u8]) -> u64 {
 /// whole record of a broken layout.
 pub fn record(log: &[u8], at: u64, out: &mut [u8]) -> u64 {
     unsafe { c::mantelorris_test_record(log.as_ptr(), log.len(), at, out.as_mut_ptr(), out.len()) }
+}
+
+/// The sum of the eleven numbers of the record at a place of the log.
+pub fn record_sum(log: &[u8], at: u64) -> u64 {
+    unsafe { c::mantelorris_test_record_sum(log.as_ptr(), log.len(), at) }
 }
 
 /// Writes a record at a place of the log; its length, 0 where it does not fit or

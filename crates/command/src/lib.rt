@@ -175,8 +175,8 @@ fn part_rule(e: PlanEntry, a: u32) -> CommandResult
     result_of(0, v as u32, 0)
 }
 
-// A command's result: outcome, and value and quality after it. A part of more than 1000 might not fit 32 bits.
-pub fn rule(e: PlanEntry, op: u8, argument: u32, r: Reading) -> CommandResult
+// The rule of each op, of an argument in its range: a part of more than 1000 might not fit 32 bits.
+fn rule(e: PlanEntry, op: u8, argument: u32, r: Reading) -> CommandResult
     requires { ⌜ argumentOk op argument ≡ true ⌝ }
     ensures { λ x. ⌜ x ≡ ruleOf e op argument r ⌝ }
 {
@@ -191,7 +191,7 @@ pub fn rule(e: PlanEntry, op: u8, argument: u32, r: Reading) -> CommandResult
     }
 }
 
-// The same for all arguments: one outside its op's range changes nothing, outcome 1.
+// A command's result: outcome, and value and quality after it. An argument outside its op's range changes nothing, outcome 1.
 pub fn checked_rule(e: PlanEntry, op: u8, argument: u32, r: Reading) -> CommandResult
     ensures { λ x. ⌜ x ≡ checkedRule e op argument r ⌝ }
 {

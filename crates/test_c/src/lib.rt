@@ -6,7 +6,8 @@ ghost use Rattle.command_c.specs.Packed.{testedRule, flag};
 ghost use Rattle.model.specs.Numbers.{flip};
 ghost use Rattle.model.specs.Logs.{executed, gone, gave, released};
 ghost use Rattle.records_c.specs.Shown;
-ghost use Rattle.wire_c.specs.Words.{after, parsing, writing};
+ghost use Rattle.model.specs.Packets.{parsePacket};
+ghost use Rattle.wire_c.specs.Words.{after, eight, wordsOf, wordsSum, parsing, putting, writing};
 
 #[no_mangle]
 pub extern "C" fn mantelorris_test_parse(packet: &[u8], numbers: &mut [u8]) -> u32
@@ -20,6 +21,40 @@ pub extern "C" fn mantelorris_test_write(numbers: &[u8], out: &mut [u8]) -> u32
     ensures { λ r. ⌜ after r (now (out .exit)) ≡ writing (now (numbers .entry)) (now (out .entry)) ⌝ }
 {
     wire_c::wire_write(numbers, out)
+}
+
+#[no_mangle]
+pub extern "C" fn mantelorris_test_put(
+    out: &mut [u8],
+    kind: u32,
+    first: u32,
+    second: u32,
+    third: u32,
+    fourth: u32,
+    fifth: u32,
+    sixth: u32,
+    seventh: u32,
+) -> u32
+    ensures { λ r. ⌜ after r (now (out .exit)) ≡ putting (eight kind first second third fourth fifth sixth seventh) (now (out .entry)) ⌝ }
+{
+    wire_c::wire_put(
+        out,
+        kind,
+        first,
+        second,
+        third,
+        fourth,
+        fifth,
+        sixth,
+        seventh,
+    )
+}
+
+#[no_mangle]
+pub extern "C" fn mantelorris_test_sum(packet: &[u8]) -> u64
+    ensures { λ r. ⌜ r ≡ wordsSum (wordsOf (parsePacket (now (packet .entry)))) ⌝ }
+{
+    wire_c::wire_sum(packet)
 }
 
 #[no_mangle]
@@ -63,6 +98,13 @@ pub extern "C" fn mantelorris_test_record(log: &[u8], at: u64, out: &mut [u8]) -
     ensures { λ r. ⌜ Shown.after r (now (out .exit)) ≡ Shown.showing (now (log .entry)) at (now (out .entry)) ⌝ }
 {
     records_c::mantelorris_test_record(log, at, out)
+}
+
+#[no_mangle]
+pub extern "C" fn mantelorris_test_record_sum(log: &[u8], at: u64) -> u64
+    ensures { λ r. ⌜ r ≡ Shown.wordsSum (Shown.wordsAt (now (log .entry)) at) ⌝ }
+{
+    records_c::mantelorris_test_record_sum(log, at)
 }
 
 #[no_mangle]
