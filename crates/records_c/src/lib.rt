@@ -17,7 +17,7 @@ ghost use Rattle.model.specs.Images.{imageHeadOf};
 ghost use Rattle.model.specs.Logs.{executed, gone, gave, released, recordAt, spans};
 ghost use Rattle.records.specs.Answers.{extentFrom};
 ghost use Rattle.records_c.specs.Shown.{eleven, blank, firstBytes, lastBytes, wordsBytes, executedWords, headWords, recordWords, wordsAt};
-ghost use Rattle.records_c.specs.Shown.{after, showing, appending, taking, wordsSum};
+ghost use Rattle.records_c.specs.Shown.{after, showing, appending, taking, firstSum, lastSum, wordsSum};
 
 pub struct Words {
     pub kind: u32,
@@ -196,8 +196,8 @@ fn has_room(log: &[u8], at: usize, n: usize) -> bool
     at <= log.len() - n
 }
 
-fn sum(w: Words) -> u64
-    ensures { λ r. ⌜ r ≡ wordsSum w ⌝ }
+fn first_sum(w: Words) -> u64
+    ensures { λ r. ⌜ r ≡ firstSum w ⌝ }
 {
     w.kind as u64
         + w.size as u64
@@ -205,11 +205,18 @@ fn sum(w: Words) -> u64
         + w.second as u64
         + w.third as u64
         + w.fourth as u64
-        + w.fifth as u64
-        + w.sixth as u64
-        + w.seventh as u64
-        + w.eighth as u64
-        + w.ninth as u64
+}
+
+fn last_sum(w: Words) -> u64
+    ensures { λ r. ⌜ r ≡ lastSum w ⌝ }
+{
+    w.fifth as u64 + w.sixth as u64 + w.seventh as u64 + w.eighth as u64 + w.ninth as u64
+}
+
+fn sum(w: Words) -> u64
+    ensures { λ r. ⌜ r ≡ wordsSum w ⌝ }
+{
+    first_sum(w) + last_sum(w)
 }
 
 // ---- exported
