@@ -68,7 +68,7 @@ tests() {
 }
 
 tests second
-part static-libraries tools/staticlib.sh test_c client_c; count $?
+part static-libraries tools/staticlib.sh test_c bench_c client_c; count $?
 tests compare -- --nocapture
 sed -nE 's/^\.*(compare [^:]*: seed [0-9]+, [0-9]+ in [0-9.]+ s):.*/   \1/p' "$logs/compare"
 part client-in-c tests/c/client.sh; count $?

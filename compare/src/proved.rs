@@ -114,14 +114,13 @@ mod c {
             sixth: u32,
             seventh: u32,
         ) -> u32;
-        pub fn mantelorris_test_sum(packet: *const u8, packet_len: usize) -> u64;
         pub fn mantelorris_test_rule(
-            low: i32,
-            high: i32,
-            fallback: i32,
+            low: u32,
+            high: u32,
+            fallback: u32,
             op: u8,
-            argument: i32,
-            value: i32,
+            argument: u32,
+            value: u32,
             quality: u8,
         ) -> u64;
         pub fn mantelorris_test_plan_ok(plan: *const u8, plan_len: usize) -> u32;
@@ -144,7 +143,6 @@ mod c {
             out: *mut u8,
             out_len: usize,
         ) -> u64;
-        pub fn mantelorris_test_record_sum(log: *const u8, log_len: usize, at: u64) -> u64;
         pub fn mantelorris_test_append_executed(
             log: *mut u8,
             log_len: usize,
@@ -188,6 +186,12 @@ mod c {
             point: u8,
             number: u32,
         ) -> u64;
+    }
+
+    #[link(name = "bench_c", kind = "static")]
+    extern "C" {
+        pub fn mantelorris_test_sum(packet: *const u8, packet_len: usize) -> u64;
+        pub fn mantelorris_test_record_sum(log: *const u8, log_len: usize, at: u64) -> u64;
     }
 
     #[link(name = "client_c", kind = "static")]
@@ -250,8 +254,14 @@ pub fn sum(packet: &[u8]) -> u64 {
     unsafe { c::mantelorris_test_sum(packet.as_ptr(), packet.len()) }
 }
 
+/// A signed number as the proved code keeps it: x + 2^31.
+pub fn kept(x: i32) -> u32 {
+    x as u32 ^ 1 << 31
+}
+
 /// Bits 0 to 31: the value; 32 to 39: the outcome; 40 to 47: the quality.
-pub fn rule(range: (i32, i32, i32), op: u8, argument: i32, value: i32, quality: u8) -> u64 {
+/// Signed numbers as kept.
+pub fn rule(range: (u32, u32, u32), op: u8, argument: u32, value: u32, quality: u8) -> u64 {
     let (low, high, fallback) = range;
     unsafe { c::mantelorris_test_rule(low, high, fallback, op, argument, value, quality) }
 }
@@ -263,9 +273,7 @@ pub fn plan_ok(plan: &[u8]) -> bool {
 /// 0: malformed, the range aside. Bit 0: 1; bit 1: the values are in range; bits
 /// 16 to 31: floors; from 32 on: records.
 pub fn image(bytes: &[u8], (low, high): (i32, i32)) -> u64 {
-    // these two are kept as x + 2^31
-    let (low, high) = (low as u32 ^ 1 << 31, high as u32 ^ 1 << 31);
-    unsafe { c::mantelorris_test_image(bytes.as_ptr(), bytes.len(), low, high) }
+    unsafe { c::mantelorris_test_image(bytes.as_ptr(), bytes.len(), kept(low), kept(high)) }
 }
 
 /// The image read and written anew; 0 where malformed, or the output too short.

@@ -1,6 +1,7 @@
 //! The plan's test, and the rule of each op.
 
 use compare::inputs;
+use compare::proved::kept;
 use compare::tally::{runs, seed, Tally};
 use compare::{other, proved};
 use second::bytes::{all_zero, get_i32};
@@ -165,7 +166,8 @@ fn rules() {
             _ => near(&mut random, &e),
         };
         let range = (e.low, e.high, e.fallback);
-        let have = proved::rule(range, op, argument, value, quality);
+        let kept_range = (kept(e.low), kept(e.high), kept(e.fallback));
+        let have = proved::rule(kept_range, op, kept(argument), kept(value), quality) ^ 1 << 31;
         let want = other::rule(range, op, argument, value, quality);
         assert_eq!(
             have, want,

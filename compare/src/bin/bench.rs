@@ -207,6 +207,7 @@ fn packets(random: &mut Random) {
     }
 }
 
+/// Each side takes signed numbers as it keeps them.
 fn rules(random: &mut Random) {
     for (op, name) in (0..).zip(OPS) {
         let commands: Vec<_> = (0..INPUTS)
@@ -219,10 +220,21 @@ fn rules(random: &mut Random) {
                 (range, argument, value, random.below(2) as u8)
             })
             .collect();
+        let kept: Vec<_> = commands
+            .iter()
+            .map(|&((low, high, fallback), argument, value, quality)| {
+                let range = (
+                    proved::kept(low),
+                    proved::kept(high),
+                    proved::kept(fallback),
+                );
+                (range, proved::kept(argument), proved::kept(value), quality)
+            })
+            .collect();
         let times = measure(
             INPUTS as u64,
             || {
-                for &(range, argument, value, quality) in &commands {
+                for &(range, argument, value, quality) in &kept {
                     black_box(proved::rule(black_box(range), op, argument, value, quality));
                 }
             },

@@ -139,7 +139,7 @@ fn record_words(log: &[u8], at: usize, n: usize) -> Words
             0,
             0,
         ),
-        Record::Took(p) => image_words(size, log, p.from, p.from + p.len),
+        Record::Took(_) => image_words(size, log, at + appends::TAKE_HEAD, at + n),
         Record::Released(x) => numbered(5, size, x.point as u32, x.number, 0, 0, 0, 0, 0, 0, 0),
     }
 }

@@ -6,8 +6,7 @@ ghost use Rattle.command_c.specs.Packed.{testedRule, flag};
 ghost use Rattle.model.specs.Numbers.{flip};
 ghost use Rattle.model.specs.Logs.{executed, gone, gave, released};
 ghost use Rattle.records_c.specs.Shown;
-ghost use Rattle.model.specs.Packets.{parsePacket};
-ghost use Rattle.wire_c.specs.Words.{after, eight, wordsOf, wordsSum, parsing, putting, writing};
+ghost use Rattle.wire_c.specs.Words.{after, eight, parsing, putting, writing};
 
 #[no_mangle]
 pub extern "C" fn mantelorris_test_parse(packet: &[u8], numbers: &mut [u8]) -> u32
@@ -51,13 +50,6 @@ pub extern "C" fn mantelorris_test_put(
 }
 
 #[no_mangle]
-pub extern "C" fn mantelorris_test_sum(packet: &[u8]) -> u64
-    ensures { λ r. ⌜ r ≡ wordsSum (wordsOf (parsePacket (now (packet .entry)))) ⌝ }
-{
-    wire_c::wire_sum(packet)
-}
-
-#[no_mangle]
 pub extern "C" fn mantelorris_test_rule(
     low: u32,
     high: u32,
@@ -98,13 +90,6 @@ pub extern "C" fn mantelorris_test_record(log: &[u8], at: u64, out: &mut [u8]) -
     ensures { λ r. ⌜ Shown.after r (now (out .exit)) ≡ Shown.showing (now (log .entry)) at (now (out .entry)) ⌝ }
 {
     records_c::mantelorris_test_record(log, at, out)
-}
-
-#[no_mangle]
-pub extern "C" fn mantelorris_test_record_sum(log: &[u8], at: u64) -> u64
-    ensures { λ r. ⌜ r ≡ Shown.wordsSum (Shown.wordsAt (now (log .entry)) at) ⌝ }
-{
-    records_c::mantelorris_test_record_sum(log, at)
 }
 
 #[no_mangle]

@@ -10,12 +10,4 @@ unfolding testedRule
 returns c = cc
 
 pub mantelorris-test-rule-spec : {M : Type 1} → statement M
-mantelorris-test-rule-spec =
-    tie.close
-    (tie.spec
-    (λ c κs. search needs)
-    (λ c κs. search needs)
-    (λ c κs. search needs)
-    (λ c κs. search needs)
-    (λ c κs. search needs)
-    returns)
+mantelorris-test-rule-spec = tie.close (tie.spec (λ c κs. search needs) (λ c κs. search needs) returns)
