@@ -205,17 +205,11 @@ fn put(packet: &[u8], out: &mut [u8]) -> u32 {
 
 /// A command outside its op's argument range never reaches a rule: the proved
 /// function changes nothing then, outcome 1.
-pub fn rule(range: (i32, i32, i32), op: u8, argument: i32, value: i32, quality: u8) -> u64 {
-    let (low, high, fallback) = range;
-    let entry = Entry {
-        low,
-        high,
-        fallback,
-        home: 0,
-    };
+#[inline(always)]
+pub fn rule(entry: &Entry, op: u8, argument: i32, value: i32, quality: u8) -> u64 {
     let (outcome, value, quality) = match Op::from_byte(op) {
         Some(op) if op.accepts(argument) => {
-            let effect = apply(op, argument, &entry, value, quality);
+            let effect = apply(op, argument, entry, value, quality);
             (effect.outcome, effect.value, effect.quality)
         }
         _ => (1, value, quality),

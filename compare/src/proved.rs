@@ -115,9 +115,8 @@ mod c {
             seventh: u32,
         ) -> u32;
         pub fn mantelorris_test_rule(
-            low: u32,
-            high: u32,
-            fallback: u32,
+            range: *const u32,
+            range_len: usize,
             op: u8,
             argument: u32,
             value: u32,
@@ -259,11 +258,10 @@ pub fn kept(x: i32) -> u32 {
     x as u32 ^ 1 << 31
 }
 
-/// Bits 0 to 31: the value; 32 to 39: the outcome; 40 to 47: the quality.
-/// Signed numbers as kept.
-pub fn rule(range: (u32, u32, u32), op: u8, argument: u32, value: u32, quality: u8) -> u64 {
-    let (low, high, fallback) = range;
-    unsafe { c::mantelorris_test_rule(low, high, fallback, op, argument, value, quality) }
+/// Bits 0 to 31: the value; 32 to 39: the outcome; 40 to 47: the quality. The
+/// range is low, high and fallback; signed numbers are as kept.
+pub fn rule(range: &[u32; 3], op: u8, argument: u32, value: u32, quality: u8) -> u64 {
+    unsafe { c::mantelorris_test_rule(range.as_ptr(), range.len(), op, argument, value, quality) }
 }
 
 pub fn plan_ok(plan: &[u8]) -> bool {

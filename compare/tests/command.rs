@@ -165,10 +165,9 @@ fn rules() {
             }
             _ => near(&mut random, &e),
         };
-        let range = (e.low, e.high, e.fallback);
-        let kept_range = (kept(e.low), kept(e.high), kept(e.fallback));
-        let have = proved::rule(kept_range, op, kept(argument), kept(value), quality) ^ 1 << 31;
-        let want = other::rule(range, op, argument, value, quality);
+        let kept_range = [e.low, e.high, e.fallback].map(kept);
+        let have = proved::rule(&kept_range, op, kept(argument), kept(value), quality) ^ 1 << 31;
+        let want = other::rule(&e, op, argument, value, quality);
         assert_eq!(
             have, want,
             "{e:?}, op {op}, {argument}, at {value}, {quality}"

@@ -9,7 +9,7 @@ use second::bytes::get_u32;
 use second::desk::Client;
 use second::office::LeaseManager;
 use second::packet::{write_grant, write_packet, write_result, Grant, Packet, Reply};
-use second::plan::{write_plan, Plan};
+use second::plan::{write_plan, Entry, Plan};
 use second::random::Random;
 use second::rule::ARGUMENTS;
 use std::hint::black_box;
@@ -78,8 +78,8 @@ fn put(out: &mut [u8], k: u32, a: u32, b: u32, c: u32, d: u32, e: u32, f: u32, g
 }
 
 #[inline(never)]
-fn rule(range: (i32, i32, i32), op: u8, argument: i32, value: i32, quality: u8) -> u64 {
-    other::rule(range, op, argument, value, quality)
+fn rule(entry: &Entry, op: u8, argument: i32, value: i32, quality: u8) -> u64 {
+    other::rule(entry, op, argument, value, quality)
 }
 
 #[inline(never)]
@@ -207,7 +207,7 @@ fn packets(random: &mut Random) {
     }
 }
 
-/// Each side takes signed numbers as it keeps them.
+/// Each side takes the range by reference, and signed numbers as it keeps them.
 fn rules(random: &mut Random) {
     for (op, name) in (0..).zip(OPS) {
         let commands: Vec<_> = (0..INPUTS)
@@ -216,31 +216,33 @@ fn rules(random: &mut Random) {
                 let (least, greatest) = ARGUMENTS[usize::from(op)];
                 let argument = inputs::signed(random).clamp(least, greatest);
                 let value = inputs::within(random, (e.low, e.high));
-                let range = (e.low, e.high, e.fallback);
-                (range, argument, value, random.below(2) as u8)
+                (e, argument, value, random.below(2) as u8)
             })
             .collect();
         let kept: Vec<_> = commands
             .iter()
-            .map(|&((low, high, fallback), argument, value, quality)| {
-                let range = (
-                    proved::kept(low),
-                    proved::kept(high),
-                    proved::kept(fallback),
-                );
-                (range, proved::kept(argument), proved::kept(value), quality)
+            .map(|(e, argument, value, quality)| {
+                let range = [e.low, e.high, e.fallback].map(proved::kept);
+                (
+                    range,
+                    proved::kept(*argument),
+                    proved::kept(*value),
+                    *quality,
+                )
             })
             .collect();
         let times = measure(
             INPUTS as u64,
             || {
-                for &(range, argument, value, quality) in &kept {
-                    black_box(proved::rule(black_box(range), op, argument, value, quality));
+                for (range, argument, value, quality) in &kept {
+                    let range = black_box(range);
+                    black_box(proved::rule(range, op, *argument, *value, *quality));
                 }
             },
             || {
-                for &(range, argument, value, quality) in &commands {
-                    black_box(rule(black_box(range), op, argument, value, quality));
+                for (entry, argument, value, quality) in &commands {
+                    let entry = black_box(entry);
+                    black_box(rule(entry, op, *argument, *value, *quality));
                 }
             },
         );

@@ -16,23 +16,24 @@ fn pack(x: CommandResult) -> u64
     value + 4294967296 * outcome + 1099511627776 * quality
 }
 
-// A command's result, packed.
+// A command's result, packed. The range is low, high and fallback; the answer is 0 where it has fewer numbers.
 #[no_mangle]
 pub extern "C" fn mantelorris_test_rule(
-    low: u32,
-    high: u32,
-    fallback: u32,
+    range: &[u32],
     op: u8,
     argument: u32,
     value: u32,
     quality: u8,
 ) -> u64
-    ensures { λ r. ⌜ r ≡ testedRule low high fallback op argument value quality ⌝ }
+    ensures { λ r. ⌜ r ≡ testedRule (now (range .entry)) op argument value quality ⌝ }
 {
+    if range.len() < 3 {
+        return 0;
+    }
     let e = PlanEntry {
-        low,
-        high,
-        fallback,
+        low: range[0],
+        high: range[1],
+        fallback: range[2],
         home: 0,
     };
     let r = Reading { value, quality };

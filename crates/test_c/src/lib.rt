@@ -51,17 +51,15 @@ pub extern "C" fn mantelorris_test_put(
 
 #[no_mangle]
 pub extern "C" fn mantelorris_test_rule(
-    low: u32,
-    high: u32,
-    fallback: u32,
+    range: &[u32],
     op: u8,
     argument: u32,
     value: u32,
     quality: u8,
 ) -> u64
-    ensures { λ r. ⌜ r ≡ testedRule low high fallback op argument value quality ⌝ }
+    ensures { λ r. ⌜ r ≡ testedRule (now (range .entry)) op argument value quality ⌝ }
 {
-    command_c::mantelorris_test_rule(low, high, fallback, op, argument, value, quality)
+    command_c::mantelorris_test_rule(range, op, argument, value, quality)
 }
 
 #[no_mangle]
