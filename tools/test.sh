@@ -37,6 +37,7 @@ part kit same_kit; count $?
 part format rt fmt --check; count $?
 part yard-cases tools/yard_cases.py --check; count $?
 part claims tools/claims.py; count $?
+part entry-points tools/entry_points.py; count $?
 
 # every proof and must-fail edit: the lines of each crate and edit are shown as they come
 echo "== proofs"
@@ -67,7 +68,7 @@ tests() {
 }
 
 tests second
-part static-libraries tools/staticlib.sh test_c client_c image_state_c; count $?
+part static-libraries tools/staticlib.sh test_c bench_c client_c image_state_c; count $?
 tests compare -- --nocapture
 sed -nE 's/^\.*(compare [^:]*: seed [0-9]+, [0-9]+ in [0-9.]+ s):.*/   \1/p' "$logs/compare"
 part client-in-c tests/c/client.sh; count $?

@@ -92,14 +92,47 @@ pub fn parse(packet: &[u8], numbers: &mut [u8]) -> u32 {
     }
 }
 
+/// The sum of a packet's eight numbers, from the second program's own value; 0
+/// for a malformed one.
+pub fn sum(packet: &[u8]) -> u64 {
+    let Some(packet) = parse_packet(packet) else {
+        return 0;
+    };
+    match packet {
+        Packet::Request(p) => {
+            let ids = u64::from(p.client) + u64::from(p.call) + u64::from(p.done);
+            let op = p.op as u64 + u64::from(p.point);
+            1 + op + ids + u64::from(p.lease_end) + u64::from(p.argument as u32)
+        }
+        Packet::Result(p) => {
+            let bytes = u64::from(p.outcome) + u64::from(p.point) + u64::from(p.quality);
+            2 + bytes + u64::from(p.client) + u64::from(p.call) + u64::from(p.value as u32)
+        }
+        Packet::Refusal(p) => {
+            let bytes = u64::from(p.number) + u64::from(p.point);
+            3 + bytes + u64::from(p.client) + u64::from(p.call)
+        }
+        Packet::Receipt(p) => {
+            4 + u64::from(p.point) + u64::from(p.cabinet) + u64::from(p.move_number)
+        }
+        Packet::Notice(p) => 5 + u64::from(p.client) + u64::from(p.time),
+        Packet::Grant(p) => 6 + u64::from(p.client) + u64::from(p.lease_end),
+    }
+}
+
 /// Of numbers of a well-formed packet, or of no kind.
 pub fn write(numbers: &[u8], out: &mut [u8]) -> u32 {
     let Some(numbers) = numbers.first_chunk::<NUMBERS_LEN>() else {
         return 0;
     };
-    let n = |i: usize| get_u32(numbers, 4 * i);
-    let byte = |i: usize| n(i) as u8;
-    match n(0) {
+    write_numbers(std::array::from_fn(|i| get_u32(numbers, 4 * i)), out)
+}
+
+/// The same from the numbers themselves.
+#[inline(always)]
+pub fn write_numbers(n: [u32; 8], out: &mut [u8]) -> u32 {
+    let byte = |i: usize| n[i] as u8;
+    match n[0] {
         1 => {
             let Some(op) = Op::from_byte(byte(1)) else {
                 return 0;
@@ -108,11 +141,11 @@ pub fn write(numbers: &[u8], out: &mut [u8]) -> u32 {
                 &write_request(&Request {
                     op,
                     point: byte(2),
-                    client: n(3),
-                    call: n(4),
-                    done: n(5),
-                    lease_end: n(6),
-                    argument: n(7) as i32,
+                    client: n[3],
+                    call: n[4],
+                    done: n[5],
+                    lease_end: n[6],
+                    argument: n[7] as i32,
                 }),
                 out,
             )
@@ -122,9 +155,9 @@ pub fn write(numbers: &[u8], out: &mut [u8]) -> u32 {
                 outcome: byte(1),
                 point: byte(2),
                 quality: byte(3),
-                client: n(4),
-                call: n(5),
-                value: n(6) as i32,
+                client: n[4],
+                call: n[5],
+                value: n[6] as i32,
             }),
             out,
         ),
@@ -132,8 +165,8 @@ pub fn write(numbers: &[u8], out: &mut [u8]) -> u32 {
             &write_refusal(&Refusal {
                 number: byte(1),
                 point: byte(2),
-                client: n(3),
-                call: n(4),
+                client: n[3],
+                call: n[4],
             }),
             out,
         ),
@@ -141,21 +174,21 @@ pub fn write(numbers: &[u8], out: &mut [u8]) -> u32 {
             &write_receipt(&Receipt {
                 point: byte(1),
                 cabinet: byte(2),
-                move_number: n(3),
+                move_number: n[3],
             }),
             out,
         ),
         5 => put(
             &write_notice(&Notice {
-                client: n(1),
-                time: n(2),
+                client: n[1],
+                time: n[2],
             }),
             out,
         ),
         6 => put(
             &write_grant(&Grant {
-                client: n(1),
-                lease_end: n(2),
+                client: n[1],
+                lease_end: n[2],
             }),
             out,
         ),
@@ -172,17 +205,11 @@ fn put(packet: &[u8], out: &mut [u8]) -> u32 {
 
 /// A command outside its op's argument range never reaches a rule: the proved
 /// function changes nothing then, outcome 1.
-pub fn rule(range: (i32, i32, i32), op: u8, argument: i32, value: i32, quality: u8) -> u64 {
-    let (low, high, fallback) = range;
-    let entry = Entry {
-        low,
-        high,
-        fallback,
-        home: 0,
-    };
+#[inline(always)]
+pub fn rule(entry: &Entry, op: u8, argument: i32, value: i32, quality: u8) -> u64 {
     let (outcome, value, quality) = match Op::from_byte(op) {
         Some(op) if op.accepts(argument) => {
-            let effect = apply(op, argument, &entry, value, quality);
+            let effect = apply(op, argument, entry, value, quality);
             (effect.outcome, effect.value, effect.quality)
         }
         _ => (1, value, quality),
@@ -371,6 +398,39 @@ pub fn record(log: &[u8], at: u64, out: &mut [u8]) -> u64 {
         put_u32(out, 4 * i, number);
     }
     u64::from(numbers[0]) | u64::from(numbers[1]) << 32
+}
+
+/// The sum of a record's eleven numbers, from the second program's own value.
+/// The image of a take is tested too, as the proved reader does.
+pub fn record_sum(log: &[u8], at: u64) -> u64 {
+    let (record, size) = match parse_record(log, at as usize) {
+        Parsed::Whole(record, end) => (record, (end - at as usize) as u64),
+        Parsed::Incomplete => return 6,
+        Parsed::Broken => return extent(&log[at as usize..]).map_or(0, |size| 7 + u64::from(size)),
+    };
+    size + match record {
+        Record::Executed(r) => {
+            let bytes = u64::from(r.point) + u64::from(r.outcome) + u64::from(r.quality);
+            let ids = u64::from(r.client) + u64::from(r.call) + u64::from(r.done);
+            let signed = u64::from(r.argument as u32) + u64::from(r.value as u32);
+            1 + r.op as u64 + bytes + ids + signed
+        }
+        Record::Gone(r) => 2 + u64::from(r.client) + u64::from(r.time),
+        Record::Give(r) => {
+            3 + u64::from(r.point) + u64::from(r.destination) + u64::from(r.move_number)
+        }
+        Record::Take(bytes) => match parse_image(bytes, &ANY) {
+            None => 7,
+            Some(image) => {
+                let h = image.head;
+                let bytes = u64::from(h.point) + u64::from(h.destination) + u64::from(h.source);
+                let times = u64::from(h.move_number) + u64::from(h.heard);
+                let value = u64::from(h.value as u32) + u64::from(h.quality);
+                4 + bytes + times + value + (image.floor_count() + image.record_count()) as u64
+            }
+        },
+        Record::Release(r) => 5 + u64::from(r.point) + u64::from(r.move_number),
+    }
 }
 
 /// The length of a record, if its first bytes give one. The second program

@@ -113,13 +113,24 @@ mod c {
             out: *mut u8,
             out_len: usize,
         ) -> u32;
+        pub fn mantelorris_test_put(
+            out: *mut u8,
+            out_len: usize,
+            kind: u32,
+            first: u32,
+            second: u32,
+            third: u32,
+            fourth: u32,
+            fifth: u32,
+            sixth: u32,
+            seventh: u32,
+        ) -> u32;
         pub fn mantelorris_test_rule(
-            low: i32,
-            high: i32,
-            fallback: i32,
+            range: *const u32,
+            range_len: usize,
             op: u8,
-            argument: i32,
-            value: i32,
+            argument: u32,
+            value: u32,
             quality: u8,
         ) -> u64;
         pub fn mantelorris_test_plan_ok(plan: *const u8, plan_len: usize) -> u32;
@@ -187,6 +198,12 @@ mod c {
         ) -> u64;
     }
 
+    #[link(name = "bench_c", kind = "static")]
+    extern "C" {
+        pub fn mantelorris_test_sum(packet: *const u8, packet_len: usize) -> u64;
+        pub fn mantelorris_test_record_sum(log: *const u8, log_len: usize, at: u64) -> u64;
+    }
+
     #[link(name = "client_c", kind = "static")]
     extern "C" {
         pub fn mantelorris_start(packet: *const u8, length: usize) -> StartReply;
@@ -236,10 +253,26 @@ pub fn write(numbers: &[u8], out: &mut [u8]) -> u32 {
     }
 }
 
-/// Bits 0 to 31: the value; 32 to 39: the outcome; 40 to 47: the quality.
-pub fn rule(range: (i32, i32, i32), op: u8, argument: i32, value: i32, quality: u8) -> u64 {
-    let (low, high, fallback) = range;
-    unsafe { c::mantelorris_test_rule(low, high, fallback, op, argument, value, quality) }
+/// The same from the numbers themselves.
+pub fn write_numbers([k, a, b, c, d, e, f, g]: [u32; 8], out: &mut [u8]) -> u32 {
+    let (start, length) = (out.as_mut_ptr(), out.len());
+    unsafe { c::mantelorris_test_put(start, length, k, a, b, c, d, e, f, g) }
+}
+
+/// The sum of the packet's eight numbers, 0 for a malformed one.
+pub fn sum(packet: &[u8]) -> u64 {
+    unsafe { c::mantelorris_test_sum(packet.as_ptr(), packet.len()) }
+}
+
+/// A signed number as the proved code keeps it: x + 2^31.
+pub fn kept(x: i32) -> u32 {
+    x as u32 ^ 1 << 31
+}
+
+/// Bits 0 to 31: the value; 32 to 39: the outcome; 40 to 47: the quality. The
+/// range is low, high and fallback; signed numbers are as kept.
+pub fn rule(range: &[u32; 3], op: u8, argument: u32, value: u32, quality: u8) -> u64 {
+    unsafe { c::mantelorris_test_rule(range.as_ptr(), range.len(), op, argument, value, quality) }
 }
 
 pub fn plan_ok(plan: &[u8]) -> bool {
@@ -249,9 +282,7 @@ pub fn plan_ok(plan: &[u8]) -> bool {
 /// 0: malformed, the range aside. Bit 0: 1; bit 1: the values are in range; bits
 /// 16 to 31: floors; from 32 on: records.
 pub fn image(bytes: &[u8], (low, high): (i32, i32)) -> u64 {
-    // these two are kept as x + 2^31
-    let (low, high) = (low as u32 ^ 1 << 31, high as u32 ^ 1 << 31);
-    unsafe { c::mantelorris_test_image(bytes.as_ptr(), bytes.len(), low, high) }
+    unsafe { c::mantelorris_test_image(bytes.as_ptr(), bytes.len(), kept(low), kept(high)) }
 }
 
 /// The image read and written anew; 0 where malformed, or the output too short.
@@ -282,6 +313,11 @@ pub fn image_state(state: &[u8], point: u8, out: &mut [u8]) -> u64 {
 /// whole record of a broken layout.
 pub fn record(log: &[u8], at: u64, out: &mut [u8]) -> u64 {
     unsafe { c::mantelorris_test_record(log.as_ptr(), log.len(), at, out.as_mut_ptr(), out.len()) }
+}
+
+/// The sum of the eleven numbers of the record at a place of the log.
+pub fn record_sum(log: &[u8], at: u64) -> u64 {
+    unsafe { c::mantelorris_test_record_sum(log.as_ptr(), log.len(), at) }
 }
 
 /// Writes a record at a place of the log; its length, 0 where it does not fit or

@@ -1,6 +1,7 @@
 //! The plan's test, and the rule of each op.
 
 use compare::inputs;
+use compare::proved::kept;
 use compare::tally::{runs, seed, Tally};
 use compare::{other, proved};
 use second::bytes::{all_zero, get_i32};
@@ -164,9 +165,9 @@ fn rules() {
             }
             _ => near(&mut random, &e),
         };
-        let range = (e.low, e.high, e.fallback);
-        let have = proved::rule(range, op, argument, value, quality);
-        let want = other::rule(range, op, argument, value, quality);
+        let kept_range = [e.low, e.high, e.fallback].map(kept);
+        let have = proved::rule(&kept_range, op, kept(argument), kept(value), quality) ^ 1 << 31;
+        let want = other::rule(&e, op, argument, value, quality);
         assert_eq!(
             have, want,
             "{e:?}, op {op}, {argument}, at {value}, {quality}"

@@ -158,6 +158,11 @@ fn parsed() {
             (kind_wanted, want),
             "packet {bytes:02x?}, {room}"
         );
+        assert_eq!(
+            proved::sum(&bytes),
+            other::sum(&bytes),
+            "packet {bytes:02x?}"
+        );
         let class = class(&bytes);
         if short {
             tally.meet("numbers too short");
@@ -169,6 +174,10 @@ fn parsed() {
         tally.meet(class);
     }
     tally.finish();
+}
+
+fn words(numbers: &[u8; NUMBERS_LEN]) -> [u32; 8] {
+    std::array::from_fn(|i| get_u32(numbers, 4 * i))
 }
 
 #[test]
@@ -214,6 +223,9 @@ fn written() {
         let length = proved::write(&numbers, &mut have);
         let length_wanted = other::write(&numbers, &mut want);
         assert_eq!((length, have), (length_wanted, want), "numbers {numbers:?}");
+        let mut again = [FILL; OUTPUT];
+        let length_again = proved::write_numbers(words(&numbers), &mut again);
+        assert_eq!((length_again, again), (length, have), "{numbers:?}");
         tally.meet(CLASSES[kind as usize]);
     }
     tally.finish();

@@ -164,6 +164,8 @@ fn parsed() {
         let answer = proved::record(&log, at, &mut have[..room]);
         let wanted = other::record(&log, at, &mut want[..room]);
         assert_eq!((answer, have), (wanted, want), "at {at} of {log:02x?}");
+        let (sum, sum_wanted) = (proved::record_sum(&log, at), other::record_sum(&log, at));
+        assert_eq!(sum, sum_wanted, "at {at} of {log:02x?}");
         if short {
             tally.meet("numbers too short");
             continue;

@@ -1,22 +1,18 @@
 //! Nanoseconds per call of the proved code and of the second program, on the
 //! same inputs and outputs, in the same run. Each is the best of several
-//! rounds; the sides take turns, and neither is inlined into the loop. "Own
-//! value": the second program takes or gives its own value in place of the
-//! eight numbers that the proved code is tested with.
+//! rounds; the sides take turns, and neither is inlined into the loop. "Summed":
+//! each side adds up the fields of its own value, and stores no byte.
 
 use compare::inputs::{self, Tables};
 use compare::{other, proved, states};
+use second::bytes::get_u32;
 use second::cabinet::{Server, STATE_LEN};
 use second::desk::Client;
 use second::image::IMAGE_MAX;
 use second::office::LeaseManager;
-use second::packet::{
-    parse_packet, write_grant, write_notice, write_packet, write_receipt, write_refusal,
-    write_request, write_result, Grant, Packet, Reply,
-};
-use second::plan::{write_plan, Plan};
+use second::packet::{write_grant, write_packet, write_result, Grant, Packet, Reply};
+use second::plan::{write_plan, Entry, Plan};
 use second::random::Random;
-use second::record::{parse_record, Parsed};
 use second::rule::ARGUMENTS;
 use std::hint::black_box;
 use std::time::{Duration, Instant};
@@ -73,25 +69,19 @@ fn write(numbers: &[u8], out: &mut [u8]) -> u32 {
 }
 
 #[inline(never)]
-fn parse_own(packet: &[u8]) -> Option<Packet> {
-    parse_packet(packet)
+fn sum(packet: &[u8]) -> u64 {
+    other::sum(packet)
 }
 
 #[inline(never)]
-fn write_own(packet: &Packet, out: &mut [u8; 24]) {
-    match packet {
-        Packet::Request(p) => *out = write_request(p),
-        Packet::Result(p) => out[..16].copy_from_slice(&write_result(p)),
-        Packet::Refusal(p) => out[..12].copy_from_slice(&write_refusal(p)),
-        Packet::Receipt(p) => out[..8].copy_from_slice(&write_receipt(p)),
-        Packet::Notice(p) => out[..12].copy_from_slice(&write_notice(p)),
-        Packet::Grant(p) => out[..12].copy_from_slice(&write_grant(p)),
-    }
+#[allow(clippy::too_many_arguments)]
+fn put(out: &mut [u8], k: u32, a: u32, b: u32, c: u32, d: u32, e: u32, f: u32, g: u32) -> u32 {
+    other::write_numbers([k, a, b, c, d, e, f, g], out)
 }
 
 #[inline(never)]
-fn rule(range: (i32, i32, i32), op: u8, argument: i32, value: i32, quality: u8) -> u64 {
-    other::rule(range, op, argument, value, quality)
+fn rule(entry: &Entry, op: u8, argument: i32, value: i32, quality: u8) -> u64 {
+    other::rule(entry, op, argument, value, quality)
 }
 
 #[inline(never)]
@@ -114,68 +104,84 @@ fn image_copy(bytes: &[u8], out: &mut [u8]) -> u64 {
 const KINDS: [&str; 6] = ["request", "result", "refusal", "receipt", "notice", "grant"];
 const OPS: [&str; 6] = ["read", "set", "step", "report", "fault", "part"];
 
-/// With the second program's answer as the same numbers, and as its own value.
+/// To eight numbers as bytes, and to their sum.
 fn parses(name: &str, packets: &[Vec<u8>]) {
     let (mut numbers, mut numbers2) = ([0; 32], [0; 32]);
-    let mut have = || {
-        for p in packets {
-            black_box(proved::parse(black_box(p), &mut numbers));
-            black_box(&numbers);
-        }
-    };
-    let numbered = || {
-        for p in packets {
-            black_box(parse(black_box(p), &mut numbers2));
-            black_box(&numbers2);
-        }
-    };
-    let own = || {
-        for p in packets {
-            black_box(&parse_own(black_box(p)));
-        }
-    };
     let count = packets.len() as u64;
-    row(
-        &format!("parse {name}"),
-        measure(count, &mut have, numbered),
+    let times = measure(
+        count,
+        || {
+            for p in packets {
+                black_box(proved::parse(black_box(p), &mut numbers));
+                black_box(&numbers);
+            }
+        },
+        || {
+            for p in packets {
+                black_box(parse(black_box(p), &mut numbers2));
+                black_box(&numbers2);
+            }
+        },
     );
-    row(
-        &format!("parse {name}, own value"),
-        measure(count, have, own),
+    row(&format!("parse {name}"), times);
+    let times = measure(
+        count,
+        || {
+            for p in packets {
+                black_box(proved::sum(black_box(p)));
+            }
+        },
+        || {
+            for p in packets {
+                black_box(sum(black_box(p)));
+            }
+        },
     );
+    row(&format!("parse {name}, summed"), times);
 }
 
-/// From the same numbers, and from the second program's own value.
+/// From eight numbers as bytes, and from the numbers themselves.
 fn writes(name: &str, packets: &[Packet]) {
-    let numbers: Vec<[u8; 32]> = packets.iter().map(other::numbers_of).collect();
-    let (mut out, mut out2, mut out3) = ([0; 24], [0; 24], [0; 24]);
-    let mut have = || {
-        for n in &numbers {
-            black_box(proved::write(black_box(n), &mut out));
-            black_box(&out);
-        }
-    };
-    let numbered = || {
-        for n in &numbers {
-            black_box(write(black_box(n), &mut out2));
-            black_box(&out2);
-        }
-    };
-    let own = || {
-        for p in packets {
-            write_own(black_box(p), &mut out3);
-            black_box(&out3);
-        }
-    };
+    let bytes: Vec<[u8; 32]> = packets.iter().map(other::numbers_of).collect();
+    let numbers: Vec<[u32; 8]> = bytes
+        .iter()
+        .map(|b| std::array::from_fn(|i| get_u32(b, 4 * i)))
+        .collect();
+    let (mut out, mut out2) = ([0; 24], [0; 24]);
     let count = packets.len() as u64;
-    row(
-        &format!("write {name}"),
-        measure(count, &mut have, numbered),
+    let times = measure(
+        count,
+        || {
+            for n in &bytes {
+                black_box(proved::write(black_box(n), &mut out));
+                black_box(&out);
+            }
+        },
+        || {
+            for n in &bytes {
+                black_box(write(black_box(n), &mut out2));
+                black_box(&out2);
+            }
+        },
     );
-    row(
-        &format!("write {name}, own value"),
-        measure(count, have, own),
+    row(&format!("write {name}"), times);
+    let times = measure(
+        count,
+        || {
+            for n in &numbers {
+                black_box(proved::write_numbers(*black_box(n), &mut out));
+                black_box(&out);
+            }
+        },
+        || {
+            for n in &numbers {
+                let [k, a, b, c, d, e, f, g] = *black_box(n);
+                black_box(put(&mut out2, k, a, b, c, d, e, f, g));
+                black_box(&out2);
+            }
+        },
     );
+    row(&format!("write {name}, from numbers"), times);
 }
 
 fn packets(random: &mut Random) {
@@ -203,6 +209,7 @@ fn packets(random: &mut Random) {
     }
 }
 
+/// Each side takes the range by reference, and signed numbers as it keeps them.
 fn rules(random: &mut Random) {
     for (op, name) in (0..).zip(OPS) {
         let commands: Vec<_> = (0..INPUTS)
@@ -211,20 +218,33 @@ fn rules(random: &mut Random) {
                 let (least, greatest) = ARGUMENTS[usize::from(op)];
                 let argument = inputs::signed(random).clamp(least, greatest);
                 let value = inputs::within(random, (e.low, e.high));
-                let range = (e.low, e.high, e.fallback);
-                (range, argument, value, random.below(2) as u8)
+                (e, argument, value, random.below(2) as u8)
+            })
+            .collect();
+        let kept: Vec<_> = commands
+            .iter()
+            .map(|(e, argument, value, quality)| {
+                let range = [e.low, e.high, e.fallback].map(proved::kept);
+                (
+                    range,
+                    proved::kept(*argument),
+                    proved::kept(*value),
+                    *quality,
+                )
             })
             .collect();
         let times = measure(
             INPUTS as u64,
             || {
-                for &(range, argument, value, quality) in &commands {
-                    black_box(proved::rule(black_box(range), op, argument, value, quality));
+                for (range, argument, value, quality) in &kept {
+                    let range = black_box(range);
+                    black_box(proved::rule(range, op, *argument, *value, *quality));
                 }
             },
             || {
-                for &(range, argument, value, quality) in &commands {
-                    black_box(rule(black_box(range), op, argument, value, quality));
+                for (entry, argument, value, quality) in &commands {
+                    let entry = black_box(entry);
+                    black_box(rule(entry, op, *argument, *value, *quality));
                 }
             },
         );
@@ -348,12 +368,11 @@ fn record(log: &[u8], at: u64, out: &mut [u8]) -> u64 {
 }
 
 #[inline(never)]
-fn record_own(log: &[u8], at: usize) -> Parsed<'_> {
-    parse_record(log, at)
+fn record_sum(log: &[u8], at: u64) -> u64 {
+    other::record_sum(log, at)
 }
 
-/// A log of many records of one kind, each read at its place. The second
-/// program's own value of a take has its image untested, so it is left out.
+/// A log of many records of one kind, each read at its place.
 fn records(random: &mut Random) {
     for (kind, name) in (1..).zip(["executed", "gone", "give", "take", "release"]) {
         let (mut log, mut places) = (vec![0; 8], Vec::new());
@@ -362,34 +381,36 @@ fn records(random: &mut Random) {
             log.extend(inputs::record(random, kind));
         }
         let (mut out, mut out2) = ([0; 44], [0; 44]);
-        let mut have = || {
-            for &at in &places {
-                black_box(proved::record(black_box(&log), at, &mut out));
-                black_box(&out);
-            }
-        };
-        let numbered = || {
-            for &at in &places {
-                black_box(record(black_box(&log), at, &mut out2));
-                black_box(&out2);
-            }
-        };
-        let own = || {
-            for &at in &places {
-                black_box(&record_own(black_box(&log), at as usize));
-            }
-        };
-        let count = INPUTS as u64;
-        row(
-            &format!("record {name}"),
-            measure(count, &mut have, numbered),
+        let times = measure(
+            INPUTS as u64,
+            || {
+                for &at in &places {
+                    black_box(proved::record(black_box(&log), at, &mut out));
+                    black_box(&out);
+                }
+            },
+            || {
+                for &at in &places {
+                    black_box(record(black_box(&log), at, &mut out2));
+                    black_box(&out2);
+                }
+            },
         );
-        if kind != 4 {
-            row(
-                &format!("record {name}, own value"),
-                measure(count, have, own),
-            );
-        }
+        row(&format!("record {name}"), times);
+        let times = measure(
+            INPUTS as u64,
+            || {
+                for &at in &places {
+                    black_box(proved::record_sum(black_box(&log), at));
+                }
+            },
+            || {
+                for &at in &places {
+                    black_box(record_sum(black_box(&log), at));
+                }
+            },
+        );
+        row(&format!("record {name}, summed"), times);
     }
 }
 

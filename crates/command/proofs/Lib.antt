@@ -1,5 +1,6 @@
 -- Laws of the plan and the rules.
 pub mod Bounds
+pub mod Checked
 pub mod Meaning
 pub mod Range
 pub mod Quotient

@@ -5,7 +5,7 @@ ghost use Prim.Native.Nat.{_+_, _-_, _≤_};
 ghost use lib.ListN.{length, drop};
 ghost use Rattle.model.specs.Numbers.{half};
 ghost use Rattle.model.specs.Plan.{planEntryOf, planEntryOk, planRowOk, planOk, inRange};
-ghost use Rattle.model.specs.Rules.{same, result, sumInRange, setRule, stepRule, reportRule, faultRule, partRule, ruleOf, argumentOk};
+ghost use Rattle.model.specs.Rules.{same, result, sumInRange, setRule, stepRule, reportRule, faultRule, partRule, argumentOk};
 ghost use Rattle.command.specs.Results.{checkedRule};
 use model::CommandResult;
 use model::PlanEntry;
@@ -175,29 +175,36 @@ fn part_rule(e: PlanEntry, a: u32) -> CommandResult
     result_of(0, v as u32, 0)
 }
 
-// A command's result: outcome, and value and quality after it. A part of more than 1000 might not fit 32 bits.
-pub fn rule(e: PlanEntry, op: u8, argument: u32, r: Reading) -> CommandResult
-    requires { ⌜ argumentOk op argument ≡ true ⌝ }
-    ensures { λ x. ⌜ x ≡ ruleOf e op argument r ⌝ }
-{
-    match op {
-        0 => unchanged(0, r),
-        1 => set_rule(e, argument, r),
-        2 => step_rule(e, argument, r),
-        3 => report_rule(e, argument, r),
-        4 => fault_rule(e),
-        5 => part_rule(e, argument),
-        6..=255 => unchanged(1, r),
-    }
-}
-
-// The same for all arguments: one outside its op's range changes nothing, outcome 1.
+// A command's result: outcome, and value and quality after it. An argument outside its op's range changes nothing, outcome 1;
+// set, step and report take any.
 pub fn checked_rule(e: PlanEntry, op: u8, argument: u32, r: Reading) -> CommandResult
     ensures { λ x. ⌜ x ≡ checkedRule e op argument r ⌝ }
 {
-    if wire::argument_ok(op, argument) {
-        rule(e, op, argument, r)
-    } else {
-        unchanged(1, r)
+    match op {
+        0 => {
+            if wire::argument_ok(0, argument) {
+                unchanged(0, r)
+            } else {
+                unchanged(1, r)
+            }
+        }
+        1 => set_rule(e, argument, r),
+        2 => step_rule(e, argument, r),
+        3 => report_rule(e, argument, r),
+        4 => {
+            if wire::argument_ok(4, argument) {
+                fault_rule(e)
+            } else {
+                unchanged(1, r)
+            }
+        }
+        5 => {
+            if wire::argument_ok(5, argument) {
+                part_rule(e, argument)
+            } else {
+                unchanged(1, r)
+            }
+        }
+        6..=255 => unchanged(1, r),
     }
 }

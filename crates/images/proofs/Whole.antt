@@ -28,6 +28,7 @@ use Rattle.laws.proofs.Images.{tested, placed}
 use Rattle.laws.proofs.Windows.{image-entries}
 use Rattle.images.specs.declared.ImageRead.the-variants.{Malformed, Head}
 use Rattle.images.specs.Answers.{bodyOk, readOf}
+use Rattle.images.specs.Walks.{rowsOk}
 use Rattle.images.proofs.Ands.{go, go-test}
 
 pub parts-size : (h : ImageHead) (s : List ℕ) {u : Bool} → u ≡ imageParts h s → u ≡ true → leastImage + floorRow * h .floors + entryRow * h .entries ≤ length s
@@ -41,7 +42,7 @@ ok-size s {h} e p = parts-size h s refl (rw p (tested s e .parts))
 
 pub last-test : (s : List ℕ) {f b : Bool} {h : ImageHead} → leastImage ≤ length s → length s ≤ greatestImage → f ≡ imageFramed s → f ≡ true → h ≡ imageHeadOf s → b ≡ bodyOk h s
     → b ≡ imageOk s
-unfolding imageOk bodyOk
+unfolding imageOk bodyOk rowsOk
 last-test s l g p e q r =
     go-test (le-leb leastImage (length s) l) (go-test (le-leb (length s) greatestImage g) (go p e (rw q at r)))
 

@@ -1,2 +1,3 @@
 -- What the contracts of `images` cite beside `model`.
 pub mod Answers
+pub mod Walks

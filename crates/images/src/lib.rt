@@ -9,15 +9,15 @@ use model::ImageEntry;
 use model::ImageHead;
 use model::PlanEntry;
 ghost use mathlib.Core.Path.{_≡_};
-ghost use Prim.Native.Nat.{_+_, _*_, _≤_};
+ghost use Prim.Native.Nat.{_+_, _-_, _*_, _≤_};
 ghost use lib.ListN.{length, drop};
 ghost use mathlib.Core.Bool.{true};
-ghost use Rattle.model.specs.Tables.{rows, everyRow, every};
+ghost use Rattle.model.specs.Tables.{rows, every};
 ghost use Rattle.model.specs.Limits.{leastImage, floorRow, entryRow};
 ghost use Rattle.model.specs.Images.{floorOfBytes, imageEntryOf, imageHeadOf, imageAt};
-ghost use Rattle.model.specs.Images.{floorOk, entryRowOk, clientsAscend, floorOf, imageEntryOk, idsAscend, imageTablesOk, imageOk, parseImage};
-ghost use Rattle.model.specs.Images.{entryInRange, imageInRange};
+ghost use Rattle.model.specs.Images.{clientsAscend, imageOk, parseImage, entryInRange, imageInRange};
 ghost use Rattle.images.specs.Answers.{bodyOk, readOf};
+ghost use Rattle.images.specs.Walks.{floorStep, floorsOk, leading, floorFirst, entryFieldsOk, entryStep, entriesOk, rowsOk};
 
 // What the reader finds: an image's head, or that the bytes are no image.
 pub enum ImageRead {
@@ -27,14 +27,27 @@ pub enum ImageRead {
 
 // ---- floors
 
-// Each of n floors.
+// The floor from k, before the left floors behind it: client and floor are from 1, and the next client is greater.
+fn floor_step(s: &[u8], k: usize, left: usize) -> bool
+    requires { ⌜ k + 8 * (left + 1) ≤ length (now s) ⌝ }
+    ensures { λ r. ⌜ r ≡ floorStep left (drop k (now (s .entry))) ⌝ }
+{
+    let ok = image_rows::floor_ok(s, k);
+    if left == 0 {
+        return ok;
+    }
+    let next = image_rows::client_before(s, k);
+    next & ok
+}
+
+// Each of n floors, strictly ascending by client.
 fn floors_ok(s: &[u8], n: usize) -> bool
     requires { ⌜ 48 + 8 * n ≤ length (now s) ⌝ }
-    ensures { λ r. ⌜ r ≡ every floorOk (rows floorOfBytes floorRow n (drop leastImage (now (s .entry)))) ⌝ }
+    ensures { λ r. ⌜ r ≡ floorsOk (rows floorOfBytes floorRow n (drop leastImage (now (s .entry)))) ⌝ }
 {
     let mut i = 0;
     while i < n {
-        if !image_rows::floor_ok(s, LEAST_IMAGE + FLOOR_ROW * i) {
+        if !floor_step(s, LEAST_IMAGE + FLOOR_ROW * i, n - (i + 1)) {
             return false;
         }
         i += 1;
@@ -42,90 +55,79 @@ fn floors_ok(s: &[u8], n: usize) -> bool
     true
 }
 
-// n floors, strictly ascending by client.
-fn clients_ascend(s: &[u8], n: usize) -> bool
-    requires { ⌜ 48 + 8 * n ≤ length (now s) ⌝ }
-    ensures { λ r. ⌜ r ≡ clientsAscend (rows floorOfBytes floorRow n (drop leastImage (now (s .entry)))) ⌝ }
+// How many of n floors have a client below x, where the first `below` have.
+fn next_floor(s: &[u8], n: usize, x: u32, below: usize) -> usize
+    requires { ⌜ (48 + 8 * n ≤ length (now s)) × (below ≤ leading x (rows floorOfBytes floorRow n (drop leastImage (now s)))) ⌝ }
+    ensures { λ r. ⌜ r ≡ leading x (rows floorOfBytes floorRow n (drop leastImage (now (s .entry)))) ⌝ }
 {
-    let mut i = 0;
-    while i + 1 < n {
-        if !image_rows::client_before(s, LEAST_IMAGE + FLOOR_ROW * i) {
-            return false;
+    let mut j = below;
+    while j < n {
+        let f = image_rows::floor_from(s, LEAST_IMAGE + FLOOR_ROW * j);
+        if x <= f.client {
+            return j;
         }
-        i += 1;
+        j += 1;
     }
-    true
+    j
 }
 
-// The floor of the client x among n floors, 0 where it has none.
-pub fn floor_of(s: &[u8], n: usize, x: u32) -> u32
+// The floor of the client x, where the floor of index j is its own; else 0.
+fn floor_here(s: &[u8], n: usize, x: u32, j: usize) -> u32
     requires { ⌜ 48 + 8 * n ≤ length (now s) ⌝ }
-    ensures { λ r. ⌜ r ≡ floorOf x (rows floorOfBytes floorRow n (drop leastImage (now (s .entry)))) ⌝ }
+    ensures { λ r. ⌜ r ≡ floorFirst x (rows floorOfBytes floorRow (n - j) (drop (leastImage + floorRow * j) (now (s .entry)))) ⌝ }
 {
-    let mut i = 0;
-    while i < n {
-        let f = image_rows::floor_from(s, LEAST_IMAGE + FLOOR_ROW * i);
-        if f.client == x {
-            return f.floor;
-        }
-        i += 1;
+    if n <= j {
+        return 0;
+    }
+    let f = image_rows::floor_from(s, LEAST_IMAGE + FLOOR_ROW * j);
+    if f.client == x {
+        return f.floor;
     }
     0
 }
 
 // ---- completion records
 
-// The zero byte of each of m rows from at.
-fn entry_rows_ok(s: &[u8], at: usize, m: usize) -> bool
-    requires { ⌜ at + 20 * m ≤ length (now s) ⌝ }
-    ensures { λ r. ⌜ r ≡ everyRow entryRowOk entryRow m (drop at (now (s .entry))) ⌝ }
+// The fields of a record of the point, whose client has this floor.
+fn entry_fields_ok(point: u8, floor: u32, e: ImageEntry) -> bool
+    ensures { λ r. ⌜ r ≡ entryFieldsOk point floor e ⌝ }
 {
-    let mut i = 0;
-    while i < m {
-        if !image_rows::entry_row_ok(s, at + ENTRY_ROW * i) {
-            return false;
-        }
-        i += 1;
-    }
-    true
-}
-
-// The record of the point from k, among n floors.
-fn entry_ok(s: &[u8], n: usize, point: u8, k: usize) -> bool
-    requires { ⌜ (48 + 8 * n ≤ length (now s)) × (k + 20 ≤ length (now s)) ⌝ }
-    ensures { λ r. ⌜ r ≡ imageEntryOk point (rows floorOfBytes floorRow n (drop leastImage (now (s .entry)))) (imageEntryOf (drop k (now (s .entry)))) ⌝ }
-{
-    let e = image_rows::entry_from(s, k);
     let command = wire::command_ok(e.op, point, e.argument);
     let outcome = wire::outcome_ok(e.outcome, e.quality);
     let id = wire::id_ok(e.client, e.call);
-    let window = image_rows::in_window(floor_of(s, n, e.client), e.call);
+    let window = image_rows::in_window(floor, e.call);
     command & (outcome & (id & window))
 }
 
-// Each of m records of the point from at.
-fn entries_ok(s: &[u8], n: usize, point: u8, at: usize, m: usize) -> bool
-    requires { ⌜ (48 + 8 * n ≤ length (now s)) × (at + 20 * m ≤ length (now s)) ⌝ }
-    ensures { λ r. ⌜ r ≡ every (imageEntryOk point (rows floorOfBytes floorRow n (drop leastImage (now (s .entry))))) (rows imageEntryOf entryRow m (drop at (now (s .entry)))) ⌝ }
+// The record from k, before the left records behind it: its row, and the next id is greater.
+fn entry_step(s: &[u8], point: u8, floor: u32, k: usize, left: usize) -> bool
+    requires { ⌜ k + 20 * (left + 1) ≤ length (now s) ⌝ }
+    ensures { λ r. ⌜ r ≡ entryStep point floor left (drop k (now (s .entry))) ⌝ }
 {
-    let mut i = 0;
-    while i < m {
-        if !entry_ok(s, n, point, at + ENTRY_ROW * i) {
-            return false;
-        }
-        i += 1;
+    let zero = image_rows::entry_row_ok(s, k);
+    let e = image_rows::entry_from(s, k);
+    let fields = entry_fields_ok(point, floor, e);
+    if left == 0 {
+        return zero & fields;
     }
-    true
+    let next = image_rows::id_before(s, k);
+    next & (zero & fields)
 }
 
-// m records from at, strictly ascending by client, then call.
-fn ids_ascend(s: &[u8], at: usize, m: usize) -> bool
-    requires { ⌜ at + 20 * m ≤ length (now s) ⌝ }
-    ensures { λ r. ⌜ r ≡ idsAscend (rows imageEntryOf entryRow m (drop at (now (s .entry)))) ⌝ }
+// Each of m records of the point from at, strictly ascending by client, then call; n floors ascend by client, so that the
+// floors are walked once beside the records.
+fn entries_ok(s: &[u8], n: usize, point: u8, at: usize, m: usize) -> bool
+    requires { ⌜ (48 + 8 * n ≤ length (now s)) × (at + 20 * m ≤ length (now s)) × (clientsAscend (rows floorOfBytes floorRow n (drop leastImage (now s))) ≡ true) ⌝ }
+    ensures { λ r. ⌜ r ≡ entriesOk point (rows floorOfBytes floorRow n (drop leastImage (now (s .entry)))) m (drop at (now (s .entry))) ⌝ }
 {
     let mut i = 0;
-    while i + 1 < m {
-        if !image_rows::id_before(s, at + ENTRY_ROW * i) {
+    let mut j = 0;
+    while i < m {
+        let k = at + ENTRY_ROW * i;
+        let e = image_rows::entry_from(s, k);
+        j = next_floor(s, n, e.client, j);
+        let floor = floor_here(s, n, e.client, j);
+        if !entry_step(s, point, floor, k, m - (i + 1)) {
             return false;
         }
         i += 1;
@@ -138,21 +140,14 @@ fn ids_ascend(s: &[u8], at: usize, m: usize) -> bool
 // Both tables, of an image whose parts end within the slice.
 fn tables_ok(s: &[u8], h: ImageHead) -> bool
     requires { ⌜ leastImage + floorRow * h .floors + entryRow * h .entries ≤ length (now s) ⌝ }
-    ensures { λ r. ⌜ r ≡ imageTablesOk (imageAt h (now (s .entry))) ⌝ }
+    ensures { λ r. ⌜ r ≡ rowsOk h (now (s .entry)) ⌝ }
 {
     let n = h.floors as usize;
     let m = h.entries as usize;
-    let at = LEAST_IMAGE + FLOOR_ROW * n;
     if !floors_ok(s, n) {
         return false;
     }
-    if !clients_ascend(s, n) {
-        return false;
-    }
-    if !entries_ok(s, n, h.point, at, m) {
-        return false;
-    }
-    ids_ascend(s, at, m)
+    entries_ok(s, n, h.point, LEAST_IMAGE + FLOOR_ROW * n, m)
 }
 
 // The head's fields, the parts, and the rows of both tables.
@@ -164,11 +159,6 @@ fn body_ok(s: &[u8], h: ImageHead) -> bool
         return false;
     }
     if !image_rows::parts_ok(s, h) {
-        return false;
-    }
-    let m = h.entries as usize;
-    let at = LEAST_IMAGE + FLOOR_ROW * (h.floors as usize);
-    if !entry_rows_ok(s, at, m) {
         return false;
     }
     tables_ok(s, h)

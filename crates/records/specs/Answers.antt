@@ -19,6 +19,8 @@ use Rattle.records.specs.declared.Extent.the-variants.{Off, Cut, Spans}
 use Rattle.records.specs.declared.Span.{Span}
 use Rattle.records.specs.declared.Record.{Record}
 use Rattle.records.specs.declared.Record.the-variants.{Broken, Executed, Gone, Gave, Took, Released}
+use Rattle.records.specs.declared.Found.{Found}
+use Rattle.records.specs.declared.Found.the-variants.{NoEnd, Incomplete, Whole}
 
 -- ---- extents
 
@@ -68,6 +70,12 @@ recordPlaced log at n (Released r) = Unit
 pub record Parsed (log : List ℕ) (at n : ℕ) (r : Record) : Type 0 where
   pub means : recordMeans log r ≡ recordAt (drop at log)
   pub placed : recordPlaced log at n r
+
+-- f is what stands at a place of the log
+abbrev pub FoundIs : List ℕ → ℕ → Found → Type 0
+FoundIs log at NoEnd = extentFrom log at ≡ off
+FoundIs log at Incomplete = extentFrom log at ≡ cut
+FoundIs log at (Whole n r) = (extentFrom log at ≡ spans n) × Parsed log at n r
 
 -- what the readers answer of a record at the front of s, by kind
 unfoldable pub executedFrom : List ℕ → Record

@@ -10,7 +10,7 @@ ghost use Rattle.model.specs.Choice.{pick};
 ghost use Rattle.model.specs.Logs.{headServer, headOk, within, takeExtent, extentOf, spans};
 ghost use Rattle.model.specs.Logs.{executedAt, executedOk, giveAt, giveOk, releaseAt, releaseOk};
 ghost use Rattle.records.specs.declared.Record.the-variants.{Broken};
-ghost use Rattle.records.specs.Answers.{extentMeans, extentFrom, Parsed};
+ghost use Rattle.records.specs.Answers.{extentMeans, extentFrom, Parsed, FoundIs};
 ghost use Rattle.records.specs.Answers.{executedFrom, goneFrom, giveFrom, takeFrom, releaseFrom, recordFrom};
 
 // Where a record ends: its layout is broken, it is incomplete, or it spans that many bytes, all there.
@@ -34,6 +34,13 @@ pub enum Record {
     Gave(Give),
     Took(Span),
     Released(Release),
+}
+
+// What stands at a place: a broken layout that has no end, an incomplete record, or a whole one, with its length.
+pub enum Found {
+    NoEnd,
+    Incomplete,
+    Whole(usize, Record),
 }
 
 // ---- head
@@ -249,4 +256,16 @@ pub fn record_at(log: &[u8], at: usize, n: usize) -> Record
     ensures { λ r. ⌜ Parsed (now (log .entry)) at n r ⌝ }
 {
     record_from(&log[at..], at, n)
+}
+
+// What stands at a place of the log.
+pub fn read_at(log: &[u8], at: usize) -> Found
+    ensures { λ r. ⌜ FoundIs (now (log .entry)) at r ⌝ }
+{
+    let extent = extent_at(log, at);
+    match extent {
+        Extent::Off => Found::NoEnd,
+        Extent::Cut => Found::Incomplete,
+        Extent::Spans(n) => Found::Whole(n, record_at(log, at, n)),
+    }
 }

@@ -85,11 +85,11 @@ module _ (log : List ℕ) (at : ℕ) (b : List ℕ) (h : Bytes b) {u v : Bool} (
 pub placed-took : (log : List ℕ) (at n : ℕ) {r : Record} {p : Span} → Parsed log at n r → r ≡ Took p → ImagePlaced log at n p
 placed-took log at n h e = rw e at (h .placed)
 
-pub image-inside : (log : List ℕ) (at n : ℕ) (p : Span) → at + n ≤ length log → ImagePlaced log at n p → (p .from + 48 ≤ p .from + p .len) × (p .from + p .len ≤ length log)
+pub image-inside : (log : List ℕ) (at n : ℕ) (p : Span) → at + n ≤ length log → ImagePlaced log at n p → (at + 8 + 48 ≤ at + n) × (at + n ≤ length log)
 unfolding spanIn
 image-inside log at n p h i =
     let l : leastImage ≤ length (spanIn log p) = ok-least (spanIn log p) refl (i .ok) in
-    (omega (arith, length-take (p .len) (drop (p .from) log)), omega (arith, i .end))
+    (omega (arith, length-take (p .len) (drop (p .from) log), i .start, i .end), h)
 
 pub shown-by : (log : List ℕ) (at n size : ℕ) {r x : Record} {w : Words} → Parsed log at n r → r ≡ x → w ≡ recordWords size (recordMeans log x) → w ≡ recordWords size (recordAt (drop at log))
 shown-by log at n size h e q = rw (← h .means, e) q
@@ -103,10 +103,14 @@ head-is b ok =
     cc
 
 pub shown-took : (log : List ℕ) (at n size : ℕ) {r : Record} (p : Span) {w : Words} → Parsed log at n r → r ≡ Took p
-    → w ≡ headWords size (imageHeadOf (take (p .from + p .len - p .from) (drop (p .from) log))) → w ≡ recordWords size (recordAt (drop at log))
+    → w ≡ headWords size (imageHeadOf (take (at + n - (at + 8)) (drop (at + 8) log))) → w ≡ recordWords size (recordAt (drop at log))
 unfolding recordWords recordMeans
 shown-took log at n size p h e q =
     let i : ImagePlaced log at n p = placed-took log at n h e in
-    let m : p .from + p .len - p .from ≡ p .len = omega arith in
+    let m : at + n - (at + 8) ≡ p .len = omega (arith, i .start, i .end) in
+    let d : at + 8 ≡ p .from = sym (i .start) in
     shown-by log at n size h e
-    (q ∙ ap (λ (k : ℕ). headWords size (imageHeadOf (take k (drop (p .from) log)))) m ∙ unfold spanIn in ap (headWords size) (head-is (spanIn log p) (i .ok)))
+    (q
+    ∙ ap (λ (k : ℕ). headWords size (imageHeadOf (take k (drop (at + 8) log)))) m
+    ∙ ap (λ (k : ℕ). headWords size (imageHeadOf (take (p .len) (drop k log)))) d
+    ∙ unfold spanIn in ap (headWords size) (head-is (spanIn log p) (i .ok)))

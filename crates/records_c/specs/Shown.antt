@@ -94,3 +94,13 @@ appending log at r = pick (leb (at + recordSize r) (length log)) (after (recordS
 -- a take of an image; 0 too where it is malformed
 unfoldable pub taking : List ℕ → ℕ → List ℕ → After
 taking log at b = pick (imageOk b) (appending log at (took (imageAt (imageHeadOf b) b))) (after 0 log)
+
+-- of a benchmark: every field counts, and no byte is written
+abbrev pub firstSum : Words → ℕ
+firstSum w = w .kind + w .size + w .first + w .second + w .third + w .fourth
+
+abbrev pub lastSum : Words → ℕ
+lastSum w = w .fifth + w .sixth + w .seventh + w .eighth + w .ninth
+
+abbrev pub wordsSum : Words → ℕ
+wordsSum w = firstSum w + lastSum w

@@ -17,7 +17,7 @@ ghost use Rattle.model.specs.Images.{imageHeadOf};
 ghost use Rattle.model.specs.Logs.{executed, gone, gave, released, recordAt, spans};
 ghost use Rattle.records.specs.Answers.{extentFrom};
 ghost use Rattle.records_c.specs.Shown.{eleven, blank, firstBytes, lastBytes, wordsBytes, executedWords, headWords, recordWords, wordsAt};
-ghost use Rattle.records_c.specs.Shown.{after, showing, appending, taking};
+ghost use Rattle.records_c.specs.Shown.{after, showing, appending, taking, firstSum, lastSum, wordsSum};
 
 pub struct Words {
     pub kind: u32,
@@ -139,7 +139,7 @@ fn record_words(log: &[u8], at: usize, n: usize) -> Words
             0,
             0,
         ),
-        Record::Took(p) => image_words(size, log, p.from, p.from + p.len),
+        Record::Took(_) => image_words(size, log, at + appends::TAKE_HEAD, at + n),
         Record::Released(x) => numbered(5, size, x.point as u32, x.number, 0, 0, 0, 0, 0, 0, 0),
     }
 }
@@ -196,7 +196,38 @@ fn has_room(log: &[u8], at: usize, n: usize) -> bool
     at <= log.len() - n
 }
 
+fn first_sum(w: Words) -> u64
+    ensures { λ r. ⌜ r ≡ firstSum w ⌝ }
+{
+    w.kind as u64
+        + w.size as u64
+        + w.first as u64
+        + w.second as u64
+        + w.third as u64
+        + w.fourth as u64
+}
+
+fn last_sum(w: Words) -> u64
+    ensures { λ r. ⌜ r ≡ lastSum w ⌝ }
+{
+    w.fifth as u64 + w.sixth as u64 + w.seventh as u64 + w.eighth as u64 + w.ninth as u64
+}
+
+fn sum(w: Words) -> u64
+    ensures { λ r. ⌜ r ≡ wordsSum w ⌝ }
+{
+    first_sum(w) + last_sum(w)
+}
+
 // ---- exported
+
+// Parses the record at a place and adds up its eleven numbers.
+#[no_mangle]
+pub extern "C" fn mantelorris_test_record_sum(log: &[u8], at: u64) -> u64
+    ensures { λ r. ⌜ r ≡ wordsSum (wordsAt (now (log .entry)) at) ⌝ }
+{
+    sum(words_at(log, at as usize))
+}
 
 // The numbers of the record at a place, to out, of at least 44 bytes: kind, length, nine fields. The answer is the kind with the
 // length above it (32 bits each); 8 for too short a slice. Kinds 1 to 5 are whole records; 0 a broken layout that has no end, 6 an

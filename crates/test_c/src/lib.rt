@@ -6,7 +6,7 @@ ghost use Rattle.command_c.specs.Packed.{testedRule, flag};
 ghost use Rattle.model.specs.Numbers.{flip};
 ghost use Rattle.model.specs.Logs.{executed, gone, gave, released};
 ghost use Rattle.records_c.specs.Shown;
-ghost use Rattle.wire_c.specs.Words.{after, parsing, writing};
+ghost use Rattle.wire_c.specs.Words.{after, eight, parsing, putting, writing};
 
 #[no_mangle]
 pub extern "C" fn mantelorris_test_parse(packet: &[u8], numbers: &mut [u8]) -> u32
@@ -23,18 +23,43 @@ pub extern "C" fn mantelorris_test_write(numbers: &[u8], out: &mut [u8]) -> u32
 }
 
 #[no_mangle]
+pub extern "C" fn mantelorris_test_put(
+    out: &mut [u8],
+    kind: u32,
+    first: u32,
+    second: u32,
+    third: u32,
+    fourth: u32,
+    fifth: u32,
+    sixth: u32,
+    seventh: u32,
+) -> u32
+    ensures { λ r. ⌜ after r (now (out .exit)) ≡ putting (eight kind first second third fourth fifth sixth seventh) (now (out .entry)) ⌝ }
+{
+    wire_c::wire_put(
+        out,
+        kind,
+        first,
+        second,
+        third,
+        fourth,
+        fifth,
+        sixth,
+        seventh,
+    )
+}
+
+#[no_mangle]
 pub extern "C" fn mantelorris_test_rule(
-    low: u32,
-    high: u32,
-    fallback: u32,
+    range: &[u32],
     op: u8,
     argument: u32,
     value: u32,
     quality: u8,
 ) -> u64
-    ensures { λ r. ⌜ r ≡ testedRule low high fallback op argument value quality ⌝ }
+    ensures { λ r. ⌜ r ≡ testedRule (now (range .entry)) op argument value quality ⌝ }
 {
-    command_c::mantelorris_test_rule(low, high, fallback, op, argument, value, quality)
+    command_c::mantelorris_test_rule(range, op, argument, value, quality)
 }
 
 #[no_mangle]

@@ -170,15 +170,18 @@ pub fn packet_length(kind: u8) -> usize
     }
 }
 
-// The least argument of an op.
+// The least argument of an op. With a literal index the table stays in memory; with another it is copied to the stack first.
 pub fn least_argument(op: u8) -> u32
     ensures { λ r. ⌜ r ≡ leastArgument op ⌝ }
 {
-    if op <= LAST_OP {
-        let i = op as usize;
-        LEAST_ARGUMENTS[i]
-    } else {
-        0
+    match op {
+        0 => LEAST_ARGUMENTS[0],
+        1 => LEAST_ARGUMENTS[1],
+        2 => LEAST_ARGUMENTS[2],
+        3 => LEAST_ARGUMENTS[3],
+        4 => LEAST_ARGUMENTS[4],
+        5 => LEAST_ARGUMENTS[5],
+        6..=255 => 0,
     }
 }
 
@@ -186,11 +189,14 @@ pub fn least_argument(op: u8) -> u32
 pub fn greatest_argument(op: u8) -> u32
     ensures { λ r. ⌜ r ≡ greatestArgument op ⌝ }
 {
-    if op <= LAST_OP {
-        let i = op as usize;
-        GREATEST_ARGUMENTS[i]
-    } else {
-        0
+    match op {
+        0 => GREATEST_ARGUMENTS[0],
+        1 => GREATEST_ARGUMENTS[1],
+        2 => GREATEST_ARGUMENTS[2],
+        3 => GREATEST_ARGUMENTS[3],
+        4 => GREATEST_ARGUMENTS[4],
+        5 => GREATEST_ARGUMENTS[5],
+        6..=255 => 0,
     }
 }
 

@@ -11,7 +11,8 @@ ghost use mathlib.Core.Path.{_≡_};
 ghost use Prim.Native.Nat.{_≤_, _%_};
 ghost use lib.ListN.{length};
 ghost use Rattle.model.specs.Tables.{written};
-ghost use Rattle.wire_c.specs.Words.{eight, wordsAt, wordsBytes, wordsOf, packetOf, requestOf, resultOf, refusalOf, receiptOf, after, parsing, writing};
+ghost use Rattle.wire_c.specs.Words.{eight, wordsAt, wordsBytes, wordsOf, packetOf, requestOf, resultOf, refusalOf, receiptOf, after, parsing, putting, writing, wordsSum};
+ghost use Rattle.model.specs.Packets.{parsePacket};
 
 pub struct Words {
     pub kind: u32,
@@ -200,6 +201,29 @@ fn packet_of(w: Words) -> Packet
     }
 }
 
+// Writes the packet of eight numbers to out, of at least 24 bytes; the answer is its length, 0 for no kind or too short a slice.
+fn put(out: &mut [u8], w: Words) -> u32
+    ensures { λ r. ⌜ after r (now (out .exit)) ≡ putting w (now (out .entry)) ⌝ }
+{
+    if out.len() < 24 {
+        return 0;
+    }
+    packets::write_packet(out, packet_of(w))
+}
+
+fn sum(w: Words) -> u64
+    ensures { λ r. ⌜ r ≡ wordsSum w ⌝ }
+{
+    w.kind as u64
+        + w.first as u64
+        + w.second as u64
+        + w.third as u64
+        + w.fourth as u64
+        + w.fifth as u64
+        + w.sixth as u64
+        + w.seventh as u64
+}
+
 // ---- exported
 
 // Parses a packet into numbers of at least 32 bytes; the answer is the kind, 0 for a malformed packet or too short a slice.
@@ -215,7 +239,7 @@ pub extern "C" fn wire_parse(packet: &[u8], numbers: &mut [u8]) -> u32
     w.kind
 }
 
-// Writes the packet of 32 bytes of numbers to out, of at least 24; the answer is its length, 0 for no kind or too short a slice.
+// Writes the packet of 32 bytes of numbers to out, as put.
 #[no_mangle]
 pub extern "C" fn wire_write(numbers: &[u8], out: &mut [u8]) -> u32
     ensures { λ r. ⌜ after r (now (out .exit)) ≡ writing (now (numbers .entry)) (now (out .entry)) ⌝ }
@@ -223,8 +247,34 @@ pub extern "C" fn wire_write(numbers: &[u8], out: &mut [u8]) -> u32
     if numbers.len() < 32 {
         return 0;
     }
-    if out.len() < 24 {
-        return 0;
-    }
-    packets::write_packet(out, packet_of(read_words(numbers)))
+    put(out, read_words(numbers))
+}
+
+// The same from the numbers themselves.
+#[no_mangle]
+pub extern "C" fn wire_put(
+    out: &mut [u8],
+    kind: u32,
+    first: u32,
+    second: u32,
+    third: u32,
+    fourth: u32,
+    fifth: u32,
+    sixth: u32,
+    seventh: u32,
+) -> u32
+    ensures { λ r. ⌜ after r (now (out .exit)) ≡ putting (eight kind first second third fourth fifth sixth seventh) (now (out .entry)) ⌝ }
+{
+    put(
+        out,
+        numbered(kind, first, second, third, fourth, fifth, sixth, seventh),
+    )
+}
+
+// Parses a packet and adds up its eight numbers; 0 for a malformed one.
+#[no_mangle]
+pub extern "C" fn wire_sum(packet: &[u8]) -> u64
+    ensures { λ r. ⌜ r ≡ wordsSum (wordsOf (parsePacket (now (packet .entry)))) ⌝ }
+{
+    sum(words_of(parser::parse_packet(packet)))
 }

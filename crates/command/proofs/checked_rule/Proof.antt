@@ -1,23 +1,85 @@
 -- `command::checked_rule` meets its contract.
 -- Assumes nothing.
-use Rattle.wire.proofs.Picks.{picks}
-use Rattle.command.specs.Results.{checkedRule}
-use mathlib.Core.Path.{sym, _∙_}
+use mathlib.Core.Path.{refl, sym, _∙_}
+use native.Mathlib.Omega.{arith}
+use Rattle.model.specs.Rules.{ruleOf, leastArgument, greatestArgument}
+use Rattle.command.proofs.Checked.{inside, outside, other, any-argument}
 use borrow.Author.Needs.{needs}
 use Rattle.command.proofs.checked_rule.Statement.{statement}
 use Rattle.command.proofs.checked_rule.Tie as tie
 
-rule-requires : tie.Need-rule-requires
-rule-requires c κs = sym (c .before .argument-ok .ensures) ∙ c .if1 .taken
+part-rule-requires : tie.Need-part-rule-requires
+part-rule-requires c κs = sym (c .before .argument-ok3 .ensures) ∙ c .if3 .taken
 
 returns : tie.Need-returns
-unfolding checkedRule
-returns c = search picks depth 12
+unfolding ruleOf
+returns c =
+    inside (c .before .before .before .before .args .e) (c .before .before .before .before .args .op) (c .before .before .before .before .args .argument) (c .before .before .before .before .args .r) (c .before .before .before .match .keys1) (c .before .before .argument-ok .ensures) (c .before .if1 .taken) (c .unchanged .ensures)
 
 returns-2 : tie.Need-returns-2
-unfolding checkedRule
-returns-2 c = search picks depth 12
+returns-2 c =
+    outside (c .before .before .before .before .args .e) (c .before .before .before .before .args .op) (c .before .before .before .before .args .argument) (c .before .before .before .before .args .r) (c .before .before .before .match .keys1) (c .before .before .argument-ok .ensures) (c .before .if1 .left) (c .unchanged2 .ensures)
+
+returns-3 : tie.Need-returns-3
+unfolding ruleOf leastArgument greatestArgument
+returns-3 c =
+    inside (c .before .before .args .e) (c .before .before .args .op) (c .before .before .args .argument) (c .before .before .args .r) (c .before .match .keys2) (sym (any-argument 1 (c .before .before .args .argument) refl refl (omega arith))) refl (c .set-rule .ensures)
+
+returns-4 : tie.Need-returns-4
+unfolding ruleOf leastArgument greatestArgument
+returns-4 c =
+    inside (c .before .before .args .e) (c .before .before .args .op) (c .before .before .args .argument) (c .before .before .args .r) (c .before .match .keys3) (sym (any-argument 2 (c .before .before .args .argument) refl refl (omega arith))) refl (c .step-rule .ensures)
+
+returns-5 : tie.Need-returns-5
+unfolding ruleOf leastArgument greatestArgument
+returns-5 c =
+    inside (c .before .before .args .e) (c .before .before .args .op) (c .before .before .args .argument) (c .before .before .args .r) (c .before .match .keys4) (sym (any-argument 3 (c .before .before .args .argument) refl refl (omega arith))) refl (c .report-rule .ensures)
+
+returns-6 : tie.Need-returns-6
+unfolding ruleOf
+returns-6 c =
+    inside (c .before .before .before .before .args .e) (c .before .before .before .before .args .op) (c .before .before .before .before .args .argument) (c .before .before .before .before .args .r) (c .before .before .before .match .keys5) (c .before .before .argument-ok2 .ensures) (c .before .if2 .taken) (c .fault-rule .ensures)
+
+returns-7 : tie.Need-returns-7
+returns-7 c =
+    outside (c .before .before .before .before .args .e) (c .before .before .before .before .args .op) (c .before .before .before .before .args .argument) (c .before .before .before .before .args .r) (c .before .before .before .match .keys5) (c .before .before .argument-ok2 .ensures) (c .before .if2 .left) (c .unchanged3 .ensures)
+
+returns-8 : tie.Need-returns-8
+unfolding ruleOf
+returns-8 c =
+    inside (c .before .before .before .before .args .e) (c .before .before .before .before .args .op) (c .before .before .before .before .args .argument) (c .before .before .before .before .args .r) (c .before .before .before .match .keys6) (c .before .before .argument-ok3 .ensures) (c .before .if3 .taken) (c .part-rule .ensures)
+
+returns-9 : tie.Need-returns-9
+returns-9 c =
+    outside (c .before .before .before .before .args .e) (c .before .before .before .before .args .op) (c .before .before .before .before .args .argument) (c .before .before .before .before .args .r) (c .before .before .before .match .keys6) (c .before .before .argument-ok3 .ensures) (c .before .if3 .left) (c .unchanged4 .ensures)
+
+returns-10 : tie.Need-returns-10
+returns-10 c = other (c .before .before .args .e) (c .before .before .args .op) (c .before .before .args .argument) (c .before .before .args .r) (omega arith) (c .unchanged5 .ensures)
 
 pub checked-rule-spec : {M : Type 1} → statement M
 checked-rule-spec =
-    tie.close (tie.spec (λ c κs. search needs) rule-requires (λ c κs. search needs) returns returns-2)
+    tie.close
+    (tie.spec
+    (λ c κs. search needs)
+    (λ c κs. search needs)
+    (λ c κs. search needs)
+    (λ c κs. search needs)
+    (λ c κs. search needs)
+    (λ c κs. search needs)
+    (λ c κs. search needs)
+    (λ c κs. search needs)
+    (λ c κs. search needs)
+    (λ c κs. search needs)
+    part-rule-requires
+    (λ c κs. search needs)
+    (λ c κs. search needs)
+    returns
+    returns-2
+    returns-3
+    returns-4
+    returns-5
+    returns-6
+    returns-7
+    returns-8
+    returns-9
+    returns-10)

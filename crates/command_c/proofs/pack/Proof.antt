@@ -7,13 +7,12 @@ use Rattle.command_c.proofs.pack.Tie as tie
 
 returns : tie.Need-returns
 unfolding packed
-returns c = cc
+returns c = search needs
 
 pub pack-spec : {M : Type 1} → statement M
 pack-spec =
     tie.close
     (tie.spec
-    (λ c κs. search needs)
     (λ c. search needs)
     (λ c. search needs)
     (λ c. search needs)

@@ -17,19 +17,12 @@ returns-2 : tie.Need-returns-2
 unfolding bodyOk
 returns-2 c = search ands depth 16
 
-entry-rows-ok-requires : tie.Need-entry-rows-ok-requires
-entry-rows-ok-requires c κs = omega (arith, parts-size _ _ (c .before .before .before .parts-ok .ensures) (not-false _ (c .before .before .if2 .left)))
+tables-ok-requires : tie.Need-tables-ok-requires
+tables-ok-requires c κs = omega (arith, parts-size _ _ (c .before .parts-ok .ensures) (not-false _ (c .if2 .left)))
 
 returns-3 : tie.Need-returns-3
 unfolding bodyOk
 returns-3 c = search ands depth 16
-
-tables-ok-requires : tie.Need-tables-ok-requires
-tables-ok-requires c κs = omega (arith, parts-size _ _ (c .before .before .before .before .before .parts-ok .ensures) (not-false _ (c .before .before .before .before .if2 .left)))
-
-returns-4 : tie.Need-returns-4
-unfolding bodyOk
-returns-4 c = search ands depth 16
 
 pub body-ok-spec : {M : Type 1} → statement M
 body-ok-spec =
@@ -39,11 +32,5 @@ body-ok-spec =
     returns
     (λ c κs. search needs)
     returns-2
-    (λ c. search needs)
-    (λ c. search needs)
-    (λ c. search needs)
-    (λ c. search needs)
-    entry-rows-ok-requires
-    returns-3
     tables-ok-requires
-    returns-4)
+    returns-3)

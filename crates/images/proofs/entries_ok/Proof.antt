@@ -2,32 +2,33 @@
 -- Assumes nothing.
 use Prim.Native.Nat.{_-_}
 use borrow.Author.Needs.{needs}
-use lib.ListN.{drop}
-use Rattle.model.specs.Tables.{rows, every}
-use Rattle.model.specs.Images.{floorOfBytes, imageEntryOf, imageEntryOk}
-use Rattle.images.proofs.Loops.{Open, rowTest, every-open, open-next, open-false, open-true}
+use Rattle.images.proofs.Loops.{walk-true}
+use Rattle.images.proofs.Tables.{Beside, ids-ordered, beside-start, beside-cursor, beside-next, beside-false}
 use Rattle.images.proofs.entries_ok.Statement.{statement}
 use Rattle.images.proofs.entries_ok.Tie as tie
 
 abbrev Inv-loop : tie.InvT-loop
-Inv-loop s n point at m i₀ i =
-    Open (rowTest imageEntryOf (imageEntryOk point (rows floorOfBytes 8 n (drop 48 s)))) 20 at
-    (every (imageEntryOk point (rows floorOfBytes 8 n (drop 48 s))) (rows imageEntryOf 20 m (drop at s))) s m i
+Inv-loop s n point at m i₀ j₀ i j = Beside point n at m s i j
 
 abbrev μ-loop : tie.MeasureT-loop
-μ-loop s n point at m i₀ i = m - i
+μ-loop s n point at m i₀ j₀ i j = m - i
 
 loop-holds : tie.Need-loop-holds Inv-loop μ-loop
-loop-holds c = every-open imageEntryOf 20 _ _ _ _
+loop-holds c = beside-start _ _ _ _ _
+
+next-floor-requires : tie.Need-next-floor-requires Inv-loop μ-loop
+next-floor-requires c κs = (c .before .before .before .before .pre .0, beside-cursor (c .before .before .loop .inv) (c .before .loop-test .taken) (c .entry-from .ensures))
 
 returns : tie.Need-returns Inv-loop μ-loop
-returns c = open-false (c .before .before .before .loop .inv) (c .before .before .loop-test .taken) (c .before .entry-ok .ensures) (c .if1 .taken)
+returns c =
+    beside-false (c .before .before .before .before .before .before .loop .inv) (c .before .before .before .before .before .before .before .before .pre .2) (c .before .before .before .before .before .loop-test .taken) (c .before .before .before .before .entry-from .ensures) (c .before .before .before .next-floor .ensures) (c .before .before .floor-here .ensures) (c .before .entry-step .ensures) (c .if1 .taken)
 
 loop-again : tie.Need-loop-again Inv-loop μ-loop
-loop-again c = open-next (c .before .before .before .loop .inv) (c .before .before .loop-test .taken) (c .before .entry-ok .ensures) (c .if1 .left)
+loop-again c =
+    beside-next (c .before .before .before .before .before .before .loop .inv) (c .before .before .before .before .before .before .before .before .pre .2) (c .before .before .before .before .before .loop-test .taken) (c .before .before .before .before .entry-from .ensures) (c .before .before .before .next-floor .ensures) (c .before .before .floor-here .ensures) (c .before .entry-step .ensures) (c .if1 .left)
 
 returns-2 : tie.Need-returns-2 Inv-loop μ-loop
-returns-2 c = open-true (c .before .loop .inv) (c .loop-test .left)
+returns-2 c = walk-true (c .before .loop .inv .walk) ids-ordered (c .loop-test .left)
 
 pub entries-ok-spec : {M : Type 1} → statement M
 entries-ok-spec =
@@ -36,6 +37,11 @@ entries-ok-spec =
     Inv-loop
     μ-loop
     loop-holds
+    (λ c. search needs)
+    (λ c. search needs)
+    (λ c κs. search needs)
+    next-floor-requires
+    (λ c κs. search needs)
     (λ c. search needs)
     (λ c. search needs)
     (λ c κs. search needs)

@@ -3,29 +3,33 @@
 use Prim.Native.Nat.{_-_}
 use borrow.Author.Needs.{needs}
 use lib.ListN.{drop}
-use Rattle.model.specs.Tables.{rows, every}
-use Rattle.model.specs.Images.{floorOfBytes, floorOk}
-use Rattle.images.proofs.Loops.{Open, rowTest, every-open, open-next, open-false, open-true}
+use Rattle.model.specs.Tables.{rows}
+use Rattle.model.specs.Images.{floorOfBytes, floorOk, clientsAscend}
+use Rattle.images.specs.Walks.{floorsOk, floorStep}
+use Rattle.images.proofs.Loops.{Walk, rowTest, walk-next, walk-false, walk-true}
+use Rattle.images.proofs.Tables.{floors-ordered, floors-start}
 use Rattle.images.proofs.floors_ok.Statement.{statement}
 use Rattle.images.proofs.floors_ok.Tie as tie
 
 abbrev Inv-loop : tie.InvT-loop
-Inv-loop s n i₀ i = Open (rowTest floorOfBytes floorOk) 8 48 (every floorOk (rows floorOfBytes 8 n (drop 48 s))) s n i
+Inv-loop s n i₀ i = Walk floorOfBytes clientsAscend (rowTest floorOfBytes floorOk) 8 48 (floorsOk (rows floorOfBytes 8 n (drop 48 s))) s n i
 
 abbrev μ-loop : tie.MeasureT-loop
 μ-loop s n i₀ i = n - i
 
 loop-holds : tie.Need-loop-holds Inv-loop μ-loop
-loop-holds c = every-open floorOfBytes 8 48 floorOk _ _
+loop-holds c = floors-start _ _
 
 returns : tie.Need-returns Inv-loop μ-loop
-returns c = open-false (c .before .before .before .loop .inv) (c .before .before .loop-test .taken) (c .before .floor-ok .ensures) (c .if1 .taken)
+unfolding floorStep
+returns c = walk-false (c .before .before .before .loop .inv) floors-ordered (c .before .before .loop-test .taken) (c .before .floor-step .ensures) (c .if1 .taken)
 
 loop-again : tie.Need-loop-again Inv-loop μ-loop
-loop-again c = open-next (c .before .before .before .loop .inv) (c .before .before .loop-test .taken) (c .before .floor-ok .ensures) (c .if1 .left)
+unfolding floorStep
+loop-again c = walk-next (c .before .before .before .loop .inv) floors-ordered (c .before .before .loop-test .taken) (c .before .floor-step .ensures) (c .if1 .left)
 
 returns-2 : tie.Need-returns-2 Inv-loop μ-loop
-returns-2 c = open-true (c .before .loop .inv) (c .loop-test .left)
+returns-2 c = walk-true (c .before .loop .inv) floors-ordered (c .loop-test .left)
 
 pub floors-ok-spec : {M : Type 1} → statement M
 floors-ok-spec =
@@ -34,6 +38,8 @@ floors-ok-spec =
     Inv-loop
     μ-loop
     loop-holds
+    (λ c. search needs)
+    (λ c. search needs)
     (λ c. search needs)
     (λ c. search needs)
     (λ c κs. search needs)

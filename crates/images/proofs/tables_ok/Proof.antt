@@ -1,26 +1,21 @@
 -- `images::tables_ok` meets its contract.
 -- Assumes nothing.
-use Rattle.model.specs.Images.{imageTablesOk, imageAt}
-use Rattle.images.proofs.Ands.{ands}
+use native.Mathlib.Omega.{arith}
+use borrow.Author.Tests.{not-true, not-false}
 use borrow.Author.Needs.{needs}
+use Rattle.images.proofs.Tables.{tables-stop, tables-ascend, tables-last}
 use Rattle.images.proofs.tables_ok.Statement.{statement}
 use Rattle.images.proofs.tables_ok.Tie as tie
 
 returns : tie.Need-returns
-unfolding imageTablesOk imageAt
-returns c = search ands depth 16
+returns c = tables-stop (c .before .before .before .before .before .args .h) (c .before .before .before .before .before .args .s .now) (c .before .floors-ok .ensures) (not-true _ (c .if1 .taken))
+
+entries-ok-requires : tie.Need-entries-ok-requires
+entries-ok-requires c κs =
+    (omega (arith, c .before .before .before .before .before .pre), omega (arith, c .before .before .before .before .before .pre), tables-ascend (c .before .before .before .before .before .args .h) (c .before .before .before .before .before .args .s .now) (c .before .floors-ok .ensures) (not-false _ (c .if1 .left)))
 
 returns-2 : tie.Need-returns-2
-unfolding imageTablesOk imageAt
-returns-2 c = search ands depth 16
-
-returns-3 : tie.Need-returns-3
-unfolding imageTablesOk imageAt
-returns-3 c = search ands depth 16
-
-returns-4 : tie.Need-returns-4
-unfolding imageTablesOk imageAt
-returns-4 c = search ands depth 16
+returns-2 c = tables-last (c .before .before .before .before .before .before .args .h) (c .before .before .before .before .before .before .args .s .now) (c .before .before .floors-ok .ensures) (not-false _ (c .before .if1 .left)) (c .entries-ok .ensures)
 
 pub tables-ok-spec : {M : Type 1} → statement M
 tables-ok-spec =
@@ -28,13 +23,9 @@ tables-ok-spec =
     (tie.spec
     (λ c. search needs)
     (λ c. search needs)
-    (λ c. search needs)
-    (λ c. search needs)
     (λ c κs. search needs)
     returns
-    (λ c κs. search needs)
-    returns-2
-    (λ c κs. search needs)
-    returns-3
-    (λ c κs. search needs)
-    returns-4)
+    (λ c. search needs)
+    (λ c. search needs)
+    entries-ok-requires
+    returns-2)

@@ -10,13 +10,14 @@ use Rattle.records_c.proofs.record_words.Statement.{statement}
 use Rattle.records_c.proofs.record_words.Tie as tie
 
 add-image-words : tie.Need-add-image-words
-add-image-words c =
-    let pre = c .before .before .before .before .before .before .pre in
-    let i = placed-took _ _ _ (c .before .before .before .before .record-at .ensures) (c .before .before .found4 .given .1) in
-    omega (arith, i .end, from-inside _ _ _ pre)
+add-image-words c = omega (arith, from-inside _ _ _ (c .before .before .before .before .pre))
+
+add-image-words-2 : tie.Need-add-image-words-2
+add-image-words-2 c = omega (arith, from-inside _ _ _ (c .before .before .before .before .pre))
 
 image-words-requires : tie.Need-image-words-requires
-image-words-requires c κs = image-inside _ _ _ _ (from-inside _ _ _ (c .before .before .before .before .before .before .pre)) (placed-took _ _ _ (c .before .before .before .before .record-at .ensures) (c .before .before .found4 .given .1))
+image-words-requires c κs =
+    image-inside _ _ _ _ (from-inside _ _ _ (c .before .before .before .before .pre)) (placed-took _ _ _ (c .before .before .record-at .ensures) (c .enum-told2 .given .1))
 
 returns : tie.Need-returns
 unfolding recordWords recordMeans
@@ -35,11 +36,11 @@ unfolding recordWords recordMeans
 returns-4 c = shown-by _ _ _ _ (c .before .before .before .before .before .before .record-at .ensures) (c .before .before .before .before .found3 .given .1) (c .numbered2 .ensures)
 
 returns-5 : tie.Need-returns-5
-returns-5 c = shown-took _ _ _ _ _ (c .before .before .before .before .before .record-at .ensures) (c .before .before .before .found4 .given .1) (c .image-words .ensures)
+returns-5 c = shown-took _ _ _ _ _ (c .before .before .before .record-at .ensures) (c .before .enum-told2 .given .1) (c .image-words .ensures)
 
 returns-6 : tie.Need-returns-6
 unfolding recordWords recordMeans
-returns-6 c = shown-by _ _ _ _ (c .before .before .before .before .before .record-at .ensures) (c .before .before .before .found5 .given .1) (c .numbered3 .ensures)
+returns-6 c = shown-by _ _ _ _ (c .before .before .before .before .before .record-at .ensures) (c .before .before .before .found4 .given .1) (c .numbered3 .ensures)
 
 pub record-words-spec : {M : Type 1} → statement M
 record-words-spec =
@@ -59,6 +60,7 @@ record-words-spec =
     (λ c κs. search needs)
     (λ c. search needs)
     add-image-words
+    add-image-words-2
     image-words-requires
     (λ c. search needs)
     (λ c. search needs)

@@ -13,22 +13,14 @@ returns c = search picks depth 24
 
 returns-2 : tie.Need-returns-2
 unfolding writing
-returns-2 c = search picks depth 24
-
-returns-3 : tie.Need-returns-3
-unfolding writing
-returns-3 c =
-    let kept = after 0 (c .before .before .before .before .before .before .before .before .before .before .args .out .now) in
-    no kept (le-ltb _ _ (c .before .before .before .before .before .before .before .if1 .left)) (no kept (le-ltb _ _ (c .before .before .before .before .before .before .if2 .left)) (cc))
+returns-2 c = no (after 0 (c .before .before .before .before .before .before .before .before .args .out .now)) (le-ltb _ _ (c .before .before .before .before .before .if1 .left)) (cc)
 
 pub wire-write-spec : {M : Type 1} → statement M
 wire-write-spec =
     tie.close
     (tie.spec
     returns
-    returns-2
-    (λ c κs. search needs)
     (λ c κs. search needs)
     (λ c κs. search needs)
     (λ c. search needs)
-    returns-3)
+    returns-2)

@@ -1,0 +1,45 @@
+#!/usr/bin/env python3
+"""entry_points.py: what another program calls has no `requires`: every `pub extern "C"` function, and the entry points named here.
+Any other public function may require a place within a slice, or what an entry point answered, only if it is a leaf: public because
+the product is split in crates. Prints what breaks this and exits non-zero."""
+import glob, os, re, sys
+
+# the entry points, by crate: they refuse what they do not take
+ENTRY = {
+    'parser': 'parse_packet',
+    'packets': 'request_packet notice_packet grant_packet',
+    'command': 'plan_ok checked_rule',
+    'images': 'image_ok image_read',
+    'records': 'head_ok extent_at',
+    'client': 'start issue resend receive',
+    'leases': 'open_lease renew query',
+}
+# crates of leaves: they read or write at a place that their callers have tested
+LEAF_CRATES = 'wire image_rows image_writer packets appends'.split()
+# leaves elsewhere: rows at a place, and what is read once an entry point has answered that it is there
+LEAVES = {
+    'command': 'plan_entry plan_row_ok',
+    'images': 'floor_at entry_at values_in_range image_in_range',
+    'records': 'head_server record_at',
+}
+
+os.chdir(os.path.join(os.path.dirname(os.path.abspath(__file__)), '..'))
+bad, exported, seen = [], 0, set()
+for path in sorted(glob.glob('crates/*/src/**/*.rt', recursive=True)):
+    crate, text = path.split('/')[1], open(path, encoding='utf-8').read()
+    # a signature with its contract ends where a line has the body's brace alone
+    for m in re.finditer(r'^pub (extern "C" )?fn (\w+)(.*?)^\{', text, flags=re.M | re.S):
+        extern, name, contract = m.groups()
+        required = re.search(r'^\s*requires\b', contract, flags=re.M)
+        entry = name in ENTRY.get(crate, '').split()
+        leaf = crate in LEAF_CRATES or name in LEAVES.get(crate, '').split()
+        exported += bool(extern)
+        seen.add((crate, name))
+        if required and (extern or entry or not leaf):
+            what = 'exported' if extern else 'an entry point' if entry else 'public and no leaf'
+            bad.append('%s::%s is %s and has a requires' % (crate, name, what))
+for listed in (ENTRY, LEAVES):
+    bad += ['%s::%s is listed and not there' % (c, n) for c in listed for n in listed[c].split() if (c, n) not in seen]
+entries = sum(len(names.split()) for names in ENTRY.values())
+print('\n'.join(bad) if bad else '%d exported functions and %d entry points, none has a requires' % (exported, entries))
+sys.exit(1 if bad else 0)
