@@ -1,4 +1,5 @@
 // Tests of the parts of a server's state buffer, each at its place: rows of zeros, the plan, the points, the clients.
+use image_rows::FLOOR_ROW;
 use model::PlanEntry;
 use model::Point;
 use state_rows::CLIENT_COUNT;
@@ -28,10 +29,8 @@ const LAST_CLIENTS: u32 = 32;
 
 const LAST_RECORDS: u32 = 512;
 
-// Bytes of an entry of the plan, and of a client.
+// Bytes of an entry of the plan.
 pub const PLAN_ROW: usize = 16;
-
-pub const FLOOR_ROW: usize = 8;
 
 // A point's greatest status, and the least that has a destination.
 const LAST_STATUS: u8 = 3;

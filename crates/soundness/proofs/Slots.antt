@@ -1,6 +1,7 @@
 -- Slots and ids of completion records that pass their tests.
 --     slot-few     a slot is one of 512
---     slots-ids     the pass over the slots decides what the tests of all records and of their ids decide
+--     slots-ids     the pass over the slots decides what the tests of all records, of their ids and of the marks decide
+--     slots-start     with no slot marked: what the tests of all records and of their ids decide
 -- Assumes nothing.
 use Prim.Native.Nat.{ℕ, zero, suc, _≤_, _<_}
 use mathlib.Core.Path.{_≡_, refl, sym, ap, _∙_}

@@ -1,7 +1,7 @@
-// The soundness test of a server's state buffer. Before it, a call on the buffer promises nothing: a buffer that fails it is refused
-// with 19. Its cost is one pass over each table.
+// The soundness test of a server's state buffer: a call on a buffer that fails it answers 19. One pass over each table; that no id
+// stands twice is tested by the slots of the completion records.
+use image_rows::FLOOR_ROW;
 use model::Completion;
-use sound_rows::FLOOR_ROW;
 use sound_rows::HEAD_SIZE;
 use sound_rows::PLAN_ROW;
 use state_rows::FLOORS_START;
