@@ -3,7 +3,7 @@
 use model::Answer;
 ghost use mathlib.Core.Path.{_≡_};
 ghost use mathlib.Core.List.{[]};
-ghost use Rattle.model.specs.Operations.{syncOf};
+ghost use Rattle.model.specs.Operations.{foundOf, requestOf, fetchOf, syncOf, noticeOf, giveOf, imageOf, receiptOf, releaseOf, recoverOf};
 ghost use Rattle.kernel.specs.Interface.{wordOf, returned, inC};
 
 fn word_of(a: Answer) -> u64
@@ -12,9 +12,103 @@ fn word_of(a: Answer) -> u64
     a.number as u64 + 4294967296 * (a.wrote as u64)
 }
 
+// Founds a server: its first state, and the head of its log.
+#[no_mangle]
+pub extern "C" fn mantelorris_found(
+    state: &mut [u8],
+    log: &mut [u8],
+    plan: &[u8],
+    cabinet: u32,
+) -> u64
+    ensures { λ r. ⌜ returned r (now (state .exit)) (now (log .exit)) [] ≡ inC (foundOf (now (state .entry)) (now (log .entry)) (now (plan .entry)) cabinet) ⌝ }
+{
+    word_of(found::found(state, log, plan, cabinet))
+}
+
+// A request packet: executed, answered from its completion record, or refused.
+#[no_mangle]
+pub extern "C" fn mantelorris_request(
+    state: &mut [u8],
+    log: &mut [u8],
+    packet: &[u8],
+    out: &mut [u8],
+) -> u64
+    ensures { λ r. ⌜ returned r (now (state .exit)) (now (log .exit)) (now (out .exit)) ≡ inC (requestOf (now (state .entry)) (now (log .entry)) (now (packet .entry)) (now (out .entry))) ⌝ }
+{
+    word_of(request::request(state, log, packet, out))
+}
+
+// The result packet of a completion record.
+#[no_mangle]
+pub extern "C" fn mantelorris_fetch(
+    state: &[u8],
+    log: &[u8],
+    client: u32,
+    call: u32,
+    out: &mut [u8],
+) -> u64
+    ensures { λ r. ⌜ returned r (now (state .entry)) (now (log .entry)) (now (out .exit)) ≡ inC (fetchOf (now (state .entry)) (now (log .entry)) client call (now (out .entry))) ⌝ }
+{
+    word_of(serve::fetch(state, log, client, call, out))
+}
+
+// The log is synced up to the mark.
 #[no_mangle]
 pub extern "C" fn mantelorris_sync(state: &mut [u8], log: &[u8], mark: u64) -> u64
     ensures { λ r. ⌜ returned r (now (state .exit)) (now (log .entry)) [] ≡ inC (syncOf (now (state .entry)) (now (log .entry)) mark) ⌝ }
 {
     word_of(serve::sync(state, log, mark))
+}
+
+// A notice packet: a lease has ended.
+#[no_mangle]
+pub extern "C" fn mantelorris_notice(state: &mut [u8], log: &mut [u8], packet: &[u8]) -> u64
+    ensures { λ r. ⌜ returned r (now (state .exit)) (now (log .exit)) [] ≡ inC (noticeOf (now (state .entry)) (now (log .entry)) (now (packet .entry))) ⌝ }
+{
+    word_of(serve::notice(state, log, packet))
+}
+
+// Gives a point to another server.
+#[no_mangle]
+pub extern "C" fn mantelorris_give(
+    state: &mut [u8],
+    log: &mut [u8],
+    point: u32,
+    destination: u32,
+) -> u64
+    ensures { λ r. ⌜ returned r (now (state .exit)) (now (log .exit)) [] ≡ inC (giveOf (now (state .entry)) (now (log .entry)) point destination) ⌝ }
+{
+    word_of(moves::give(state, log, point, destination))
+}
+
+// The image of a given point.
+#[no_mangle]
+pub extern "C" fn mantelorris_image(state: &[u8], log: &[u8], point: u32, out: &mut [u8]) -> u64
+    ensures { λ r. ⌜ returned r (now (state .entry)) (now (log .entry)) (now (out .exit)) ≡ inC (imageOf (now (state .entry)) (now (log .entry)) point (now (out .entry))) ⌝ }
+{
+    word_of(moves::image(state, log, point, out))
+}
+
+// The receipt of the latest taken move.
+#[no_mangle]
+pub extern "C" fn mantelorris_receipt(state: &[u8], log: &[u8], point: u32, out: &mut [u8]) -> u64
+    ensures { λ r. ⌜ returned r (now (state .entry)) (now (log .entry)) (now (out .exit)) ≡ inC (receiptOf (now (state .entry)) (now (log .entry)) point (now (out .entry))) ⌝ }
+{
+    word_of(moves::receipt(state, log, point, out))
+}
+
+// A receipt packet: the given point is released.
+#[no_mangle]
+pub extern "C" fn mantelorris_release(state: &mut [u8], log: &mut [u8], packet: &[u8]) -> u64
+    ensures { λ r. ⌜ returned r (now (state .exit)) (now (log .exit)) [] ≡ inC (releaseOf (now (state .entry)) (now (log .entry)) (now (packet .entry))) ⌝ }
+{
+    word_of(moves::release(state, log, packet))
+}
+
+// The state of a kept log. The log slice is what was kept, no more.
+#[no_mangle]
+pub extern "C" fn mantelorris_recover(state: &mut [u8], log: &[u8], plan: &[u8]) -> u64
+    ensures { λ r. ⌜ returned r (now (state .exit)) (now (log .entry)) [] ≡ inC (recoverOf (now (state .entry)) (now (log .entry)) (now (plan .entry))) ⌝ }
+{
+    word_of(recover::recover(state, log, plan))
 }

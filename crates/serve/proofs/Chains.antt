@@ -1,17 +1,41 @@
 -- Each call as a chain of refusals, and what it does at the chain's end.
 --     sync-is, sync-done
+--     fetch-is, fetch-none, fetch-at, replied
+--     found-none, found-at     what a search found
+--     notice-is, notice-other, notice-one, notice-by, notice-room, appended
 -- Assumes nothing.
-use Prim.Native.Nat.{ℕ}
+use Prim.Native.Nat.{ℕ, _+_, _≤_}
 use mathlib.Core.Path.{_≡_, refl, sym, ap, _∙_}
-use mathlib.Core.List.{List, []}
+use mathlib.Core.Bool.{Bool, true, false}
+use mathlib.Core.List.{List, [], _∷_}
+use mathlib.Core.Option.{Option, none, some}
+use native.Mathlib.Omega.{arith}
+use lib.ListN.{length}
+use lib.Dec.{eqb, ltb}
+use borrow.Author.Tests.{ltb-false}
+use denote.Enum.Declared.{tagOf}
+use types.Run.{OneOf, miss}
 use Rattle.model.specs.declared.Answer.{Answer}
-use Rattle.model.specs.Choice.{marks}
-use Rattle.model.specs.States.{load}
-use Rattle.model.specs.Apply.{withMark}
-use Rattle.model.specs.Decisions.{onSync}
-use Rattle.model.specs.Operations.{After, answerOf, after, settle, stored, lent, syncOf}
-use Rattle.decide.specs.Tests.{byNumber, syncRefusal}
-use Rattle.decide.proofs.Decided.{sync-decided}
+use Rattle.model.specs.declared.ResultPacket.{ResultPacket}
+use Rattle.model.specs.declared.Notice.{Notice}
+use Rattle.model.specs.declared.Completion.{Completion}
+use Rattle.model.specs.declared.Packet.{Packet}
+use Rattle.model.specs.declared.Packet.the-variants.{Malformed, Requested, Resulted, Refused, Receipted, Noticed, Granted}
+use Rattle.model.proofs.Packet.{the-type}
+use Rattle.model.specs.Choice.{pick, refuse, reply, append, marks}
+use Rattle.model.specs.Tables.{written}
+use Rattle.model.specs.Packets.{resultBytes, parsePacket}
+use Rattle.model.specs.Images.{floorOf}
+use Rattle.model.specs.Logs.{LogRecord, gone, recordBytes, recordSize}
+use Rattle.model.specs.States.{State, load}
+use Rattle.model.specs.Apply.{withMark, applyRecord}
+use Rattle.model.specs.Decisions.{find, resultOfRecord, onFound, onFetch, onSync, decideNotice, onNotice}
+use Rattle.model.specs.Operations.{After, answerOf, after, settle, stored, freeIn, syncOf, fetchOf, noticeOf}
+use Rattle.decide.specs.Tests.{byNumber, syncRefusal, fetchRefusal, noticeRefusal}
+use Rattle.decide.proofs.Decided.{sync-decided, fetch-decided, notice-decided}
+use Rattle.record_table.specs.declared.Found.{Found}
+use Rattle.record_table.specs.declared.Found.the-variants.{Nothing, At}
+use Rattle.record_table.specs.Rules.{foundOf}
 use Rattle.lent.specs.Memory.{lentRefusal}
 use Rattle.lent.proofs.Settled.{lent-number}
 
@@ -23,3 +47,82 @@ module _ (s log : List ℕ) where
   pub sync-done : (m : ℕ) {r : Answer} {t : List ℕ} → t ≡ stored s (withMark m (load s)) → r ≡ answerOf 0 0 → after r t log [] ≡ settle s log [] (marks m)
   unfolding settle
   sync-done m p q = rw (p, q)
+
+-- ---- a search's answer
+
+pub found-none : (o : Option Completion) → Nothing ≡ foundOf o → o ≡ none
+unfolding foundOf
+found-none none e = refl
+found-none (some r) e = let z : _≡_ {A = ℕ} 0 1 = cc in absurd (omega arith)
+
+pub found-at : (o : Option Completion) (x : Completion) → At x ≡ foundOf o → o ≡ some x
+unfolding foundOf
+found-at none x e = let z : _≡_ {A = ℕ} 0 1 = cc in absurd (omega arith)
+found-at (some r) x e = let m : r ≡ x = cc in ap some m
+
+module _ (s log out : List ℕ) where
+  pub fetch-is : (client call : ℕ) → fetchOf s log client call out ≡ settle s log out (byNumber (lentRefusal s log (length out) 16) (onFetch (load s) client call))
+  unfolding fetchOf
+  fetch-is client call = ap (settle s log out) (lent-number s log out 16 (onFetch (load s) client call))
+
+  pub fetch-none : (client call : ℕ) {f : Found} → f ≡ foundOf (find client call (load s .records)) → f ≡ Nothing → {r : Answer} → r ≡ answerOf 17 0
+      → after r s log out ≡ settle s log out (onFetch (load s) client call)
+  unfolding settle onFetch onFound
+  fetch-none client call p q e = rw (e, found-none (find client call (load s .records)) (sym q ∙ p))
+
+  pub fetch-at : (client call : ℕ) {f : Found} (x : Completion) → f ≡ foundOf (find client call (load s .records)) → f ≡ At x
+      → {a : After} → a ≡ settle s log out (byNumber (fetchRefusal (load s .mark) x) (reply (resultBytes (resultOfRecord x)))) → a ≡ settle s log out (onFetch (load s) client call)
+  unfolding onFetch
+  fetch-at client call x p q e = e ∙ ap (settle s log out) (sym (ap (onFound (load s)) (found-at (find client call (load s .records)) x (sym q ∙ p)) ∙ fetch-decided (load s) x))
+
+  pub replied : (p : ResultPacket) {r : Answer} {o : List ℕ} → r ≡ answerOf 0 16 → o ≡ written out 0 (resultBytes p) → after r s log o ≡ settle s log out (reply (resultBytes p))
+  unfolding settle resultBytes
+  replied p e q = rw (e, q)
+
+-- ---- notice
+
+other-packet : (st : State) (free : ℕ) (p : Packet) → OneOf (0 ∷ 1 ∷ 2 ∷ 3 ∷ 4 ∷ 6 ∷ []) (tagOf the-type p) → onNotice st free p ≡ refuse 1
+unfolding onNotice
+other-packet st free Malformed h = refl
+other-packet st free (Requested q) h = refl
+other-packet st free (Resulted q) h = refl
+other-packet st free (Refused q) h = refl
+other-packet st free (Receipted q) h = refl
+other-packet st free (Noticed n) h = absurd (miss (0 ∷ 1 ∷ 2 ∷ 3 ∷ 4 ∷ 6 ∷ []) 5 tt h)
+other-packet st free (Granted q) h = refl
+
+-- 0 where the log has space for a gone record
+pub notice-room : (floor free : ℕ) {m : ℕ} → m ≡ noticeRefusal floor free → m ≡ 0 → 12 ≤ free
+unfolding noticeRefusal
+notice-room floor free p z = go (eqb floor 0) (ltb free 12) refl (sym p ∙ z)
+  where
+    go : (a b : Bool) → ltb free 12 ≡ b → pick {A = ℕ} a 17 (pick b 9 0) ≡ 0 → 12 ≤ free
+    go true b q e = absurd (omega (arith, e))
+    go false true q e = absurd (omega (arith, e))
+    go false false q e = ltb-false free 12 q
+
+module _ (s log : List ℕ) where
+  pub appended : (out : List ℕ) (x : LogRecord) {r : Answer} {t l : List ℕ} → t ≡ stored s (applyRecord x (load s .size + recordSize x) (load s))
+      → l ≡ written log (load s .size) (recordBytes x) → r ≡ answerOf 0 0 → after r t l out ≡ settle s log out (append x)
+  unfolding settle
+  appended out x p q e = rw (p, q, e)
+
+  pub notice-by : (n : Notice) {a : After}
+      → a ≡ settle s log [] (byNumber (noticeRefusal (floorOf (n .client) (load s .floors)) (freeIn s log)) (append (gone n)))
+      → a ≡ settle s log [] (decideNotice (load s) (freeIn s log) n)
+  notice-by n e = e ∙ ap (settle s log []) (sym (notice-decided (load s) (freeIn s log) n))
+
+  module _ (packet : List ℕ) where
+    pub notice-is : noticeOf s log packet ≡ settle s log [] (byNumber (lentRefusal s log 0 0) (onNotice (load s) (freeIn s log) (parsePacket packet)))
+    unfolding noticeOf
+    notice-is = ap (settle s log []) (lent-number s log [] 0 (onNotice (load s) (freeIn s log) (parsePacket packet)))
+
+    pub notice-other : {p : Packet} {r : Answer} → p ≡ parsePacket packet → OneOf (0 ∷ 1 ∷ 2 ∷ 3 ∷ 4 ∷ 6 ∷ []) (tagOf the-type p) → r ≡ answerOf 1 0
+        → after r s log [] ≡ settle s log [] (onNotice (load s) (freeIn s log) (parsePacket packet))
+    unfolding settle
+    notice-other {p} e h q = rw (q, ← e, other-packet (load s) (freeIn s log) p h)
+
+    pub notice-one : (n : Notice) {p : Packet} {a : After} → p ≡ parsePacket packet → p ≡ Noticed n → a ≡ settle s log [] (decideNotice (load s) (freeIn s log) n)
+        → a ≡ settle s log [] (onNotice (load s) (freeIn s log) (parsePacket packet))
+    unfolding onNotice
+    notice-one n e h q = rw (← e, h) q

@@ -1,14 +1,26 @@
-// The calls of a running server that serve clients: request, fetch, sync, notice. Each answers and leaves its lent slices as its
+// The calls of a running server that serve clients, requests apart: fetch, sync, notice. Each answers and leaves its lent slices as its
 // definition says, for all arguments.
 use model::Answer;
+use model::Completion;
+use model::Notice;
+use model::Packet;
+use model::ResultPacket;
+use record_table::Found;
 ghost use mathlib.Core.Path.{_≡_};
 ghost use mathlib.Core.List.{[]};
-ghost use Rattle.model.specs.Operations.{answerOf, after, syncOf};
+ghost use Prim.Native.Nat.{_≤_};
+ghost use lib.ListN.{length};
+ghost use Rattle.model.specs.Tables.{written};
+ghost use Rattle.model.specs.Packets.{resultBytes};
+ghost use Rattle.model.specs.States.{load};
+ghost use Rattle.model.specs.Decisions.{resultOfRecord, decideNotice};
+ghost use Rattle.model.specs.Operations.{answerOf, after, settle, freeIn, syncOf, fetchOf, noticeOf};
+ghost use Rattle.state.specs.Canonical.{Canonical};
 
 // ---- answers
 
 // A refusal's number, and no packet.
-fn refused(n: u32) -> Answer
+pub fn refused(n: u32) -> Answer
     ensures { λ r. ⌜ r ≡ answerOf n 0 ⌝ }
 {
     Answer {
@@ -18,7 +30,7 @@ fn refused(n: u32) -> Answer
 }
 
 // Not refused, and n bytes written.
-fn made(n: u32) -> Answer
+pub fn made(n: u32) -> Answer
     ensures { λ r. ⌜ r ≡ answerOf 0 n ⌝ }
 {
     Answer {
@@ -45,4 +57,94 @@ pub fn sync(s: &mut [u8], log: &[u8], mark: u64) -> Answer
     }
     state::set_mark(s, mark);
     made(0)
+}
+
+// ---- fetch
+
+// The result packet of a completion record.
+fn result_of(x: Completion) -> ResultPacket
+    ensures { λ r. ⌜ r ≡ resultOfRecord x ⌝ }
+{
+    ResultPacket {
+        outcome: x.outcome,
+        point: x.point,
+        quality: x.quality,
+        client: x.client,
+        call: x.call,
+        value: x.value,
+    }
+}
+
+// Writes it.
+pub fn reply(out: &mut [u8], x: Completion) -> Answer
+    requires { ⌜ 16 ≤ length (now out) ⌝ }
+    ensures { λ r. ⌜ (r ≡ answerOf 0 16) × (now (out .exit) ≡ written (now (out .entry)) 0 (resultBytes (resultOfRecord x))) ⌝ }
+{
+    packets::write_result(out, result_of(x));
+    made(16)
+}
+
+// 2; 19; 17 none held; 7 not synced; else the result packet.
+pub fn fetch(s: &[u8], log: &[u8], client: u32, call: u32, out: &mut [u8]) -> Answer
+    ensures { λ r. ⌜ after r (now (s .entry)) (now (log .entry)) (now (out .exit)) ≡ fetchOf (now (s .entry)) (now (log .entry)) client call (now (out .entry)) ⌝ }
+{
+    let n = lent::lent_refusal(s, log, out.len(), 16);
+    if n != 0 {
+        return refused(n);
+    }
+    let f = record_table::find(s, client, call);
+    match f {
+        Found::Nothing => refused(17),
+        Found::At(x) => {
+            let mark = state::mark_of(s);
+            let m = decide::fetch_refusal(mark, x);
+            if m != 0 {
+                return refused(m);
+            }
+            reply(out, x)
+        }
+    }
+}
+
+// ---- notice
+
+// The space left in the log.
+pub fn free_in(s: &[u8], log: &[u8]) -> usize
+    requires { ⌜ Canonical (now s) × (load (now s) .size ≤ length (now log)) ⌝ }
+    ensures { λ r. ⌜ r ≡ freeIn (now (s .entry)) (now (log .entry)) ⌝ }
+{
+    let size = state::size_of(s) as usize;
+    log.len() - size
+}
+
+// 17 client not known; 9; else the client is gone.
+fn noticed(s: &mut [u8], log: &mut [u8], n: Notice) -> Answer
+    requires { ⌜ Canonical (now s) × (load (now s) .size ≤ length (now log)) ⌝ }
+    ensures { λ r. ⌜ after r (now (s .exit)) (now (log .exit)) [] ≡ settle (now (s .entry)) (now (log .entry)) [] (decideNotice (load (now (s .entry))) (freeIn (now (s .entry)) (now (log .entry))) n) ⌝ }
+{
+    let floor = client_table::floor_in(s, n.client);
+    let free = free_in(s, log);
+    let m = decide::notice_refusal(floor, free);
+    if m != 0 {
+        return refused(m);
+    }
+    let size = state::size_of(s);
+    appends::append_gone(log, size as usize, n);
+    apply::apply_gone(s, n, size + 12);
+    made(0)
+}
+
+// 2; 19; 1 malformed or no notice; 17; 9.
+pub fn notice(s: &mut [u8], log: &mut [u8], packet: &[u8]) -> Answer
+    ensures { λ r. ⌜ after r (now (s .exit)) (now (log .exit)) [] ≡ noticeOf (now (s .entry)) (now (log .entry)) (now (packet .entry)) ⌝ }
+{
+    let k = lent::lent_refusal(s, log, 0, 0);
+    if k != 0 {
+        return refused(k);
+    }
+    let p = parser::parse_packet(packet);
+    let Packet::Noticed(n) = p else {
+        return refused(1);
+    };
+    noticed(s, log, n)
 }

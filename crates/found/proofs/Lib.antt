@@ -1,0 +1,2 @@
+-- Laws that the proofs of `found`, and of those who call it, cite.
+pub mod Founded

@@ -1,0 +1,2 @@
+-- Laws that the proofs of `moves` cite.
+pub mod Chains

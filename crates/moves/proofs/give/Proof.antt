@@ -1,0 +1,42 @@
+-- `moves::give` meets its contract.
+-- Assumes nothing.
+use native.Mathlib.Omega.{arith}
+use mathlib.Core.Path.{sym, _∙_}
+use mathlib.Core.List.{[]}
+use Rattle.state.proofs.Chains.{canonical-sound}
+use Rattle.lent.proofs.Settled.{by-refused, by-passed}
+use Rattle.moves.proofs.Chains.{give-is, give-ready}
+use borrow.Author.Needs.{needs}
+use Rattle.moves.proofs.give.Statement.{statement}
+use Rattle.moves.proofs.give.Tie as tie
+
+returns : tie.Need-returns
+returns c = let a = c .before .before .before .before .before .before .before .args in by-refused (a .s .now) (a .log .now) [] _ (c .before .before .give-number .ensures) (c .before .if1 .taken) (c .refused .ensures) ∙ sym (give-is (a .s .now) (a .log .now) (a .point) (a .destination))
+
+cast-give-done : tie.Need-cast-give-done
+cast-give-done c = let a = c .before .before .before .before .before .before .before .before .args in let r = give-ready (a .s .now) (a .log .now) (a .point) (a .destination) (sym (c .before .before .before .give-number .ensures) ∙ c .before .before .if1 .left) in omega (arith, r .1 .point)
+
+cast-give-done-2 : tie.Need-cast-give-done-2
+cast-give-done-2 c = let a = c .before .before .before .before .before .before .before .before .args in let r = give-ready (a .s .now) (a .log .now) (a .point) (a .destination) (sym (c .before .before .before .give-number .ensures) ∙ c .before .before .if1 .left) in omega (arith, r .1 .destination)
+
+give-done-requires : tie.Need-give-done-requires
+give-done-requires c κs = let a = c .before .before .before .before .before .before .before .before .args in let r = give-ready (a .s .now) (a .log .now) (a .point) (a .destination) (sym (c .before .before .before .give-number .ensures) ∙ c .before .before .if1 .left) in (canonical-sound (a .s .now) (λ i. c .before .before .before .before .before .before .before .slice-known .given i .fits) (r .0 .sound), r .1, r .2)
+
+returns-2 : tie.Need-returns-2
+returns-2 c = let a = c .before .before .before .before .before .before .before .before .before .before .before .before .before .args in by-passed (a .s .now) (a .log .now) [] _ (c .before .before .before .before .before .before .before .before .give-number .ensures) (c .before .before .before .before .before .before .before .if1 .left) (c .before .before .before .before .give-done .ensures) ∙ sym (give-is (a .s .now) (a .log .now) (a .point) (a .destination))
+
+pub give-spec : {M : Type 1} → statement M
+give-spec =
+    tie.close
+    (tie.spec
+    (λ c κs. search needs)
+    (λ c κs. search needs)
+    (λ c. search needs)
+    (λ c. search needs)
+    returns
+    cast-give-done
+    cast-give-done-2
+    give-done-requires
+    (λ c. search needs)
+    (λ c. search needs)
+    returns-2)

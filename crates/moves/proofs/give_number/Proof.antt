@@ -1,0 +1,50 @@
+-- `moves::give_number` meets its contract.
+-- Assumes nothing.
+use native.Mathlib.Omega.{arith}
+use mathlib.Core.Path.{refl, _∙_}
+use Rattle.wire.proofs.Picks.{yes-call, no-call}
+use Rattle.lent.proofs.Settled.{passed-fit, passed-long}
+use Rattle.moves.specs.Numbers.{giveNumber}
+use Rattle.moves.proofs.Chains.{first-no, first-yes, places-good}
+use borrow.Author.Needs.{needs}
+use Rattle.moves.proofs.give_number.Statement.{statement}
+use Rattle.moves.proofs.give_number.Tie as tie
+
+returns : tie.Need-returns
+unfolding giveNumber
+returns c = first-no _ (c .before .lent-refusal .ensures) (c .if1 .taken)
+
+returns-2 : tie.Need-returns-2
+unfolding giveNumber
+returns-2 c = first-yes (c .before .before .before .lent-refusal .ensures) (c .before .before .if1 .left) (yes-call _ (c .before .places-bad .ensures) (c .if2 .taken) refl)
+
+cast-point-at : tie.Need-cast-point-at
+cast-point-at c = omega (arith, places-good _ _ (c .before .places-bad .ensures) (c .if2 .left) .0)
+
+point-at-requires : tie.Need-point-at-requires
+point-at-requires c κs = (passed-long _ _ _ _ (c .before .before .before .lent-refusal .ensures) (c .before .before .if1 .left), places-good _ _ (c .before .places-bad .ensures) (c .if2 .left) .0)
+
+server-of-requires : tie.Need-server-of-requires
+server-of-requires c κs = passed-long _ _ _ _ (c .before .before .before .before .lent-refusal .ensures) (c .before .before .before .if1 .left)
+
+free-in-requires : tie.Need-free-in-requires
+free-in-requires c κs = (passed-long _ _ _ _ (c .before .before .before .before .before .lent-refusal .ensures) (c .before .before .before .before .if1 .left), passed-fit _ _ _ _ (c .before .before .before .before .before .lent-refusal .ensures) (c .before .before .before .before .if1 .left) .logged)
+
+returns-3 : tie.Need-returns-3
+unfolding giveNumber
+returns-3 c = first-yes (c .before .before .before .before .before .before .before .lent-refusal .ensures) (c .before .before .before .before .before .before .if1 .left) (no-call _ (c .before .before .before .before .before .places-bad .ensures) (c .before .before .before .before .if2 .left) (c .give-refusal .ensures ∙ rw (c .before .free-in .ensures, c .before .before .server-of .ensures, c .before .before .before .point-at .ensures)))
+
+pub give-number-spec : {M : Type 1} → statement M
+give-number-spec =
+    tie.close
+    (tie.spec
+    (λ c κs. search needs)
+    returns
+    (λ c κs. search needs)
+    returns-2
+    cast-point-at
+    point-at-requires
+    server-of-requires
+    free-in-requires
+    (λ c κs. search needs)
+    returns-3)

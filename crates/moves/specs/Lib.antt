@@ -1,0 +1,2 @@
+-- What the contracts of `moves` cite beside `model`.
+pub mod Numbers

@@ -1,0 +1,50 @@
+-- The refusal's number of each call that moves a point, on its lent slices; 0 if it is not refused. Tests as in Operations and
+-- Decisions, in the same order. And the records that a give and a release append.
+-- Assumes nothing.
+use Prim.Native.Nat.{ℕ, suc, _≤_}
+use mathlib.Core.List.{List}
+use lib.Dec.{eqb, ltb}
+use Rattle.model.specs.declared.Give.{Give}
+use Rattle.model.specs.declared.Release.{Release}
+use Rattle.model.specs.declared.Packet.{Packet}
+use Rattle.model.specs.declared.Packet.the-variants.{Malformed, Requested, Resulted, Refused, Receipted, Noticed, Granted}
+use Rattle.model.specs.Choice.{pick}
+use Rattle.model.specs.Refusals.{malformed}
+use Rattle.model.specs.Limits.{lastPoint}
+use Rattle.model.specs.States.{State, load, pointAt}
+use Rattle.model.specs.Operations.{freeIn}
+use Rattle.decide.specs.Tests.{placesBad, giveRefusal}
+use Rattle.lent.specs.Memory.{lentRefusal}
+
+-- the number n, or what comes behind it where n is 0
+unfoldable pub first : ℕ → ℕ → ℕ
+first n m = pick (eqb n 0) m n
+
+-- ---- give
+
+unfoldable pub giveFor : State → ℕ → ℕ → Give
+giveFor st p d = record { point = p; destination = d; number = suc (pointAt st p .number) }
+
+unfoldable pub giveNumber : List ℕ → List ℕ → ℕ → ℕ → ℕ
+giveNumber s log p d =
+    first (lentRefusal s log 0 0) (pick (placesBad p d) malformed (giveRefusal (pointAt (load s) p) (load s .server) (freeIn s log) d))
+
+-- ---- receipt and image: what they test before the point's own state
+
+unfoldable pub placeNumber : List ℕ → List ℕ → ℕ → ℕ → ℕ → ℕ
+placeNumber s log n need p = first (lentRefusal s log n need) (pick (ltb lastPoint p) malformed 0)
+
+-- ---- release
+
+unfoldable pub releaseFor : State → ℕ → Release
+releaseFor st p = record { point = p; number = pointAt st p .number }
+
+-- a packet's point, where a release reads it, is in range
+abbrev pub Placed : Packet → Type 0
+Placed Malformed = Unit
+Placed (Requested q) = Unit
+Placed (Resulted r) = Unit
+Placed (Refused r) = Unit
+Placed (Receipted r) = r .point ≤ lastPoint
+Placed (Noticed n) = Unit
+Placed (Granted g) = Unit

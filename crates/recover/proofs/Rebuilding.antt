@@ -1,0 +1,126 @@
+-- The whole recovery: founding, all records, the mark; and the operation.
+--     founded-stands, ended-standing     founding leaves a sound state at the head's end; so do all records
+--     no-head, no-replay, rebuilt-done     what rebuilding answers
+--     recover-no, recover-done      the last two answers of the operation
+-- Assumes nothing.
+use Prim.Native.Nat.{ℕ, _+_, _*_, _≤_, _<_}
+use mathlib.Core.Path.{_≡_, refl, sym, ap, _∙_}
+use mathlib.Core.Bool.{Bool, true, false, not}
+use mathlib.Core.List.{List, [], _∷_, _++_, append-nil}
+use mathlib.Core.Option.{Option, none, some}
+use native.Mathlib.Omega.{arith}
+use lib.ListN.{length, drop, drop-of-length-le}
+use lib.Dec.{eqb, leb, ltb}
+use borrow.Author.Tests.{leb-true, ltb-false}
+use Rattle.model.specs.Choice.{pick}
+use Rattle.model.specs.Limits.{lastServer, stateSize, headSize}
+use Rattle.model.specs.Numbers.{word, byteAt, zeros3At}
+use Rattle.model.specs.Tables.{written}
+use Rattle.model.specs.Plan.{planOk, planOf}
+use Rattle.model.specs.Logs.{headOk, headServer, entriesOf}
+use Rattle.model.specs.States.{State, load, stateBytes, stateEnd}
+use Rattle.model.specs.Apply.{founded, withMark}
+use Rattle.model.specs.Operations.{After, after, answerOf, short, stored, recoveredState, settleRecovered, recoverOf}
+use Rattle.laws.specs.Bytes.{Bytes}
+use Rattle.laws.specs.Fits.{StateFits}
+use Rattle.laws.proofs.Tests.{joined-all}
+use Rattle.laws.proofs.Written.{written-front}
+use Rattle.laws.proofs.States.{state-length}
+use Rattle.limits.specs.Sound.{Sound}
+use Rattle.limits.proofs.Tests.{fits-of}
+use Rattle.limits.proofs.Kept.{founded-sound}
+use Rattle.limits.proofs.Loaded.{plan-good}
+use Rattle.state.proofs.Chains.{canonical-stored, load-stored, length-stored, fits-mark}
+use Rattle.replay.specs.Standing.{Standing}
+use Rattle.recover.specs.Remaining.{remaining, StandsAt, Ended}
+use Rattle.recover.specs.Rebuilt.{rebuilt, recoveredBytes}
+
+head-limit : (s : List ℕ) → headOk s ≡ true → headServer s ≤ lastServer
+unfolding headOk
+head-limit s e =
+    leb-true _ _
+    (joined-all
+    (leb headSize (length s) ∷ eqb (byteAt s 0) 87 ∷ eqb (byteAt s 1) 76 ∷ eqb (byteAt s 2) 71 ∷ eqb (byteAt s 3) 49 ∷ leb (headServer s) lastServer ∷ zeros3At s 5 ∷ [])
+    e
+    .1 .1 .1 .1 .1 .0)
+
+pub ended-standing : (log : List ℕ) (at : ℕ) (st : State) (s : List ℕ) {t : Bool} → Ended log at st s t → t ≡ true → Standing s
+ended-standing log at st s d f = let g : Standing s × (remaining log at st ≡ some (load s)) = rw f at (d .found) in g .0
+
+-- the bytes that fill a buffer
+whole : (s vs : List ℕ) → length vs ≡ length s → written s 0 vs ≡ vs
+whole s vs e = written-front s vs (omega arith) ∙ rw (drop-of-length-le s {i = length vs} (omega arith), append-nil)
+
+module _ (log plan : List ℕ) where
+  abbrev first : State
+  first = founded (planOf plan) (headServer log)
+
+  from-head : headOk log ≡ true → recoveredState (planOf plan) log ≡ remaining log 8 first
+  unfolding remaining entriesOf recoveredState
+  from-head k = rw (k, recoveredState)
+
+  pub no-head : (s : List ℕ) → headOk log ≡ false → rebuilt false s ≡ recoveredBytes (recoveredState (planOf plan) log)
+  unfolding rebuilt recoveredBytes recoveredState
+  no-head s k = rw (k, recoveredState)
+
+  module _ (s : List ℕ) (long : length s ≡ stateEnd) (b : Bytes plan) (ok : planOk plan ≡ true) (k : headOk log ≡ true) {s1 : List ℕ} (e : s1 ≡ stored s first) where
+    first-sound : Sound first
+    first-sound = founded-sound (planOf plan) (headServer log) (plan-good plan b ok) (head-limit log k)
+
+    first-load : load s1 ≡ first
+    first-load = ap load e ∙ load-stored s (omega arith) first (fits-of first first-sound)
+
+    pub founded-stands : StandsAt s1 8
+    unfolding founded
+    founded-stands =
+        record {
+          standing = record { canonical = rw e (canonical-stored s (omega arith) first (fits-of first first-sound)); sound = rw first-load first-sound };
+          place = ap (λ (x : State). x .size) first-load;
+        }
+
+    all : recoveredState (planOf plan) log ≡ remaining log 8 (load s1)
+    all = from-head k ∙ ap (remaining log 8) (sym first-load)
+
+    pub no-replay : {s2 : List ℕ} {t : Bool} (s' : List ℕ) → Ended log 8 (load s1) s2 t → t ≡ false → rebuilt false s' ≡ recoveredBytes (recoveredState (planOf plan) log)
+    unfolding rebuilt recoveredBytes
+    no-replay {s2} {t} s' d f = let g : remaining log 8 (load s1) ≡ none = rw f at (d .found) in rw (all ∙ g)
+
+    pub rebuilt-done : {s2 : List ℕ} {t : Bool} {n : ℕ} {s3 : List ℕ} → Ended log 8 (load s1) s2 t → t ≡ true → length s2 ≡ length s1 → n ≡ load s2 .size
+        → s3 ≡ stored s2 (withMark n (load s2)) → rebuilt true s3 ≡ recoveredBytes (recoveredState (planOf plan) log)
+    unfolding rebuilt recoveredBytes stored
+    rebuilt-done {s2} {t} {n} {s3} d f l q c =
+        let g : Standing s2 × (remaining log 8 (load s1) ≡ some (load s2)) = rw f at (d .found) in
+        let st : State = withMark (load s2 .size) (load s2) in
+        let fits : StateFits st = fits-mark (load s2) (g .0 .canonical .fits) (load s2 .size) (g .0 .canonical .fits .size) in
+        let m : length s1 ≡ length s = ap length e ∙ length-stored s first in
+        let w : s3 ≡ stateBytes st = c ∙ ap (λ (x : ℕ). written s2 0 (stateBytes (withMark x (load s2)))) q ∙ whole s2 (stateBytes st) (omega (arith, state-length st fits)) in
+        rw (all ∙ g .1, w)
+
+-- ---- the operation
+
+pub long-passed : (state : List ℕ) {t : Bool} → t ≡ short state stateSize → t ≡ false → stateSize ≤ length state
+unfolding short
+long-passed state p q = ltb-false (length state) stateSize (sym p ∙ q)
+
+module _ (state log plan : List ℕ) where
+  pub recover-no : (work : List ℕ) {t u v : Bool} → t ≡ short state stateSize → t ≡ false → u ≡ planOk plan → u ≡ true → rebuilt v work ≡ recoveredBytes (recoveredState (planOf plan) log) → v ≡ false
+      → after (answerOf 14 0) state log [] ≡ recoverOf state log plan
+  unfolding recoverOf rebuilt recoveredBytes settleRecovered
+  recover-no work {t} {u} {v} p p' q q' r f =
+      rw (sym p ∙ p', sym q ∙ q') (go (recoveredState (planOf plan) log) (rw f at r))
+    where
+      go : (o : Option State) → none ≡ recoveredBytes o → after (answerOf 14 0) state log [] ≡ settleRecovered state log o
+      go none e = refl
+      go (some st) e = let z : _≡_ {A = ℕ} 0 1 = cc in absurd (omega arith)
+
+  pub recover-done : (work : List ℕ) {state' : List ℕ} {t u v : Bool} → t ≡ short state stateSize → t ≡ false → u ≡ planOk plan → u ≡ true → rebuilt v work ≡ recoveredBytes (recoveredState (planOf plan) log) → v ≡ true
+      → state' ≡ written state 0 work → after (answerOf 0 0) state' log [] ≡ recoverOf state log plan
+  unfolding recoverOf rebuilt recoveredBytes settleRecovered stored
+  recover-done work {state'} {t} {u} {v} p p' q q' r f c =
+      rw (sym p ∙ p', sym q ∙ q') (go (recoveredState (planOf plan) log) (rw f at r))
+    where
+      go : (o : Option State) → some work ≡ recoveredBytes o → after (answerOf 0 0) state' log [] ≡ settleRecovered state log o
+      go none e = let z : _≡_ {A = ℕ} 0 1 = cc in absurd (omega arith)
+      go (some st) e =
+          let w : work ≡ stateBytes (withMark (st .size) st) = cc in
+          ap (λ (x : List ℕ). after (answerOf 0 0) x log []) (c ∙ ap (written state 0) w)

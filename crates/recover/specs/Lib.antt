@@ -1,0 +1,3 @@
+-- What the contracts of `recover` cite beside `model`.
+pub mod Remaining
+pub mod Rebuilt

@@ -1,0 +1,162 @@
+// Recover: the state that a kept log gives.
+use model::Answer;
+use records::Extent;
+use records::Record;
+use state_rows::STATE_SIZE;
+ghost use mathlib.Core.Path.{_≡_};
+ghost use mathlib.Core.Bool.{true};
+ghost use mathlib.Core.List.{[]};
+ghost use Prim.Native.Nat.{_+_, _-_, _≤_};
+ghost use lib.ListN.{length, take, drop};
+ghost use Rattle.model.specs.Limits.{stateSize};
+ghost use Rattle.model.specs.Plan.{planOk, planOf};
+ghost use Rattle.model.specs.Images.{imageAt, imageHeadOf, imageOk};
+ghost use Rattle.model.specs.Logs.{took, spans, recordAt};
+ghost use Rattle.model.specs.States.{load, stateEnd};
+ghost use Rattle.model.specs.Decisions.{follows};
+ghost use Rattle.model.specs.Operations.{after, short, recoveredState, recoverOf};
+ghost use Rattle.records.specs.Answers.{extentFrom};
+ghost use Rattle.replay.specs.Standing.{Ready, replayed};
+ghost use Rattle.recover.specs.Remaining.{recordFollows, recordReplayed, StandsAt, Stepped, Ended};
+ghost use Rattle.recover.specs.Rebuilt.{rebuilt, recoveredBytes};
+
+// What one step of a recovery finds: no further record, one that breaks its layout or cannot follow, or the next place.
+pub enum Step {
+    Done,
+    Off,
+    Next(usize),
+}
+
+// ---- one record
+
+// A take of the image between two places of the log.
+fn replay_image(s: &mut [u8], log: &[u8], from: usize, to: usize, end: u64) -> bool
+    requires { ⌜ (from ≤ to) × (to ≤ length (now log)) × Ready (now s) (took (imageAt (imageHeadOf (take (to - from) (drop from (now log)))) (take (to - from) (drop from (now log))))) end × (imageOk (take (to - from) (drop from (now log))) ≡ true) ⌝ }
+    ensures { λ r. ⌜ (r ≡ follows (load (now (s .entry))) (took (imageAt (imageHeadOf (take (to - from) (drop from (now (log .entry))))) (take (to - from) (drop from (now (log .entry))))))) × (now (s .exit) ≡ replayed (took (imageAt (imageHeadOf (take (to - from) (drop from (now (log .entry))))) (take (to - from) (drop from (now (log .entry)))))) end (now (s .entry))) ⌝ }
+{
+    replay_took::replay_took(s, &log[from..to], end)
+}
+
+// The whole record of n bytes at a place of the log, if it follows.
+fn replay_record(s: &mut [u8], log: &[u8], at: usize, n: usize) -> bool
+    requires { ⌜ StandsAt (now s) at × (extentFrom (now log) at ≡ spans n) ⌝ }
+    ensures { λ r. ⌜ (r ≡ recordFollows (load (now (s .entry))) (recordAt (drop at (now (log .entry))))) × (now (s .exit) ≡ recordReplayed (recordAt (drop at (now (log .entry)))) (at + n) (now (s .entry))) ⌝ }
+{
+    let found = records::record_at(log, at, n);
+    let end = (at + n) as u64;
+    match found {
+        Record::Broken => false,
+        Record::Executed(x) => replay::replay_executed(s, x, end),
+        Record::Gone(x) => replay::replay_gone(s, x, end),
+        Record::Gave(x) => replay::replay_gave(s, x, end),
+        Record::Took(p) => replay_image(s, log, p.from, p.from + p.len, end),
+        Record::Released(x) => replay::replay_released(s, x, end),
+    }
+}
+
+// ---- the log
+
+fn advance(s: &mut [u8], log: &[u8], at: usize) -> Step
+    requires { ⌜ StandsAt (now s) at ⌝ }
+    ensures { λ r. ⌜ Stepped (now (log .entry)) at (now (s .entry)) (now (s .exit)) r ⌝ }
+{
+    let extent = records::extent_at(log, at);
+    match extent {
+        Extent::Off => Step::Off,
+        Extent::Cut => Step::Done,
+        Extent::Spans(n) => {
+            if !replay_record(s, log, at, n) {
+                return Step::Off;
+            }
+            Step::Next(at + n)
+        }
+    }
+}
+
+// Every record of the log, from its head's end on.
+fn replay_log(s: &mut [u8], log: &[u8]) -> bool
+    requires { ⌜ StandsAt (now s) 8 ⌝ }
+    ensures { λ r. ⌜ Ended (now (log .entry)) 8 (load (now (s .entry))) (now (s .exit)) r ⌝ }
+{
+    let mut at = 8;
+    loop {
+        let next = advance(s, log, at);
+        match next {
+            Step::Done => return true,
+            Step::Off => return false,
+            Step::Next(m) => at = m,
+        }
+    }
+}
+
+// ---- the operation
+
+// The state that the log gives, with the mark at the end of its records, in a buffer of the state's size.
+fn rebuild(work: &mut [u8], log: &[u8], plan: &[u8]) -> bool
+    requires { ⌜ (length (now work) ≡ stateEnd) × (planOk (now plan) ≡ true) ⌝ }
+    ensures { λ r. ⌜ rebuilt r (now (work .exit)) ≡ recoveredBytes (recoveredState (planOf (now (plan .entry))) (now (log .entry))) ⌝ }
+{
+    if !records::head_ok(log) {
+        return false;
+    }
+    let server = records::head_server(log);
+    found::found_state(work, plan, server);
+    if !replay_log(work, log) {
+        return false;
+    }
+    let size = state::size_of(work);
+    state::set_mark(work, size);
+    true
+}
+
+fn is_short(state: &[u8]) -> bool
+    ensures { λ r. ⌜ r ≡ short (now (state .entry)) stateSize ⌝ }
+{
+    state.len() < STATE_SIZE
+}
+
+// A refusal leaves the lent state as it was, so the records are replayed in a buffer apart.
+fn recover_with(state: &mut [u8], work: &mut [u8], log: &[u8], plan: &[u8]) -> Answer
+    requires { ⌜ length (now work) ≡ stateEnd ⌝ }
+    ensures { λ r. ⌜ after r (now (state .exit)) (now (log .entry)) [] ≡ recoverOf (now (state .entry)) (now (log .entry)) (now (plan .entry)) ⌝ }
+{
+    if is_short(state) {
+        return Answer {
+            number: 2,
+            wrote: 0,
+        };
+    }
+    if !command::plan_ok(plan) {
+        return Answer {
+            number: 1,
+            wrote: 0,
+        };
+    }
+    if !rebuild(work, log, plan) {
+        return Answer {
+            number: 14,
+            wrote: 0,
+        };
+    }
+    appends::copy_bytes(state, work);
+    Answer {
+        number: 0,
+        wrote: 0,
+    }
+}
+
+// A buffer of the state's size.
+fn blank() -> [u8; 17704]
+    ensures { λ r. ⌜ length r ≡ stateEnd ⌝ }
+{
+    [0; 17704]
+}
+
+// 2 state too short; 1 bad plan; 14 the head or a whole record breaks its layout, or a record cannot follow the state; else the state that
+// the log's whole records give, and the mark is their end.
+pub fn recover(state: &mut [u8], log: &[u8], plan: &[u8]) -> Answer
+    ensures { λ r. ⌜ after r (now (state .exit)) (now (log .entry)) [] ≡ recoverOf (now (state .entry)) (now (log .entry)) (now (plan .entry)) ⌝ }
+{
+    let mut work = blank();
+    recover_with(state, &mut work, log, plan)
+}

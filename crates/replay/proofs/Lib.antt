@@ -1,0 +1,3 @@
+-- Laws that the proofs of `replay`, and of those who call it, cite.
+pub mod Replayed
+pub mod Rooms

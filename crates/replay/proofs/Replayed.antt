@@ -1,0 +1,41 @@
+-- One record replayed.
+--     replayed-no, replayed-yes     one that does not follow, and one that does
+--     free-yes, free-no             what a search answers of a free id, and of another
+-- Assumes nothing.
+use Prim.Native.Nat.{ℕ}
+use mathlib.Core.Path.{_≡_, refl, sym, ap, _∙_}
+use mathlib.Core.Bool.{Bool, true, false}
+use mathlib.Core.List.{List}
+use mathlib.Core.Option.{Option, none, some}
+use native.Mathlib.Omega.{arith}
+use Rattle.model.specs.declared.Completion.{Completion}
+use Rattle.model.specs.Choice.{pick}
+use Rattle.model.specs.Logs.{LogRecord}
+use Rattle.model.specs.States.{load}
+use Rattle.model.specs.Apply.{applyRecord}
+use Rattle.model.specs.Decisions.{follows}
+use Rattle.model.specs.Operations.{stored}
+use Rattle.follow.specs.Tests.{isNone}
+use Rattle.record_table.specs.declared.Found.{Found}
+use Rattle.record_table.specs.declared.Found.the-variants.{Nothing, At}
+use Rattle.record_table.specs.Rules.{foundOf}
+use Rattle.replay.specs.Standing.{replayed}
+
+pub free-yes : (o : Option Completion) {f : Found} → f ≡ foundOf o → f ≡ Nothing → true ≡ isNone o
+unfolding foundOf isNone
+free-yes none p q = refl
+free-yes (some r) p q = let z : _≡_ {A = ℕ} 0 1 = cc in absurd (omega arith)
+
+pub free-no : (o : Option Completion) {f : Found} {r : Completion} → f ≡ foundOf o → f ≡ At r → false ≡ isNone o
+unfolding foundOf isNone
+free-no none p q = let z : _≡_ {A = ℕ} 0 1 = cc in absurd (omega arith)
+free-no (some x) p q = refl
+
+module _ (s : List ℕ) (r : LogRecord) {t : Bool} (e : t ≡ follows (load s) r) where
+  pub replayed-no : (end : ℕ) → t ≡ false → (false ≡ follows (load s) r) × (s ≡ replayed r end s)
+  unfolding replayed
+  replayed-no end p = (sym p ∙ e, rw (sym e ∙ p))
+
+  pub replayed-yes : (end : ℕ) {s' : List ℕ} → t ≡ true → s' ≡ stored s (applyRecord r end (load s)) → (true ≡ follows (load s) r) × (s' ≡ replayed r end s)
+  unfolding replayed
+  replayed-yes end p q = (sym p ∙ e, rw (sym e ∙ p) q)

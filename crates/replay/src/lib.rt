@@ -1,0 +1,115 @@
+// One log record on the state in a buffer: whether it follows the state, and its replay there if it does.
+use model::Executed;
+use model::Give;
+use model::Notice;
+use model::Release;
+use record_table::Found;
+ghost use mathlib.Core.Path.{_≡_};
+ghost use Prim.Native.Nat.{_≤_};
+ghost use Rattle.model.specs.Limits.{lastPoint};
+ghost use Rattle.model.specs.Logs.{executed, gone, gave, released};
+ghost use Rattle.model.specs.States.{load};
+ghost use Rattle.model.specs.Decisions.{find, follows};
+ghost use Rattle.follow.specs.Tests.{isNone};
+ghost use Rattle.state.specs.Canonical.{Canonical};
+ghost use Rattle.replay.specs.Standing.{Ready, replayed};
+
+// ---- executed
+
+// No completion record has the id.
+fn is_free(s: &[u8], client: u32, call: u32) -> bool
+    requires { ⌜ Canonical (now s) ⌝ }
+    ensures { λ r. ⌜ r ≡ isNone (find client call (load (now (s .entry)) .records)) ⌝ }
+{
+    let found = record_table::find(s, client, call);
+    match found {
+        Found::Nothing => true,
+        Found::At(x) => false,
+    }
+}
+
+fn executed_follows(s: &[u8], x: Executed) -> bool
+    requires { ⌜ Canonical (now s) × (x .point ≤ lastPoint) ⌝ }
+    ensures { λ r. ⌜ r ≡ follows (load (now (s .entry))) (executed x) ⌝ }
+{
+    let q = state::point_at(s, x.point);
+    let e = state::entry_at(s, x.point);
+    let floor = client_table::floor_in(s, x.client);
+    let fresh = is_free(s, x.client, x.call);
+    let clients = state::clients_of(s);
+    follow::executed_follows(q, e, floor, fresh, clients, x)
+}
+
+pub fn replay_executed(s: &mut [u8], x: Executed, end: u64) -> bool
+    requires { ⌜ Ready (now s) (executed x) end ⌝ }
+    ensures { λ r. ⌜ (r ≡ follows (load (now (s .entry))) (executed x)) × (now (s .exit) ≡ replayed (executed x) end (now (s .entry))) ⌝ }
+{
+    if !executed_follows(s, x) {
+        return false;
+    }
+    apply::apply_executed(s, x, end);
+    true
+}
+
+// ---- gone
+
+fn gone_follows(s: &[u8], n: Notice) -> bool
+    requires { ⌜ Canonical (now s) ⌝ }
+    ensures { λ r. ⌜ r ≡ follows (load (now (s .entry))) (gone n) ⌝ }
+{
+    follow::gone_follows(client_table::floor_in(s, n.client))
+}
+
+pub fn replay_gone(s: &mut [u8], n: Notice, end: u64) -> bool
+    requires { ⌜ Ready (now s) (gone n) end ⌝ }
+    ensures { λ r. ⌜ (r ≡ follows (load (now (s .entry))) (gone n)) × (now (s .exit) ≡ replayed (gone n) end (now (s .entry))) ⌝ }
+{
+    if !gone_follows(s, n) {
+        return false;
+    }
+    apply::apply_gone(s, n, end);
+    true
+}
+
+// ---- give
+
+fn gave_follows(s: &[u8], g: Give) -> bool
+    requires { ⌜ Canonical (now s) × (g .point ≤ lastPoint) ⌝ }
+    ensures { λ r. ⌜ r ≡ follows (load (now (s .entry))) (gave g) ⌝ }
+{
+    let q = state::point_at(s, g.point);
+    let server = state::server_of(s);
+    follow::gave_follows(q, server, g)
+}
+
+pub fn replay_gave(s: &mut [u8], g: Give, end: u64) -> bool
+    requires { ⌜ Ready (now s) (gave g) end ⌝ }
+    ensures { λ r. ⌜ (r ≡ follows (load (now (s .entry))) (gave g)) × (now (s .exit) ≡ replayed (gave g) end (now (s .entry))) ⌝ }
+{
+    if !gave_follows(s, g) {
+        return false;
+    }
+    apply::apply_gave(s, g, end);
+    true
+}
+
+// ---- release
+
+fn released_follows(s: &[u8], x: Release) -> bool
+    requires { ⌜ Canonical (now s) × (x .point ≤ lastPoint) ⌝ }
+    ensures { λ r. ⌜ r ≡ follows (load (now (s .entry))) (released x) ⌝ }
+{
+    let q = state::point_at(s, x.point);
+    follow::released_follows(q, x)
+}
+
+pub fn replay_released(s: &mut [u8], x: Release, end: u64) -> bool
+    requires { ⌜ Ready (now s) (released x) end ⌝ }
+    ensures { λ r. ⌜ (r ≡ follows (load (now (s .entry))) (released x)) × (now (s .exit) ≡ replayed (released x) end (now (s .entry))) ⌝ }
+{
+    if !released_follows(s, x) {
+        return false;
+    }
+    apply::apply_released(s, x, end);
+    true
+}

@@ -1,0 +1,3 @@
+-- Laws that the proofs of `request` cite.
+pub mod Chains
+pub mod Passed

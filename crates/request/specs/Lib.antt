@@ -1,0 +1,2 @@
+-- What the contracts of `request` cite beside `model`.
+pub mod Decisions

@@ -1,0 +1,175 @@
+// A client's request to a running server: decided on the state, then refused with a packet, answered, or executed. It answers and
+// leaves its lent slices as its definition says, for all arguments.
+use model::Answer;
+use model::Completion;
+use model::Executed;
+use model::Packet;
+use model::Reading;
+use model::RefusalPacket;
+use model::Request;
+use record_table::Found;
+ghost use mathlib.Core.Path.{_≡_};
+ghost use Prim.Native.Nat.{_+_, _≤_};
+ghost use lib.ListN.{length};
+ghost use Rattle.model.specs.Limits.{lastPoint};
+ghost use Rattle.model.specs.Tables.{written};
+ghost use Rattle.model.specs.Packets.{refusalBytes};
+ghost use Rattle.model.specs.Images.{floorOf};
+ghost use Rattle.model.specs.Logs.{executed, recordBytes};
+ghost use Rattle.model.specs.States.{load, stateEnd};
+ghost use Rattle.model.specs.Apply.{applyExecuted};
+ghost use Rattle.model.specs.Decisions.{executedFor, onHeld, onNew, decideRequest, withPacket};
+ghost use Rattle.model.specs.Operations.{answerOf, after, stored, settle, freeIn, requestOf};
+ghost use Rattle.limits.specs.Sound.{GoodRequest};
+ghost use Rattle.state.specs.Canonical.{Canonical};
+ghost use Rattle.apply.specs.Room.{Room};
+ghost use Rattle.lent.specs.Memory.{Fit};
+ghost use Rattle.request.specs.Decisions.{decided, refusalFor};
+
+// What is decided on a request.
+pub enum Decision {
+    // the refusal's number
+    Refuse(u32),
+    // the completion record whose result packet is the answer
+    Reply(Completion),
+    // the record to be logged and applied
+    Execute(Executed),
+}
+
+// ---- deciding
+
+// An id that is held: 6 with another op, point or argument; 7 not synced; else its result.
+fn held_decision(s: &[u8], q: Request, x: Completion) -> Decision
+    requires { ⌜ stateEnd ≤ length (now s) ⌝ }
+    ensures { λ r. ⌜ decided r ≡ onHeld (load (now (s .entry))) q x ⌝ }
+{
+    let mark = state::mark_of(s);
+    let n = decide::held_refusal(mark, q, x);
+    if n != 0 {
+        return Decision::Refuse(n);
+    }
+    Decision::Reply(x)
+}
+
+// The record of the command's execution.
+fn executed_for(s: &[u8], q: Request) -> Executed
+    requires { ⌜ (stateEnd ≤ length (now s)) × GoodRequest q ⌝ }
+    ensures { λ r. ⌜ r ≡ executedFor (load (now (s .entry))) q ⌝ }
+{
+    let e = state::entry_at(s, q.point);
+    let x = state::point_at(s, q.point);
+    let r = command::checked_rule(
+        e,
+        q.op,
+        q.argument,
+        Reading {
+            value: x.value,
+            quality: x.quality,
+        },
+    );
+    Executed {
+        op: q.op,
+        point: q.point,
+        outcome: r.outcome,
+        client: q.client,
+        call: q.call,
+        done: q.done,
+        argument: q.argument,
+        value: r.value,
+        quality: r.quality,
+    }
+}
+
+// An id that is not held: 8 new client and 32 known; 9 log lacks 28 bytes; else it is executed.
+fn new_decision(s: &[u8], floor: u32, free: usize, q: Request) -> Decision
+    requires { ⌜ (stateEnd ≤ length (now s)) × GoodRequest q × (floor ≡ floorOf (q .client) (load (now s) .floors)) ⌝ }
+    ensures { λ r. ⌜ decided r ≡ onNew (load (now (s .entry))) free q ⌝ }
+{
+    let clients = state::clients_of(s);
+    let n = decide::new_refusal(floor, clients, free);
+    if n != 0 {
+        return Decision::Refuse(n);
+    }
+    let x = executed_for(s, q);
+    Decision::Execute(x)
+}
+
+// 3 point not held; 4 lease end <= heard time; 5 call under the floor; then by whether the id is held.
+fn request_decision(s: &[u8], free: usize, q: Request) -> Decision
+    requires { ⌜ Canonical (now s) × GoodRequest q ⌝ }
+    ensures { λ r. ⌜ decided r ≡ decideRequest (load (now (s .entry))) free q ⌝ }
+{
+    let x = state::point_at(s, q.point);
+    let heard = state::heard_of(s);
+    let floor = client_table::floor_in(s, q.client);
+    let n = decide::request_refusal(x, heard, floor, q);
+    if n != 0 {
+        return Decision::Refuse(n);
+    }
+    let f = record_table::find(s, q.client, q.call);
+    match f {
+        Found::Nothing => new_decision(s, floor, free, q),
+        Found::At(r) => held_decision(s, q, r),
+    }
+}
+
+// ---- carrying it out
+
+// Writes the refusal packet.
+fn deny(out: &mut [u8], n: u32, q: Request) -> Answer
+    requires { ⌜ (n ≤ 9) × (12 ≤ length (now out)) ⌝ }
+    ensures { λ r. ⌜ (r ≡ answerOf n 12) × (now (out .exit) ≡ written (now (out .entry)) 0 (refusalBytes (refusalFor n q))) ⌝ }
+{
+    let p = RefusalPacket {
+        number: n as u8,
+        point: q.point,
+        client: q.client,
+        call: q.call,
+    };
+    packets::write_refusal(out, p);
+    Answer {
+        number: n,
+        wrote: 12,
+    }
+}
+
+// Logs and applies the record.
+fn execute(s: &mut [u8], log: &mut [u8], x: Executed) -> Answer
+    requires { ⌜ Canonical (now s) × (x .point ≤ lastPoint) × Room x (load (now s)) × (load (now s) .size + 28 ≤ length (now log)) ⌝ }
+    ensures { λ r. ⌜ (r ≡ answerOf 0 0) × (now (s .exit) ≡ stored (now (s .entry)) (applyExecuted x (load (now (s .entry)) .size + 28) (load (now (s .entry))))) × (now (log .exit) ≡ written (now (log .entry)) (load (now (s .entry)) .size) (recordBytes (executed x))) ⌝ }
+{
+    let size = state::size_of(s);
+    appends::append_executed(log, size as usize, x);
+    apply::apply_executed(s, x, size + 28);
+    serve::made(0)
+}
+
+// A well-formed request, once the tests of lent memory are passed.
+fn requested(s: &mut [u8], log: &mut [u8], q: Request, out: &mut [u8]) -> Answer
+    requires { ⌜ Fit (now s) (now log) (length (now out)) 16 × GoodRequest q ⌝ }
+    ensures { λ r. ⌜ after r (now (s .exit)) (now (log .exit)) (now (out .exit)) ≡ settle (now (s .entry)) (now (log .entry)) (now (out .entry)) (withPacket q (decideRequest (load (now (s .entry))) (freeIn (now (s .entry)) (now (log .entry))) q)) ⌝ }
+{
+    let free = serve::free_in(s, log);
+    let d = request_decision(s, free, q);
+    match d {
+        Decision::Refuse(n) => deny(out, n, q),
+        Decision::Reply(x) => serve::reply(out, x),
+        Decision::Execute(x) => execute(s, log, x),
+    }
+}
+
+// 2; 19; 1 malformed or no request; 3 to 9, each with a refusal packet; held and synced: the result packet; else it is executed, with no
+// packet.
+pub fn request(s: &mut [u8], log: &mut [u8], packet: &[u8], out: &mut [u8]) -> Answer
+    ensures { λ r. ⌜ after r (now (s .exit)) (now (log .exit)) (now (out .exit)) ≡ requestOf (now (s .entry)) (now (log .entry)) (now (packet .entry)) (now (out .entry)) ⌝ }
+{
+    let k = lent::lent_refusal(s, log, out.len(), 16);
+    if k != 0 {
+        return serve::refused(k);
+    }
+    let p = parser::parse_packet(packet);
+    let Packet::Requested(q) = p else {
+        return serve::refused(1);
+    };
+    requested(s, log, q, out)
+}
