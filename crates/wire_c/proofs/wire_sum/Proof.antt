@@ -8,4 +8,4 @@ returns : tie.Need-returns
 returns c = cc
 
 pub wire-sum-spec : {M : Type 1} → statement M
-wire-sum-spec = tie.close (tie.spec (λ c κs. search needs) (λ c κs. search needs) (λ c κs. search needs) returns)
+wire-sum-spec = tie.close (tie.spec (λ c κs. search needs) (λ c κs. search needs) returns)
