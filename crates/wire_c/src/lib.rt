@@ -11,8 +11,7 @@ ghost use mathlib.Core.Path.{_≡_};
 ghost use Prim.Native.Nat.{_≤_, _%_};
 ghost use lib.ListN.{length};
 ghost use Rattle.model.specs.Tables.{written};
-ghost use Rattle.wire_c.specs.Words.{eight, wordsAt, wordsBytes, wordsOf, packetOf, requestOf, resultOf, refusalOf, receiptOf, after, parsing, putting, writing, wordsSum};
-ghost use Rattle.model.specs.Packets.{parsePacket};
+ghost use Rattle.wire_c.specs.Words.{eight, wordsAt, wordsBytes, wordsOf, packetOf, requestOf, resultOf, refusalOf, receiptOf, after, parsing, putting, writing};
 
 pub struct Words {
     pub kind: u32,
@@ -211,70 +210,6 @@ fn put(out: &mut [u8], w: Words) -> u32
     packets::write_packet(out, packet_of(w))
 }
 
-// The sum of a packet's numbers, for a benchmark: of each kind the fields that it has.
-fn total(
-    kind: u32,
-    first: u32,
-    second: u32,
-    third: u32,
-    fourth: u32,
-    fifth: u32,
-    sixth: u32,
-    seventh: u32,
-) -> u64
-    ensures { λ r. ⌜ r ≡ wordsSum (eight kind first second third fourth fifth sixth seventh) ⌝ }
-{
-    kind as u64
-        + first as u64
-        + second as u64
-        + third as u64
-        + fourth as u64
-        + fifth as u64
-        + sixth as u64
-        + seventh as u64
-}
-
-fn packet_sum(p: Packet) -> u64
-    ensures { λ r. ⌜ r ≡ wordsSum (wordsOf p) ⌝ }
-{
-    match p {
-        Packet::Malformed => total(0, 0, 0, 0, 0, 0, 0, 0),
-        Packet::Requested(q) => total(
-            1,
-            q.op as u32,
-            q.point as u32,
-            q.client,
-            q.call,
-            q.done,
-            q.lease,
-            wire::flipped(q.argument),
-        ),
-        Packet::Resulted(q) => total(
-            2,
-            q.outcome as u32,
-            q.point as u32,
-            q.quality as u32,
-            q.client,
-            q.call,
-            wire::flipped(q.value),
-            0,
-        ),
-        Packet::Refused(q) => total(
-            3,
-            q.number as u32,
-            q.point as u32,
-            q.client,
-            q.call,
-            0,
-            0,
-            0,
-        ),
-        Packet::Receipted(q) => total(4, q.point as u32, q.server as u32, q.number, 0, 0, 0, 0),
-        Packet::Noticed(q) => total(5, q.client, q.time, 0, 0, 0, 0, 0),
-        Packet::Granted(q) => total(6, q.client, q.lease, 0, 0, 0, 0, 0),
-    }
-}
-
 // ---- exported
 
 // Parses a packet into numbers of at least 32 bytes; the answer is the kind, 0 for a malformed packet or too short a slice.
@@ -320,12 +255,4 @@ pub extern "C" fn wire_put(
         out,
         numbered(kind, first, second, third, fourth, fifth, sixth, seventh),
     )
-}
-
-// Parses a packet and adds up its eight numbers; 0 for a malformed one.
-#[no_mangle]
-pub extern "C" fn wire_sum(packet: &[u8]) -> u64
-    ensures { λ r. ⌜ r ≡ wordsSum (wordsOf (parsePacket (now (packet .entry)))) ⌝ }
-{
-    packet_sum(parser::parse_packet(packet))
 }

@@ -1,9 +1,9 @@
--- `wire_c::packet_sum` meets its contract.
+-- `bench_c::packet_sum` meets its contract.
 -- Assumes nothing.
 use Rattle.wire_c.specs.Words.{wordsOf}
 use borrow.Author.Needs.{needs}
-use Rattle.wire_c.proofs.packet_sum.Statement.{statement}
-use Rattle.wire_c.proofs.packet_sum.Tie as tie
+use Rattle.bench_c.proofs.packet_sum.Statement.{statement}
+use Rattle.bench_c.proofs.packet_sum.Tie as tie
 
 returns : tie.Need-returns
 unfolding wordsOf
