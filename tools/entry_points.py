@@ -10,7 +10,7 @@ ENTRY = {
     'packets': 'request_packet notice_packet grant_packet',
     'command': 'plan_ok checked_rule',
     'images': 'image_ok image_read',
-    'records': 'head_ok extent_at',
+    'records': 'head_ok extent_at read_at',
     'client': 'start issue resend receive',
     'leases': 'open_lease renew query',
 }

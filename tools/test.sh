@@ -1,6 +1,6 @@
 #!/usr/bin/env bash
 # The whole check: the kit's identity, the format, every proof and must-fail edit (rt ci), the tests of the second program,
-# the comparison of both, the C programs.
+# the comparison of both, the C programs; that documents cite what is there, and that entry points have no `requires`.
 # Prints seconds per part and per crate; the last line is 'N passed, M failed'; any failure exits non-zero.
 set -u
 cd "$(dirname "$0")/.." || exit 2

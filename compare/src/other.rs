@@ -1,4 +1,4 @@
-//! The second program behind the functions of `proved`.
+//! The second program behind the functions of `proved`; inlined, as those are.
 
 use crate::proved::{self, ReceiveReply, SendReply, NUMBERS_LEN, RECORD_LEN};
 use second::bytes::{get_u32, put_u32};
@@ -73,12 +73,14 @@ pub fn put_numbers(packet: &Packet, out: &mut [u8; NUMBERS_LEN]) -> u32 {
     }
 }
 
+#[inline]
 pub fn numbers_of(packet: &Packet) -> [u8; NUMBERS_LEN] {
     let mut numbers = [0; NUMBERS_LEN];
     put_numbers(packet, &mut numbers);
     numbers
 }
 
+#[inline]
 pub fn parse(packet: &[u8], numbers: &mut [u8]) -> u32 {
     let Some(numbers) = numbers.first_chunk_mut() else {
         return 0;
@@ -94,6 +96,7 @@ pub fn parse(packet: &[u8], numbers: &mut [u8]) -> u32 {
 
 /// The sum of a packet's eight numbers, from the second program's own value; 0
 /// for a malformed one.
+#[inline]
 pub fn sum(packet: &[u8]) -> u64 {
     let Some(packet) = parse_packet(packet) else {
         return 0;
@@ -121,6 +124,7 @@ pub fn sum(packet: &[u8]) -> u64 {
 }
 
 /// Of numbers of a well-formed packet, or of no kind.
+#[inline]
 pub fn write(numbers: &[u8], out: &mut [u8]) -> u32 {
     let Some(numbers) = numbers.first_chunk::<NUMBERS_LEN>() else {
         return 0;
@@ -196,6 +200,7 @@ pub fn write_numbers(n: [u32; 8], out: &mut [u8]) -> u32 {
     }
 }
 
+#[inline]
 fn put(packet: &[u8], out: &mut [u8]) -> u32 {
     out[..packet.len()].copy_from_slice(packet);
     packet.len() as u32
@@ -217,6 +222,7 @@ pub fn rule(entry: &Entry, op: u8, argument: i32, value: i32, quality: u8) -> u6
     u64::from(value as u32) | u64::from(outcome) << 32 | u64::from(quality) << 40
 }
 
+#[inline]
 pub fn plan_ok(plan: &[u8]) -> bool {
     parse_plan(plan).is_some()
 }
@@ -224,6 +230,7 @@ pub fn plan_ok(plan: &[u8]) -> bool {
 // ---- the client
 
 /// The fields of a client, as `proved` has them.
+#[inline]
 pub fn client_fields(client: &Client) -> proved::Client {
     let mut calls = [proved::OpenCall {
         call: 0,
@@ -250,6 +257,7 @@ pub fn client_fields(client: &Client) -> proved::Client {
 }
 
 /// No client where refused.
+#[inline]
 pub fn start(packet: &[u8]) -> (Option<Client>, u32) {
     match Client::start(packet) {
         Ok(client) => (Some(client), 0),
@@ -257,6 +265,7 @@ pub fn start(packet: &[u8]) -> (Option<Client>, u32) {
     }
 }
 
+#[inline]
 pub fn sent(answer: Result<[u8; 24], u32>) -> SendReply {
     match answer {
         Ok(packet) => SendReply {
@@ -274,6 +283,7 @@ pub fn sent(answer: Result<[u8; 24], u32>) -> SendReply {
 
 /// The second program names neither call nor point of a refusal, nor the point
 /// of a result: these are the packet's.
+#[inline]
 pub fn receive(client: &mut Client, packet: &[u8]) -> ReceiveReply {
     let (call, point) = match parse_packet(packet) {
         Some(Packet::Result(p)) => (p.call, p.point),
@@ -312,6 +322,7 @@ pub fn receive(client: &mut Client, packet: &[u8]) -> ReceiveReply {
 /// Time, latest client number, leases by client.
 pub type LeaseFields = (u32, u64, Vec<(u32, u32)>);
 
+#[inline]
 pub fn lease_fields(manager: &LeaseManager) -> LeaseFields {
     let leases = manager.leases.iter().map(|l| (l.client, l.end));
     let mut leases: Vec<(u32, u32)> = leases.collect();
@@ -329,6 +340,7 @@ impl proved::LeaseManager {
 }
 
 /// Number, length and packet of a lease manager's answer.
+#[inline]
 pub fn told(answer: Result<[u8; 12], u32>) -> (u32, u32, [u8; 12]) {
     match answer {
         Ok(packet) => (0, 12, packet),
@@ -349,6 +361,7 @@ static ANY: Plan = Plan {
 };
 
 /// The plan of a range for every point.
+#[inline]
 pub fn range_plan((low, high): (i32, i32)) -> Plan {
     Plan::uniform(Entry {
         low,
@@ -360,6 +373,7 @@ pub fn range_plan((low, high): (i32, i32)) -> Plan {
 
 /// 0: malformed, the range aside. Bit 0: 1; bit 1: the values are in the plan's
 /// range; bits 16 to 31: floors; from 32 on: records.
+#[inline]
 pub fn image(bytes: &[u8], plan: &Plan) -> u64 {
     let within = parse_image(bytes, plan);
     let Some(image) = within.or_else(|| parse_image(bytes, &ANY)) else {
@@ -370,6 +384,7 @@ pub fn image(bytes: &[u8], plan: &Plan) -> u64 {
 }
 
 /// The image read and written anew; 0 where malformed, or the output too short.
+#[inline]
 pub fn image_copy(bytes: &[u8], out: &mut [u8]) -> u64 {
     let Some(image) = parse_image(bytes, &ANY) else {
         return 0;
@@ -382,6 +397,7 @@ pub fn image_copy(bytes: &[u8], out: &mut [u8]) -> u64 {
 
 // ---- log records
 
+#[inline]
 pub fn record(log: &[u8], at: u64, out: &mut [u8]) -> u64 {
     let Some(out) = out.first_chunk_mut::<RECORD_LEN>() else {
         return 8;
@@ -402,6 +418,7 @@ pub fn record(log: &[u8], at: u64, out: &mut [u8]) -> u64 {
 
 /// The sum of a record's eleven numbers, from the second program's own value.
 /// The image of a take is tested too, as the proved reader does.
+#[inline]
 pub fn record_sum(log: &[u8], at: u64) -> u64 {
     let (record, size) = match parse_record(log, at as usize) {
         Parsed::Whole(record, end) => (record, (end - at as usize) as u64),
@@ -435,6 +452,7 @@ pub fn record_sum(log: &[u8], at: u64) -> u64 {
 
 /// The length of a record, if its first bytes give one. The second program
 /// names a broken layout alone.
+#[inline]
 fn extent(rest: &[u8]) -> Option<u32> {
     match rest[0] {
         1 => Some(28),
@@ -450,6 +468,7 @@ fn extent(rest: &[u8]) -> Option<u32> {
 
 /// The second program leaves the image of a take to its reader; here it is
 /// tested with the record, the range of the point aside.
+#[inline]
 fn whole_numbers(record: &Record, size: u32) -> [u32; 11] {
     match record {
         Record::Executed(r) => [
@@ -511,6 +530,7 @@ fn whole_numbers(record: &Record, size: u32) -> [u32; 11] {
     }
 }
 
+#[inline]
 pub fn append(log: &mut [u8], at: u64, record: &Record) -> u64 {
     if let Record::Take(image) = record {
         if parse_image(image, &ANY).is_none() {

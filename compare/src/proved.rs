@@ -232,8 +232,10 @@ mod c {
 }
 
 // A slice is a pointer and its length; the functions are proved to stay inside it, for all arguments.
+// Each is inlined, so that a caller calls the proved code itself.
 
 /// The kind, 0 for a malformed packet; the numbers, of at least 32 bytes.
+#[inline]
 pub fn parse(packet: &[u8], numbers: &mut [u8]) -> u32 {
     unsafe {
         c::mantelorris_test_parse(
@@ -247,6 +249,7 @@ pub fn parse(packet: &[u8], numbers: &mut [u8]) -> u32 {
 
 /// The length of the packet of these numbers, written to `out`, of at least 24
 /// bytes.
+#[inline]
 pub fn write(numbers: &[u8], out: &mut [u8]) -> u32 {
     unsafe {
         c::mantelorris_test_write(numbers.as_ptr(), numbers.len(), out.as_mut_ptr(), out.len())
@@ -254,38 +257,45 @@ pub fn write(numbers: &[u8], out: &mut [u8]) -> u32 {
 }
 
 /// The same from the numbers themselves.
+#[inline]
 pub fn write_numbers([k, a, b, c, d, e, f, g]: [u32; 8], out: &mut [u8]) -> u32 {
     let (start, length) = (out.as_mut_ptr(), out.len());
     unsafe { c::mantelorris_test_put(start, length, k, a, b, c, d, e, f, g) }
 }
 
 /// The sum of the packet's eight numbers, 0 for a malformed one.
+#[inline]
 pub fn sum(packet: &[u8]) -> u64 {
     unsafe { c::mantelorris_test_sum(packet.as_ptr(), packet.len()) }
 }
 
 /// A signed number as the proved code keeps it: x + 2^31.
+#[inline]
 pub fn kept(x: i32) -> u32 {
     x as u32 ^ 1 << 31
 }
 
 /// Bits 0 to 31: the value; 32 to 39: the outcome; 40 to 47: the quality. The
 /// range is low, high and fallback; signed numbers are as kept.
+#[inline]
 pub fn rule(range: &[u32; 3], op: u8, argument: u32, value: u32, quality: u8) -> u64 {
     unsafe { c::mantelorris_test_rule(range.as_ptr(), range.len(), op, argument, value, quality) }
 }
 
+#[inline]
 pub fn plan_ok(plan: &[u8]) -> bool {
     unsafe { c::mantelorris_test_plan_ok(plan.as_ptr(), plan.len()) == 1 }
 }
 
 /// 0: malformed, the range aside. Bit 0: 1; bit 1: the values are in range; bits
 /// 16 to 31: floors; from 32 on: records.
+#[inline]
 pub fn image(bytes: &[u8], (low, high): (i32, i32)) -> u64 {
     unsafe { c::mantelorris_test_image(bytes.as_ptr(), bytes.len(), kept(low), kept(high)) }
 }
 
 /// The image read and written anew; 0 where malformed, or the output too short.
+#[inline]
 pub fn image_copy(bytes: &[u8], out: &mut [u8]) -> u64 {
     unsafe {
         c::mantelorris_test_image_copy(bytes.as_ptr(), bytes.len(), out.as_mut_ptr(), out.len())
@@ -311,17 +321,20 @@ pub fn image_state(state: &[u8], point: u8, out: &mut [u8]) -> u64 {
 /// fields. The answer is the kind, with the length above it; 8 if `out` has not
 /// their 44 bytes. Kind 0: a broken layout without an end; 6: incomplete; 7: a
 /// whole record of a broken layout.
+#[inline]
 pub fn record(log: &[u8], at: u64, out: &mut [u8]) -> u64 {
     unsafe { c::mantelorris_test_record(log.as_ptr(), log.len(), at, out.as_mut_ptr(), out.len()) }
 }
 
 /// The sum of the eleven numbers of the record at a place of the log.
+#[inline]
 pub fn record_sum(log: &[u8], at: u64) -> u64 {
     unsafe { c::mantelorris_test_record_sum(log.as_ptr(), log.len(), at) }
 }
 
 /// Writes a record at a place of the log; its length, 0 where it does not fit or
 /// the image of a take is malformed.
+#[inline]
 pub fn append(log: &mut [u8], at: u64, record: &Record) -> u64 {
     let (start, length) = (log.as_mut_ptr(), log.len());
     match *record {
@@ -354,36 +367,44 @@ pub fn append(log: &mut [u8], at: u64, record: &Record) -> u64 {
 }
 
 impl Client {
+    #[inline]
     pub fn start(packet: &[u8]) -> StartReply {
         unsafe { c::mantelorris_start(packet.as_ptr(), packet.len()) }
     }
 
+    #[inline]
     pub fn issue(&mut self, op: u32, point: u32, argument: i32) -> SendReply {
         unsafe { c::mantelorris_issue(self, op, point, argument) }
     }
 
+    #[inline]
     pub fn resend(&mut self, call: u32) -> SendReply {
         unsafe { c::mantelorris_resend(self, call) }
     }
 
+    #[inline]
     pub fn receive(&mut self, packet: &[u8]) -> ReceiveReply {
         unsafe { c::mantelorris_receive(self, packet.as_ptr(), packet.len()) }
     }
 }
 
 impl LeaseManager {
+    #[inline]
     pub fn new() -> LeaseManager {
         unsafe { c::mantelorris_leases() }
     }
 
+    #[inline]
     pub fn open(&self, time: u32, span: u32) -> LeaseReply {
         unsafe { c::mantelorris_open(*self, time, span) }
     }
 
+    #[inline]
     pub fn renew(&self, client: u32, time: u32, span: u32) -> LeaseReply {
         unsafe { c::mantelorris_renew(*self, client, time, span) }
     }
 
+    #[inline]
     pub fn query(&self, client: u32, time: u32) -> LeaseReply {
         unsafe { c::mantelorris_query(*self, client, time) }
     }

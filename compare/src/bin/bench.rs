@@ -17,8 +17,9 @@ use second::rule::ARGUMENTS;
 use std::hint::black_box;
 use std::time::{Duration, Instant};
 
-const ROUNDS: u32 = 15;
-const ROUND: Duration = Duration::from_millis(2);
+/// Many short rounds: one that another program disturbs is not the best.
+const ROUNDS: u32 = 100;
+const ROUND: Duration = Duration::from_micros(300);
 const INPUTS: usize = 256;
 
 /// Nanoseconds per item of one pass, over rounds of equal work on both sides.

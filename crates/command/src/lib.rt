@@ -3,6 +3,7 @@ ghost use mathlib.Core.Path.{_≡_};
 ghost use mathlib.Core.Bool.{true};
 ghost use Prim.Native.Nat.{_+_, _-_, _≤_};
 ghost use lib.ListN.{length, drop};
+ghost use Rattle.model.specs.Choice.{pick};
 ghost use Rattle.model.specs.Numbers.{half};
 ghost use Rattle.model.specs.Plan.{planEntryOf, planEntryOk, planRowOk, planOk, inRange};
 ghost use Rattle.model.specs.Rules.{same, result, sumInRange, setRule, stepRule, reportRule, faultRule, partRule, argumentOk};
@@ -133,19 +134,26 @@ fn set_rule(e: PlanEntry, a: u32, r: Reading) -> CommandResult
     }
 }
 
-fn step_rule(e: PlanEntry, a: u32, r: Reading) -> CommandResult
-    ensures { λ x. ⌜ x ≡ stepRule e a r ⌝ }
+// v + a, where it is in range; else outcome 1.
+fn step_valid(e: PlanEntry, a: u32, r: Reading) -> CommandResult
+    ensures { λ x. ⌜ x ≡ pick (sumInRange e (r .value) a) (result 0 (r .value + a - half) (r .quality)) (same 1 r) ⌝ }
 {
     let v = r.value;
     let q = r.quality;
-    if q == 1 {
-        return unchanged(2, r);
-    }
     if sum_in_range(e, v, a) {
         result_of(0, sum(e, v, a), q)
     } else {
         unchanged(1, r)
     }
+}
+
+// What a step of a valid value gives is found before the quality is looked at: a choice, and no jump that a processor guesses.
+fn step_rule(e: PlanEntry, a: u32, r: Reading) -> CommandResult
+    ensures { λ x. ⌜ x ≡ stepRule e a r ⌝ }
+{
+    let next = step_valid(e, a, r);
+    let q = r.quality;
+    if q == 1 { unchanged(2, r) } else { next }
 }
 
 fn report_rule(e: PlanEntry, a: u32, r: Reading) -> CommandResult

@@ -1,10 +1,13 @@
-// The tests of lent memory, which come first in each call of a server.
+// What every call of a server has: the tests of lent memory, which come first, the space left in the log, and the answer.
+use model::Answer;
 ghost use mathlib.Core.Path.{_≡_};
 ghost use Prim.Native.Nat.{_≤_};
 ghost use lib.ListN.{length};
-ghost use Rattle.model.specs.States.{stateEnd};
-ghost use Rattle.model.specs.Operations.{unfit};
+ghost use Rattle.model.specs.States.{load, stateEnd};
+ghost use Rattle.model.specs.Operations.{answerOf, unfit, freeIn};
 ghost use Rattle.lent.specs.Memory.{lentRefusal};
+
+// ---- lent memory
 
 // 19: the state is not sound, or the log slice is shorter than its recorded length.
 fn is_unfit(s: &[u8], log: &[u8]) -> bool
@@ -29,4 +32,35 @@ pub fn lent_refusal(s: &[u8], log: &[u8], n: usize, need: usize) -> u32
         return 19;
     }
     0
+}
+
+// The space left in the log.
+pub fn free_in(s: &[u8], log: &[u8]) -> usize
+    requires { ⌜ (stateEnd ≤ length (now s)) × (load (now s) .size ≤ length (now log)) ⌝ }
+    ensures { λ r. ⌜ r ≡ freeIn (now (s .entry)) (now (log .entry)) ⌝ }
+{
+    let size = state::size_of(s);
+    log.len() - size as usize
+}
+
+// ---- answers
+
+// A refusal's number, and no packet.
+pub fn refused(n: u32) -> Answer
+    ensures { λ r. ⌜ r ≡ answerOf n 0 ⌝ }
+{
+    Answer {
+        number: n,
+        wrote: 0,
+    }
+}
+
+// Not refused, and n bytes written.
+pub fn made(n: u32) -> Answer
+    ensures { λ r. ⌜ r ≡ answerOf 0 n ⌝ }
+{
+    Answer {
+        number: 0,
+        wrote: n,
+    }
 }

@@ -19,37 +19,6 @@ ghost use Rattle.limits.specs.Passed.{PassedGive};
 ghost use Rattle.state.specs.Canonical.{Canonical};
 ghost use Rattle.moves.specs.Numbers.{giveFor, giveNumber, placeNumber, releaseFor, Placed};
 
-// ---- answers
-
-// A refusal's number, and no packet.
-pub fn refused(n: u32) -> Answer
-    ensures { λ r. ⌜ r ≡ answerOf n 0 ⌝ }
-{
-    Answer {
-        number: n,
-        wrote: 0,
-    }
-}
-
-// Not refused, and n bytes written.
-pub fn made(n: u32) -> Answer
-    ensures { λ r. ⌜ r ≡ answerOf 0 n ⌝ }
-{
-    Answer {
-        number: 0,
-        wrote: n,
-    }
-}
-
-// The space left in the log.
-pub fn free_in(s: &[u8], log: &[u8]) -> usize
-    requires { ⌜ (stateEnd ≤ length (now s)) × (load (now s) .size ≤ length (now log)) ⌝ }
-    ensures { λ r. ⌜ r ≡ freeIn (now (s .entry)) (now (log .entry)) ⌝ }
-{
-    let size = state::size_of(s);
-    log.len() - size as usize
-}
-
 // ---- give
 
 // 2; 19; 1; 3; 11; 16; 9.
@@ -65,7 +34,7 @@ fn give_number(s: &[u8], log: &[u8], point: u32, destination: u32) -> u32
     }
     let x = state::point_at(s, point as u8);
     let server = state::server_of(s);
-    let free = free_in(s, log);
+    let free = lent::free_in(s, log);
     decide::give_refusal(x, server, free, destination)
 }
 
@@ -83,7 +52,7 @@ fn give_done(s: &mut [u8], log: &mut [u8], point: u8, destination: u8) -> Answer
     };
     appends::append_give(log, size as usize, g);
     apply::apply_gave(s, g, size + 8);
-    made(0)
+    lent::made(0)
 }
 
 // 2; 19; 1; 3; 11 destination is this server; 16 move number at its greatest; 9; else the point is given.
@@ -92,7 +61,7 @@ pub fn give(s: &mut [u8], log: &mut [u8], point: u32, destination: u32) -> Answe
 {
     let n = give_number(s, log, point, destination);
     if n != 0 {
-        return refused(n);
+        return lent::refused(n);
     }
     give_done(s, log, point as u8, destination as u8)
 }
@@ -119,13 +88,13 @@ pub fn receipt(s: &[u8], log: &[u8], point: u32, out: &mut [u8]) -> Answer
 {
     let n = place_number(s, log, out.len(), 8, point);
     if n != 0 {
-        return refused(n);
+        return lent::refused(n);
     }
     let x = state::point_at(s, point as u8);
     let mark = state::mark_of(s);
     let m = decide::receipt_refusal(x, mark);
     if m != 0 {
-        return refused(m);
+        return lent::refused(m);
     }
     let server = state::server_of(s);
     let q = Receipt {
@@ -134,7 +103,7 @@ pub fn receipt(s: &[u8], log: &[u8], point: u32, out: &mut [u8]) -> Answer
         number: x.taken,
     };
     packets::write_receipt(out, q);
-    made(8)
+    lent::made(8)
 }
 
 // 2; 19; 1; 3 not given, or released; 7 give not synced; else the image of the point.
@@ -143,16 +112,16 @@ pub fn image(s: &[u8], log: &[u8], point: u32, out: &mut [u8]) -> Answer
 {
     let n = place_number(s, log, out.len(), image_rows::GREATEST_IMAGE, point);
     if n != 0 {
-        return refused(n);
+        return lent::refused(n);
     }
     let x = state::point_at(s, point as u8);
     let mark = state::mark_of(s);
     let m = decide::image_refusal(x, mark);
     if m != 0 {
-        return refused(m);
+        return lent::refused(m);
     }
     let size = image_state::write_image(out, s, point as u8);
-    made(size as u32)
+    lent::made(size as u32)
 }
 
 // ---- release
@@ -170,7 +139,7 @@ fn release_done(s: &mut [u8], log: &mut [u8], point: u8) -> Answer
     };
     appends::append_release(log, size as usize, q);
     apply::apply_released(s, q, size + 8);
-    made(0)
+    lent::made(0)
 }
 
 // By a receipt: 3 not given, or released; 12 receipt's move below the given move; 9; else the point is released.
@@ -179,10 +148,10 @@ fn release_by(s: &mut [u8], log: &mut [u8], q: Receipt) -> Answer
     ensures { λ r. ⌜ after r (now (s .exit)) (now (log .exit)) [] ≡ settle (now (s .entry)) (now (log .entry)) [] (decideRelease (load (now (s .entry))) (freeIn (now (s .entry)) (now (log .entry))) (q .point) (q .number)) ⌝ }
 {
     let x = state::point_at(s, q.point);
-    let free = free_in(s, log);
+    let free = lent::free_in(s, log);
     let n = decide::release_refusal(x, free, q.number);
     if n != 0 {
-        return refused(n);
+        return lent::refused(n);
     }
     release_done(s, log, q.point)
 }
@@ -193,13 +162,13 @@ fn release_on(s: &mut [u8], log: &mut [u8], p: Packet) -> Answer
     ensures { λ r. ⌜ after r (now (s .exit)) (now (log .exit)) [] ≡ settle (now (s .entry)) (now (log .entry)) [] (onRelease (load (now (s .entry))) (freeIn (now (s .entry)) (now (log .entry))) p) ⌝ }
 {
     match p {
-        Packet::Malformed => refused(1),
-        Packet::Requested(_) => refused(1),
-        Packet::Resulted(_) => refused(1),
-        Packet::Refused(_) => refused(1),
+        Packet::Malformed => lent::refused(1),
+        Packet::Requested(_) => lent::refused(1),
+        Packet::Resulted(_) => lent::refused(1),
+        Packet::Refused(_) => lent::refused(1),
         Packet::Receipted(q) => release_by(s, log, q),
-        Packet::Noticed(_) => refused(1),
-        Packet::Granted(_) => refused(1),
+        Packet::Noticed(_) => lent::refused(1),
+        Packet::Granted(_) => lent::refused(1),
     }
 }
 
@@ -209,7 +178,7 @@ pub fn release(s: &mut [u8], log: &mut [u8], packet: &[u8]) -> Answer
 {
     let n = lent::lent_refusal(s, log, 0, 0);
     if n != 0 {
-        return refused(n);
+        return lent::refused(n);
     }
     let p = parser::parse_packet(packet);
     release_on(s, log, p)

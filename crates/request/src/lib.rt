@@ -141,7 +141,7 @@ fn execute(s: &mut [u8], log: &mut [u8], x: Executed) -> Answer
     let size = state::size_of(s);
     appends::append_executed(log, size as usize, x);
     apply::apply_executed(s, x, size + 28);
-    serve::made(0)
+    lent::made(0)
 }
 
 // A well-formed request, once the tests of lent memory are passed.
@@ -149,7 +149,7 @@ fn requested(s: &mut [u8], log: &mut [u8], q: Request, out: &mut [u8]) -> Answer
     requires { ⌜ Fit (now s) (now log) (length (now out)) 16 × GoodRequest q ⌝ }
     ensures { λ r. ⌜ after r (now (s .exit)) (now (log .exit)) (now (out .exit)) ≡ settle (now (s .entry)) (now (log .entry)) (now (out .entry)) (withPacket q (decideRequest (load (now (s .entry))) (freeIn (now (s .entry)) (now (log .entry))) q)) ⌝ }
 {
-    let free = serve::free_in(s, log);
+    let free = lent::free_in(s, log);
     let d = request_decision(s, free, q);
     match d {
         Decision::Refuse(n) => deny(out, n, q),
@@ -165,11 +165,11 @@ pub fn request(s: &mut [u8], log: &mut [u8], packet: &[u8], out: &mut [u8]) -> A
 {
     let k = lent::lent_refusal(s, log, out.len(), 16);
     if k != 0 {
-        return serve::refused(k);
+        return lent::refused(k);
     }
     let p = parser::parse_packet(packet);
     let Packet::Requested(q) = p else {
-        return serve::refused(1);
+        return lent::refused(1);
     };
     requested(s, log, q, out)
 }

@@ -17,28 +17,6 @@ ghost use Rattle.model.specs.Decisions.{resultOfRecord, decideNotice};
 ghost use Rattle.model.specs.Operations.{answerOf, after, settle, freeIn, syncOf, fetchOf, noticeOf};
 ghost use Rattle.state.specs.Canonical.{Canonical};
 
-// ---- answers
-
-// A refusal's number, and no packet.
-pub fn refused(n: u32) -> Answer
-    ensures { λ r. ⌜ r ≡ answerOf n 0 ⌝ }
-{
-    Answer {
-        number: n,
-        wrote: 0,
-    }
-}
-
-// Not refused, and n bytes written.
-pub fn made(n: u32) -> Answer
-    ensures { λ r. ⌜ r ≡ answerOf 0 n ⌝ }
-{
-    Answer {
-        number: 0,
-        wrote: n,
-    }
-}
-
 // ---- sync
 
 // 2; 19; 10 below the present mark or above the log's length; else the mark is set.
@@ -47,16 +25,16 @@ pub fn sync(s: &mut [u8], log: &[u8], mark: u64) -> Answer
 {
     let n = lent::lent_refusal(s, log, 0, 0);
     if n != 0 {
-        return refused(n);
+        return lent::refused(n);
     }
     let present = state::mark_of(s);
     let size = state::size_of(s);
     let m = decide::sync_refusal(present, size, mark);
     if m != 0 {
-        return refused(m);
+        return lent::refused(m);
     }
     state::set_mark(s, mark);
-    made(0)
+    lent::made(0)
 }
 
 // ---- fetch
@@ -81,7 +59,7 @@ pub fn reply(out: &mut [u8], x: Completion) -> Answer
     ensures { λ r. ⌜ (r ≡ answerOf 0 16) × (now (out .exit) ≡ written (now (out .entry)) 0 (resultBytes (resultOfRecord x))) ⌝ }
 {
     packets::write_result(out, result_of(x));
-    made(16)
+    lent::made(16)
 }
 
 // 2; 19; 17 none held; 7 not synced; else the result packet.
@@ -90,16 +68,16 @@ pub fn fetch(s: &[u8], log: &[u8], client: u32, call: u32, out: &mut [u8]) -> An
 {
     let n = lent::lent_refusal(s, log, out.len(), 16);
     if n != 0 {
-        return refused(n);
+        return lent::refused(n);
     }
     let f = record_table::find(s, client, call);
     match f {
-        Found::Nothing => refused(17),
+        Found::Nothing => lent::refused(17),
         Found::At(x) => {
             let mark = state::mark_of(s);
             let m = decide::fetch_refusal(mark, x);
             if m != 0 {
-                return refused(m);
+                return lent::refused(m);
             }
             reply(out, x)
         }
@@ -108,30 +86,21 @@ pub fn fetch(s: &[u8], log: &[u8], client: u32, call: u32, out: &mut [u8]) -> An
 
 // ---- notice
 
-// The space left in the log.
-pub fn free_in(s: &[u8], log: &[u8]) -> usize
-    requires { ⌜ Canonical (now s) × (load (now s) .size ≤ length (now log)) ⌝ }
-    ensures { λ r. ⌜ r ≡ freeIn (now (s .entry)) (now (log .entry)) ⌝ }
-{
-    let size = state::size_of(s) as usize;
-    log.len() - size
-}
-
 // 17 client not known; 9; else the client is gone.
 fn noticed(s: &mut [u8], log: &mut [u8], n: Notice) -> Answer
     requires { ⌜ Canonical (now s) × (load (now s) .size ≤ length (now log)) ⌝ }
     ensures { λ r. ⌜ after r (now (s .exit)) (now (log .exit)) [] ≡ settle (now (s .entry)) (now (log .entry)) [] (decideNotice (load (now (s .entry))) (freeIn (now (s .entry)) (now (log .entry))) n) ⌝ }
 {
     let floor = client_table::floor_in(s, n.client);
-    let free = free_in(s, log);
+    let free = lent::free_in(s, log);
     let m = decide::notice_refusal(floor, free);
     if m != 0 {
-        return refused(m);
+        return lent::refused(m);
     }
     let size = state::size_of(s);
     appends::append_gone(log, size as usize, n);
     apply::apply_gone(s, n, size + 12);
-    made(0)
+    lent::made(0)
 }
 
 // 2; 19; 1 malformed or no notice; 17; 9.
@@ -140,11 +109,11 @@ pub fn notice(s: &mut [u8], log: &mut [u8], packet: &[u8]) -> Answer
 {
     let k = lent::lent_refusal(s, log, 0, 0);
     if k != 0 {
-        return refused(k);
+        return lent::refused(k);
     }
     let p = parser::parse_packet(packet);
     let Packet::Noticed(n) = p else {
-        return refused(1);
+        return lent::refused(1);
     };
     noticed(s, log, n)
 }

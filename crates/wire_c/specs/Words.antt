@@ -1,6 +1,6 @@
 -- Packets as eight numbers: the kind, the fields in the paper's order, 0 for the rest; signed fields in two's complement.
 -- Assumes nothing.
-use Prim.Native.Nat.{ℕ, _+_, _%_}
+use Prim.Native.Nat.{ℕ, _%_}
 use mathlib.Core.Bool.{Bool}
 use mathlib.Core.List.{List, _++_}
 use lib.ListN.{length}
@@ -80,7 +80,3 @@ putting w out = pick (ltb (length out) 24) (after 0 out) (after (length (packetB
 
 unfoldable pub writing : List ℕ → List ℕ → After
 writing s out = pick (ltb (length s) 32) (after 0 out) (putting (wordsAt s) out)
-
--- of a benchmark: every field counts, and no byte is written
-abbrev pub wordsSum : Words → ℕ
-wordsSum w = w .kind + w .first + w .second + w .third + w .fourth + w .fifth + w .sixth + w .seventh

@@ -11,8 +11,7 @@ ghost use mathlib.Core.Path.{_≡_};
 ghost use Prim.Native.Nat.{_≤_, _%_};
 ghost use lib.ListN.{length};
 ghost use Rattle.model.specs.Tables.{written};
-ghost use Rattle.wire_c.specs.Words.{eight, wordsAt, wordsBytes, wordsOf, packetOf, requestOf, resultOf, refusalOf, receiptOf, after, parsing, putting, writing, wordsSum};
-ghost use Rattle.model.specs.Packets.{parsePacket};
+ghost use Rattle.wire_c.specs.Words.{eight, wordsAt, wordsBytes, wordsOf, packetOf, requestOf, resultOf, refusalOf, receiptOf, after, parsing, putting, writing};
 
 pub struct Words {
     pub kind: u32,
@@ -211,19 +210,6 @@ fn put(out: &mut [u8], w: Words) -> u32
     packets::write_packet(out, packet_of(w))
 }
 
-fn sum(w: Words) -> u64
-    ensures { λ r. ⌜ r ≡ wordsSum w ⌝ }
-{
-    w.kind as u64
-        + w.first as u64
-        + w.second as u64
-        + w.third as u64
-        + w.fourth as u64
-        + w.fifth as u64
-        + w.sixth as u64
-        + w.seventh as u64
-}
-
 // ---- exported
 
 // Parses a packet into numbers of at least 32 bytes; the answer is the kind, 0 for a malformed packet or too short a slice.
@@ -269,12 +255,4 @@ pub extern "C" fn wire_put(
         out,
         numbered(kind, first, second, third, fourth, fifth, sixth, seventh),
     )
-}
-
-// Parses a packet and adds up its eight numbers; 0 for a malformed one.
-#[no_mangle]
-pub extern "C" fn wire_sum(packet: &[u8]) -> u64
-    ensures { λ r. ⌜ r ≡ wordsSum (wordsOf (parsePacket (now (packet .entry)))) ⌝ }
-{
-    sum(words_of(parser::parse_packet(packet)))
 }

@@ -1,9 +1,9 @@
--- `moves::free_in` meets its contract.
+-- `lent::free_in` meets its contract.
 -- Assumes nothing.
 use Rattle.model.specs.Operations.{freeIn}
 use borrow.Author.Needs.{needs}
-use Rattle.moves.proofs.free_in.Statement.{statement}
-use Rattle.moves.proofs.free_in.Tie as tie
+use Rattle.lent.proofs.free_in.Statement.{statement}
+use Rattle.lent.proofs.free_in.Tie as tie
 
 returns : tie.Need-returns
 unfolding freeIn

@@ -1,0 +1,2 @@
+-- What the contracts of `bench_c` cite.
+pub mod Sums

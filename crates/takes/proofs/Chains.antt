@@ -1,0 +1,138 @@
+-- Take as a chain of refusals, and what it does at the chain's end.
+--     take-is, take-malformed, take-read     by what the image's reader answers
+--     taking                                 what is known then
+--     take-chain, take-ready                 the other refusals, by their number
+--     take-sized, take-room, take-bounds, take-settled     the record appended and applied
+-- Assumes nothing.
+use Prim.Native.Nat.{ℕ, _+_, _*_, _≤_, _<_}
+use mathlib.Core.Path.{_≡_, refl, sym, ap, _∙_}
+use mathlib.Core.Bool.{Bool, true, false, _&&_, not}
+use mathlib.Core.List.{List, [], _∷_}
+use mathlib.Core.Option.{some}
+use native.Mathlib.Omega.{arith}
+use lib.ListN.{length}
+use borrow.Author.Tests.{leb-true}
+use Rattle.model.specs.declared.Answer.{Answer}
+use Rattle.model.specs.declared.ImageHead.{ImageHead}
+use Rattle.model.specs.Choice.{pick, refuse, append}
+use Rattle.model.specs.Numbers.{word}
+use Rattle.model.specs.Limits.{clientCount, recordCount, takeHead}
+use Rattle.model.specs.Tables.{written, every}
+use Rattle.model.specs.Plan.{entryAt}
+use Rattle.model.specs.Images.{Image, imageHeadOf, imageAt, imageOk, imageInRange, imageLength, parseImage, imageTablesOk, floorOk, clientsAscend, imageEntryOk, idsAscend}
+use Rattle.model.specs.Logs.{took, recordBytes, recordSize}
+use Rattle.model.specs.States.{State, load, pointAt}
+use Rattle.model.specs.Apply.{applyRecord, applyTook, mergeFloors}
+use Rattle.model.specs.Decisions.{Decided, freeFor, decideTake, onTake}
+use Rattle.model.specs.Operations.{answerOf, after, settle, stored, freeIn, takeOf}
+use Rattle.laws.specs.Bytes.{Bytes}
+use Rattle.laws.proofs.Tests.{and-left, and-right}
+use Rattle.laws.proofs.Images.{tested, placed}
+use Rattle.limits.specs.Sound.{Sound, GoodImage}
+use Rattle.limits.specs.History.{Decides, byTake}
+use Rattle.limits.proofs.Decided.{take-space}
+use Rattle.limits.proofs.Kept.{decided-sound}
+use Rattle.limits.proofs.Loaded.{loaded-sound}
+use Rattle.limits.proofs.Formats.{parsed-image}
+use Rattle.state.proofs.Chains.{canonical-sound}
+use Rattle.decide.specs.Tests.{byNumber, takeRefusal, spaceRefusal}
+use Rattle.decide.proofs.Decided.{take-decided}
+use Rattle.lent.specs.Memory.{lentRefusal, Fit}
+use Rattle.lent.proofs.Settled.{lent-number}
+use Rattle.images.specs.declared.ImageRead.the-variants.{Malformed, Head}
+use Rattle.images.specs.Answers.{readOf}
+use Rattle.images.proofs.Whole.{read-ok, read-none, floor-count, entry-count}
+use Rattle.moves.proofs.Chains.{first-by, pick-by, by-zero}
+use Rattle.takes.specs.Taking.{Taking, takeNumber}
+
+module _ (s log b : List ℕ) where
+  pub take-is : takeOf s log b ≡ settle s log [] (byNumber (lentRefusal s log 0 0) (onTake (load s) (freeIn s log) (parseImage b)))
+  unfolding takeOf
+  take-is = ap (settle s log []) (lent-number s log [] 0 (onTake (load s) (freeIn s log) (parseImage b)))
+
+  pub take-malformed : Malformed ≡ readOf (parseImage b) → {r : Answer} → r ≡ answerOf 1 0 → after r s log [] ≡ settle s log [] (onTake (load s) (freeIn s log) (parseImage b))
+  unfolding parseImage onTake settle
+  take-malformed e q = rw (read-none b e, q)
+
+  module _ (h : ImageHead) where
+    parsed : Head h ≡ readOf (parseImage b) → parseImage b ≡ some (imageAt h b)
+    unfolding parseImage
+    parsed e = let k = read-ok b h e in rw (k .ok, k .head)
+
+    pub take-read : Head h ≡ readOf (parseImage b) → onTake (load s) (freeIn s log) (parseImage b) ≡ decideTake (load s) (freeIn s log) (imageAt h b)
+    unfolding onTake
+    take-read e = rw (parsed e)
+
+    ascending : (i : Image) → imageTablesOk i ≡ true → clientsAscend (i .floors) ≡ true
+    unfolding imageTablesOk
+    ascending i e =
+        let a = every floorOk (i .floors) in
+        let c = every (imageEntryOk (i .point) (i .floors)) (i .entries) && idsAscend (i .entries) in
+        and-left (clientsAscend (i .floors)) c (and-right a (clientsAscend (i .floors) && c) e)
+
+    pub taking : Fit s log 0 0 → Bytes s → Bytes b → Head h ≡ readOf (parseImage b) → Taking s log b h
+    unfolding imageAt
+    taking F w v e =
+        let k = read-ok b h e in
+        let t = tested b (k .ok) in
+        let G : GoodImage (imageAt h b) = parsed-image b (imageAt h b) v (parsed e) in
+        record {
+          canonical = canonical-sound s w (F .sound);
+          state = loaded-sound s w (F .sound);
+          logged = F .logged;
+          ok = k .ok;
+          head = k .head;
+          good = G;
+          point = G .point;
+          size = rw (k .head) (placed (imageHeadOf b) b (t .parts) .size);
+          most = k .most;
+          ascending = ascending (imageAt h b) (rw (k .head) (t .tables));
+        }
+
+    -- ---- the other refusals
+
+    abbrev brought : Image
+    brought = imageAt h b
+
+    take-by : (st : State) (free : ℕ) → decideTake st free brought ≡ byNumber (takeNumber st free brought h) (append (took brought))
+    unfolding takeNumber imageAt
+    take-by st free =
+        take-decided st free brought h refl refl
+        ∙ ap (byNumber (takeRefusal (pointAt st (brought .point)) (st .server) (imageInRange (entryAt (st .plan) (brought .point)) brought) h))
+        (pick-by (not (every (freeFor (brought .point) (st .records)) (brought .entries))) 13 _ (append (took brought)) refl)
+        ∙ first-by _ _ (append (took brought))
+
+    pub take-chain : settle s log [] (decideTake (load s) (freeIn s log) brought) ≡ settle s log [] (byNumber (takeNumber (load s) (freeIn s log) brought h) (append (took brought)))
+    take-chain = ap (settle s log []) (take-by (load s) (freeIn s log))
+
+    pub take-ready : {n : ℕ} → n ≡ takeNumber (load s) (freeIn s log) brought h → n ≡ 0 → decideTake (load s) (freeIn s log) brought ≡ append (took brought)
+    take-ready q z = take-by (load s) (freeIn s log) ∙ by-zero _ (append (took brought)) (sym q ∙ z)
+
+    -- ---- the record
+
+    module _ (T : Taking s log b h) where
+      pub take-sized : imageLength brought ≡ length b
+      unfolding imageLength
+      take-sized = omega (arith, floor-count h b, entry-count h b, T .size)
+
+      module _ (e : decideTake (load s) (freeIn s log) brought ≡ append (took brought)) where
+        pub take-room : load s .size + 8 + length b ≤ length log
+        unfolding freeIn
+        take-room = omega (arith, T .logged, take-sized, take-space (load s) (freeIn s log) brought (took brought) e)
+
+        left : {k : ℕ} → k ≡ load s .size → k + 8 + length b < word * word → Sound (applyTook brought (k + 8 + length b) (load s))
+        unfolding applyRecord recordSize
+        left {k} p l =
+            let q : load s .size + (takeHead + imageLength brought) ≡ k + 8 + length b = omega (arith, p, take-sized) in
+            rw q at (decided-sound (load s) (freeIn s log) (took brought) (T .state) (byTake brought (T .good) e) (omega (arith, l, q)))
+
+        pub take-bounds : {k : ℕ} → k ≡ load s .size → k + 8 + length b < word * word
+            → (length (applyTook brought (k + 8 + length b) (load s) .floors) ≤ clientCount) × (length (applyTook brought (k + 8 + length b) (load s) .records) ≤ recordCount)
+        take-bounds p l = let S = left p l in (S .clients, S .count)
+
+      pub take-settled : {k : ℕ} {r : Answer} {t l : List ℕ} → k ≡ load s .size → t ≡ stored s (applyTook brought (k + 8 + length b) (load s))
+          → l ≡ written log k (recordBytes (took (imageAt (imageHeadOf b) b))) → r ≡ answerOf 0 0 → after r t l [] ≡ settle s log [] (append (took brought))
+      unfolding settle recordSize applyRecord
+      take-settled {k} a x y z =
+          let q : k + 8 + length b ≡ load s .size + (takeHead + imageLength brought) = omega (arith, a, take-sized) in
+          rw (x, y, z, q, a, T .head)

@@ -1,0 +1,3 @@
+-- Laws that the proofs of `takes` cite.
+pub mod Ids
+pub mod Chains

@@ -1,0 +1,2 @@
+-- What the contracts of `takes` cite beside `model`.
+pub mod Taking
