@@ -1,12 +1,12 @@
 -- Each call as a chain of refusals, and what it does at the chain's end.
---     first-by, pick-by       numbers one behind the other
+--     first-by, pick-by       numbers one behind the other; by-zero: none of them
 --     first-no, first-yes     the first test in code; first-zero: both are passed
 --     places-good             a point and a server number in range
 --     give-is, give-ready, give-settled
 --     receipt-is, image-is, place-ready, receipt-done, image-done, image-most
 --     release-is, release-chain, release-room, release-settled, release-placed
 -- Assumes nothing.
-use Prim.Native.Nat.{ℕ, suc, _+_, _*_, _≤_, _<_}
+use Prim.Native.Nat.{ℕ, suc, _+_, _≤_}
 use mathlib.Core.Path.{_≡_, refl, sym, ap, _∙_}
 use mathlib.Core.Bool.{Bool, true, false, false≢true}
 use mathlib.Core.List.{List, []}

@@ -6,36 +6,35 @@
 -- Assumes nothing.
 use Prim.Native.Nat.{ℕ, _+_, _*_, _≤_, _<_}
 use mathlib.Core.Path.{_≡_, refl, sym, ap, _∙_}
-use mathlib.Core.Bool.{Bool, true, false, _&&_, not}
-use mathlib.Core.List.{List, [], _∷_}
+use mathlib.Core.Bool.{true, _&&_, not}
+use mathlib.Core.List.{List, []}
 use mathlib.Core.Option.{some}
 use native.Mathlib.Omega.{arith}
 use lib.ListN.{length}
-use borrow.Author.Tests.{leb-true}
 use Rattle.model.specs.declared.Answer.{Answer}
 use Rattle.model.specs.declared.ImageHead.{ImageHead}
-use Rattle.model.specs.Choice.{pick, refuse, append}
+use Rattle.model.specs.Choice.{append}
 use Rattle.model.specs.Numbers.{word}
 use Rattle.model.specs.Limits.{clientCount, recordCount, takeHead}
 use Rattle.model.specs.Tables.{written, every}
 use Rattle.model.specs.Plan.{entryAt}
-use Rattle.model.specs.Images.{Image, imageHeadOf, imageAt, imageOk, imageInRange, imageLength, parseImage, imageTablesOk, floorOk, clientsAscend, imageEntryOk, idsAscend}
+use Rattle.model.specs.Images.{Image, imageHeadOf, imageAt, imageInRange, imageLength, parseImage, imageTablesOk, floorOk, clientsAscend, imageEntryOk, idsAscend}
 use Rattle.model.specs.Logs.{took, recordBytes, recordSize}
 use Rattle.model.specs.States.{State, load, pointAt}
-use Rattle.model.specs.Apply.{applyRecord, applyTook, mergeFloors}
-use Rattle.model.specs.Decisions.{Decided, freeFor, decideTake, onTake}
+use Rattle.model.specs.Apply.{applyRecord, applyTook}
+use Rattle.model.specs.Decisions.{freeFor, decideTake, onTake}
 use Rattle.model.specs.Operations.{answerOf, after, settle, stored, freeIn, takeOf}
 use Rattle.laws.specs.Bytes.{Bytes}
 use Rattle.laws.proofs.Tests.{and-left, and-right}
 use Rattle.laws.proofs.Images.{tested, placed}
 use Rattle.limits.specs.Sound.{Sound, GoodImage}
-use Rattle.limits.specs.History.{Decides, byTake}
+use Rattle.limits.specs.History.{byTake}
 use Rattle.limits.proofs.Decided.{take-space}
 use Rattle.limits.proofs.Kept.{decided-sound}
 use Rattle.limits.proofs.Loaded.{loaded-sound}
 use Rattle.limits.proofs.Formats.{parsed-image}
 use Rattle.state.proofs.Chains.{canonical-sound}
-use Rattle.decide.specs.Tests.{byNumber, takeRefusal, spaceRefusal}
+use Rattle.decide.specs.Tests.{byNumber, takeRefusal}
 use Rattle.decide.proofs.Decided.{take-decided}
 use Rattle.lent.specs.Memory.{lentRefusal, Fit}
 use Rattle.lent.proofs.Settled.{lent-number}

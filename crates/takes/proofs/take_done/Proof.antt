@@ -1,7 +1,6 @@
 -- `takes::take_done` meets its contract.
 -- Assumes nothing.
 use native.Mathlib.Omega.{arith}
-use mathlib.Core.Path.{refl}
 use Rattle.takes.proofs.Chains.{take-room, take-bounds, take-settled}
 use borrow.Author.Needs.{needs}
 use Rattle.takes.proofs.take_done.Statement.{statement}
