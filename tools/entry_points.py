@@ -11,16 +11,29 @@ ENTRY = {
     'command': 'plan_ok checked_rule',
     'images': 'image_ok image_read',
     'records': 'head_ok extent_at read_at',
+    'soundness': 'state_ok',
+    'lent': 'lent_refusal',
+    'serve': 'fetch sync notice',
+    'request': 'request',
+    'moves': 'give image receipt release',
+    'takes': 'take',
+    'found': 'found',
+    'recover': 'recover',
     'client': 'start issue resend receive',
     'leases': 'open_lease renew query',
 }
 # crates of leaves: they read or write at a place that their callers have tested
-LEAF_CRATES = 'wire image_rows image_writer packets appends'.split()
+LEAF_CRATES = 'wire image_rows image_writer packets appends state_rows sound_rows floors'.split()
+# crates of parts of a call, on a buffer that the call's first tests have passed
+LEAF_CRATES += 'state record_table client_rows client_table apply apply_took image_state replay replay_took'.split()
 # leaves elsewhere: rows at a place, and what is read once an entry point has answered that it is there
 LEAVES = {
     'command': 'plan_entry plan_row_ok',
     'images': 'floor_at entry_at values_in_range image_in_range',
     'records': 'head_server record_at',
+    'lent': 'free_in',
+    'serve': 'reply',
+    'found': 'found_state',
 }
 
 os.chdir(os.path.join(os.path.dirname(os.path.abspath(__file__)), '..'))

@@ -1,5 +1,5 @@
 -- The whole recovery: founding, all records, the mark; and the operation.
---     founded-stands, ended-standing     founding leaves a sound state at the head's end; so do all records
+--     begun, ended-standing         founding leaves a sound state at the head's end; so do all records
 --     no-head, no-replay, rebuilt-done     what rebuilding answers
 --     recover-no, recover-done      the last two answers of the operation
 -- Assumes nothing.
@@ -33,7 +33,7 @@ use Rattle.limits.proofs.Loaded.{plan-good}
 use Rattle.state.proofs.Chains.{canonical-stored, load-stored, length-stored, fits-mark}
 use Rattle.replay.specs.Standing.{Standing}
 use Rattle.recover.specs.Remaining.{remaining, StandsAt, Ended}
-use Rattle.recover.specs.Rebuilt.{rebuilt, recoveredBytes}
+use Rattle.recover.specs.Rebuilt.{Begun, rebuilt, recoveredBytes}
 
 head-limit : (s : List ℕ) → headOk s ≡ true → headServer s ≤ lastServer
 unfolding headOk
@@ -70,31 +70,32 @@ module _ (log plan : List ℕ) where
     first-load : load s1 ≡ first
     first-load = ap load e ∙ load-stored s (omega arith) first (fits-of first first-sound)
 
-    pub founded-stands : StandsAt s1 8
+    pub begun : Begun log plan s1
     unfolding founded
-    founded-stands =
+    begun =
         record {
-          standing = record { canonical = rw e (canonical-stored s (omega arith) first (fits-of first first-sound)); sound = rw first-load first-sound };
-          place = ap (λ (x : State). x .size) first-load;
+          stands =
+              record {
+                standing = record { canonical = rw e (canonical-stored s (omega arith) first (fits-of first first-sound)); sound = rw first-load first-sound };
+                place = ap (λ (x : State). x .size) first-load;
+              };
+          all = from-head k ∙ ap (remaining log 8) (sym first-load);
         }
 
-    all : recoveredState (planOf plan) log ≡ remaining log 8 (load s1)
-    all = from-head k ∙ ap (remaining log 8) (sym first-load)
+module _ {log plan s1 s2 : List ℕ} {t : Bool} (w : Begun log plan s1) (d : Ended log headSize (load s1) s2 t) where
+  pub no-replay : (s : List ℕ) → t ≡ false → rebuilt false s ≡ recoveredBytes (recoveredState (planOf plan) log)
+  unfolding rebuilt recoveredBytes
+  no-replay s f = let g : remaining log 8 (load s1) ≡ none = rw f at (d .found) in rw (w .all ∙ g)
 
-    pub no-replay : {s2 : List ℕ} {t : Bool} (s' : List ℕ) → Ended log 8 (load s1) s2 t → t ≡ false → rebuilt false s' ≡ recoveredBytes (recoveredState (planOf plan) log)
-    unfolding rebuilt recoveredBytes
-    no-replay {s2} {t} s' d f = let g : remaining log 8 (load s1) ≡ none = rw f at (d .found) in rw (all ∙ g)
-
-    pub rebuilt-done : {s2 : List ℕ} {t : Bool} {n : ℕ} {s3 : List ℕ} → Ended log 8 (load s1) s2 t → t ≡ true → length s2 ≡ length s1 → n ≡ load s2 .size
-        → s3 ≡ stored s2 (withMark n (load s2)) → rebuilt true s3 ≡ recoveredBytes (recoveredState (planOf plan) log)
-    unfolding rebuilt recoveredBytes stored
-    rebuilt-done {s2} {t} {n} {s3} d f l q c =
-        let g : Standing s2 × (remaining log 8 (load s1) ≡ some (load s2)) = rw f at (d .found) in
-        let st : State = withMark (load s2 .size) (load s2) in
-        let fits : StateFits st = fits-mark (load s2) (g .0 .canonical .fits) (load s2 .size) (g .0 .canonical .fits .size) in
-        let m : length s1 ≡ length s = ap length e ∙ length-stored s first in
-        let w : s3 ≡ stateBytes st = c ∙ ap (λ (x : ℕ). written s2 0 (stateBytes (withMark x (load s2)))) q ∙ whole s2 (stateBytes st) (omega (arith, state-length st fits)) in
-        rw (all ∙ g .1, w)
+  pub rebuilt-done : {n : ℕ} {s3 : List ℕ} → t ≡ true → length s2 ≡ stateEnd → n ≡ load s2 .size → s3 ≡ stored s2 (withMark n (load s2))
+      → rebuilt true s3 ≡ recoveredBytes (recoveredState (planOf plan) log)
+  unfolding rebuilt recoveredBytes stored
+  rebuilt-done {n} {s3} f l q c =
+      let g : Standing s2 × (remaining log 8 (load s1) ≡ some (load s2)) = rw f at (d .found) in
+      let st : State = withMark (load s2 .size) (load s2) in
+      let fits : StateFits st = fits-mark (load s2) (g .0 .canonical .fits) (load s2 .size) (g .0 .canonical .fits .size) in
+      let b : s3 ≡ stateBytes st = c ∙ ap (λ (x : ℕ). written s2 0 (stateBytes (withMark x (load s2)))) q ∙ whole s2 (stateBytes st) (omega (arith, state-length st fits)) in
+      rw (w .all ∙ g .1, b)
 
 -- ---- the operation
 

@@ -10,16 +10,16 @@ use mathlib.Core.Bool.{Bool, true, false, false≢true}
 use mathlib.Core.List.{List}
 use mathlib.Core.Option.{Option, none, some}
 use native.Mathlib.Omega.{arith}
-use lib.ListN.{length, take, drop}
+use lib.ListN.{length, drop}
 use Rattle.model.specs.Choice.{pick}
 use Rattle.model.specs.Numbers.{word}
-use Rattle.model.specs.Images.{imageAt, imageHeadOf, imageOk}
+use Rattle.model.specs.Images.{imageOk}
 use Rattle.model.specs.Logs.{LogRecord, took, off, cut, spans, recordAt, recordSize}
 use Rattle.model.specs.States.{State, load}
 use Rattle.model.specs.Apply.{applyRecord}
 use Rattle.model.specs.Decisions.{follows}
 use Rattle.model.specs.Operations.{stored}
-use Rattle.laws.specs.Bytes.{Bytes}
+use Rattle.laws.specs.Bytes.{Bytes, part}
 use Rattle.laws.specs.Fits.{IsRecord}
 use Rattle.laws.proofs.Numbers.{bytes-drop}
 use Rattle.laws.proofs.Logs.{record-is}
@@ -34,7 +34,7 @@ use Rattle.records.specs.Answers.{extentMeans, extentFrom, imageIn, spanIn, rec
 use Rattle.records.proofs.Reading.{from-spans, from-inside}
 use Rattle.replay.specs.Standing.{Standing, Ready, replayed}
 use Rattle.replay.proofs.Rooms.{ready-standing}
-use Rattle.recover.specs.Remaining.{remaining, recordFollows, recordReplayed, StandsAt, Goes, Stepped, Ended}
+use Rattle.recover.specs.Remaining.{remaining, imageBetween, recordFollows, recordReplayed, StandsAt, Goes, Stepped, Ended}
 use Rattle.recover.specs.declared.Step.{Step}
 use Rattle.recover.specs.declared.Step.the-variants.{Done, Off as NotOk, Next}
 use Rattle.recover.proofs.Walks.{spans-least, remaining-cut, remaining-off, remaining-broken, remaining-next, remaining-stops}
@@ -58,8 +58,8 @@ ready s log at n r w b e q =
 pub record ImagePart (log : List ℕ) (at n : ℕ) (p : Span) : Type 0 where
   pub from : p .from ≤ p .from + p .len
   pub to : p .from + p .len ≤ length log
-  pub says : recordAt (drop at log) ≡ some (took (imageAt (imageHeadOf (take (p .from + p .len - p .from) (drop (p .from) log))) (take (p .from + p .len - p .from) (drop (p .from) log))))
-  pub ok : imageOk (take (p .from + p .len - p .from) (drop (p .from) log)) ≡ true
+  pub says : recordAt (drop at log) ≡ some (took (imageBetween log (p .from) (p .from + p .len)))
+  pub ok : imageOk (part (p .from) (p .from + p .len - p .from) log) ≡ true
 
 pub image-part : (log : List ℕ) (at n : ℕ) {x : Record} {p : Span} → Parsed log at n x → x ≡ Took p → at + n ≤ length log → ImagePart log at n p
 unfolding recordMeans spanIn imageIn
@@ -88,13 +88,13 @@ module _ (s log : List ℕ) (at end : ℕ) where
 -- ---- one step
 
 module _ (s log : List ℕ) (at : ℕ) {x : Extent} (m : extentMeans x ≡ extentFrom log at) where
-  pub off-from : x ≡ Off → remaining log at (load s) ≡ none
+  pub off-from : x ≡ Off → Stepped log at s s NotOk
   unfolding extentMeans
-  off-from e = remaining-off log at (load s) (sym m ∙ ap extentMeans e)
+  off-from e = record { found = remaining-off log at (load s) (sym m ∙ ap extentMeans e) }
 
-  pub cut-from : x ≡ Cut → remaining log at (load s) ≡ some (load s)
+  pub cut-from : x ≡ Cut → Stepped log at s s Done
   unfolding extentMeans
-  cut-from e = remaining-cut log at (load s) (sym m ∙ ap extentMeans e)
+  cut-from e = record { found = (refl, remaining-cut log at (load s) (sym m ∙ ap extentMeans e)) }
 
   pub spans-from : {n : ℕ} → x ≡ Spans n → extentFrom log at ≡ spans n
   unfolding extentMeans
@@ -114,15 +114,15 @@ module _ (s log : List ℕ) (at n : ℕ) (e : extentFrom log at ≡ spans n) {t 
   unfolding recordReplayed replayed
   changed r q y = rw (q, ← y)
 
-  pub stops : t ≡ false → remaining log at (load s) ≡ none
-  stops p = go (recordAt (drop at log)) refl
+  pub stops : (s' : List ℕ) → t ≡ false → Stepped log at s s' NotOk
+  stops s' p = record { found = go (recordAt (drop at log)) refl }
     where
       go : (o : Option LogRecord) → recordAt (drop at log) ≡ o → remaining log at (load s) ≡ none
       go none q = remaining-broken log at (load s) n e q
       go (some r) q = remaining-stops log at (load s) n e r q (sym (f ∙ followed r q) ∙ p)
 
-  pub goes : {s' : List ℕ} → StandsAt s at → Bytes log → length log < word * word → t ≡ true → s' ≡ recordReplayed (recordAt (drop at log)) (at + n) s → Goes log at s s' (at + n)
-  goes {s'} w b z p c = go (recordAt (drop at log)) refl
+  pub goes : {s' : List ℕ} → StandsAt s at → Bytes log → length log < word * word → t ≡ true → s' ≡ recordReplayed (recordAt (drop at log)) (at + n) s → Stepped log at s s' (Next (at + n))
+  goes {s'} w b z p c = record { found = go (recordAt (drop at log)) refl }
     where
       with : (r : LogRecord) → recordAt (drop at log) ≡ some r → true ≡ follows (load s) r → s' ≡ stored s (applyRecord r (at + n) (load s)) → Goes log at s s' (at + n)
       with r q y k =

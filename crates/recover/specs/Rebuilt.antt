@@ -1,11 +1,21 @@
--- The bytes of the state that a recovery gives, with the mark at the end of the records.
+-- A recovery begun; and the bytes of the state that it gives, with the mark at the end of the records.
 -- Assumes nothing.
 use Prim.Native.Nat.{ℕ}
+use mathlib.Core.Path.{_≡_}
 use mathlib.Core.Bool.{Bool, true, false}
 use mathlib.Core.List.{List}
 use mathlib.Core.Option.{Option, none, some}
-use Rattle.model.specs.States.{State, stateBytes}
+use Rattle.model.specs.Limits.{headSize}
+use Rattle.model.specs.Plan.{planOf}
+use Rattle.model.specs.States.{State, load, stateBytes}
 use Rattle.model.specs.Apply.{withMark}
+use Rattle.model.specs.Operations.{recoveredState}
+use Rattle.recover.specs.Remaining.{remaining, StandsAt}
+
+-- a buffer that holds the founded state, at the end of the log's head: what is left is the whole recovery
+pub record Begun (log plan s : List ℕ) : Type 0 where
+  pub stands : StandsAt s headSize
+  pub all : recoveredState (planOf plan) log ≡ remaining log headSize (load s)
 
 -- what a buffer holds, where the answer is yes
 unfoldable pub rebuilt : Bool → List ℕ → Option (List ℕ)

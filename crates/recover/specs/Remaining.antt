@@ -1,22 +1,28 @@
 -- What is left of a recovery: the records from a place of the log on, replayed on a state; none where one breaks its layout or cannot
 -- follow. And what one step of it leaves.
 -- Assumes nothing.
-use Prim.Native.Nat.{ℕ, _+_, _≤_, _<_}
+use Prim.Native.Nat.{ℕ, _+_, _-_, _≤_, _<_}
 use mathlib.Core.Path.{_≡_}
 use mathlib.Core.Bool.{Bool, true, false}
 use mathlib.Core.List.{List}
 use mathlib.Core.Option.{Option, none, some}
 use lib.ListN.{length, drop}
+use Rattle.model.specs.Images.{Image, imageAt, imageHeadOf}
 use Rattle.model.specs.Logs.{LogRecord, walk}
 use Rattle.model.specs.States.{State, load}
 use Rattle.model.specs.Decisions.{follows}
 use Rattle.model.specs.Operations.{recoveredAll}
+use Rattle.laws.specs.Bytes.{part}
 use Rattle.replay.specs.Standing.{Standing, replayed}
 use Rattle.recover.specs.declared.Step.{Step}
 use Rattle.recover.specs.declared.Step.the-variants.{Done, Off, Next}
 
 unfoldable pub remaining : List ℕ → ℕ → State → Option State
 remaining log at st = recoveredAll st (walk (length log) at (drop at log))
+
+-- the image between two places of the log
+abbrev pub imageBetween : List ℕ → ℕ → ℕ → Image
+imageBetween log from to = imageAt (imageHeadOf (part from (to - from) log)) (part from (to - from) log)
 
 -- ---- one record, none where it breaks its layout
 

@@ -7,18 +7,19 @@ ghost use mathlib.Core.Path.{_≡_};
 ghost use mathlib.Core.Bool.{true};
 ghost use mathlib.Core.List.{[]};
 ghost use Prim.Native.Nat.{_+_, _-_, _≤_};
-ghost use lib.ListN.{length, take, drop};
+ghost use lib.ListN.{length, drop};
 ghost use Rattle.model.specs.Limits.{stateSize};
 ghost use Rattle.model.specs.Plan.{planOk, planOf};
-ghost use Rattle.model.specs.Images.{imageAt, imageHeadOf, imageOk};
-ghost use Rattle.model.specs.Logs.{took, spans, recordAt};
+ghost use Rattle.model.specs.Images.{imageOk};
+ghost use Rattle.model.specs.Logs.{headOk, took, spans, recordAt};
 ghost use Rattle.model.specs.States.{load, stateEnd};
 ghost use Rattle.model.specs.Decisions.{follows};
 ghost use Rattle.model.specs.Operations.{after, short, recoveredState, recoverOf};
+ghost use Rattle.laws.specs.Bytes.{part};
 ghost use Rattle.records.specs.Answers.{extentFrom};
 ghost use Rattle.replay.specs.Standing.{Ready, replayed};
-ghost use Rattle.recover.specs.Remaining.{recordFollows, recordReplayed, StandsAt, Stepped, Ended};
-ghost use Rattle.recover.specs.Rebuilt.{rebuilt, recoveredBytes};
+ghost use Rattle.recover.specs.Remaining.{imageBetween, recordFollows, recordReplayed, StandsAt, Stepped, Ended};
+ghost use Rattle.recover.specs.Rebuilt.{Begun, rebuilt, recoveredBytes};
 
 // What one step of a recovery finds: no further record, one that breaks its layout or cannot follow, or the next place.
 pub enum Step {
@@ -31,8 +32,8 @@ pub enum Step {
 
 // A take of the image between two places of the log.
 fn replay_image(s: &mut [u8], log: &[u8], from: usize, to: usize, end: u64) -> bool
-    requires { ⌜ (from ≤ to) × (to ≤ length (now log)) × Ready (now s) (took (imageAt (imageHeadOf (take (to - from) (drop from (now log)))) (take (to - from) (drop from (now log))))) end × (imageOk (take (to - from) (drop from (now log))) ≡ true) ⌝ }
-    ensures { λ r. ⌜ (r ≡ follows (load (now (s .entry))) (took (imageAt (imageHeadOf (take (to - from) (drop from (now (log .entry))))) (take (to - from) (drop from (now (log .entry))))))) × (now (s .exit) ≡ replayed (took (imageAt (imageHeadOf (take (to - from) (drop from (now (log .entry))))) (take (to - from) (drop from (now (log .entry)))))) end (now (s .entry))) ⌝ }
+    requires { ⌜ (from ≤ to) × (to ≤ length (now log)) × Ready (now s) (took (imageBetween (now log) from to)) end × (imageOk (part from (to - from) (now log)) ≡ true) ⌝ }
+    ensures { λ r. ⌜ (r ≡ follows (load (now (s .entry))) (took (imageBetween (now (log .entry)) from to))) × (now (s .exit) ≡ replayed (took (imageBetween (now (log .entry)) from to)) end (now (s .entry))) ⌝ }
 {
     replay_took::replay_took(s, &log[from..to], end)
 }
@@ -56,6 +57,7 @@ fn replay_record(s: &mut [u8], log: &[u8], at: usize, n: usize) -> bool
 
 // ---- the log
 
+// One step, from a place of the log.
 fn advance(s: &mut [u8], log: &[u8], at: usize) -> Step
     requires { ⌜ StandsAt (now s) at ⌝ }
     ensures { λ r. ⌜ Stepped (now (log .entry)) at (now (s .entry)) (now (s .exit)) r ⌝ }
@@ -91,6 +93,15 @@ fn replay_log(s: &mut [u8], log: &[u8]) -> bool
 
 // ---- the operation
 
+// The state that founding leaves, for the server of the log's head.
+fn begin(work: &mut [u8], log: &[u8], plan: &[u8])
+    requires { ⌜ (length (now work) ≡ stateEnd) × (planOk (now plan) ≡ true) × (headOk (now log) ≡ true) ⌝ }
+    ensures { λ r. ⌜ Begun (now (log .entry)) (now (plan .entry)) (now (work .exit)) ⌝ }
+{
+    let server = records::head_server(log);
+    found::found_state(work, plan, server);
+}
+
 // The state that the log gives, with the mark at the end of its records, in a buffer of the state's size.
 fn rebuild(work: &mut [u8], log: &[u8], plan: &[u8]) -> bool
     requires { ⌜ (length (now work) ≡ stateEnd) × (planOk (now plan) ≡ true) ⌝ }
@@ -99,8 +110,7 @@ fn rebuild(work: &mut [u8], log: &[u8], plan: &[u8]) -> bool
     if !records::head_ok(log) {
         return false;
     }
-    let server = records::head_server(log);
-    found::found_state(work, plan, server);
+    begin(work, log, plan);
     if !replay_log(work, log) {
         return false;
     }
@@ -109,6 +119,7 @@ fn rebuild(work: &mut [u8], log: &[u8], plan: &[u8]) -> bool
     true
 }
 
+// Under 32,768 bytes.
 fn is_short(state: &[u8]) -> bool
     ensures { λ r. ⌜ r ≡ short (now (state .entry)) stateSize ⌝ }
 {

@@ -1,9 +1,10 @@
 -- A request as a chain of refusals, and what it does at the chain's end.
---     request-argument, request-point     what a well-formed request keeps
---     executed-is                          the record of its execution, from values
---     held-by, new-by, decided-by, on-none, on-at     a decision in code
---     request-is, request-other, request-one          the whole call
---     denied, answered, executes                      what is carried out
+--     request-point, request-argument     what a well-formed request keeps
+--     executed-is                         the result of its execution, from what was read
+--     refused-by, passed-by               a decision by a number
+--     on-none, on-at                      by what a search found
+--     request-is, request-other, request-one     the whole call
+--     denied, answered, executes          what is carried out
 -- Assumes nothing.
 use Prim.Native.Nat.{ℕ, _+_, _≤_}
 use mathlib.Core.Path.{_≡_, refl, sym, ap, _∙_}

@@ -1,6 +1,6 @@
 -- Each call as a chain of refusals, and what it does at the chain's end.
 --     sync-is, sync-done
---     fetch-is, fetch-none, fetch-at, replied
+--     fetch-is, fetch-number, fetch-none, fetch-at, replied
 --     found-none, found-at     what a search found
 --     notice-is, notice-other, notice-one, notice-by, notice-room, appended
 -- Assumes nothing.
@@ -59,6 +59,10 @@ pub found-at : (o : Option Completion) (x : Completion) → At x ≡ foundOf o �
 unfolding foundOf
 found-at none x e = let z : _≡_ {A = ℕ} 0 1 = cc in absurd (omega arith)
 found-at (some r) x e = let m : r ≡ x = cc in ap some m
+
+-- the refusal's number, by the mark that was read
+pub fetch-number : (x : Completion) {n k m : ℕ} → n ≡ fetchRefusal k x → k ≡ m → n ≡ fetchRefusal m x
+fetch-number x p q = p ∙ rw q
 
 module _ (s log out : List ℕ) where
   pub fetch-is : (client call : ℕ) → fetchOf s log client call out ≡ settle s log out (byNumber (lentRefusal s log (length out) 16) (onFetch (load s) client call))

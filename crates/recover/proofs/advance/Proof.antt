@@ -17,7 +17,7 @@ replay-record-requires c κs =
 returns : tie.Need-returns
 returns c =
     let start = c .before .before .before .before .before .before .before .before .before .before .before in
-    record { found = stops (start .args .s .now) (start .args .log .now) (start .args .at) _ (spans-from (start .args .s .now) (start .args .log .now) (start .args .at) (c .before .before .before .before .before .before .before .before .extent-at .ensures) (c .before .before .before .before .before .before .extent .given .1)) (c .before .before .before .replay-record .ensures .0) (not-true _ (c .if1 .taken)) }
+    stops (start .args .s .now) (start .args .log .now) (start .args .at) _ (spans-from (start .args .s .now) (start .args .log .now) (start .args .at) (c .before .before .before .before .before .before .before .before .extent-at .ensures) (c .before .before .before .before .before .before .extent .given .1)) (c .before .before .before .replay-record .ensures .0) _ (not-true _ (c .if1 .taken))
 
 add-t11 : tie.Need-add-t11
 add-t11 c =
@@ -27,20 +27,18 @@ add-t11 c =
 returns-2 : tie.Need-returns-2
 returns-2 c =
     let start = c .before .before .before .before .before in
-    record { found = off-from (start .args .s .now) (start .args .log .now) (start .args .at) (c .before .before .extent-at .ensures) (c .enum-told .given .1) }
+    off-from (start .args .s .now) (start .args .log .now) (start .args .at) (c .before .before .extent-at .ensures) (c .enum-told .given .1)
 
 returns-3 : tie.Need-returns-3
 returns-3 c =
     let start = c .before .before .before .before .before in
-    record { found = (refl, cut-from (start .args .s .now) (start .args .log .now) (start .args .at) (c .before .before .extent-at .ensures) (c .enum-told2 .given .1)) }
+    cut-from (start .args .s .now) (start .args .log .now) (start .args .at) (c .before .before .extent-at .ensures) (c .enum-told2 .given .1)
 
 returns-4 : tie.Need-returns-4
 returns-4 c =
     let start = c .before .before .before .before .before .before .before .before .before .before .before in
-    record {
-      found = goes (start .args .s .now) (start .args .log .now) (start .args .at) _ (spans-from (start .args .s .now) (start .args .log .now) (start .args .at) (c .before .before .before .before .before .before .before .before .extent-at .ensures) (c .before .before .before .before .before .before .extent .given .1)) (c .before .before .before .replay-record .ensures .0) (start .pre) (λ i. c .before .before .before .before .before .before .before .before .before .shared-slice-known .given i .fits) (omega arith) (not-false _ (c .if1 .left))
-          (c .before .before .before .replay-record .ensures .1);
-    }
+    goes (start .args .s .now) (start .args .log .now) (start .args .at) _ (spans-from (start .args .s .now) (start .args .log .now) (start .args .at) (c .before .before .before .before .before .before .before .before .extent-at .ensures) (c .before .before .before .before .before .before .extent .given .1)) (c .before .before .before .replay-record .ensures .0) (start .pre) (λ i. c .before .before .before .before .before .before .before .before .before .shared-slice-known .given i .fits) (omega arith) (not-false _ (c .if1 .left))
+    (c .before .before .before .replay-record .ensures .1)
 
 pub advance-spec : {M : Type 1} → statement M
 advance-spec =

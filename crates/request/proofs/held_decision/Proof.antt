@@ -1,6 +1,8 @@
 -- `request::held_decision` meets its contract.
 -- Assumes nothing.
-use mathlib.Core.Path.{refl, _∙_}
+use Prim.Native.Nat.{ℕ}
+use mathlib.Core.Path.{refl, ap, _∙_}
+use Rattle.decide.specs.Tests.{heldRefusal}
 use Rattle.model.specs.States.{load}
 use Rattle.decide.proofs.Decided.{held-decided}
 use Rattle.request.specs.Decisions.{decided}
@@ -12,13 +14,13 @@ use Rattle.request.proofs.held_decision.Tie as tie
 returns : tie.Need-returns
 returns c =
     let start = c .before .before .before .before .args in
-    refused-by _ (c .before .held-refusal .ensures ∙ rw (c .before .before .mark-of .ensures)) (held-decided (load (start .s .now)) (start .q) (start .x)) (c .if1 .taken) refl
+    refused-by _ (c .before .held-refusal .ensures ∙ ap (λ (mark : ℕ). heldRefusal mark (start .q) (start .x)) (c .before .before .mark-of .ensures)) (held-decided (load (start .s .now)) (start .q) (start .x)) (c .if1 .taken) refl
 
 returns-2 : tie.Need-returns-2
 unfolding decided
 returns-2 c =
     let start = c .before .before .before .before .args in
-    passed-by _ (c .before .held-refusal .ensures ∙ rw (c .before .before .mark-of .ensures)) (held-decided (load (start .s .now)) (start .q) (start .x)) (c .if1 .left) refl
+    passed-by _ (c .before .held-refusal .ensures ∙ ap (λ (mark : ℕ). heldRefusal mark (start .q) (start .x)) (c .before .before .mark-of .ensures)) (held-decided (load (start .s .now)) (start .q) (start .x)) (c .if1 .left) refl
 
 pub held-decision-spec : {M : Type 1} → statement M
 held-decision-spec = tie.close (tie.spec (λ c κs. search needs) (λ c κs. search needs) returns returns-2)

@@ -2,7 +2,7 @@
 -- Assumes nothing.
 use mathlib.Core.Path.{sym, _∙_}
 use Rattle.lent.proofs.Settled.{by-refused, by-passed, passed-fit, passed-long, passed-canonical}
-use Rattle.serve.proofs.Chains.{fetch-is, fetch-none, fetch-at, replied}
+use Rattle.serve.proofs.Chains.{fetch-is, fetch-number, fetch-none, fetch-at, replied}
 use borrow.Author.Needs.{needs}
 use Rattle.serve.proofs.fetch.Statement.{statement}
 use Rattle.serve.proofs.fetch.Tie as tie
@@ -23,7 +23,7 @@ returns-2 c =
     let start = c .before .before .before .before .before .before .before .before .before .before .before .before .before .args in
     by-passed (start .s .now) (start .log .now) (start .out .now) _ (c .before .before .before .before .before .before .before .before .before .lent-refusal .ensures) (c .before .before .before .before .before .before .before .before .if1 .left)
     (fetch-at (start .s .now) (start .log .now) (start .out .now) (start .client) (start .call) _ (c .before .before .before .before .before .before .before .find .ensures) (c .before .before .before .before .before .f .given .1)
-    (by-refused (start .s .now) (start .log .now) (start .out .now) _ (c .before .before .fetch-refusal .ensures ∙ rw (c .before .before .before .mark-of .ensures)) (c .before .if2 .taken) (c .refused3 .ensures)))
+    (by-refused (start .s .now) (start .log .now) (start .out .now) _ (fetch-number _ (c .before .before .fetch-refusal .ensures) (c .before .before .before .mark-of .ensures)) (c .before .if2 .taken) (c .refused3 .ensures)))
     ∙ sym (fetch-is (start .s .now) (start .log .now) (start .out .now) (start .client) (start .call))
 
 reply-requires : tie.Need-reply-requires
@@ -41,7 +41,7 @@ returns-4 c =
     let start = c .before .before .before .before .before .before .before .before .before .before .before .before .before .before .before .before .args in
     by-passed (start .s .now) (start .log .now) (start .out .now) _ (c .before .before .before .before .before .before .before .before .before .before .before .before .lent-refusal .ensures) (c .before .before .before .before .before .before .before .before .before .before .before .if1 .left)
     (fetch-at (start .s .now) (start .log .now) (start .out .now) (start .client) (start .call) _ (c .before .before .before .before .before .before .before .before .before .before .find .ensures) (c .before .before .before .before .before .before .before .before .f .given .1)
-    (by-passed (start .s .now) (start .log .now) (start .out .now) _ (c .before .before .before .before .before .fetch-refusal .ensures ∙ rw (c .before .before .before .before .before .before .mark-of .ensures)) (c .before .before .before .before .if2 .left)
+    (by-passed (start .s .now) (start .log .now) (start .out .now) _ (fetch-number _ (c .before .before .before .before .before .fetch-refusal .ensures) (c .before .before .before .before .before .before .mark-of .ensures)) (c .before .before .before .before .if2 .left)
     (replied (start .s .now) (start .log .now) (start .out .now) _ (c .before .before .reply .ensures .0) (c .before .before .reply .ensures .1))))
     ∙ sym (fetch-is (start .s .now) (start .log .now) (start .out .now) (start .client) (start .call))
 
