@@ -14,7 +14,12 @@ fn word_of(a: Answer) -> u64
 
 // Founds a server: its first state, and the head of its log.
 #[no_mangle]
-pub extern "C" fn mantelorris_found(state: &mut [u8], log: &mut [u8], plan: &[u8], cabinet: u32) -> u64
+pub extern "C" fn mantelorris_found(
+    state: &mut [u8],
+    log: &mut [u8],
+    plan: &[u8],
+    cabinet: u32,
+) -> u64
     ensures { λ r. ⌜ returned r (now (state .exit)) (now (log .exit)) [] ≡ inC (foundOf (now (state .entry)) (now (log .entry)) (now (plan .entry)) cabinet) ⌝ }
 {
     word_of(found::found(state, log, plan, cabinet))
@@ -22,7 +27,12 @@ pub extern "C" fn mantelorris_found(state: &mut [u8], log: &mut [u8], plan: &[u8
 
 // A request packet: executed, answered from its completion record, or refused.
 #[no_mangle]
-pub extern "C" fn mantelorris_request(state: &mut [u8], log: &mut [u8], packet: &[u8], out: &mut [u8]) -> u64
+pub extern "C" fn mantelorris_request(
+    state: &mut [u8],
+    log: &mut [u8],
+    packet: &[u8],
+    out: &mut [u8],
+) -> u64
     ensures { λ r. ⌜ returned r (now (state .exit)) (now (log .exit)) (now (out .exit)) ≡ inC (requestOf (now (state .entry)) (now (log .entry)) (now (packet .entry)) (now (out .entry))) ⌝ }
 {
     word_of(request::request(state, log, packet, out))
@@ -30,7 +40,13 @@ pub extern "C" fn mantelorris_request(state: &mut [u8], log: &mut [u8], packet: 
 
 // The result packet of a completion record.
 #[no_mangle]
-pub extern "C" fn mantelorris_fetch(state: &[u8], log: &[u8], client: u32, call: u32, out: &mut [u8]) -> u64
+pub extern "C" fn mantelorris_fetch(
+    state: &[u8],
+    log: &[u8],
+    client: u32,
+    call: u32,
+    out: &mut [u8],
+) -> u64
     ensures { λ r. ⌜ returned r (now (state .entry)) (now (log .entry)) (now (out .exit)) ≡ inC (fetchOf (now (state .entry)) (now (log .entry)) client call (now (out .entry))) ⌝ }
 {
     word_of(serve::fetch(state, log, client, call, out))
@@ -54,7 +70,12 @@ pub extern "C" fn mantelorris_notice(state: &mut [u8], log: &mut [u8], packet: &
 
 // Gives a point to another server.
 #[no_mangle]
-pub extern "C" fn mantelorris_give(state: &mut [u8], log: &mut [u8], point: u32, destination: u32) -> u64
+pub extern "C" fn mantelorris_give(
+    state: &mut [u8],
+    log: &mut [u8],
+    point: u32,
+    destination: u32,
+) -> u64
     ensures { λ r. ⌜ returned r (now (state .exit)) (now (log .exit)) [] ≡ inC (giveOf (now (state .entry)) (now (log .entry)) point destination) ⌝ }
 {
     word_of(moves::give(state, log, point, destination))

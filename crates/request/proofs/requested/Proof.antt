@@ -15,7 +15,7 @@ use Rattle.request.proofs.requested.Statement.{statement}
 use Rattle.request.proofs.requested.Tie as tie
 
 free-in-requires : tie.Need-free-in-requires
-free-in-requires c κs = (canonical-sound _ (λ i. c .before .before .before .before .slice-known .given i .fits) (c .before .before .before .before .before .pre .0 .sound), c .before .before .before .before .before .pre .0 .logged)
+free-in-requires c κs = let start = c .before .before .before .before .before in (omega (arith, start .pre .0 .long), start .pre .0 .logged)
 
 request-decision-requires : tie.Need-request-decision-requires
 request-decision-requires c κs = (canonical-sound _ (λ i. c .before .before .before .before .before .before .slice-known .given i .fits) (c .before .before .before .before .before .before .before .pre .0 .sound), c .before .before .before .before .before .before .before .pre .1)
