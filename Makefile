@@ -9,5 +9,5 @@ test:
 	@tools/test.sh
 
 bench:
-	@tools/staticlib.sh test_c bench_c client_c image_state_c >/dev/null
+	@tools/staticlib.sh test_c bench_c client_c image_state_c kernel >/dev/null
 	@cargo run --release --quiet --offline --manifest-path compare/Cargo.toml --bin bench

@@ -3,7 +3,7 @@
 use std::env;
 use std::path::{Path, PathBuf};
 
-const LIBRARIES: [&str; 4] = ["test_c", "bench_c", "client_c", "image_state_c"];
+const LIBRARIES: [&str; 5] = ["test_c", "bench_c", "client_c", "image_state_c", "kernel"];
 
 fn main() {
     let package = env::var_os("CARGO_MANIFEST_DIR").expect("cargo names the package's folder");

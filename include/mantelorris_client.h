@@ -10,6 +10,10 @@
 #include <stddef.h>
 #include <stdint.h>
 
+#ifdef __cplusplus
+extern "C" {
+#endif
+
 struct mantelorris_open_call {
     uint32_t call;
     uint8_t op;
@@ -78,5 +82,9 @@ struct mantelorris_lease_manager mantelorris_leases(void);
 struct mantelorris_lease_reply mantelorris_open(struct mantelorris_lease_manager manager, uint32_t time, uint32_t span);
 struct mantelorris_lease_reply mantelorris_renew(struct mantelorris_lease_manager manager, uint32_t client, uint32_t time, uint32_t span);
 struct mantelorris_lease_reply mantelorris_query(struct mantelorris_lease_manager manager, uint32_t client, uint32_t time);
+
+#ifdef __cplusplus
+}
+#endif
 
 #endif

@@ -68,10 +68,11 @@ tests() {
 }
 
 tests second
-part static-libraries tools/staticlib.sh test_c bench_c client_c image_state_c; count $?
+part static-libraries tools/staticlib.sh test_c bench_c client_c image_state_c kernel; count $?
 tests compare -- --nocapture
 sed -nE 's/^\.*(compare [^:]*: seed [0-9]+, [0-9]+ in [0-9.]+ s):.*/   \1/p' "$logs/compare"
 part client-in-c tests/c/client.sh; count $?
+part host-in-c tests/c/host.sh; count $?
 
 part run tools/run.sh; count $?
 

@@ -4,16 +4,19 @@
 //! each side adds up the fields of its own value, and stores no byte.
 
 use compare::inputs::{self, Tables};
+use compare::kernel::Call;
 use compare::{other, proved, states};
 use second::bytes::get_u32;
 use second::cabinet::{Server, STATE_LEN};
 use second::desk::Client;
 use second::image::IMAGE_MAX;
 use second::office::LeaseManager;
-use second::packet::{write_grant, write_packet, write_result, Grant, Packet, Reply};
+use second::packet::{
+    write_grant, write_packet, write_request, write_result, Grant, Packet, Reply, Request,
+};
 use second::plan::{write_plan, Entry, Plan};
 use second::random::Random;
-use second::rule::ARGUMENTS;
+use second::rule::{Op, ARGUMENTS};
 use std::hint::black_box;
 use std::time::{Duration, Instant};
 
@@ -575,6 +578,175 @@ fn leases() {
     row("lease manager: query", times);
 }
 
+// ---- the calls of a server
+
+const SPACE: usize = 64_000;
+
+/// A server of both programs, with its log.
+#[derive(Clone)]
+struct Both {
+    state: Vec<u8>,
+    log: Vec<u8>,
+    server: Server,
+    log2: Vec<u8>,
+}
+
+impl Both {
+    /// Point 5 is at home at server 0, point 6 elsewhere; each client has
+    /// executed its calls on point 5, all synced.
+    fn new(number: u32, clients: u32, calls: u32) -> Both {
+        let mut plan = Plan::uniform(Entry {
+            low: -100,
+            high: 1000,
+            fallback: 0,
+            home: 0,
+        });
+        plan.entries[6].home = 15;
+        let mut both = Both {
+            state: vec![0; STATE_LEN],
+            log: vec![0; SPACE],
+            server: Server::new(),
+            log2: vec![0; SPACE],
+        };
+        both.call(&Call::Found(write_plan(&plan).to_vec(), number), 0);
+        for call in 1..=calls {
+            for client in 1..=clients {
+                both.call(&set(5, client, call, 1), 0);
+            }
+        }
+        both.sync();
+        both
+    }
+
+    fn call(&mut self, call: &Call, number: u32) -> Vec<u8> {
+        let (mut out, mut out2) = (vec![0; IMAGE_MAX], vec![0; IMAGE_MAX]);
+        let have = call.proved(&mut self.state, &mut self.log, &mut out);
+        let want = call.second(&mut self.server, STATE_LEN, &mut self.log2, &mut out2);
+        assert_eq!((have, have.number), (want, number), "{call:?}");
+        assert!(out == out2 && self.log == self.log2, "{call:?}");
+        out.truncate(have.written);
+        out
+    }
+
+    fn sync(&mut self) {
+        self.call(&Call::Sync(self.server.length), 0);
+    }
+
+    /// Calls, each time from the same state; what restores it is measured by
+    /// itself and taken off. The log has `space` bytes.
+    fn times(&self, calls: &[Call], space: usize) -> (f64, f64) {
+        let count = calls.len() as u64;
+        let (have, want) = self.measured(calls, space, count);
+        let (have_restored, want_restored) = self.measured(&[], space, count);
+        (have - have_restored, want - want_restored)
+    }
+
+    fn measured(&self, calls: &[Call], space: usize, count: u64) -> (f64, f64) {
+        let (mut out, mut out2) = (vec![0; IMAGE_MAX], vec![0; IMAGE_MAX]);
+        let mut both = self.clone();
+        measure(
+            count,
+            || {
+                both.state.copy_from_slice(&self.state);
+                for call in calls {
+                    black_box(call.proved(&mut both.state, &mut both.log[..space], &mut out));
+                }
+                black_box(&both.state);
+            },
+            || {
+                both.server.clone_from(&self.server);
+                for call in calls {
+                    let log = &mut both.log2[..space];
+                    black_box(call.second(&mut both.server, STATE_LEN, log, &mut out2));
+                }
+                black_box(&both.server);
+            },
+        )
+    }
+}
+
+fn set(point: u8, client: u32, call: u32, done: u32) -> Call {
+    let request = Request {
+        op: Op::from_byte(1).expect("set"),
+        point,
+        client,
+        call,
+        done,
+        lease_end: 1000,
+        argument: 40,
+    };
+    Call::Request(write_request(&request).to_vec())
+}
+
+/// A row, and how much of each side's time goes to the test of the state.
+fn row_tested(name: &str, (have, want): (f64, f64), tested: (f64, f64)) {
+    let share = |whole: f64, part: f64| (100.0 * part / whole).min(100.0);
+    println!(
+        "{name:<34} {have:>9.2} {want:>9.2} {:>7.2}   {:>3.0}% {:>3.0}%",
+        have / want,
+        share(have, tested.0),
+        share(want, tested.1)
+    );
+}
+
+/// A few clients with few calls, and full tables.
+fn calls() {
+    println!("{:<62}   state tested", "");
+    for (name, clients, calls) in [("8 records", 2, 4), ("512 records", 32, 16)] {
+        let base = Both::new(0, clients, calls);
+        let ids = || (1..=calls).flat_map(|call| (1..=clients).map(move |client| (client, call)));
+        let mut given = base.clone();
+        given.call(&Call::Give(5, 1), 0);
+        given.sync();
+        let tested = base.times(&[Call::Sync(0)], SPACE);
+        row(&format!("state tested, {name}"), tested);
+        let executed: Vec<Call> = ids()
+            .map(|(client, call)| set(5, client, calls + call, call + 1))
+            .collect();
+        let rows: [(&str, &Both, Vec<Call>); 7] = [
+            ("request executed", &base, executed),
+            (
+                "request repeated",
+                &base,
+                ids().map(|(x, c)| set(5, x, c, 1)).collect(),
+            ),
+            (
+                "request refused",
+                &base,
+                ids().map(|(x, c)| set(6, x, c, 1)).collect(),
+            ),
+            (
+                "fetch",
+                &base,
+                ids().map(|(x, c)| Call::Fetch(x, c)).collect(),
+            ),
+            ("sync", &base, vec![Call::Sync(base.server.length)]),
+            ("give", &base, vec![Call::Give(5, 1)]),
+            ("image", &given, vec![Call::Image(5)]),
+        ];
+        for (call, both, calls) in rows {
+            let mut tried = both.clone();
+            for c in &calls {
+                tried.call(c, if call == "request refused" { 3 } else { 0 });
+            }
+            let times = both.times(&calls, SPACE);
+            row_tested(&format!("{call}, {name}"), times, tested);
+        }
+        let image = given.call(&Call::Image(5), 0);
+        let taker = Both::new(1, 0, 0);
+        let times = taker.times(&[Call::Take(image)], SPACE);
+        row(&format!("take, {name}"), times);
+        let plan = base.state[states::PLAN_AT..states::POINTS_AT].to_vec();
+        let length = base.server.length as usize;
+        let (have, want) = base.times(&[Call::Recover(plan)], length);
+        let records = f64::from(clients * calls);
+        row(
+            &format!("recover, per record of {}", clients * calls),
+            (have / records, want / records),
+        );
+    }
+}
+
 fn main() {
     let mut random = Random::new(1);
     println!("nanoseconds per call, best of {ROUNDS} rounds");
@@ -587,4 +759,5 @@ fn main() {
     records(&mut random);
     clients();
     leases();
+    calls();
 }

@@ -1,0 +1,500 @@
+/* A host program to copy from: two servers with a memory card each, two clients, the lease manager, and a line that loses, repeats and
+ * delays packets. Power fails, a point moves from one server to the other, a lease ends, and each command is carried out once.
+ * Every answer is checked; the last line is 'N passed, M failed'.
+ *
+ * What is yours to write: the line (`post`, `deliver`), the card (`card_write`), the clock (`now`) and where servers and clients run.
+ * Here they share one process. */
+#include "mantelorris.h"
+#include "mantelorris_client.h"
+#include <stdio.h>
+#include <string.h>
+
+enum {
+    LOG_SPACE = 16384,
+    POINT = 5,     /* the point that commands are about */
+    STEPS = 100,   /* commands of each client */
+    LEASE = 600,   /* seconds */
+    LINE = 64,     /* packets on the way at most */
+    CLIENTS_AT = 2 /* addresses: 0 and 1 are servers, 2 and 3 clients */
+};
+
+static int passed, failed;
+
+static void expect(const char *what, uint64_t have, uint64_t want) {
+    if (have == want) {
+        passed++;
+    } else {
+        failed++;
+        printf("FAILED %s: %llu, not %llu\n", what, (unsigned long long)have, (unsigned long long)want);
+    }
+}
+
+/* one of several numbers, each a bit of a mask */
+static void expect_one(const char *what, uint32_t number, uint32_t mask) {
+    expect(what, number < 32 && (mask >> number & 1), 1);
+}
+
+#define BIT(number) (1u << (number))
+
+/* a fixed pseudo-random sequence: each run is the same */
+static uint32_t below(uint32_t bound) {
+    static uint32_t x = 2463534242u;
+    x ^= x << 13;
+    x ^= x >> 17;
+    x ^= x << 5;
+    return x % bound;
+}
+
+static void put32(uint8_t *p, uint32_t v) {
+    for (int i = 0; i < 4; i++) p[i] = (uint8_t)(v >> 8 * i);
+}
+
+static uint32_t get32(const uint8_t *p) {
+    return p[0] | (uint32_t)p[1] << 8 | (uint32_t)p[2] << 16 | (uint32_t)p[3] << 24;
+}
+
+/* ---- the plan: every point from -100 to 1000, fallback 0, at home at server 0 */
+
+static uint8_t plan[MANTELORRIS_PLAN_SIZE];
+
+static void make_plan(void) {
+    for (int p = 0; p < MANTELORRIS_POINTS; p++) {
+        put32(plan + 16 * p, (uint32_t)-100);
+        put32(plan + 16 * p + 4, 1000);
+    }
+}
+
+/* ---- the card */
+
+struct card {
+    uint8_t bytes[LOG_SPACE];
+    size_t length;
+};
+
+/* Returns when the card has the bytes for certain; on a file this is a write and fsync. Bytes go to the card in order, so that a power cut
+ * leaves a prefix of the log. */
+static void card_write(struct card *card, size_t at, const uint8_t *bytes, size_t count) {
+    memcpy(card->bytes + at, bytes, count);
+    card->length = at + count;
+}
+
+/* ---- servers */
+
+/* commands executed since the last sync, whose results may be sent after it */
+struct waiting {
+    uint32_t client, call;
+};
+
+struct server {
+    uint8_t state[MANTELORRIS_STATE_SIZE];
+    uint8_t log[LOG_SPACE];
+    struct card card;
+    struct waiting waiting[LINE];
+    size_t waits;
+    int knows_ended; /* a notice answered 0 here */
+};
+
+static struct server servers[2];
+static uint32_t now; /* seconds */
+
+static void post(int to, const uint8_t *bytes, size_t length);
+
+/* -1: no such client here */
+static int address_of(uint32_t client) {
+    return client == 1 || client == 2 ? CLIENTS_AT + (int)client - 1 : -1;
+}
+
+static size_t log_length(const struct server *s) {
+    return (size_t)mantelorris_length(s->state);
+}
+
+/* Founded once in its life, with its own number. The mark is at 8 at once, so the head goes to the card before anything else happens. */
+static void found(struct server *s, uint32_t number) {
+    uint64_t a = mantelorris_found(s->state, sizeof s->state, s->log, sizeof s->log, plan, sizeof plan, number);
+    expect("found", a, 0);
+    expect("found: length", log_length(s), MANTELORRIS_LOG_HEAD);
+    card_write(&s->card, 0, s->log, log_length(s));
+}
+
+/* First the card, then the mark: what is under the mark must never be lost again. Then the results that waited for it may be sent. The
+ * clients would ask again in any case; this only saves them the time. */
+static void save(struct server *s) {
+    size_t mark = (size_t)mantelorris_mark(s->state), length = log_length(s);
+    card_write(&s->card, mark, s->log + mark, length - mark);
+    expect("sync", mantelorris_sync(s->state, sizeof s->state, s->log, sizeof s->log, length), 0);
+    expect("sync: mark", mantelorris_mark(s->state), length);
+    for (size_t i = 0; i < s->waits; i++) {
+        uint8_t out[MANTELORRIS_REPLY_SIZE];
+        uint32_t client = s->waiting[i].client;
+        uint64_t a = mantelorris_fetch(s->state, sizeof s->state, s->log, sizeof s->log, client, s->waiting[i].call, out, sizeof out);
+        /* 17: the client has finished this call in the meantime, or the point's records went with the point */
+        expect_one("fetch", mantelorris_number(a), BIT(0) | BIT(MANTELORRIS_UNKNOWN));
+        if (mantelorris_written(a)) post(address_of(client), out, mantelorris_written(a));
+    }
+    s->waits = 0;
+}
+
+/* A server starts again from its card. The log's space begins with the kept bytes; recover is lent exactly these. An incomplete last record
+ * is dropped, and the card's next write begins at the recorded length. */
+static void restart(struct server *s) {
+    memcpy(s->log, s->card.bytes, s->card.length);
+    expect("recover", mantelorris_recover(s->state, sizeof s->state, s->log, s->card.length, plan, sizeof plan), 0);
+    s->card.length = log_length(s);
+    expect("recover: mark", mantelorris_mark(s->state), log_length(s));
+}
+
+/* Memory is gone. Of the bytes written since the last sync some had reached the card. */
+static void power_cut(struct server *s) {
+    size_t mark = (size_t)mantelorris_mark(s->state), length = log_length(s);
+    size_t kept = mark + below((uint32_t)(length - mark) + 1);
+    card_write(&s->card, mark, s->log + mark, kept - mark);
+    memset(s->state, 0xEE, sizeof s->state);
+    memset(s->log, 0xEE, sizeof s->log);
+    s->waits = 0;
+    restart(s);
+    expect("recover: no synced byte is lost", log_length(s) >= mark && log_length(s) <= kept, 1);
+}
+
+/* Number 0 and no packet: executed, and its result waits for the sync. Else the packet is the answer: a result, or a refusal. */
+static void on_request(struct server *s, const uint8_t *packet, size_t length) {
+    uint8_t out[MANTELORRIS_REPLY_SIZE];
+    size_t before = log_length(s);
+    uint64_t a = mantelorris_request(s->state, sizeof s->state, s->log, sizeof s->log, packet, length, out, sizeof out);
+    expect_one("request", mantelorris_number(a),
+               BIT(0) | BIT(MANTELORRIS_NOT_HELD) | BIT(MANTELORRIS_LEASE_ENDED) | BIT(MANTELORRIS_UNDER_FLOOR) | BIT(MANTELORRIS_NOT_SYNCED));
+    if (a == 0) { /* the packet is a request, so client and call stand in it */
+        expect("request: appended", log_length(s), before + MANTELORRIS_LOG_EXECUTED);
+        if (s->waits < LINE) s->waiting[s->waits++] = (struct waiting){get32(packet + 4), get32(packet + 8)};
+    } else {
+        expect("request: the log is as it was", log_length(s), before);
+        if (mantelorris_written(a)) post(address_of(get32(out + 4)), out, mantelorris_written(a));
+    }
+}
+
+/* What arrives at a server, by its first byte. Nothing here trusts the line: every packet may come twice, late or never. */
+static void on_server(struct server *s, const uint8_t *packet, size_t length) {
+    uint64_t a;
+    if (length == 0) return;
+    switch (packet[0]) {
+    case 1:
+        on_request(s, packet, length);
+        break;
+    case 4:
+        a = mantelorris_release(s->state, sizeof s->state, s->log, sizeof s->log, packet, length);
+        expect_one("release", mantelorris_number(a), BIT(0) | BIT(MANTELORRIS_NOT_HELD)); /* 3: released before */
+        break;
+    case 5:
+        a = mantelorris_notice(s->state, sizeof s->state, s->log, sizeof s->log, packet, length);
+        expect_one("notice", mantelorris_number(a), BIT(0) | BIT(MANTELORRIS_UNKNOWN)); /* 17: noticed before, or never known here */
+        if (a == 0) s->knows_ended = 1;
+        break;
+    default: /* 4D, an image */
+        a = mantelorris_take(s->state, sizeof s->state, s->log, sizeof s->log, packet, length);
+        expect_one("take", mantelorris_number(a), BIT(0) | BIT(MANTELORRIS_OLD_MOVE)); /* 12: taken before */
+    }
+}
+
+/* ---- clients */
+
+struct desk {
+    struct mantelorris_client client;
+    int server;           /* the server that it believes to hold the point */
+    uint32_t left;        /* commands not yet issued */
+    uint32_t first, next; /* calls from first to next - 1 may be open */
+    uint32_t results;
+    int32_t last;    /* the value of the latest result */
+    uint8_t old[24]; /* a copy of its latest request */
+};
+
+static struct desk desks[2];
+static struct mantelorris_lease_manager manager;
+static uint8_t counted[2 * STEPS + 1]; /* how often each value was a result */
+
+static void started(struct desk *d) {
+    struct mantelorris_lease_reply lease = mantelorris_open(manager, now, LEASE);
+    expect("open", lease.number, 0);
+    manager = lease.manager;
+    struct mantelorris_start_reply start = mantelorris_start(lease.packet, lease.length);
+    expect("start", start.number, 0);
+    d->client = start.client;
+    d->first = d->next = 1;
+}
+
+static void renewed(struct desk *d) {
+    struct mantelorris_lease_reply lease = mantelorris_renew(manager, d->client.client, now, LEASE);
+    expect("renew", lease.number, 0);
+    manager = lease.manager;
+    expect("receive: a grant", mantelorris_receive(&d->client, lease.packet, lease.length).number, 0);
+}
+
+/* 15: sixteen numbers from the first open one are in use; a result must come first */
+static int issued(struct desk *d, uint32_t op, int32_t argument) {
+    struct mantelorris_send_reply r = mantelorris_issue(&d->client, op, POINT, argument);
+    expect_one("issue", r.number, BIT(0) | BIT(15));
+    if (r.number != 0) return 0;
+    d->next = get32(r.packet + 8) + 1;
+    memcpy(d->old, r.packet, 24);
+    post(d->server, r.packet, r.length);
+    return 1;
+}
+
+/* A call is sent again until its result is there; the server carries it out once. 17: it is closed. */
+static void send_again(struct desk *d) {
+    for (uint32_t call = d->first; call < d->next; call++) {
+        struct mantelorris_send_reply r = mantelorris_resend(&d->client, call);
+        expect_one("resend", r.number, BIT(0) | BIT(17));
+        if (r.number == 0 && below(3) == 0) post(d->server, r.packet, r.length);
+        if (r.number != 0 && call == d->first) d->first++;
+    }
+}
+
+/* 17: a result or refusal of a call that is closed by now. Only a result closes a call; a refusal says to try again, or elsewhere. */
+static void on_client(struct desk *d, const uint8_t *packet, size_t length) {
+    struct mantelorris_receive_reply r = mantelorris_receive(&d->client, packet, length);
+    expect_one("receive", r.number, BIT(0) | BIT(17));
+    if (r.kind == 2) {
+        d->results++;
+        d->last = r.value;
+        expect("result: outcome and quality", r.outcome | r.quality, 0);
+        if (r.value >= 0 && r.value <= 2 * STEPS) counted[r.value]++;
+    }
+    if (r.kind == 3 && r.refusal == MANTELORRIS_NOT_HELD) d->server = (int)below(2);
+}
+
+/* ---- the line */
+
+struct on_line {
+    int to;
+    size_t length;
+    uint8_t bytes[MANTELORRIS_IMAGE_SIZE];
+};
+
+static struct on_line line[LINE];
+static int on_way;
+
+static void put_on_line(int to, const uint8_t *bytes, size_t length) {
+    if (on_way == LINE || to < 0 || length > sizeof line[0].bytes) return; /* lost */
+    line[on_way].to = to;
+    line[on_way].length = length;
+    memcpy(line[on_way].bytes, bytes, length);
+    on_way++;
+}
+
+/* one of four is lost, one of four arrives twice */
+static void post(int to, const uint8_t *bytes, size_t length) {
+    uint32_t luck = below(4);
+    if (luck == 0) return;
+    put_on_line(to, bytes, length);
+    if (luck == 1) put_on_line(to, bytes, length);
+}
+
+/* some of the packets on the way, in any order */
+static void deliver(void) {
+    static struct on_line p;
+    for (int most = 2 * LINE; most > 0 && on_way > 0 && below(8) != 0; most--) {
+        int i = (int)below((uint32_t)on_way);
+        p = line[i];
+        line[i] = line[--on_way];
+        if (p.to < CLIENTS_AT)
+            on_server(&servers[p.to], p.bytes, p.length);
+        else
+            on_client(&desks[p.to - CLIENTS_AT], p.bytes, p.length);
+    }
+}
+
+/* ---- the move of the point from server 0 to server 1 */
+
+/* The give is synced before the image is made, or a crash could take back what the other server has taken. */
+static void begin_move(void) {
+    struct server *s = &servers[0];
+    expect("give", mantelorris_give(s->state, sizeof s->state, s->log, sizeof s->log, POINT, 1), 0);
+    save(s);
+}
+
+/* Image and receipt are sent again until the giver has released the point: 1 then. 3 of image: released. 3 of receipt: not taken yet, 7: taken
+ * and not synced. */
+static int go_on_moving(void) {
+    static uint8_t image[MANTELORRIS_IMAGE_SIZE];
+    uint8_t receipt[MANTELORRIS_RECEIPT_SIZE];
+    struct server *giver = &servers[0], *taker = &servers[1];
+    uint64_t a = mantelorris_image(giver->state, sizeof giver->state, giver->log, sizeof giver->log, POINT, image, sizeof image);
+    expect_one("image", mantelorris_number(a), BIT(0) | BIT(MANTELORRIS_NOT_HELD));
+    if (mantelorris_number(a) != 0) return 1;
+    post(1, image, mantelorris_written(a));
+    a = mantelorris_receipt(taker->state, sizeof taker->state, taker->log, sizeof taker->log, POINT, receipt, sizeof receipt);
+    expect_one("receipt", mantelorris_number(a), BIT(0) | BIT(MANTELORRIS_NOT_HELD) | BIT(MANTELORRIS_NOT_SYNCED));
+    if (mantelorris_written(a)) post(0, receipt, mantelorris_written(a));
+    return 0;
+}
+
+/* ---- the day */
+
+static uint32_t results(void) {
+    return desks[0].results + desks[1].results;
+}
+
+/* A second: clients send, the line delivers, servers sync now and then, and power fails. */
+static void second(void) {
+    now++;
+    send_again(&desks[0]);
+    send_again(&desks[1]);
+    deliver();
+    if (below(3) == 0) save(&servers[0]);
+    if (below(3) == 0) save(&servers[1]);
+    if (below(6) == 0) power_cut(&servers[below(2)]);
+}
+
+/* The first command makes the point's value valid: a step on an invalid one would change nothing. */
+static void first_command(void) {
+    expect("issue: set 0", (uint64_t)issued(&desks[0], 1, 0), 1);
+    for (int i = 0; i < 1000 && results() < 1; i++) second();
+    expect("set 0: its result", results(), 1);
+}
+
+/* Each client adds 1 a hundred times, and the point moves meanwhile. A result is the number of steps so far, so each comes once. */
+static void steps_and_move(void) {
+    enum { BEFORE, MOVING, MOVED } move = BEFORE;
+    desks[0].left = desks[1].left = STEPS;
+    for (int i = 0; i < 5000 && !(move == MOVED && results() == 1 + 2 * STEPS); i++) {
+        for (int x = 0; x < 2; x++) {
+            if (desks[x].left > 0 && issued(&desks[x], 2, 1)) desks[x].left--;
+            if (now % 100 == 0) renewed(&desks[x]);
+        }
+        if (move == BEFORE && results() > STEPS / 2) {
+            begin_move();
+            move = MOVING;
+        } else if (move == MOVING && go_on_moving()) {
+            move = MOVED;
+        }
+        second();
+    }
+    expect("the point has moved", move, MOVED);
+    expect("steps: all results", results(), 1 + 2 * STEPS);
+    for (int value = 1; value <= 2 * STEPS; value++) expect("steps: each value once", counted[value], 1);
+}
+
+/* The second client goes away. When its lease has ended, the lease manager makes a notice of it; servers free its place. Old requests of it that are
+ * still on the way are refused from then on (4). */
+static void lease_end(void) {
+    uint32_t gone = desks[1].client.client;
+    now += LEASE / 2;
+    renewed(&desks[0]);
+    now += LEASE / 2 + 1;
+    renewed(&desks[0]);
+    struct mantelorris_lease_reply reply = mantelorris_query(manager, gone, now);
+    expect("query", reply.number, 0);
+    expect("query: a notice", reply.packet[0], 5);
+    manager = reply.manager;
+    for (int i = 0; i < 200; i++) {
+        post((int)below(2), reply.packet, reply.length);
+        second();
+    }
+    for (int i = 0; i < 2; i++) expect("notice: heard", (uint64_t)servers[i].knows_ended, 1);
+    uint8_t out[MANTELORRIS_REPLY_SIZE];
+    struct server *s = &servers[1];
+    uint64_t a = mantelorris_request(s->state, sizeof s->state, s->log, sizeof s->log, desks[1].old, 24, out, sizeof out);
+    expect("request after the lease's end", mantelorris_number(a), MANTELORRIS_LEASE_ENDED);
+    expect("request after the lease's end: a refusal packet", mantelorris_written(a), 12);
+    expect("request after the lease's end: its number", out[1], MANTELORRIS_LEASE_ENDED);
+}
+
+/* The point's value at last: each step was carried out once. */
+static void last_read(void) {
+    renewed(&desks[0]);
+    expect("issue: read", (uint64_t)issued(&desks[0], 0, 0), 1);
+    uint32_t before = results();
+    for (int i = 0; i < 1000 && results() == before; i++) second();
+    expect("read: its result", results(), before + 1);
+    expect("read: the value", (uint64_t)desks[0].last, 2 * STEPS);
+}
+
+/* Another program takes over without a power cut: it recovers from the log up to its recorded length, all of which the card has. */
+static void take_over(void) {
+    struct server *s = &servers[1];
+    uint8_t out[MANTELORRIS_REPLY_SIZE];
+    uint32_t client = desks[0].client.client;
+    save(s);
+    size_t length = log_length(s);
+    memset(s->state, 0, sizeof s->state);
+    restart(s);
+    expect("taken over: length", log_length(s), length);
+    uint64_t a = mantelorris_fetch(s->state, sizeof s->state, s->log, sizeof s->log, client, desks[0].next - 1, out, sizeof out);
+    expect("taken over: the read's result is there", mantelorris_number(a), 0);
+    expect("taken over: its value", get32(out + 12), 2 * STEPS);
+}
+
+/* ---- refusals: each leaves all lent memory as it was */
+
+static struct server spare, kept;
+
+/* a refusal, without a packet but where `want` says so; the spare server is compared with its copy */
+static void refused(const char *what, uint64_t answer, uint64_t want) {
+    expect(what, answer, want);
+    expect(what, (uint64_t)(memcmp(spare.state, kept.state, sizeof kept.state) | memcmp(spare.log, kept.log, sizeof kept.log)), 0);
+}
+
+static void not_founded(void) {
+    struct server *s = &spare;
+    uint8_t out[MANTELORRIS_REPLY_SIZE];
+    refused("found: state", mantelorris_found(s->state, sizeof s->state - 1, s->log, LOG_SPACE, plan, sizeof plan, 2), MANTELORRIS_TOO_SHORT);
+    refused("found: log", mantelorris_found(s->state, sizeof s->state, s->log, 7, plan, sizeof plan, 2), MANTELORRIS_TOO_SHORT);
+    refused("found: plan", mantelorris_found(s->state, sizeof s->state, s->log, LOG_SPACE, plan, sizeof plan - 1, 2), MANTELORRIS_MALFORMED);
+    refused("found: number", mantelorris_found(s->state, sizeof s->state, s->log, LOG_SPACE, plan, sizeof plan, 16), MANTELORRIS_MALFORMED);
+    refused("request: not founded", mantelorris_request(s->state, sizeof s->state, s->log, LOG_SPACE, desks[0].old, 24, out, sizeof out),
+            MANTELORRIS_NOT_SOUND);
+    refused("recover: no log", mantelorris_recover(s->state, sizeof s->state, NULL, 0, plan, sizeof plan), MANTELORRIS_BAD_LOG);
+    refused("recover: plan", mantelorris_recover(s->state, sizeof s->state, s->log, 8, plan, 0), MANTELORRIS_MALFORMED);
+}
+
+static void refusals(void) {
+    struct server *s = &spare;
+    size_t n = sizeof s->state, m = LOG_SPACE;
+    static uint8_t out[MANTELORRIS_IMAGE_SIZE];
+    const uint8_t receipt[8] = {4, POINT, 1, 0, 1, 0, 0, 0};
+    memset(s, 0xC3, sizeof *s);
+    kept = *s;
+    not_founded();
+    found(s, 0); /* in a world of its own, where no other server has number 0 */
+    kept = *s;
+    refused("request: no packet", mantelorris_request(s->state, n, s->log, m, NULL, 0, out, 16), MANTELORRIS_MALFORMED);
+    refused("request: output", mantelorris_request(s->state, n, s->log, m, desks[0].old, 24, out, 15), MANTELORRIS_TOO_SHORT);
+    refused("request: log", mantelorris_request(s->state, n, s->log, 7, desks[0].old, 24, out, 16), MANTELORRIS_NOT_SOUND);
+    refused("request: log full", mantelorris_request(s->state, n, s->log, 8 + 27, desks[0].old, 24, out, 16),
+            (uint64_t)12 << 32 | MANTELORRIS_LOG_FULL);
+    refused("fetch: none held", mantelorris_fetch(s->state, n, s->log, m, 1, 1, out, 16), MANTELORRIS_UNKNOWN);
+    refused("sync: under the mark", mantelorris_sync(s->state, n, s->log, m, 7), MANTELORRIS_BAD_MARK);
+    refused("sync: over the length", mantelorris_sync(s->state, n, s->log, m, 9), MANTELORRIS_BAD_MARK);
+    refused("notice: a request", mantelorris_notice(s->state, n, s->log, m, desks[0].old, 24), MANTELORRIS_MALFORMED);
+    refused("give: point", mantelorris_give(s->state, n, s->log, m, 64, 1), MANTELORRIS_MALFORMED);
+    refused("give: destination", mantelorris_give(s->state, n, s->log, m, POINT, 16), MANTELORRIS_MALFORMED);
+    refused("give: to itself", mantelorris_give(s->state, n, s->log, m, POINT, 0), MANTELORRIS_BAD_DESTINATION);
+    refused("image: output", mantelorris_image(s->state, n, s->log, m, POINT, out, sizeof out - 1), MANTELORRIS_TOO_SHORT);
+    refused("image: not given", mantelorris_image(s->state, n, s->log, m, POINT, out, sizeof out), MANTELORRIS_NOT_HELD);
+    refused("take: no image", mantelorris_take(s->state, n, s->log, m, receipt, sizeof receipt), MANTELORRIS_MALFORMED);
+    refused("receipt: never taken", mantelorris_receipt(s->state, n, s->log, m, POINT, out, 8), MANTELORRIS_NOT_HELD);
+    refused("release: not given", mantelorris_release(s->state, n, s->log, m, receipt, sizeof receipt), MANTELORRIS_NOT_HELD);
+    expect("give", mantelorris_give(s->state, n, s->log, m, POINT, 1), 0);
+    expect("give: its record", log_length(s), MANTELORRIS_LOG_HEAD + MANTELORRIS_LOG_GIVE);
+    kept = *s;
+    refused("image: not synced", mantelorris_image(s->state, n, s->log, m, POINT, out, sizeof out), MANTELORRIS_NOT_SYNCED);
+    s->state[0] ^= 1; /* no call leaves such a state */
+    kept = *s;
+    refused("state not sound", mantelorris_sync(s->state, n, s->log, m, 8), MANTELORRIS_NOT_SOUND);
+}
+
+int main(void) {
+    make_plan();
+    found(&servers[0], 0);
+    found(&servers[1], 1);
+    manager = mantelorris_leases();
+    started(&desks[0]);
+    started(&desks[1]);
+    first_command();
+    steps_and_move();
+    lease_end();
+    last_read();
+    take_over();
+    refusals();
+    printf("%d passed, %d failed\n", passed, failed);
+    return failed != 0;
+}
