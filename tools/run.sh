@@ -1,5 +1,6 @@
 #!/usr/bin/env bash
-# What the product does today: the simulator's whole case of paper 01, answered by the second program and compared.
+# What the product does today: the simulator's whole case of paper 01, answered by the second program and compared; then a host program
+# in C over the proved server and client: two servers, two clients, a poor line, power cuts, a point that moves.
 set -eu
 cd "$(dirname "$0")/.."
 schedule=tests/yard/paper.in
@@ -16,3 +17,6 @@ else
   rm -f /tmp/mantelorris-yard.$$
   exit 1
 fi
+echo
+echo "host program over the proved server and client (tests/c/host.c); the first build proves them, which takes minutes"
+tests/c/host.sh
