@@ -894,7 +894,7 @@ fn one_record(image: &[u8], (client, call): (u32, u32), floor: u32) -> Vec<u8> {
 fn kernel() {
     let mut tally = Tally::new("kernel", &CLASSES);
     let mut seeds = Random::new(seed());
-    let mut left = runs() / 4;
+    let mut left = runs() / 2;
     while left > 0 {
         let mut world = World::new(seeds.next_u64(), &mut tally);
         let steps = (*seeds.pick(&[60, 200, 600, 1500])).min(left);

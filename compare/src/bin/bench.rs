@@ -632,32 +632,41 @@ impl Both {
         self.call(&Call::Sync(self.server.length), 0);
     }
 
-    /// Calls, each time from the same state; what restores it is measured by
-    /// itself and taken off. The log has `space` bytes.
+    /// Calls that leave the state as it is.
     fn times(&self, calls: &[Call], space: usize) -> (f64, f64) {
-        let count = calls.len() as u64;
-        let (have, want) = self.measured(calls, space, count);
-        let (have_restored, want_restored) = self.measured(&[], space, count);
-        (have - have_restored, want - want_restored)
+        self.measured(calls, space, false, calls.len())
     }
 
-    fn measured(&self, calls: &[Call], space: usize, count: u64) -> (f64, f64) {
+    /// Calls that change it, each time from the same state; what restores it is
+    /// measured by itself and taken off.
+    fn times_restored(&self, calls: &[Call]) -> (f64, f64) {
+        let (have, want) = self.measured(calls, SPACE, true, calls.len());
+        let restored = self.measured(&[], SPACE, true, calls.len());
+        (have - restored.0, want - restored.1)
+    }
+
+    fn measured(&self, calls: &[Call], space: usize, restore: bool, count: usize) -> (f64, f64) {
         let (mut out, mut out2) = (vec![0; IMAGE_MAX], vec![0; IMAGE_MAX]);
         let mut both = self.clone();
+        let (lent, lent2) = (&mut both.log[..space], &mut both.log2[..space]);
         measure(
-            count,
+            count as u64,
             || {
-                both.state.copy_from_slice(&self.state);
+                if restore {
+                    let end = states::STATE_END;
+                    both.state[..end].copy_from_slice(&self.state[..end]);
+                }
                 for call in calls {
-                    black_box(call.proved(&mut both.state, &mut both.log[..space], &mut out));
+                    black_box(call.proved(&mut both.state, lent, &mut out));
                 }
                 black_box(&both.state);
             },
             || {
-                both.server.clone_from(&self.server);
+                if restore {
+                    both.server.clone_from(&self.server);
+                }
                 for call in calls {
-                    let log = &mut both.log2[..space];
-                    black_box(call.second(&mut both.server, STATE_LEN, log, &mut out2));
+                    black_box(call.second(&mut both.server, STATE_LEN, lent2, &mut out2));
                 }
                 black_box(&both.server);
             },
@@ -694,57 +703,69 @@ fn calls() {
     println!("{:<62}   state tested", "");
     for (name, clients, calls) in [("8 records", 2, 4), ("512 records", 32, 16)] {
         let base = Both::new(0, clients, calls);
-        let ids = || (1..=calls).flat_map(|call| (1..=clients).map(move |client| (client, call)));
-        let mut given = base.clone();
-        given.call(&Call::Give(5, 1), 0);
-        given.sync();
         let tested = base.times(&[Call::Sync(0)], SPACE);
         row(&format!("state tested, {name}"), tested);
-        let executed: Vec<Call> = ids()
-            .map(|(client, call)| set(5, client, calls + call, call + 1))
-            .collect();
-        let rows: [(&str, &Both, Vec<Call>); 7] = [
-            ("request executed", &base, executed),
-            (
-                "request repeated",
-                &base,
-                ids().map(|(x, c)| set(5, x, c, 1)).collect(),
-            ),
-            (
-                "request refused",
-                &base,
-                ids().map(|(x, c)| set(6, x, c, 1)).collect(),
-            ),
-            (
-                "fetch",
-                &base,
-                ids().map(|(x, c)| Call::Fetch(x, c)).collect(),
-            ),
-            ("sync", &base, vec![Call::Sync(base.server.length)]),
-            ("give", &base, vec![Call::Give(5, 1)]),
-            ("image", &given, vec![Call::Image(5)]),
-        ];
-        for (call, both, calls) in rows {
-            let mut tried = both.clone();
-            for c in &calls {
-                tried.call(c, if call == "request refused" { 3 } else { 0 });
-            }
-            let times = both.times(&calls, SPACE);
-            row_tested(&format!("{call}, {name}"), times, tested);
-        }
-        let image = given.call(&Call::Image(5), 0);
-        let taker = Both::new(1, 0, 0);
-        let times = taker.times(&[Call::Take(image)], SPACE);
-        row(&format!("take, {name}"), times);
+        calls_that_change(name, &base, clients, calls, tested);
+        calls_that_read(name, &base, clients, calls, tested);
+        moves(name, &base, tested);
         let plan = base.state[states::PLAN_AT..states::POINTS_AT].to_vec();
-        let length = base.server.length as usize;
-        let (have, want) = base.times(&[Call::Recover(plan)], length);
+        let times = base.times(&[Call::Recover(plan)], base.server.length as usize);
         let records = f64::from(clients * calls);
-        row(
-            &format!("recover, per record of {}", clients * calls),
-            (have / records, want / records),
-        );
+        let times = (times.0 / records, times.1 / records);
+        row(&format!("recover, per record of {records}"), times);
     }
+}
+
+/// 512 requests, which raise floors, and a give of each point.
+fn calls_that_change(name: &str, base: &Both, clients: u32, calls: u32, tested: (f64, f64)) {
+    let executed: Vec<Call> = (1..=512 / clients)
+        .flat_map(|n| (1..=clients).map(move |client| set(5, client, calls + n, n + 1)))
+        .collect();
+    let given: Vec<Call> = (7..64).map(|point| Call::Give(point, 1)).collect();
+    for (call, list) in [("request executed", executed), ("give", given)] {
+        let mut tried = base.clone();
+        for c in &list {
+            assert!(tried.call(c, 0).is_empty(), "{call}");
+        }
+        let times = base.times_restored(&list);
+        row_tested(&format!("{call}, {name}"), times, tested);
+    }
+}
+
+fn calls_that_read(name: &str, base: &Both, clients: u32, calls: u32, tested: (f64, f64)) {
+    let ids: Vec<(u32, u32)> = (1..=calls)
+        .flat_map(|call| (1..=clients).map(move |client| (client, call)))
+        .collect();
+    let each = |call: fn(u32, u32) -> Call| ids.iter().map(|&(x, c)| call(x, c)).collect();
+    let rows: [(&str, u32, Vec<Call>); 4] = [
+        ("request repeated", 0, each(|x, c| set(5, x, c, 1))),
+        ("request refused", 3, each(|x, c| set(6, x, c, 1))),
+        ("fetch", 0, each(Call::Fetch)),
+        ("sync", 0, vec![Call::Sync(base.server.length)]),
+    ];
+    for (call, number, list) in rows {
+        let mut tried = base.clone();
+        for c in &list {
+            tried.call(c, number);
+        }
+        let times = base.times(&list, SPACE);
+        row_tested(&format!("{call}, {name}"), times, tested);
+    }
+}
+
+/// The image of the point that has all records, and its take by an empty server.
+fn moves(name: &str, base: &Both, tested: (f64, f64)) {
+    let mut given = base.clone();
+    given.call(&Call::Give(5, 1), 0);
+    given.sync();
+    let image = given.call(&Call::Image(5), 0);
+    let times = given.times(&[Call::Image(5)], SPACE);
+    row_tested(&format!("image, {name}"), times, tested);
+    let taker = Both::new(1, 0, 0);
+    let empty = taker.times(&[Call::Sync(0)], SPACE);
+    taker.clone().call(&Call::Take(image.clone()), 0);
+    let times = taker.times_restored(&[Call::Take(image)]);
+    row_tested(&format!("take, {name}"), times, empty);
 }
 
 fn main() {

@@ -7,7 +7,7 @@ use model::Point;
 use model::Release;
 use record_table::Rule;
 ghost use mathlib.Core.Path.{_≡_};
-ghost use Prim.Native.Nat.{_≤_, max};
+ghost use Prim.Native.Nat.{_≤_};
 ghost use Rattle.model.specs.Limits.{lastPoint};
 ghost use Rattle.model.specs.States.{load};
 ghost use Rattle.model.specs.Apply.{completion, executedPoint, applyExecuted, applyGone, gavePoint, applyGave, releasedPoint, applyReleased};
@@ -64,18 +64,12 @@ pub fn apply_executed(s: &mut [u8], x: Executed, end: u64)
 
 // ---- gone
 
-fn greater(a: u32, b: u32) -> u32
-    ensures { λ r. ⌜ r ≡ max a b ⌝ }
-{
-    if a < b { b } else { a }
-}
-
 // The client and its records go, heard time rises to the notice's time.
 pub fn apply_gone(s: &mut [u8], n: Notice, end: u64)
     requires { ⌜ Canonical (now s) ⌝ }
     ensures { λ r. ⌜ now (s .exit) ≡ stored (now (s .entry)) (applyGone n end (load (now (s .entry)))) ⌝ }
 {
-    let heard = greater(state::heard_of(s), n.time);
+    let heard = client_table::greater(state::heard_of(s), n.time);
     client_table::remove(s, n.client);
     record_table::keep_records(s, Rule::OfOther(n.client));
     state::set_heard(s, heard);

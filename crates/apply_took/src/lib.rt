@@ -31,15 +31,6 @@ fn took_point(h: ImageHead, end: u64) -> Point
     }
 }
 
-fn greater(a: u32, b: u32) -> u32
-    ensures { λ r. ⌜ r ≡ max a b ⌝ }
-{
-    if a < b {
-        return b;
-    }
-    a
-}
-
 // The two tables: floors merged, then the records.
 fn take_tables(s: &mut [u8], image: &[u8], h: ImageHead, end: u64)
     requires { ⌜ Canonical (now s) × (leastImage + floorRow * h .floors + entryRow * h .entries ≤ length (now image)) × (length (applyTook (imageAt h (now image)) end (load (now s)) .floors) ≤ clientCount) × (length (applyTook (imageAt h (now image)) end (load (now s)) .records) ≤ recordCount) ⌝ }
@@ -59,7 +50,7 @@ fn take_point(s: &mut [u8], h: ImageHead, end: u64)
     let heard = state::heard_of(s);
     let x = took_point(h, end);
     state::set_point(s, h.point, x);
-    state::set_heard(s, greater(heard, h.heard));
+    state::set_heard(s, client_table::greater(heard, h.heard));
     state::set_size(s, end);
 }
 

@@ -61,7 +61,8 @@ pub fn is_known(s: &[u8], x: u32) -> bool
 
 // ---- a floor raised, a client entered
 
-fn greater(a: u32, b: u32) -> u32
+// The greater of two numbers.
+pub fn greater(a: u32, b: u32) -> u32
     ensures { λ r. ⌜ r ≡ max a b ⌝ }
 {
     if a < b {

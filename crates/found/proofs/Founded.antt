@@ -26,14 +26,10 @@ use Rattle.model.specs.Logs.{headBytes}
 use Rattle.model.specs.Operations.{after, answerOf, short, stored, foundOf}
 use Rattle.laws.specs.Bytes.{Bytes}
 use Rattle.laws.proofs.Tests.{and-left}
-use Rattle.laws.proofs.Written.{length-written, written-none, written-append, written-sets}
+use Rattle.laws.proofs.Written.{length-written, written-none, written-append, written-sets, run-behind}
 use Rattle.laws.proofs.Tables.{length-rows, rows-snoc, bytesOf-append, bytesOf-one, length-bytesOf}
 use Rattle.laws.proofs.Plans.{plan-again, plan-length}
 use Rattle.laws.proofs.States.{pointCodec}
-
--- a run behind a run
-behind : (s : List ℕ) (k : ℕ) (a b : List ℕ) {n j : ℕ} → length a ≡ n → j ≡ k + n → written (written s k a) j b ≡ written s k (a ++ b)
-behind s k a b p q = rw (q, ← p) (sym (written-append s k a b))
 
 -- ---- zeros
 
@@ -54,7 +50,7 @@ zeroed-next {k} {s₀} {s} {n} {i} o h =
       bytes =
           sym (written-sets s (k + i) (0 ∷ []))
           ∙ ap (λ (x : List ℕ). written x (k + i) (0 ∷ [])) (o .bytes)
-          ∙ behind s₀ k (replicate i 0) (replicate 1 0) (length-replicate i 0) refl
+          ∙ run-behind s₀ k (replicate i 0) (replicate 1 0) (length-replicate i 0) refl
           ∙ ap (λ (x : List ℕ). written s₀ k x) (replicate-append-replicate i 1 0);
     }
 
@@ -71,10 +67,10 @@ head-runs s n =
     let a : List ℕ = quad 87 83 84 49 ++ quad n 0 0 0 in
     let b : List ℕ = a ++ replicate 16 0 in
     let c : List ℕ = b ++ le64 8 in
-    ap (λ (x : List ℕ). written (written (written x 8 (replicate 16 0)) 24 (le64 8)) 32 (le64 8)) (behind s 0 (quad 87 83 84 49) (quad n 0 0 0) refl refl)
-    ∙ ap (λ (x : List ℕ). written (written x 24 (le64 8)) 32 (le64 8)) (behind s 0 a (replicate 16 0) refl refl)
-    ∙ ap (λ (x : List ℕ). written x 32 (le64 8)) (behind s 0 b (le64 8) refl refl)
-    ∙ behind s 0 c (le64 8) refl refl
+    ap (λ (x : List ℕ). written (written (written x 8 (replicate 16 0)) 24 (le64 8)) 32 (le64 8)) (run-behind s 0 (quad 87 83 84 49) (quad n 0 0 0) refl refl)
+    ∙ ap (λ (x : List ℕ). written (written x 24 (le64 8)) 32 (le64 8)) (run-behind s 0 a (replicate 16 0) refl refl)
+    ∙ ap (λ (x : List ℕ). written x 32 (le64 8)) (run-behind s 0 b (le64 8) refl refl)
+    ∙ run-behind s 0 c (le64 8) refl refl
 
 head-length : (n : ℕ) → length (stateHeadBytes (founded [] n)) ≡ 40
 unfolding stateHeadBytes founded le64
@@ -108,7 +104,7 @@ pointed-next {n} {s₀} {t} {s} {s'} {i} o h q =
       bytes =
           q
           ∙ ap (λ (y : List ℕ). written y (pointsStart + pointRow * i) (pointBytes x)) (o .bytes)
-          ∙ behind s₀ pointsStart (bytesOf pointBytes (map f es)) (pointBytes x) l refl
+          ∙ run-behind s₀ pointsStart (bytesOf pointBytes (map f es)) (pointBytes x) l refl
           ∙ ap (λ (y : List ℕ). written s₀ pointsStart y) one;
     }
 

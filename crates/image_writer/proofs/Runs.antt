@@ -18,26 +18,22 @@ use Rattle.model.specs.Limits.{leastImage, floorRow}
 use Rattle.model.specs.Images.{Image, imageAt, imageHeadBytes, imageBytes, imageLength, floorOfBytes, floorBytes, imageEntryOf, imageEntryBytes}
 use Rattle.laws.specs.Codec.{Codec}
 use Rattle.laws.specs.Fits.{imageHead}
-use Rattle.laws.proofs.Written.{length-written, written-none, written-append, drop-written-past}
+use Rattle.laws.proofs.Written.{length-written, written-none, written-append, drop-written-past, run-behind}
 use Rattle.laws.proofs.Tables.{length-rows, rows-snoc, bytesOf-append, bytesOf-one, length-bytesOf}
 use Rattle.laws.proofs.Images.{floorCodec, image-length}
 use Rattle.image_writer.specs.Heads.{headBytes, frameBytes, pairBytes, pointBytes}
 
--- a run behind a run
-behind : (s : List ℕ) (k : ℕ) (a b : List ℕ) {n j : ℕ} → length a ≡ n → j ≡ k + n → written (written s k a) j b ≡ written s k (a ++ b)
-behind s k a b p q = rw (q, ← p) (sym (written-append s k a b))
-
 pub two-runs : (s : List ℕ) (k v w : ℕ) → written (written s k (le32 v)) (k + 4) (le32 w) ≡ written s k (le32 v ++ le32 w)
-two-runs s k v w = behind s k (le32 v) (le32 w) refl refl
+two-runs s k v w = run-behind s k (le32 v) (le32 w) refl refl
 
 pub five-runs : (s : List ℕ) (k v w x y a b c d : ℕ)
     → written (written (written (written (written s k (le32 v)) (k + 4) (le32 w)) (k + 8) (le32 x)) (k + 12) (le32 y)) (k + 16) (quad a b c d)
     ≡ written s k (le32 v ++ (le32 w ++ (le32 x ++ (le32 y ++ quad a b c d))))
 five-runs s k v w x y a b c d =
-    ap (λ (z : List ℕ). written (written (written z (k + 8) (le32 x)) (k + 12) (le32 y)) (k + 16) (quad a b c d)) (behind s k (le32 v) (le32 w) refl refl)
-    ∙ ap (λ (z : List ℕ). written (written z (k + 12) (le32 y)) (k + 16) (quad a b c d)) (behind s k (le32 v ++ le32 w) (le32 x) refl refl)
-    ∙ ap (λ (z : List ℕ). written z (k + 16) (quad a b c d)) (behind s k (le32 v ++ (le32 w ++ le32 x)) (le32 y) refl refl)
-    ∙ behind s k (le32 v ++ (le32 w ++ (le32 x ++ le32 y))) (quad a b c d) refl refl
+    ap (λ (z : List ℕ). written (written (written z (k + 8) (le32 x)) (k + 12) (le32 y)) (k + 16) (quad a b c d)) (run-behind s k (le32 v) (le32 w) refl refl)
+    ∙ ap (λ (z : List ℕ). written (written z (k + 12) (le32 y)) (k + 16) (quad a b c d)) (run-behind s k (le32 v ++ le32 w) (le32 x) refl refl)
+    ∙ ap (λ (z : List ℕ). written z (k + 16) (quad a b c d)) (run-behind s k (le32 v ++ (le32 w ++ le32 x)) (le32 y) refl refl)
+    ∙ run-behind s k (le32 v ++ (le32 w ++ (le32 x ++ le32 y))) (quad a b c d) refl refl
 
 pub head-parts : (h : ImageHead) → headBytes h ≡ frameBytes h ++ (pairBytes (h .floors) (h .entries) ++ pointBytes (h .value) (h .quality))
 unfolding headBytes frameBytes pairBytes pointBytes imageHeadBytes imageAt
@@ -50,8 +46,8 @@ head-written s h =
     let frame : List ℕ = frameBytes h in
     let pairs : List ℕ = pairBytes (h .floors) (h .entries) in
     let point : List ℕ = pointBytes (h .value) (h .quality) in
-    ap (λ (x : List ℕ). written x 40 point) (behind s 0 frame pairs refl refl)
-    ∙ behind s 0 (frame ++ pairs) point refl refl
+    ap (λ (x : List ℕ). written x 40 point) (run-behind s 0 frame pairs refl refl)
+    ∙ run-behind s 0 (frame ++ pairs) point refl refl
     ∙ ap (λ (x : List ℕ). written s 0 x) (sym (head-parts h))
 
 pub head-image : (i : Image) → headBytes (imageHead i) ≡ imageHeadBytes i

@@ -4,7 +4,7 @@
 --     getD-written-below, -past, -in; le32-written-below, -past; le64-written-below, -past; le32-written, le64-written     reading
 --     take-written, take-written-run, drop-written-past, drop-written, drop-written-at     parts
 --     written-front, written-fits   a run that fits
---     written-none, written-append, written-comm, written-over, written-cover     several runs
+--     written-none, written-append, run-behind, written-comm, written-over, written-cover     several runs
 --     written-same, written-again, written-le32, written-le64     a run of what stands there changes nothing
 --     nested-front, written-nested, written-first, written-second     a run within one that was stored; within one of two lists
 --     written-mid                   a run in the middle of what stands there
@@ -176,6 +176,10 @@ written-append [] i us vs = refl
 written-append (b ∷ s) (suc i) us vs = rw suc-add (ap (λ (x : List ℕ). b ∷ x) (written-append s i us vs))
 written-append (b ∷ s) zero [] vs = refl
 written-append (b ∷ s) zero (u ∷ us) vs = rw (zero-add, written-append s zero us vs, zero-add)
+
+-- a run behind a run
+pub run-behind : (s : List ℕ) (k : ℕ) (a b : List ℕ) {n j : ℕ} → length a ≡ n → j ≡ k + n → written (written s k a) j b ≡ written s k (a ++ b)
+run-behind s k a b p q = rw (q, ← p) (sym (written-append s k a b))
 
 -- runs that are apart, in either order
 pub written-comm : (s : List ℕ) (i : ℕ) (us : List ℕ) (j : ℕ) (vs : List ℕ) → i + length us ≤ j → written (written s i us) j vs ≡ written (written s j vs) i us

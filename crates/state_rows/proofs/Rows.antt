@@ -3,10 +3,10 @@
 --     point-runs, completion-runs     the stores of a row's fields, one after the other
 -- Assumes nothing.
 use Prim.Native.Nat.{ℕ, _+_}
-use mathlib.Core.Path.{_≡_, refl, sym, ap, _∙_}
+use mathlib.Core.Path.{_≡_, refl, ap, _∙_}
 use mathlib.Core.List.{List, _++_}
 use native.Mathlib.Nat.{add-zero}
-use lib.ListN.{length, drop, getD}
+use lib.ListN.{drop, getD}
 use lib.Seq.{getD-drop}
 use Rattle.model.specs.declared.Point.{Point}
 use Rattle.model.specs.declared.Completion.{Completion}
@@ -14,7 +14,7 @@ use Rattle.model.specs.Numbers.{le32At, le64At, le32, le64, quad}
 use Rattle.model.specs.Tables.{written}
 use Rattle.model.specs.States.{pointOf, pointBytes, completionOf, completionBytes}
 use Rattle.laws.proofs.Numbers.{le32-drop, le64-drop}
-use Rattle.laws.proofs.Written.{written-append}
+use Rattle.laws.proofs.Written.{run-behind}
 
 -- ---- reads
 
@@ -38,10 +38,6 @@ completion-drop s k =
 
 -- ---- stores
 
--- a run behind a run
-behind : (s : List ℕ) (k : ℕ) (a b : List ℕ) {n j : ℕ} → length a ≡ n → j ≡ k + n → written (written s k a) j b ≡ written s k (a ++ b)
-behind s k a b p q = rw (q, ← p) (sym (written-append s k a b))
-
 pub point-runs : (s : List ℕ) (k : ℕ) (x : Point)
     → written (written (written (written (written (written s k (quad (x .status) (x .quality) (x .destination) 0)) (k + 4) (le32 (x .value))) (k + 8) (le32 (x .number))) (k + 12) (le32 (x .taken))) (k + 16) (le64 (x .gave))) (k + 24) (le64 (x .took))
     ≡ written s k (pointBytes x)
@@ -52,11 +48,11 @@ point-runs s k x =
     let c : List ℕ = b ++ le32 (x .number) in
     let d : List ℕ = c ++ le32 (x .taken) in
     let e : List ℕ = d ++ le64 (x .gave) in
-    ap (λ (z : List ℕ). written (written (written (written z (k + 8) (le32 (x .number))) (k + 12) (le32 (x .taken))) (k + 16) (le64 (x .gave))) (k + 24) (le64 (x .took))) (behind s k a (le32 (x .value)) refl refl)
-    ∙ ap (λ (z : List ℕ). written (written (written z (k + 12) (le32 (x .taken))) (k + 16) (le64 (x .gave))) (k + 24) (le64 (x .took))) (behind s k b (le32 (x .number)) refl refl)
-    ∙ ap (λ (z : List ℕ). written (written z (k + 16) (le64 (x .gave))) (k + 24) (le64 (x .took))) (behind s k c (le32 (x .taken)) refl refl)
-    ∙ ap (λ (z : List ℕ). written z (k + 24) (le64 (x .took))) (behind s k d (le64 (x .gave)) refl refl)
-    ∙ behind s k e (le64 (x .took)) refl refl
+    ap (λ (z : List ℕ). written (written (written (written z (k + 8) (le32 (x .number))) (k + 12) (le32 (x .taken))) (k + 16) (le64 (x .gave))) (k + 24) (le64 (x .took))) (run-behind s k a (le32 (x .value)) refl refl)
+    ∙ ap (λ (z : List ℕ). written (written (written z (k + 12) (le32 (x .taken))) (k + 16) (le64 (x .gave))) (k + 24) (le64 (x .took))) (run-behind s k b (le32 (x .number)) refl refl)
+    ∙ ap (λ (z : List ℕ). written (written z (k + 16) (le64 (x .gave))) (k + 24) (le64 (x .took))) (run-behind s k c (le32 (x .taken)) refl refl)
+    ∙ ap (λ (z : List ℕ). written z (k + 24) (le64 (x .took))) (run-behind s k d (le64 (x .gave)) refl refl)
+    ∙ run-behind s k e (le64 (x .took)) refl refl
 
 pub completion-runs : (s : List ℕ) (k : ℕ) (r : Completion)
     → written (written (written (written (written (written s k (le32 (r .client))) (k + 4) (le32 (r .call))) (k + 8) (le32 (r .argument))) (k + 12) (le32 (r .value))) (k + 16) (quad (r .op) (r .outcome) (r .quality) (r .point))) (k + 20) (le64 (r .end))
@@ -69,8 +65,8 @@ completion-runs s k r =
     let c : List ℕ = b ++ le32 (r .argument) in
     let d : List ℕ = c ++ le32 (r .value) in
     let e : List ℕ = d ++ q in
-    ap (λ (z : List ℕ). written (written (written (written z (k + 8) (le32 (r .argument))) (k + 12) (le32 (r .value))) (k + 16) q) (k + 20) (le64 (r .end))) (behind s k a (le32 (r .call)) refl refl)
-    ∙ ap (λ (z : List ℕ). written (written (written z (k + 12) (le32 (r .value))) (k + 16) q) (k + 20) (le64 (r .end))) (behind s k b (le32 (r .argument)) refl refl)
-    ∙ ap (λ (z : List ℕ). written (written z (k + 16) q) (k + 20) (le64 (r .end))) (behind s k c (le32 (r .value)) refl refl)
-    ∙ ap (λ (z : List ℕ). written z (k + 20) (le64 (r .end))) (behind s k d q refl refl)
-    ∙ behind s k e (le64 (r .end)) refl refl
+    ap (λ (z : List ℕ). written (written (written (written z (k + 8) (le32 (r .argument))) (k + 12) (le32 (r .value))) (k + 16) q) (k + 20) (le64 (r .end))) (run-behind s k a (le32 (r .call)) refl refl)
+    ∙ ap (λ (z : List ℕ). written (written (written z (k + 12) (le32 (r .value))) (k + 16) q) (k + 20) (le64 (r .end))) (run-behind s k b (le32 (r .argument)) refl refl)
+    ∙ ap (λ (z : List ℕ). written (written z (k + 16) q) (k + 20) (le64 (r .end))) (run-behind s k c (le32 (r .value)) refl refl)
+    ∙ ap (λ (z : List ℕ). written z (k + 20) (le64 (r .end))) (run-behind s k d q refl refl)
+    ∙ run-behind s k e (le64 (r .end)) refl refl
