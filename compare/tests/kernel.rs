@@ -13,10 +13,13 @@ use second::cabinet::{Hold, Server, STATE_LEN};
 use second::desk::Client;
 use second::image::IMAGE_MAX;
 use second::office::LeaseManager;
-use second::packet::{write_notice, write_receipt, Notice, Receipt, RECEIPT_LEN, RESULT_LEN};
-use second::plan::{write_plan, Plan};
+use second::packet::{
+    write_notice, write_receipt, write_request, Notice, Receipt, Request, RECEIPT_LEN, RESULT_LEN,
+};
+use second::plan::{write_plan, Entry, Plan};
 use second::random::Random;
 use second::record::{parse_head, parse_record, Parsed, HEAD_LEN};
+use second::rule::Op;
 
 const FILL: u8 = 0xA5;
 const LOG_LEN: usize = 48_000;
@@ -353,6 +356,13 @@ impl World {
         let answer = self.pairs[i].call(call, lent, &mut self.outputs);
         tally.meet(&class(call, answer, &self.pairs[i].server));
         answer
+    }
+
+    /// With whole slices: the output.
+    fn run_whole(&mut self, i: usize, call: &Call, tally: &mut Tally) -> Vec<u8> {
+        let lent = self.pairs[i].whole();
+        let answer = self.run(i, call, &lent, tally);
+        self.outputs.want[..answer.written].to_vec()
     }
 
     /// With whole slices, or now and then with one too short.
@@ -906,6 +916,41 @@ fn kernel() {
     tally.finish();
 }
 
+// ---- full tables
+
+/// Two servers, all points at home at server 0.
+fn two_servers(tally: &mut Tally) -> World {
+    let mut world = World::new(seed(), &mut Tally::new("", &CLASSES));
+    world.plan = Plan::uniform(Entry {
+        low: -100,
+        high: 1000,
+        fallback: 0,
+        home: 0,
+    });
+    world.plan_bytes = write_plan(&world.plan).to_vec();
+    world.pairs = (0..2)
+        .map(|_| Pair::new(&mut world.random, LOG_LEN - 16))
+        .collect();
+    for number in 0..2 {
+        let call = Call::Found(world.plan_bytes.clone(), number);
+        world.run_whole(number as usize, &call, tally);
+    }
+    world
+}
+
+fn set(client: u32, call: u32) -> Call {
+    let request = Request {
+        op: Op::from_byte(1).expect("set"),
+        point: 5,
+        client,
+        call,
+        done: 1,
+        lease_end: 1000,
+        argument: (client + call) as i32,
+    };
+    Call::Request(write_request(&request).to_vec())
+}
+
 /// 32 clients with 16 commands each, moved and recovered.
 #[test]
 fn full() {
@@ -924,74 +969,35 @@ fn full() {
         "recover: 0",
     ];
     let mut tally = Tally::new("kernel, full tables", &CLASSES);
-    let mut world = World::new(seed(), &mut Tally::new("", &self::CLASSES));
-    let entry = second::plan::Entry {
-        low: -100,
-        high: 1000,
-        fallback: 0,
-        home: 0,
-    };
-    world.plan = Plan::uniform(entry);
-    world.plan_bytes = write_plan(&world.plan).to_vec();
-    world.pairs = (0..2)
-        .map(|_| Pair::new(&mut world.random, LOG_LEN - 16))
-        .collect();
-    let whole = world.pairs[0].whole();
     let t = &mut tally;
-    for i in 0..2 {
-        world.run(
-            i,
-            &Call::Found(world.plan_bytes.clone(), i as u32),
-            &whole,
-            t,
-        );
-    }
-    let request = |client: u32, call: u32| {
-        second::packet::write_request(&second::packet::Request {
-            op: second::rule::Op::from_byte(1).expect("set"),
-            point: 5,
-            client,
-            call,
-            done: 1,
-            lease_end: 1000,
-            argument: (client + call) as i32,
-        })
-        .to_vec()
-    };
+    let mut world = two_servers(t);
     for call in (1..=16).rev() {
         for client in 1..=32 {
-            // clients in another order than their numbers
-            let client = client * 5 % 33;
-            world.run(0, &Call::Request(request(client, call)), &whole, t);
+            // in another order than by number
+            world.run_whole(0, &set(client * 5 % 33, call), t);
         }
     }
-    world.run(0, &Call::Request(request(33, 1)), &whole, t);
-    world.run(0, &Call::Request(request(7, 7)), &whole, t);
-    world.run(0, &Call::Give(5, 1), &whole, t);
-    world.run(0, &Call::Sync(world.pairs[0].server.length), &whole, t);
-    let image = world.run(0, &Call::Image(5), &whole, t);
-    assert_eq!(image.written, IMAGE_MAX);
-    let image = world.outputs.want[..image.written].to_vec();
-    world.run(1, &Call::Take(image), &whole, t);
-    world.run(1, &Call::Sync(world.pairs[1].server.length), &whole, t);
-    let receipt = world.run(1, &Call::Receipt(5), &whole, t);
-    let receipt = world.outputs.want[..receipt.written].to_vec();
-    world.run(0, &Call::Release(receipt), &whole, t);
+    world.run_whole(0, &set(33, 1), t);
+    world.run_whole(0, &set(7, 7), t);
+    world.run_whole(0, &Call::Give(5, 1), t);
+    world.run_whole(0, &Call::Sync(world.pairs[0].server.length), t);
+    let image = world.run_whole(0, &Call::Image(5), t);
+    assert_eq!(image.len(), IMAGE_MAX);
+    world.run_whole(1, &Call::Take(image), t);
+    world.run_whole(1, &Call::Sync(world.pairs[1].server.length), t);
+    let receipt = world.run_whole(1, &Call::Receipt(5), t);
+    world.run_whole(0, &Call::Release(receipt), t);
     for client in 1..=32 {
         for call in 1..=16 {
-            world.run(1, &Call::Request(request(client, call)), &whole, t);
+            world.run_whole(1, &set(client, call), t);
         }
     }
-    for i in 0..2 {
-        let length = world.pairs[i].length();
-        let lent = Lent {
-            log: length,
-            ..world.pairs[i].whole()
-        };
+    for (i, records) in [(0, 0), (1, 512)] {
+        let mut lent = world.pairs[i].whole();
+        lent.log = world.pairs[i].length();
         let call = Call::Recover(world.plan_bytes.clone());
         world.run(i, &call, &lent, t);
+        assert_eq!(world.pairs[i].server.records.len(), records);
     }
-    assert_eq!(world.pairs[0].server.records.len(), 0);
-    assert_eq!(world.pairs[1].server.records.len(), 512);
     tally.finish();
 }
