@@ -18,11 +18,11 @@ pub extern "C" fn mantelorris_found(
     state: &mut [u8],
     log: &mut [u8],
     plan: &[u8],
-    cabinet: u32,
+    server: u32,
 ) -> u64
-    ensures { λ r. ⌜ returned r (now (state .exit)) (now (log .exit)) [] ≡ inC (foundOf (now (state .entry)) (now (log .entry)) (now (plan .entry)) cabinet) ⌝ }
+    ensures { λ r. ⌜ returned r (now (state .exit)) (now (log .exit)) [] ≡ inC (foundOf (now (state .entry)) (now (log .entry)) (now (plan .entry)) server) ⌝ }
 {
-    word_of(found::found(state, log, plan, cabinet))
+    word_of(found::found(state, log, plan, server))
 }
 
 // A request packet: executed, answered from its completion record, or refused.
