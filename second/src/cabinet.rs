@@ -905,6 +905,10 @@ fn replay(log: &[u8], plan: Plan, faults: Faults) -> Option<Server> {
             Parsed::Broken => return None,
         }
     }
+    if faults.recover_to_founding {
+        server.reset(plan, server.cabinet);
+        return Some(server);
+    }
     server.length = at as u64;
     server.mark = at as u64;
     Some(server)

@@ -19,6 +19,8 @@ pub struct Faults {
     pub lease_end_not_tested: bool,
     /// Request does not test the floor.
     pub floor_not_tested: bool,
+    /// Recover tests the log, then gives the state of a server just founded.
+    pub recover_to_founding: bool,
 }
 
 impl Faults {
@@ -31,5 +33,6 @@ impl Faults {
         gone_without_heard: false,
         lease_end_not_tested: false,
         floor_not_tested: false,
+        recover_to_founding: false,
     };
 }

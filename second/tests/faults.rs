@@ -97,6 +97,14 @@ fn floor_not_tested() {
     });
 }
 
+#[test]
+fn recover_to_the_founding_state() {
+    assert_found(Faults {
+        recover_to_founding: true,
+        ..Faults::NONE
+    });
+}
+
 /// A shortened schedule still violates, and is no longer than the first.
 #[test]
 fn shortened_schedules_still_violate() {
