@@ -37,7 +37,7 @@ use Rattle.safety.proofs.Survive.{survives-there, survives-here}
 module _ (plan : List ℕ) (es : List Event) (is : List Abstract.Event) (F : Follows (planOf plan) emptyWorld Abstract.emptyWorld es is) where
   -- ---- the end
 
-  final-like : WorldLike (planOf plan) (run es) (X.final (planOf plan) is)
+  pub final-like : WorldLike (planOf plan) (run es) (X.final (planOf plan) is)
   unfolding after X.after X.final
   final-like =
       let n : length is ≡ length es = sym (same-length F) in
