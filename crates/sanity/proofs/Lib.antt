@@ -1,3 +1,5 @@
 pub mod Calls
 pub mod Rejected
 pub mod NotVacuous
+pub mod Traced
+pub mod Computed

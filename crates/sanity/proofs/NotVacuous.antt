@@ -1,206 +1,219 @@
--- The claim speaks of something: a schedule of eight events keeps all its provisos and has a command that survives and is completed.
+-- The claim speaks of something: the schedule of Moved, with a move, two crashes and recoveries, a lease end and a late repeat, keeps all its
+-- provisos. Two commands survive and are completed, the first before the second is issued, and point 5 has a holder at move 1.
 --     not-vacuous
 -- Assumes nothing.
-use Prim.Native.Nat.{ℕ, zero, suc, _*_, _<_}
+use Prim.Native.Nat.{ℕ, zero, suc, _+_, _≤_}
 use mathlib.Core.Path.{_≡_, refl, sym, ap, _∙_, subst}
-use mathlib.Core.Bool.{true, not, false≢true}
-use mathlib.Core.List.{List, [], _∷_}
-use mathlib.Core.Option.{none, some}
+use mathlib.Core.List.{List}
+use mathlib.Core.Option.{Option, none, some}
 use native.Mathlib.Omega.{arith}
-use lib.ListN.{length, drop, replicate, getElem?, length-replicate}
-use lib.Dec.{eqb, ltb, lit<}
-use borrow.Author.Tests.{ltb-true, eq-eqb}
+use lib.Dec.{lit≤}
+use lib.ListN.{getElem?}
+use Rattle.model.specs.declared.Answer.{Answer}
+use Rattle.model.specs.declared.Client.{Client}
+use Rattle.model.specs.declared.Request.{Request}
+use Rattle.model.specs.declared.Point.{Point}
 use Rattle.model.specs.declared.Packet.the-variants.{Requested}
 use Rattle.model.specs.declared.Received.the-variants.{Completed}
-use Rattle.model.specs.Numbers.{word}
-use Rattle.model.specs.Limits.{stateSize, resultSize}
-use Rattle.model.specs.Operations.{answerOf}
-use Rattle.model.specs.Numbers.{flip, le32At, le64At, le64, signedAt, zeros3At}
-use Rattle.model.specs.Tables.{rows, everyRow, bytesOf, every, keep, zeros, written}
-use Rattle.model.specs.Plan.{planEntryOf, planEntryBytes, planEntryOk, planRowOk, planOk, planOf, planBytes, entryAt, inRange}
-use Rattle.model.specs.Rules.{leastArgument, greatestArgument, argumentOk, setRule, ruleOf}
-use Rattle.model.specs.Packets.{packetLength, idOk, doneOk, commandOk, outcomeOk, requestAt, requestOk, requestBytes, commandOf, resultAt, resultOk, resultBytes, grantAt, grantOk, grantBytes, whole, parseRequest, parseResult, parseGrant, parsePacket}
-use Rattle.model.specs.Images.{floorOfBytes, floorBytes, floorOf, inWindow, clientsAscend, floorOk}
-use Rattle.model.specs.Logs.{headBytes, executedBytes, recordBytes, recordSize}
-use Rattle.model.specs.States.{pointAt, isHeld, isSynced, pointOf, pointBytes, completionOf, completionBytes, clientsIn, recordsIn, load, stateHeadBytes, padded, stateBytes, endOk, giveFieldsOk, takeFieldsOk, pointOk, pointsOk, completionOk, isId, idsDiffer, stateFramed, pointRowOk, stateOk, sound}
-use Rattle.model.specs.Apply.{raise, staysOver, executedPoint, completion, applyExecuted, applyRecord, foundedPoint, founded, withMark}
-use Rattle.model.specs.Decisions.{withPacket, find, resultOfRecord, sameCommand, onHeld, resultFor, executedFor, noPlace, onNew, onId, decideRequest, onRequest, onSync}
-use Rattle.model.specs.Operations.{short, unfit, freeIn, stored, settle, lent, foundOf, requestOf, syncOf}
-use Rattle.model.specs.Clients.{placeOf, callAt, isOpen, leastOpen, firstOpen, withCalls, closed, requestFor, startWith, startOf, newCall, withCall, notSent, sent, issueOf, isOwn, notReceived, receiveResult, receiveWith, receiveOf, sentBytes}
+use Rattle.model.specs.declared.Sent.the-variants.{Asked}
+use Rattle.model.specs.Numbers.{half, flip, le32At, signedAt, zeros3At}
+use Rattle.model.specs.Tables.{every}
+use Rattle.model.specs.Plan.{planEntryOf, planOf, entryAt}
+use Rattle.model.specs.Rules.{leastArgument, greatestArgument, argumentOk}
+use Rattle.model.specs.Packets.{packetLength, idOk, doneOk, commandOk, outcomeOk, requestAt, requestOk, requestBytes, commandOf, resultAt, resultOk, resultBytes, whole, parseRequest, parseResult, parsePacket}
+use Rattle.model.specs.States.{State, load, pointAt}
+use Rattle.model.specs.Operations.{After, answerOf, requestOf}
+use Rattle.model.specs.Clients.{placeOf, callAt, isOpen, leastOpen, firstOpen, withCalls, closed, requestFor, newCall, withCall, notSent, sent, issueOf, isOwn, notReceived, receiveResult, receiveWith, receiveOf}
 use Rattle.model.specs.Yard.{yardPlan}
-use Rattle.model.specs.Leases.{timeAt, endedAt, runningAt, leaseEnd, isTaken, entered, spanOk, manager, notTold, granted, openOf, toldBytes}
-use Rattle.claim.specs.World.{Event, found, request, fetch, sync, notice, give, image, take·image, receipt, release, recover, crash, start, issue, resend, receive, open·lease, renew, query, nothing, running, withServer, withClient, withManager, making, lentState, lentLog, stateBack, logBack, calls, callsOn, foundAs, startsAs, startsOn, sends, receives, told, packet, step, emptyWorld, runFrom, run, after}
-use Rattle.claim.specs.Provisos.{Bytes, Slice, LentOk, Typed, At, Provisos}
-use Rattle.claim.specs.Claim.{commandAt, resultIn, Completes, SurvivesAt}
-use Rattle.laws.specs.Bytes.{All}
-use Rattle.laws.proofs.Tests.{and-left, and-right}
-use Rattle.laws.proofs.Numbers.{bytes-nil, bytes-cons}
-use Rattle.laws.proofs.Tables.{bytes-replicate}
-use Rattle.limits.proofs.Tests.{not-of-true}
-use Rattle.sanity.specs.Sample.{command, result, newState, newLog, lentAll, schedule, asked, answered, waiting}
+use Rattle.claim.specs.World.{Event, request, sync, give, crash, issue, receive, Server, nothing, running, packet, lentState, lentLog, run, after}
+use Rattle.claim.specs.Provisos.{lengthOf, At, Provisos}
+use Rattle.claim.specs.Claim.{commandAt, resultIn, Executes, SurvivesAt, Completes, Issues, stateGiven, finalState, Holder}
+use Rattle.sanity.specs.Trace.{Call, Seen, Answered, requestAnswer, callSeen, Stands, standsAt, Ended, endSeen, Trace, keepsMany, below}
+use Rattle.sanity.specs.Moved.{setting, stepping, settingResult, steppingResult, settingAsked, steppingAsked, settingAnswer, steppingAnswer, lentAll, asks, schedule, setter, stepper, newStepper, giverPoint, takerPoint, rowsSeen, traceSeen}
+use Rattle.sanity.proofs.Traced.{call-at, end-at, provisos-kept, kept-after, untouched, stands-of, answer-of}
+use Rattle.sanity.proofs.Computed.{trace-is}
 
--- ---- computed
+some-same : {A : Type 0} {a b : A} → some a ≡ some b → a ≡ b
+some-same e = cc
 
--- the server as found left it, the request and its execution, the client that waits, the result and its receipt
-runs : (after schedule 4 .servers 0 ≡ running (foundOf newState newLog yardPlan 0 .state) (headBytes 0))
-    × (packet (after schedule 4) 1 ≡ some (requestBytes asked))
-    × (requestOf (lentState lentAll (foundOf newState newLog yardPlan 0 .state)) (lentLog lentAll (headBytes 0)) (requestBytes asked) (lentAll .out) .answer ≡ answerOf 0 0)
-    × (parsePacket (requestBytes asked) ≡ Requested asked)
-    × (after schedule 7 .clients 1 ≡ some waiting)
-    × (packet (after schedule 7) 2 ≡ some (resultBytes answered))
-    × (receiveOf waiting (resultBytes answered) .answer ≡ Completed answered)
-    × ((x : ℕ) → after schedule 2 .clients x ≡ none)
-    × (every (λ b. ltb b 256) yardPlan ≡ true)
-    × (length yardPlan ≡ 1024)
-unfolding flip le32At le64At le64 signedAt zeros3At rows everyRow bytesOf every keep zeros written planEntryOf planEntryBytes planEntryOk planRowOk planOk planOf planBytes entryAt inRange leastArgument greatestArgument argumentOk setRule ruleOf packetLength idOk doneOk commandOk outcomeOk requestAt requestOk requestBytes resultAt resultOk resultBytes grantAt grantOk grantBytes whole parseRequest parseResult parseGrant parsePacket floorOfBytes floorBytes floorOf inWindow clientsAscend floorOk headBytes executedBytes recordBytes recordSize pointAt isHeld isSynced pointOf pointBytes completionOf completionBytes clientsIn recordsIn load stateHeadBytes padded stateBytes endOk giveFieldsOk takeFieldsOk pointOk pointsOk completionOk isId idsDiffer stateFramed pointRowOk stateOk sound raise staysOver executedPoint completion applyExecuted applyRecord foundedPoint founded withMark find resultOfRecord sameCommand onHeld resultFor executedFor noPlace onNew onId decideRequest onRequest onSync short unfit freeIn stored settle lent foundOf requestOf syncOf placeOf callAt isOpen leastOpen firstOpen withCalls closed requestFor startWith startOf newCall withCall notSent sent issueOf isOwn notReceived receiveResult receiveWith receiveOf sentBytes yardPlan timeAt endedAt runningAt leaseEnd isTaken entered spanOk manager notTold granted openOf toldBytes withPacket withServer withClient withManager making lentState lentLog stateBack logBack calls callsOn foundAs startsAs startsOn sends receives told packet step emptyWorld runFrom run after
-runs = (refl, refl, refl, refl, refl, refl, refl, λ x. refl, refl, refl)
+-- ---- events
 
--- ---- where events stand
-
--- the events that a proviso speaks of: 1 found, 2 recover, 3 crash, 4 start
-abbrev kind : Event → ℕ
-kind (found c state log p n) = 1
-kind (request c p l) = 0
-kind (fetch c x k l) = 0
-kind (sync c m l) = 0
-kind (notice c p l) = 0
-kind (give c p d l) = 0
-kind (image c p l) = 0
-kind (take·image c p l) = 0
-kind (receipt c p l) = 0
-kind (release c p l) = 0
-kind (recover c state log p) = 2
-kind (crash c k) = 3
-kind (start p) = 4
-kind (issue x op p a) = 0
-kind (resend x c) = 0
-kind (receive x p) = 0
-kind (open·lease t span) = 0
-kind (renew x t span) = 0
-kind (query x t) = 0
-
--- what every event of a list has
-all-at : (P : Event → Type 0) (es : List Event) → All P es → (n : ℕ) (e : Event) → getElem? es n ≡ some e → P e
-all-at P [] h n e q = let z : _≡_ {A = ℕ} 0 1 = cc in absurd (omega arith)
-all-at P (x ∷ es) h zero e q = let k : x ≡ e = cc in subst P k (h .0)
-all-at P (x ∷ es) h (suc n) e q = all-at P es (h .1) n e q
-
--- no event of a list is of kind k
-none-of : (k : ℕ) (es : List Event) → every (λ x. not (eqb (kind x) k)) es ≡ true → (n : ℕ) (e : Event) → getElem? es n ≡ some e → kind e ≡ k → ⊥
-unfolding every
-none-of k [] h n e q r = let z : _≡_ {A = ℕ} 0 1 = cc in omega arith
-none-of k (x ∷ es) h zero e q r =
-    let y : x ≡ e = cc in
-    let t : not (eqb (kind x) k) ≡ true = and-left (not (eqb (kind x) k)) (every (λ y. not (eqb (kind y) k)) es) h in
-    false≢true (sym (not-of-true (eqb (kind x) k) (eq-eqb _ _ (ap kind y ∙ r))) ∙ t)
-none-of k (x ∷ es) h (suc n) e q r = none-of k es (and-right (not (eqb (kind x) k)) (every (λ y. not (eqb (kind y) k)) es) h) n e q r
-
-same-kind : (x y : Event) → some x ≡ some y → kind x ≡ kind y
-same-kind x y e = let k : x ≡ y = cc in ap kind k
-
-same-found : (c c′ n n′ : ℕ) (s s′ g g′ p p′ : List ℕ) → some (found c s g p n) ≡ some (found c′ s′ g′ p′ n′) → (p ≡ p′) × (c ≡ c′) × (n ≡ n′)
-same-found c c′ n n′ s s′ g g′ p p′ e = (cc, cc, cc)
-
--- the one found is the first event
-found-at : (n c : ℕ) (state log p : List ℕ) (k : ℕ) → getElem? schedule n ≡ some (found c state log p k) → (n ≡ 0) × (p ≡ yardPlan) × (k ≡ c)
-unfolding every
-found-at zero c state log p k e = let f = same-found 0 c 0 k newState state newLog log yardPlan p e in (refl, sym (f .0), sym (f .2) ∙ f .1)
-found-at (suc n) c state log p k e = absurd (none-of 1 (drop 1 schedule) refl n (found c state log p k) e refl)
-
--- the one start is the third
-start-at : (n p : ℕ) → getElem? schedule n ≡ some (start p) → n ≡ 2
-unfolding every
-start-at zero p e = let k = same-kind _ (start p) e in absurd (omega arith)
-start-at (suc zero) p e = let k = same-kind _ (start p) e in absurd (omega arith)
-start-at (suc (suc zero)) p e = refl
-start-at (suc (suc (suc n))) p e = absurd (none-of 4 (drop 3 schedule) refl n (start p) e refl)
-
-no-recover : (n : ℕ) (e : Event) → getElem? schedule n ≡ some e → kind e ≡ 2 → ⊥
-unfolding every
-no-recover = none-of 2 schedule refl
-
-no-crash : (n : ℕ) (e : Event) → getElem? schedule n ≡ some e → kind e ≡ 3 → ⊥
-unfolding every
-no-crash = none-of 3 schedule refl
-
--- ---- the provisos
-
-slice-zeros : (n : ℕ) → n < word * word → Slice (replicate n 0)
-unfolding Bytes
-slice-zeros n h = record { bytes = bytes-replicate n; counted = rw (length-replicate {A = ℕ} n 0) h }
-
-every-bytes : (s : List ℕ) → every (λ b. ltb b 256) s ≡ true → Bytes s
-unfolding Bytes every
-every-bytes [] e = bytes-nil
-every-bytes (b ∷ s) e =
-    bytes-cons b s (ltb-true _ _ (and-left (ltb b 256) (every (λ x. ltb x 256) s) e)) (every-bytes s (and-right (ltb b 256) (every (λ x. ltb x 256) s) e))
-
-lent-ok : LentOk lentAll
-lent-ok = record { counted = lit< tt; tail = slice-zeros 28 (lit< tt) .bytes; out = slice-zeros resultSize (lit< tt) }
-
-typed-all : All Typed schedule
-unfolding Typed
-typed-all =
-    let p : Slice yardPlan = record { bytes = every-bytes yardPlan (runs .8); counted = rw (runs .9) (lit< tt) } in (
-      (slice-zeros stateSize (lit< tt), slice-zeros 36 (lit< tt), p, lit< tt),
-      ((lit< tt, lit< tt), (tt, ((lit< tt, lit< tt, lit< tt), (lent-ok, ((lent-ok, lit< tt), (lent-ok, (tt, tt))))))),
-    )
-
-founded-first : (c : ℕ) → after schedule 0 .servers c ≡ nothing
-unfolding after run runFrom emptyWorld
-founded-first c = refl
+row : (n : ℕ) (x : Event) (r : Seen) → getElem? schedule n ≡ some x → getElem? rowsSeen n ≡ some r → callSeen (after schedule n) x ≡ r .call
+unfolding traceSeen
+row n x r q k = call-at yardPlan 5 schedule traceSeen trace-is n x r q k
 
 provisos : Provisos yardPlan schedule
-unfolding At
-provisos =
+unfolding traceSeen rowsSeen every
+provisos = provisos-kept yardPlan 5 schedule traceSeen trace-is refl
+
+-- a request that is executed
+executes : (n c p size : ℕ) (q : Request) → At yardPlan schedule n (asks c p) → parsePacket (requestBytes q) ≡ Requested q
+    → callSeen (after schedule n) (asks c p) ≡ record { client = none; packet = some (requestBytes q); size = size; answer = some (answerOf 0 0) }
+    → Executes yardPlan schedule n c (commandOf q)
+unfolding callSeen
+executes n c p size q e parsed s =
+    let b : packet (after schedule n) p ≡ some (requestBytes q) = ap (λ (x : Call). x .packet) s in
+    let A = answer-of lentAll (after schedule n .servers c) (packet (after schedule n) p) (answerOf 0 0) (ap (λ (x : Call). x .answer) s) in
+    let same : A .bytes ≡ requestBytes q = some-same (sym (A .packet) ∙ b) in
     record {
-      typed = all-at Typed schedule typed-all;
-      one-plan = λ n c state log p k e z. found-at n c state log p k e .1;
-      plan-again = λ n c state log p e z. absurd (no-recover n (recover c state log p) e refl);
-      own-number = λ n c state log p k e z. found-at n c state log p k e .2;
-      founded-once = λ n c state log p k e z. rw (found-at n c state log p k e .0) (founded-first c);
-      crash-keeps = λ n c k e. absurd (no-crash n (crash c k) e refl);
-      recovery-uses = λ n c state log p e z. absurd (no-recover n (recover c state log p) e refl);
-      started-once = λ n p b e q z. rw (start-at n p e) (runs .7 (startOf b .client .client));
+      number = p;
+      lent = lentAll;
+      event = e;
+      state = A .state;
+      log = A .log;
+      up = A .up;
+      bytes = requestBytes q;
+      delivered = b;
+      answer = subst (λ (x : List ℕ). requestOf (lentState lentAll (A .state)) (lentLog lentAll (A .log)) x (lentAll .out) .answer ≡ answerOf 0 0) same (A .answer);
+      asked = q;
+      parsed = parsed;
+      its = refl;
     }
 
--- ---- a command that survives and is completed
+-- the packets and the clients, by themselves
+parsed : (parsePacket (requestBytes settingAsked) ≡ Requested settingAsked) × (parsePacket (requestBytes steppingAsked) ≡ Requested steppingAsked)
+unfolding flip le32At signedAt zeros3At packetLength leastArgument greatestArgument argumentOk idOk doneOk commandOk requestAt requestOk requestBytes whole parseRequest parsePacket
+parsed = (refl, refl)
 
--- event 4 executes it, and event 7 completes it
-pub not-vacuous : Provisos yardPlan schedule × SurvivesAt yardPlan schedule 4 command × Completes yardPlan schedule 7 command result
-unfolding At commandOf commandAt callAt placeOf resultIn
-not-vacuous = (
-  provisos,
-  record {
-    server = 0;
-    executes =
-        record {
-          number = 1;
-          lent = lentAll;
-          event = refl;
-          state = foundOf newState newLog yardPlan 0 .state;
-          log = headBytes 0;
-          up = runs .0;
-          bytes = requestBytes asked;
-          delivered = runs .1;
-          answer = runs .2;
-          asked = asked;
-          parsed = runs .3;
-          its = refl;
-        };
-    kept = λ m b h e. absurd (no-crash m (crash 0 b) e refl);
-  },
-  record {
-    client = 1;
-    number = 2;
-    event = refl;
-    state = waiting;
-    started = runs .4;
-    bytes = resultBytes answered;
-    delivered = runs .5;
-    received = answered;
-    answer = runs .6;
-    its = refl;
-    result = refl;
-  },
-)
+received : (receiveOf setter (resultBytes settingAnswer) .answer ≡ Completed settingAnswer) × (receiveOf stepper (resultBytes steppingAnswer) .answer ≡ Completed steppingAnswer)
+unfolding flip le32At signedAt zeros3At packetLength idOk outcomeOk resultAt resultOk resultBytes whole parseResult parsePacket placeOf callAt isOpen leastOpen firstOpen withCalls closed isOwn notReceived receiveResult receiveWith receiveOf
+received = (refl, refl)
+
+issued : issueOf newStepper 2 5 (half + 1) .answer ≡ Asked steppingAsked
+unfolding commandOk leastArgument greatestArgument argumentOk placeOf callAt isOpen leastOpen firstOpen withCalls requestFor newCall withCall notSent sent issueOf
+issued = refl
+
+set-survives : SurvivesAt yardPlan schedule 7 setting
+unfolding At schedule rowsSeen callSeen every keepsMany commandOf
+set-survives =
+    record {
+      server = 0;
+      executes = executes 7 0 2 8 settingAsked refl (parsed .0) (row 7 (asks 0 2) _ refl refl);
+      kept =
+          λ m b h e.
+          let z : lengthOf (after schedule 8 .servers 0) ≡ 36 = ap (λ (x : Call). x .size) (row 8 (sync 0 36 lentAll) _ refl refl) in
+          rw z (kept-after 0 36 7 schedule refl m b h e);
+    }
+
+step-survives : SurvivesAt yardPlan schedule 15 stepping
+unfolding At schedule rowsSeen callSeen every keepsMany commandOf
+step-survives =
+    record {
+      server = 0;
+      executes = executes 15 0 4 36 steppingAsked refl (parsed .1) (row 15 (asks 0 4) _ refl refl);
+      kept =
+          λ m b h e.
+          let z : lengthOf (after schedule 16 .servers 0) ≡ 64 = ap (λ (x : Call). x .size) (row 16 (give 0 5 1 lentAll) _ refl refl) in
+          rw z (kept-after 0 64 15 schedule refl m b h e);
+    }
+
+set-completed : Completes yardPlan schedule 10 setting settingResult
+unfolding At schedule rowsSeen callSeen commandAt callAt placeOf resultIn
+set-completed =
+    let s = row 10 (receive 1 3) _ refl refl in
+    record {
+      client = 1;
+      number = 3;
+      event = refl;
+      state = setter;
+      started = ap (λ (x : Call). x .client) s;
+      bytes = resultBytes settingAnswer;
+      delivered = ap (λ (x : Call). x .packet) s;
+      received = settingAnswer;
+      answer = received .0;
+      its = refl;
+      result = refl;
+    }
+
+step-completed : Completes yardPlan schedule 23 stepping steppingResult
+unfolding At schedule rowsSeen callSeen commandAt callAt placeOf resultIn
+step-completed =
+    let s = row 23 (receive 2 6) _ refl refl in
+    record {
+      client = 2;
+      number = 6;
+      event = refl;
+      state = stepper;
+      started = ap (λ (x : Call). x .client) s;
+      bytes = resultBytes steppingAnswer;
+      delivered = ap (λ (x : Call). x .packet) s;
+      received = steppingAnswer;
+      answer = received .1;
+      its = refl;
+      result = refl;
+    }
+
+step-issued : Issues yardPlan schedule 11 stepping
+unfolding At schedule rowsSeen callSeen commandOf
+step-issued =
+    record {
+      client = 2;
+      op = 2;
+      point = 5;
+      argument = half + 1;
+      event = refl;
+      state = newStepper;
+      started = ap (λ (x : Call). x .client) (row 11 (issue 2 2 5 (half + 1)) _ refl refl);
+      asked = steppingAsked;
+      answer = issued;
+      its = refl;
+    }
+
+-- ---- the holder
+
+giver : standsAt 5 (run schedule .servers 0) ≡ some (record { point = giverPoint; heard = 0 })
+unfolding endSeen traceSeen
+giver = ap (λ (x : Ended). x .first) (end-at yardPlan 5 schedule traceSeen trace-is)
+
+taker : standsAt 5 (run schedule .servers 1) ≡ some (record { point = takerPoint; heard = 20 })
+unfolding endSeen traceSeen
+taker = ap (λ (x : Ended). x .second) (end-at yardPlan 5 schedule traceSeen trace-is)
+
+-- the point of a server that counts
+final-point : (c : ℕ) (x : Stands) → standsAt 5 (run schedule .servers c) ≡ some x → (st : State) → finalState yardPlan schedule c ≡ some st → pointAt st 5 ≡ x .point
+unfolding finalState stateGiven
+final-point c x e st q =
+    let s = stands-of 5 (run schedule .servers c) x e in
+    let z : load (s .0) ≡ st = some-same (sym (ap (stateGiven yardPlan schedule) (s .2)) ∙ q) in
+    subst (λ (y : State). pointAt y 5 ≡ x .point) z (s .3)
+
+-- every other server is not founded
+no-other : (d : ℕ) (st : State) → finalState yardPlan schedule (suc (suc d)) ≡ some st → ⊥
+unfolding finalState stateGiven schedule every below
+no-other d st q =
+    let n : run schedule .servers (suc (suc d)) ≡ nothing = untouched (suc (suc d)) 2 (omega arith) schedule refl in
+    let e : none ≡ some st = sym (ap (stateGiven yardPlan schedule) n) ∙ q in
+    let z : _≡_ {A = ℕ} 0 1 = cc in
+    omega arith
+
+-- both servers stand at move 1, and server 1 took the point there
+move-of : (d : ℕ) (st : State) → finalState yardPlan schedule d ≡ some st → (pointAt st 5 .number ≡ 1) × (pointAt st 5 .taken ≤ 1)
+move-of zero st q = let z = final-point 0 _ giver st q in (ap (λ (x : Point). x .number) z, rw z (lit≤ tt))
+move-of (suc zero) st q = let z = final-point 1 _ taker st q in (ap (λ (x : Point). x .number) z, rw z (lit≤ tt))
+move-of (suc (suc d)) st q = absurd (no-other d st q)
+
+holder : (st : State) × Holder yardPlan schedule 5 1 st × (pointAt st 5 ≡ takerPoint) × (st .heard ≡ 20)
+unfolding finalState stateGiven
+holder =
+    let s = stands-of 5 (run schedule .servers 1) _ taker in
+    let e : finalState yardPlan schedule 1 ≡ some (load (s .0)) = ap (stateGiven yardPlan schedule) (s .2) in (
+      load (s .0),
+      record {
+        founded = e;
+        greatest = λ d other q. rw (move-of d other q .0, s .3) (lit≤ tt);
+        taker = λ d other q z. rw (s .3) (move-of d other q .1);
+        home = λ z. absurd (let k = ap (λ (x : Point). x .number) (s .3) in omega (arith, k, z));
+      },
+      s .3,
+      s .4,
+    )
+
+-- events 7 and 15 execute the two commands and survive, events 10 and 23 complete them, and event 11 issues the second
+pub not-vacuous : Provisos yardPlan schedule
+    × SurvivesAt yardPlan schedule 7 setting
+    × Completes yardPlan schedule 10 setting settingResult
+    × Issues yardPlan schedule 11 stepping
+    × SurvivesAt yardPlan schedule 15 stepping
+    × Completes yardPlan schedule 23 stepping steppingResult
+    × ((st : State) × Holder yardPlan schedule 5 1 st × (pointAt st 5 ≡ takerPoint) × (st .heard ≡ 20))
+not-vacuous = (provisos, set-survives, set-completed, step-issued, step-survives, step-completed, holder)

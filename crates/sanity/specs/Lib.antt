@@ -1,2 +1,4 @@
 pub mod Ready
 pub mod Sample
+pub mod Trace
+pub mod Moved

@@ -1,0 +1,239 @@
+-- A schedule over bytes, run once: whether each event keeps the provisos in the world before it, what its call gets and answers, and how the
+-- servers stand at the end.
+-- Assumes nothing.
+use Prim.Native.Nat.{ℕ, _*_}
+use mathlib.Core.Path.{_≡_}
+use mathlib.Core.Bool.{Bool, true, false, _&&_, _||_, not}
+use mathlib.Core.List.{List, [], _∷_}
+use mathlib.Core.Option.{Option, none, some}
+use lib.ListN.{length}
+use lib.Dec.{eqb, leb, ltb}
+use Rattle.model.specs.declared.Answer.{Answer}
+use Rattle.model.specs.declared.Client.{Client}
+use Rattle.model.specs.declared.Point.{Point}
+use Rattle.model.specs.declared.StartAnswer.{StartAnswer}
+use Rattle.model.specs.declared.Started.the-variants.{NotStarted, Running}
+use Rattle.model.specs.Numbers.{word}
+use Rattle.model.specs.Tables.{every}
+use Rattle.model.specs.States.{load, pointAt}
+use Rattle.model.specs.Operations.{After, requestOf}
+use Rattle.model.specs.Clients.{startOf}
+use Rattle.claim.specs.World.{Event, found, request, fetch, sync, notice, give, image, take·image, receipt, release, recover, crash, start, issue, resend, receive, open·lease, renew, query, Lent, World, Server, nothing, running, crashed, lentState, lentLog, packet, step}
+use Rattle.claim.specs.Provisos.{keptBy, markOf, lengthOf}
+
+-- ---- the provisos, as tests
+
+unfoldable pub bytesOk : List ℕ → Bool
+bytesOk s = every (λ b. ltb b 256) s
+
+unfoldable pub sliceOk : List ℕ → Bool
+sliceOk s = bytesOk s && ltb (length s) (word * word)
+
+unfoldable pub lentOk : Lent → Bool
+lentOk l = ltb (l .log) (word * word) && (bytesOk (l .tail) && sliceOk (l .out))
+
+unfoldable pub typedOk : Event → Bool
+typedOk (found c state log plan n) = sliceOk state && (sliceOk log && (sliceOk plan && ltb n word))
+typedOk (request c p l) = lentOk l
+typedOk (fetch c x k l) = lentOk l && (ltb x word && ltb k word)
+typedOk (sync c m l) = lentOk l && ltb m (word * word)
+typedOk (notice c p l) = lentOk l
+typedOk (give c p d l) = lentOk l && (ltb p word && ltb d word)
+typedOk (image c p l) = lentOk l && ltb p word
+typedOk (take·image c p l) = lentOk l
+typedOk (receipt c p l) = lentOk l && ltb p word
+typedOk (release c p l) = lentOk l
+typedOk (recover c state log plan) = sliceOk state && (sliceOk log && sliceOk plan)
+typedOk (crash c k) = true
+typedOk (start p) = true
+typedOk (issue x op p a) = ltb op 256 && (ltb p 256 && ltb a word)
+typedOk (resend x c) = ltb c word
+typedOk (receive x p) = true
+typedOk (open·lease t span) = ltb t word && ltb span word
+typedOk (renew x t span) = ltb x word && (ltb t word && ltb span word)
+typedOk (query x t) = ltb x word && ltb t word
+
+unfoldable pub sameBytes : List ℕ → List ℕ → Bool
+sameBytes [] [] = true
+sameBytes [] (b ∷ t) = false
+sameBytes (a ∷ s) [] = false
+sameBytes (a ∷ s) (b ∷ t) = eqb a b && sameBytes s t
+
+unfoldable pub isNothing : Server → Bool
+isNothing nothing = true
+isNothing (running state log) = false
+isNothing (crashed kept mark) = false
+
+unfoldable pub keptIs : List ℕ → Option (List ℕ) → Bool
+keptIs log none = false
+keptIs log (some s) = sameBytes s log
+
+unfoldable pub isNone : Option Client → Bool
+isNone none = true
+isNone (some d) = false
+
+-- a start of the packet, if it starts a client, starts a new one
+unfoldable pub startsNew : World → Option (List ℕ) → Bool
+startsNew w none = true
+startsNew w (some b) = isNone (w .clients (startOf b .client .client))
+
+-- the other provisos; found and recover are taken as not refused
+unfoldable pub keepsOk : List ℕ → World → Event → Bool
+keepsOk plan w (found c state log p n) = sameBytes p plan && (eqb n c && isNothing (w .servers c))
+keepsOk plan w (request c p l) = true
+keepsOk plan w (fetch c x k l) = true
+keepsOk plan w (sync c m l) = true
+keepsOk plan w (notice c p l) = true
+keepsOk plan w (give c p d l) = true
+keepsOk plan w (image c p l) = true
+keepsOk plan w (take·image c p l) = true
+keepsOk plan w (receipt c p l) = true
+keepsOk plan w (release c p l) = true
+keepsOk plan w (recover c state log p) = sameBytes p plan && keptIs log (keptBy (w .servers c))
+keepsOk plan w (crash c k) = leb (markOf (w .servers c)) k && leb k (lengthOf (w .servers c))
+keepsOk plan w (start p) = startsNew w (packet w p)
+keepsOk plan w (issue x op p a) = true
+keepsOk plan w (resend x c) = true
+keepsOk plan w (receive x p) = true
+keepsOk plan w (open·lease t span) = true
+keepsOk plan w (renew x t span) = true
+keepsOk plan w (query x t) = true
+
+-- ---- what is seen of an event
+
+-- what an event's call gets: the client and the packet it names, and its server's log before it, by length; and what a request answers
+pub record Call : Type 0 where
+  pub client : Option Client
+  pub packet : Option (List ℕ)
+  pub size : ℕ
+  pub answer : Option Answer
+
+unfoldable pub requestAnswer : Lent → Server → Option (List ℕ) → Option Answer
+requestAnswer l nothing p = none
+requestAnswer l (running state log) none = none
+requestAnswer l (running state log) (some b) = some (requestOf (lentState l state) (lentLog l log) b (l .out) .answer)
+requestAnswer l (crashed kept mark) p = none
+
+abbrev pub atServer : Server → Option (List ℕ) → Option Answer → Call
+atServer s b a = record { client = none; packet = b; size = lengthOf s; answer = a }
+
+abbrev pub atClient : Option Client → Option (List ℕ) → Call
+atClient d b = record { client = d; packet = b; size = 0; answer = none }
+
+unfoldable pub callSeen : World → Event → Call
+callSeen w (found c state log p n) = atServer (w .servers c) none none
+callSeen w (request c p l) = atServer (w .servers c) (packet w p) (requestAnswer l (w .servers c) (packet w p))
+callSeen w (fetch c x k l) = atServer (w .servers c) none none
+callSeen w (sync c m l) = atServer (w .servers c) none none
+callSeen w (notice c p l) = atServer (w .servers c) (packet w p) none
+callSeen w (give c p d l) = atServer (w .servers c) none none
+callSeen w (image c p l) = atServer (w .servers c) none none
+callSeen w (take·image c p l) = atServer (w .servers c) (packet w p) none
+callSeen w (receipt c p l) = atServer (w .servers c) none none
+callSeen w (release c p l) = atServer (w .servers c) (packet w p) none
+callSeen w (recover c state log p) = atServer (w .servers c) none none
+callSeen w (crash c k) = atServer (w .servers c) none none
+callSeen w (start p) = atClient none (packet w p)
+callSeen w (issue x op p a) = atClient (w .clients x) none
+callSeen w (resend x c) = atClient (w .clients x) none
+callSeen w (receive x p) = atClient (w .clients x) (packet w p)
+callSeen w (open·lease t span) = atClient none none
+callSeen w (renew x t span) = atClient none none
+callSeen w (query x t) = atClient none none
+
+-- `ok`: it keeps the provisos
+pub record Seen : Type 0 where
+  pub ok : Bool
+  pub call : Call
+
+unfoldable pub seenAt : List ℕ → World → Event → Seen
+seenAt plan w e = record { ok = typedOk e && keepsOk plan w e; call = callSeen w e }
+
+-- a request that was answered: its server ran, and its packet was made
+pub record Answered (l : Lent) (s : Server) (o : Option (List ℕ)) (a : Answer) : Type 0 where
+  pub state : List ℕ
+  pub log : List ℕ
+  pub up : s ≡ running state log
+  pub bytes : List ℕ
+  pub packet : o ≡ some bytes
+  pub answer : requestOf (lentState l state) (lentLog l log) bytes (l .out) .answer ≡ a
+
+-- ---- the end
+
+-- of a running server: the point p, and heard time
+pub record Stands : Type 0 where
+  pub point : Point
+  pub heard : ℕ
+
+unfoldable pub standsAt : ℕ → Server → Option Stands
+standsAt p nothing = none
+standsAt p (running state log) = let st = load state in some (record { point = pointAt st p; heard = st .heard })
+standsAt p (crashed kept mark) = none
+
+-- of servers 0 and 1
+pub record Ended : Type 0 where
+  pub first : Option Stands
+  pub second : Option Stands
+
+unfoldable pub endSeen : ℕ → World → Ended
+endSeen p w = record { first = standsAt p (w .servers 0); second = standsAt p (w .servers 1) }
+
+-- ---- the run
+
+pub record Trace : Type 0 where
+  pub rows : List Seen
+  pub end : Ended
+
+unfoldable pub traceFrom : List ℕ → ℕ → World → List Event → Trace
+traceFrom plan p w [] = record { rows = []; end = endSeen p w }
+traceFrom plan p w (e ∷ es) =
+    let t = traceFrom plan p (step w e) es in
+    record { rows = seenAt plan w e ∷ t .rows; end = t .end }
+
+-- ---- crashes
+
+-- a crash of server c keeps k bytes or more
+unfoldable pub keepsMany : ℕ → ℕ → Event → Bool
+keepsMany c k (found d state log p n) = true
+keepsMany c k (request d p l) = true
+keepsMany c k (fetch d x n l) = true
+keepsMany c k (sync d m l) = true
+keepsMany c k (notice d p l) = true
+keepsMany c k (give d p n l) = true
+keepsMany c k (image d p l) = true
+keepsMany c k (take·image d p l) = true
+keepsMany c k (receipt d p l) = true
+keepsMany c k (release d p l) = true
+keepsMany c k (recover d state log p) = true
+keepsMany c k (crash d b) = not (eqb d c) || leb k b
+keepsMany c k (start p) = true
+keepsMany c k (issue x op p a) = true
+keepsMany c k (resend x n) = true
+keepsMany c k (receive x p) = true
+keepsMany c k (open·lease t span) = true
+keepsMany c k (renew x t span) = true
+keepsMany c k (query x t) = true
+
+-- ---- servers that no event names
+
+-- its server, where it has one, has a number below k
+unfoldable pub below : ℕ → Event → Bool
+below k (found c state log p n) = ltb c k
+below k (request c p l) = ltb c k
+below k (fetch c x n l) = ltb c k
+below k (sync c m l) = ltb c k
+below k (notice c p l) = ltb c k
+below k (give c p d l) = ltb c k
+below k (image c p l) = ltb c k
+below k (take·image c p l) = ltb c k
+below k (receipt c p l) = ltb c k
+below k (release c p l) = ltb c k
+below k (recover c state log p) = ltb c k
+below k (crash c b) = ltb c k
+below k (start p) = true
+below k (issue x op p a) = true
+below k (resend x c) = true
+below k (receive x p) = true
+below k (open·lease t span) = true
+below k (renew x t span) = true
+below k (query x t) = true
