@@ -83,13 +83,16 @@ pub fn numbers_of(packet: &Packet) -> [u8; NUMBERS_LEN] {
 #[inline]
 pub fn parse(packet: &[u8], numbers: &mut [u8]) -> u32 {
     let Some(numbers) = numbers.first_chunk_mut() else {
-        return 0;
+        return 2;
     };
     match parse_packet(packet) {
-        Some(packet) => put_numbers(&packet, numbers),
+        Some(packet) => {
+            put_numbers(&packet, numbers);
+            0
+        }
         None => {
             *numbers = [0; NUMBERS_LEN];
-            0
+            1
         }
     }
 }
@@ -371,16 +374,16 @@ pub fn range_plan((low, high): (i32, i32)) -> Plan {
     })
 }
 
-/// 0: malformed, the range aside. Bit 0: 1; bit 1: the values are in the plan's
-/// range; bits 16 to 31: floors; from 32 on: records.
+/// Bit 0: the paper's number, 1 for a malformed image, the range aside; bit 1:
+/// the values are in the plan's range; bits 16 to 31: floors; from 32 on: records.
 #[inline]
 pub fn image(bytes: &[u8], plan: &Plan) -> u64 {
     let within = parse_image(bytes, plan);
     let Some(image) = within.or_else(|| parse_image(bytes, &ANY)) else {
-        return 0;
+        return 1;
     };
     let in_range = if within.is_some() { 2 } else { 0 };
-    1 + in_range + ((image.floor_count() as u64) << 16) + ((image.record_count() as u64) << 32)
+    in_range + ((image.floor_count() as u64) << 16) + ((image.record_count() as u64) << 32)
 }
 
 /// The image read and written anew; 0 where malformed, or the output too short.

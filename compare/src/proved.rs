@@ -234,7 +234,8 @@ mod c {
 // A slice is a pointer and its length; the functions are proved to stay inside it, for all arguments.
 // Each is inlined, so that a caller calls the proved code itself.
 
-/// The kind, 0 for a malformed packet; the numbers, of at least 32 bytes.
+/// The paper's number: 1 for a malformed packet, 2 for fewer than 32 bytes of
+/// numbers; and the numbers, the kind first.
 #[inline]
 pub fn parse(packet: &[u8], numbers: &mut [u8]) -> u32 {
     unsafe {
@@ -287,8 +288,8 @@ pub fn plan_ok(plan: &[u8]) -> bool {
     unsafe { c::mantelorris_test_plan_ok(plan.as_ptr(), plan.len()) == 1 }
 }
 
-/// 0: malformed, the range aside. Bit 0: 1; bit 1: the values are in range; bits
-/// 16 to 31: floors; from 32 on: records.
+/// Bit 0: the paper's number, 1 for a malformed image, the range aside; bit 1:
+/// the values are in range; bits 16 to 31: floors; from 32 on: records.
 #[inline]
 pub fn image(bytes: &[u8], (low, high): (i32, i32)) -> u64 {
     unsafe { c::mantelorris_test_image(bytes.as_ptr(), bytes.len(), kept(low), kept(high)) }

@@ -47,19 +47,19 @@ fn put_u64(b: &mut [u8], at: usize, value: u64) {
     b[at..at + 8].copy_from_slice(&value.to_le_bytes());
 }
 
-/// A signed number is kept as x + 2^31.
+/// A signed number is kept in two's complement.
 fn put_signed(b: &mut [u8], at: usize, value: i32) {
-    put_u32(b, at, value as u32 ^ 1 << 31);
+    put_u32(b, at, value as u32);
 }
 
 /// A released point's destination and give are no longer known to the second
-/// program: another server, and the end of a first record.
+/// program: another server, and an end right after the take's.
 fn put_point(b: &mut [u8], point: &Point, server: u8) {
     let (status, destination, gave) = match point.hold {
         Hold::Absent => (0, 0, 0),
         Hold::Held => (1, 0, 0),
         Hold::Given { destination, end } => (2, destination, end),
-        Hold::Released => (3, (server + 1) % 16, 9),
+        Hold::Released => (3, (server + 1) % 16, point.taken.map_or(9, |t| t.end + 1)),
     };
     b[0] = status;
     b[1] = point.quality;
@@ -93,19 +93,17 @@ pub fn server(random: &mut Random, tables: Tables, point: u8, percent: u32) -> S
     server.cabinet = random.below(16) as u8;
     server.plan = inputs::plan(random);
     server.heard = inputs::number(random);
-    server.length = u64::from(9 + random.below(LOG_LEN as u32 - 8));
-    server.mark = 9 + random.next_u64() % (server.length - 8);
+    server.length = u64::from(10 + random.below(LOG_LEN as u32 - 9));
+    server.mark = 10 + random.next_u64() % (server.length - 9);
     for p in 0..POINTS {
         server.points[p] = point_state(random, &server, p as u8);
     }
-    let destination = (server.cabinet + 1 + random.below(15) as u8) % 16;
+    let taken = taken(random, &server, point, server.mark);
+    let hold = given(random, &server, taken, server.mark);
     let given = &mut server.points[usize::from(point)];
-    given.hold = Hold::Given {
-        destination,
-        end: 9 + random.next_u64() % (server.mark - 8),
-    };
-    given.move_number = inputs::at_least_1(random);
-    given.taken = None;
+    given.hold = hold;
+    given.move_number = 1 + taken.map_or(0, |t| t.move_number);
+    given.taken = taken;
     server.clients = inputs::floors(random, tables);
     server.records = records(random, &server, tables, point, percent);
     server
@@ -115,24 +113,46 @@ fn end(random: &mut Random, server: &Server) -> u64 {
     9 + random.next_u64() % (server.length - 8)
 }
 
+/// The latest take, with an end below that one; a point at its home may never
+/// have been taken.
+fn taken(random: &mut Random, server: &Server, p: u8, end: u64) -> Option<Taken> {
+    if server.plan.entry(p).home == server.cabinet && random.chance(50) {
+        return None;
+    }
+    Some(Taken {
+        move_number: inputs::at_least_1(random).min(u32::MAX - 1),
+        end: 9 + random.next_u64() % (end - 9),
+    })
+}
+
+/// Given after the take, with an end up to that one.
+fn given(random: &mut Random, server: &Server, taken: Option<Taken>, end: u64) -> Hold {
+    let first = taken.map_or(9, |t| t.end + 1);
+    Hold::Given {
+        destination: (server.cabinet + 1 + random.below(15) as u8) % 16,
+        end: first + random.next_u64() % (end + 1 - first),
+    }
+}
+
+/// A point as a run may leave it: an absent one as founding did; a held one has
+/// the move it was taken with, a given or released one the next.
 fn point_state(random: &mut Random, server: &Server, p: u8) -> Point {
     let entry: Entry = *server.plan.entry(p);
-    let home = entry.home == server.cabinet;
-    let number = inputs::at_least_1(random).max(2);
-    let taken = Taken {
-        move_number: 1 + random.below(number - 1),
-        end: end(random, server),
-    };
-    let (hold, move_number, taken) = match random.below(4) {
-        0 if home => (Hold::Held, 0, None),
-        0 => (Hold::Absent, 0, None),
-        1 => (Hold::Held, taken.move_number, Some(taken)),
-        2 => (Hold::Released, number, Some(taken)),
-        _ => {
-            let destination = (server.cabinet + 1) % 16;
-            let end = end(random, server);
-            (Hold::Given { destination, end }, number, Some(taken))
-        }
+    if entry.home != server.cabinet && random.chance(25) {
+        return Point {
+            value: entry.fallback,
+            quality: 1,
+            move_number: 0,
+            hold: Hold::Absent,
+            taken: None,
+        };
+    }
+    let taken = taken(random, server, p, server.length);
+    let latest = taken.map_or(0, |t| t.move_number);
+    let (hold, move_number) = match random.below(3) {
+        0 => (Hold::Held, latest),
+        1 => (Hold::Released, latest + 1),
+        _ => (given(random, server, taken, server.length), latest + 1),
     };
     Point {
         value: inputs::within(random, (entry.low, entry.high)),

@@ -5,7 +5,7 @@
 
 use compare::inputs::{self, Tables};
 use compare::kernel::Call;
-use compare::states::{self, POINTS_AT};
+use compare::states::{self, POINTS_AT, RECORDS_AT};
 use compare::tally::{runs, seed, Tally};
 use second::answer::Answer;
 use second::bytes::{get_u32, put_u32};
@@ -871,10 +871,12 @@ impl World {
     }
 }
 
-/// A byte that has one value in every sound buffer, or a field past its limit.
+/// A byte that has one value in every sound buffer, a field past its limit, or
+/// what no run leaves: a move number that is not the status's, or records out of
+/// the order of arrival.
 fn spoil(random: &mut Random, state: &mut [u8]) {
     let row = 32 * random.below(64) as usize;
-    match random.below(9) {
+    match random.below(12) {
         0 => state[random.below(4) as usize] ^= 1,
         1 => state[5 + random.below(3) as usize] = 1,
         2 => state[4] = 16,
@@ -883,7 +885,22 @@ fn spoil(random: &mut Random, state: &mut [u8]) {
         5 => state[20 + random.below(4) as usize] = 1,
         6 => state[POINTS_AT + row] = 4,
         7 => state[POINTS_AT + row + 3] = 1,
+        8 => state[POINTS_AT + row + 8] ^= 1,
+        9 => state[POINTS_AT + row + 12] ^= 1,
+        10 => late_first(state),
         _ => state[POINTS_AT + row + 1] = 2,
+    }
+}
+
+/// Exchanges the first two neighbouring records that came with different log
+/// records; the magic's first byte where there are none.
+fn late_first(state: &mut [u8]) {
+    let count = get_u32(state, 16) as usize;
+    let row = |i: usize| RECORDS_AT + 28 * i;
+    let end = |i: usize| state[row(i) + 20..row(i) + 28].to_vec();
+    match (1..count).find(|&i| end(i - 1) != end(i)) {
+        Some(i) => state[row(i - 1)..row(i + 1)].rotate_left(28),
+        None => state[0] ^= 1,
     }
 }
 

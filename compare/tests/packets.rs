@@ -151,11 +151,11 @@ fn parsed() {
         } else {
             NUMBERS
         };
-        let kind = proved::parse(&bytes, &mut have[..room]);
-        let kind_wanted = other::parse(&bytes, &mut want[..room]);
+        let number = proved::parse(&bytes, &mut have[..room]);
+        let number_wanted = other::parse(&bytes, &mut want[..room]);
         assert_eq!(
-            (kind, have),
-            (kind_wanted, want),
+            (number, have),
+            (number_wanted, want),
             "packet {bytes:02x?}, {room}"
         );
         assert_eq!(
@@ -170,7 +170,9 @@ fn parsed() {
         }
         let well_formed = CLASSES[..6].iter().position(|&c| c == class);
         let kind_of_class = well_formed.map_or(0, |at| at as u32 + 1);
+        let kind = u32::from_le_bytes([have[0], have[1], have[2], have[3]]);
         assert_eq!(kind, kind_of_class, "packet {bytes:02x?}: {class}");
+        assert_eq!(number, u32::from(kind == 0), "packet {bytes:02x?}: {class}");
         tally.meet(class);
     }
     tally.finish();

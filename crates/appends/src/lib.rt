@@ -3,6 +3,8 @@ use model::Executed;
 use model::Give;
 use model::Notice;
 use model::Release;
+use model::constants;
+use model::constants::LOG_MAGIC;
 ghost use mathlib.Core.Path.{_≡_};
 ghost use Prim.Native.Nat.{_+_, _≤_};
 ghost use mathlib.Core.Bool.{true};
@@ -12,31 +14,20 @@ ghost use Rattle.model.specs.Images.{imageHeadOf, imageAt, imageOk};
 ghost use Rattle.model.specs.Logs.{headBytes, executed, gone, gave, took, released, recordBytes, executedBytes, giveBytes, releaseBytes};
 ghost use Rattle.appends.specs.Fronts.{takeFront};
 
-// ---- limits
-
-// The four bytes that open a log: 57 4C 47 31.
-pub const MAGIC: [u8; 4] = *b"WLG1";
-
-pub const HEAD_SIZE: usize = 8;
-
-// Bytes of the records; a take has 8 and its image.
-pub const EXECUTED_SIZE: usize = 28;
-
-pub const GONE_SIZE: usize = 12;
-
-pub const GIVE_SIZE: usize = 8;
-
-pub const TAKE_HEAD: usize = 8;
-
-pub const RELEASE_SIZE: usize = 8;
-
 // ---- into a lent part
 
 pub fn write_head(log: &mut [u8], n: u8)
     requires { ⌜ 8 ≤ length (now log) ⌝ }
     ensures { λ r. ⌜ now (log .exit) ≡ written (now (log .entry)) 0 (headBytes n) ⌝ }
 {
-    wire::write_4(log, 0, MAGIC[0], MAGIC[1], MAGIC[2], MAGIC[3]);
+    wire::write_4(
+        log,
+        0,
+        LOG_MAGIC[0],
+        LOG_MAGIC[1],
+        LOG_MAGIC[2],
+        LOG_MAGIC[3],
+    );
     wire::write_4(log, 4, n, 0, 0, 0);
 }
 
@@ -44,29 +35,36 @@ fn write_executed(out: &mut [u8], x: Executed)
     requires { ⌜ 28 ≤ length (now out) ⌝ }
     ensures { λ r. ⌜ now (out .exit) ≡ written (now (out .entry)) 0 (executedBytes x) ⌝ }
 {
-    wire::write_4(out, 0, 1, x.op, x.point, x.outcome);
-    wire::write_u32(out, 4, x.client);
-    wire::write_u32(out, 8, x.call);
+    wire::write_4(
+        out,
+        0,
+        constants::EXECUTED_KIND,
+        x.command.op,
+        x.command.point,
+        x.result.outcome,
+    );
+    wire::write_u32(out, 4, x.command.client);
+    wire::write_u32(out, 8, x.command.call);
     wire::write_u32(out, 12, x.done);
-    wire::write_signed(out, 16, x.argument);
-    wire::write_signed(out, 20, x.value);
-    wire::write_4(out, 24, x.quality, 0, 0, 0);
+    wire::write_signed(out, 16, x.command.argument);
+    wire::write_signed(out, 20, x.result.value);
+    wire::write_4(out, 24, x.result.quality, 0, 0, 0);
 }
 
 fn write_give(out: &mut [u8], x: Give)
     requires { ⌜ 8 ≤ length (now out) ⌝ }
     ensures { λ r. ⌜ now (out .exit) ≡ written (now (out .entry)) 0 (giveBytes x) ⌝ }
 {
-    wire::write_4(out, 0, 3, x.point, x.destination, 0);
-    wire::write_u32(out, 4, x.number);
+    wire::write_4(out, 0, constants::GIVE_KIND, x.point, x.destination, 0);
+    wire::write_u32(out, 4, x.moveNumber);
 }
 
 fn write_release(out: &mut [u8], x: Release)
     requires { ⌜ 8 ≤ length (now out) ⌝ }
     ensures { λ r. ⌜ now (out .exit) ≡ written (now (out .entry)) 0 (releaseBytes x) ⌝ }
 {
-    wire::write_4(out, 0, 5, x.point, 0, 0);
-    wire::write_u32(out, 4, x.number);
+    wire::write_4(out, 0, constants::RELEASE_KIND, x.point, 0, 0);
+    wire::write_u32(out, 4, x.moveNumber);
 }
 
 // A take record's bytes before its image of n bytes.
@@ -74,7 +72,7 @@ fn write_take_front(out: &mut [u8], n: u32)
     requires { ⌜ 8 ≤ length (now out) ⌝ }
     ensures { λ r. ⌜ now (out .exit) ≡ written (now (out .entry)) 0 (takeFront n) ⌝ }
 {
-    wire::write_4(out, 0, 4, 0, 0, 0);
+    wire::write_4(out, 0, constants::TAKE_KIND, 0, 0, 0);
     wire::write_u32(out, 4, n);
 }
 
@@ -103,7 +101,7 @@ pub fn append_gone(log: &mut [u8], at: usize, x: Notice)
     requires { ⌜ at + 12 ≤ length (now log) ⌝ }
     ensures { λ r. ⌜ now (log .exit) ≡ written (now (log .entry)) at (recordBytes (gone x)) ⌝ }
 {
-    packets::write_notice(&mut log[at..], 2, x);
+    packets::write_notice(&mut log[at..], constants::GONE_KIND, x);
 }
 
 pub fn append_give(log: &mut [u8], at: usize, x: Give)
@@ -134,6 +132,6 @@ pub fn append_take(log: &mut [u8], at: usize, image: &[u8])
     ensures { λ r. ⌜ now (log .exit) ≡ written (now (log .entry)) at (recordBytes (took (imageAt (imageHeadOf (now (image .entry))) (now (image .entry))))) ⌝ }
 {
     append_take_head(log, at, image.len() as u32);
-    let from = at + TAKE_HEAD;
+    let from = at + constants::TAKE_HEAD;
     copy_bytes(&mut log[from..], image);
 }

@@ -20,12 +20,12 @@ use Rattle.laws.proofs.Tables.{keep-append, keep-yes}
 
 module _ (st : State) (end : ℕ) where
   pub executed-composed : (x : Executed)
-      → staysOver (x .client) (floorOf (x .client) (raise (x .client) (x .done) (st .floors))) (completion x end) ≡ true
-      → withSize end (withPoint (x .point) (executedPoint x (pointAt st (x .point))) (withRecords (keep (staysOver (x .client) (floorOf (x .client) (raise (x .client) (x .done) (st .floors)))) (st .records) ++ (completion x end ∷ [])) (withFloors (raise (x .client) (x .done) (st .floors)) st)))
+      → staysOver (x .command .client) (floorOf (x .command .client) (raise (x .command .client) (x .done) (st .floors))) (completion x end) ≡ true
+      → withSize end (withPoint (x .command .point) (executedPoint x (pointAt st (x .command .point))) (withRecords (keep (staysOver (x .command .client) (floorOf (x .command .client) (raise (x .command .client) (x .done) (st .floors)))) (st .records) ++ (completion x end ∷ [])) (withFloors (raise (x .command .client) (x .done) (st .floors)) st)))
       ≡ applyExecuted x end st
   unfolding withSize withPoint withRecords withFloors applyExecuted
   executed-composed x h =
-      let p : Completion → Bool = staysOver (x .client) (floorOf (x .client) (raise (x .client) (x .done) (st .floors))) in
+      let p : Completion → Bool = staysOver (x .command .client) (floorOf (x .command .client) (raise (x .command .client) (x .done) (st .floors))) in
       rw (keep-yes p (st .records) (completion x end) h)
 
   pub gone-composed : (n : Notice)

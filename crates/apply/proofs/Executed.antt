@@ -34,19 +34,20 @@ use Rattle.apply.proofs.Composed.{executed-composed}
 
 -- the fields of an executed record in their widths
 pub record Widths (x : Executed) (end : ℕ) : Type 0 where
-  pub op : x .op < 256
-  pub point : x .point < 256
-  pub outcome : x .outcome < 256
-  pub client : x .client < word
-  pub call : x .call < word
+  pub op : x .command .op < 256
+  pub point : x .command .point < 256
+  pub outcome : x .result .outcome < 256
+  pub client : x .command .client < word
+  pub call : x .command .call < word
   pub done : x .done < word
-  pub argument : x .argument < word
-  pub value : x .value < word
-  pub quality : x .quality < 256
+  pub argument : x .command .argument < word
+  pub value : x .result .value < word
+  pub quality : x .result .quality < 256
   pub ends : end < word * word
 
-pub widths : (x : Executed) (end : ℕ) → x .op < 256 → x .point < 256 → x .outcome < 256 → x .client < word → x .call < word → x .done < word → x .argument < word → x .value < word
-    → x .quality < 256 → end < word * word → Widths x end
+pub widths : (x : Executed) (end : ℕ) → x .command .op < 256 → x .command .point < 256 → x .result .outcome < 256 → x .command .client < word → x .command .call < word → x .done < word
+    → x .command .argument < word → x .result .value < word
+    → x .result .quality < 256 → end < word * word → Widths x end
 widths x end a b c d e f g h i j =
     record { op = a; point = b; outcome = c; client = d; call = e; done = f; argument = g; value = h; quality = i; ends = j }
 
@@ -59,32 +60,33 @@ module _ {s : List ℕ} (w : Canonical s) (x : Executed) (end : ℕ) (f : Widths
   raised = withFloors (floorsWith x (load s)) (load s)
 
   abbrev kept : State
-  kept = withRecords (keep (staysOver (x .client) (floorWith x (load s))) (load s .records)) raised
+  kept = withRecords (keep (staysOver (x .command .client) (floorWith x (load s))) (load s .records)) raised
 
   abbrev added : State
-  added = withRecords (keep (staysOver (x .client) (floorWith x (load s))) (load s .records) ++ (completion x end ∷ [])) kept
+  added = withRecords (keep (staysOver (x .command .client) (floorWith x (load s))) (load s .records) ++ (completion x end ∷ [])) kept
 
   abbrev pointed : State
-  pointed = withPoint (x .point) (executedPoint x (pointAt (load s) (x .point))) added
+  pointed = withPoint (x .command .point) (executedPoint x (pointAt (load s) (x .command .point))) added
 
   pub executed-floor : {s1 : List ℕ} → s1 ≡ stored s raised → Stage s s1 raised
   executed-floor p =
       stage-next (stage-start s w) (withFloors (floorsWith x (load s))) p
-      (fits-floors (load s) (w .fits) (floorsWith x (load s)) (raise-fits (record { client = x .client; floor = x .done }) (load s .floors) (record { client = f .client; floor = f .done }) (w .fits .floors)) (r .clients))
+      (fits-floors (load s) (w .fits) (floorsWith x (load s))
+      (raise-fits (record { client = x .command .client; floor = x .done }) (load s .floors) (record { client = f .client; floor = f .done }) (w .fits .floors)) (r .clients))
 
   -- the floor read after it was raised
-  floor-with : {s1 : List ℕ} {n : ℕ} → Stage s s1 raised → n ≡ floorOf (x .client) (load s1 .floors) → n ≡ floorWith x (load s)
+  floor-with : {s1 : List ℕ} {n : ℕ} → Stage s s1 raised → n ≡ floorOf (x .command .client) (load s1 .floors) → n ≡ floorWith x (load s)
   unfolding withFloors
-  floor-with t q = q ∙ ap (λ (st : State). floorOf (x .client) (st .floors)) (stage-load t)
+  floor-with t q = q ∙ ap (λ (st : State). floorOf (x .command .client) (st .floors)) (stage-load t)
 
-  pub executed-kept : {n : ℕ} {s1 s2 : List ℕ} → Stage s s1 raised → n ≡ floorOf (x .client) (load s1 .floors)
-      → s2 ≡ stored s1 (withRecords (keptBy (OverFloor (x .client) n) (load s1)) (load s1)) → Stage s s2 kept
+  pub executed-kept : {n : ℕ} {s1 s2 : List ℕ} → Stage s s1 raised → n ≡ floorOf (x .command .client) (load s1 .floors)
+      → s2 ≡ stored s1 (withRecords (keptBy (OverFloor (x .command .client) n) (load s1)) (load s1)) → Stage s s2 kept
   unfolding staysBy withFloors
   executed-kept {n} {s1} {s2} t q p =
       let m : ℕ = floorWith x (load s) in
-      stage-next t (λ (st : State). withRecords (keptBy (OverFloor (x .client) m) st) st)
-      (p ∙ ap (λ (k : ℕ). stored s1 (withRecords (keptBy (OverFloor (x .client) k) (load s1)) (load s1))) (floor-with t q))
-      (kept-fits raised (t .fits) (OverFloor (x .client) m))
+      stage-next t (λ (st : State). withRecords (keptBy (OverFloor (x .command .client) m) st) st)
+      (p ∙ ap (λ (k : ℕ). stored s1 (withRecords (keptBy (OverFloor (x .command .client) k) (load s1)) (load s1))) (floor-with t q))
+      (kept-fits raised (t .fits) (OverFloor (x .command .client) m))
 
   pub executed-room : {s2 : List ℕ} → Stage s s2 kept → length (load s2 .records) < recordCount
   unfolding withRecords
@@ -99,19 +101,28 @@ module _ {s : List ℕ} (w : Canonical s) (x : Executed) (end : ℕ) (f : Widths
       (record { client = f .client; call = f .call; argument = f .argument; value = f .value; op = f .op; outcome = f .outcome; quality = f .quality; point = f .point; end = f .ends })
       (r .records))
 
-  pub executed-stage : {q y : Point} {s3 s4 : List ℕ} → Stage s s3 added → q ≡ pointAt (load s) (x .point) → y ≡ executedPoint x q → s4 ≡ stored s3 (withPoint (x .point) y (load s3))
+  pub executed-stage : {q y : Point} {s3 s4 : List ℕ} → Stage s s3 added → q ≡ pointAt (load s) (x .command .point) → y ≡ executedPoint x q → s4 ≡ stored s3 (withPoint (x .command .point) y (load s3))
       → Stage s s4 pointed
   unfolding executedPoint
   executed-stage {q} {y} {s3} t a b p =
-      let old : PointFits (pointAt (load s) (x .point)) = point-fits (load s) (x .point) (w .fits) in
-      stage-next t (withPoint (x .point) (executedPoint x (pointAt (load s) (x .point))))
-      (p ∙ ap (λ (u : Point). stored s3 (withPoint (x .point) u (load s3))) (b ∙ ap (executedPoint x) a))
-      (fits-point added (t .fits) (x .point) (executedPoint x (pointAt (load s) (x .point)))
-      (record { status = old .status; quality = f .quality; destination = old .destination; value = f .value; number = old .number; taken = old .taken; gave = old .gave; took = old .took }))
+      let old : PointFits (pointAt (load s) (x .command .point)) = point-fits (load s) (x .command .point) (w .fits) in
+      stage-next t (withPoint (x .command .point) (executedPoint x (pointAt (load s) (x .command .point))))
+      (p ∙ ap (λ (u : Point). stored s3 (withPoint (x .command .point) u (load s3))) (b ∙ ap (executedPoint x) a))
+      (fits-point added (t .fits) (x .command .point) (executedPoint x (pointAt (load s) (x .command .point)))
+      (record {
+        status = old .status;
+        quality = f .quality;
+        destination = old .destination;
+        value = f .value;
+        moveNumber = old .moveNumber;
+        takenMove = old .takenMove;
+        giveEnd = old .giveEnd;
+        takeEnd = old .takeEnd;
+      }))
 
-  stays : staysOver (x .client) (floorWith x (load s)) (completion x end) ≡ true
+  stays : staysOver (x .command .client) (floorWith x (load s)) (completion x end) ≡ true
   unfolding staysOver completion
-  stays = or-right (not (eqb (x .client) (x .client))) (leb (floorWith x (load s)) (x .call)) (le-leb (floorWith x (load s)) (x .call) (r .call))
+  stays = or-right (not (eqb (x .command .client) (x .command .client))) (leb (floorWith x (load s)) (x .command .call)) (le-leb (floorWith x (load s)) (x .command .call) (r .call))
 
   pub executed-done : {s4 s5 : List ℕ} → Stage s s4 pointed → s5 ≡ stored s4 (withSize end (load s4)) → s5 ≡ stored s (applyExecuted x end (load s))
   unfolding withRecords

@@ -17,7 +17,7 @@ use Rattle.apply.specs.Stage.{Stage}
 use Rattle.apply.proofs.Stages.{stage-start, stage-next, point-fits, gave-fits}
 use Rattle.apply.proofs.Composed.{gave-composed}
 
-module _ {s : List ℕ} (w : Canonical s) (g : Give) (end : ℕ) (d : g .destination < 256) (n : g .number < word) (e : end < word * word) where
+module _ {s : List ℕ} (w : Canonical s) (g : Give) (end : ℕ) (d : g .destination < 256) (n : g .moveNumber < word) (e : end < word * word) where
   abbrev given : State
   given = withPoint (g .point) (gavePoint g end (pointAt (load s) (g .point))) (load s)
 

@@ -48,7 +48,7 @@ max-below a b k p q = omega arith
 -- ---- points
 
 point-at-fits : (xs : List Point) (p : ℕ) → All PointFits xs → PointFits (getD xs p noPoint)
-point-at-fits [] p a = record { status = lit< tt; quality = lit< tt; destination = lit< tt; value = lit< tt; number = lit< tt; taken = lit< tt; gave = lit< tt; took = lit< tt }
+point-at-fits [] p a = record { status = lit< tt; quality = lit< tt; destination = lit< tt; value = lit< tt; moveNumber = lit< tt; takenMove = lit< tt; giveEnd = lit< tt; takeEnd = lit< tt }
 point-at-fits (x ∷ xs) zero a = a .0
 point-at-fits (x ∷ xs) (suc p) a = point-at-fits xs p (a .1)
 
@@ -56,12 +56,12 @@ pub point-fits : (st : State) (p : ℕ) → StateFits st → PointFits (pointAt 
 unfolding pointAt
 point-fits st p f = point-at-fits (st .points) p (f .points)
 
-pub gave-fits : (g : Give) (end : ℕ) (x : Point) → g .destination < 256 → g .number < word → end < word * word → PointFits x → PointFits (gavePoint g end x)
+pub gave-fits : (g : Give) (end : ℕ) (x : Point) → g .destination < 256 → g .moveNumber < word → end < word * word → PointFits x → PointFits (gavePoint g end x)
 unfolding gavePoint
 gave-fits g end x d n e f =
-    record { status = lit< tt; quality = f .quality; destination = d; value = f .value; number = n; taken = f .taken; gave = e; took = f .took }
+    record { status = lit< tt; quality = f .quality; destination = d; value = f .value; moveNumber = n; takenMove = f .takenMove; giveEnd = e; takeEnd = f .takeEnd }
 
 pub released-fits : (x : Point) → PointFits x → PointFits (releasedPoint x)
 unfolding releasedPoint
 released-fits x f =
-    record { status = lit< tt; quality = f .quality; destination = f .destination; value = f .value; number = f .number; taken = f .taken; gave = f .gave; took = f .took }
+    record { status = lit< tt; quality = f .quality; destination = f .destination; value = f .value; moveNumber = f .moveNumber; takenMove = f .takenMove; giveEnd = f .giveEnd; takeEnd = f .takeEnd }

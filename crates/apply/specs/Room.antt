@@ -13,12 +13,12 @@ use Rattle.model.specs.Apply.{raise, staysOver}
 
 -- the floors, and its client's floor, once it is executed
 abbrev pub floorsWith : Executed → State → List Floor
-floorsWith x st = raise (x .client) (x .done) (st .floors)
+floorsWith x st = raise (x .command .client) (x .done) (st .floors)
 
 abbrev pub floorWith : Executed → State → ℕ
-floorWith x st = floorOf (x .client) (floorsWith x st)
+floorWith x st = floorOf (x .command .client) (floorsWith x st)
 
 pub record Room (x : Executed) (st : State) : Type 0 where
   pub clients : length (floorsWith x st) ≤ clientCount
-  pub call : floorWith x st ≤ x .call
-  pub records : length (keep (staysOver (x .client) (floorWith x st)) (st .records)) < recordCount
+  pub call : floorWith x st ≤ x .command .call
+  pub records : length (keep (staysOver (x .command .client) (floorWith x st)) (st .records)) < recordCount

@@ -5,6 +5,7 @@ use model::Give;
 use model::Notice;
 use model::Point;
 use model::Release;
+use model::constants;
 use record_table::Rule;
 ghost use mathlib.Core.Path.{_≡_};
 ghost use Prim.Native.Nat.{_≤_};
@@ -20,15 +21,11 @@ ghost use Rattle.apply.specs.Room.{Room};
 fn completion(x: Executed, end: u64) -> Completion
     ensures { λ r. ⌜ r ≡ completion x end ⌝ }
 {
+    let command = x.command;
+    let result = x.result;
     Completion {
-        client: x.client,
-        call: x.call,
-        argument: x.argument,
-        value: x.value,
-        op: x.op,
-        outcome: x.outcome,
-        quality: x.quality,
-        point: x.point,
+        command,
+        result,
         end,
     }
 }
@@ -38,27 +35,27 @@ fn executed_point(x: Executed, q: Point) -> Point
 {
     Point {
         status: q.status,
-        quality: x.quality,
+        quality: x.result.quality,
         destination: q.destination,
-        value: x.value,
-        number: q.number,
-        taken: q.taken,
-        gave: q.gave,
-        took: q.took,
+        value: x.result.value,
+        moveNumber: q.moveNumber,
+        takenMove: q.takenMove,
+        giveEnd: q.giveEnd,
+        takeEnd: q.takeEnd,
     }
 }
 
 // The point's value and quality, a completion record, the client's floor; its records under the floor go.
 pub fn apply_executed(s: &mut [u8], x: Executed, end: u64)
-    requires { ⌜ Canonical (now s) × (x .point ≤ lastPoint) × Room x (load (now s)) ⌝ }
+    requires { ⌜ Canonical (now s) × (x .command .point ≤ lastPoint) × Room x (load (now s)) ⌝ }
     ensures { λ r. ⌜ now (s .exit) ≡ stored (now (s .entry)) (applyExecuted x end (load (now (s .entry)))) ⌝ }
 {
-    let q = state::point_at(s, x.point);
-    client_table::raise(s, x.client, x.done);
-    let floor = client_table::floor_in(s, x.client);
-    record_table::keep_records(s, Rule::OverFloor(x.client, floor));
+    let q = state::point_at(s, x.command.point);
+    client_table::raise(s, x.command.client, x.done);
+    let floor = client_table::floor_in(s, x.command.client);
+    record_table::keep_records(s, Rule::OverFloor(x.command.client, floor));
     record_table::append(s, completion(x, end));
-    state::set_point(s, x.point, executed_point(x, q));
+    state::set_point(s, x.command.point, executed_point(x, q));
     state::set_size(s, end);
 }
 
@@ -82,14 +79,14 @@ fn gave_point(g: Give, end: u64, x: Point) -> Point
     ensures { λ r. ⌜ r ≡ gavePoint g end x ⌝ }
 {
     Point {
-        status: 2,
+        status: constants::GIVEN,
         quality: x.quality,
         destination: g.destination,
         value: x.value,
-        number: g.number,
-        taken: x.taken,
-        gave: end,
-        took: x.took,
+        moveNumber: g.moveNumber,
+        takenMove: x.takenMove,
+        giveEnd: end,
+        takeEnd: x.takeEnd,
     }
 }
 
@@ -109,14 +106,14 @@ fn released_point(x: Point) -> Point
     ensures { λ r. ⌜ r ≡ releasedPoint x ⌝ }
 {
     Point {
-        status: 3,
+        status: constants::RELEASED,
         quality: x.quality,
         destination: x.destination,
         value: x.value,
-        number: x.number,
-        taken: x.taken,
-        gave: x.gave,
-        took: x.took,
+        moveNumber: x.moveNumber,
+        takenMove: x.takenMove,
+        giveEnd: x.giveEnd,
+        takeEnd: x.takeEnd,
     }
 }
 

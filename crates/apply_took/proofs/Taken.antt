@@ -43,7 +43,7 @@ pub record Widths (h : ImageHead) (end : ℕ) : Type 0 where
   pub point : h .point < 256
   pub quality : h .quality < 256
   pub value : h .value < word
-  pub number : h .number < word
+  pub moveNumber : h .moveNumber < word
   pub heard : h .heard < word
   pub size : end < word * word
 
@@ -143,7 +143,7 @@ module _ {s : List ℕ} (w : Canonical s) (image : List ℕ) (b : Bytes image) (
 took-fits : (h : ImageHead) (end : ℕ) → Widths h end → PointFits (tookPoint (imageAt h []) end)
 unfolding tookPoint imageAt
 took-fits h end f =
-    record { status = lit< tt; quality = f .quality; destination = lit< tt; value = f .value; number = f .number; taken = f .number; gave = lit< tt; took = f .size }
+    record { status = lit< tt; quality = f .quality; destination = lit< tt; value = f .value; moveNumber = f .moveNumber; takenMove = f .moveNumber; giveEnd = lit< tt; takeEnd = f .size }
 
 abbrev pub pointedBy : ImageHead → ℕ → State → State
 pointedBy h end x = withPoint (h .point) (tookPoint (imageAt h []) end) x

@@ -2,6 +2,7 @@
 // added, those under a floor gone, the point and its move number set, heard time raised.
 use model::ImageHead;
 use model::Point;
+use model::constants;
 use record_table::Rule;
 ghost use mathlib.Core.Path.{_≡_};
 ghost use mathlib.Core.List.{[]};
@@ -20,14 +21,14 @@ fn took_point(h: ImageHead, end: u64) -> Point
     ensures { λ r. ⌜ r ≡ tookPoint (imageAt h []) end ⌝ }
 {
     Point {
-        status: 1,
+        status: constants::HELD,
         quality: h.quality,
         destination: 0,
         value: h.value,
-        number: h.number,
-        taken: h.number,
-        gave: 0,
-        took: end,
+        moveNumber: h.moveNumber,
+        takenMove: h.moveNumber,
+        giveEnd: 0,
+        takeEnd: end,
     }
 }
 

@@ -2,29 +2,29 @@
 -- Assumes nothing.
 use mathlib.Core.Path.{_≡_, refl}
 use Rattle.cases.specs.Schedules.{linesAnswers, linesSchedule, moveAnswers, moveSchedule, paperAnswers, paperSchedule}
+use Rattle.model.specs.Choice.{unlessRefused}
 use Rattle.model.specs.Numbers.{signed, flip, le32At, le64At, le64, signedAt, zeros3At}
 use Rattle.model.specs.Tables.{rows, everyRow, bytesOf, every, keep, zeros, written}
 use Rattle.model.specs.Plan.{planEntryOf, planEntryBytes, planEntryOk, planRowOk, planOk, planOf, planBytes, entryAt, inRange}
-use Rattle.model.specs.Rules.{leastArgument, greatestArgument, argumentOk, sumInRange, setRule, stepRule, reportRule, faultRule, partRule, ruleOf}
-use Rattle.model.specs.Packets.{packetLength, idOk, doneOk, commandOk, outcomeOk, requestAt, requestOk, requestBytes, commandOf, resultAt, resultOk, resultBytes, refusalAt, refusalOk, refusalBytes, receiptAt, receiptOk, receiptBytes, noticeAt, noticeOk, noticeBytes, grantAt, grantOk, grantBytes, whole, parseRequest, parseResult, parseRefusal, parseReceipt, parseNotice, parseGrant, parsePacket, packetBytes}
+use Rattle.model.specs.Rules.{argumentRange, inArguments, argumentOk, sumInRange, setRule, stepRule, reportRule, faultRule, partRule, ruleOf}
+use Rattle.model.specs.Packets.{packetLength, idOk, doneOk, commandOk, outcomeOk, requestAt, requestOk, requestBytes, resultAt, resultOk, resultBytes, refusalAt, refusalOk, refusalBytes, receiptAt, receiptOk, receiptBytes, noticeAt, noticeOk, noticeBytes, grantAt, grantOk, grantBytes, whole, parseRequest, parseResult, parseRefusal, parseReceipt, parseNotice, parseGrant, parsePacket, asRequest, asReceipt, asNotice, packetBytes}
 use Rattle.model.specs.Images.{floorOfBytes, floorBytes, imageEntryOf, imageEntryBytes, floorOf, inWindow, clientsAscend, idBefore, idsAscend, floorOk, imageEntryOk, imageHeadOf, imageAt, imageFramed, imageParts, imageHeadOk, entryRowOk, imageTablesOk, imageOk, parseImage, entryInRange, imageInRange, imageLength, imageHeadBytes, imageBytes}
 use Rattle.model.specs.Logs.{headBytes, headServer, headOk, executedAt, executedOk, executedBytes, giveAt, giveOk, giveBytes, takeBytes, releaseAt, releaseOk, releaseBytes, recordBytes, recordSize, within, takeExtent, extentOf, takeParsed, recordAt, walk, entriesOf, entriesBytes}
-use Rattle.model.specs.States.{pointAt, isHeld, isGiven, isSynced, pointOf, pointBytes, completionOf, completionBytes, clientsIn, recordsIn, load, stateHeadBytes, padded, stateBytes, endOk, giveFieldsOk, takeFieldsOk, pointOk, pointsOk, completionOk, isId, idsDiffer, stateFramed, pointRowOk, stateOk, sound}
+use Rattle.model.specs.States.{pointAt, isHeld, isGiven, isSynced, pointOf, pointBytes, completionOf, completionBytes, clientsIn, recordsIn, load, stateHeadBytes, padded, stateBytes, endOk, notGiven, originOk, absentOk, heldOk, givenOk, statusOk, pointOk, pointsOk, keepsRecords, completionOk, isId, idsDiffer, endsFrom, stateFramed, pointRowOk, stateOk, sound}
 use Rattle.model.specs.Apply.{raise, mergeFloors, isNotClient, staysOver, staysOverFloors, isOfOther, isOnOther, executedPoint, completion, applyExecuted, applyGone, gavePoint, applyGave, tookPoint, takenRecord, applyTook, releasedPoint, applyReleased, applyRecord, apply, foundedPoint, founded, replayFrom, replay, withMark}
-use Rattle.model.specs.Decisions
-use Rattle.model.specs.Decisions.{find, resultOfRecord, sameCommand, onHeld, resultFor, executedFor, noPlace, onNew, onId, decideRequest, onRequest, onFound, onFetch, onSync, decideNotice, onNotice, onGive, isOnPoint, entryOfRecord, insertEntry, sortEntries, imageFor, onImage, freeFor, decideTake, onTake, onReceipt, decideRelease, onRelease, appends, requestBehind, follows}
-use Rattle.model.specs.Operations.{short, unfit, freeIn, stored, settle, lent, foundOf, requestOf, fetchOf, syncOf, noticeOf, giveOf, imageOf, takeOf, receiptOf, releaseOf, recovered, recoveredAll, recoveredState, settleRecovered, recoverOf}
-use Rattle.model.specs.Clients.{placeOf, callAt, isOpen, leastOpen, firstOpen, withCalls, withLease, closed, requestFor, startWith, startOf, newCall, withCall, notSent, sent, issueOf, resendOf, isOwn, notReceived, receiveResult, receiveRefusal, receiveGrant, receiveWith, receiveOf, startNumber, sendNumber, receiveNumber, receivedResult, receivedValue, receivedLease, sentBytes}
+use Rattle.model.specs.Decisions.{orMalformed, find, resultOfRecord, sameCommand, requestRefusal, heldRefusal, onHeld, resultFor, executedFor, newRefusal, onNew, onId, decideRequest, denying, onRequest, fetchRefusal, onFetched, onFetch, syncRefusal, onSync, noticeRefusal, decideNotice, onNotice, placesBad, giveRefusal, onGive, isOnPoint, entryOfRecord, insertEntry, sortEntries, imageFor, imageRefusal, onImage, freeFor, takeRefusal, takeTests, decideTake, onTake, receiptRefusal, onReceipt, releaseRefusal, decideRelease, onRelease, isNone, follows}
+use Rattle.model.specs.Operations.{short, unfit, freeIn, stored, settle, lentRefusal, lent, leftUnless, foundRefusal, foundOf, requestOf, fetchOf, syncOf, noticeOf, giveOf, imageOf, takeOf, receiptOf, releaseOf, recovered, recoveredAll, recoveredState, settleRecovered, recoverRefusal, recoverOf}
+use Rattle.model.specs.Clients.{placeOf, callAt, isOpen, leastOpen, firstOpen, withCalls, withLease, closed, requestFor, startWith, startOf, newCall, withCall, notSent, sent, issueOf, resendOf, isOwn, notReceived, receiveResult, receiveRefusal, receiveGrant, receiveWith, receiveOf, startNumber, sendNumber, receiveNumber, brought, sentBytes}
 use Rattle.model.specs.Yard.{yardPlan, yardServer, yardClient, newYard, serverOf, clientOf, withServer, withClient, withPacket, called, room, delivered, deliverTo, cutAt, cutServer, issued, receivedAt, deliverAt, receiveAt, packetAt, known, ran, runLines, isDigit, digitsFrom, atMost, numberIn, negative, positive, argumentIn, fieldsFrom, line1, line2, line3, line4, letterIn, with1, with2, with3, with4, lineOfFields, lineOf, endLine, linesFrom, linesOf, digitsOf, shown, shownSigned, replyText, repliesText, yardOf}
 
 pub paper-case : yardOf paperSchedule ≡ paperAnswers
-unfolding paperSchedule paperAnswers signed flip le32At le64At le64 signedAt zeros3At rows everyRow bytesOf every keep zeros written planEntryOf planEntryBytes planEntryOk planRowOk planOk planOf planBytes entryAt inRange leastArgument greatestArgument argumentOk sumInRange setRule stepRule reportRule faultRule partRule ruleOf packetLength idOk doneOk commandOk outcomeOk requestAt requestOk requestBytes commandOf resultAt resultOk resultBytes refusalAt refusalOk refusalBytes receiptAt receiptOk receiptBytes noticeAt noticeOk noticeBytes grantAt grantOk grantBytes whole parseRequest parseResult parseRefusal parseReceipt parseNotice parseGrant parsePacket packetBytes floorOfBytes floorBytes imageEntryOf imageEntryBytes floorOf inWindow clientsAscend idBefore idsAscend floorOk imageEntryOk imageHeadOf imageAt imageFramed imageParts imageHeadOk entryRowOk imageTablesOk imageOk parseImage entryInRange imageInRange imageLength imageHeadBytes imageBytes headBytes headServer headOk executedAt executedOk executedBytes giveAt giveOk giveBytes takeBytes releaseAt releaseOk releaseBytes recordBytes recordSize within takeExtent extentOf takeParsed recordAt walk entriesOf entriesBytes pointAt isHeld isGiven isSynced pointOf pointBytes completionOf completionBytes clientsIn recordsIn load stateHeadBytes padded stateBytes endOk giveFieldsOk takeFieldsOk pointOk pointsOk completionOk isId idsDiffer stateFramed pointRowOk stateOk sound raise mergeFloors isNotClient staysOver staysOverFloors isOfOther isOnOther executedPoint completion applyExecuted applyGone gavePoint applyGave tookPoint takenRecord applyTook releasedPoint applyReleased applyRecord apply foundedPoint founded replayFrom replay withMark find resultOfRecord sameCommand onHeld resultFor executedFor noPlace onNew onId decideRequest Decisions.withPacket onRequest onFound onFetch onSync decideNotice onNotice onGive isOnPoint entryOfRecord insertEntry sortEntries imageFor onImage freeFor decideTake onTake onReceipt decideRelease onRelease appends requestBehind follows short unfit freeIn stored settle lent foundOf requestOf fetchOf syncOf noticeOf giveOf imageOf takeOf receiptOf releaseOf recovered recoveredAll recoveredState settleRecovered recoverOf placeOf callAt isOpen leastOpen firstOpen withCalls withLease closed requestFor startWith startOf newCall withCall notSent sent issueOf resendOf isOwn notReceived receiveResult receiveRefusal receiveGrant receiveWith receiveOf startNumber sendNumber receiveNumber receivedResult receivedValue receivedLease sentBytes yardPlan yardServer yardClient newYard serverOf clientOf withServer withClient withPacket called room delivered deliverTo cutAt cutServer issued receivedAt deliverAt receiveAt packetAt known ran runLines isDigit digitsFrom atMost numberIn negative positive argumentIn fieldsFrom line1 line2 line3 line4 letterIn with1 with2 with3 with4 lineOfFields lineOf endLine linesFrom linesOf digitsOf shown shownSigned replyText repliesText yardOf
+unfolding paperSchedule paperAnswers signed flip le32At le64At le64 signedAt zeros3At rows everyRow bytesOf every keep zeros written planEntryOf planEntryBytes planEntryOk planRowOk planOk planOf planBytes entryAt inRange argumentRange inArguments argumentOk sumInRange setRule stepRule reportRule faultRule partRule ruleOf packetLength idOk doneOk commandOk outcomeOk requestAt requestOk requestBytes resultAt resultOk resultBytes refusalAt refusalOk refusalBytes receiptAt receiptOk receiptBytes noticeAt noticeOk noticeBytes grantAt grantOk grantBytes whole parseRequest parseResult parseRefusal parseReceipt parseNotice parseGrant parsePacket asRequest asReceipt asNotice packetBytes floorOfBytes floorBytes imageEntryOf imageEntryBytes floorOf inWindow clientsAscend idBefore idsAscend floorOk imageEntryOk imageHeadOf imageAt imageFramed imageParts imageHeadOk entryRowOk imageTablesOk imageOk parseImage entryInRange imageInRange imageLength imageHeadBytes imageBytes headBytes headServer headOk executedAt executedOk executedBytes giveAt giveOk giveBytes takeBytes releaseAt releaseOk releaseBytes recordBytes recordSize within takeExtent extentOf takeParsed recordAt walk entriesOf entriesBytes pointAt isHeld isGiven isSynced pointOf pointBytes completionOf completionBytes clientsIn recordsIn load stateHeadBytes padded stateBytes endOk notGiven originOk absentOk heldOk givenOk statusOk pointOk pointsOk keepsRecords completionOk isId idsDiffer endsFrom stateFramed pointRowOk stateOk sound raise mergeFloors isNotClient staysOver staysOverFloors isOfOther isOnOther executedPoint completion applyExecuted applyGone gavePoint applyGave tookPoint takenRecord applyTook releasedPoint applyReleased applyRecord apply foundedPoint founded replayFrom replay withMark find resultOfRecord sameCommand unlessRefused orMalformed requestRefusal heldRefusal onHeld resultFor executedFor newRefusal onNew onId decideRequest denying onRequest fetchRefusal onFetched onFetch syncRefusal onSync noticeRefusal decideNotice onNotice placesBad giveRefusal onGive isOnPoint entryOfRecord insertEntry sortEntries imageFor imageRefusal onImage freeFor takeRefusal takeTests decideTake onTake receiptRefusal onReceipt releaseRefusal decideRelease onRelease isNone follows short unfit freeIn stored settle lentRefusal lent leftUnless foundRefusal foundOf requestOf fetchOf syncOf noticeOf giveOf imageOf takeOf receiptOf releaseOf recovered recoveredAll recoveredState settleRecovered recoverRefusal recoverOf placeOf callAt isOpen leastOpen firstOpen withCalls withLease closed requestFor startWith startOf newCall withCall notSent sent issueOf resendOf isOwn notReceived receiveResult receiveRefusal receiveGrant receiveWith receiveOf startNumber sendNumber receiveNumber brought sentBytes yardPlan yardServer yardClient newYard serverOf clientOf withServer withClient withPacket called room delivered deliverTo cutAt cutServer issued receivedAt deliverAt receiveAt packetAt known ran runLines isDigit digitsFrom atMost numberIn negative positive argumentIn fieldsFrom line1 line2 line3 line4 letterIn with1 with2 with3 with4 lineOfFields lineOf endLine linesFrom linesOf digitsOf shown shownSigned replyText repliesText yardOf
 paper-case = refl
 
 pub lines-case : yardOf linesSchedule ≡ linesAnswers
-unfolding linesSchedule linesAnswers signed flip le32At le64At le64 signedAt zeros3At rows everyRow bytesOf every keep zeros written planEntryOf planEntryBytes planEntryOk planRowOk planOk planOf planBytes entryAt inRange leastArgument greatestArgument argumentOk sumInRange setRule stepRule reportRule faultRule partRule ruleOf packetLength idOk doneOk commandOk outcomeOk requestAt requestOk requestBytes commandOf resultAt resultOk resultBytes refusalAt refusalOk refusalBytes receiptAt receiptOk receiptBytes noticeAt noticeOk noticeBytes grantAt grantOk grantBytes whole parseRequest parseResult parseRefusal parseReceipt parseNotice parseGrant parsePacket packetBytes floorOfBytes floorBytes imageEntryOf imageEntryBytes floorOf inWindow clientsAscend idBefore idsAscend floorOk imageEntryOk imageHeadOf imageAt imageFramed imageParts imageHeadOk entryRowOk imageTablesOk imageOk parseImage entryInRange imageInRange imageLength imageHeadBytes imageBytes headBytes headServer headOk executedAt executedOk executedBytes giveAt giveOk giveBytes takeBytes releaseAt releaseOk releaseBytes recordBytes recordSize within takeExtent extentOf takeParsed recordAt walk entriesOf entriesBytes pointAt isHeld isGiven isSynced pointOf pointBytes completionOf completionBytes clientsIn recordsIn load stateHeadBytes padded stateBytes endOk giveFieldsOk takeFieldsOk pointOk pointsOk completionOk isId idsDiffer stateFramed pointRowOk stateOk sound raise mergeFloors isNotClient staysOver staysOverFloors isOfOther isOnOther executedPoint completion applyExecuted applyGone gavePoint applyGave tookPoint takenRecord applyTook releasedPoint applyReleased applyRecord apply foundedPoint founded replayFrom replay withMark find resultOfRecord sameCommand onHeld resultFor executedFor noPlace onNew onId decideRequest Decisions.withPacket onRequest onFound onFetch onSync decideNotice onNotice onGive isOnPoint entryOfRecord insertEntry sortEntries imageFor onImage freeFor decideTake onTake onReceipt decideRelease onRelease appends requestBehind follows short unfit freeIn stored settle lent foundOf requestOf fetchOf syncOf noticeOf giveOf imageOf takeOf receiptOf releaseOf recovered recoveredAll recoveredState settleRecovered recoverOf placeOf callAt isOpen leastOpen firstOpen withCalls withLease closed requestFor startWith startOf newCall withCall notSent sent issueOf resendOf isOwn notReceived receiveResult receiveRefusal receiveGrant receiveWith receiveOf startNumber sendNumber receiveNumber receivedResult receivedValue receivedLease sentBytes yardPlan yardServer yardClient newYard serverOf clientOf withServer withClient withPacket called room delivered deliverTo cutAt cutServer issued receivedAt deliverAt receiveAt packetAt known ran runLines isDigit digitsFrom atMost numberIn negative positive argumentIn fieldsFrom line1 line2 line3 line4 letterIn with1 with2 with3 with4 lineOfFields lineOf endLine linesFrom linesOf digitsOf shown shownSigned replyText repliesText yardOf
+unfolding linesSchedule linesAnswers signed flip le32At le64At le64 signedAt zeros3At rows everyRow bytesOf every keep zeros written planEntryOf planEntryBytes planEntryOk planRowOk planOk planOf planBytes entryAt inRange argumentRange inArguments argumentOk sumInRange setRule stepRule reportRule faultRule partRule ruleOf packetLength idOk doneOk commandOk outcomeOk requestAt requestOk requestBytes resultAt resultOk resultBytes refusalAt refusalOk refusalBytes receiptAt receiptOk receiptBytes noticeAt noticeOk noticeBytes grantAt grantOk grantBytes whole parseRequest parseResult parseRefusal parseReceipt parseNotice parseGrant parsePacket asRequest asReceipt asNotice packetBytes floorOfBytes floorBytes imageEntryOf imageEntryBytes floorOf inWindow clientsAscend idBefore idsAscend floorOk imageEntryOk imageHeadOf imageAt imageFramed imageParts imageHeadOk entryRowOk imageTablesOk imageOk parseImage entryInRange imageInRange imageLength imageHeadBytes imageBytes headBytes headServer headOk executedAt executedOk executedBytes giveAt giveOk giveBytes takeBytes releaseAt releaseOk releaseBytes recordBytes recordSize within takeExtent extentOf takeParsed recordAt walk entriesOf entriesBytes pointAt isHeld isGiven isSynced pointOf pointBytes completionOf completionBytes clientsIn recordsIn load stateHeadBytes padded stateBytes endOk notGiven originOk absentOk heldOk givenOk statusOk pointOk pointsOk keepsRecords completionOk isId idsDiffer endsFrom stateFramed pointRowOk stateOk sound raise mergeFloors isNotClient staysOver staysOverFloors isOfOther isOnOther executedPoint completion applyExecuted applyGone gavePoint applyGave tookPoint takenRecord applyTook releasedPoint applyReleased applyRecord apply foundedPoint founded replayFrom replay withMark find resultOfRecord sameCommand unlessRefused orMalformed requestRefusal heldRefusal onHeld resultFor executedFor newRefusal onNew onId decideRequest denying onRequest fetchRefusal onFetched onFetch syncRefusal onSync noticeRefusal decideNotice onNotice placesBad giveRefusal onGive isOnPoint entryOfRecord insertEntry sortEntries imageFor imageRefusal onImage freeFor takeRefusal takeTests decideTake onTake receiptRefusal onReceipt releaseRefusal decideRelease onRelease isNone follows short unfit freeIn stored settle lentRefusal lent leftUnless foundRefusal foundOf requestOf fetchOf syncOf noticeOf giveOf imageOf takeOf receiptOf releaseOf recovered recoveredAll recoveredState settleRecovered recoverRefusal recoverOf placeOf callAt isOpen leastOpen firstOpen withCalls withLease closed requestFor startWith startOf newCall withCall notSent sent issueOf resendOf isOwn notReceived receiveResult receiveRefusal receiveGrant receiveWith receiveOf startNumber sendNumber receiveNumber brought sentBytes yardPlan yardServer yardClient newYard serverOf clientOf withServer withClient withPacket called room delivered deliverTo cutAt cutServer issued receivedAt deliverAt receiveAt packetAt known ran runLines isDigit digitsFrom atMost numberIn negative positive argumentIn fieldsFrom line1 line2 line3 line4 letterIn with1 with2 with3 with4 lineOfFields lineOf endLine linesFrom linesOf digitsOf shown shownSigned replyText repliesText yardOf
 lines-case = refl
 
 pub move-case : yardOf moveSchedule ≡ moveAnswers
-unfolding moveSchedule moveAnswers signed flip le32At le64At le64 signedAt zeros3At rows everyRow bytesOf every keep zeros written planEntryOf planEntryBytes planEntryOk planRowOk planOk planOf planBytes entryAt inRange leastArgument greatestArgument argumentOk sumInRange setRule stepRule reportRule faultRule partRule ruleOf packetLength idOk doneOk commandOk outcomeOk requestAt requestOk requestBytes commandOf resultAt resultOk resultBytes refusalAt refusalOk refusalBytes receiptAt receiptOk receiptBytes noticeAt noticeOk noticeBytes grantAt grantOk grantBytes whole parseRequest parseResult parseRefusal parseReceipt parseNotice parseGrant parsePacket packetBytes floorOfBytes floorBytes imageEntryOf imageEntryBytes floorOf inWindow clientsAscend idBefore idsAscend floorOk imageEntryOk imageHeadOf imageAt imageFramed imageParts imageHeadOk entryRowOk imageTablesOk imageOk parseImage entryInRange imageInRange imageLength imageHeadBytes imageBytes headBytes headServer headOk executedAt executedOk executedBytes giveAt giveOk giveBytes takeBytes releaseAt releaseOk releaseBytes recordBytes recordSize within takeExtent extentOf takeParsed recordAt walk entriesOf entriesBytes pointAt isHeld isGiven isSynced pointOf pointBytes completionOf completionBytes clientsIn recordsIn load stateHeadBytes padded stateBytes endOk giveFieldsOk takeFieldsOk pointOk pointsOk completionOk isId idsDiffer stateFramed pointRowOk stateOk sound raise mergeFloors isNotClient staysOver staysOverFloors isOfOther isOnOther executedPoint completion applyExecuted applyGone gavePoint applyGave tookPoint takenRecord applyTook releasedPoint applyReleased applyRecord apply foundedPoint founded replayFrom replay withMark find resultOfRecord sameCommand onHeld resultFor executedFor noPlace onNew onId decideRequest Decisions.withPacket onRequest onFound onFetch onSync decideNotice onNotice onGive isOnPoint entryOfRecord insertEntry sortEntries imageFor onImage freeFor decideTake onTake onReceipt decideRelease onRelease appends requestBehind follows short unfit freeIn stored settle lent foundOf requestOf fetchOf syncOf noticeOf giveOf imageOf takeOf receiptOf releaseOf recovered recoveredAll recoveredState settleRecovered recoverOf placeOf callAt isOpen leastOpen firstOpen withCalls withLease closed requestFor startWith startOf newCall withCall notSent sent issueOf resendOf isOwn notReceived receiveResult receiveRefusal receiveGrant receiveWith receiveOf startNumber sendNumber receiveNumber receivedResult receivedValue receivedLease sentBytes yardPlan yardServer yardClient newYard serverOf clientOf withServer withClient withPacket called room delivered deliverTo cutAt cutServer issued receivedAt deliverAt receiveAt packetAt known ran runLines isDigit digitsFrom atMost numberIn negative positive argumentIn fieldsFrom line1 line2 line3 line4 letterIn with1 with2 with3 with4 lineOfFields lineOf endLine linesFrom linesOf digitsOf shown shownSigned replyText repliesText yardOf
+unfolding moveSchedule moveAnswers signed flip le32At le64At le64 signedAt zeros3At rows everyRow bytesOf every keep zeros written planEntryOf planEntryBytes planEntryOk planRowOk planOk planOf planBytes entryAt inRange argumentRange inArguments argumentOk sumInRange setRule stepRule reportRule faultRule partRule ruleOf packetLength idOk doneOk commandOk outcomeOk requestAt requestOk requestBytes resultAt resultOk resultBytes refusalAt refusalOk refusalBytes receiptAt receiptOk receiptBytes noticeAt noticeOk noticeBytes grantAt grantOk grantBytes whole parseRequest parseResult parseRefusal parseReceipt parseNotice parseGrant parsePacket asRequest asReceipt asNotice packetBytes floorOfBytes floorBytes imageEntryOf imageEntryBytes floorOf inWindow clientsAscend idBefore idsAscend floorOk imageEntryOk imageHeadOf imageAt imageFramed imageParts imageHeadOk entryRowOk imageTablesOk imageOk parseImage entryInRange imageInRange imageLength imageHeadBytes imageBytes headBytes headServer headOk executedAt executedOk executedBytes giveAt giveOk giveBytes takeBytes releaseAt releaseOk releaseBytes recordBytes recordSize within takeExtent extentOf takeParsed recordAt walk entriesOf entriesBytes pointAt isHeld isGiven isSynced pointOf pointBytes completionOf completionBytes clientsIn recordsIn load stateHeadBytes padded stateBytes endOk notGiven originOk absentOk heldOk givenOk statusOk pointOk pointsOk keepsRecords completionOk isId idsDiffer endsFrom stateFramed pointRowOk stateOk sound raise mergeFloors isNotClient staysOver staysOverFloors isOfOther isOnOther executedPoint completion applyExecuted applyGone gavePoint applyGave tookPoint takenRecord applyTook releasedPoint applyReleased applyRecord apply foundedPoint founded replayFrom replay withMark find resultOfRecord sameCommand unlessRefused orMalformed requestRefusal heldRefusal onHeld resultFor executedFor newRefusal onNew onId decideRequest denying onRequest fetchRefusal onFetched onFetch syncRefusal onSync noticeRefusal decideNotice onNotice placesBad giveRefusal onGive isOnPoint entryOfRecord insertEntry sortEntries imageFor imageRefusal onImage freeFor takeRefusal takeTests decideTake onTake receiptRefusal onReceipt releaseRefusal decideRelease onRelease isNone follows short unfit freeIn stored settle lentRefusal lent leftUnless foundRefusal foundOf requestOf fetchOf syncOf noticeOf giveOf imageOf takeOf receiptOf releaseOf recovered recoveredAll recoveredState settleRecovered recoverRefusal recoverOf placeOf callAt isOpen leastOpen firstOpen withCalls withLease closed requestFor startWith startOf newCall withCall notSent sent issueOf resendOf isOwn notReceived receiveResult receiveRefusal receiveGrant receiveWith receiveOf startNumber sendNumber receiveNumber brought sentBytes yardPlan yardServer yardClient newYard serverOf clientOf withServer withClient withPacket called room delivered deliverTo cutAt cutServer issued receivedAt deliverAt receiveAt packetAt known ran runLines isDigit digitsFrom atMost numberIn negative positive argumentIn fieldsFrom line1 line2 line3 line4 letterIn with1 with2 with3 with4 lineOfFields lineOf endLine linesFrom linesOf digitsOf shown shownSigned replyText repliesText yardOf
 move-case = refl

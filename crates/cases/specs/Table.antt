@@ -12,8 +12,9 @@ use Rattle.model.specs.declared.Request.{Request}
 use Rattle.model.specs.Choice.{Decision, refuse, deny, reply, append, marks}
 use Rattle.model.specs.Numbers.{half}
 use Rattle.model.specs.Limits.{pointCount, executedSize}
+use Rattle.model.specs.Versions.{today}
 use Rattle.model.specs.Rules.{ruleOf}
-use Rattle.model.specs.Sequential.{EntryZ, ReadingZ, ResultZ, readingZ, resultZ, entryZ, readingMeant, resultMeant, ruleZ, today}
+use Rattle.model.specs.Sequential.{EntryZ, ReadingZ, ResultZ, readingZ, resultZ, entryZ, readingMeant, resultMeant, ruleZ}
 use Rattle.model.specs.Packets.{parsePacket, requestBytes}
 use Rattle.model.specs.States.{State}
 use Rattle.model.specs.Apply.{founded}
@@ -24,7 +25,8 @@ entry = record { low = half - 100; high = half + 1000; fallback = half; home = 0
 
 -- a request of client 1 for a report in range on point 0
 abbrev pub asking : ℕ → ℕ → ℕ → Request
-asking call done lease = record { op = 3; point = 0; client = 1; call = call; done = done; lease = lease; argument = half }
+asking call done lease =
+    record { command = record { client = 1; call = call; op = 3; point = 0; argument = half }; done = done; lease = lease }
 
 -- server 0 as founded, at a heard time
 unfoldable pub heardAt : ℕ → State
@@ -50,7 +52,7 @@ refusalOf (append r) = 0
 refusalOf (marks m) = 0
 
 unfoldable pub asked : State → Request → ℕ
-asked st q = refusalOf (onRequest st executedSize (parsePacket (requestBytes q)))
+asked st q = refusalOf (onRequest today st executedSize (parsePacket (requestBytes q)))
 
 pub data Case : Type 0 where
   -- op, argument, before: a command and its result, in the paper's numbers and in the kernel's
@@ -63,7 +65,7 @@ pub data Case : Type 0 where
 -- the rules over the integers and those of the kernel both give the result, and the two speak of the same numbers
 unfoldable pub Holds : Case → Type 0
 Holds (command op a n b r z k) =
-    (ruleZ today (entryZ entry) op a b ≡ z) × (ruleOf entry op n r ≡ k) × (readingMeant r ≡ b) × (resultMeant k ≡ z)
+    (ruleZ (today op) (entryZ entry) op a b ≡ z) × (ruleOf (today op) entry op n r ≡ k) × (readingMeant r ≡ b) × (resultMeant k ≡ z)
 Holds (lease end heard n) = asked (heardAt heard) (asking 1 1 end) ≡ n
 Holds (window call done n) = asked (heardAt 0) (asking call done 1) ≡ n
 

@@ -20,8 +20,9 @@ use Rattle.model.specs.declared.Sent.the-variants.{Asked}
 use Rattle.model.specs.declared.Received.the-variants.{Completed}
 use Rattle.model.specs.Limits.{pointCount}
 use Rattle.model.specs.Plan.{planOf, entryAt}
-use Rattle.model.specs.Sequential.{Version, today, Marked, ResultZ, readingMeant, resultMeant, opened, bookAfter, Answers}
-use Rattle.model.specs.Packets.{parsePacket, commandOf}
+use Rattle.model.specs.Versions.{Versions}
+use Rattle.model.specs.Sequential.{Marked, markedBy, OrderEntry, parts, commands, EntryResult, one, readingMeant, resultMeant, opened, bookAfter, Answers}
+use Rattle.model.specs.Packets.{parsePacket}
 use Rattle.model.specs.States.{State, load, pointAt}
 use Rattle.model.specs.Operations.{After, answerOf, requestOf, recoveredState}
 use Rattle.model.specs.Clients.{callAt, issueOf, receiveOf}
@@ -32,29 +33,23 @@ abbrev pub _∈_ {ℓ} : {A : Type ℓ} → A → List A → Type ℓ
 _∈_ a l = List·Memᴰ a l
 
 infix 20 _∈_
--- no id stands twice
-pub data Once : List Marked → Type 0 where
+-- no id stands in two entries
+pub data Once : List OrderEntry → Type 0 where
   none-left : Once []
-  one-more : {m : Marked} {ms : List Marked}
-      → ((o : Marked) → o ∈ ms → o .command .client ≡ m .command .client → o .command .call ≡ m .command .call → ⊥) → Once ms → Once (m ∷ ms)
+  one-more : {e : OrderEntry} {es : List OrderEntry}
+      → ((o : OrderEntry) (k m : Marked) → o ∈ es → k ∈ parts o → m ∈ parts e → k .command .client ≡ m .command .client → k .command .call ≡ m .command .call → ⊥)
+      → Once es → Once (e ∷ es)
 
 -- a stands before b
-pub data Before (a b : Marked) : List Marked → Type 0 where
-  first : {ms : List Marked} → b ∈ ms → Before a b (a ∷ ms)
-  later : {m : Marked} {ms : List Marked} → Before a b ms → Before a b (m ∷ ms)
+pub data Before {A : Type 0} (a b : A) : List A → Type 0 where
+  first : {es : List A} → b ∈ es → Before a b (a ∷ es)
+  later : {e : A} {es : List A} → Before a b es → Before a b (e ∷ es)
 
--- the version of an op's rule in force at event n of a schedule; no event changes a rule today
-unfoldable pub versionAt : {E : Type 0} → List E → ℕ → ℕ → Version
-versionAt es n op = today
-
--- the command of an open call, and what a result packet says
+-- the command of an open call
 unfoldable pub commandAt : Client → ℕ → Command
 commandAt d c =
     let k = callAt d c in
     record { client = d .client; call = k .call; op = k .op; point = k .point; argument = k .argument }
-
-unfoldable pub resultIn : ResultPacket → CommandResult
-resultIn r = record { outcome = r .outcome; value = r .value; quality = r .quality }
 
 unfoldable pub readingAt : Point → Reading
 readingAt x = record { value = x .value; quality = x .quality }
@@ -62,8 +57,8 @@ readingAt x = record { value = x .value; quality = x .quality }
 -- ---- demand 3 of any run: servers of type S, and `world n` is the world after n events
 
 module _ {S : Type 0} (world : ℕ → WorldOf S) where
-  -- "An Issue not refused issues a command": event n issues k. `Is n x op p a`: event n is that call of Issue
-  pub record IssuesBy (Is : ℕ → ℕ → ℕ → ℕ → ℕ → Type 0) (n : ℕ) (k : Command) : Type 0 where
+  -- "An Issue not refused issues a command": event n issues ks, one command. `Is n x op p a`: event n is that call of Issue
+  pub record IssuesBy (Is : ℕ → ℕ → ℕ → ℕ → ℕ → Type 0) (n : ℕ) (ks : List Command) : Type 0 where
     pub client : ℕ
     pub op : ℕ
     pub point : ℕ
@@ -73,10 +68,11 @@ module _ {S : Type 0} (world : ℕ → WorldOf S) where
     pub started : world n .clients client ≡ some state
     pub asked : Request
     pub answer : issueOf state op point argument .answer ≡ Asked asked
-    pub its : commandOf asked ≡ k
+    pub its : (asked .command) ∷ [] ≡ ks
 
-  -- "A Receive of its result, not refused, completes it": event n completes k, with the result r. `Is n x p`: event n is that call
-  pub record CompletesBy (Is : ℕ → ℕ → ℕ → Type 0) (n : ℕ) (k : Command) (r : CommandResult) : Type 0 where
+  -- "A Receive of its result, not refused, completes it": event n completes ks, one command, with the result r. `Is n x p`: event n
+  -- is that call
+  pub record CompletesBy (Is : ℕ → ℕ → ℕ → Type 0) (n : ℕ) (ks : List Command) (r : EntryResult) : Type 0 where
     pub client : ℕ
     pub number : ℕ
     pub event : Is n client number
@@ -86,93 +82,94 @@ module _ {S : Type 0} (world : ℕ → WorldOf S) where
     pub delivered : packet (world n) number ≡ some bytes
     pub received : ResultPacket
     pub answer : receiveOf state bytes .answer ≡ Completed received
-    pub its : commandAt state (received .call) ≡ k
-    pub result : resultIn received ≡ r
+    pub its : commandAt state (received .call) ∷ [] ≡ ks
+    pub result : one (resultMeant (received .result)) ≡ r
 
--- "It survives if, after one such Request, no crash left that log shorter than the Request left it": event n executes k. `Is m c b`: event
--- m is a crash of server c that keeps b bytes; `size n c`: the bytes of its log after n events
-pub record SurvivesAtBy (Executes : ℕ → ℕ → Command → Type 0) (Is : ℕ → ℕ → ℕ → Type 0) (size : ℕ → ℕ → ℕ) (n : ℕ) (k : Command) : Type 0 where
+-- "It survives if, after one such Request, no crash left that log shorter than the Request left it": event n executes m. `Is j c b`: event
+-- j is a crash of server c that keeps b bytes; `size n c`: the bytes of its log after n events
+pub record SurvivesAtBy (Executes : ℕ → ℕ → Marked → Type 0) (Is : ℕ → ℕ → ℕ → Type 0) (size : ℕ → ℕ → ℕ) (n : ℕ) (m : Marked) : Type 0 where
   pub server : ℕ
-  pub executes : Executes n server k
-  pub kept : (m b : ℕ) → n < m → Is m server b → size (suc n) server ≤ b
+  pub executes : Executes n server m
+  pub kept : (j b : ℕ) → n < j → Is j server b → size (suc n) server ≤ b
 
--- what demand 3 reads of a run: the event that issues a command, that completes it with a result, that executes it so that it survives;
--- the version of an op's rule at an event; the state that each server counts with at the end; that Recover accepts what a crash kept
+-- what demand 3 reads of a run: the event that issues commands, that completes them with a result, that executes a command by a version so
+-- that it survives; the state that each server counts with at the end; that Recover accepts what a crash kept
 pub record Account : Type 1 where
-  pub Issues : ℕ → Command → Type 0
-  pub Completes : ℕ → Command → CommandResult → Type 0
-  pub SurvivesAt : ℕ → Command → Type 0
-  pub version : ℕ → ℕ → Version
+  pub Issues : ℕ → List Command → Type 0
+  pub Completes : ℕ → List Command → EntryResult → Type 0
+  pub SurvivesAt : ℕ → Marked → Type 0
   pub final : ℕ → Option State
   pub Recovers : Type 0
 
 module _ (plan : List ℕ) (seen : Account) where
-  -- a surviving command, marked with the rules that it was executed under
-  pub record SurvivesBy (m : Marked) : Type 0 where
+  -- an entry with a surviving part
+  pub record SurvivesBy (e : OrderEntry) : Type 0 where
+    pub part : Marked
+    pub among : part ∈ parts e
     pub at : ℕ
-    pub survives : seen .SurvivesAt at (m .command)
-    pub version : m .version ≡ seen .version at (m .command .op)
+    pub survives : seen .SurvivesAt at part
 
   -- "The holder of a point is the cabinet with the greatest move number; of giver and taker, the taker; at 0 its home."
   -- "A holder not founded is left out": there is none then
   pub record HolderBy (p c : ℕ) (st : State) : Type 0 where
     pub founded : seen .final c ≡ some st
-    pub greatest : (d : ℕ) (other : State) → seen .final d ≡ some other → pointAt other p .number ≤ pointAt st p .number
-    pub taker : (d : ℕ) (other : State) → seen .final d ≡ some other → pointAt other p .number ≡ pointAt st p .number
-        → pointAt other p .taken ≤ pointAt st p .taken
-    pub home : pointAt st p .number ≡ 0 → entryAt (planOf plan) p .home ≡ c
+    pub greatest : (d : ℕ) (other : State) → seen .final d ≡ some other → pointAt other p .moveNumber ≤ pointAt st p .moveNumber
+    pub taker : (d : ℕ) (other : State) → seen .final d ≡ some other → pointAt other p .moveNumber ≡ pointAt st p .moveNumber
+        → pointAt other p .takenMove ≤ pointAt st p .takenMove
+    pub home : pointAt st p .moveNumber ≡ 0 → entryAt (planOf plan) p .home ≡ c
 
   -- the order explains the run
-  pub record ExplainedBy (order : List Marked) : Type 0 where
+  pub record ExplainedBy (order : List OrderEntry) : Type 0 where
     -- "each once"
     pub once : Once order
     -- "one order of all surviving commands"
-    pub survivors : (m : Marked) → SurvivesBy m ↔ (m ∈ order)
+    pub survivors : (e : OrderEntry) → SurvivesBy e ↔ (e ∈ order)
     -- "the book of document 01, run over it, gives every result that a desk received"
-    pub results : (n : ℕ) (k : Command) (r : CommandResult) → seen .Completes n k r → Answers (planOf plan) (opened (planOf plan)) order k (resultMeant r)
+    pub results : (n : ℕ) (ks : List Command) (r : EntryResult) → seen .Completes n ks r → Answers (planOf plan) (opened (planOf plan)) order ks r
     -- "and, at its end, each point's value and quality at its holder"
     pub values : (p c : ℕ) (st : State) → p < pointCount → HolderBy p c st
         → readingMeant (readingAt (pointAt st p)) ≡ bookAfter (planOf plan) (opened (planOf plan)) order p
     -- "a command completed before another was issued stands first"
-    pub real-time : (m n : ℕ) (a b : Marked) (r : CommandResult) → seen .Completes m (a .command) r → seen .Issues n (b .command) → m < n
+    pub real-time : (m n : ℕ) (a b : OrderEntry) (r : EntryResult) → seen .Completes m (commands a) r → seen .Issues n (commands b) → m < n
         → a ∈ order → b ∈ order → Before a b order
     -- a completed command survives
-    pub completed : (n : ℕ) (k : Command) (r : CommandResult) → seen .Completes n k r → (a : Marked) × (a .command ≡ k) × (a ∈ order)
+    pub completed : (n : ℕ) (ks : List Command) (r : EntryResult) → seen .Completes n ks r → (a : OrderEntry) × (commands a ≡ ks) × (a ∈ order)
     -- the order keeps each point's sequence of surviving executions. With `once` this leaves a command one surviving execution at the
-    -- most: of two, the command would stand before itself
-    pub sequence : (m n : ℕ) (a b : Marked) → seen .SurvivesAt m (a .command) → seen .SurvivesAt n (b .command) → m < n
-        → a .command .point ≡ b .command .point → a ∈ order → b ∈ order → Before a b order
+    -- most: two by one version would put its entry before itself, two by different versions its id into two entries
+    pub sequence : (m n : ℕ) (j k : Marked) (a b : OrderEntry) → seen .SurvivesAt m j → seen .SurvivesAt n k → m < n
+        → j .command .point ≡ k .command .point → j ∈ parts a → k ∈ parts b → a ∈ order → b ∈ order → Before a b order
     -- Recover accepts what a crash kept
     pub recovers : seen .Recovers
 
 -- ---- over bytes
 
 module _ (plan : List ℕ) (es : List Event) where
-  -- event n issues k
-  abbrev pub Issues : ℕ → Command → Type 0
+  -- event n issues ks
+  abbrev pub Issues : ℕ → List Command → Type 0
   Issues = IssuesBy (after es) (λ n x op p a. At plan es n (issue x op p a))
 
-  -- event n completes k, with the result r
-  abbrev pub Completes : ℕ → Command → CommandResult → Type 0
+  -- event n completes ks, with the result r
+  abbrev pub Completes : ℕ → List Command → EntryResult → Type 0
   Completes = CompletesBy (after es) (λ n x p. At plan es n (receive x p))
 
-  -- "A Request of it that gives neither number nor packet executes it": event n executes k at server c
-  pub record Executes (n c : ℕ) (k : Command) : Type 0 where
+  -- "A Request of it that gives neither number nor packet executes it": event n executes m at server c
+  pub record Executes (n c : ℕ) (m : Marked) : Type 0 where
     pub number : ℕ
+    pub versions : Versions
     pub lent : Lent
-    pub event : At plan es n (request c number lent)
+    pub event : At plan es n (request c number versions lent)
     pub state : List ℕ
     pub log : List ℕ
     pub up : after es n .servers c ≡ running state log
     pub bytes : List ℕ
     pub delivered : packet (after es n) number ≡ some bytes
-    pub answer : requestOf (lentState lent state) (lentLog lent log) bytes (lent .out) .answer ≡ answerOf 0 0
+    pub answer : requestOf versions (lentState lent state) (lentLog lent log) bytes (lent .out) .answer ≡ answerOf 0 0
     pub asked : Request
     pub parsed : parsePacket bytes ≡ Requested asked
-    pub its : commandOf asked ≡ k
+    pub its : markedBy versions (asked .command) ≡ m
 
-  -- event n executes k, and that execution survives
-  abbrev pub SurvivesAt : ℕ → Command → Type 0
+  -- event n executes m, and that execution survives
+  abbrev pub SurvivesAt : ℕ → Marked → Type 0
   SurvivesAt = SurvivesAtBy Executes (λ n c b. At plan es n (crash c b)) (λ n c. lengthOf (after es n .servers c))
 
   -- "until it succeeds, or if the list ends first, the cabinet counts with the state that Recover gives from these"
@@ -195,21 +192,20 @@ module _ (plan : List ℕ) (es : List Event) where
         Issues = Issues;
         Completes = Completes;
         SurvivesAt = SurvivesAt;
-        version = versionAt es;
         final = finalState;
         Recovers = Recovers;
       }
 
-  abbrev pub Survives : Marked → Type 0
+  abbrev pub Survives : OrderEntry → Type 0
   Survives = SurvivesBy plan account
 
   abbrev pub Holder : ℕ → ℕ → State → Type 0
   Holder = HolderBy plan account
 
   -- the order explains the schedule
-  abbrev pub Explains : List Marked → Type 0
+  abbrev pub Explains : List OrderEntry → Type 0
   Explains = ExplainedBy plan account
 
 -- the claim
 unfoldable pub Demand3 : Type 0
-Demand3 = (plan : List ℕ) (es : List Event) → Provisos plan es → (order : List Marked) × Explains plan es order
+Demand3 = (plan : List ℕ) (es : List Event) → Provisos plan es → (order : List OrderEntry) × Explains plan es order

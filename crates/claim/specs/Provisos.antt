@@ -20,37 +20,32 @@ use Rattle.claim.specs.World.{Event, found, request, fetch, sync, notice
 unfoldable pub Bytes : List ℕ → Type 0
 Bytes s = (i : ℕ) → getD s i 0 < 256
 
--- a slice: bytes, as many as a machine's address counts
-pub record Slice (s : List ℕ) : Type 0 where
-  pub bytes : Bytes s
-  pub counted : length s < word * word
+-- the length of a lent log has 64 bits
+abbrev pub Counted : Lent → Type 0
+Counted l = l .log < word * word
 
-pub record LentOk (l : Lent) : Type 0 where
-  pub counted : l .log < word * word
-  pub tail : Bytes (l .tail)
-  pub out : Slice (l .out)
-
--- the arguments of a call are slices of bytes and numbers of 32 bits, a mark of 64, as in the interface
+-- what the interface's types say and the conclusion needs: buffers and a plan that a server is founded or recovered with are bytes, a lent
+-- log's length has 64 bits, times have 32. It holds for arguments of every other size
 unfoldable pub Typed : Event → Type 0
-Typed (found c state log plan n) = Slice state × Slice log × Slice plan × (n < word)
-Typed (request c p l) = LentOk l
-Typed (fetch c x k l) = LentOk l × (x < word) × (k < word)
-Typed (sync c m l) = LentOk l × (m < word * word)
-Typed (notice c p l) = LentOk l
-Typed (give c p d l) = LentOk l × (p < word) × (d < word)
-Typed (image c p l) = LentOk l × (p < word)
-Typed (take·image c p l) = LentOk l
-Typed (receipt c p l) = LentOk l × (p < word)
-Typed (release c p l) = LentOk l
-Typed (recover c state log plan) = Slice state × Slice log × Slice plan
+Typed (found c state log plan n) = Bytes state × Bytes plan
+Typed (request c p v l) = Counted l
+Typed (fetch c x k l) = Counted l
+Typed (sync c m l) = Counted l
+Typed (notice c p l) = Counted l
+Typed (give c p d l) = Counted l
+Typed (image c p l) = Counted l
+Typed (take·image c p l) = Counted l
+Typed (receipt c p l) = Counted l
+Typed (release c p l) = Counted l
+Typed (recover c state log plan) = Bytes state
 Typed (crash c k) = Unit
 Typed (start p) = Unit
-Typed (issue x op p a) = (op < 256) × (p < 256) × (a < word)
-Typed (resend x c) = c < word
+Typed (issue x op p a) = Unit
+Typed (resend x c) = Unit
 Typed (receive x p) = Unit
-Typed (open·lease t span) = (t < word) × (span < word)
-Typed (renew x t span) = (x < word) × (t < word) × (span < word)
-Typed (query x t) = (x < word) × (t < word)
+Typed (open·lease t span) = t < word
+Typed (renew x t span) = t < word
+Typed (query x t) = t < word
 
 -- the log that a running server has, or that a crash kept
 unfoldable pub keptBy : Server → Option (List ℕ)
@@ -78,17 +73,17 @@ module _ (plan : List ℕ) (es : List Event) where
     -- what the interface's types say
     pub typed : (n : ℕ) (e : Event) → At n e → Typed e
     -- "all cabinets have one plan, given again at each recovery"
-    pub one-plan : (n c : ℕ) (state log p : List ℕ) (k : ℕ) → At n (found c state log p k) → foundOf state log p k .answer .number ≡ 0 → p ≡ plan
-    pub plan-again : (n c : ℕ) (state log p : List ℕ) → At n (recover c state log p) → recoverOf state log p .answer .number ≡ 0 → p ≡ plan
+    pub one-plan : (n c : ℕ) (state log p : List ℕ) (k : ℕ) → At n (found c state log p k) → foundOf state log p k .answer .refusal ≡ 0 → p ≡ plan
+    pub plan-again : (n c : ℕ) (state log p : List ℕ) → At n (recover c state log p) → recoverOf state log p .answer .refusal ≡ 0 → p ≡ plan
     -- "and different numbers": a server is named by the number it was founded with
-    pub own-number : (n c : ℕ) (state log p : List ℕ) (k : ℕ) → At n (found c state log p k) → foundOf state log p k .answer .number ≡ 0 → k ≡ c
+    pub own-number : (n c : ℕ) (state log p : List ℕ) (k : ℕ) → At n (found c state log p k) → foundOf state log p k .answer .refusal ≡ 0 → k ≡ c
     -- "and are founded once": only a refused found is called again
-    pub founded-once : (n c : ℕ) (state log p : List ℕ) (k : ℕ) → At n (found c state log p k) → foundOf state log p k .answer .number ≡ 0
+    pub founded-once : (n c : ℕ) (state log p : List ℕ) (k : ℕ) → At n (found c state log p k) → foundOf state log p k .answer .refusal ≡ 0
         → after es n .servers c ≡ nothing
     -- "a crash keeps a prefix of the log not shorter than its synced part"
     pub crash-keeps : (n c k : ℕ) → At n (crash c k) → (markOf (after es n .servers c) ≤ k) × (k ≤ lengthOf (after es n .servers c))
     -- "recovery uses that prefix": what the crash kept; without a crash, the log up to its recorded length (bytes past it are no log)
-    pub recovery-uses : (n c : ℕ) (state log p : List ℕ) → At n (recover c state log p) → recoverOf state log p .answer .number ≡ 0
+    pub recovery-uses : (n c : ℕ) (state log p : List ℕ) → At n (recover c state log p) → recoverOf state log p .answer .refusal ≡ 0
         → keptBy (after es n .servers c) ≡ some log
     -- "each client number starts one desk, once"
     pub started-once : (n p : ℕ) (b : List ℕ) → At n (start p) → packet (after es n) p ≡ some b → startOf b .answer ≡ Running

@@ -18,6 +18,7 @@ use Rattle.model.specs.declared.StartAnswer.{StartAnswer}
 use Rattle.model.specs.declared.SendAnswer.{SendAnswer}
 use Rattle.model.specs.declared.LeaseAnswer.{LeaseAnswer}
 use Rattle.model.specs.Choice.{pick}
+use Rattle.model.specs.Versions.{Versions}
 use Rattle.model.specs.States.{State, load}
 use Rattle.model.specs.Operations.{After, foundOf, requestOf, fetchOf, syncOf, noticeOf, giveOf, imageOf, takeOf, receiptOf, releaseOf, recoverOf}
 use Rattle.model.specs.Clients.{startOf, issueOf, resendOf, receiveOf, sentBytes}
@@ -55,7 +56,7 @@ pub record Lent : Type 0 where
 -- the calls of the paper, with their arguments, and crashes. A packet or image is named by its number among those made, from 0
 pub data Event : Type 0 where
   found : ℕ → List ℕ → List ℕ → List ℕ → ℕ → Event  -- server, state and log buffers, plan, server number
-  request : ℕ → ℕ → Lent → Event  -- server, packet
+  request : ℕ → ℕ → Versions → Lent → Event  -- server, packet, the versions its program executes by: any at any event and server
   fetch : ℕ → ℕ → ℕ → Lent → Event  -- server, client, call
   sync : ℕ → ℕ → Lent → Event  -- server, mark
   notice : ℕ → ℕ → Lent → Event  -- server, packet
@@ -121,7 +122,7 @@ callsOn c l f (some b) w = calls c l (λ s g. f s g b) (w .servers c) w
 
 -- found and recover: on success the server runs with what they wrote; a refusal leaves it as it was
 unfoldable pub foundAs : ℕ → After → World → World
-foundAs c a w = pick (eqb (a .answer .number) 0) (withServer c (running (a .state) (take (load (a .state) .size) (a .log))) w) w
+foundAs c a w = pick (eqb (a .answer .refusal) 0) (withServer c (running (a .state) (take (load (a .state) .size) (a .log))) w) w
 
 -- a crash leaves no state and the log's first k bytes
 unfoldable pub crashAt : ℕ → ℕ → Server → World → World
@@ -160,7 +161,7 @@ packet w n = getElem? (w .made) n
 
 unfoldable pub step : World → Event → World
 step w (found c state log plan n) = foundAs c (foundOf state log plan n) w
-step w (request c p l) = callsOn c l (λ s g b. requestOf s g b (l .out)) (packet w p) w
+step w (request c p v l) = callsOn c l (λ s g b. requestOf v s g b (l .out)) (packet w p) w
 step w (fetch c x k l) = calls c l (λ s g. fetchOf s g x k (l .out)) (w .servers c) w
 step w (sync c m l) = calls c l (λ s g. syncOf s g m) (w .servers c) w
 step w (notice c p l) = callsOn c l noticeOf (packet w p) w

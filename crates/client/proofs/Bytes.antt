@@ -10,11 +10,11 @@ use mathlib.Core.Bool.{true}
 use mathlib.Core.List.{List}
 use Prim.Native.Nat.{ℕ, zero, suc, _≤_, _<_}
 use native.Mathlib.Omega.{arith}
-use lib.Dec.{leb}
 use borrow.Author.Tests.{leb-true}
 use Rattle.laws.specs.Bytes.{Bytes}
 use Rattle.laws.specs.Fits.{RequestFits, packetFits, IsPacket}
-use Rattle.laws.proofs.Tests.{and-left, and-right}
+use Rattle.laws.proofs.Tests.{and-left}
+use Rattle.laws.proofs.Commands.{command-parts}
 use Rattle.laws.proofs.Packets.{packet-back, packet-found}
 use Rattle.model.specs.declared.OpenCall.{OpenCall}
 use Rattle.model.specs.declared.Client.{Client}
@@ -23,32 +23,18 @@ use Rattle.model.specs.declared.Packet.{Packet}
 use Rattle.model.specs.declared.Packet.the-variants.{Malformed, Requested, Resulted, Refused, Receipted, Noticed, Granted}
 use Rattle.model.specs.declared.Started.the-variants.{Running}
 use Rattle.model.specs.declared.Sent.the-variants.{Asked}
-use Rattle.model.specs.Rules.{greatestArgument, leastArgument, argumentOk}
 use Rattle.model.specs.Packets.{commandOk, requestOk, grantOk, requestBytes, packetBytes, parsePacket}
 use Rattle.model.specs.Clients.{callAt, withCalls, withCall, newCall, requestFor, startWith, startOf, issueOf, resendOf, receiveOf}
 use Rattle.client.specs.WellFormed.{WellFormed}
 use Rattle.client.proofs.Open.{open-below, first-under}
 use Rattle.client.proofs.Kept.{start-well, receive-well, issue-well, issue-asked, issue-ok, resend-asked, resend-ok}
 
-greatest-under : (op : ℕ) → greatestArgument op ≤ 4294967295
-unfolding greatestArgument
-greatest-under zero = omega arith
-greatest-under (suc zero) = omega arith
-greatest-under (suc (suc zero)) = omega arith
-greatest-under (suc (suc (suc zero))) = omega arith
-greatest-under (suc (suc (suc (suc zero)))) = omega arith
-greatest-under (suc (suc (suc (suc (suc zero))))) = omega arith
-greatest-under (suc (suc (suc (suc (suc (suc n)))))) = omega arith
-
 pub command-fits : (op point a : ℕ) → commandOk op point a ≡ true → (op < 256) × (point < 256) × (a < 4294967296)
-unfolding commandOk argumentOk
 command-fits op point a e =
-    let p = leb-true op 5 (and-left (leb op 5) _ e) in
-    let r = and-right (leb op 5) _ e in
-    let q = leb-true point 63 (and-left (leb point 63) _ r) in
-    let s = and-right (leb point 63) _ r in
-    let g = leb-true a (greatestArgument op) (and-right (leb (leastArgument op) a) _ s) in
-    (omega arith, omega arith, omega (arith, greatest-under op))
+    let c = command-parts op point a e in
+    let o = c .op in
+    let p = c .point in
+    (omega arith, omega arith, c .fits)
 
 -- a well-formed request of a well-formed client
 request-fits : {d : Client} → WellFormed d → (k : OpenCall) → k .call < d .next → requestOk (requestFor d k) ≡ true → RequestFits (requestFor d k)

@@ -133,9 +133,9 @@ resend-same d c = go (resend-case d c)
 -- ---- numbers
 
 -- call numbers rise: an issue that is not refused takes next, and the next one is 1 more; nothing else changes it
-pub issue-next : (d : Client) (op point a : ℕ) (q : Request) → issueOf d op point a .answer ≡ Asked q → (q .call ≡ d .next) × (issueOf d op point a .client .next ≡ suc (d .next))
+pub issue-next : (d : Client) (op point a : ℕ) (q : Request) → issueOf d op point a .answer ≡ Asked q → (q .command .call ≡ d .next) × (issueOf d op point a .client .next ≡ suc (d .next))
 unfolding requestFor newCall withCall withCalls
-issue-next d op point a q s = let i = issue-asked d op point a q s in (ap (λ (x : Request). x .call) (i .asks), ap (λ (x : Client). x .next) (i .after))
+issue-next d op point a q s = let i = issue-asked d op point a q s in (ap (λ (x : Request). x .command .call) (i .asks), ap (λ (x : Client). x .next) (i .after))
 
 pub receive-next : (d : Client) (p : Packet) → (receiveWith d p .client .next ≡ d .next) × (receiveWith d p .client .client ≡ d .client)
 unfolding notReceived closed withCalls withLease

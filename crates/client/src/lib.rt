@@ -1,4 +1,6 @@
 // The client (paper: desk): start, issue, resend, receive. Values in and values out; every value of the struct is taken.
+use model::constants;
+use model::constants::CALL_WINDOW;
 ghost use mathlib.Core.Path.{_≡_};
 ghost use mathlib.Core.Bool.{_&&_};
 ghost use Prim.Native.Nat.{_<_};
@@ -7,6 +9,7 @@ ghost use lib.ListN.{set, replicate};
 ghost use Rattle.model.specs.Choice.{pick};
 ghost use Rattle.model.specs.Clients.{noCall, noClient, placeOf, callAt, isOpen, leastOpen, firstOpen, withCalls, withLease, closed, requestFor, newCall, withCall, notSent, sent, startWith, startOf, issueOf, resendOf, isOwn, notReceived, receiveResult, receiveRefusal, receiveGrant, receiveWith, receiveOf};
 use model::Client;
+use model::Command;
 use model::Grant;
 use model::OpenCall;
 use model::Packet;
@@ -36,7 +39,7 @@ fn no_call() -> OpenCall
 fn place_of(c: u32) -> usize
     ensures { λ r. ⌜ (r ≡ placeOf c) × (r < 16) ⌝ }
 {
-    (c % 16) as usize
+    (c % constants::CALL_WINDOW_U32) as usize
 }
 
 fn call_at(d: Client, c: u32) -> OpenCall
@@ -63,12 +66,12 @@ fn lesser(k: OpenCall, n: u32) -> u32
     n
 }
 
-fn least_open(n: u32, ks: [OpenCall; 16]) -> u32
+fn least_open(n: u32, ks: [OpenCall; CALL_WINDOW]) -> u32
     ensures { λ r. ⌜ r ≡ leastOpen n ks ⌝ }
 {
     let mut least = n;
     let mut i: usize = 0;
-    while i < 16 {
+    while i < CALL_WINDOW {
         let k = ks[i];
         least = lesser(k, least);
         i += 1;
@@ -83,7 +86,7 @@ pub fn first_open(d: Client) -> u32
     least_open(d.next, ks)
 }
 
-fn with_calls(d: Client, next: u32, ks: [OpenCall; 16]) -> Client
+fn with_calls(d: Client, next: u32, ks: [OpenCall; CALL_WINDOW]) -> Client
     ensures { λ r. ⌜ r ≡ withCalls d next ks ⌝ }
 {
     Client {
@@ -95,7 +98,7 @@ fn with_calls(d: Client, next: u32, ks: [OpenCall; 16]) -> Client
 }
 
 // The open calls with k at the place of the call c.
-fn placed(ks: [OpenCall; 16], c: u32, k: OpenCall) -> [OpenCall; 16]
+fn placed(ks: [OpenCall; CALL_WINDOW], c: u32, k: OpenCall) -> [OpenCall; CALL_WINDOW]
     ensures { λ r. ⌜ r ≡ set ks (placeOf c) k ⌝ }
 {
     let mut out = ks;
@@ -124,14 +127,17 @@ fn with_call(d: Client, k: OpenCall) -> Client
 fn request_for(d: Client, k: OpenCall) -> Request
     ensures { λ r. ⌜ r ≡ requestFor d k ⌝ }
 {
-    Request {
-        op: k.op,
-        point: k.point,
+    let command = Command {
         client: d.client,
         call: k.call,
+        op: k.op,
+        point: k.point,
+        argument: k.argument,
+    };
+    Request {
+        command,
         done: first_open(d),
         lease: d.lease,
-        argument: k.argument,
     }
 }
 
@@ -158,11 +164,11 @@ fn sent(d: Client, k: OpenCall) -> SendAnswer
 
 // ---- a packet
 
-fn no_calls() -> [OpenCall; 16]
+fn no_calls() -> [OpenCall; CALL_WINDOW]
     ensures { λ r. ⌜ r ≡ replicate 16 noCall ⌝ }
 {
     let k = no_call();
-    [k; 16]
+    [k; CALL_WINDOW]
 }
 
 fn no_client() -> Client
@@ -183,7 +189,7 @@ fn not_started() -> StartAnswer
     let d = no_client();
     StartAnswer {
         client: d,
-        answer: Started::NotStarted(1),
+        answer: Started::NotStarted(constants::MALFORMED),
     }
 }
 
@@ -267,7 +273,7 @@ fn receive_result(d: Client, r: ResultPacket) -> ReceiveAnswer
             answer: Received::Completed(r),
         };
     }
-    not_received(d, 17)
+    not_received(d, constants::UNKNOWN)
 }
 
 fn receive_refusal(d: Client, r: RefusalPacket) -> ReceiveAnswer
@@ -280,7 +286,7 @@ fn receive_refusal(d: Client, r: RefusalPacket) -> ReceiveAnswer
             answer: Received::Denied(r),
         };
     }
-    not_received(d, 17)
+    not_received(d, constants::UNKNOWN)
 }
 
 fn receive_grant(d: Client, g: Grant) -> ReceiveAnswer
@@ -293,19 +299,19 @@ fn receive_grant(d: Client, g: Grant) -> ReceiveAnswer
             answer: Received::Extended(g),
         };
     }
-    not_received(d, 17)
+    not_received(d, constants::UNKNOWN)
 }
 
 fn receive_with(d: Client, p: Packet) -> ReceiveAnswer
     ensures { λ r. ⌜ r ≡ receiveWith d p ⌝ }
 {
     match p {
-        Packet::Malformed => not_received(d, 1),
-        Packet::Requested(_) => not_received(d, 1),
+        Packet::Malformed => not_received(d, constants::MALFORMED),
+        Packet::Requested(_) => not_received(d, constants::MALFORMED),
         Packet::Resulted(r) => receive_result(d, r),
         Packet::Refused(r) => receive_refusal(d, r),
-        Packet::Receipted(_) => not_received(d, 1),
-        Packet::Noticed(_) => not_received(d, 1),
+        Packet::Receipted(_) => not_received(d, constants::MALFORMED),
+        Packet::Noticed(_) => not_received(d, constants::MALFORMED),
         Packet::Granted(g) => receive_grant(d, g),
     }
 }
@@ -325,14 +331,14 @@ pub fn issue(d: Client, op: u8, point: u8, argument: u32) -> SendAnswer
     ensures { λ r. ⌜ r ≡ issueOf d op point argument ⌝ }
 {
     if !wire::command_ok(op, point, argument) {
-        return not_sent(d, 1);
+        return not_sent(d, constants::MALFORMED);
     }
     let first = first_open(d);
-    if first as u64 + 16 <= d.next as u64 {
-        return not_sent(d, 15);
+    if first as u64 + constants::CALL_WINDOW_U64 <= d.next as u64 {
+        return not_sent(d, constants::WINDOW_FULL);
     }
-    if 4294967295 <= d.next {
-        return not_sent(d, 16);
+    if constants::LAST_32 <= d.next {
+        return not_sent(d, constants::NUMBERS_OUT);
     }
     let k = OpenCall {
         call: d.next,
@@ -351,7 +357,7 @@ pub fn resend(d: Client, c: u32) -> SendAnswer
         let k = call_at(d, c);
         return sent(d, k);
     }
-    not_sent(d, 17)
+    not_sent(d, constants::UNKNOWN)
 }
 
 // Receive: 1 malformed, or not kind 2, 3 or 6; 17 other client, call not open, other point, or an earlier lease end.

@@ -1,31 +1,30 @@
 -- The reply of each case, and a command whose op or point is past a byte.
 --     reply-none, reply-request      what issue and resend give
---     reply-number                   the number that receive gives is the paper's
 --     lease-none, lease-grant, lease-notice      what the lease manager gives
 --     past-byte      such a command is malformed, so issue refuses it with 1
 --     both-under     and the test for it
 -- Assumes nothing.
-use mathlib.Core.Path.{_≡_, refl, sym}
+use mathlib.Core.Path.{_≡_, refl, sym, _∙_}
 use mathlib.Core.Bool.{Bool, true, false, _||_, false≢true}
 use mathlib.Core.List.{List}
 use Prim.Native.Nat.{ℕ, _<_}
 use native.Mathlib.Omega.{arith}
-use lib.Dec.{leb, ltb}
+use lib.Dec.{ltb}
 use lib.ListN.{length, replicate}
-use borrow.Author.Tests.{ltb-true, ltb-false, lt-leb}
+use borrow.Author.Tests.{ltb-false, le-ltb}
 use Rattle.model.specs.declared.Request.{Request}
 use Rattle.model.specs.declared.Grant.{Grant}
 use Rattle.model.specs.declared.Notice.{Notice}
 use Rattle.model.specs.declared.Client.{Client}
 use Rattle.model.specs.declared.LeaseAnswer.{LeaseAnswer}
 use Rattle.model.specs.declared.Sent.the-variants.{NotSent, Asked}
-use Rattle.model.specs.declared.Received.{Received}
-use Rattle.model.specs.declared.Received.the-variants.{NotReceived, Completed, Denied, Extended}
 use Rattle.model.specs.declared.Told.the-variants.{NotTold, ByGrant, ByNotice}
+use Rattle.model.specs.Limits.{noticeKind}
 use Rattle.model.specs.Packets.{commandOk, requestBytes, grantBytes, noticeBytes}
-use Rattle.model.specs.Clients.{receiveNumber, sendNumber, sentBytes, notSent, issueOf}
+use Rattle.model.specs.Clients.{sendNumber, sentBytes, notSent, issueOf}
 use Rattle.model.specs.Leases.{toldNumber, toldBytes}
-use Rattle.client_c.specs.Replies.{filled, receiveReply, sendReply, leaseReply}
+use Rattle.laws.proofs.Commands.{CommandParts, command-parts}
+use Rattle.client_c.specs.Replies.{filled, sendReply, leaseReply}
 
 -- ---- issue and resend
 
@@ -36,15 +35,6 @@ reply-none n = refl
 pub reply-request : (q : Request) {p : List ℕ} → p ≡ requestBytes q → record { number = 0; length = 24; packet = p } ≡ sendReply (Asked q)
 unfolding sendReply sendNumber sentBytes filled requestBytes
 reply-request q e = rw e refl
-
--- ---- receive
-
-pub reply-number : (a : Received) → receiveReply a .number ≡ receiveNumber a
-unfolding receiveReply receiveNumber
-reply-number (NotReceived n) = refl
-reply-number (Completed r) = refl
-reply-number (Denied r) = refl
-reply-number (Extended g) = refl
 
 -- ---- the lease manager
 
@@ -57,24 +47,22 @@ module _ (a : LeaseAnswer) where
   unfolding leaseReply toldNumber toldBytes filled grantBytes
   lease-grant g q e = rw (q, e) refl
 
-  pub lease-notice : (n : Notice) {p : List ℕ} → a .answer ≡ ByNotice n → p ≡ noticeBytes 5 n → record { manager = a .manager; number = 0; length = 12; packet = p } ≡ leaseReply a
+  pub lease-notice : (n : Notice) {p : List ℕ} → a .answer ≡ ByNotice n → p ≡ noticeBytes noticeKind n → record { manager = a .manager; number = 0; length = 12; packet = p } ≡ leaseReply a
   unfolding leaseReply toldNumber toldBytes filled noticeBytes
   lease-notice n q e = rw (q, e) refl
 
 -- ---- an op or a point past a byte
 
 pub past-byte : (d : Client) (op point a : ℕ) → (ltb 255 op || ltb 255 point) ≡ true → record { client = d; answer = NotSent 1 } ≡ issueOf d op point a
-unfolding issueOf notSent commandOk
-past-byte d op point a e = go (ltb 255 op) (ltb 255 point) refl refl e
+unfolding issueOf notSent
+past-byte d op point a e = refused (commandOk op point a) refl
   where
-    go : (u v : Bool) → ltb 255 op ≡ u → ltb 255 point ≡ v → (u || v) ≡ true → record { client = d; answer = NotSent 1 } ≡ issueOf d op point a
-    go true v p q r = let h = ltb-true 255 op p in rw (lt-leb op 5 (omega arith)) refl
-    go false true p q r = let h = ltb-true 255 point q in point-past (leb op 5) refl (lt-leb point 63 (omega arith))
-      where
-        point-past : (b : Bool) → leb op 5 ≡ b → leb point 63 ≡ false → record { client = d; answer = NotSent 1 } ≡ issueOf d op point a
-        point-past true f g = rw (f, g) refl
-        point-past false f g = rw f refl
-    go false false p q r = absurd (false≢true r)
+    under : CommandParts op point a → (ltb 255 op || ltb 255 point) ≡ false
+    under c = let o = c .op in let p = c .point in rw (le-ltb 255 op (omega arith), le-ltb 255 point (omega arith)) refl
+
+    refused : (b : Bool) → commandOk op point a ≡ b → record { client = d; answer = NotSent 1 } ≡ issueOf d op point a
+    refused true f = absurd (false≢true (sym (under (command-parts op point a f)) ∙ e))
+    refused false f = rw f refl
 
 pub both-under : (op point : ℕ) → (ltb 255 op || ltb 255 point) ≡ false → (op < 256) × (point < 256)
 both-under op point e = go (ltb 255 op) (ltb 255 point) refl refl e

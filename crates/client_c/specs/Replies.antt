@@ -5,13 +5,13 @@ use mathlib.Core.List.{List, _++_}
 use lib.ListN.{length, replicate}
 use Rattle.model.specs.declared.Sent.{Sent}
 use Rattle.model.specs.declared.Received.{Received}
-use Rattle.model.specs.declared.Received.the-variants.{NotReceived, Completed, Denied, Extended}
 use Rattle.model.specs.declared.StartAnswer.{StartAnswer}
 use Rattle.model.specs.declared.SendAnswer.{SendAnswer}
 use Rattle.model.specs.declared.ReceiveAnswer.{ReceiveAnswer}
 use Rattle.model.specs.declared.LeaseAnswer.{LeaseAnswer}
 use Rattle.model.specs.Numbers.{flip}
-use Rattle.model.specs.Clients.{startNumber, sendNumber, sentBytes}
+use Rattle.model.specs.Limits.{requestSize, grantSize}
+use Rattle.model.specs.Clients.{startNumber, sendNumber, sentBytes, receiveNumber, brought}
 use Rattle.model.specs.Leases.{toldNumber, toldBytes}
 use Rattle.client_c.specs.declared.StartReply.{StartReply}
 use Rattle.client_c.specs.declared.SendReply.{SendReply}
@@ -28,25 +28,30 @@ unfoldable pub startReply : StartAnswer → StartReply
 startReply a = record { client = a .client; number = startNumber (a .answer) }
 
 unfoldable pub sendReply : Sent → SendReply
-sendReply a = record { number = sendNumber a; length = length (sentBytes a); packet = filled 24 (sentBytes a) }
+sendReply a = record { number = sendNumber a; length = length (sentBytes a); packet = filled requestSize (sentBytes a) }
 
 abbrev pub sending : SendAnswer → Sending
 sending a = record { client = a .client; reply = sendReply (a .answer) }
 
--- kind is that of the packet received; a value is in two's complement; what a case lacks is 0
+-- what it brings, a value in two's complement
 unfoldable pub receiveReply : Received → ReceiveReply
-receiveReply (NotReceived n) =
-    record { number = n; kind = 0; call = 0; value = 0; lease = 0; point = 0; outcome = 0; quality = 0; refusal = 0 }
-receiveReply (Completed r) =
-    record { number = 0; kind = 2; call = r .call; value = flip (r .value); lease = 0; point = r .point; outcome = r .outcome; quality = r .quality; refusal = 0 }
-receiveReply (Denied r) =
-    record { number = 0; kind = 3; call = r .call; value = 0; lease = 0; point = r .point; outcome = 0; quality = 0; refusal = r .number }
-receiveReply (Extended g) =
-    record { number = 0; kind = 6; call = 0; value = 0; lease = g .lease; point = 0; outcome = 0; quality = 0; refusal = 0 }
+receiveReply a =
+    let b = brought a in
+    record {
+      number = receiveNumber a;
+      kind = b .kind;
+      call = b .call;
+      value = flip (b .result .value);
+      lease = b .lease;
+      point = b .point;
+      outcome = b .result .outcome;
+      quality = b .result .quality;
+      refusal = b .refusal;
+    }
 
 abbrev pub receiving : ReceiveAnswer → Receiving
 receiving a = record { client = a .client; reply = receiveReply (a .answer) }
 
 unfoldable pub leaseReply : LeaseAnswer → LeaseReply
 leaseReply a =
-    record { manager = a .manager; number = toldNumber (a .answer); length = length (toldBytes (a .answer)); packet = filled 12 (toldBytes (a .answer)) }
+    record { manager = a .manager; number = toldNumber (a .answer); length = length (toldBytes (a .answer)); packet = filled grantSize (toldBytes (a .answer)) }

@@ -1,5 +1,6 @@
 // The client and the lease manager for a host program in C: numbers, structs with C's layout, byte slices. A signed number is
 // in two's complement here.
+use model::constants;
 ghost use mathlib.Core.Path.{_≡_};
 ghost use Rattle.model.specs.Numbers.{flip};
 ghost use Rattle.model.specs.Clients.{startOf, startNumber, issueOf, resendOf, receiveOf};
@@ -36,7 +37,7 @@ pub struct StartReply {
 pub struct SendReply {
     pub number: u32,
     pub length: u32,
-    pub packet: [u8; 24],
+    pub packet: [u8; constants::REQUEST_SIZE],
 }
 
 // number: 0 or the refusal's. kind: 2 a result, 3 a refusal (its number in refusal), 6 a grant (its end in lease).
@@ -59,7 +60,7 @@ pub struct LeaseReply {
     pub manager: LeaseManager,
     pub number: u32,
     pub length: u32,
-    pub packet: [u8; 12],
+    pub packet: [u8; constants::GRANT_SIZE],
 }
 
 // ---- replies, by value
@@ -81,13 +82,13 @@ fn send_reply(a: Sent) -> SendReply
         Sent::NotSent(n) => SendReply {
             number: n,
             length: 0,
-            packet: [0u8; 24],
+            packet: [0u8; constants::REQUEST_SIZE],
         },
         Sent::Asked(q) => {
             let p = packets::request_packet(q);
             SendReply {
-                number: 0,
-                length: 24,
+                number: constants::NO_REFUSAL,
+                length: constants::REQUEST_SIZE_U32,
                 packet: p,
             }
         }
@@ -122,30 +123,30 @@ fn receive_reply(a: Received) -> ReceiveReply
             refusal: 0,
         },
         Received::Completed(r) => ReceiveReply {
-            number: 0,
-            kind: 2,
+            number: constants::NO_REFUSAL,
+            kind: constants::RESULT_KIND_U32,
             call: r.call,
-            value: wire::flipped(r.value),
+            value: wire::flipped(r.result.value),
             lease: 0,
             point: r.point,
-            outcome: r.outcome,
-            quality: r.quality,
+            outcome: r.result.outcome,
+            quality: r.result.quality,
             refusal: 0,
         },
         Received::Denied(r) => ReceiveReply {
-            number: 0,
-            kind: 3,
+            number: constants::NO_REFUSAL,
+            kind: constants::REFUSAL_KIND_U32,
             call: r.call,
             value: 0,
             lease: 0,
             point: r.point,
             outcome: 0,
             quality: 0,
-            refusal: r.number,
+            refusal: r.refusal,
         },
         Received::Extended(g) => ReceiveReply {
-            number: 0,
-            kind: 6,
+            number: constants::NO_REFUSAL,
+            kind: constants::GRANT_KIND_U32,
             call: 0,
             value: 0,
             lease: g.lease,
@@ -174,7 +175,7 @@ fn start_number(a: Started) -> u32
 {
     match a {
         Started::NotStarted(n) => n,
-        Started::Running => 0,
+        Started::Running => constants::NO_REFUSAL,
     }
 }
 
@@ -188,14 +189,14 @@ fn lease_reply(a: LeaseAnswer) -> LeaseReply
             manager: m,
             number: n,
             length: 0,
-            packet: [0u8; 12],
+            packet: [0u8; constants::GRANT_SIZE],
         },
         Told::ByGrant(g) => {
             let p = packets::grant_packet(g);
             LeaseReply {
                 manager: m,
-                number: 0,
-                length: 12,
+                number: constants::NO_REFUSAL,
+                length: constants::GRANT_SIZE_U32,
                 packet: p,
             }
         }
@@ -203,8 +204,8 @@ fn lease_reply(a: LeaseAnswer) -> LeaseReply
             let p = packets::notice_packet(n);
             LeaseReply {
                 manager: m,
-                number: 0,
-                length: 12,
+                number: constants::NO_REFUSAL,
+                length: constants::NOTICE_SIZE_U32,
                 packet: p,
             }
         }
@@ -217,10 +218,10 @@ fn lease_reply(a: LeaseAnswer) -> LeaseReply
 fn issue_value(d: Client, op: u32, point: u32, argument: u32) -> Sending
     ensures { λ r. ⌜ r ≡ sending (issueOf d op point (flip argument)) ⌝ }
 {
-    if (255 < op) | (255 < point) {
+    if (constants::LAST_8 < op) | (constants::LAST_8 < point) {
         let q = SendAnswer {
             client: d,
-            answer: Sent::NotSent(1),
+            answer: Sent::NotSent(constants::MALFORMED),
         };
         return with_send_reply(q);
     }
@@ -300,7 +301,7 @@ pub extern "C" fn mantelorris_leases() -> LeaseManager
     LeaseManager {
         time: 0,
         issued: 0,
-        leases: [l; 32],
+        leases: [l; constants::LEASE_COUNT],
     }
 }
 

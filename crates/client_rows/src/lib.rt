@@ -1,7 +1,8 @@
 // The rows of the clients' table in a server's state, by their index: one read, one replaced, one added behind the last, the last taken
 // away. What each leaves is again the bytes of a state.
 use model::Floor;
-use state_rows::FLOORS_START;
+use model::constants::FLOOR_ROW;
+use model::constants::FLOORS_START;
 ghost use mathlib.Core.Path.{_≡_};
 ghost use mathlib.Core.List.{[], _∷_, _++_};
 ghost use Prim.Native.Nat.{suc, _<_};
@@ -26,7 +27,7 @@ pub fn set_row(s: &mut [u8], i: usize, f: Floor)
     requires { ⌜ Canonical (now s) × (i < length (load (now s) .floors)) ⌝ }
     ensures { λ r. ⌜ now (s .exit) ≡ stored (now (s .entry)) (withFloors (set (load (now (s .entry)) .floors) i f) (load (now (s .entry)))) ⌝ }
 {
-    image_writer::put_floor(s, FLOORS_START + 8 * i, f);
+    image_writer::put_floor(s, FLOORS_START + FLOOR_ROW * i, f);
 }
 
 // Adds a row behind the last.
@@ -35,7 +36,7 @@ pub fn add_row(s: &mut [u8], f: Floor)
     ensures { λ r. ⌜ now (s .exit) ≡ stored (now (s .entry)) (withFloors (load (now (s .entry)) .floors ++ (f ∷ [])) (load (now (s .entry)))) ⌝ }
 {
     let n = state_rows::clients_in(s);
-    image_writer::put_floor(s, FLOORS_START + 8 * (n as usize), f);
+    image_writer::put_floor(s, FLOORS_START + FLOOR_ROW * (n as usize), f);
     state_rows::put_clients(s, n + 1);
 }
 
@@ -46,7 +47,7 @@ pub fn drop_row(s: &mut [u8], n: usize)
 {
     image_writer::put_floor(
         s,
-        FLOORS_START + 8 * n,
+        FLOORS_START + FLOOR_ROW * n,
         Floor {
             client: 0,
             floor: 0,

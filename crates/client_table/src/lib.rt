@@ -1,9 +1,9 @@
 // The clients' table of a server's state, changed in place: a client's floor raised, a client removed, an image's floors merged; and how
 // many clients there would be after merging.
-use image_rows::FLOOR_ROW;
-use image_rows::LEAST_IMAGE;
 use model::Floor;
-use state_rows::FLOORS_START;
+use model::constants::FLOOR_ROW;
+use model::constants::FLOORS_START;
+use model::constants::LEAST_IMAGE;
 ghost use mathlib.Core.Path.{_≡_};
 ghost use mathlib.Core.Bool.{true};
 ghost use Prim.Native.Nat.{suc, _+_, _*_, _≤_, _<_, max};

@@ -15,11 +15,12 @@ use native.Mathlib.Nat.{mul-le-mul-left}
 use borrow.Author.Tests.{leb-true}
 use lib.Dec.{leb}
 use Rattle.laws.proofs.Tests.{and-left, and-right}
+use Rattle.laws.proofs.Commands.{in-arguments}
 use Rattle.model.specs.declared.PlanEntry.{PlanEntry}
 use Rattle.model.specs.Numbers.{half}
 use Rattle.model.specs.Limits.{lastServer}
 use Rattle.model.specs.Plan.{inRange, planEntryOk}
-use Rattle.model.specs.Rules.{sumInRange, argumentOk, leastArgument, greatestArgument}
+use Rattle.model.specs.Rules.{sumInRange, argumentOk, argumentRange}
 
 -- a number between two
 pub between : (a b c d : ℕ) → (leb a b && leb c d) ≡ true → (a ≤ b) × (c ≤ d)
@@ -38,8 +39,8 @@ unfolding sumInRange
 sum-bounds e v a h = between (e .low + half) (v + a) (v + a) (e .high + half) h
 
 pub part-bounds : (a : ℕ) → argumentOk 5 a ≡ true → (half ≤ a) × (a ≤ half + 1000)
-unfolding argumentOk leastArgument greatestArgument
-part-bounds a h = between half a a 2147484648 h
+unfolding argumentOk argumentRange
+part-bounds a h = in-arguments (argumentRange 5) a h
 
 pub part-scaled : (span : ℕ) {p : ℕ} (a : ℕ) → p ≡ a - half → argumentOk 5 a ≡ true → span * p ≤ span * 1000
 part-scaled span a e h = let b = part-bounds a h in mul-le-mul-left span (omega arith)

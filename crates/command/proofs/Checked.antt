@@ -8,17 +8,21 @@ use Prim.Native.Nat.{ℕ, _≤_, _<_}
 use mathlib.Core.Path.{_≡_, refl, sym, _∙_}
 use mathlib.Core.Bool.{Bool, true, false}
 use native.Mathlib.Omega.{arith}
+use lib.Dec.{leb}
 use borrow.Author.Tests.{le-leb, ne-eqb}
 use Rattle.model.specs.declared.PlanEntry.{PlanEntry}
 use Rattle.model.specs.declared.Reading.{Reading}
 use Rattle.model.specs.declared.CommandResult.{CommandResult}
 use Rattle.model.specs.Choice.{pick}
-use Rattle.model.specs.Rules.{same, ruleOf, argumentOk, leastArgument, greatestArgument}
+use Rattle.model.specs.Versions.{today}
+use Rattle.model.specs.Numbers.{word}
+use Rattle.model.specs.Limits.{last32}
+use Rattle.model.specs.Rules.{same, ruleOf, arguments, argumentRange, inArguments, argumentOk}
 use Rattle.laws.proofs.Tests.{and-both}
 use Rattle.command.specs.Results.{checkedRule}
 
 module _ (e : PlanEntry) (op a : ℕ) (r : Reading) where
-  pub checked-inside : argumentOk op a ≡ true → checkedRule e op a r ≡ ruleOf e op a r
+  pub checked-inside : argumentOk op a ≡ true → checkedRule e op a r ≡ ruleOf (today op) e op a r
   unfolding checkedRule
   checked-inside p = rw p
 
@@ -27,16 +31,15 @@ module _ (e : PlanEntry) (op a : ℕ) (r : Reading) where
   checked-outside p = rw p
 
 module _ (e : PlanEntry) (op a : ℕ) (r : Reading) {k : ℕ} {x : CommandResult} (q : op ≡ k) where
-  pub inside : {u : Bool} → u ≡ argumentOk k a → u ≡ true → x ≡ ruleOf e k a r → x ≡ checkedRule e op a r
+  pub inside : {u : Bool} → u ≡ argumentOk k a → u ≡ true → x ≡ ruleOf (today k) e k a r → x ≡ checkedRule e op a r
   inside p t z = rw q (z ∙ sym (checked-inside e k a r (sym p ∙ t)))
 
   pub outside : {u : Bool} → u ≡ argumentOk k a → u ≡ false → x ≡ same 1 r → x ≡ checkedRule e op a r
   outside p t z = rw q (z ∙ sym (checked-outside e k a r (sym p ∙ t)))
 
-pub any-argument : (k a : ℕ) → leastArgument k ≡ 0 → greatestArgument k ≡ 4294967295 → a < 4294967296 → argumentOk k a ≡ true
-unfolding argumentOk
-any-argument k a l g h =
-    and-both _ _ (le-leb (leastArgument k) a (omega arith)) (le-leb a (greatestArgument k) (omega arith))
+pub any-argument : (k a : ℕ) → argumentRange k ≡ arguments 0 last32 → a < word → argumentOk k a ≡ true
+unfolding argumentOk inArguments
+any-argument k a e h = rw e (and-both (leb 0 a) (leb a last32) (le-leb 0 a (omega arith)) (le-leb a last32 (omega arith)))
 
 pub other : (e : PlanEntry) (op a : ℕ) (r : Reading) {x : CommandResult} → 6 ≤ op → x ≡ same 1 r → x ≡ checkedRule e op a r
 unfolding checkedRule ruleOf

@@ -17,13 +17,14 @@ use borrow.Author.Tests.{lt-ltb, le-ltb, le-leb, lt-leb, leb-true, leb-false, lt
 use lib.Dec.{leb, ltb, eqb}
 use lib.IntN.{ℤ, pos, negsuc, subℕ, _+ℤ_, _-ℤ_, negℤ}
 use lib.Signed.{leZ}
+use Rattle.model.specs.Versions.{Version, first}
 use Rattle.model.specs.declared.PlanEntry.{PlanEntry}
 use Rattle.model.specs.declared.Reading.{Reading}
 use Rattle.model.specs.Choice.{pick}
 use Rattle.model.specs.Numbers.{half, signed}
 use Rattle.model.specs.Plan.{inRange, planEntryOk}
-use Rattle.model.specs.Rules.{sumInRange, setRule, stepRule, reportRule, faultRule, partRule, ruleOf, argumentOk, leastArgument, greatestArgument}
-use Rattle.model.specs.Sequential.{resultZ, entryZ, readingMeant, resultMeant, inRangeZ, quotientDown, readZ, setZ, stepZ, reportZ, faultZ, partZ, ruleZ, today}
+use Rattle.model.specs.Rules.{sumInRange, setRule, stepRule, reportRule, faultRule, partRule, ruleOf, argumentRange, inArguments, argumentOk}
+use Rattle.model.specs.Sequential.{resultZ, entryZ, readingMeant, resultMeant, inRangeZ, quotientDown, readZ, setZ, stepZ, reportZ, faultZ, partZ, ruleZ}
 use Rattle.command.proofs.Bounds.{sum-bounds, part-bounds, entry-ordered}
 
 -- ---- a difference of two numbers, as an integer
@@ -133,17 +134,17 @@ diff-signed a b h =
 
 -- ---- the arguments
 
-pub argument-tie : (op a : ℕ) → argumentOk op a ≡ (leZ (signed (leastArgument op)) (signed a) && leZ (signed a) (signed (greatestArgument op)))
-unfolding argumentOk
-argument-tie op a = rw (leZ-signed (leastArgument op) a, leZ-signed a (greatestArgument op))
+pub argument-tie : (op a : ℕ) → argumentOk op a ≡ (leZ (signed (argumentRange op .least)) (signed a) && leZ (signed a) (signed (argumentRange op .greatest)))
+unfolding argumentOk inArguments
+argument-tie op a = rw (leZ-signed (argumentRange op .least) a, leZ-signed a (argumentRange op .greatest))
 
 -- the ends of an op's argument
 abbrev ends : ℕ → ℤ → ℤ → Type 0
-ends op l h = (signed (leastArgument op) ≡ l) × (signed (greatestArgument op) ≡ h)
+ends op l h = (signed (argumentRange op .least) ≡ l) × (signed (argumentRange op .greatest) ≡ h)
 
 pub argument-ends : ends 0 (pos 0) (pos 0) × ends 1 (negsuc 2147483647) (pos 2147483647) × ends 2 (negsuc 2147483647) (pos 2147483647)
     × ends 3 (negsuc 2147483647) (pos 2147483647) × ends 4 (pos 0) (pos 0) × ends 5 (pos 0) (pos 1000)
-unfolding signed leastArgument greatestArgument
+unfolding signed argumentRange
 argument-ends = ((refl, refl), (refl, refl), (refl, refl), (refl, refl), (refl, refl), (refl, refl))
 
 -- ---- the rules
@@ -191,10 +192,10 @@ module _ (e : PlanEntry) where
       rw (diff-signed (e .high) (e .low) h, signed-pos a k) (ap (λ (v : ℤ). resultZ 0 v 0) (sum-pos (e .low) ((e .high - e .low) * (a - half) / 1000)))
 
   -- for every op: read, and ops that no command has, change nothing in both
-  pub rule-tie : (op a : ℕ) (r : Reading) → planEntryOk e ≡ true → argumentOk op a ≡ true
-      → resultMeant (ruleOf e op a r) ≡ ruleZ today (entryZ e) op (signed a) (readingMeant r)
+  pub rule-tie : (v : Version) (op a : ℕ) (r : Reading) → planEntryOk e ≡ true → argumentOk op a ≡ true
+      → resultMeant (ruleOf v e op a r) ≡ ruleZ v (entryZ e) op (signed a) (readingMeant r)
   unfolding ruleOf ruleZ readZ resultMeant readingMeant
-  rule-tie op a r ok h =
+  rule-tie first op a r ok h =
       pick-tie resultMeant (eqb op 0) (eqb op 0) refl (λ k. refl)
       (λ k. pick-tie resultMeant (eqb op 1) (eqb op 1) refl (λ k. set-tie a r)
       (λ k. pick-tie resultMeant (eqb op 2) (eqb op 2) refl (λ k. step-tie a r)

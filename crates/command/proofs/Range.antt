@@ -10,6 +10,7 @@ use lib.Dec.{eqb}
 use Rattle.model.specs.declared.PlanEntry.{PlanEntry}
 use Rattle.model.specs.declared.Reading.{Reading}
 use Rattle.model.specs.Numbers.{half}
+use Rattle.model.specs.Versions.{Version, first}
 use Rattle.model.specs.Limits.{lastOutcome, lastQuality}
 use Rattle.model.specs.Plan.{inRange, planEntryOk}
 use Rattle.model.specs.Packets.{outcomeOk}
@@ -54,9 +55,9 @@ module _ (e : PlanEntry) where
         let p = part-between (e .low) (e .high) (a - half) (omega arith) in
         result-ok 0 (e .low + (e .high - e .low) * (a - half) / 1000) 0 (omega arith) (omega arith) (omega arith) (omega arith)
 
-    pub rule-in-range : ResultOk e (ruleOf e op a r)
+    pub rule-in-range : (v : Version) → ResultOk e (ruleOf v e op a r)
     unfolding ruleOf setRule reportRule faultRule
-    rule-in-range =
+    rule-in-range first =
         choose (ResultOk e) (eqb op 0) (λ h. unchanged-ok 0 (omega arith))
         (λ h. choose (ResultOk e) (eqb op 1) (λ h. choose (ResultOk e) (inRange e a) (λ k. stored-ok k) (λ k. unchanged-ok 1 (omega arith)))
         (λ h. choose (ResultOk e) (eqb op 2) (λ h. step-ok)

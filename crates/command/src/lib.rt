@@ -1,4 +1,5 @@
 // The plan, and the rule of each op on a point's value and quality. A signed number x of 32 bits is kept as x + 2^31.
+use model::constants;
 ghost use mathlib.Core.Path.{_≡_};
 ghost use mathlib.Core.Bool.{true};
 ghost use Prim.Native.Nat.{_+_, _-_, _≤_};
@@ -11,14 +12,6 @@ ghost use Rattle.command.specs.Results.{checkedRule};
 use model::CommandResult;
 use model::PlanEntry;
 use model::Reading;
-
-// 2^31, which stands for 0.
-const HALF: u64 = 2147483648;
-
-// Points of a plan, and bytes of an entry.
-const POINT_COUNT: usize = 64;
-
-const PLAN_ROW: usize = 16;
 
 // ---- the plan
 
@@ -39,7 +32,7 @@ pub fn plan_entry(s: &[u8], at: usize) -> PlanEntry
 pub fn plan_entry_ok(e: PlanEntry) -> bool
     ensures { λ x. ⌜ x ≡ planEntryOk e ⌝ }
 {
-    (e.home <= wire::LAST_SERVER) & ((e.low <= e.fallback) & (e.fallback <= e.high))
+    (e.home <= constants::LAST_SERVER) & ((e.low <= e.fallback) & (e.fallback <= e.high))
 }
 
 // The 16 bytes from at are an entry.
@@ -56,12 +49,12 @@ pub fn plan_row_ok(s: &[u8], at: usize) -> bool
 pub fn plan_ok(s: &[u8]) -> bool
     ensures { λ x. ⌜ x ≡ planOk (now (s .entry)) ⌝ }
 {
-    if s.len() != POINT_COUNT * PLAN_ROW {
+    if s.len() != constants::POINT_COUNT * constants::PLAN_ROW {
         return false;
     }
     let mut i = 0;
-    while i < POINT_COUNT {
-        if !plan_row_ok(s, PLAN_ROW * i) {
+    while i < constants::POINT_COUNT {
+        if !plan_row_ok(s, constants::PLAN_ROW * i) {
             return false;
         }
         i += 1;
@@ -113,7 +106,7 @@ fn sum_in_range(e: PlanEntry, v: u32, a: u32) -> bool
     let low = e.low as u64;
     let high = e.high as u64;
     let sum = v as u64 + a as u64;
-    (low + HALF <= sum) & (sum <= high + HALF)
+    (low + constants::HALF_U64 <= sum) & (sum <= high + constants::HALF_U64)
 }
 
 // v + a, where it is in range.
@@ -121,16 +114,16 @@ fn sum(e: PlanEntry, v: u32, a: u32) -> u32
     requires { ⌜ sumInRange e v a ≡ true ⌝ }
     ensures { λ x. ⌜ x ≡ v + a - half ⌝ }
 {
-    (v as u64 + a as u64 - HALF) as u32
+    (v as u64 + a as u64 - constants::HALF_U64) as u32
 }
 
 fn set_rule(e: PlanEntry, a: u32, r: Reading) -> CommandResult
     ensures { λ x. ⌜ x ≡ setRule e a r ⌝ }
 {
     if in_range(e, a) {
-        result_of(0, a, 0)
+        result_of(constants::CARRIED_OUT, a, constants::VALID)
     } else {
-        unchanged(1, r)
+        unchanged(constants::OUT_OF_RANGE, r)
     }
 }
 
@@ -141,9 +134,9 @@ fn step_valid(e: PlanEntry, a: u32, r: Reading) -> CommandResult
     let v = r.value;
     let q = r.quality;
     if sum_in_range(e, v, a) {
-        result_of(0, sum(e, v, a), q)
+        result_of(constants::CARRIED_OUT, sum(e, v, a), q)
     } else {
-        unchanged(1, r)
+        unchanged(constants::OUT_OF_RANGE, r)
     }
 }
 
@@ -153,23 +146,27 @@ fn step_rule(e: PlanEntry, a: u32, r: Reading) -> CommandResult
 {
     let next = step_valid(e, a, r);
     let q = r.quality;
-    if q == 1 { unchanged(2, r) } else { next }
+    if q == constants::INVALID {
+        unchanged(constants::ON_INVALID, r)
+    } else {
+        next
+    }
 }
 
 fn report_rule(e: PlanEntry, a: u32, r: Reading) -> CommandResult
     ensures { λ x. ⌜ x ≡ reportRule e a r ⌝ }
 {
     if in_range(e, a) {
-        result_of(0, a, 0)
+        result_of(constants::CARRIED_OUT, a, constants::VALID)
     } else {
-        result_of(3, e.fallback, 1)
+        result_of(constants::FELL_BACK, e.fallback, constants::INVALID)
     }
 }
 
 fn fault_rule(e: PlanEntry) -> CommandResult
     ensures { λ x. ⌜ x ≡ faultRule e ⌝ }
 {
-    result_of(3, e.fallback, 1)
+    result_of(constants::FELL_BACK, e.fallback, constants::INVALID)
 }
 
 fn part_rule(e: PlanEntry, a: u32) -> CommandResult
@@ -178,9 +175,9 @@ fn part_rule(e: PlanEntry, a: u32) -> CommandResult
 {
     let low = e.low as u64;
     let span = minus(e.high as u64, low);
-    let parts = minus(a as u64, HALF);
-    let v = low + span * parts / 1000;
-    result_of(0, v as u32, 0)
+    let parts = minus(a as u64, constants::HALF_U64);
+    let v = low + span * parts / constants::WHOLE_PART_U64;
+    result_of(constants::CARRIED_OUT, v as u32, constants::VALID)
 }
 
 // A command's result: outcome, and value and quality after it. An argument outside its op's range changes nothing, outcome 1;
@@ -189,30 +186,30 @@ pub fn checked_rule(e: PlanEntry, op: u8, argument: u32, r: Reading) -> CommandR
     ensures { λ x. ⌜ x ≡ checkedRule e op argument r ⌝ }
 {
     match op {
-        0 => {
-            if wire::argument_ok(0, argument) {
-                unchanged(0, r)
+        constants::READ_OP => {
+            if wire::argument_ok(constants::READ_OP, argument) {
+                unchanged(constants::CARRIED_OUT, r)
             } else {
-                unchanged(1, r)
+                unchanged(constants::OUT_OF_RANGE, r)
             }
         }
-        1 => set_rule(e, argument, r),
-        2 => step_rule(e, argument, r),
-        3 => report_rule(e, argument, r),
-        4 => {
-            if wire::argument_ok(4, argument) {
+        constants::SET_OP => set_rule(e, argument, r),
+        constants::STEP_OP => step_rule(e, argument, r),
+        constants::REPORT_OP => report_rule(e, argument, r),
+        constants::FAULT_OP => {
+            if wire::argument_ok(constants::FAULT_OP, argument) {
                 fault_rule(e)
             } else {
-                unchanged(1, r)
+                unchanged(constants::OUT_OF_RANGE, r)
             }
         }
-        5 => {
-            if wire::argument_ok(5, argument) {
+        constants::PART_OP => {
+            if wire::argument_ok(constants::PART_OP, argument) {
                 part_rule(e, argument)
             } else {
-                unchanged(1, r)
+                unchanged(constants::OUT_OF_RANGE, r)
             }
         }
-        6..=255 => unchanged(1, r),
+        6..=255 => unchanged(constants::OUT_OF_RANGE, r),
     }
 }

@@ -1,3 +1,2 @@
--- Laws that the proofs of `decide`, and of the operations, cite.
+-- Laws that the proofs of `decide` cite.
 pub mod Nots
-pub mod Decided

@@ -1,65 +1,140 @@
 // The tests of each call of a server, on values: the refusal's number, 0 if it is not refused. They stand in the order of the paper's
-// lines; those of lent memory (2, 19) come before.
+// lines; those of lent memory (2, 19) come before. Recovery asks the same functions.
 use model::Completion;
-use model::ImageHead;
 use model::Point;
 use model::Request;
+use model::constants::ALREADY_HELD;
+use model::constants::BAD_MARK;
+use model::constants::CLIENT_COUNT;
+use model::constants::CLIENTS_FULL;
+use model::constants::EXECUTED_SIZE;
+use model::constants::GIVE_SIZE;
+use model::constants::GIVEN;
+use model::constants::GONE_SIZE;
+use model::constants::HEAD_SIZE;
+use model::constants::HELD;
+use model::constants::LAST_32;
+use model::constants::LAST_POINT;
+use model::constants::LAST_SERVER;
+use model::constants::LEASE_OVER;
+use model::constants::LOG_FULL;
+use model::constants::MALFORMED;
+use model::constants::NO_REFUSAL;
+use model::constants::NOT_HELD;
+use model::constants::NOT_SYNCED;
+use model::constants::NUMBERS_OUT;
+use model::constants::OLD_MOVE;
+use model::constants::OTHER_COMMAND;
+use model::constants::RELEASE_SIZE;
+use model::constants::STATE_SIZE;
+use model::constants::TOO_SHORT;
+use model::constants::UNDER_FLOOR;
+use model::constants::UNKNOWN;
+use model::constants::WRONG_DESTINATION;
 ghost use mathlib.Core.Path.{_≡_};
-ghost use Rattle.model.specs.States.{isHeld, isGiven};
-ghost use Rattle.model.specs.Decisions.{sameCommand};
-ghost use Rattle.decide.specs.Tests.{synced, requestRefusal, heldRefusal, newRefusal, fetchRefusal, syncRefusal, noticeRefusal, placesBad, giveRefusal, imageRefusal, receiptRefusal, releaseRefusal, takeRefusal, spaceRefusal};
+ghost use mathlib.Core.Bool.{_&&_, _||_, not};
+ghost use lib.Dec.{leb};
+ghost use Rattle.model.specs.Limits.{clientCount};
+ghost use Rattle.model.specs.Images.{notKnown};
+ghost use Rattle.model.specs.States.{isHeld, isGiven, isSynced};
+ghost use Rattle.model.specs.Decisions.{sameCommand, requestRefusal, heldRefusal, newRefusal, fetchRefusal, syncRefusal, noticeRefusal, placesBad, giveRefusal, imageRefusal, receiptRefusal, releaseRefusal, takeRefusal};
+ghost use Rattle.model.specs.Operations.{foundRefusal, recoverRefusal};
 
 // ---- single tests
 
 fn is_held(x: Point) -> bool
     ensures { λ r. ⌜ r ≡ isHeld x ⌝ }
 {
-    x.status == 1
+    x.status == HELD
 }
 
 // Given, and not yet released.
 fn is_given(x: Point) -> bool
     ensures { λ r. ⌜ r ≡ isGiven x ⌝ }
 {
-    x.status == 2
+    x.status == GIVEN
 }
 
 // A record that ends at end is synced.
 fn is_synced(mark: u64, end: u64) -> bool
-    ensures { λ r. ⌜ r ≡ synced mark end ⌝ }
+    ensures { λ r. ⌜ r ≡ isSynced mark end ⌝ }
 {
     end <= mark
+}
+
+// A client with this floor is not known.
+fn not_known(floor: u32) -> bool
+    ensures { λ r. ⌜ r ≡ notKnown floor ⌝ }
+{
+    floor == 0
+}
+
+// A client that is not known finds no place.
+fn no_place(floor: u32, clients: usize) -> bool
+    ensures { λ r. ⌜ r ≡ (notKnown floor && leb clientCount clients) ⌝ }
+{
+    let new = not_known(floor);
+    new & (CLIENT_COUNT <= clients)
 }
 
 fn same_command(r: Completion, q: Request) -> bool
     ensures { λ b. ⌜ b ≡ sameCommand r q ⌝ }
 {
-    (r.op == q.op) & ((r.point == q.point) & (r.argument == q.argument))
+    (r.command.op == q.command.op)
+        & ((r.command.point == q.command.point) & (r.command.argument == q.command.argument))
 }
 
 // A point or a server number out of range.
 pub fn places_bad(point: u32, destination: u32) -> bool
     ensures { λ r. ⌜ r ≡ placesBad point destination ⌝ }
 {
-    (63 < point) | (15 < destination)
+    ((LAST_POINT as u32) < point) | ((LAST_SERVER as u32) < destination)
+}
+
+// ---- found and recover, by the lengths of the lent slices
+
+// 2 state, or log under 8 bytes; 1 bad plan or server number.
+pub fn found_refusal(states: usize, logs: usize, good: bool, server: u32) -> u32
+    ensures { λ r. ⌜ r ≡ foundRefusal states logs good server ⌝ }
+{
+    if (states < STATE_SIZE) | (logs < HEAD_SIZE) {
+        return TOO_SHORT;
+    }
+    if !good | ((LAST_SERVER as u32) < server) {
+        return MALFORMED;
+    }
+    NO_REFUSAL
+}
+
+// 2 state; 1 bad plan.
+pub fn recover_refusal(states: usize, good: bool) -> u32
+    ensures { λ r. ⌜ r ≡ recoverRefusal states good ⌝ }
+{
+    if states < STATE_SIZE {
+        return TOO_SHORT;
+    }
+    if !good {
+        return MALFORMED;
+    }
+    NO_REFUSAL
 }
 
 // ---- requests
 
-// 3 point not held; 4 lease end <= heard time; 5 call under the floor.
-pub fn request_refusal(x: Point, heard: u32, floor: u32, q: Request) -> u32
-    ensures { λ r. ⌜ r ≡ requestRefusal x heard floor q ⌝ }
+// 3 point not held; 4 the lease is over; 5 call under the floor.
+pub fn request_refusal(x: Point, over: bool, floor: u32, call: u32) -> u32
+    ensures { λ r. ⌜ r ≡ requestRefusal x over floor call ⌝ }
 {
     if !is_held(x) {
-        return 3;
+        return NOT_HELD;
     }
-    if q.lease <= heard {
-        return 4;
+    if over {
+        return LEASE_OVER;
     }
-    if q.call < floor {
-        return 5;
+    if call < floor {
+        return UNDER_FLOOR;
     }
-    0
+    NO_REFUSAL
 }
 
 // An id that is held: 6 with another op, point or argument; 7 not synced.
@@ -67,25 +142,25 @@ pub fn held_refusal(mark: u64, q: Request, x: Completion) -> u32
     ensures { λ r. ⌜ r ≡ heldRefusal mark q x ⌝ }
 {
     if !same_command(x, q) {
-        return 6;
+        return OTHER_COMMAND;
     }
     if !is_synced(mark, x.end) {
-        return 7;
+        return NOT_SYNCED;
     }
-    0
+    NO_REFUSAL
 }
 
-// One that is not held: 8 new client and 32 known; 9 log lacks 28 bytes.
+// One that is not held: 8 client not known and 32 known; 9 log lacks 28 bytes.
 pub fn new_refusal(floor: u32, clients: usize, free: usize) -> u32
     ensures { λ r. ⌜ r ≡ newRefusal floor clients free ⌝ }
 {
-    if (floor == 0) & (32 <= clients) {
-        return 8;
+    if no_place(floor, clients) {
+        return CLIENTS_FULL;
     }
-    if free < 28 {
-        return 9;
+    if free < EXECUTED_SIZE {
+        return LOG_FULL;
     }
-    0
+    NO_REFUSAL
 }
 
 // ---- fetch, sync, notice
@@ -95,9 +170,9 @@ pub fn fetch_refusal(mark: u64, x: Completion) -> u32
     ensures { λ r. ⌜ r ≡ fetchRefusal mark x ⌝ }
 {
     if !is_synced(mark, x.end) {
-        return 7;
+        return NOT_SYNCED;
     }
-    0
+    NO_REFUSAL
 }
 
 // 10 below the present mark or above the log's length.
@@ -105,22 +180,22 @@ pub fn sync_refusal(present: u64, size: u64, m: u64) -> u32
     ensures { λ r. ⌜ r ≡ syncRefusal present size m ⌝ }
 {
     if (m < present) | (size < m) {
-        return 10;
+        return BAD_MARK;
     }
-    0
+    NO_REFUSAL
 }
 
 // 17 client not known; 9.
 pub fn notice_refusal(floor: u32, free: usize) -> u32
     ensures { λ r. ⌜ r ≡ noticeRefusal floor free ⌝ }
 {
-    if floor == 0 {
-        return 17;
+    if not_known(floor) {
+        return UNKNOWN;
     }
-    if free < 12 {
-        return 9;
+    if free < GONE_SIZE {
+        return LOG_FULL;
     }
-    0
+    NO_REFUSAL
 }
 
 // ---- moves
@@ -130,18 +205,18 @@ pub fn give_refusal(x: Point, server: u8, free: usize, destination: u32) -> u32
     ensures { λ r. ⌜ r ≡ giveRefusal x server free destination ⌝ }
 {
     if !is_held(x) {
-        return 3;
+        return NOT_HELD;
     }
     if destination == server as u32 {
-        return 11;
+        return WRONG_DESTINATION;
     }
-    if 4294967295 <= x.number {
-        return 16;
+    if LAST_32 <= x.moveNumber {
+        return NUMBERS_OUT;
     }
-    if free < 8 {
-        return 9;
+    if free < GIVE_SIZE {
+        return LOG_FULL;
     }
-    0
+    NO_REFUSAL
 }
 
 // 3 not given, or released; 7 give not synced.
@@ -149,25 +224,25 @@ pub fn image_refusal(x: Point, mark: u64) -> u32
     ensures { λ r. ⌜ r ≡ imageRefusal x mark ⌝ }
 {
     if !is_given(x) {
-        return 3;
+        return NOT_HELD;
     }
-    if !is_synced(mark, x.gave) {
-        return 7;
+    if !is_synced(mark, x.giveEnd) {
+        return NOT_SYNCED;
     }
-    0
+    NO_REFUSAL
 }
 
 // 3 never taken; 7 latest take not synced.
 pub fn receipt_refusal(x: Point, mark: u64) -> u32
     ensures { λ r. ⌜ r ≡ receiptRefusal x mark ⌝ }
 {
-    if x.taken == 0 {
-        return 3;
+    if x.takenMove == 0 {
+        return NOT_HELD;
     }
-    if !is_synced(mark, x.took) {
-        return 7;
+    if !is_synced(mark, x.takeEnd) {
+        return NOT_SYNCED;
     }
-    0
+    NO_REFUSAL
 }
 
 // 3 not given, or released; 12 receipt's move below the given move; 9.
@@ -175,45 +250,57 @@ pub fn release_refusal(x: Point, free: usize, m: u32) -> u32
     ensures { λ r. ⌜ r ≡ releaseRefusal x free m ⌝ }
 {
     if !is_given(x) {
-        return 3;
+        return NOT_HELD;
     }
-    if m < x.number {
-        return 12;
+    if m < x.moveNumber {
+        return OLD_MOVE;
     }
-    if free < 8 {
-        return 9;
+    if free < RELEASE_SIZE {
+        return LOG_FULL;
     }
-    0
+    NO_REFUSAL
 }
 
-// 1 values not in the point's range; 11 other destination; 12 move <= own move number; 13 point held here.
-pub fn take_refusal(x: Point, server: u8, ranged: bool, h: ImageHead) -> u32
-    ensures { λ r. ⌜ r ≡ takeRefusal x server ranged h ⌝ }
+// 13 point held here, or an id held for another point.
+fn is_kept(x: Point, ids: bool) -> bool
+    ensures { λ r. ⌜ r ≡ (isHeld x || not ids) ⌝ }
+{
+    let held = is_held(x);
+    held | !ids
+}
+
+// 1 values not in the point's range; 11 other destination; 12 move <= own move number; 13 point held here, or an id held for another
+// point; 8 more than 32 clients after merging; 9 log lacks the bytes needed.
+pub fn take_refusal(
+    x: Point,
+    server: u8,
+    destination: u8,
+    number: u32,
+    ranged: bool,
+    ids: bool,
+    merged: usize,
+    free: usize,
+    need: usize,
+) -> u32
+    ensures { λ r. ⌜ r ≡ takeRefusal x server destination number ranged ids merged free need ⌝ }
 {
     if !ranged {
-        return 1;
+        return MALFORMED;
     }
-    if !(h.destination == server) {
-        return 11;
+    if !(destination == server) {
+        return WRONG_DESTINATION;
     }
-    if h.number <= x.number {
-        return 12;
+    if number <= x.moveNumber {
+        return OLD_MOVE;
     }
-    if is_held(x) {
-        return 13;
+    if is_kept(x, ids) {
+        return ALREADY_HELD;
     }
-    0
-}
-
-// 8 more than 32 clients after merging; 9 log lacks the bytes needed.
-pub fn space_refusal(merged: usize, free: usize, need: usize) -> u32
-    ensures { λ r. ⌜ r ≡ spaceRefusal merged free need ⌝ }
-{
-    if 32 < merged {
-        return 8;
+    if CLIENT_COUNT < merged {
+        return CLIENTS_FULL;
     }
     if free < need {
-        return 9;
+        return LOG_FULL;
     }
-    0
+    NO_REFUSAL
 }

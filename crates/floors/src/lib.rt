@@ -1,6 +1,7 @@
 // A table of floors (rows of client and floor, 8 bytes) at a place of a slice: the place of a client in it, its floor, and the slot of
 // one of its calls.
-use image_rows::FLOOR_ROW;
+use model::constants;
+use model::constants::FLOOR_ROW;
 ghost use mathlib.Core.Path.{_≡_};
 ghost use Prim.Native.Nat.{_+_, _-_, _*_, _≤_};
 ghost use lib.ListN.{length, drop, getD};
@@ -8,9 +9,6 @@ ghost use Rattle.model.specs.Limits.{clientCount, floorRow};
 ghost use Rattle.model.specs.Tables.{rows};
 ghost use Rattle.model.specs.Images.{floorOfBytes, floorOf};
 ghost use Rattle.floors.specs.Places.{placeOf, slotOf, noFloor};
-
-// Calls of a client that are kept at once.
-pub const CALL_WINDOW: usize = 16;
 
 // The index of the client x among n floors from at, n where it is not there.
 pub fn client_place(s: &[u8], at: usize, n: usize, x: u32) -> usize
@@ -66,5 +64,5 @@ pub fn slot_of(s: &[u8], at: usize, n: usize, client: u32, call: u32) -> usize
 {
     let i = client_place(s, at, n, client);
     let floor = floor_at(s, at, n, i);
-    CALL_WINDOW * i + call_above(call, floor)
+    constants::CALL_WINDOW * i + call_above(call, floor)
 }

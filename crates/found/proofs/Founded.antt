@@ -12,10 +12,11 @@ use native.Mathlib.Omega.{arith}
 use native.Mathlib.Nat.{zero-add, sub-zero}
 use lib.ListN.{length, drop, set, replicate, length-map, length-replicate, length-set, replicate-append-replicate}
 use lib.Dec.{eqb, ltb}
-use borrow.Author.Tests.{eqb-true, ltb-false, not-false}
+use borrow.Author.Tests.{eqb-true, ne-eqb, ltb-false, not-false}
 use Rattle.model.specs.declared.PlanEntry.{PlanEntry}
 use Rattle.model.specs.declared.Point.{Point}
 use Rattle.model.specs.Limits.{lastServer, stateSize, headSize, pointCount, planRow, planSize, floorRow, clientCount, recordCount}
+use Rattle.model.specs.Refusals.{malformed, tooShort}
 use Rattle.model.specs.Numbers.{le32, le64, quad}
 use Rattle.model.specs.Tables.{rows, everyRow, bytesOf, written}
 use Rattle.model.specs.Plan.{planEntryOf, planRowOk, planOk, planOf, planBytes}
@@ -23,9 +24,10 @@ use Rattle.model.specs.Images.{floorBytes}
 use Rattle.model.specs.States.{stateBytes, stateHeadBytes, pointBytes, completionBytes, padded, pointsStart, floorsStart, recordsStart, pointRow, recordRow}
 use Rattle.model.specs.Apply.{founded, foundedPoint}
 use Rattle.model.specs.Logs.{headBytes}
-use Rattle.model.specs.Operations.{after, answerOf, short, stored, foundOf}
+use Rattle.model.specs.Operations.{after, answerOf, settle, stored, leftUnless, foundRefusal, foundOf}
 use Rattle.laws.specs.Bytes.{Bytes}
 use Rattle.laws.proofs.Tests.{and-left}
+use Rattle.laws.proofs.Refused.{if-passed}
 use Rattle.laws.proofs.Written.{length-written, written-none, written-append, written-sets, run-behind}
 use Rattle.laws.proofs.Tables.{length-rows, rows-snoc, bytesOf-append, bytesOf-one, length-bytesOf}
 use Rattle.laws.proofs.Plans.{plan-again, plan-length}
@@ -155,19 +157,29 @@ either-no : (a b : Bool) → (a || b) ≡ false → (a ≡ false) × (b ≡ fals
 either-no true b e = absurd (false≢true (sym e))
 either-no false b e = (refl, e)
 
-module _ (s log plan : List ℕ) (n : ℕ) where
-  pub lent-passed : {t : Bool} → t ≡ (short s stateSize || short log headSize) → t ≡ false → (stateSize ≤ length s) × (headSize ≤ length log)
-  unfolding short
-  lent-passed p q =
-      let e = either-no (ltb (length s) stateSize) (ltb (length log) headSize) (sym p ∙ q) in
-      (ltb-false (length s) stateSize (e .0), ltb-false (length log) headSize (e .1))
+-- by the refusal's number, with the plan's test as a call gave it
+module _ (s log plan : List ℕ) (n : ℕ) {g : Bool} (p : g ≡ planOk plan) {k : ℕ} (q : k ≡ foundRefusal (length s) (length log) g n) where
+  pub found-refused : (k ≡ 0 → ⊥) → after (answerOf k 0) s log [] ≡ foundOf s log plan n
+  unfolding foundOf leftUnless settle
+  found-refused h = rw (← p, ← q, ne-eqb k 0 h)
 
-  pub plan-passed : {t : Bool} → t ≡ (not (planOk plan) || ltb lastServer n) → t ≡ false → (planOk plan ≡ true) × (n ≤ lastServer)
-  plan-passed p q =
-      let e = either-no (not (planOk plan)) (ltb lastServer n) (sym p ∙ q) in
-      (not-false (planOk plan) (e .0), ltb-false lastServer n (e .1))
+  module _ (z : k ≡ 0) where
+    tests : (ltb (length s) stateSize || ltb (length log) headSize) ≡ false × (not g || ltb lastServer n) ≡ false
+    unfolding foundRefusal
+    tests =
+        let a = if-passed tooShort refl (ltb (length s) stateSize || ltb (length log) headSize) _ (sym q ∙ z) in
+        (a .0, if-passed malformed refl (not g || ltb lastServer n) 0 (a .1) .0)
 
-  pub found-done : {t u : Bool} {s' log' : List ℕ} → t ≡ (short s stateSize || short log headSize) → t ≡ false → u ≡ (not (planOk plan) || ltb lastServer n) → u ≡ false
-      → s' ≡ stored s (founded (planOf plan) n) → log' ≡ written log 0 (headBytes n) → after (answerOf 0 0) s' log' [] ≡ foundOf s log plan n
-  unfolding foundOf
-  found-done p q p' q' e f = rw (sym p ∙ q, sym p' ∙ q', e, f)
+    pub lent-passed : (stateSize ≤ length s) × (headSize ≤ length log)
+    lent-passed =
+        let e = either-no (ltb (length s) stateSize) (ltb (length log) headSize) (tests .0) in
+        (ltb-false (length s) stateSize (e .0), ltb-false (length log) headSize (e .1))
+
+    pub plan-passed : (planOk plan ≡ true) × (n ≤ lastServer)
+    plan-passed =
+        let e = either-no (not g) (ltb lastServer n) (tests .1) in
+        (sym p ∙ not-false g (e .0), ltb-false lastServer n (e .1))
+
+    pub found-done : {s' log' : List ℕ} → s' ≡ stored s (founded (planOf plan) n) → log' ≡ written log 0 (headBytes n) → after (answerOf 0 0) s' log' [] ≡ foundOf s log plan n
+    unfolding foundOf leftUnless
+    found-done e f = rw (← p, ← q, z, e, f)

@@ -2,26 +2,31 @@
 use model::Answer;
 use model::PlanEntry;
 use model::Point;
-use state_rows::FLOORS_START;
-use state_rows::PLAN_START;
-use state_rows::POINT_COUNT;
-use state_rows::POINT_ROW;
-use state_rows::POINTS_START;
-use state_rows::RECORDS_START;
-use state_rows::STATE_SIZE;
+use model::constants;
+use model::constants::FLOORS_START;
+use model::constants::PLAN_START;
+use model::constants::POINT_COUNT;
+use model::constants::POINT_ROW;
+use model::constants::POINTS_START;
+use model::constants::RECORDS_START;
 ghost use mathlib.Core.Path.{_≡_};
-ghost use mathlib.Core.Bool.{true, _||_, not};
+ghost use mathlib.Core.Bool.{true};
 ghost use mathlib.Core.List.{[], map};
 ghost use Prim.Native.Nat.{_+_, _*_, _≤_, _<_};
-ghost use lib.Dec.{eqb, ltb};
+ghost use lib.Dec.{eqb};
 ghost use lib.ListN.{length, drop, replicate};
 ghost use Rattle.model.specs.Choice.{pick};
-ghost use Rattle.model.specs.Limits.{lastServer, stateSize, headSize, pointCount, planSize, planRow};
+ghost use Rattle.model.specs.Limits.{pointCount, planSize, planRow};
 ghost use Rattle.model.specs.Tables.{written, bytesOf};
 ghost use Rattle.model.specs.Plan.{planOk, planOf, planEntryOf};
 ghost use Rattle.model.specs.States.{held, absent, stateEnd, pointsStart, pointRow, pointBytes, stateHeadBytes};
 ghost use Rattle.model.specs.Apply.{founded, foundedPoint};
-ghost use Rattle.model.specs.Operations.{after, short, stored, foundOf};
+ghost use Rattle.model.specs.Operations.{after, stored, foundOf};
+
+// Bytes of the two tables.
+const FLOORS_SIZE: usize = constants::FLOOR_ROW * constants::CLIENT_COUNT;
+
+const RECORDS_SIZE: usize = constants::RECORD_ROW * constants::RECORD_COUNT;
 
 // ---- the parts of a founded state
 
@@ -42,18 +47,29 @@ fn put_head(s: &mut [u8], n: u8)
     requires { ⌜ 40 ≤ length (now s) ⌝ }
     ensures { λ r. ⌜ now (s .exit) ≡ written (now (s .entry)) 0 (stateHeadBytes (founded [] n)) ⌝ }
 {
-    wire::write_4(s, 0, 87, 83, 84, 49);
+    wire::write_4(
+        s,
+        0,
+        constants::STATE_MAGIC[0],
+        constants::STATE_MAGIC[1],
+        constants::STATE_MAGIC[2],
+        constants::STATE_MAGIC[3],
+    );
     wire::write_4(s, 4, n, 0, 0, 0);
     put_zeros(s, 8, 16);
-    state_rows::put_size(s, 8);
-    state_rows::put_mark(s, 8);
+    state_rows::put_size(s, constants::HEAD_SIZE_U64);
+    state_rows::put_mark(s, constants::HEAD_SIZE_U64);
 }
 
 // A point at its home is held, elsewhere absent.
 fn first_status(home: u8, n: u8) -> u8
     ensures { λ r. ⌜ r ≡ pick (eqb home n) held absent ⌝ }
 {
-    if home == n { 1 } else { 0 }
+    if home == n {
+        constants::HELD
+    } else {
+        constants::ABSENT
+    }
 }
 
 fn founded_point(e: PlanEntry, n: u8) -> Point
@@ -61,13 +77,13 @@ fn founded_point(e: PlanEntry, n: u8) -> Point
 {
     Point {
         status: first_status(e.home, n),
-        quality: 1,
+        quality: constants::INVALID,
         destination: 0,
         value: e.fallback,
-        number: 0,
-        taken: 0,
-        gave: 0,
-        took: 0,
+        moveNumber: 0,
+        takenMove: 0,
+        giveEnd: 0,
+        takeEnd: 0,
     }
 }
 
@@ -76,7 +92,7 @@ fn put_founded(s: &mut [u8], plan: &[u8], n: u8, i: usize)
     requires { ⌜ (stateEnd ≤ length (now s)) × (planSize ≤ length (now plan)) × (i < pointCount) ⌝ }
     ensures { λ r. ⌜ now (s .exit) ≡ written (now (s .entry)) (pointsStart + pointRow * i) (pointBytes (foundedPoint n (planEntryOf (drop (planRow * i) (now (plan .entry)))))) ⌝ }
 {
-    let e = command::plan_entry(plan, 16 * i);
+    let e = command::plan_entry(plan, constants::PLAN_ROW * i);
     state_rows::put_point(s, POINTS_START + POINT_ROW * i, founded_point(e, n));
 }
 
@@ -109,40 +125,21 @@ pub fn found_state(s: &mut [u8], plan: &[u8], n: u8)
     put_head(s, n);
     put_plan(s, plan);
     put_points(s, plan, n);
-    put_zeros(s, FLOORS_START, 256);
-    put_zeros(s, RECORDS_START, 14336);
+    put_zeros(s, FLOORS_START, FLOORS_SIZE);
+    put_zeros(s, RECORDS_START, RECORDS_SIZE);
 }
 
 // ---- the operation
-
-// The state under 32,768 bytes, or the log under 8.
-fn lent_short(state: &[u8], log: &[u8]) -> bool
-    ensures { λ r. ⌜ r ≡ (short (now (state .entry)) stateSize || short (now (log .entry)) headSize) ⌝ }
-{
-    (state.len() < STATE_SIZE) | (log.len() < appends::HEAD_SIZE)
-}
-
-// A bad plan, or no server's number.
-fn plan_bad(plan: &[u8], n: u32) -> bool
-    ensures { λ r. ⌜ r ≡ (not (planOk (now (plan .entry))) || ltb lastServer n) ⌝ }
-{
-    let ok = command::plan_ok(plan);
-    !ok | (15 < n)
-}
 
 // 2 state or log too short; 1 bad plan or server number; else the state and the log's head.
 pub fn found(state: &mut [u8], log: &mut [u8], plan: &[u8], server: u32) -> Answer
     ensures { λ r. ⌜ after r (now (state .exit)) (now (log .exit)) [] ≡ foundOf (now (state .entry)) (now (log .entry)) (now (plan .entry)) server ⌝ }
 {
-    if lent_short(state, log) {
+    let good = command::plan_ok(plan);
+    let k = decide::found_refusal(state.len(), log.len(), good, server);
+    if k != 0 {
         return Answer {
-            number: 2,
-            wrote: 0,
-        };
-    }
-    if plan_bad(plan, server) {
-        return Answer {
-            number: 1,
+            refusal: k,
             wrote: 0,
         };
     }
@@ -150,7 +147,7 @@ pub fn found(state: &mut [u8], log: &mut [u8], plan: &[u8], server: u32) -> Answ
     found_state(state, plan, n);
     appends::write_head(log, n);
     Answer {
-        number: 0,
+        refusal: constants::NO_REFUSAL,
         wrote: 0,
     }
 }

@@ -22,7 +22,13 @@ floor-drop s k = rw (le32-drop k s 0, le32-drop k s 4, add-zero)
 
 abbrev pub entryFrom : List ℕ → ℕ → ImageEntry
 entryFrom s k =
-    record { client = le32At s k; call = le32At s (k + 4); argument = signedAt s (k + 8); value = signedAt s (k + 12); op = getD s (k + 16) 0; outcome = getD s (k + 17) 0; quality = getD s (k + 18) 0 }
+    record {
+      client = le32At s k;
+      call = le32At s (k + 4);
+      op = getD s (k + 16) 0;
+      argument = signedAt s (k + 8);
+      result = record { outcome = getD s (k + 17) 0; value = signedAt s (k + 12); quality = getD s (k + 18) 0 };
+    }
 
 pub entry-drop : (s : List ℕ) (k : ℕ) → imageEntryOf (drop k s) ≡ entryFrom s k
 unfolding imageEntryOf

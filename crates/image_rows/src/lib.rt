@@ -1,8 +1,10 @@
 // Rows and head of a moving image at their places in a slice, and the tests of one row, of two neighbours and of the head.
+use model::CommandResult;
 use model::Floor;
 use model::ImageEntry;
 use model::ImageHead;
 use model::PlanEntry;
+use model::constants;
 ghost use mathlib.Core.Path.{_≡_};
 ghost use Prim.Native.Nat.{_+_, _≤_};
 ghost use lib.ListN.{length, drop};
@@ -12,23 +14,6 @@ ghost use Rattle.model.specs.Limits.{floorRow, entryRow};
 ghost use Rattle.model.specs.Images.{floorOfBytes, imageEntryOf, imageHeadOf};
 ghost use Rattle.model.specs.Images.{imageFramed, imageHeadOk, imageParts, floorOk, inWindow, entryRowOk, entryInRange};
 ghost use Rattle.image_rows.specs.Order.{entryBefore};
-
-// ---- limits
-
-// The four bytes that open an image: 4D 56 49 31.
-pub const MAGIC: [u8; 4] = *b"MVI1";
-
-// The least and the greatest length of an image; the first is also where the floors start.
-pub const LEAST_IMAGE: usize = 48;
-
-pub const GREATEST_IMAGE: usize = 10544;
-
-// Bytes of a floor and of a completion record.
-pub const FLOOR_ROW: usize = 8;
-
-pub const ENTRY_ROW: usize = 20;
-
-pub const CLIENT_COUNT: u32 = 32;
 
 // ---- rows and head, at their places
 
@@ -48,14 +33,17 @@ pub fn entry_from(s: &[u8], k: usize) -> ImageEntry
     requires { ⌜ k + 20 ≤ length (now s) ⌝ }
     ensures { λ r. ⌜ r ≡ imageEntryOf (drop k (now (s .entry))) ⌝ }
 {
+    let result = CommandResult {
+        outcome: s[k + 17],
+        value: wire::read_signed(s, k + 12),
+        quality: s[k + 18],
+    };
     ImageEntry {
         client: wire::read_u32(s, k),
         call: wire::read_u32(s, k + 4),
-        argument: wire::read_signed(s, k + 8),
-        value: wire::read_signed(s, k + 12),
         op: s[k + 16],
-        outcome: s[k + 17],
-        quality: s[k + 18],
+        argument: wire::read_signed(s, k + 8),
+        result,
     }
 }
 
@@ -68,12 +56,12 @@ pub fn head_from(s: &[u8]) -> ImageHead
         point: s[4],
         destination: s[5],
         source: s[6],
-        number: wire::read_u32(s, 8),
+        moveNumber: wire::read_u32(s, 8),
         heard: wire::read_u32(s, 12),
         value: wire::read_signed(s, 40),
         quality: s[44],
-        floors: wire::read_u32(s, 28) / 8,
-        entries: wire::read_u32(s, 36) / 20,
+        floors: wire::read_u32(s, 28) / constants::FLOOR_ROW_U32,
+        entries: wire::read_u32(s, 36) / constants::ENTRY_ROW_U32,
     }
 }
 
@@ -85,17 +73,20 @@ pub fn framed(s: &[u8]) -> bool
     ensures { λ r. ⌜ r ≡ imageFramed (now (s .entry)) ⌝ }
 {
     let zeros = wire::zeros3_at(s, 45);
-    (s[0] == MAGIC[0])
-        & ((s[1] == MAGIC[1]) & ((s[2] == MAGIC[2]) & ((s[3] == MAGIC[3]) & ((s[7] == 0) & zeros))))
+    (s[0] == constants::IMAGE_MAGIC[0])
+        & ((s[1] == constants::IMAGE_MAGIC[1])
+            & ((s[2] == constants::IMAGE_MAGIC[2])
+                & ((s[3] == constants::IMAGE_MAGIC[3]) & ((s[7] == 0) & zeros))))
 }
 
 pub fn head_ok(h: ImageHead) -> bool
     ensures { λ r. ⌜ r ≡ imageHeadOk h ⌝ }
 {
-    (h.point <= wire::LAST_POINT)
-        & ((h.destination <= wire::LAST_SERVER)
-            & ((h.source <= wire::LAST_SERVER)
-                & ((h.quality <= wire::LAST_QUALITY) & (h.floors <= CLIENT_COUNT))))
+    (h.point <= constants::LAST_POINT)
+        & ((h.destination <= constants::LAST_SERVER)
+            & ((h.source <= constants::LAST_SERVER)
+                & ((h.quality <= constants::LAST_QUALITY)
+                    & (h.floors <= constants::CLIENT_COUNT_U32))))
 }
 
 // Three parts without gaps from byte 40 to the slice's end.
@@ -103,18 +94,18 @@ pub fn parts_ok(s: &[u8], h: ImageHead) -> bool
     requires { ⌜ 48 ≤ length (now s) ⌝ }
     ensures { λ r. ⌜ r ≡ imageParts h (now (s .entry)) ⌝ }
 {
-    let floors = FLOOR_ROW * (h.floors as usize);
-    let entries = ENTRY_ROW * (h.entries as usize);
-    let records = LEAST_IMAGE + floors;
+    let floors = constants::FLOOR_ROW * (h.floors as usize);
+    let entries = constants::ENTRY_ROW * (h.entries as usize);
+    let records = constants::LEAST_IMAGE + floors;
     let first = wire::read_u32(s, 16);
     let first_length = wire::read_u32(s, 20);
     let second = wire::read_u32(s, 24);
     let second_length = wire::read_u32(s, 28) as usize;
     let third = wire::read_u32(s, 32) as usize;
     let third_length = wire::read_u32(s, 36) as usize;
-    (first == 40)
-        & ((first_length == 8)
-            & ((second == 48)
+    (first == constants::PARTS_START_U32)
+        & ((first_length == constants::POINT_PART_U32)
+            & ((second == constants::LEAST_IMAGE_U32)
                 & ((second_length == floors)
                     & ((third == records)
                         & ((third_length == entries) & (s.len() == records + entries))))))
@@ -126,7 +117,7 @@ pub fn parts_ok(s: &[u8], h: ImageHead) -> bool
 pub fn in_window(floor: u32, call: u32) -> bool
     ensures { λ r. ⌜ r ≡ inWindow floor call ⌝ }
 {
-    (1 <= floor) & ((floor <= call) & (call as u64 <= floor as u64 + wire::LAST_IN_WINDOW))
+    (1 <= floor) & ((floor <= call) & (call as u64 <= floor as u64 + constants::LAST_IN_WINDOW))
 }
 
 // The floor from k: client and floor are from 1.
@@ -144,7 +135,7 @@ pub fn client_before(s: &[u8], k: usize) -> bool
     ensures { λ r. ⌜ r ≡ ltb (floorOfBytes (drop k (now (s .entry))) .client) (floorOfBytes (drop (k + floorRow) (now (s .entry))) .client) ⌝ }
 {
     let f = floor_from(s, k);
-    let g = floor_from(s, k + FLOOR_ROW);
+    let g = floor_from(s, k + constants::FLOOR_ROW);
     f.client < g.client
 }
 
@@ -162,7 +153,7 @@ pub fn id_before(s: &[u8], k: usize) -> bool
     ensures { λ r. ⌜ r ≡ entryBefore (imageEntryOf (drop k (now (s .entry)))) (imageEntryOf (drop (k + entryRow) (now (s .entry)))) ⌝ }
 {
     let e = entry_from(s, k);
-    let f = entry_from(s, k + ENTRY_ROW);
+    let f = entry_from(s, k + constants::ENTRY_ROW);
     (e.client < f.client) | ((e.client == f.client) & (e.call < f.call))
 }
 
@@ -178,5 +169,5 @@ pub fn entry_in_range(s: &[u8], e: PlanEntry, k: usize) -> bool
     ensures { λ r. ⌜ r ≡ entryInRange e (imageEntryOf (drop k (now (s .entry)))) ⌝ }
 {
     let x = entry_from(s, k);
-    in_range(e, x.value)
+    in_range(e, x.result.value)
 }

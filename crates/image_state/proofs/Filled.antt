@@ -46,7 +46,7 @@ set-most (u ∷ t) (suc j) v m l h (suc k) = set-most t j v m l (λ (i : ℕ). h
 
 -- the slot of a record
 abbrev slot : List Floor → Completion → ℕ
-slot fs r = slotOf fs (r .client) (r .call)
+slot fs r = slotOf fs (r .command .client) (r .command .call)
 
 module _ (p : ℕ) (fs : List Floor) where
   pub slots-length : (i : ℕ) (rs : List Completion) → length (slotsFrom p fs i rs) ≡ recordCount
@@ -82,7 +82,7 @@ module _ (p : ℕ) (fs : List Floor) where
 
   pub slots-past : (i : ℕ) (rs : List Completion) → All (Windowed fs) rs → (k : ℕ) → 16 * length fs ≤ k → getD (slotsFrom p fs i rs) k 0 ≡ 0
   slots-past i rs w k l =
-      slots-empty i rs k (all-to rs (λ (q : Completion) (v : Windowed fs q) (e : slot fs q ≡ k). absurd (omega (arith, slot-below fs (q .client) (q .call) v))) w)
+      slots-empty i rs k (all-to rs (λ (q : Completion) (v : Windowed fs q) (e : slot fs q ≡ k). absurd (omega (arith, slot-below fs (q .command .client) (q .command .call) v))) w)
 
 -- ---- the order
 
@@ -113,7 +113,7 @@ module _ (p : ℕ) (fs : List Floor) (few : length fs ≤ clientCount) (rs₀ : 
   own i r rs s w = rw (entry-first i r rs s) (record { slotted = refl; window = w })
 
   below : (r : Completion) → Windowed fs r → slot fs r < recordCount
-  below r w = omega (arith, few, slot-below fs (r .client) (r .call) w)
+  below r w = omega (arith, few, slot-below fs (r .command .client) (r .command .call) w)
 
   slots-held : (i : ℕ) (rs : List Completion) → From i rs → All (Windowed fs) rs → (j : ℕ) → getD (slotsFrom p fs i rs) j 0 ≢ 0
       → Held fs j (entryIn rs₀ (getD (slotsFrom p fs i rs) j 0))
@@ -151,7 +151,7 @@ module _ (p : ℕ) (fs : List Floor) (few : length fs ≤ clientCount) (rs₀ : 
       others =
           all-with rs
           (λ (q : Completion) (o : Other r q) (v : Windowed fs q) (e : slot fs q ≡ slot fs r).
-          let same = slot-id fs a (r .client) (r .call) (q .client) (q .call) (w .0) v (sym e) in
+          let same = slot-id fs a (r .command .client) (r .command .call) (q .command .client) (q .command .call) (w .0) v (sym e) in
           o (same .0) (same .1))
           (d .0) (w .1)
 

@@ -85,7 +85,7 @@ module _ (p : ℕ) (s : List ℕ) (S : Sound s) {n : ℕ} (q : n ≡ clientsIn s
 pub head-of : (p : ℕ) (s : List ℕ) → p ≤ lastPoint → {x : Point} → x ≡ pointOf (drop (1064 + 32 * p) s) → {server heard clients count : ℕ} → server ≡ byteAt s 4
     → heard ≡ le32At s 8 → clients ≡ clientsIn s → count ≡ length (imageFor (load s) p .entries)
     → _≡_ {A = ImageHead}
-    (record { point = p; destination = x .destination; source = server; number = x .number; heard = heard; value = x .value; quality = x .quality; floors = clients; entries = count })
+    (record { point = p; destination = x .destination; source = server; moveNumber = x .moveNumber; heard = heard; value = x .value; quality = x .quality; floors = clients; entries = count })
     (imageHead (imageFor (load s) p))
 unfolding imageHead imageFor pointAt load
 head-of p s l {x} q a b c d =

@@ -52,12 +52,12 @@ unfolding load
 slot-in s q x c = rw q
 
 pub slot-fits : (s : List ℕ) → Bytes s → Sound s → (i : ℕ) → i < recordsIn s → {r : Completion} → r ≡ completionOf (drop (3368 + 28 * i) s) → {n : ℕ}
-    → n ≡ clientsIn s → {k : ℕ} → k ≡ slotOf (rows floorOfBytes 8 n (drop 3112 s)) (r .client) (r .call) → k < recordCount
+    → n ≡ clientsIn s → {k : ℕ} → k ≡ slotOf (rows floorOfBytes 8 n (drop 3112 s)) (r .command .client) (r .command .call) → k < recordCount
 slot-fits s b S i h {r} p m q =
     let w : Windowed (load s .floors) r
     = subst (Windowed (load s .floors)) (record-at s i h ∙ sym p)
     (all-getD (Windowed (load s .floors)) (load s .records) i noRecord (tables s b S .windows) (omega (arith, length-records s))) in
-    omega (arith, S .few-clients, length-floors s, slot-in s m (r .client) (r .call), slot-below (load s .floors) (r .client) (r .call) w)
+    omega (arith, S .few-clients, length-floors s, slot-in s m (r .command .client) (r .command .call), slot-below (load s .floors) (r .command .client) (r .command .call) w)
 
 -- ---- the loop
 
@@ -82,16 +82,16 @@ module _ (p : ℕ) (s : List ℕ) {i : ℕ} {t : List ℕ} (o : Filling p s i t)
   again : suc (i - 1) ≡ i
   again = omega arith
 
-  pub fill-skip : (r .point ≡ p → ⊥) → Filling p s (i - 1) t
+  pub fill-skip : (r .command .point ≡ p → ⊥) → Filling p s (i - 1) t
   unfolding slotsFrom isOnPoint
-  fill-skip n = record { below = omega (arith, o .below); slots = rw (one-more, ne-eqb (r .point) p n, again) (o .slots) }
+  fill-skip n = record { below = omega (arith, o .below); slots = rw (one-more, ne-eqb (r .command .point) p n, again) (o .slots) }
 
-  pub fill-put : r .point ≡ p → {n : ℕ} → n ≡ clientsIn s → {k : ℕ} → k ≡ slotOf (rows floorOfBytes 8 n (drop 3112 s)) (r .client) (r .call)
+  pub fill-put : r .command .point ≡ p → {n : ℕ} → n ≡ clientsIn s → {k : ℕ} → k ≡ slotOf (rows floorOfBytes 8 n (drop 3112 s)) (r .command .client) (r .command .call)
       → Filling p s (i - 1) (set t k (i - 1 + 1))
   unfolding slotsFrom isOnPoint
   fill-put y m {k} q =
       let x : i - 1 + 1 ≡ i = omega arith in
-      record { below = omega (arith, o .below); slots = rw (one-more, eq-eqb (r .point) p y, again, ← slot-in s m (r .client) (r .call), ← q, x, ← o .slots) }
+      record { below = omega (arith, o .below); slots = rw (one-more, eq-eqb (r .command .point) p y, again, ← slot-in s m (r .command .client) (r .command .call), ← q, x, ← o .slots) }
 
 pub fill-end : (p : ℕ) (s : List ℕ) {i : ℕ} {t : List ℕ} → Filling p s i t → i ≤ 0 → t ≡ pointSlots (load s) p
 unfolding pointSlots load

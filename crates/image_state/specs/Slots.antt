@@ -15,13 +15,18 @@ use Rattle.floors.specs.Places.{slotOf}
 
 -- what a lookup past the records' end gives
 abbrev pub noRecord : Completion
-noRecord = record { client = 0; call = 0; argument = 0; value = 0; op = 0; outcome = 0; quality = 0; point = 0; end = 0 }
+noRecord =
+    record {
+      command = record { client = 0; call = 0; op = 0; point = 0; argument = 0 };
+      result = record { outcome = 0; value = 0; quality = 0 };
+      end = 0;
+    }
 
 -- 512 slots; at the slot of each record on the point p its index and 1. The first of the records has the index i
 unfoldable pub slotsFrom : ℕ → List Floor → ℕ → List Completion → List ℕ
 slotsFrom p fs i [] = replicate recordCount 0
 slotsFrom p fs i (r ∷ rs) =
-    pick (isOnPoint p r) (set (slotsFrom p fs (suc i) rs) (slotOf fs (r .client) (r .call)) (suc i)) (slotsFrom p fs (suc i) rs)
+    pick (isOnPoint p r) (set (slotsFrom p fs (suc i) rs) (slotOf fs (r .command .client) (r .command .call)) (suc i)) (slotsFrom p fs (suc i) rs)
 
 unfoldable pub pointSlots : State → ℕ → List ℕ
 pointSlots st p = slotsFrom p (st .floors) 0 (st .records)

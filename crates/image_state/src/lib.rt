@@ -1,17 +1,18 @@
 // The image of a point, written from a server's tables.
 // Each completion record on the point has its own slot (see `floors`), and the order of slots is that of the image: so the records are
 // put at their slots and then written slot by slot.
-use floors::CALL_WINDOW;
-use image_rows::ENTRY_ROW;
-use image_rows::FLOOR_ROW;
-use image_rows::LEAST_IMAGE;
 use model::ImageEntry;
 use model::ImageHead;
-use state_rows::FLOORS_START;
-use state_rows::POINT_ROW;
-use state_rows::POINTS_START;
-use state_rows::RECORD_ROW;
-use state_rows::RECORDS_START;
+use model::constants;
+use model::constants::CALL_WINDOW;
+use model::constants::ENTRY_ROW;
+use model::constants::FLOOR_ROW;
+use model::constants::FLOORS_START;
+use model::constants::LEAST_IMAGE;
+use model::constants::POINT_ROW;
+use model::constants::POINTS_START;
+use model::constants::RECORD_ROW;
+use model::constants::RECORDS_START;
 ghost use mathlib.Core.Path.{_≡_};
 ghost use Prim.Native.Nat.{_+_, _*_, _≤_};
 ghost use lib.ListN.{length, drop};
@@ -26,18 +27,18 @@ ghost use Rattle.image_state.specs.Slots.{pointSlots};
 // ---- the records of a point, by slot
 
 // At the slot of each record on the point its index and 1, at all others 0.
-fn point_slots(s: &[u8], point: u8) -> [u16; 512]
+fn point_slots(s: &[u8], point: u8) -> [u16; constants::RECORD_COUNT]
     requires { ⌜ Sound (now s) ⌝ }
     ensures { λ r. ⌜ r ≡ pointSlots (load (now (s .entry))) point ⌝ }
 {
     let n = state_rows::clients_in(s) as usize;
-    let mut slots = [0; 512];
+    let mut slots = [0; constants::RECORD_COUNT];
     let mut i = state_rows::records_in(s) as usize;
     while 0 < i {
         i -= 1;
         let r = state_rows::completion_from(s, RECORDS_START + RECORD_ROW * i);
-        if r.point == point {
-            let k = floors::slot_of(s, FLOORS_START, n, r.client, r.call);
+        if r.command.point == point {
+            let k = floors::slot_of(s, FLOORS_START, n, r.command.client, r.command.call);
             slots[k] = (i + 1) as u16;
         }
     }
@@ -50,14 +51,13 @@ fn entry_of(s: &[u8], i: usize) -> ImageEntry
     ensures { λ r. ⌜ r ≡ entryOfRecord (completionOf (drop (recordsStart + recordRow * i) (now (s .entry)))) ⌝ }
 {
     let r = state_rows::completion_from(s, RECORDS_START + RECORD_ROW * i);
+    let result = r.result;
     ImageEntry {
-        client: r.client,
-        call: r.call,
-        argument: r.argument,
-        value: r.value,
-        op: r.op,
-        outcome: r.outcome,
-        quality: r.quality,
+        client: r.command.client,
+        call: r.command.call,
+        op: r.command.op,
+        argument: r.command.argument,
+        result,
     }
 }
 
@@ -94,7 +94,7 @@ fn head_for(s: &[u8], point: u8, entries: u32) -> ImageHead
         point,
         destination: x.destination,
         source: state_rows::server_in(s),
-        number: x.number,
+        moveNumber: x.moveNumber,
         heard: state_rows::heard_in(s),
         value: x.value,
         quality: x.quality,

@@ -1,5 +1,6 @@
 // The writer of a point's image from a server's buffer, for a test program in Rust or C.
-use image_rows::GREATEST_IMAGE;
+use model::constants;
+use model::constants::GREATEST_IMAGE;
 ghost use mathlib.Core.Path.{_≡_};
 ghost use Rattle.image_state_c.specs.Imaged.{told, imaged};
 
@@ -15,7 +16,7 @@ pub extern "C" fn mantelorris_test_image_state(state: &[u8], point: u8, out: &mu
     if !soundness::state_ok(state) {
         return 0;
     }
-    if wire::LAST_POINT < point {
+    if constants::LAST_POINT < point {
         return 0;
     }
     image_state::write_image(out, state, point) as u64

@@ -1,11 +1,12 @@
 // The writer of moving images: head, floors and completion records, each at its place. Bytes past what is written are kept.
-use image_rows::ENTRY_ROW;
-use image_rows::FLOOR_ROW;
-use image_rows::LEAST_IMAGE;
-use image_rows::MAGIC;
 use model::Floor;
 use model::ImageEntry;
 use model::ImageHead;
+use model::constants;
+use model::constants::ENTRY_ROW;
+use model::constants::FLOOR_ROW;
+use model::constants::IMAGE_MAGIC;
+use model::constants::LEAST_IMAGE;
 ghost use mathlib.Core.Path.{_≡_};
 ghost use Prim.Native.Nat.{_+_, _*_, _≤_};
 ghost use lib.ListN.{length};
@@ -33,8 +34,8 @@ pub fn put_entry(out: &mut [u8], k: usize, e: ImageEntry)
     wire::write_u32(out, k, e.client);
     wire::write_u32(out, k + 4, e.call);
     wire::write_signed(out, k + 8, e.argument);
-    wire::write_signed(out, k + 12, e.value);
-    wire::write_4(out, k + 16, e.op, e.outcome, e.quality, 0);
+    wire::write_signed(out, k + 12, e.result.value);
+    wire::write_4(out, k + 16, e.op, e.result.outcome, e.result.quality, 0);
 }
 
 // ---- the head
@@ -43,9 +44,16 @@ fn write_frame(out: &mut [u8], h: ImageHead)
     requires { ⌜ 48 ≤ length (now out) ⌝ }
     ensures { λ r. ⌜ now (out .exit) ≡ written (now (out .entry)) 0 (frameBytes h) ⌝ }
 {
-    wire::write_4(out, 0, MAGIC[0], MAGIC[1], MAGIC[2], MAGIC[3]);
+    wire::write_4(
+        out,
+        0,
+        IMAGE_MAGIC[0],
+        IMAGE_MAGIC[1],
+        IMAGE_MAGIC[2],
+        IMAGE_MAGIC[3],
+    );
     wire::write_4(out, 4, h.point, h.destination, h.source, 0);
-    wire::write_u32(out, 8, h.number);
+    wire::write_u32(out, 8, h.moveNumber);
     wire::write_u32(out, 12, h.heard);
 }
 
@@ -54,12 +62,16 @@ fn write_pairs(out: &mut [u8], m: u32, n: u32)
     requires { ⌜ (48 ≤ length (now out)) × (m ≤ clientCount) × (n ≤ recordCount) ⌝ }
     ensures { λ r. ⌜ now (out .exit) ≡ written (now (out .entry)) 16 (pairBytes m n) ⌝ }
 {
-    wire::write_u32(out, 16, 40);
-    wire::write_u32(out, 20, 8);
-    wire::write_u32(out, 24, 48);
-    wire::write_u32(out, 28, 8 * m);
-    wire::write_u32(out, 32, 48 + 8 * m);
-    wire::write_u32(out, 36, 20 * n);
+    wire::write_u32(out, 16, constants::PARTS_START_U32);
+    wire::write_u32(out, 20, constants::POINT_PART_U32);
+    wire::write_u32(out, 24, constants::LEAST_IMAGE_U32);
+    wire::write_u32(out, 28, constants::FLOOR_ROW_U32 * m);
+    wire::write_u32(
+        out,
+        32,
+        constants::LEAST_IMAGE_U32 + constants::FLOOR_ROW_U32 * m,
+    );
+    wire::write_u32(out, 36, constants::ENTRY_ROW_U32 * n);
 }
 
 fn write_point(out: &mut [u8], value: u32, quality: u8)

@@ -50,7 +50,7 @@ idFollows e (f ∷ fs) = entryBefore e f
 -- a record of the point p whose client has the floor k: imageEntryOk, with the floor found
 unfoldable pub entryFieldsOk : ℕ → ℕ → ImageEntry → Bool
 entryFieldsOk p k e =
-    commandOk (e .op) p (e .argument) && (outcomeOk (e .outcome) (e .quality) && (idOk (e .client) (e .call) && inWindow k (e .call)))
+    commandOk (e .op) p (e .argument) && (outcomeOk (e .result .outcome) (e .result .quality) && (idOk (e .client) (e .call) && inWindow k (e .call)))
 
 -- the record in front of t, with so many behind it
 unfoldable pub entryStep : ℕ → ℕ → ℕ → List ℕ → Bool

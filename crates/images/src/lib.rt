@@ -1,13 +1,13 @@
 // The reader of moving images: the test of every rule but the one on values, which needs the plan; that one; rows by number.
 // An image inside a take record is read from its place: the log's part from there is passed.
-use image_rows::ENTRY_ROW;
-use image_rows::FLOOR_ROW;
-use image_rows::GREATEST_IMAGE;
-use image_rows::LEAST_IMAGE;
 use model::Floor;
 use model::ImageEntry;
 use model::ImageHead;
 use model::PlanEntry;
+use model::constants::ENTRY_ROW;
+use model::constants::FLOOR_ROW;
+use model::constants::GREATEST_IMAGE;
+use model::constants::LEAST_IMAGE;
 ghost use mathlib.Core.Path.{_≡_};
 ghost use Prim.Native.Nat.{_+_, _-_, _*_, _≤_};
 ghost use lib.ListN.{length, drop};
@@ -93,7 +93,7 @@ fn entry_fields_ok(point: u8, floor: u32, e: ImageEntry) -> bool
     ensures { λ r. ⌜ r ≡ entryFieldsOk point floor e ⌝ }
 {
     let command = wire::command_ok(e.op, point, e.argument);
-    let outcome = wire::outcome_ok(e.outcome, e.quality);
+    let outcome = wire::outcome_ok(e.result.outcome, e.result.quality);
     let id = wire::id_ok(e.client, e.call);
     let window = image_rows::in_window(floor, e.call);
     command & (outcome & (id & window))

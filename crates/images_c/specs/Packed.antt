@@ -10,19 +10,20 @@ use Rattle.model.specs.declared.ImageHead.{ImageHead}
 use Rattle.model.specs.Choice.{pick}
 use Rattle.model.specs.Numbers.{word}
 use Rattle.model.specs.Tables.{written}
-use Rattle.model.specs.Images.{imageOk, imageAt, imageHeadOf, imageInRange}
+use Rattle.model.specs.Images.{imageOk, imageAt, imageHeadOf, imageInRange, parseImage, imageNumber}
 
 -- the range from low to high, each x + 2 ^ 31
 abbrev pub rangeOf : ℕ → ℕ → PlanEntry
 rangeOf low high = record { low = low; high = high; fallback = low; home = 0 }
 
--- bit 0: 1; bit 1: the values are in range; bits 16 to 31: floors; from 32 on: completion records
+-- bit 1: the values are in range; bits 16 to 31: floors; from 32 on: completion records
 unfoldable pub packed : ImageHead → Bool → ℕ
-packed h t = 1 + 2 * pick t 1 0 + 65536 * h .floors + word * h .entries
+packed h t = 2 * pick t 1 0 + 65536 * h .floors + word * h .entries
 
--- 0: malformed
+-- the paper's number in bit 0, and what a well-formed image holds
 unfoldable pub testedImage : List ℕ → ℕ → ℕ → ℕ
-testedImage s low high = pick (imageOk s) (packed (imageHeadOf s) (imageInRange (rangeOf low high) (imageAt (imageHeadOf s) s))) 0
+testedImage s low high =
+    imageNumber (parseImage s) + pick (imageOk s) (packed (imageHeadOf s) (imageInRange (rangeOf low high) (imageAt (imageHeadOf s) s))) 0
 
 -- a well-formed image is written anew where the output has its length
 unfoldable pub copies : List ℕ → List ℕ → Bool

@@ -2,6 +2,8 @@
 use images::ImageRead;
 use model::ImageHead;
 use model::PlanEntry;
+use model::constants::MALFORMED;
+use model::constants::WORD;
 ghost use mathlib.Core.Path.{_≡_};
 ghost use Prim.Native.Nat.{_+_, _*_, _≤_};
 ghost use lib.ListN.{length, drop};
@@ -10,7 +12,9 @@ ghost use Rattle.model.specs.Tables.{rows, bytesOf, written};
 ghost use Rattle.model.specs.Images.{imageEntryOf, imageEntryBytes, imageAt, imageBytes};
 ghost use Rattle.images_c.specs.Packed.{packed, testedImage, copiedLength, copiedOut};
 
-// Bit 0: 1; bit 1: the values are in range; bits 16 to 31: floors; from 32 on: completion records.
+const MALFORMED_U64: u64 = MALFORMED as u64;
+
+// Bit 1: the values are in range; bits 16 to 31: floors; from 32 on: completion records.
 fn pack(h: ImageHead, in_range: bool) -> u64
     requires { ⌜ (h .floors ≤ 65535) × (h .entries ≤ 65535) ⌝ }
     ensures { λ r. ⌜ r ≡ packed h in_range ⌝ }
@@ -18,19 +22,20 @@ fn pack(h: ImageHead, in_range: bool) -> u64
     let floors = h.floors as u64;
     let entries = h.entries as u64;
     if in_range {
-        return 3 + 65536 * floors + 4294967296 * entries;
+        return 2 + 65536 * floors + WORD * entries;
     }
-    1 + 65536 * floors + 4294967296 * entries
+    65536 * floors + WORD * entries
 }
 
-// The image and the range of its values, from low to high, each x + 2^31. 0: malformed; else as packed.
+// The image and the range of its values, from low to high, each x + 2^31. Bit 0: the paper's number, 1 for a malformed image; of
+// another the rest is as packed.
 #[no_mangle]
 pub extern "C" fn mantelorris_test_image(image: &[u8], low: u32, high: u32) -> u64
     ensures { λ r. ⌜ r ≡ testedImage (now (image .entry)) low high ⌝ }
 {
     let found = images::image_read(image);
     match found {
-        ImageRead::Malformed => 0,
+        ImageRead::Malformed => MALFORMED_U64,
         ImageRead::Head(h) => {
             let e = PlanEntry {
                 low,

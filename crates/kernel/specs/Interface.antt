@@ -8,7 +8,7 @@ use Rattle.model.specs.Operations.{After}
 
 -- the low 32 bits are 0 or the refusal's number, the high 32 bits the number of bytes written to the output
 unfoldable pub wordOf : Answer → ℕ
-wordOf a = a .number + word * a .wrote
+wordOf a = a .refusal + word * a .wrote
 
 pub record Returned : Type 0 where
   pub answer : ℕ

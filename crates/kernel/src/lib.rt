@@ -1,15 +1,17 @@
 // The C interface: the calls of a server over its lent slices (include/mantelorris.h). Each answers one word of 64 bits: the low 32 bits
 // are 0 or the refusal's number, the high 32 bits the number of bytes written to the output.
 use model::Answer;
+use model::constants;
 ghost use mathlib.Core.Path.{_≡_};
 ghost use mathlib.Core.List.{[]};
+ghost use Rattle.model.specs.Versions.{today};
 ghost use Rattle.model.specs.Operations.{foundOf, requestOf, fetchOf, syncOf, noticeOf, giveOf, imageOf, takeOf, receiptOf, releaseOf, recoverOf};
 ghost use Rattle.kernel.specs.Interface.{wordOf, returned, inC};
 
 fn word_of(a: Answer) -> u64
     ensures { λ r. ⌜ r ≡ wordOf a ⌝ }
 {
-    a.number as u64 + 4294967296 * (a.wrote as u64)
+    a.refusal as u64 + constants::WORD * (a.wrote as u64)
 }
 
 // Founds a server: its first state, and the head of its log.
@@ -33,7 +35,7 @@ pub extern "C" fn mantelorris_request(
     packet: &[u8],
     out: &mut [u8],
 ) -> u64
-    ensures { λ r. ⌜ returned r (now (state .exit)) (now (log .exit)) (now (out .exit)) ≡ inC (requestOf (now (state .entry)) (now (log .entry)) (now (packet .entry)) (now (out .entry))) ⌝ }
+    ensures { λ r. ⌜ returned r (now (state .exit)) (now (log .exit)) (now (out .exit)) ≡ inC (requestOf today (now (state .entry)) (now (log .entry)) (now (packet .entry)) (now (out .entry))) ⌝ }
 {
     word_of(request::request(state, log, packet, out))
 }

@@ -90,15 +90,15 @@ entry-width e = refl
 pub entry-bytes : (e : ImageEntry) → ImageEntryFits e → Bytes (imageEntryBytes e)
 unfolding imageEntryBytes
 entry-bytes e h =
-    bytes-run (le32 (e .client) ∷ le32 (e .call) ∷ signed32 (e .argument) ∷ signed32 (e .value) ∷ quad (e .op) (e .outcome) (e .quality) 0 ∷ []) (
+    bytes-run (le32 (e .client) ∷ le32 (e .call) ∷ signed32 (e .argument) ∷ signed32 (e .result .value) ∷ quad (e .op) (e .result .outcome) (e .result .quality) 0 ∷ []) (
       bytes-le32 (e .client) (h .client),
       (
         bytes-le32 (e .call) (h .call),
         (
           bytes-signed32 (e .argument),
           (
-            bytes-signed32 (e .value),
-            (bytes-quad (e .op) (e .outcome) (e .quality) 0 (h .op) (h .outcome) (h .quality) (lit< tt), tt),
+            bytes-signed32 (e .result .value),
+            (bytes-quad (e .op) (e .result .outcome) (e .result .quality) 0 (h .op) (h .outcome) (h .quality) (lit< tt), tt),
           ),
         ),
       ),
@@ -114,7 +114,14 @@ entry-take s =
     let op : byteAt (take 20 s) 16 ≡ byteAt s 16 = getD-take 20 s 16 0 (lit< tt) in
     let outcome : byteAt (take 20 s) 17 ≡ byteAt s 17 = getD-take 20 s 17 0 (lit< tt) in
     let quality : byteAt (take 20 s) 18 ≡ byteAt s 18 = getD-take 20 s 18 0 (lit< tt) in
-    λ i. record { client = client i; call = call i; argument = argument i; value = value i; op = op i; outcome = outcome i; quality = quality i }
+    λ i.
+    record {
+      client = client i;
+      call = call i;
+      op = op i;
+      argument = argument i;
+      result = record { outcome = outcome i; value = value i; quality = quality i };
+    }
 
 pub entry-test-take : (s : List ℕ) → entryRowOk (take entryRow s) ≡ entryRowOk s
 unfolding entryRowOk
@@ -127,10 +134,16 @@ entry-at e rest h =
     let call : le32At (imageEntryBytes e ++ rest) 4 ≡ e .call = omega arith in
     let bits : le32At (imageEntryBytes e ++ rest) 8 ≡ flip (e .argument) = omega arith in
     let argument : flip (le32At (imageEntryBytes e ++ rest) 8) ≡ e .argument = ap flip bits ∙ flip-flip (e .argument) (h .argument) in
-    let more : le32At (imageEntryBytes e ++ rest) 12 ≡ flip (e .value) = omega arith in
-    let value : flip (le32At (imageEntryBytes e ++ rest) 12) ≡ e .value = ap flip more ∙ flip-flip (e .value) (h .value) in
+    let more : le32At (imageEntryBytes e ++ rest) 12 ≡ flip (e .result .value) = omega arith in
+    let value : flip (le32At (imageEntryBytes e ++ rest) 12) ≡ e .result .value = ap flip more ∙ flip-flip (e .result .value) (h .value) in
     λ i.
-    record { client = client i; call = call i; argument = argument i; value = value i; op = e .op; outcome = e .outcome; quality = e .quality }
+    record {
+      client = client i;
+      call = call i;
+      op = e .op;
+      argument = argument i;
+      result = record { outcome = e .result .outcome; value = value i; quality = e .result .quality };
+    }
 
 pub entry-test : (e : ImageEntry) (rest : List ℕ) → entryRowOk (imageEntryBytes e ++ rest) ≡ true
 unfolding entryRowOk imageEntryBytes
@@ -187,7 +200,7 @@ pub image-head-at : (i : Image) (rest : List ℕ) → ImageFits i → imageHeadO
 unfolding imageHeadOf imageHeadBytes imageHead le32At signedAt
 image-head-at i rest h =
     let s : List ℕ = imageHeadBytes i ++ rest in
-    let number : le32At s 8 ≡ i .number = omega arith in
+    let number : le32At s 8 ≡ i .moveNumber = omega arith in
     let heard : le32At s 12 ≡ i .heard = omega arith in
     let bits : le32At s 40 ≡ flip (i .value) = omega arith in
     let value : flip (le32At s 40) ≡ i .value = ap flip bits ∙ flip-flip (i .value) (h .value) in
@@ -200,7 +213,7 @@ image-head-at i rest h =
       point = i .point;
       destination = i .destination;
       source = i .source;
-      number = number j;
+      moveNumber = number j;
       heard = heard j;
       value = value j;
       quality = i .quality;
@@ -240,7 +253,7 @@ module _ (i : Image) where
           point = i .point;
           destination = i .destination;
           source = i .source;
-          number = i .number;
+          moveNumber = i .moveNumber;
           heard = i .heard;
           value = i .value;
           quality = i .quality;
@@ -312,13 +325,13 @@ image-bytes i ok f =
     let n : ℕ = length (i .entries) in
     bytes-append (imageHeadBytes i) (bytesOf floorBytes (i .floors) ++ bytesOf imageEntryBytes (i .entries))
     (bytes-run
-    (imageMagic ∷ quad (i .point) (i .destination) (i .source) 0 ∷ le32 (i .number) ∷ le32 (i .heard) ∷ le32 40 ∷ le32 8 ∷ le32 leastImage ∷ le32 (floorRow * m)
+    (imageMagic ∷ quad (i .point) (i .destination) (i .source) 0 ∷ le32 (i .moveNumber) ∷ le32 (i .heard) ∷ le32 40 ∷ le32 8 ∷ le32 leastImage ∷ le32 (floorRow * m)
     ∷ le32 (leastImage + floorRow * m) ∷ le32 (entryRow * n) ∷ signed32 (i .value) ∷ quad (i .quality) 0 0 0 ∷ []) (
       bytes-quad 77 86 73 49 (lit< tt) (lit< tt) (lit< tt) (lit< tt),
       (
         bytes-quad (i .point) (i .destination) (i .source) 0 (f .point) (f .destination) (f .source) (lit< tt),
         (
-          bytes-le32 (i .number) (f .number),
+          bytes-le32 (i .moveNumber) (f .moveNumber),
           (
             bytes-le32 (i .heard) (f .heard),
             (
@@ -409,7 +422,7 @@ module _ (b : List ℕ) (h : Bytes b) (t : Tested b) where
         point = byteAt b 4;
         destination = byteAt b 5;
         source = byteAt b 6;
-        number = le32At b 8;
+        moveNumber = le32At b 8;
         heard = le32At b 12;
         value = signedAt b 40;
         quality = byteAt b 44;
@@ -460,7 +473,7 @@ module _ (b : List ℕ) (h : Bytes b) (t : Tested b) where
         point = h 4;
         destination = h 5;
         source = h 6;
-        number = le32-below b 8 h;
+        moveNumber = le32-below b 8 h;
         heard = le32-below b 12 h;
         value = signed-below b 40;
         quality = h 44;

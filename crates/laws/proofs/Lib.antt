@@ -1,8 +1,11 @@
 pub mod Tests
+pub mod Book
+pub mod Refused
 pub mod Numbers
 pub mod Written
 pub mod Tables
 pub mod Packets
+pub mod Commands
 pub mod Images
 pub mod Windows
 pub mod Logs

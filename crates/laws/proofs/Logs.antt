@@ -94,31 +94,25 @@ pub executed-at : (x : Executed) (rest : List ℕ) → ExecutedFits x → execut
 unfolding executedAt executedBytes le32At signedAt
 executed-at x rest h =
     let s : List ℕ = executedBytes x ++ rest in
-    let client : le32At s 4 ≡ x .client = le32-digits (x .client) in
-    let call : le32At s 8 ≡ x .call = le32-digits (x .call) in
+    let client : le32At s 4 ≡ x .command .client = le32-digits (x .command .client) in
+    let call : le32At s 8 ≡ x .command .call = le32-digits (x .command .call) in
     let done : le32At s 12 ≡ x .done = le32-digits (x .done) in
-    let argument : flip (le32At s 16) ≡ x .argument = ap flip (le32-digits (flip (x .argument))) ∙ flip-flip (x .argument) (h .argument) in
-    let value : flip (le32At s 20) ≡ x .value = ap flip (le32-digits (flip (x .value))) ∙ flip-flip (x .value) (h .value) in
+    let argument : flip (le32At s 16) ≡ x .command .argument = ap flip (le32-digits (flip (x .command .argument))) ∙ flip-flip (x .command .argument) (h .argument) in
+    let value : flip (le32At s 20) ≡ x .result .value = ap flip (le32-digits (flip (x .result .value))) ∙ flip-flip (x .result .value) (h .value) in
     λ i.
     record {
-      op = x .op;
-      point = x .point;
-      outcome = x .outcome;
-      client = client i;
-      call = call i;
+      command = record { client = client i; call = call i; op = x .command .op; point = x .command .point; argument = argument i };
       done = done i;
-      argument = argument i;
-      value = value i;
-      quality = x .quality;
+      result = record { outcome = x .result .outcome; value = value i; quality = x .result .quality };
     }
 
 pub give-at : (g : Give) (rest : List ℕ) → giveAt (giveBytes g ++ rest) ≡ g
 unfolding giveAt giveBytes le32At
-give-at g rest = let number : le32At (giveBytes g ++ rest) 4 ≡ g .number = le32-digits (g .number) in λ i. record { point = g .point; destination = g .destination; number = number i }
+give-at g rest = let number : le32At (giveBytes g ++ rest) 4 ≡ g .moveNumber = le32-digits (g .moveNumber) in λ i. record { point = g .point; destination = g .destination; moveNumber = number i }
 
 pub release-at : (r : Release) (rest : List ℕ) → releaseAt (releaseBytes r ++ rest) ≡ r
 unfolding releaseAt releaseBytes le32At
-release-at r rest = let number : le32At (releaseBytes r ++ rest) 4 ≡ r .number = le32-digits (r .number) in λ i. record { point = r .point; number = number i }
+release-at r rest = let number : le32At (releaseBytes r ++ rest) 4 ≡ r .moveNumber = le32-digits (r .moveNumber) in λ i. record { point = r .point; moveNumber = number i }
 
 pub record-length : (r : LogRecord) → length (recordBytes r) ≡ recordSize r
 unfolding recordBytes recordSize executedBytes noticeBytes giveBytes takeBytes releaseBytes
@@ -140,29 +134,29 @@ pub record-bytes : (r : LogRecord) → recordOk r ≡ true → recordFits r → 
 unfolding recordBytes executedBytes giveBytes takeBytes releaseBytes
 record-bytes (executed x) ok f =
     bytes-run
-    (quad 1 (x .op) (x .point) (x .outcome) ∷ le32 (x .client) ∷ le32 (x .call) ∷ le32 (x .done) ∷ signed32 (x .argument) ∷ signed32 (x .value) ∷ quad (x .quality) 0 0 0 ∷ []) (
-      bytes-quad 1 (x .op) (x .point) (x .outcome) (lit< tt) (f .op) (f .point) (f .outcome),
+    (quad 1 (x .command .op) (x .command .point) (x .result .outcome) ∷ le32 (x .command .client) ∷ le32 (x .command .call) ∷ le32 (x .done) ∷ signed32 (x .command .argument) ∷ signed32 (x .result .value) ∷ quad (x .result .quality) 0 0 0 ∷ []) (
+      bytes-quad 1 (x .command .op) (x .command .point) (x .result .outcome) (lit< tt) (f .op) (f .point) (f .outcome),
       (
-        bytes-le32 (x .client) (f .client),
+        bytes-le32 (x .command .client) (f .client),
         (
-          bytes-le32 (x .call) (f .call),
+          bytes-le32 (x .command .call) (f .call),
           (
             bytes-le32 (x .done) (f .done),
-            (bytes-signed32 (x .argument), (bytes-signed32 (x .value), (bytes-quad (x .quality) 0 0 0 (f .quality) (lit< tt) (lit< tt) (lit< tt), tt))),
+            (bytes-signed32 (x .command .argument), (bytes-signed32 (x .result .value), (bytes-quad (x .result .quality) 0 0 0 (f .quality) (lit< tt) (lit< tt) (lit< tt), tt))),
           ),
         ),
       ),
     )
 record-bytes (gone n) ok f = notice-bytes 2 n (lit< tt) f
 record-bytes (gave g) ok f =
-    bytes-run (quad 3 (g .point) (g .destination) 0 ∷ le32 (g .number) ∷ [])
-    (bytes-quad 3 (g .point) (g .destination) 0 (lit< tt) (f .point) (f .destination) (lit< tt), (bytes-le32 (g .number) (f .number), tt))
+    bytes-run (quad 3 (g .point) (g .destination) 0 ∷ le32 (g .moveNumber) ∷ [])
+    (bytes-quad 3 (g .point) (g .destination) 0 (lit< tt) (f .point) (f .destination) (lit< tt), (bytes-le32 (g .moveNumber) (f .moveNumber), tt))
 record-bytes (took i) ok f =
     bytes-run (quad 4 0 0 0 ∷ le32 (imageLength i) ∷ imageBytes i ∷ [])
     (bytes-quad 4 0 0 0 (lit< tt) (lit< tt) (lit< tt) (lit< tt), (bytes-le32 (imageLength i) (omega (arith, image-limit i ok)), (image-bytes i ok f, tt)))
 record-bytes (released r) ok f =
-    bytes-run (quad 5 (r .point) 0 0 ∷ le32 (r .number) ∷ [])
-    (bytes-quad 5 (r .point) 0 0 (lit< tt) (f .point) (lit< tt) (lit< tt), (bytes-le32 (r .number) (f .number), tt))
+    bytes-run (quad 5 (r .point) 0 0 ∷ le32 (r .moveNumber) ∷ [])
+    (bytes-quad 5 (r .point) 0 0 (lit< tt) (f .point) (lit< tt) (lit< tt), (bytes-le32 (r .moveNumber) (f .moveNumber), tt))
 
 take-length : (i : Image) (rest : List ℕ) → le32At (takeBytes i ++ rest) 4 ≡ imageLength i
 unfolding takeBytes le32At
@@ -329,7 +323,7 @@ module _ (s : List ℕ) (h : Bytes s) (m : ℕ) (ext : extentOf s ≡ spans m) (
       let w : (m ≡ 8) × (8 ≤ length s) = within-spans s 8 m (rw k at ext) in
       record {
         ok = and-right (zeroAt s 3) (giveOk (giveAt s)) t;
-        fits = record { point = h 1; destination = h 2; number = le32-below s 4 h };
+        fits = record { point = h 1; destination = h 2; moveNumber = le32-below s 4 h };
         size = w .0;
         whole = omega arith;
         same = give-again s h (w .1) k (and-left (zeroAt s 3) (giveOk (giveAt s)) t) ∙ ap (λ (n : ℕ). take n s) (sym (w .0));
@@ -342,7 +336,7 @@ module _ (s : List ℕ) (h : Bytes s) (m : ℕ) (ext : extentOf s ≡ spans m) (
       let o = joined-all (zeroAt s 2 ∷ zeroAt s 3 ∷ releaseOk (releaseAt s) ∷ []) t in
       record {
         ok = o .1 .1 .0;
-        fits = record { point = h 1; number = le32-below s 4 h };
+        fits = record { point = h 1; moveNumber = le32-below s 4 h };
         size = w .0;
         whole = omega arith;
         same = release-again s h (w .1) k (o .0) (o .1 .0) ∙ ap (λ (n : ℕ). take n s) (sym (w .0));

@@ -3,12 +3,14 @@
 --     request-again, .., grant-again     what was read is written again, by kind: the same bytes
 --     packet-length, packet-bytes   the length of a packet by kind; its bytes are bytes
 --     packet-back                   what was written is read back, for every well-formed packet that fits
+--     request-of, receipt-of, notice-of     what is of a kind
 --     packet-found, packet-is       what parses is well-formed, fits, and is written again; packet-again: the last by itself
 -- Assumes nothing.
 use Prim.Native.Nat.{ℕ, _+_, _≤_, _<_}
 use mathlib.Core.Path.{_≡_, refl, sym, ap, _∙_, subst}
 use mathlib.Core.Bool.{Bool, true, _&&_, false≢true}
 use mathlib.Core.List.{List, [], _∷_, _++_}
+use mathlib.Core.Option.{some}
 use native.Mathlib.Omega.{arith}
 use lib.ListN.{length, take}
 use lib.Seq.{take-all}
@@ -23,7 +25,7 @@ use Rattle.model.specs.declared.Grant.{Grant}
 use Rattle.model.specs.declared.Packet.{Packet}
 use Rattle.model.specs.declared.Packet.the-variants.{Malformed, Requested, Resulted, Refused, Receipted, Noticed, Granted}
 use Rattle.model.specs.Numbers.{byteAt, flip, le32At, le32, signedAt, signed32, zeroAt, zeros3At, quad}
-use Rattle.model.specs.Packets.{packetLength, requestAt, requestOk, requestBytes, resultAt, resultOk, resultBytes, refusalAt, refusalOk, refusalBytes, receiptAt, receiptOk, receiptBytes, noticeAt, noticeOk, noticeBytes, grantAt, grantOk, grantBytes, whole, parseRequest, parseResult, parseRefusal, parseReceipt, parseNotice, parseGrant, parsePacket, packetBytes}
+use Rattle.model.specs.Packets.{packetLength, requestAt, requestOk, requestBytes, resultAt, resultOk, resultBytes, refusalAt, refusalOk, refusalBytes, receiptAt, receiptOk, receiptBytes, noticeAt, noticeOk, noticeBytes, grantAt, grantOk, grantBytes, whole, parseRequest, parseResult, parseRefusal, parseReceipt, parseNotice, parseGrant, parsePacket, packetBytes, asRequest, asReceipt, asNotice}
 use Rattle.laws.specs.Bytes.{Bytes}
 use Rattle.laws.specs.Fits.{RequestFits, ResultFits, NoticeFits, packetFits, packetOk, kindOf, IsPacket}
 use Rattle.laws.proofs.Tests.{and-left, and-right, choose}
@@ -34,14 +36,18 @@ use Rattle.laws.proofs.Numbers.{part-join, quad-again, le32-again, sign
 pub request-at : (q : Request) (rest : List ℕ) → RequestFits q → requestAt (requestBytes q ++ rest) ≡ q
 unfolding requestAt requestBytes le32At signedAt
 request-at q rest h =
-    let client : le32At (requestBytes q ++ rest) 4 ≡ q .client = omega arith in
-    let call : le32At (requestBytes q ++ rest) 8 ≡ q .call = omega arith in
+    let client : le32At (requestBytes q ++ rest) 4 ≡ q .command .client = omega arith in
+    let call : le32At (requestBytes q ++ rest) 8 ≡ q .command .call = omega arith in
     let done : le32At (requestBytes q ++ rest) 12 ≡ q .done = omega arith in
     let lease : le32At (requestBytes q ++ rest) 16 ≡ q .lease = omega arith in
-    let bits : le32At (requestBytes q ++ rest) 20 ≡ flip (q .argument) = omega arith in
-    let argument : flip (le32At (requestBytes q ++ rest) 20) ≡ q .argument = ap flip bits ∙ flip-flip (q .argument) (h .argument) in
+    let bits : le32At (requestBytes q ++ rest) 20 ≡ flip (q .command .argument) = omega arith in
+    let argument : flip (le32At (requestBytes q ++ rest) 20) ≡ q .command .argument = ap flip bits ∙ flip-flip (q .command .argument) (h .argument) in
     λ i.
-    record { op = q .op; point = q .point; client = client i; call = call i; done = done i; lease = lease i; argument = argument i }
+    record {
+      command = record { client = client i; call = call i; op = q .command .op; point = q .command .point; argument = argument i };
+      done = done i;
+      lease = lease i;
+    }
 
 pub request-again : (s : List ℕ) → Bytes s → 24 ≤ length s → byteAt s 0 ≡ 1 → zeroAt s 3 ≡ true → requestBytes (requestAt s) ≡ take 24 s
 unfolding requestBytes requestAt
@@ -57,9 +63,15 @@ unfolding resultAt resultBytes le32At signedAt
 result-at r rest h =
     let client : le32At (resultBytes r ++ rest) 4 ≡ r .client = omega arith in
     let call : le32At (resultBytes r ++ rest) 8 ≡ r .call = omega arith in
-    let bits : le32At (resultBytes r ++ rest) 12 ≡ flip (r .value) = omega arith in
-    let value : flip (le32At (resultBytes r ++ rest) 12) ≡ r .value = ap flip bits ∙ flip-flip (r .value) (h .value) in
-    λ i. record { outcome = r .outcome; point = r .point; quality = r .quality; client = client i; call = call i; value = value i }
+    let bits : le32At (resultBytes r ++ rest) 12 ≡ flip (r .result .value) = omega arith in
+    let value : flip (le32At (resultBytes r ++ rest) 12) ≡ r .result .value = ap flip bits ∙ flip-flip (r .result .value) (h .value) in
+    λ i.
+    record {
+      client = client i;
+      call = call i;
+      point = r .point;
+      result = record { outcome = r .result .outcome; value = value i; quality = r .result .quality };
+    }
 
 pub result-again : (s : List ℕ) → Bytes s → 16 ≤ length s → byteAt s 0 ≡ 2 → resultBytes (resultAt s) ≡ take 16 s
 unfolding resultBytes resultAt
@@ -73,7 +85,7 @@ unfolding refusalAt refusalBytes le32At
 refusal-at r rest =
     let client : le32At (refusalBytes r ++ rest) 4 ≡ r .client = omega arith in
     let call : le32At (refusalBytes r ++ rest) 8 ≡ r .call = omega arith in
-    λ i. record { number = r .number; point = r .point; client = client i; call = call i }
+    λ i. record { refusal = r .refusal; point = r .point; client = client i; call = call i }
 
 pub refusal-again : (s : List ℕ) → Bytes s → 12 ≤ length s → byteAt s 0 ≡ 3 → zeroAt s 3 ≡ true → refusalBytes (refusalAt s) ≡ take 12 s
 unfolding refusalBytes refusalAt
@@ -84,8 +96,8 @@ refusal-again s h b k z =
 pub receipt-at : (r : Receipt) (rest : List ℕ) → receiptAt (receiptBytes r ++ rest) ≡ r
 unfolding receiptAt receiptBytes le32At
 receipt-at r rest =
-    let number : le32At (receiptBytes r ++ rest) 4 ≡ r .number = omega arith in
-    λ i. record { point = r .point; server = r .server; number = number i }
+    let number : le32At (receiptBytes r ++ rest) 4 ≡ r .moveNumber = omega arith in
+    λ i. record { point = r .point; server = r .server; moveNumber = number i }
 
 pub receipt-again : (s : List ℕ) → Bytes s → 8 ≤ length s → byteAt s 0 ≡ 4 → zeroAt s 3 ≡ true → receiptBytes (receiptAt s) ≡ take 8 s
 unfolding receiptBytes receiptAt
@@ -145,27 +157,27 @@ pub packet-bytes : (p : Packet) → packetFits p → Bytes (packetBytes p)
 unfolding packetBytes requestBytes resultBytes refusalBytes receiptBytes noticeBytes grantBytes
 packet-bytes Malformed f = bytes-nil
 packet-bytes (Requested q) f =
-    bytes-run (quad 1 (q .op) (q .point) 0 ∷ le32 (q .client) ∷ le32 (q .call) ∷ le32 (q .done) ∷ le32 (q .lease) ∷ signed32 (q .argument) ∷ []) (
-      bytes-quad 1 (q .op) (q .point) 0 (lit< tt) (f .op) (f .point) (lit< tt),
+    bytes-run (quad 1 (q .command .op) (q .command .point) 0 ∷ le32 (q .command .client) ∷ le32 (q .command .call) ∷ le32 (q .done) ∷ le32 (q .lease) ∷ signed32 (q .command .argument) ∷ []) (
+      bytes-quad 1 (q .command .op) (q .command .point) 0 (lit< tt) (f .op) (f .point) (lit< tt),
       (
-        bytes-le32 (q .client) (f .client),
+        bytes-le32 (q .command .client) (f .client),
         (
-          bytes-le32 (q .call) (f .call),
-          (bytes-le32 (q .done) (f .done), (bytes-le32 (q .lease) (f .lease), (bytes-signed32 (q .argument), tt))),
+          bytes-le32 (q .command .call) (f .call),
+          (bytes-le32 (q .done) (f .done), (bytes-le32 (q .lease) (f .lease), (bytes-signed32 (q .command .argument), tt))),
         ),
       ),
     )
 packet-bytes (Resulted r) f =
-    bytes-run (quad 2 (r .outcome) (r .point) (r .quality) ∷ le32 (r .client) ∷ le32 (r .call) ∷ signed32 (r .value) ∷ []) (
-      bytes-quad 2 (r .outcome) (r .point) (r .quality) (lit< tt) (f .outcome) (f .point) (f .quality),
-      (bytes-le32 (r .client) (f .client), (bytes-le32 (r .call) (f .call), (bytes-signed32 (r .value), tt))),
+    bytes-run (quad 2 (r .result .outcome) (r .point) (r .result .quality) ∷ le32 (r .client) ∷ le32 (r .call) ∷ signed32 (r .result .value) ∷ []) (
+      bytes-quad 2 (r .result .outcome) (r .point) (r .result .quality) (lit< tt) (f .outcome) (f .point) (f .quality),
+      (bytes-le32 (r .client) (f .client), (bytes-le32 (r .call) (f .call), (bytes-signed32 (r .result .value), tt))),
     )
 packet-bytes (Refused r) f =
-    bytes-run (quad 3 (r .number) (r .point) 0 ∷ le32 (r .client) ∷ le32 (r .call) ∷ [])
-    (bytes-quad 3 (r .number) (r .point) 0 (lit< tt) (f .number) (f .point) (lit< tt), (bytes-le32 (r .client) (f .client), (bytes-le32 (r .call) (f .call), tt)))
+    bytes-run (quad 3 (r .refusal) (r .point) 0 ∷ le32 (r .client) ∷ le32 (r .call) ∷ [])
+    (bytes-quad 3 (r .refusal) (r .point) 0 (lit< tt) (f .refusal) (f .point) (lit< tt), (bytes-le32 (r .client) (f .client), (bytes-le32 (r .call) (f .call), tt)))
 packet-bytes (Receipted r) f =
-    bytes-run (quad 4 (r .point) (r .server) 0 ∷ le32 (r .number) ∷ [])
-    (bytes-quad 4 (r .point) (r .server) 0 (lit< tt) (f .point) (f .server) (lit< tt), (bytes-le32 (r .number) (f .number), tt))
+    bytes-run (quad 4 (r .point) (r .server) 0 ∷ le32 (r .moveNumber) ∷ [])
+    (bytes-quad 4 (r .point) (r .server) 0 (lit< tt) (f .point) (f .server) (lit< tt), (bytes-le32 (r .moveNumber) (f .moveNumber), tt))
 packet-bytes (Noticed n) f = notice-bytes 5 n (lit< tt) f
 packet-bytes (Granted g) f =
     bytes-run (quad 6 0 0 0 ∷ le32 (g .client) ∷ le32 (g .lease) ∷ [])
@@ -236,7 +248,7 @@ module _ (b : List ℕ) (h : Bytes b) where
       (λ n t.
       record {
         ok = and-right (zeroAt b 3) (refusalOk (refusalAt b)) t;
-        fits = record { number = h 1; point = h 2; client = le32-below b 4 h; call = le32-below b 8 h };
+        fits = record { refusal = h 1; point = h 2; client = le32-below b 4 h; call = le32-below b 8 h };
         same = all-there 12 n (refusal-again b h (omega arith) (eqb-true (byteAt b 0) 3 k) (and-left (zeroAt b 3) (refusalOk (refusalAt b)) t));
       })
 
@@ -247,7 +259,7 @@ module _ (b : List ℕ) (h : Bytes b) where
       (λ n t.
       record {
         ok = and-right (zeroAt b 3) (receiptOk (receiptAt b)) t;
-        fits = record { point = h 1; server = h 2; number = le32-below b 4 h };
+        fits = record { point = h 1; server = h 2; moveNumber = le32-below b 4 h };
         same = all-there 8 n (receipt-again b h (omega arith) (eqb-true (byteAt b 0) 4 k) (and-left (zeroAt b 3) (receiptOk (receiptAt b)) t));
       })
 
@@ -288,3 +300,35 @@ module _ (b : List ℕ) (h : Bytes b) where
 
   pub packet-again : (parsePacket b ≡ Malformed → ⊥) → packetBytes (parsePacket b) ≡ b
   packet-again m = packet-found m .same
+
+-- ---- one kind
+
+pub request-of : (p : Packet) (q : Request) → asRequest p ≡ some q → p ≡ Requested q
+unfolding asRequest
+request-of Malformed q e = let z : _≡_ {A = ℕ} 0 1 = cc in absurd (omega arith)
+request-of (Requested x) q e = let z : x ≡ q = cc in ap Requested z
+request-of (Resulted x) q e = let z : _≡_ {A = ℕ} 0 1 = cc in absurd (omega arith)
+request-of (Refused x) q e = let z : _≡_ {A = ℕ} 0 1 = cc in absurd (omega arith)
+request-of (Receipted x) q e = let z : _≡_ {A = ℕ} 0 1 = cc in absurd (omega arith)
+request-of (Noticed x) q e = let z : _≡_ {A = ℕ} 0 1 = cc in absurd (omega arith)
+request-of (Granted x) q e = let z : _≡_ {A = ℕ} 0 1 = cc in absurd (omega arith)
+
+pub receipt-of : (p : Packet) (q : Receipt) → asReceipt p ≡ some q → p ≡ Receipted q
+unfolding asReceipt
+receipt-of Malformed q e = let z : _≡_ {A = ℕ} 0 1 = cc in absurd (omega arith)
+receipt-of (Requested x) q e = let z : _≡_ {A = ℕ} 0 1 = cc in absurd (omega arith)
+receipt-of (Resulted x) q e = let z : _≡_ {A = ℕ} 0 1 = cc in absurd (omega arith)
+receipt-of (Refused x) q e = let z : _≡_ {A = ℕ} 0 1 = cc in absurd (omega arith)
+receipt-of (Receipted x) q e = let z : x ≡ q = cc in ap Receipted z
+receipt-of (Noticed x) q e = let z : _≡_ {A = ℕ} 0 1 = cc in absurd (omega arith)
+receipt-of (Granted x) q e = let z : _≡_ {A = ℕ} 0 1 = cc in absurd (omega arith)
+
+pub notice-of : (p : Packet) (q : Notice) → asNotice p ≡ some q → p ≡ Noticed q
+unfolding asNotice
+notice-of Malformed q e = let z : _≡_ {A = ℕ} 0 1 = cc in absurd (omega arith)
+notice-of (Requested x) q e = let z : _≡_ {A = ℕ} 0 1 = cc in absurd (omega arith)
+notice-of (Resulted x) q e = let z : _≡_ {A = ℕ} 0 1 = cc in absurd (omega arith)
+notice-of (Refused x) q e = let z : _≡_ {A = ℕ} 0 1 = cc in absurd (omega arith)
+notice-of (Receipted x) q e = let z : _≡_ {A = ℕ} 0 1 = cc in absurd (omega arith)
+notice-of (Noticed x) q e = let z : x ≡ q = cc in ap Noticed z
+notice-of (Granted x) q e = let z : _≡_ {A = ℕ} 0 1 = cc in absurd (omega arith)

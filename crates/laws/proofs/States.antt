@@ -19,18 +19,18 @@ use lib.Dec.{eqb, leb, ltb, lit<, lit≤}
 use borrow.Author.Tests.{eqb-true, eq-eqb, leb-true, le-leb}
 use Rattle.model.specs.declared.Point.{Point}
 use Rattle.model.specs.declared.Completion.{Completion}
-use Rattle.model.specs.Numbers.{byteAt, le32At, le32, le64At, le64, zeros3At, quad}
+use Rattle.model.specs.Numbers.{byteAt, flip, le32At, le32, le64At, le64, signedAt, signed32, zeros3At, quad}
 use Rattle.model.specs.Tables.{rows, everyRow, bytesOf, every, zeros, written}
 use Rattle.model.specs.Plan.{planEntryOf, planRowOk, planBytes, entryAt, inRange}
 use Rattle.model.specs.Packets.{idOk, commandOk, outcomeOk}
 use Rattle.model.specs.Images.{floorOfBytes, floorBytes, floorOf, floorOk, inWindow, clientsAscend}
-use Rattle.model.specs.States.{State, stateMagic, stateHead, pointRow, recordRow, pointsStart, floorsStart, recordsStart, stateEnd, pointOf, pointBytes, completionOf, completionBytes, clientsIn, recordsIn, load, stateHeadBytes, padded, stateBytes, pointsOk, completionOk, idsDiffer, stateFramed, pointRowOk, stateOk, sound}
+use Rattle.model.specs.States.{State, stateMagic, stateHead, pointRow, recordRow, pointsStart, floorsStart, recordsStart, stateEnd, pointOf, pointBytes, completionOf, completionBytes, clientsIn, recordsIn, load, stateHeadBytes, padded, stateBytes, pointAt, pointsOk, keepsRecords, completionOk, idsDiffer, endsFrom, stateFramed, pointRowOk, stateOk, sound}
 use Rattle.model.specs.Limits.{lastServer, headSize, pointCount, clientCount, recordCount, planRow, floorRow}
 use Rattle.laws.specs.Bytes.{Bytes, All, part}
 use Rattle.laws.specs.Codec.{Codec}
 use Rattle.laws.specs.Fits.{PointFits, CompletionFits, StateFits, Sound}
 use Rattle.laws.proofs.Tests.{joined-all, all-joined}
-use Rattle.laws.proofs.Numbers.{part-join, le32-digits, le64-digits, quad-again, le32-again, le32-is, le64-again, le32-below, le64-below, le32-take, le64-take, zero-at, zeros3-at, bytes-append, bytes-drop, bytes-quad, bytes-le32, bytes-le64, bytes-run}
+use Rattle.laws.proofs.Numbers.{part-join, le32-digits, le64-digits, quad-again, le32-again, le32-is, le64-again, signed-again, le32-below, le64-below, signed-below, le32-take, le64-take, signed-take, flip-flip, zero-at, zeros3-at, bytes-append, bytes-drop, bytes-quad, bytes-le32, bytes-le64, bytes-signed32, bytes-run}
 use Rattle.laws.proofs.Written.{written-front, written-again}
 use Rattle.laws.proofs.Tables.{length-rows, length-bytesOf, bytes-bytesOf, rows-back, everyRow-back, everyRow-true, rows-again, rows-fit, places, every-imp, zeros-back, zeros-again, bytes-replicate}
 use Rattle.laws.proofs.Images.{floorCodec}
@@ -46,11 +46,11 @@ point-width x = refl
 pub point-bytes : (x : Point) → PointFits x → Bytes (pointBytes x)
 unfolding pointBytes
 point-bytes x h =
-    bytes-run (quad (x .status) (x .quality) (x .destination) 0 ∷ le32 (x .value) ∷ le32 (x .number) ∷ le32 (x .taken) ∷ le64 (x .gave) ∷ le64 (x .took) ∷ []) (
+    bytes-run (quad (x .status) (x .quality) (x .destination) 0 ∷ signed32 (x .value) ∷ le32 (x .moveNumber) ∷ le32 (x .takenMove) ∷ le64 (x .giveEnd) ∷ le64 (x .takeEnd) ∷ []) (
       bytes-quad (x .status) (x .quality) (x .destination) 0 (h .status) (h .quality) (h .destination) (lit< tt),
       (
-        bytes-le32 (x .value) (h .value),
-        (bytes-le32 (x .number) (h .number), (bytes-le32 (x .taken) (h .taken), (bytes-le64 (x .gave) (h .gave), (bytes-le64 (x .took) (h .took), tt)))),
+        bytes-signed32 (x .value),
+        (bytes-le32 (x .moveNumber) (h .moveNumber), (bytes-le32 (x .takenMove) (h .takenMove), (bytes-le64 (x .giveEnd) (h .giveEnd), (bytes-le64 (x .takeEnd) (h .takeEnd), tt)))),
       ),
     )
 
@@ -60,7 +60,7 @@ point-take s =
     let status : byteAt (take 32 s) 0 ≡ byteAt s 0 = getD-take 32 s 0 0 (lit< tt) in
     let quality : byteAt (take 32 s) 1 ≡ byteAt s 1 = getD-take 32 s 1 0 (lit< tt) in
     let destination : byteAt (take 32 s) 2 ≡ byteAt s 2 = getD-take 32 s 2 0 (lit< tt) in
-    let value : le32At (take 32 s) 4 ≡ le32At s 4 = le32-take 32 s 4 (lit≤ tt) in
+    let value : signedAt (take 32 s) 4 ≡ signedAt s 4 = signed-take 32 s 4 (lit≤ tt) in
     let number : le32At (take 32 s) 8 ≡ le32At s 8 = le32-take 32 s 8 (lit≤ tt) in
     let taken : le32At (take 32 s) 12 ≡ le32At s 12 = le32-take 32 s 12 (lit≤ tt) in
     let gave : le64At (take 32 s) 16 ≡ le64At s 16 = le64-take 32 s 16 (lit≤ tt) in
@@ -71,35 +71,35 @@ point-take s =
       quality = quality i;
       destination = destination i;
       value = value i;
-      number = number i;
-      taken = taken i;
-      gave = gave i;
-      took = took i;
+      moveNumber = number i;
+      takenMove = taken i;
+      giveEnd = gave i;
+      takeEnd = took i;
     }
 
 pub point-test-take : (s : List ℕ) → pointRowOk (take pointRow s) ≡ pointRowOk s
 unfolding pointRowOk
 point-test-take s = ap (λ (x : ℕ). eqb x 0) (getD-take 32 s 3 0 (lit< tt))
 
-pub point-at : (x : Point) (rest : List ℕ) → pointOf (pointBytes x ++ rest) ≡ x
-unfolding pointOf pointBytes le32At le64At le64
-point-at x rest =
+pub point-at : (x : Point) (rest : List ℕ) → PointFits x → pointOf (pointBytes x ++ rest) ≡ x
+unfolding pointOf pointBytes le32At le64At le64 signedAt
+point-at x rest h =
     let s : List ℕ = pointBytes x ++ rest in
-    let value : le32At s 4 ≡ x .value = le32-digits (x .value) in
-    let number : le32At s 8 ≡ x .number = le32-digits (x .number) in
-    let taken : le32At s 12 ≡ x .taken = le32-digits (x .taken) in
-    let gave : le64At s 16 ≡ x .gave = le64-digits (x .gave) in
-    let took : le64At s 24 ≡ x .took = le64-digits (x .took) in
+    let value : signedAt s 4 ≡ x .value = ap flip (le32-digits (flip (x .value))) ∙ flip-flip (x .value) (h .value) in
+    let number : le32At s 8 ≡ x .moveNumber = le32-digits (x .moveNumber) in
+    let taken : le32At s 12 ≡ x .takenMove = le32-digits (x .takenMove) in
+    let gave : le64At s 16 ≡ x .giveEnd = le64-digits (x .giveEnd) in
+    let took : le64At s 24 ≡ x .takeEnd = le64-digits (x .takeEnd) in
     λ i.
     record {
       status = x .status;
       quality = x .quality;
       destination = x .destination;
       value = value i;
-      number = number i;
-      taken = taken i;
-      gave = gave i;
-      took = took i;
+      moveNumber = number i;
+      takenMove = taken i;
+      giveEnd = gave i;
+      takeEnd = took i;
     }
 
 pub point-test : (x : Point) (rest : List ℕ) → pointRowOk (pointBytes x ++ rest) ≡ true
@@ -110,7 +110,7 @@ pub point-again : (s : List ℕ) → Bytes s → pointRow ≤ length s → point
 unfolding pointOf pointBytes pointRowOk
 point-again s h b t =
     part-join s 0 4 28 (quad-again s 0 (omega arith) refl refl refl (sym (zero-at s 3 t)))
-    (part-join s 4 4 24 (le32-again s 4 h (omega arith))
+    (part-join s 4 4 24 (signed-again s 4 h (omega arith))
     (part-join s 8 4 20 (le32-again s 8 h (omega arith))
     (part-join s 12 4 16 (le32-again s 12 h (omega arith))
     (part-join s 16 8 8 (le64-again s 16 h (omega arith)) (le64-again s 24 h (omega arith))))))
@@ -122,11 +122,11 @@ point-fit s h =
       status = h 0;
       quality = h 1;
       destination = h 2;
-      value = le32-below s 4 h;
-      number = le32-below s 8 h;
-      taken = le32-below s 12 h;
-      gave = le64-below s 16 h;
-      took = le64-below s 24 h;
+      value = signed-below s 4;
+      moveNumber = le32-below s 8 h;
+      takenMove = le32-below s 12 h;
+      giveEnd = le64-below s 16 h;
+      takeEnd = le64-below s 24 h;
     }
 
 abbrev pub pointCodec : Codec Point
@@ -141,7 +141,7 @@ pointCodec =
       enc-bytes = point-bytes;
       dec-take = point-take;
       test-take = point-test-take;
-      dec-enc = λ x rest h. point-at x rest;
+      dec-enc = point-at;
       test-enc = λ x rest h. point-test x rest;
       enc-dec = point-again;
       dec-fit = λ s h t. point-fit s h;
@@ -156,15 +156,15 @@ completion-width r = refl
 pub completion-bytes : (r : Completion) → CompletionFits r → Bytes (completionBytes r)
 unfolding completionBytes
 completion-bytes r h =
-    bytes-run (le32 (r .client) ∷ le32 (r .call) ∷ le32 (r .argument) ∷ le32 (r .value) ∷ quad (r .op) (r .outcome) (r .quality) (r .point) ∷ le64 (r .end) ∷ []) (
-      bytes-le32 (r .client) (h .client),
+    bytes-run (le32 (r .command .client) ∷ le32 (r .command .call) ∷ signed32 (r .command .argument) ∷ signed32 (r .result .value) ∷ quad (r .command .op) (r .result .outcome) (r .result .quality) (r .command .point) ∷ le64 (r .end) ∷ []) (
+      bytes-le32 (r .command .client) (h .client),
       (
-        bytes-le32 (r .call) (h .call),
+        bytes-le32 (r .command .call) (h .call),
         (
-          bytes-le32 (r .argument) (h .argument),
+          bytes-signed32 (r .command .argument),
           (
-            bytes-le32 (r .value) (h .value),
-            (bytes-quad (r .op) (r .outcome) (r .quality) (r .point) (h .op) (h .outcome) (h .quality) (h .point), (bytes-le64 (r .end) (h .end), tt)),
+            bytes-signed32 (r .result .value),
+            (bytes-quad (r .command .op) (r .result .outcome) (r .result .quality) (r .command .point) (h .op) (h .outcome) (h .quality) (h .point), (bytes-le64 (r .end) (h .end), tt)),
           ),
         ),
       ),
@@ -175,8 +175,8 @@ unfolding completionOf
 completion-take s =
     let client : le32At (take 28 s) 0 ≡ le32At s 0 = le32-take 28 s 0 (lit≤ tt) in
     let call : le32At (take 28 s) 4 ≡ le32At s 4 = le32-take 28 s 4 (lit≤ tt) in
-    let argument : le32At (take 28 s) 8 ≡ le32At s 8 = le32-take 28 s 8 (lit≤ tt) in
-    let value : le32At (take 28 s) 12 ≡ le32At s 12 = le32-take 28 s 12 (lit≤ tt) in
+    let argument : signedAt (take 28 s) 8 ≡ signedAt s 8 = signed-take 28 s 8 (lit≤ tt) in
+    let value : signedAt (take 28 s) 12 ≡ signedAt s 12 = signed-take 28 s 12 (lit≤ tt) in
     let op : byteAt (take 28 s) 16 ≡ byteAt s 16 = getD-take 28 s 16 0 (lit< tt) in
     let outcome : byteAt (take 28 s) 17 ≡ byteAt s 17 = getD-take 28 s 17 0 (lit< tt) in
     let quality : byteAt (take 28 s) 18 ≡ byteAt s 18 = getD-take 28 s 18 0 (lit< tt) in
@@ -184,36 +184,24 @@ completion-take s =
     let end : le64At (take 28 s) 20 ≡ le64At s 20 = le64-take 28 s 20 (lit≤ tt) in
     λ i.
     record {
-      client = client i;
-      call = call i;
-      argument = argument i;
-      value = value i;
-      op = op i;
-      outcome = outcome i;
-      quality = quality i;
-      point = point i;
+      command = record { client = client i; call = call i; op = op i; point = point i; argument = argument i };
+      result = record { outcome = outcome i; value = value i; quality = quality i };
       end = end i;
     }
 
-pub completion-at : (r : Completion) (rest : List ℕ) → completionOf (completionBytes r ++ rest) ≡ r
-unfolding completionOf completionBytes le32At le64At le64
-completion-at r rest =
+pub completion-at : (r : Completion) (rest : List ℕ) → CompletionFits r → completionOf (completionBytes r ++ rest) ≡ r
+unfolding completionOf completionBytes le32At le64At le64 signedAt
+completion-at r rest h =
     let s : List ℕ = completionBytes r ++ rest in
-    let client : le32At s 0 ≡ r .client = le32-digits (r .client) in
-    let call : le32At s 4 ≡ r .call = le32-digits (r .call) in
-    let argument : le32At s 8 ≡ r .argument = le32-digits (r .argument) in
-    let value : le32At s 12 ≡ r .value = le32-digits (r .value) in
+    let client : le32At s 0 ≡ r .command .client = le32-digits (r .command .client) in
+    let call : le32At s 4 ≡ r .command .call = le32-digits (r .command .call) in
+    let argument : signedAt s 8 ≡ r .command .argument = ap flip (le32-digits (flip (r .command .argument))) ∙ flip-flip (r .command .argument) (h .argument) in
+    let value : signedAt s 12 ≡ r .result .value = ap flip (le32-digits (flip (r .result .value))) ∙ flip-flip (r .result .value) (h .value) in
     let end : le64At s 20 ≡ r .end = le64-digits (r .end) in
     λ i.
     record {
-      client = client i;
-      call = call i;
-      argument = argument i;
-      value = value i;
-      op = r .op;
-      outcome = r .outcome;
-      quality = r .quality;
-      point = r .point;
+      command = record { client = client i; call = call i; op = r .command .op; point = r .command .point; argument = argument i };
+      result = record { outcome = r .result .outcome; value = value i; quality = r .result .quality };
       end = end i;
     }
 
@@ -222,8 +210,8 @@ unfolding completionOf completionBytes
 completion-again s h b =
     part-join s 0 4 24 (le32-again s 0 h (omega arith))
     (part-join s 4 4 20 (le32-again s 4 h (omega arith))
-    (part-join s 8 4 16 (le32-again s 8 h (omega arith))
-    (part-join s 12 4 12 (le32-again s 12 h (omega arith))
+    (part-join s 8 4 16 (signed-again s 8 h (omega arith))
+    (part-join s 12 4 12 (signed-again s 12 h (omega arith))
     (part-join s 16 4 8 (quad-again s 16 (omega arith) refl refl refl refl) (le64-again s 20 h (omega arith))))))
 
 pub completion-fit : (s : List ℕ) → Bytes s → CompletionFits (completionOf s)
@@ -232,8 +220,8 @@ completion-fit s h =
     record {
       client = le32-below s 0 h;
       call = le32-below s 4 h;
-      argument = le32-below s 8 h;
-      value = le32-below s 12 h;
+      argument = signed-below s 8;
+      value = signed-below s 12;
       op = h 16;
       outcome = h 17;
       quality = h 18;
@@ -253,7 +241,7 @@ completionCodec =
       enc-bytes = completion-bytes;
       dec-take = completion-take;
       test-take = λ s. refl;
-      dec-enc = λ r rest h. completion-at r rest;
+      dec-enc = completion-at;
       test-enc = λ r rest h. refl;
       enc-dec = λ s h b t. completion-again s h b;
       dec-fit = λ s h t. completion-fit s h;
@@ -634,19 +622,20 @@ module _ (s : List ℕ) (h : Bytes s) (d : Sound s) where
 
 -- ---- at most 16 completion records a client, so 512 for 32 clients
 
-completion-window : (st : State) (r : Completion) → completionOk st r ≡ true → inWindow (floorOf (r .client) (st .floors)) (r .call) ≡ true
+completion-window : (st : State) (r : Completion) → completionOk st r ≡ true → inWindow (floorOf (r .command .client) (st .floors)) (r .command .call) ≡ true
 unfolding completionOk
 completion-window st r e =
+    let c = r .command in
     joined-all
-    (commandOk (r .op) (r .point) (r .argument) ∷ outcomeOk (r .outcome) (r .quality) ∷ idOk (r .client) (r .call) ∷ inRange (entryAt (st .plan) (r .point)) (r .value)
-    ∷ ltb headSize (r .end) ∷ leb (r .end) (st .size) ∷ inWindow (floorOf (r .client) (st .floors)) (r .call) ∷ []) e .1 .1 .1 .1 .1 .1 .0
+    (commandOk (c .op) (c .point) (c .argument) ∷ outcomeOk (r .result .outcome) (r .result .quality) ∷ idOk (c .client) (c .call)
+    ∷ inRange (entryAt (st .plan) (c .point)) (r .result .value) ∷ keepsRecords (pointAt st (r .command .point)) ∷ ltb headSize (r .end) ∷ leb (r .end) (st .size) ∷ inWindow (floorOf (c .client) (st .floors)) (c .call) ∷ []) e .1 .1 .1 .1 .1 .1 .1 .0
 
 pub state-records : (st : State) → stateOk st ≡ true → length (st .records) ≤ 16 * length (st .floors)
 unfolding stateOk
 state-records st ok =
     let t = joined-all
     (leb (st .server) lastServer ∷ leb headSize (st .mark) ∷ leb (st .mark) (st .size) ∷ pointsOk (st .server) (st .size) (st .plan) (st .points) ∷ every floorOk (st .floors)
-    ∷ clientsAscend (st .floors) ∷ every (completionOk st) (st .records) ∷ idsDiffer (st .records) ∷ []) ok in
+    ∷ clientsAscend (st .floors) ∷ every (completionOk st) (st .records) ∷ idsDiffer (st .records) ∷ endsFrom headSize (st .records) ∷ []) ok in
     records-count (st .floors) (st .records) (t .1 .1 .1 .1 .1 .0)
-    (every-imp (completionOk st) (λ r. inWindow (floorOf (r .client) (st .floors)) (r .call)) (completion-window st) (st .records) (t .1 .1 .1 .1 .1 .1 .0))
+    (every-imp (completionOk st) (λ r. inWindow (floorOf (r .command .client) (st .floors)) (r .command .call)) (completion-window st) (st .records) (t .1 .1 .1 .1 .1 .1 .0))
     (t .1 .1 .1 .1 .1 .1 .1 .0)

@@ -137,7 +137,7 @@ entries-count fs (e ∷ es) a w t =
 entry-window : (p : ℕ) (fs : List Floor) (e : ImageEntry) → imageEntryOk p fs e ≡ true → inWindow (floorOf (e .client) fs) (e .call) ≡ true
 unfolding imageEntryOk
 entry-window p fs e t =
-    joined-all (commandOk (e .op) p (e .argument) ∷ outcomeOk (e .outcome) (e .quality) ∷ idOk (e .client) (e .call) ∷ inWindow (floorOf (e .client) fs) (e .call) ∷ []) t .1 .1 .1 .0
+    joined-all (commandOk (e .op) p (e .argument) ∷ outcomeOk (e .result .outcome) (e .result .quality) ∷ idOk (e .client) (e .call) ∷ inWindow (floorOf (e .client) fs) (e .call) ∷ []) t .1 .1 .1 .0
 
 pub image-entries : (i : Image) → imageTablesOk i ≡ true → length (i .entries) ≤ 16 * length (i .floors)
 unfolding imageTablesOk
@@ -225,43 +225,43 @@ ranks-differ fs a x c y d i j e r = clients (ltb x y) (ltb y x) refl refl
     clients false false m n = calls (ltb c d) (ltb d c) refl refl (omega (arith, ltb-false x y m, ltb-false y x n))
 
 place : List Floor → Completion → ℕ
-place fs r = rank (r .client) (r .call) fs
+place fs r = rank (r .command .client) (r .command .call) fs
 
 not-true : (b : Bool) → not b ≡ true → b ≡ false
 not-true true e = absurd (false≢true e)
 not-true false e = refl
 
 InPlace : List Floor → Completion → Type 0
-InPlace fs r = In (floorOf (r .client) fs) (r .call)
+InPlace fs r = In (floorOf (r .command .client) fs) (r .command .call)
 
 places-below : (fs : List Floor) (rs : List Completion) → All (InPlace fs) rs → All (λ a. a < 16 * length fs) (map (place fs) rs)
 unfolding InPlace place
 places-below fs [] w = tt
-places-below fs (r ∷ rs) w = (rank-below (r .client) (r .call) fs (w .0), places-below fs rs (w .1))
+places-below fs (r ∷ rs) w = (rank-below (r .command .client) (r .command .call) fs (w .0), places-below fs rs (w .1))
 
 places-differ : (fs : List Floor) → clientsAscend fs ≡ true → (r : Completion) (rs : List Completion) → InPlace fs r → All (InPlace fs) rs
-    → every (λ q. not (isId (r .client) (r .call) q)) rs ≡ true → All (λ a. a ≡ place fs r → ⊥) (map (place fs) rs)
+    → every (λ q. not (isId (r .command .client) (r .command .call) q)) rs ≡ true → All (λ a. a ≡ place fs r → ⊥) (map (place fs) rs)
 unfolding InPlace place every isId
 places-differ fs a r [] w v e = tt
 places-differ fs a r (q ∷ rs) w v e =
-    let b : Bool = eqb (q .client) (r .client) && eqb (q .call) (r .call) in
-    let n : not b ≡ true = and-left (not b) (every (λ p. not (isId (r .client) (r .call) p)) rs) e in (
-      ranks-differ fs a (r .client) (r .call) (q .client) (q .call) w (v .0) (not-true b n),
-      places-differ fs a r rs w (v .1) (and-right (not b) (every (λ p. not (isId (r .client) (r .call) p)) rs) e),
+    let b : Bool = eqb (q .command .client) (r .command .client) && eqb (q .command .call) (r .command .call) in
+    let n : not b ≡ true = and-left (not b) (every (λ p. not (isId (r .command .client) (r .command .call) p)) rs) e in (
+      ranks-differ fs a (r .command .client) (r .command .call) (q .command .client) (q .command .call) w (v .0) (not-true b n),
+      places-differ fs a r rs w (v .1) (and-right (not b) (every (λ p. not (isId (r .command .client) (r .command .call) p)) rs) e),
     )
 
 places-apart : (fs : List Floor) → clientsAscend fs ≡ true → (rs : List Completion) → All (InPlace fs) rs → idsDiffer rs ≡ true → Apart (map (place fs) rs)
 unfolding idsDiffer
 places-apart fs a [] w e = tt
 places-apart fs a (r ∷ rs) w e =
-    let b : Bool = every (λ q. not (isId (r .client) (r .call) q)) rs in
+    let b : Bool = every (λ q. not (isId (r .command .client) (r .command .call) q)) rs in
     (places-differ fs a r rs (w .0) (w .1) (and-left b (idsDiffer rs) e), places-apart fs a rs (w .1) (and-right b (idsDiffer rs) e))
 
-pub records-count : (fs : List Floor) (rs : List Completion) → clientsAscend fs ≡ true → every (λ r. inWindow (floorOf (r .client) fs) (r .call)) rs ≡ true
+pub records-count : (fs : List Floor) (rs : List Completion) → clientsAscend fs ≡ true → every (λ r. inWindow (floorOf (r .command .client) fs) (r .command .call)) rs ≡ true
     → idsDiffer rs ≡ true → length rs ≤ 16 * length fs
 unfolding InPlace
 records-count fs rs a w e =
     let i : All (InPlace fs) rs =
-    all-map (λ r. inWindow (floorOf (r .client) fs) (r .call) ≡ true) (InPlace fs) (λ r h. in-window (floorOf (r .client) fs) (r .call) h) rs
-    (every-all (λ r. inWindow (floorOf (r .client) fs) (r .call)) rs w) in
+    all-map (λ r. inWindow (floorOf (r .command .client) fs) (r .command .call) ≡ true) (InPlace fs) (λ r h. in-window (floorOf (r .command .client) fs) (r .command .call) h) rs
+    (every-all (λ r. inWindow (floorOf (r .command .client) fs) (r .command .call)) rs w) in
     omega (arith, apart-count (16 * length fs) (map (place fs) rs) (places-below fs rs i) (places-apart fs a rs i e), length-map rs (place fs))

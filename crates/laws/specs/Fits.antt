@@ -35,24 +35,24 @@ use Rattle.laws.specs.Bytes.{All}
 use Rattle.model.specs.Packets.{requestOk, resultOk, refusalOk, receiptOk, noticeOk, grantOk, packetBytes}
 
 pub record RequestFits (q : Request) : Type 0 where
-  pub op : q .op < 256
-  pub point : q .point < 256
-  pub client : q .client < word
-  pub call : q .call < word
+  pub op : q .command .op < 256
+  pub point : q .command .point < 256
+  pub client : q .command .client < word
+  pub call : q .command .call < word
   pub done : q .done < word
   pub lease : q .lease < word
-  pub argument : q .argument < word
+  pub argument : q .command .argument < word
 
 pub record ResultFits (r : ResultPacket) : Type 0 where
-  pub outcome : r .outcome < 256
+  pub outcome : r .result .outcome < 256
   pub point : r .point < 256
-  pub quality : r .quality < 256
+  pub quality : r .result .quality < 256
   pub client : r .client < word
   pub call : r .call < word
-  pub value : r .value < word
+  pub value : r .result .value < word
 
 pub record RefusalFits (r : RefusalPacket) : Type 0 where
-  pub number : r .number < 256
+  pub refusal : r .refusal < 256
   pub point : r .point < 256
   pub client : r .client < word
   pub call : r .call < word
@@ -60,7 +60,7 @@ pub record RefusalFits (r : RefusalPacket) : Type 0 where
 pub record ReceiptFits (r : Receipt) : Type 0 where
   pub point : r .point < 256
   pub server : r .server < 256
-  pub number : r .number < word
+  pub moveNumber : r .moveNumber < word
 
 pub record NoticeFits (n : Notice) : Type 0 where
   pub client : n .client < word
@@ -117,16 +117,16 @@ pub record ImageEntryFits (e : ImageEntry) : Type 0 where
   pub client : e .client < word
   pub call : e .call < word
   pub argument : e .argument < word
-  pub value : e .value < word
+  pub value : e .result .value < word
   pub op : e .op < 256
-  pub outcome : e .outcome < 256
-  pub quality : e .quality < 256
+  pub outcome : e .result .outcome < 256
+  pub quality : e .result .quality < 256
 
 pub record ImageFits (i : Image) : Type 0 where
   pub point : i .point < 256
   pub destination : i .destination < 256
   pub source : i .source < 256
-  pub number : i .number < word
+  pub moveNumber : i .moveNumber < word
   pub heard : i .heard < word
   pub value : i .value < word
   pub quality : i .quality < 256
@@ -140,7 +140,7 @@ imageHead i =
       point = i .point;
       destination = i .destination;
       source = i .source;
-      number = i .number;
+      moveNumber = i .moveNumber;
       heard = i .heard;
       value = i .value;
       quality = i .quality;
@@ -161,24 +161,24 @@ pub record IsImage (b : List ℕ) (i : Image) : Type 0 where
 -- ---- log records
 
 pub record ExecutedFits (x : Executed) : Type 0 where
-  pub op : x .op < 256
-  pub point : x .point < 256
-  pub outcome : x .outcome < 256
-  pub client : x .client < word
-  pub call : x .call < word
+  pub op : x .command .op < 256
+  pub point : x .command .point < 256
+  pub outcome : x .result .outcome < 256
+  pub client : x .command .client < word
+  pub call : x .command .call < word
   pub done : x .done < word
-  pub argument : x .argument < word
-  pub value : x .value < word
-  pub quality : x .quality < 256
+  pub argument : x .command .argument < word
+  pub value : x .result .value < word
+  pub quality : x .result .quality < 256
 
 pub record GiveFits (g : Give) : Type 0 where
   pub point : g .point < 256
   pub destination : g .destination < 256
-  pub number : g .number < word
+  pub moveNumber : g .moveNumber < word
 
 pub record ReleaseFits (r : Release) : Type 0 where
   pub point : r .point < 256
-  pub number : r .number < word
+  pub moveNumber : r .moveNumber < word
 
 abbrev pub recordFits : LogRecord → Type 0
 recordFits (executed x) = ExecutedFits x
@@ -252,20 +252,20 @@ pub record PointFits (x : Point) : Type 0 where
   pub quality : x .quality < 256
   pub destination : x .destination < 256
   pub value : x .value < word
-  pub number : x .number < word
-  pub taken : x .taken < word
-  pub gave : x .gave < word * word
-  pub took : x .took < word * word
+  pub moveNumber : x .moveNumber < word
+  pub takenMove : x .takenMove < word
+  pub giveEnd : x .giveEnd < word * word
+  pub takeEnd : x .takeEnd < word * word
 
 pub record CompletionFits (r : Completion) : Type 0 where
-  pub client : r .client < word
-  pub call : r .call < word
-  pub argument : r .argument < word
-  pub value : r .value < word
-  pub op : r .op < 256
-  pub outcome : r .outcome < 256
-  pub quality : r .quality < 256
-  pub point : r .point < 256
+  pub client : r .command .client < word
+  pub call : r .command .call < word
+  pub argument : r .command .argument < word
+  pub value : r .result .value < word
+  pub op : r .command .op < 256
+  pub outcome : r .result .outcome < 256
+  pub quality : r .result .quality < 256
+  pub point : r .command .point < 256
   pub end : r .end < word * word
 
 -- a state that fits, with a plan of 64 entries, 64 points, and the tables in their limits

@@ -16,7 +16,7 @@ use Rattle.model.specs.declared.LeaseManager.{LeaseManager}
 use Rattle.model.specs.declared.LeaseAnswer.{LeaseAnswer}
 use Rattle.model.specs.declared.Told.the-variants.{ByNotice}
 use Rattle.model.specs.Tables.{every}
-use Rattle.model.specs.Leases.{timeAt, runningAt, leaseEnd, isTaken, entered, extended, spanOk, manager, notTold, granted, openOf, renewOf, queryOf}
+use Rattle.model.specs.Leases.{timeAt, runningAt, leaseEnd, isTaken, withNewLease, extended, spanOk, manager, notTold, granted, openOf, renewOf, queryOf}
 
 -- neither of two numbers is past k
 pub both-fit : (k a b : ℕ) → (ltb k a || ltb k b) ≡ false → (a ≤ k) × (b ≤ k)
@@ -50,7 +50,7 @@ module _ (m : LeaseManager) (t span : ℕ) {u : Bool} {r : LeaseAnswer} (spanned
       open-out out e = rw (← add-one (m .issued), ← spanned, good, ← timed, ← running, ← all, free, out) e
 
       pub open-done : (ltb 4294967295 (m .issued + 1) || ltb 4294967295 (now + span)) ≡ false
-          → {next : List Lease} → next ≡ entered (record { client = m .issued + 1; lease = now + span }) ls
+          → {next : List Lease} → next ≡ withNewLease (record { client = m .issued + 1; lease = now + span }) ls
           → {k : LeaseManager} → k ≡ manager now (m .issued + 1) next
           → r ≡ granted k (m .issued + 1) (now + span)
           → r ≡ openOf m t span

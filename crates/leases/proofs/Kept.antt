@@ -30,7 +30,7 @@ use Rattle.model.specs.declared.LeaseAnswer.{LeaseAnswer}
 use Rattle.model.specs.declared.Told.{Told}
 use Rattle.model.specs.declared.Told.the-variants.{ByGrant, ByNotice}
 use Rattle.model.specs.Tables.{every}
-use Rattle.model.specs.Leases.{noLease, newManager, timeAt, runningAt, leaseEnd, isTaken, entered, extended, spanOk, manager, notTold, granted, openOf, renewOf, queryOf}
+use Rattle.model.specs.Leases.{noLease, newManager, timeAt, runningAt, leaseEnd, isTaken, withNewLease, extended, spanOk, manager, notTold, granted, openOf, renewOf, queryOf}
 use Rattle.leases.specs.WellFormed.{Fresh, Distinct, Placed, WellFormed, Lasts, Covers, Gone, LeaseCall, answerOf, givenTime}
 use Rattle.leases.proofs.Answers.{both-fit}
 use Rattle.leases.proofs.Lists.{pos-of, all-mono, all-entered, all-extended, length-entered, length-extended, running-placed, fresh-running, fresh-entered, fresh-extended, fresh-end, end-fresh, end-zero, end-within, end-known, distinct-running, distinct-entered, distinct-extended, lasts-not, lasts-running, lasts-entered, lasts-extended, entered-lasts, extended-lasts, end-lasts}
@@ -44,7 +44,7 @@ runs m t = runningAt (timeAt m t) (m .leases)
 pub data Exit (m : LeaseManager) (t : ℕ) (a : LeaseAnswer) : Type 0 where
   refused : (n : ℕ) → a ≡ notTold m n → Exit m t a
   opened : (e : ℕ) → every isTaken (runs m t) ≡ false → m .issued < 4294967295 → timeAt m t < e → e ≤ 4294967295
-      → a ≡ granted (manager (timeAt m t) (suc (m .issued)) (entered (record { client = suc (m .issued); lease = e }) (runs m t))) (suc (m .issued)) e
+      → a ≡ granted (manager (timeAt m t) (suc (m .issued)) (withNewLease (record { client = suc (m .issued); lease = e }) (runs m t))) (suc (m .issued)) e
       → Exit m t a
   renewed : (x e : ℕ) → (leaseEnd x (runs m t) ≡ 0 → ⊥) → leaseEnd x (runs m t) ≤ e → timeAt m t < e → e ≤ max (leaseEnd x (runs m t)) 4294967295
       → a ≡ granted (manager (timeAt m t) (m .issued) (extended x e (runs m t))) x e
@@ -269,7 +269,7 @@ grant-covers m c g s = go (givenTime c) (answerOf m c) (call-exit m c) s
         let r = ap (λ (x : LeaseAnswer). x .answer) (sym q) ∙ s in
         let n : Lease = record { client = suc (m .issued); lease = f } in
         let z : record { client = suc (m .issued); lease = f } ≡ g = cc in
-        rw q (subst (λ (y : Grant). (y .lease ≤ timeAt m t) ⊎ Lasts (y .client) (y .lease) (entered n (runs m t))) z (inr (entered-lasts n (runs m t) u)))
+        rw q (subst (λ (y : Grant). (y .lease ≤ timeAt m t) ⊎ Lasts (y .client) (y .lease) (withNewLease n (runs m t))) z (inr (entered-lasts n (runs m t) u)))
     go t a (renewed y f n u k v q) s =
         let r = ap (λ (x : LeaseAnswer). x .answer) (sym q) ∙ s in
         let z : record { client = y; lease = f } ≡ g = cc in

@@ -22,7 +22,7 @@ use Rattle.laws.proofs.Tests.{choose}
 use Rattle.model.specs.declared.Lease.{Lease}
 use Rattle.model.specs.Choice.{pick}
 use Rattle.model.specs.Tables.{every}
-use Rattle.model.specs.Leases.{noLease, endedAt, runningAt, leaseEnd, isTaken, entered, extended}
+use Rattle.model.specs.Leases.{noLease, endedAt, runningAt, leaseEnd, isTaken, withNewLease, extended}
 use Rattle.leases.specs.WellFormed.{Fresh, Distinct, Placed, Lasts}
 
 -- ---- tests
@@ -57,8 +57,8 @@ pub all-mono : (P Q : Lease → Type 0) → ((l : Lease) → P l → Q l) → (l
 all-mono P Q g [] a = tt
 all-mono P Q g (l ∷ ls) a = (g l (a .0), all-mono P Q g ls (a .1))
 
-pub all-entered : (P : Lease → Type 0) (n : Lease) → P n → (ls : List Lease) → All P ls → All P (entered n ls)
-unfolding entered
+pub all-entered : (P : Lease → Type 0) (n : Lease) → P n → (ls : List Lease) → All P ls → All P (withNewLease n ls)
+unfolding withNewLease
 all-entered P n p [] a = tt
 all-entered P n p (l ∷ ls) a = choose (All P) (isTaken l) (λ _. (a .0, all-entered P n p ls (a .1))) (λ _. (p, a .1))
 
@@ -68,8 +68,8 @@ all-extended P x e [] f a = tt
 all-extended P x e (l ∷ ls) f a =
     choose (All P) (eqb (l .client) x) (λ q. (f l (eqb-true _ _ q) (a .0), a .1)) (λ _. (a .0, all-extended P x e ls f (a .1)))
 
-pub length-entered : (n : Lease) (ls : List Lease) → length (entered n ls) ≡ length ls
-unfolding entered
+pub length-entered : (n : Lease) (ls : List Lease) → length (withNewLease n ls) ≡ length ls
+unfolding withNewLease
 length-entered n [] = refl
 length-entered n (l ∷ ls) = choose (λ (k : List Lease). length k ≡ suc (length ls)) (isTaken l) (λ _. ap suc (length-entered n ls)) (λ _. refl)
 
@@ -104,7 +104,7 @@ pub fresh-running : (now x : ℕ) → 1 ≤ x → (ls : List Lease) → Fresh x 
 unfolding runningAt
 fresh-running now x h = all-map (λ (k : Lease). k .client ≡ x → ⊥) (λ (k : Lease). k .client ≡ x → ⊥) (endedAt now) (λ l p. ended-each (λ (k : Lease). k .client ≡ x → ⊥) now l (λ _ e. omega arith) (λ _ _. p))
 
-pub fresh-entered : (x : ℕ) (n : Lease) → (n .client ≡ x → ⊥) → (ls : List Lease) → Fresh x ls → Fresh x (entered n ls)
+pub fresh-entered : (x : ℕ) (n : Lease) → (n .client ≡ x → ⊥) → (ls : List Lease) → Fresh x ls → Fresh x (withNewLease n ls)
 fresh-entered x n p = all-entered (λ (l : Lease). l .client ≡ x → ⊥) n p
 
 pub fresh-extended : (x y e : ℕ) (ls : List Lease) → Fresh x ls → Fresh x (extended y e ls)
@@ -157,8 +157,8 @@ distinct-running now (l ∷ ls) d = (
   distinct-running now ls (d .1),
 )
 
-pub distinct-entered : (n : Lease) (ls : List Lease) → Fresh (n .client) ls → Distinct ls → Distinct (entered n ls)
-unfolding entered
+pub distinct-entered : (n : Lease) (ls : List Lease) → Fresh (n .client) ls → Distinct ls → Distinct (withNewLease n ls)
+unfolding withNewLease
 distinct-entered n [] a d = tt
 distinct-entered n (l ∷ ls) a d =
     choose Distinct (isTaken l)
@@ -195,8 +195,8 @@ lasts-running now x e h (l ∷ ls) (inr c) = on (lasts-running now x e h ls c)
     on (inl w) = inl w
     on (inr w) = inr (inr w)
 
-pub lasts-entered : (x e : ℕ) (n : Lease) → 1 ≤ x → (ls : List Lease) → Lasts x e ls → Lasts x e (entered n ls)
-unfolding entered
+pub lasts-entered : (x e : ℕ) (n : Lease) → 1 ≤ x → (ls : List Lease) → Lasts x e ls → Lasts x e (withNewLease n ls)
+unfolding withNewLease
 lasts-entered x e n h [] c = absurd c
 lasts-entered x e n h (l ∷ ls) (inl c) =
     choose (Lasts x e) (isTaken l) (λ _. inl c) (λ q. let z = free-is l q in absurd (omega (arith, c .0)))
@@ -217,12 +217,12 @@ lasts-extended x e y f (l ∷ ls) h c = go (eqb (l .client) y) refl h c (lasts-e
 
 -- ---- the client that is granted
 
-pub entered-lasts : (n : Lease) (ls : List Lease) → every isTaken ls ≡ false → Lasts (n .client) (n .lease) (entered n ls)
-unfolding entered every
+pub entered-lasts : (n : Lease) (ls : List Lease) → every isTaken ls ≡ false → Lasts (n .client) (n .lease) (withNewLease n ls)
+unfolding withNewLease every
 entered-lasts n [] q = absurd (false≢true (sym q))
 entered-lasts n (l ∷ ls) q = go (isTaken l) refl q (entered-lasts n ls)
   where
-    go : (b : Bool) → isTaken l ≡ b → (b && every isTaken ls) ≡ false → (every isTaken ls ≡ false → Lasts (n .client) (n .lease) (entered n ls)) → Lasts (n .client) (n .lease) (pick b (l ∷ entered n ls) (n ∷ ls))
+    go : (b : Bool) → isTaken l ≡ b → (b && every isTaken ls) ≡ false → (every isTaken ls ≡ false → Lasts (n .client) (n .lease) (withNewLease n ls)) → Lasts (n .client) (n .lease) (pick b (l ∷ withNewLease n ls) (n ∷ ls))
     go true t f ih = inr (ih f)
     go false t f ih = inl (refl, omega arith)
 

@@ -16,7 +16,7 @@ use lib.Seq.{drop-cons, take-suc, take-suc-set, drop-set-lt, append-snoc, set-sp
 use borrow.Author.Tests.{eq-eqb, ne-eqb}
 use Rattle.model.specs.declared.Lease.{Lease}
 use Rattle.model.specs.Tables.{every}
-use Rattle.model.specs.Leases.{noLease, endedAt, runningAt, leaseEnd, isTaken, entered, extended}
+use Rattle.model.specs.Leases.{noLease, endedAt, runningAt, leaseEnd, isTaken, withNewLease, extended}
 
 -- ---- the running leases
 
@@ -64,17 +64,17 @@ taken-end ls i h = rw (drop-of-length-le ls h) refl
 
 -- ---- a new lease at the first free place
 
-module _ (n : Lease) (ls : List Lease) (i : ℕ) (h : i < length ls) (p : entered n ls ≡ take i ls ++ entered n (drop i ls)) where
-  pub enter-on : isTaken (getD ls i noLease) ≡ true → entered n ls ≡ take (i + 1) ls ++ entered n (drop (i + 1) ls)
-  unfolding entered
+module _ (n : Lease) (ls : List Lease) (i : ℕ) (h : i < length ls) (p : withNewLease n ls ≡ take i ls ++ withNewLease n (drop i ls)) where
+  pub enter-on : isTaken (getD ls i noLease) ≡ true → withNewLease n ls ≡ take (i + 1) ls ++ withNewLease n (drop (i + 1) ls)
+  unfolding withNewLease
   enter-on e = rw (p, add-one, take-suc ls i noLease h, drop-cons ls i noLease h, e, append-snoc) refl
 
-  pub enter-off : isTaken (getD ls i noLease) ≡ false → set ls i n ≡ entered n ls
-  unfolding entered
+  pub enter-off : isTaken (getD ls i noLease) ≡ false → set ls i n ≡ withNewLease n ls
+  unfolding withNewLease
   enter-off e = rw (p, set-split ls i n h, drop-cons ls i noLease h, e) refl
 
-pub enter-end : (n : Lease) (ls : List Lease) (i : ℕ) → length ls ≤ i → entered n ls ≡ take i ls ++ entered n (drop i ls) → ls ≡ entered n ls
-unfolding entered
+pub enter-end : (n : Lease) (ls : List Lease) (i : ℕ) → length ls ≤ i → withNewLease n ls ≡ take i ls ++ withNewLease n (drop i ls) → ls ≡ withNewLease n ls
+unfolding withNewLease
 enter-end n ls i h p = rw (p, take-all i ls h, drop-of-length-le ls h, append-nil) refl
 
 -- ---- the client's lease with a new end

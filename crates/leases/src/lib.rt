@@ -1,9 +1,11 @@
 // The lease manager (paper: lease office): open, renew, query. Values in and values out; every value of the struct is taken.
+use model::constants;
+use model::constants::LEASE_COUNT;
 ghost use mathlib.Core.Path.{_≡_};
 ghost use mathlib.Core.Bool.{_||_};
 ghost use Prim.Native.Nat.{max};
 ghost use lib.Dec.{eqb, leb};
-ghost use Rattle.model.specs.Leases.{timeAt, endedAt, runningAt, leaseEnd, isTaken, entered, extended, spanOk, manager, notTold, granted, openOf, renewOf, queryOf};
+ghost use Rattle.model.specs.Leases.{timeAt, endedAt, runningAt, leaseEnd, isTaken, withNewLease, extended, spanOk, manager, notTold, granted, openOf, renewOf, queryOf};
 ghost use Rattle.model.specs.Tables.{every};
 use model::Grant;
 use model::Lease;
@@ -41,12 +43,12 @@ fn is_taken(l: Lease) -> bool
 
 // ---- the 32 places
 
-fn running_at(now: u32, ls: [Lease; 32]) -> [Lease; 32]
+fn running_at(now: u32, ls: [Lease; LEASE_COUNT]) -> [Lease; LEASE_COUNT]
     ensures { λ r. ⌜ r ≡ runningAt now ls ⌝ }
 {
     let mut out = ls;
     let mut i: usize = 0;
-    while i < 32 {
+    while i < LEASE_COUNT {
         let l = out[i];
         let e = ended_at(now, l);
         out[i] = e;
@@ -55,11 +57,11 @@ fn running_at(now: u32, ls: [Lease; 32]) -> [Lease; 32]
     out
 }
 
-fn lease_end(x: u32, ls: [Lease; 32]) -> u32
+fn lease_end(x: u32, ls: [Lease; LEASE_COUNT]) -> u32
     ensures { λ r. ⌜ r ≡ leaseEnd x ls ⌝ }
 {
     let mut i: usize = 0;
-    while i < 32 {
+    while i < LEASE_COUNT {
         let l = ls[i];
         if l.client == x {
             return l.lease;
@@ -69,11 +71,11 @@ fn lease_end(x: u32, ls: [Lease; 32]) -> u32
     0
 }
 
-fn all_taken(ls: [Lease; 32]) -> bool
+fn all_taken(ls: [Lease; LEASE_COUNT]) -> bool
     ensures { λ r. ⌜ r ≡ every isTaken ls ⌝ }
 {
     let mut i: usize = 0;
-    while i < 32 {
+    while i < LEASE_COUNT {
         let l = ls[i];
         if !is_taken(l) {
             return false;
@@ -83,12 +85,12 @@ fn all_taken(ls: [Lease; 32]) -> bool
     true
 }
 
-fn entered(n: Lease, ls: [Lease; 32]) -> [Lease; 32]
-    ensures { λ r. ⌜ r ≡ entered n ls ⌝ }
+fn entered(n: Lease, ls: [Lease; LEASE_COUNT]) -> [Lease; LEASE_COUNT]
+    ensures { λ r. ⌜ r ≡ withNewLease n ls ⌝ }
 {
     let mut out = ls;
     let mut i: usize = 0;
-    while i < 32 {
+    while i < LEASE_COUNT {
         let l = ls[i];
         if !is_taken(l) {
             out[i] = n;
@@ -99,12 +101,12 @@ fn entered(n: Lease, ls: [Lease; 32]) -> [Lease; 32]
     out
 }
 
-fn extended(x: u32, e: u32, ls: [Lease; 32]) -> [Lease; 32]
+fn extended(x: u32, e: u32, ls: [Lease; LEASE_COUNT]) -> [Lease; LEASE_COUNT]
     ensures { λ r. ⌜ r ≡ extended x e ls ⌝ }
 {
     let mut out = ls;
     let mut i: usize = 0;
-    while i < 32 {
+    while i < LEASE_COUNT {
         let l = ls[i];
         if l.client == x {
             out[i] = Lease {
@@ -138,10 +140,10 @@ fn time_at(m: LeaseManager, t: u32) -> u32
 fn span_ok(span: u32) -> bool
     ensures { λ r. ⌜ r ≡ spanOk span ⌝ }
 {
-    (1 <= span) & (span <= 86400)
+    (1 <= span) & (span <= constants::LONGEST_SPAN)
 }
 
-fn manager(time: u32, issued: u32, ls: [Lease; 32]) -> LeaseManager
+fn manager(time: u32, issued: u32, ls: [Lease; LEASE_COUNT]) -> LeaseManager
     ensures { λ r. ⌜ r ≡ manager time issued ls ⌝ }
 {
     LeaseManager {
@@ -179,18 +181,18 @@ pub fn open_lease(m: LeaseManager, time: u32, span: u32) -> LeaseAnswer
     ensures { λ r. ⌜ r ≡ openOf m time span ⌝ }
 {
     if !span_ok(span) {
-        return not_told(m, 1);
+        return not_told(m, constants::MALFORMED);
     }
     let now = time_at(m, time);
     let held = m.leases;
     let ls = running_at(now, held);
     if all_taken(ls) {
-        return not_told(m, 18);
+        return not_told(m, constants::LEASES_FULL);
     }
     let x = m.issued as u64 + 1;
     let end = now as u64 + span as u64;
-    if (4294967295 < x) | (4294967295 < end) {
-        return not_told(m, 16);
+    if (constants::LAST_32_U64 < x) | (constants::LAST_32_U64 < end) {
+        return not_told(m, constants::NUMBERS_OUT);
     }
     let client = x as u32;
     let lease = end as u32;
@@ -203,18 +205,18 @@ pub fn renew(m: LeaseManager, x: u32, time: u32, span: u32) -> LeaseAnswer
     ensures { λ r. ⌜ r ≡ renewOf m x time span ⌝ }
 {
     if !span_ok(span) {
-        return not_told(m, 1);
+        return not_told(m, constants::MALFORMED);
     }
     let now = time_at(m, time);
     let held = m.leases;
     let ls = running_at(now, held);
     let old = lease_end(x, ls);
     if old == 0 {
-        return not_told(m, 17);
+        return not_told(m, constants::UNKNOWN);
     }
     let end = now as u64 + span as u64;
-    if 4294967295 < end {
-        return not_told(m, 16);
+    if constants::LAST_32_U64 < end {
+        return not_told(m, constants::NUMBERS_OUT);
     }
     let lease = greater(old, end as u32);
     let next = extended(x, lease, ls);
@@ -231,7 +233,7 @@ pub fn query(m: LeaseManager, x: u32, time: u32) -> LeaseAnswer
     let end = lease_end(x, ls);
     let next = manager(now, m.issued, ls);
     if (x == 0) | (m.issued < x) {
-        return not_told(m, 17); // never issued
+        return not_told(m, constants::UNKNOWN); // never issued
     }
     if end == 0 {
         return LeaseAnswer {

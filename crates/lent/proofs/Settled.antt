@@ -1,5 +1,4 @@
 -- A call's refusals, carried out.
---     lent-number                       2 and 19, as a number
 --     lent-fit                          what holds where neither is given
 --     settle-refused, settle-passed     a decision by a number; by-refused, by-passed: where the number came from a call
 --     unfit-yes, unfit-no, long-enough     the tests in code
@@ -11,28 +10,18 @@ use mathlib.Core.Bool.{Bool, true, false, _||_, not}
 use mathlib.Core.List.{List}
 use native.Mathlib.Omega.{arith}
 use lib.ListN.{length}
-use lib.Dec.{eqb, ltb}
+use lib.Dec.{ltb}
 use borrow.Author.Tests.{ne-eqb, ltb-false, not-false}
 use Rattle.model.specs.declared.Answer.{Answer}
-use Rattle.model.specs.Choice.{pick, refuse}
+use Rattle.model.specs.Choice.{pick, unlessRefused}
 use Rattle.model.specs.Limits.{stateSize}
 use Rattle.model.specs.States.{load, sound, stateEnd}
 use Rattle.model.specs.Decisions.{Decided}
-use Rattle.model.specs.Operations.{After, after, answerOf, short, unfit, settle, lent}
+use Rattle.model.specs.Operations.{After, after, answerOf, short, unfit, settle, lentRefusal}
 use Rattle.laws.specs.Bytes.{Bytes}
 use Rattle.state.specs.Canonical.{Canonical}
 use Rattle.state.proofs.Chains.{canonical-sound}
-use Rattle.decide.specs.Tests.{byNumber}
-use Rattle.lent.specs.Memory.{lentRefusal, Fit}
-
-pub lent-number : (state log out : List ℕ) (need : ℕ) (d : Decided) → lent state log out need d ≡ byNumber (lentRefusal state log (length out) need) d
-unfolding lent lentRefusal short byNumber
-lent-number state log out need d = go (ltb (length state) stateSize || ltb (length out) need) (unfit state log)
-  where
-    go : (a b : Bool) → pick a (refuse 2) (pick b (refuse 19) d) ≡ pick (eqb (pick a 2 (pick b 19 0)) 0) d (refuse (pick a 2 (pick b 19 0)))
-    go true b = refl
-    go false true = refl
-    go false false = refl
+use Rattle.lent.specs.Memory.{Fit}
 
 pub lent-fit : (state log : List ℕ) (n need : ℕ) → lentRefusal state log n need ≡ 0 → Fit state log n need
 unfolding lentRefusal short unfit
@@ -47,12 +36,12 @@ lent-fit state log n need e = go (ltb (length state) stateSize) (ltb n need) (so
     go false false true false p q r t e = record { long = ltb-false (length state) stateSize p; room = ltb-false n need q; sound = r; logged = ltb-false (length log) (load state .size) t }
 
 module _ (state log out : List ℕ) (d : Decided) where
-  pub settle-refused : (n : ℕ) → (n ≡ 0 → ⊥) → settle state log out (byNumber n d) ≡ after (answerOf n 0) state log out
-  unfolding byNumber settle
+  pub settle-refused : (n : ℕ) → (n ≡ 0 → ⊥) → settle state log out (unlessRefused n d) ≡ after (answerOf n 0) state log out
+  unfolding unlessRefused settle
   settle-refused n h = rw (ne-eqb n 0 h)
 
-  pub settle-passed : (n : ℕ) → n ≡ 0 → settle state log out (byNumber n d) ≡ settle state log out d
-  unfolding byNumber
+  pub settle-passed : (n : ℕ) → n ≡ 0 → settle state log out (unlessRefused n d) ≡ settle state log out d
+  unfolding unlessRefused
   settle-passed n h = rw h
 
 -- ---- the tests in code
@@ -76,10 +65,10 @@ long-enough s n need e = omega (arith, ltb-false (length s) stateSize (or-left (
 -- ---- a number from a call
 
 module _ (state log out : List ℕ) (d : Decided) {n m : ℕ} (p : n ≡ m) where
-  pub by-refused : (n ≡ 0 → ⊥) → {r : Answer} → r ≡ answerOf n 0 → after r state log out ≡ settle state log out (byNumber m d)
+  pub by-refused : (n ≡ 0 → ⊥) → {r : Answer} → r ≡ answerOf n 0 → after r state log out ≡ settle state log out (unlessRefused m d)
   by-refused h {r} e = rw (e, ← p) (sym (settle-refused state log out d n h))
 
-  pub by-passed : n ≡ 0 → {a : After} → a ≡ settle state log out d → a ≡ settle state log out (byNumber m d)
+  pub by-passed : n ≡ 0 → {a : After} → a ≡ settle state log out d → a ≡ settle state log out (unlessRefused m d)
   by-passed h {a} e = e ∙ sym (settle-passed state log out d m (sym p ∙ h))
 
 -- ---- once the tests of lent memory are passed

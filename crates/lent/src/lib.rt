@@ -1,11 +1,14 @@
 // What every call of a server has: the tests of lent memory, which come first, the space left in the log, and the answer.
 use model::Answer;
+use model::constants::NO_REFUSAL;
+use model::constants::STATE_SIZE;
+use model::constants::TOO_SHORT;
+use model::constants::UNSOUND;
 ghost use mathlib.Core.Path.{_≡_};
 ghost use Prim.Native.Nat.{_≤_};
 ghost use lib.ListN.{length};
 ghost use Rattle.model.specs.States.{load, stateEnd};
-ghost use Rattle.model.specs.Operations.{answerOf, unfit, freeIn};
-ghost use Rattle.lent.specs.Memory.{lentRefusal};
+ghost use Rattle.model.specs.Operations.{answerOf, unfit, lentRefusal, freeIn};
 
 // ---- lent memory
 
@@ -25,13 +28,13 @@ fn is_unfit(s: &[u8], log: &[u8]) -> bool
 pub fn lent_refusal(s: &[u8], log: &[u8], n: usize, need: usize) -> u32
     ensures { λ r. ⌜ r ≡ lentRefusal (now (s .entry)) (now (log .entry)) n need ⌝ }
 {
-    if (s.len() < state_rows::STATE_SIZE) | (n < need) {
-        return 2;
+    if (s.len() < STATE_SIZE) | (n < need) {
+        return TOO_SHORT;
     }
     if is_unfit(s, log) {
-        return 19;
+        return UNSOUND;
     }
-    0
+    NO_REFUSAL
 }
 
 // The space left in the log.
@@ -50,7 +53,7 @@ pub fn refused(n: u32) -> Answer
     ensures { λ r. ⌜ r ≡ answerOf n 0 ⌝ }
 {
     Answer {
-        number: n,
+        refusal: n,
         wrote: 0,
     }
 }
@@ -60,7 +63,7 @@ pub fn made(n: u32) -> Answer
     ensures { λ r. ⌜ r ≡ answerOf 0 n ⌝ }
 {
     Answer {
-        number: 0,
+        refusal: NO_REFUSAL,
         wrote: n,
     }
 }

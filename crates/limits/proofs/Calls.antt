@@ -16,27 +16,28 @@ use native.Mathlib.Omega.{arith}
 use lib.ListN.{length}
 use lib.Dec.{ltb}
 use borrow.Author.Tests.{ltb-false, not-false}
+use Rattle.model.specs.Versions.{Versions}
 use Rattle.model.specs.declared.Completion.{Completion}
 use Rattle.model.specs.declared.Request.{Request}
 use Rattle.model.specs.declared.Packet.{Packet}
-use Rattle.model.specs.declared.Packet.the-variants.{Malformed, Requested, Resulted, Refused, Receipted, Noticed, Granted}
-use Rattle.model.specs.Choice.{pick, refuse, deny, reply, append, marks}
+use Rattle.model.specs.Choice.{refuse, deny, reply, append, marks, unlessRefused}
 use Rattle.model.specs.Refusals
 use Rattle.model.specs.Numbers.{word}
 use Rattle.model.specs.Limits.{lastServer, stateSize, headSize}
 use Rattle.model.specs.Plan.{planOk, planOf}
-use Rattle.model.specs.Packets.{parsePacket}
+use Rattle.model.specs.Packets.{parsePacket, asRequest, asReceipt, asNotice}
 use Rattle.model.specs.Images.{Image, parseImage}
 use Rattle.model.specs.Tables.{written}
 use Rattle.model.specs.Logs.{LogRecord, recordSize, recordBytes, headBytes}
 use Rattle.model.specs.States.{State, load, sound, stateBytes}
 use Rattle.model.specs.Apply.{applyRecord, founded, withMark}
-use Rattle.model.specs.Decisions.{Decided, find, onHeld, onNew, onId, decideRequest, withPacket, onRequest, onFound, onFetch, onSync, decideNotice, onNotice, onGive, onImage, decideTake, onTake, onReceipt, decideRelease, onRelease}
-use Rattle.model.specs.Operations.{After, answerOf, after, short, unfit, freeIn, stored, settle, lent, foundOf, requestOf, fetchOf, syncOf, noticeOf, giveOf, imageOf, takeOf, receiptOf, releaseOf, recoverOf, settleRecovered, recoveredState}
+use Rattle.model.specs.Decisions.{Decided, orMalformed, find, onHeld, onNew, onId, decideRequest, denying, onRequest, onFetched, onFetch, onSync, decideNotice, onNotice, onGive, onImage, decideTake, onTake, onReceipt, decideRelease, onRelease}
+use Rattle.model.specs.Operations.{After, answerOf, after, short, unfit, freeIn, stored, settle, lentRefusal, lent, leftUnless, foundRefusal, foundOf, requestOf, fetchOf, syncOf, noticeOf, giveOf, imageOf, takeOf, receiptOf, releaseOf, recoverRefusal, recoverOf, settleRecovered, recoveredState}
 use Rattle.laws.specs.Bytes.{Bytes}
 use Rattle.limits.specs.History.{GoodPlan, Decides, byGive}
 use Rattle.limits.specs.Calls.{Only, refuses, denies, replies, appends, sets, Allowed, Operation, request, fetch, sync, notice, give, image, takeIn, receipt, release, decision, output, outputSize, decidedOn, operated, LentBytes, Call, found, operate, recover, left, CallBytes}
 use Rattle.laws.proofs.Tests.{choose}
+use Rattle.laws.proofs.Refused.{unless}
 use Rattle.laws.proofs.Written.{bytes-written}
 use Rattle.laws.proofs.Logs.{head-bytes, record-bytes}
 use Rattle.laws.proofs.States.{state-bytes}
@@ -63,21 +64,21 @@ NoMark : ℕ → Type 0
 NoMark m = ⊥
 
 module _ {A : LogRecord → Type 0} {M : ℕ → Type 0} where
-  or-else : (n : ℕ) (t : Bool) {d : Decided} → Only A M d → Only A M (pick t (refuse n) d)
-  or-else n true h = refuses
-  or-else n false h = h
+  only-unless : (n : ℕ) {d : Decided} → Only A M d → Only A M (unlessRefused n d)
+  only-unless n h = unless (Only A M) n (λ k. refuses) h
 
-  with-packet : (q : Request) {d : Decided} → Only A M d → Only A M (withPacket q d)
-  unfolding withPacket
+  only-kind : {B : Type 0} (o : Option B) {f : B → Decided} → ((x : B) → Only A M (f x)) → Only A M (orMalformed o f)
+  unfolding orMalformed
+  only-kind none h = refuses
+  only-kind (some x) h = h x
+
+  with-packet : (q : Request) {d : Decided} → Only A M d → Only A M (denying q d)
+  unfolding denying
   with-packet q refuses = denies
   with-packet q denies = denies
   with-packet q replies = replies
   with-packet q (appends h) = appends h
   with-packet q (sets h) = sets h
-
-  only-held : (st : State) (q : Request) (r : Completion) → Only A M (onHeld st q r)
-  unfolding onHeld
-  only-held st q r = search (or-else, replies)
 
 any : (r : LogRecord) → AnyRecord r
 unfolding AnyRecord
@@ -87,56 +88,35 @@ any-mark : (m : ℕ) → AnyMark m
 unfolding AnyMark
 any-mark m = tt
 
-ruleset onlys = (or-else, refuses, replies, appends, any)
+only-id : (v : Versions) (st : State) (free : ℕ) (q : Request) (o : Option Completion) → Only AnyRecord NoMark (onId v st free q o)
+unfolding onId onNew onHeld
+only-id v st free q none = only-unless _ (appends (any _))
+only-id v st free q (some r) = only-unless _ replies
 
-only-id : (st : State) (free : ℕ) (q : Request) (o : Option Completion) → Only AnyRecord NoMark (onId st free q o)
-unfolding onId onNew
-only-id st free q none = search onlys
-only-id st free q (some r) = only-held st q r
-
-only-request : (st : State) (free : ℕ) (p : Packet) → Only AnyRecord NoMark (onRequest st free p)
+only-request : (v : Versions) (st : State) (free : ℕ) (p : Packet) → Only AnyRecord NoMark (onRequest v st free p)
 unfolding onRequest decideRequest
-only-request st free Malformed = refuses
-only-request st free (Requested q) = with-packet q (search (onlys, only-id st free q (find (q .client) (q .call) (st .records))) depth 8)
-only-request st free (Resulted r) = refuses
-only-request st free (Refused r) = refuses
-only-request st free (Receipted r) = refuses
-only-request st free (Noticed n) = refuses
-only-request st free (Granted g) = refuses
+only-request v st free p = only-kind (asRequest p) (λ q. with-packet q (only-unless _ (only-id v st free q (find (q .command .client) (q .command .call) (st .records)))))
 
 only-notice : (st : State) (free : ℕ) (p : Packet) → Only AnyRecord NoMark (onNotice st free p)
 unfolding onNotice decideNotice
-only-notice st free Malformed = refuses
-only-notice st free (Requested q) = refuses
-only-notice st free (Resulted r) = refuses
-only-notice st free (Refused r) = refuses
-only-notice st free (Receipted r) = refuses
-only-notice st free (Noticed n) = search onlys
-only-notice st free (Granted g) = refuses
+only-notice st free p = only-kind (asNotice p) (λ n. only-unless _ (appends (any _)))
 
 only-give : (st : State) (free p d : ℕ) → Only AnyRecord NoMark (onGive st free p d)
 unfolding onGive
-only-give st free p d = search onlys depth 8
+only-give st free p d = only-unless _ (appends (any _))
 
 only-take : (st : State) (free : ℕ) (o : Option Image) → Only AnyRecord NoMark (onTake st free o)
 unfolding onTake decideTake
-only-take st free none = refuses
-only-take st free (some i) = search onlys depth 9
+only-take st free o = only-kind o (λ i. only-unless _ (appends (any _)))
 
 only-release : (st : State) (free : ℕ) (p : Packet) → Only AnyRecord NoMark (onRelease st free p)
 unfolding onRelease decideRelease
-only-release st free Malformed = refuses
-only-release st free (Requested q) = refuses
-only-release st free (Resulted r) = refuses
-only-release st free (Refused r) = refuses
-only-release st free (Receipted r) = search onlys depth 6
-only-release st free (Noticed n) = refuses
-only-release st free (Granted g) = refuses
+only-release st free p = only-kind (asReceipt p) (λ r. only-unless _ (appends (any _)))
 
-only-fetch : (st : State) (o : Option Completion) → Only NoRecord NoMark (onFound st o)
-unfolding onFound
+only-fetch : (st : State) (o : Option Completion) → Only NoRecord NoMark (onFetched st o)
+unfolding onFetched
 only-fetch st none = refuses
-only-fetch st (some r) = search (or-else, replies)
+only-fetch st (some r) = only-unless _ replies
 
 fetch-only : (st : State) (x c : ℕ) → Only NoRecord NoMark (onFetch st x c)
 unfolding onFetch
@@ -144,11 +124,11 @@ fetch-only st x c = only-fetch st (find x c (st .records))
 
 only-image : (st : State) (p : ℕ) → Only NoRecord NoMark (onImage st p)
 unfolding onImage
-only-image st p = search (or-else, replies)
+only-image st p = only-unless _ replies
 
 only-receipt : (st : State) (p : ℕ) → Only NoRecord NoMark (onReceipt st p)
 unfolding onReceipt
-only-receipt st p = search (or-else, replies)
+only-receipt st p = only-unless _ replies
 
 -- ---- a decision carried out
 
@@ -184,7 +164,7 @@ quiet-kept state log d (sets k) = absurd k
 
 only-sync : (st : State) (m : ℕ) → Only NoRecord AnyMark (onSync st m)
 unfolding onSync
-only-sync st m = search (or-else, sets, any-mark)
+only-sync st m = only-unless _ (sets (any-mark m))
 
 sync-kept : (state log : List ℕ) (m : ℕ) → Allowed state log (onSync (load state) m)
 unfolding Allowed NoRecord
@@ -202,10 +182,6 @@ sync-kept state log m = go (onSync (load state) m) refl (only-sync (load state) 
 
 -- ---- what a call comes to
 
-long-enough : (s : List ℕ) (n : ℕ) → short s n ≡ false → n ≤ length s
-unfolding short
-long-enough s n e = ltb-false (length s) n e
-
 fit-parts : (state log : List ℕ) → unfit state log ≡ false → (sound state ≡ true) × (load state .size ≤ length log)
 unfolding unfit
 fit-parts state log e = (
@@ -216,14 +192,14 @@ fit-parts state log e = (
 -- 2, 19, or what the operation decides on a sound state with its log
 pub lent-elim : (P : Decided → Type 0) (state log out : List ℕ) (need : ℕ) (d : Decided) → P (refuse Refusals.tooShort) → P (refuse Refusals.unsound)
     → (stateSize ≤ length state → sound state ≡ true → load state .size ≤ length log → P d) → P (lent state log out need d)
-unfolding lent
+unfolding lent lentRefusal short unlessRefused
 lent-elim P state log out need d two nineteen k =
-    choose P (short state stateSize || short out need) (λ e. two)
+    choose (λ (n : ℕ). P (unlessRefused n d)) (ltb (length state) stateSize || ltb (length out) need) (λ e. two)
     (λ e.
-    choose P (unfit state log) (λ f. nineteen)
+    choose (λ (n : ℕ). P (unlessRefused n d)) (unfit state log) (λ f. nineteen)
     (λ f.
     let g = fit-parts state log f in
-    k (long-enough state stateSize (or-left-no (short state stateSize) (short out need) e)) (g .0) (g .1)))
+    k (ltb-false _ _ (or-left-no (ltb (length state) stateSize) (ltb (length out) need) e)) (g .0) (g .1)))
 
 -- 2, 1, or the founding state
 pub found-elim : (P : After → Type 0) (state log plan : List ℕ) (n : ℕ) → Bytes plan → P (after (answerOf Refusals.tooShort 0) state log [])
@@ -231,15 +207,17 @@ pub found-elim : (P : After → Type 0) (state log plan : List ℕ) (n : ℕ) �
     → (stateSize ≤ length state → headSize ≤ length log → GoodPlan (planOf plan) → n ≤ lastServer
     → P (after (answerOf 0 0) (stored state (founded (planOf plan) n)) (written log 0 (headBytes n)) []))
     → P (foundOf state log plan n)
-unfolding foundOf
+unfolding foundOf foundRefusal leftUnless settle
 found-elim P state log plan n b two one k =
-    choose P (short state stateSize || short log headSize) (λ e. two)
+    let a : After = after (answerOf 0 0) (stored state (founded (planOf plan) n)) (written log 0 (headBytes n)) [] in
+    let s : Bool = ltb (length state) stateSize in
+    let l : Bool = ltb (length log) headSize in
+    choose (λ (m : ℕ). P (leftUnless m state log a)) (s || l) (λ e. two)
     (λ e.
-    choose P (not (planOk plan) || ltb lastServer n) (λ f. one)
+    choose (λ (m : ℕ). P (leftUnless m state log a)) (not (planOk plan) || ltb lastServer n) (λ f. one)
     (λ f.
-    k (long-enough state stateSize (or-left-no (short state stateSize) (short log headSize) e))
-    (long-enough log headSize (or-right-no (short state stateSize) (short log headSize) e))
-    (plan-good plan b (not-false _ (or-left-no (not (planOk plan)) (ltb lastServer n) f))) (ltb-false _ _ (or-right-no (not (planOk plan)) (ltb lastServer n) f))))
+    k (ltb-false _ _ (or-left-no s l e)) (ltb-false _ _ (or-right-no s l e)) (plan-good plan b (not-false _ (or-left-no (not (planOk plan)) (ltb lastServer n) f)))
+    (ltb-false _ _ (or-right-no (not (planOk plan)) (ltb lastServer n) f))))
 
 -- 2, 1, 14, or the state that the log gives
 pub recover-elim : (P : After → Type 0) (state log plan : List ℕ) → Bytes plan → P (after (answerOf Refusals.tooShort 0) state log [])
@@ -247,12 +225,13 @@ pub recover-elim : (P : After → Type 0) (state log plan : List ℕ) → Bytes 
     → ((st : State) → stateSize ≤ length state → GoodPlan (planOf plan) → recoveredState (planOf plan) log ≡ some st
     → P (after (answerOf 0 0) (stored state (withMark (st .size) st)) log []))
     → P (recoverOf state log plan)
-unfolding recoverOf settleRecovered
+unfolding recoverOf recoverRefusal leftUnless settle settleRecovered
 recover-elim P state log plan b two one fourteen k =
-    choose P (short state stateSize) (λ e. two)
+    let a : After = settleRecovered state log (recoveredState (planOf plan) log) in
+    choose (λ (m : ℕ). P (leftUnless m state log a)) (ltb (length state) stateSize) (λ e. two)
     (λ e.
-    choose P (not (planOk plan)) (λ f. one)
-    (λ f. go (recoveredState (planOf plan) log) refl (long-enough state stateSize e) (plan-good plan b (not-false _ f))))
+    choose (λ (m : ℕ). P (leftUnless m state log a)) (not (planOk plan)) (λ f. one)
+    (λ f. go (recoveredState (planOf plan) log) refl (ltb-false _ _ e) (plan-good plan b (not-false _ f))))
   where
     go : (o : Option State) → recoveredState (planOf plan) log ≡ o → stateSize ≤ length state → GoodPlan (planOf plan) → P (settleRecovered state log o)
     go none r l g = fourteen
@@ -261,7 +240,7 @@ recover-elim P state log plan b two one fourteen k =
 -- a call of an operation carries out what it decides
 pub operated-is : (o : Operation) (state log out : List ℕ) → operated o state log out ≡ settle state log (output o out) (decidedOn o state log out)
 unfolding operated decidedOn decision output outputSize requestOf fetchOf syncOf noticeOf giveOf imageOf takeOf receiptOf releaseOf
-operated-is (request packet) state log out = refl
+operated-is (request v packet) state log out = refl
 operated-is (fetch client call) state log out = refl
 operated-is (sync mark) state log out = refl
 operated-is (notice packet) state log out = refl
@@ -274,9 +253,9 @@ operated-is (release packet) state log out = refl
 -- it appends what some operation decides, and sets a mark from the present one to the log's length
 pub decision-allowed : (o : Operation) (state log : List ℕ) → LentBytes o → Allowed state log (decision o (load state) (freeIn state log))
 unfolding decision
-decision-allowed (request packet) state log h =
-    only-kept state log (onRequest (load state) (freeIn state log) (parsePacket packet)) (only-request (load state) (freeIn state log) (parsePacket packet))
-    (on-request (load state) (freeIn state log) packet h)
+decision-allowed (request v packet) state log h =
+    only-kept state log (onRequest v (load state) (freeIn state log) (parsePacket packet)) (only-request v (load state) (freeIn state log) (parsePacket packet))
+    (λ r. on-request (load state) (freeIn state log) packet h r v)
 decision-allowed (fetch client call) state log h = quiet-kept state log (onFetch (load state) client call) (fetch-only (load state) client call)
 decision-allowed (sync mark) state log h = sync-kept state log mark
 decision-allowed (notice packet) state log h =
@@ -298,7 +277,7 @@ decision-allowed (release packet) state log h =
 
 -- a call was not refused, or the buffer was sound before it
 abbrev Begun : After → List ℕ → Type 0
-Begun a state = (a .answer .number ≡ 0) ⊎ (sound state ≡ true)
+Begun a state = (a .answer .refusal ≡ 0) ⊎ (sound state ≡ true)
 
 refused : (state : List ℕ) (n : ℕ) → (n ≡ 0 → ⊥) → (n ≡ 0) ⊎ (sound state ≡ true) → sound state ≡ true
 refused state n h (inl e) = absurd (h e)
@@ -322,7 +301,7 @@ begun-sound (recover plan) state log out b c z h =
 
 -- every call not refused leaves it sound
 pub call-sound : (c : Call) (state log out : List ℕ) → Bytes state → Bytes log → length log < word * word → CallBytes c
-    → left c state log out .answer .number ≡ 0 → sound (left c state log out .state) ≡ true
+    → left c state log out .answer .refusal ≡ 0 → sound (left c state log out .state) ≡ true
 call-sound c state log out b k z h e = begun-sound c state log out b k z h (inl e)
 
 -- a call on a sound buffer leaves a sound buffer, refused or not

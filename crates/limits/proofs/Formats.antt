@@ -14,24 +14,24 @@ use mathlib.Core.Option.{Option, none, some}
 use native.Mathlib.Omega.{arith}
 use lib.Dec.{leb}
 use borrow.Author.Tests.{leb-true, le-leb}
+use Rattle.model.specs.Versions.{Versions}
 use Rattle.model.specs.declared.Executed.{Executed}
 use Rattle.model.specs.declared.Request.{Request}
 use Rattle.model.specs.declared.Notice.{Notice}
 use Rattle.model.specs.declared.Receipt.{Receipt}
-use Rattle.model.specs.declared.Packet.{Packet}
-use Rattle.model.specs.declared.Packet.the-variants.{Malformed, Requested, Resulted, Refused, Receipted, Noticed, Granted}
+use Rattle.model.specs.declared.Packet.the-variants.{Requested, Receipted, Noticed}
 use Rattle.model.specs.Choice.{refuse, deny, reply, append, marks}
 use Rattle.model.specs.Numbers.{word}
 use Rattle.model.specs.Limits.{lastPoint, lastServer}
-use Rattle.model.specs.Packets.{noticeOk, receiptOk, parsePacket}
+use Rattle.model.specs.Packets.{noticeOk, receiptOk, parsePacket, asRequest, asReceipt, asNotice}
 use Rattle.model.specs.Images.{Image, parseImage, imageBytes}
 use Rattle.model.specs.Logs.{LogRecord, executed, gone, gave, took, released, giveOk, releaseOk, Entry}
 use Rattle.model.specs.States.{State}
-use Rattle.model.specs.Decisions.{imageFor, Decided, decideRequest, withPacket, onRequest, onNotice, onTake, onRelease}
+use Rattle.model.specs.Decisions.{imageFor, Decided, orMalformed, decideRequest, denying, onRequest, decideNotice, onNotice, onTake, decideRelease, onRelease}
 use Rattle.laws.specs.Bytes.{Bytes}
 use Rattle.laws.specs.Fits.{RequestFits, NoticeFits, IsPacket, ExecutedFits, recordFits, recordOk, EntriesFrom, lastEnd}
 use Rattle.laws.proofs.Tests.{and-left, and-both}
-use Rattle.laws.proofs.Packets.{packet-is}
+use Rattle.laws.proofs.Packets.{packet-is, request-of, receipt-of, notice-of}
 use Rattle.laws.proofs.Images.{image-is, image-back}
 use Rattle.limits.specs.Sound.{Sound, GoodImage, GoodRequest, GoodExecuted, GoodNotice, GoodRecord}
 use Rattle.limits.specs.History.{Decides, byRequest, byNotice, byTake, byRelease, Chained}
@@ -47,15 +47,15 @@ good-record (executed x) h f = record { ok = h; client = f .client; call = f .ca
 good-record (gone n) h f = record { ok = leb-true _ _ h; client = f .client; time = f .time }
 good-record (gave g) h f =
     let a = split (leb (g .point) lastPoint) (leb (g .destination) lastServer) h in
-    record { point = leb-true _ _ (a .0); destination = leb-true _ _ (a .1); number = f .number }
+    record { point = leb-true _ _ (a .0); destination = leb-true _ _ (a .1); moveNumber = f .moveNumber }
 good-record (took i) h f = image-of i h f
-good-record (released r) h f = record { point = leb-true _ _ h; number = f .number }
+good-record (released r) h f = record { point = leb-true _ _ h; moveNumber = f .moveNumber }
 
 executed-fits : (x : Executed) → GoodExecuted x → ExecutedFits x
 executed-fits x g =
     let t = tested x (g .ok) in
-    let c = command-fits (x .op) (x .point) (x .argument) (t .command) in
-    let o = outcome-fits (x .outcome) (x .quality) (t .outcome) in
+    let c = command-fits (x .command .op) (x .command .point) (x .command .argument) (t .command) in
+    let o = outcome-fits (x .result .outcome) (x .result .quality) (t .outcome) in
     record {
       op = omega (arith, c .op);
       point = omega (arith, c .point);
@@ -74,10 +74,10 @@ record-good (executed x) g = (g .ok, executed-fits x g)
 record-good (gone n) g = (le-leb _ _ (g .ok), record { client = g .client; time = g .time })
 record-good (gave x) g = (
   and-both (leb (x .point) lastPoint) (leb (x .destination) lastServer) (le-leb _ _ (g .point)) (le-leb _ _ (g .destination)),
-  record { point = omega (arith, g .point); destination = omega (arith, g .destination); number = g .number },
+  record { point = omega (arith, g .point); destination = omega (arith, g .destination); moveNumber = g .moveNumber },
 )
 record-good (took i) g = (image-well i g, image-fits i g)
-record-good (released r) g = (le-leb _ _ (g .point), record { point = omega (arith, g .point); number = g .number })
+record-good (released r) g = (le-leb _ _ (g .point), record { point = omega (arith, g .point); moveNumber = g .moveNumber })
 
 -- ---- packets and images
 
@@ -112,8 +112,8 @@ image-read st p S l = let G = image-good st p S l .0 in image-back (imageFor st 
 never : {X : Type 0} (n : ℕ) (r : LogRecord) → _≡_ {A = Decided} (refuse n) (append r) → X
 never n r e = let z : _≡_ {A = ℕ} 0 1 = cc in absurd (omega arith)
 
-packet-append : (q : Request) (d : Decided) (r : LogRecord) → withPacket q d ≡ append r → d ≡ append r
-unfolding withPacket
+packet-append : (q : Request) (d : Decided) (r : LogRecord) → denying q d ≡ append r → d ≡ append r
+unfolding denying
 packet-append q (refuse n) r e = let z : _≡_ {A = ℕ} 0 1 = cc in absurd (omega arith)
 packet-append q (deny n b) r e = let z : _≡_ {A = ℕ} 0 1 = cc in absurd (omega arith)
 packet-append q (reply b) r e = let z : _≡_ {A = ℕ} 0 1 = cc in absurd (omega arith)
@@ -121,34 +121,24 @@ packet-append q (append x) r e = e
 packet-append q (marks m) r e = let z : _≡_ {A = ℕ} 0 1 = cc in absurd (omega arith)
 
 module _ (st : State) (free : ℕ) (b : List ℕ) (h : Bytes b) (r : LogRecord) where
-  pub on-request : onRequest st free (parsePacket b) ≡ append r → Decides st free r
-  unfolding onRequest
-  on-request e = go (parsePacket b) refl e
+  pub on-request : (v : Versions) → onRequest v st free (parsePacket b) ≡ append r → Decides st free r
+  unfolding onRequest orMalformed
+  on-request v e = go (asRequest (parsePacket b)) refl e
     where
-      go : (p : Packet) → parsePacket b ≡ p → onRequest st free p ≡ append r → Decides st free r
-      go Malformed q k = never _ r k
-      go (Requested x) q k = byRequest x (parsed-request b x h q) (packet-append x (decideRequest st free x) r k)
-      go (Resulted x) q k = never _ r k
-      go (Refused x) q k = never _ r k
-      go (Receipted x) q k = never _ r k
-      go (Noticed x) q k = never _ r k
-      go (Granted x) q k = never _ r k
+      go : (o : Option Request) → asRequest (parsePacket b) ≡ o → orMalformed o (λ q. denying q (decideRequest v st free q)) ≡ append r → Decides st free r
+      go none q k = never _ r k
+      go (some x) q k = byRequest v x (parsed-request b x h (request-of (parsePacket b) x q)) (packet-append x (decideRequest v st free x) r k)
 
   pub on-notice : onNotice st free (parsePacket b) ≡ append r → Decides st free r
-  unfolding onNotice
-  on-notice e = go (parsePacket b) refl e
+  unfolding onNotice orMalformed
+  on-notice e = go (asNotice (parsePacket b)) refl e
     where
-      go : (p : Packet) → parsePacket b ≡ p → onNotice st free p ≡ append r → Decides st free r
-      go Malformed q k = never _ r k
-      go (Requested x) q k = never _ r k
-      go (Resulted x) q k = never _ r k
-      go (Refused x) q k = never _ r k
-      go (Receipted x) q k = never _ r k
-      go (Noticed x) q k = byNotice x (parsed-notice b x h q) k
-      go (Granted x) q k = never _ r k
+      go : (o : Option Notice) → asNotice (parsePacket b) ≡ o → orMalformed o (decideNotice st free) ≡ append r → Decides st free r
+      go none q k = never _ r k
+      go (some x) q k = byNotice x (parsed-notice b x h (notice-of (parsePacket b) x q)) k
 
   pub on-take : onTake st free (parseImage b) ≡ append r → Decides st free r
-  unfolding onTake
+  unfolding onTake orMalformed
   on-take e = go (parseImage b) refl e
     where
       go : (o : Option Image) → parseImage b ≡ o → onTake st free o ≡ append r → Decides st free r
@@ -156,17 +146,12 @@ module _ (st : State) (free : ℕ) (b : List ℕ) (h : Bytes b) (r : LogRecord) 
       go (some i) q k = byTake i (parsed-image b i h q) k
 
   pub on-release : onRelease st free (parsePacket b) ≡ append r → Decides st free r
-  unfolding onRelease
-  on-release e = go (parsePacket b) refl e
+  unfolding onRelease orMalformed
+  on-release e = go (asReceipt (parsePacket b)) refl e
     where
-      go : (p : Packet) → parsePacket b ≡ p → onRelease st free p ≡ append r → Decides st free r
-      go Malformed q k = never _ r k
-      go (Requested x) q k = never _ r k
-      go (Resulted x) q k = never _ r k
-      go (Refused x) q k = never _ r k
-      go (Receipted x) q k = byRelease (x .point) (x .number) (parsed-receipt b x h q) k
-      go (Noticed x) q k = never _ r k
-      go (Granted x) q k = never _ r k
+      go : (o : Option Receipt) → asReceipt (parsePacket b) ≡ o → orMalformed o (λ x. decideRelease st free (x .point) (x .moveNumber)) ≡ append r → Decides st free r
+      go none q k = never _ r k
+      go (some x) q k = byRelease (x .point) (x .moveNumber) (parsed-receipt b x h (receipt-of (parsePacket b) x q)) k
 
 -- ---- entries of a log
 

@@ -119,7 +119,7 @@ pub good-image-entry : (p : ℕ) (fs : List Floor) (e : ImageEntry) → imageEnt
 unfolding imageEntryOk idOk
 good-image-entry p fs e h f =
     let c = commandOk (e .op) p (e .argument) in
-    let o = outcomeOk (e .outcome) (e .quality) in
+    let o = outcomeOk (e .result .outcome) (e .result .quality) in
     let i = leb 1 (e .client) && leb 1 (e .call) in
     let w = inWindow (floorOf (e .client) fs) (e .call) in
     let k1 = split c (o && (i && w)) h in
@@ -141,7 +141,7 @@ pub image-entry-good : (p : ℕ) (fs : List Floor) (e : ImageEntry) → GoodImag
 unfolding imageEntryOk idOk
 image-entry-good p fs e g =
     let c = commandOk (e .op) p (e .argument) in
-    let o = outcomeOk (e .outcome) (e .quality) in
+    let o = outcomeOk (e .result .outcome) (e .result .quality) in
     let i = leb 1 (e .client) && leb 1 (e .call) in
     let w = inWindow (floorOf (e .client) fs) (e .call) in
     and-both c (o && (i && w)) (g .command)
@@ -152,7 +152,7 @@ image-entry-good p fs e g =
 pub image-entry-fits : (p : ℕ) (fs : List Floor) (e : ImageEntry) → GoodImageEntry p fs e → ImageEntryFits e
 image-entry-fits p fs e g =
     let c = command-fits (e .op) p (e .argument) (g .command) in
-    let o = outcome-fits (e .outcome) (e .quality) (g .outcome) in
+    let o = outcome-fits (e .result .outcome) (e .result .quality) (g .outcome) in
     record {
       client = g .client-fits;
       call = g .call-fits;
@@ -213,7 +213,7 @@ image-of i h F =
       destination = H .destination;
       source = H .source;
       quality = H .quality;
-      number = F .number;
+      moveNumber = F .moveNumber;
       heard = F .heard;
       value = F .value;
       clients = H .clients;
@@ -263,7 +263,7 @@ image-fits i G =
       point = omega (arith, G .point);
       destination = omega (arith, G .destination);
       source = omega (arith, G .source);
-      number = G .number;
+      moveNumber = G .moveNumber;
       heard = G .heard;
       value = G .value;
       quality = omega (arith, G .quality);
@@ -328,19 +328,19 @@ unfolding entryOfRecord
 entries-distinct [] d = tt
 entries-distinct (r ∷ rs) d = (all-image (OtherEntry (entryOfRecord r)) entryOfRecord rs (d .0), entries-distinct rs (d .1))
 
-on-point : (p : ℕ) (r : Completion) → isOnPoint p r ≡ true → r .point ≡ p
+on-point : (p : ℕ) (r : Completion) → isOnPoint p r ≡ true → r .command .point ≡ p
 unfolding isOnPoint
 on-point p r e = eqb-true _ _ e
 
 entry-of : (st : State) (p : ℕ) → GoodEntry (entryAt (st .plan) p) → (r : Completion) → GoodCompletion (st .plan) (st .size) r × Windowed (st .floors) r
-    → isOnPoint p r ≡ true → GoodImageEntry p (st .floors) (entryOfRecord r) × Ranged (entryAt (st .plan) p) (r .value)
+    → isOnPoint p r ≡ true → GoodImageEntry p (st .floors) (entryOfRecord r) × Ranged (entryAt (st .plan) p) (r .result .value)
 unfolding entryOfRecord
 entry-of st p E r k t =
-    let s : r .point ≡ p = on-point p r t in
+    let s : r .command .point ≡ p = on-point p r t in
     let g = k .0 in
-    let v : Ranged (entryAt (st .plan) p) (r .value) = subst (λ (q : ℕ). Ranged (entryAt (st .plan) q) (r .value)) s (g .value) in (
+    let v : Ranged (entryAt (st .plan) p) (r .result .value) = subst (λ (q : ℕ). Ranged (entryAt (st .plan) q) (r .result .value)) s (g .value) in (
       record {
-        command = subst (λ (q : ℕ). commandOk (r .op) q (r .argument) ≡ true) s (g .command);
+        command = subst (λ (q : ℕ). commandOk (r .command .op) q (r .command .argument) ≡ true) s (g .command);
         outcome = g .outcome;
         client = g .client;
         call = g .call;
@@ -360,23 +360,23 @@ image-good st p S l =
     let t : Completion → Bool = isOnPoint p in
     let rs : List Completion = keep t (st .records) in
     let es : List ImageEntry = map entryOfRecord rs in
-    let both : All (λ (r : Completion). GoodImageEntry p (st .floors) (entryOfRecord r) × Ranged (entryAt (st .plan) p) (r .value)) rs
+    let both : All (λ (r : Completion). GoodImageEntry p (st .floors) (entryOfRecord r) × Ranged (entryAt (st .plan) p) (r .result .value)) rs
     = all-with rs (entry-of st p E)
     (all-keep (λ (r : Completion). GoodCompletion (st .plan) (st .size) r × Windowed (st .floors) r) t (st .records)
     (all-with (st .records) (λ (r : Completion) (g : GoodCompletion (st .plan) (st .size) r) (w : Windowed (st .floors) r). (g, w)) (S .records) (S .windows)))
     (keep-passes t (st .records)) in
     let good : All (GoodImageEntry p (st .floors)) es
     = all-image (GoodImageEntry p (st .floors)) entryOfRecord rs
-    (all-to rs (λ (r : Completion) (k : GoodImageEntry p (st .floors) (entryOfRecord r) × Ranged (entryAt (st .plan) p) (r .value)). k .0) both) in
-    let ranged : All (λ (e : ImageEntry). Ranged (entryAt (st .plan) p) (e .value)) es
-    = all-image (λ (e : ImageEntry). Ranged (entryAt (st .plan) p) (e .value)) entryOfRecord rs
-    (all-to rs (λ (r : Completion) (k : GoodImageEntry p (st .floors) (entryOfRecord r) × Ranged (entryAt (st .plan) p) (r .value)). k .1) both) in (
+    (all-to rs (λ (r : Completion) (k : GoodImageEntry p (st .floors) (entryOfRecord r) × Ranged (entryAt (st .plan) p) (r .result .value)). k .0) both) in
+    let ranged : All (λ (e : ImageEntry). Ranged (entryAt (st .plan) p) (e .result .value)) es
+    = all-image (λ (e : ImageEntry). Ranged (entryAt (st .plan) p) (e .result .value)) entryOfRecord rs
+    (all-to rs (λ (r : Completion) (k : GoodImageEntry p (st .floors) (entryOfRecord r) × Ranged (entryAt (st .plan) p) (r .result .value)). k .1) both) in (
       record {
         point = l;
         destination = P .destination;
         source = S .server;
         quality = P .quality;
-        number = P .number;
+        moveNumber = P .moveNumber;
         heard = S .heard;
         value = omega (arith, P .value .high, E .fits);
         clients = S .clients;
@@ -386,5 +386,5 @@ image-good st p S l =
         entries = sort-all (GoodImageEntry p (st .floors)) es good;
         ids = sort-ascending es (entries-distinct rs (distinct-keep t (st .records) (S .ids)));
       },
-      record { value = P .value; values = sort-all (λ (e : ImageEntry). Ranged (entryAt (st .plan) p) (e .value)) es ranged },
+      record { value = P .value; values = sort-all (λ (e : ImageEntry). Ranged (entryAt (st .plan) p) (e .result .value)) es ranged },
     )

@@ -10,73 +10,95 @@
 -- Assumes nothing.
 use Prim.Native.Nat.{ℕ, zero, suc, _+_, _*_, _≤_, _<_}
 use mathlib.Core.Path.{_≡_, refl, sym, ap, _∙_}
-use mathlib.Core.Bool.{Bool, true, false, _&&_, false≢true}
+use mathlib.Core.Bool.{Bool, true, false, _&&_, not, false≢true}
 use mathlib.Core.List.{List, [], _∷_, map}
+use mathlib.Core.Option.{Option, none, some}
 use mathlib.Core.Logic.{_≢_}
 use native.Mathlib.Omega.{arith}
 use lib.ListN.{length, getD, length-map}
-use lib.Dec.{eqb, leb}
-use borrow.Author.Tests.{eqb-true, leb-true}
+use lib.Dec.{eqb}
+use borrow.Author.Tests.{eqb-true, not-true}
+use Rattle.model.specs.Versions.{Versions}
 use Rattle.model.specs.declared.PlanEntry.{PlanEntry}
 use Rattle.model.specs.declared.Executed.{Executed}
 use Rattle.model.specs.declared.Request.{Request}
 use Rattle.model.specs.declared.Give.{Give}
 use Rattle.model.specs.declared.Release.{Release}
-use Rattle.model.specs.Choice.{pick, refuse, deny, reply, append, marks}
+use Rattle.model.specs.declared.Completion.{Completion}
+use Rattle.model.specs.Choice.{pick, append, marks, isPassed}
 use Rattle.model.specs.Numbers.{word}
-use Rattle.model.specs.Limits.{lastPoint, lastServer, lastOp, executedSize, goneSize, giveSize, takeHead, releaseSize}
+use Rattle.model.specs.Limits.{lastPoint, lastServer, executedSize, goneSize, giveSize, takeHead, releaseSize}
 use Rattle.model.specs.Plan.{entryAt, noEntry, inRange}
 use Rattle.model.specs.Rules.{argumentOk}
 use Rattle.model.specs.Packets.{commandOk, outcomeOk, idOk, doneOk, requestOk}
-use Rattle.model.specs.Images.{Image, imageLength}
+use Rattle.model.specs.Images.{Image, imageLength, floorOf}
 use Rattle.model.specs.Logs.{LogRecord, executed, gone, gave, took, released, recordSize, executedOk}
 use Rattle.model.specs.States
 use Rattle.model.specs.States.{State, pointAt, noPoint}
 use Rattle.model.specs.Apply.{applyRecord, applyExecuted, applyGone, applyGave, applyTook, applyReleased, foundedPoint, founded, withMark}
-use Rattle.model.specs.Decisions.{Decided, resultFor, executedFor, decideRequest, decideNotice, onGive, decideTake, decideRelease, onSync, appends, requestBehind, follows}
+use Rattle.model.specs.Decisions.{find, requestRefusal, newRefusal, resultFor, executedFor, decideRequest, decideNotice, placesBad, giveRefusal, onGive, takeTests, decideTake, releaseRefusal, decideRelease, onSync, isNone, follows}
 use Rattle.laws.specs.Bytes.{All}
 use Rattle.laws.proofs.Tests.{and-both}
+use Rattle.laws.proofs.Commands.{command-parts}
 use Rattle.command.specs.Results.{ResultOk}
 use Rattle.command.proofs.Range.{rule-in-range}
 use Rattle.limits.specs.Sound.{GoodEntry, Ranged, GoodPoint, Sound, GoodRequest, GoodExecuted, GoodRecord}
 use Rattle.limits.specs.Passed.{PassedRequest, PassedGive, PassedTake, PassedRelease}
 use Rattle.limits.specs.History.{GoodPlan, Decides, byRequest, byNotice, byGive, byTake, byRelease}
-use Rattle.limits.proofs.Floors.{eqb-same}
+use Rattle.limits.proofs.Floors.{eqb-same, eqb-no}
 use Rattle.limits.proofs.Tests.{sound-entry, split, entry-good, in-range, range-in}
 use Rattle.limits.proofs.Steps.{sound-executed, sound-gone, sound-gave, sound-took, sound-released, sound-mark}
-use Rattle.limits.proofs.Decided.{request-passed, request-terms, request-appends, notice-passed, notice-space, notice-appends, give-passed, give-space, give-appends, take-passed, take-space, take-appends, release-passed, release-space, release-appends, sync-passed}
+use Rattle.limits.proofs.Decided.{find-fresh, fresh-find, request-tests, tests-request, new-tests, tests-new, notice-tests, tests-notice, give-tests, tests-give, take-tests, tests-take, release-tests, tests-release, request-passed, request-terms, request-appends, notice-passed, give-passed, take-passed, release-passed, sync-passed}
 
 -- ---- founding
 
 founded-point : (n : ℕ) (e : PlanEntry) → GoodEntry e → GoodPoint n 8 e (foundedPoint n e)
 unfolding foundedPoint
-founded-point n e g = go (eqb (e .home) n)
+founded-point n e g = go (eqb (e .home) n) refl
   where
-    go : (b : Bool)
-        → GoodPoint n 8 e (record { status = pick b States.held States.absent; quality = 1; destination = 0; value = e .fallback; number = 0; taken = 0; gave = 0; took = 0 })
-    go b =
+    go : (b : Bool) → eqb (e .home) n ≡ b
+        → GoodPoint n 8 e (record { status = pick b States.held States.absent; quality = 1; destination = 0; value = e .fallback; moveNumber = 0; takenMove = 0; giveEnd = 0; takeEnd = 0 })
+    go b h =
         let l : pick b 1 0 < 2 = small b in
         record {
           status = omega arith;
           quality = omega arith;
           destination = omega arith;
           value = record { low = g .low; high = g .high };
-          gave = record { past = λ (k : _≢_ {A = ℕ} 0 0). absurd (k refl); within = omega arith };
-          took = record { past = λ (k : _≢_ {A = ℕ} 0 0). absurd (k refl); within = omega arith };
-          moved = λ (k : 2 ≤ pick b 1 0). absurd (omega arith);
-          away = λ (k : 2 ≤ pick b 1 0). absurd (omega arith);
-          ended = λ (k : 2 ≤ pick b 1 0). absurd (omega arith);
-          stays = λ (k : pick b 1 0 < 2). refl;
-          unended = λ (k : pick b 1 0 < 2). refl;
-          taken = omega arith;
-          untaken = λ (k : _≡_ {A = ℕ} 0 0). refl;
-          takenAt = λ (k : _≢_ {A = ℕ} 0 0). absurd (k refl);
-          number = omega arith;
+          giveEnd = record { past = λ (k : _≢_ {A = ℕ} 0 0). absurd (k refl); within = omega arith };
+          takeEnd = record { past = λ (k : _≢_ {A = ℕ} 0 0). absurd (k refl); within = omega arith };
+          standing =
+              record {
+                absent = λ (k : _≡_ {A = ℕ} (pick b 1 0) 0). record { home = elsewhere b h k; value = refl; quality = refl; moveNumber = refl; takenMove = refl; takeEnd = refl };
+                held = λ (k : _≡_ {A = ℕ} (pick b 1 0) 1). refl;
+                given = λ (k : 2 ≤ pick b 1 0). absurd (omega arith);
+                away = λ (k : 2 ≤ pick b 1 0). absurd (omega arith);
+                ended = λ (k : 2 ≤ pick b 1 0). absurd (omega arith);
+                stays = λ (k : pick b 1 0 < 2). refl;
+                unended = λ (k : pick b 1 0 < 2). refl;
+                origin =
+                    λ (k : 1 ≤ pick b 1 0).
+                    record {
+                      founded = λ (z : _≡_ {A = ℕ} 0 0). here b h k;
+                      untaken = λ (z : _≡_ {A = ℕ} 0 0). refl;
+                      takenAt = λ (z : _≢_ {A = ℕ} 0 0). absurd (z refl);
+                    };
+              };
+          takenMove = omega arith;
+          moveNumber = omega arith;
         }
       where
         small : (b : Bool) → pick b 1 0 < 2
         small true = omega arith
         small false = omega arith
+
+        here : (b : Bool) → eqb (e .home) n ≡ b → 1 ≤ pick b 1 0 → e .home ≡ n
+        here true h k = eqb-true _ _ h
+        here false h k = absurd (omega arith)
+
+        elsewhere : (b : Bool) → eqb (e .home) n ≡ b → _≡_ {A = ℕ} (pick b 1 0) 0 → e .home ≢ n
+        elsewhere true h k = absurd (omega arith)
+        elsewhere false h k = eqb-no _ _ h
 
 founded-points : (n : ℕ) (es : List PlanEntry) → All GoodEntry es → (p : ℕ) → p < length es
     → GoodPoint n 8 (getD es p noEntry) (getD (map (foundedPoint n) es) p noPoint)
@@ -103,57 +125,60 @@ founded-sound plan n g h =
       count = omega arith;
       records = tt;
       windows = tt;
+      kept = tt;
       ids = tt;
+      arrived = tt;
     }
 
 -- ---- what follows a state
 
-appended : (d : Decided) → appends d ≡ true → (r : LogRecord) × (d ≡ append r)
-unfolding appends
-appended (refuse n) e = absurd (false≢true e)
-appended (deny n b) e = absurd (false≢true e)
-appended (reply b) e = absurd (false≢true e)
-appended (append r) e = (r, refl)
-appended (marks m) e = absurd (false≢true e)
+-- a passed test's number is 0
+is-zero : (n : ℕ) → isPassed n ≡ true → n ≡ 0
+is-zero n e = eqb-true n 0 e
 
-does-append : (d : Decided) (r : LogRecord) → d ≡ append r → appends d ≡ true
-unfolding appends
-does-append d r e = rw e
+none-is : (o : Option Completion) → isNone o ≡ true → o ≡ none
+unfolding isNone
+none-is none e = refl
+none-is (some r) e = absurd (false≢true e)
 
 pub executed-follows : (st : State) (x : Executed) → follows st (executed x) ≡ true
-    → PassedRequest st (x .client) (x .call) (x .point) × Ranged (entryAt (st .plan) (x .point)) (x .value)
-unfolding follows requestBehind
+    → PassedRequest st (x .command .client) (x .command .call) (x .command .point) × Ranged (entryAt (st .plan) (x .command .point)) (x .result .value)
+unfolding follows
 executed-follows st x h =
-    let q = requestBehind st x in
-    let k = split (appends (decideRequest st executedSize q)) (inRange (entryAt (st .plan) (x .point)) (x .value)) h in
-    let a = appended (decideRequest st executedSize q) (k .0) in
-    let p = request-passed st executedSize q (a .0) (a .1) in
-    (p .0, in-range (entryAt (st .plan) (x .point)) (x .value) (k .1))
+    let f : ℕ = floorOf (x .command .client) (st .floors) in
+    let first : ℕ = requestRefusal (pointAt st (x .command .point)) false f (x .command .call) in
+    let second : ℕ = newRefusal f (length (st .floors)) executedSize in
+    let free : Bool = isNone (find (x .command .client) (x .command .call) (st .records)) in
+    let ranged : Bool = inRange (entryAt (st .plan) (x .command .point)) (x .result .value) in
+    let k = split (isPassed first) (free && (isPassed second && ranged)) h in
+    let l = split free (isPassed second && ranged) (k .1) in
+    let m = split (isPassed second) ranged (l .1) in
+    let a = request-tests (pointAt st (x .command .point)) false f (x .command .call) (is-zero first (k .0)) in
+    let n = find-fresh (x .command .client) (x .command .call) (st .records) (none-is (find (x .command .client) (x .command .call) (st .records)) (l .0)) in
+    let p = new-tests f (length (st .floors)) executedSize (is-zero second (m .0)) in
+    (record { held = a .0; over = a .2; fresh = n; place = p .0 }, in-range (entryAt (st .plan) (x .command .point)) (x .result .value) (m .1))
 
 pub gave-follows : (st : State) (g : Give) → follows st (gave g) ≡ true
-    → PassedGive st (g .point) (g .destination) × (g .number ≡ suc (pointAt st (g .point) .number))
+    → PassedGive st (g .point) (g .destination) × (g .moveNumber ≡ suc (pointAt st (g .point) .moveNumber))
 unfolding follows
 gave-follows st g h =
-    let d = onGive st giveSize (g .point) (g .destination) in
-    let k = split (appends d) (eqb (g .number) (suc (pointAt st (g .point) .number))) h in
-    let a = appended d (k .0) in
-    (give-passed st giveSize (g .point) (g .destination) (a .0) (a .1) .0, eqb-true _ _ (k .1))
+    let n : ℕ = giveRefusal (pointAt st (g .point)) (st .server) giveSize (g .destination) in
+    let e : Bool = eqb (g .moveNumber) (suc (pointAt st (g .point) .moveNumber)) in
+    let k = split (not (placesBad (g .point) (g .destination))) (isPassed n && e) h in
+    let l = split (isPassed n) e (k .1) in
+    (give-tests st giveSize (g .point) (g .destination) (not-true _ (k .0)) (is-zero n (l .0)) .0, eqb-true _ _ (l .1))
 
 pub took-follows : (st : State) (i : Image) → follows st (took i) ≡ true → PassedTake st i
 unfolding follows
-took-follows st i h =
-    let d = decideTake st (takeHead + imageLength i) i in
-    let a = appended d h in
-    take-passed st (takeHead + imageLength i) i (a .0) (a .1) .0
+took-follows st i h = take-tests st (takeHead + imageLength i) i (is-zero _ h) .0
 
 pub released-follows : (st : State) (r : Release) → follows st (released r) ≡ true
-    → PassedRelease st (r .point) (r .number) × (r .number ≡ pointAt st (r .point) .number)
+    → PassedRelease st (r .point) (r .moveNumber) × (r .moveNumber ≡ pointAt st (r .point) .moveNumber)
 unfolding follows
 released-follows st r h =
-    let d = decideRelease st releaseSize (r .point) (r .number) in
-    let k = split (appends d) (eqb (r .number) (pointAt st (r .point) .number)) h in
-    let a = appended d (k .0) in
-    (release-passed st releaseSize (r .point) (r .number) (a .0) (a .1) .0, eqb-true _ _ (k .1))
+    let n : ℕ = releaseRefusal (pointAt st (r .point)) releaseSize (r .moveNumber) in
+    let k = split (isPassed n) (eqb (r .moveNumber) (pointAt st (r .point) .moveNumber)) h in
+    (release-tests st releaseSize (r .point) (r .moveNumber) (is-zero n (k .0)) .0, eqb-true _ _ (k .1))
 
 pub follows-sound : (st : State) (r : LogRecord) → Sound st → GoodRecord r → follows st r ≡ true → st .size + recordSize r < word * word
     → Sound (applyRecord r (st .size + recordSize r) st)
@@ -162,90 +187,84 @@ follows-sound st (executed x) S G h z = let k = executed-follows st x h in sound
 follows-sound st (gone n) S G h z = sound-gone st n S G z
 follows-sound st (gave g) S G h z = let k = gave-follows st g h in sound-gave st g S G (k .0) (k .1) z
 follows-sound st (took i) S G h z = sound-took st i S G (took-follows st i h) z
-follows-sound st (released r) S G h z = let k = released-follows st r h in sound-released st r S (r .number) (k .0) z
+follows-sound st (released r) S G h z = let k = released-follows st r h in sound-released st r S (r .moveNumber) (k .0) z
 
 -- ---- what an operation decides
 
 -- the parts of a request's test
 record Asked (q : Request) : Type 0 where
-  command : commandOk (q .op) (q .point) (q .argument) ≡ true
-  ids : (idOk (q .client) (q .call) && doneOk (q .done) (q .call)) ≡ true
-  point : q .point ≤ lastPoint
-  argument : argumentOk (q .op) (q .argument) ≡ true
+  command : commandOk (q .command .op) (q .command .point) (q .command .argument) ≡ true
+  ids : (idOk (q .command .client) (q .command .call) && doneOk (q .done) (q .command .call)) ≡ true
+  point : q .command .point ≤ lastPoint
+  argument : argumentOk (q .command .op) (q .command .argument) ≡ true
 
 asked : (q : Request) → requestOk q ≡ true → Asked q
-unfolding requestOk commandOk
+unfolding requestOk
 asked q h =
-    let o = leb (q .op) lastOp in
-    let p = leb (q .point) lastPoint in
-    let a = argumentOk (q .op) (q .argument) in
-    let k = split (o && (p && a)) (idOk (q .client) (q .call) && doneOk (q .done) (q .call)) h in
-    let l = split o (p && a) (k .0) in
-    let m = split p a (l .1) in
-    record { command = k .0; ids = k .1; point = leb-true _ _ (m .0); argument = m .1 }
+    let k = split (commandOk (q .command .op) (q .command .point) (q .command .argument)) (idOk (q .command .client) (q .command .call) && doneOk (q .done) (q .command .call)) h in
+    let c = command-parts (q .command .op) (q .command .point) (q .command .argument) (k .0) in
+    record { command = k .0; ids = k .1; point = c .point; argument = c .ranged }
 
-pub result-good : (st : State) (q : Request) → Sound st → GoodRequest q → ResultOk (entryAt (st .plan) (q .point)) (resultFor st q)
+pub result-good : (v : Versions) (st : State) (q : Request) → Sound st → GoodRequest q → ResultOk (entryAt (st .plan) (q .command .point)) (resultFor v st q)
 unfolding resultFor
-result-good st q S G =
+result-good v st q S G =
     let A = asked q (G .ok) in
-    let x = pointAt st (q .point) in
-    let e = entryAt (st .plan) (q .point) in
-    let P : GoodPoint (st .server) (st .size) e x = S .point (q .point) (A .point) in
-    rule-in-range e (q .op) (q .argument) (record { value = x .value; quality = x .quality })
-    (entry-good e (sound-entry st S (q .point) (A .point))) (range-in e (x .value) (P .value)) (P .quality) (A .argument)
+    let x = pointAt st (q .command .point) in
+    let e = entryAt (st .plan) (q .command .point) in
+    let P : GoodPoint (st .server) (st .size) e x = S .point (q .command .point) (A .point) in
+    rule-in-range e (q .command .op) (q .command .argument) (record { value = x .value; quality = x .quality })
+    (entry-good e (sound-entry st S (q .command .point) (A .point))) (range-in e (x .value) (P .value)) (P .quality) (A .argument) (v (q .command .op))
 
-request-good : (st : State) (q : Request) → Sound st → GoodRequest q → GoodExecuted (executedFor st q)
+request-good : (v : Versions) (st : State) (q : Request) → Sound st → GoodRequest q → GoodExecuted (executedFor v st q)
 unfolding executedFor executedOk
-request-good st q S G =
+request-good v st q S G =
     let A = asked q (G .ok) in
-    let R = result-good st q S G in
+    let R = result-good v st q S G in
     record {
       ok =
-          and-both (commandOk (q .op) (q .point) (q .argument)) _ (A .command)
-          (and-both (outcomeOk (resultFor st q .outcome) (resultFor st q .quality)) (idOk (q .client) (q .call) && doneOk (q .done) (q .call)) (R .outcome) (A .ids));
+          and-both (commandOk (q .command .op) (q .command .point) (q .command .argument)) _ (A .command)
+          (and-both (outcomeOk (resultFor v st q .outcome) (resultFor v st q .quality)) (idOk (q .command .client) (q .command .call) && doneOk (q .done) (q .command .call)) (R .outcome) (A .ids));
       client = G .client;
       call = G .call;
-      value = R .fits (sound-entry st S (q .point) (A .point) .fits);
+      value = R .fits (sound-entry st S (q .command .point) (A .point) .fits);
     }
 
 pub decided-good : (st : State) (free : ℕ) (r : LogRecord) → Sound st → Decides st free r → GoodRecord r
-decided-good st free r S (byRequest q G e) = rw (request-passed st free q r e .1) (request-good st q S G)
-decided-good st free r S (byNotice n G e) = rw (notice-passed st free n r e .1) G
+decided-good st free r S (byRequest v q G e) = rw (request-passed v st free q r e .1) (request-good v st q S G)
+decided-good st free r S (byNotice n G e) = rw (notice-passed st free n r e .2) G
 decided-good st free r S (byGive p d e) =
     let k = give-passed st free p d r e in
-    rw (k .1) (record { point = k .0 .point; destination = k .0 .destination; number = omega (arith, k .0 .number) })
-decided-good st free r S (byTake i G e) = rw (take-passed st free i r e .1) G
+    rw (k .2) (record { point = k .0 .point; destination = k .0 .destination; moveNumber = omega (arith, k .0 .moveNumber) })
+decided-good st free r S (byTake i G e) = rw (take-passed st free i r e .2) G
 decided-good st free r S (byRelease p m l e) =
-    rw (release-passed st free p m r e .1) (record { point = l; number = S .point p l .number })
+    rw (release-passed st free p m r e .2) (record { point = l; moveNumber = S .point p l .moveNumber })
 
-request-follows : (st : State) (q : Request) → Sound st → GoodRequest q → PassedRequest st (q .client) (q .call) (q .point)
-    → follows st (executed (executedFor st q)) ≡ true
-unfolding follows executedFor requestBehind
-request-follows st q S G P =
-    let x = executedFor st q in
-    let b = requestBehind st x in
-    let R = result-good st q S G in
-    and-both (appends (decideRequest st executedSize b)) (inRange (entryAt (st .plan) (q .point)) (resultFor st q .value))
-    (does-append (decideRequest st executedSize b) _ (request-appends st executedSize b P (omega arith) (omega arith))) (R .range)
+request-follows : (v : Versions) (st : State) (q : Request) → Sound st → GoodRequest q → PassedRequest st (q .command .client) (q .command .call) (q .command .point)
+    → follows st (executed (executedFor v st q)) ≡ true
+unfolding follows executedFor isNone
+request-follows v st q S G P =
+    let c = q .command in
+    let f : ℕ = floorOf (c .client) (st .floors) in
+    rw (tests-request (pointAt st (c .point)) false f (c .call) (P .held) refl (P .over), fresh-find (c .client) (c .call) (st .records) (P .fresh), tests-new f (length (st .floors)) executedSize (P .place) (omega arith))
+    (result-good v st q S G .range)
 
 pub decided-follows : (st : State) (free : ℕ) (r : LogRecord) → Sound st → Decides st free r → follows st r ≡ true
 unfolding follows
-decided-follows st free r S (byRequest q G e) = let k = request-passed st free q r e in rw (k .1) (request-follows st q S G (k .0))
+decided-follows st free r S (byRequest v q G e) = let k = request-passed v st free q r e in rw (k .1) (request-follows v st q S G (k .0))
 decided-follows st free r S (byNotice n G e) =
     let k = notice-passed st free n r e in
-    rw (k .1) (does-append (decideNotice st goneSize n) (gone n) (notice-appends st goneSize n (k .0) (omega arith)))
+    rw (k .2, tests-notice (floorOf (n .client) (st .floors)) goneSize (k .0) (omega arith))
 decided-follows st free r S (byGive p d e) =
     let k = give-passed st free p d r e in
-    let a = does-append (onGive st giveSize p d) _ (give-appends st giveSize p d (k .0) (omega arith)) in
-    rw (k .1) (and-both (appends (onGive st giveSize p d)) (eqb (suc (pointAt st p .number)) (suc (pointAt st p .number))) a (eqb-same (suc (pointAt st p .number))))
+    let a = tests-give st giveSize p d (k .0) (omega arith) in
+    rw (k .2, a .0, a .1, eqb-same (suc (pointAt st p .moveNumber)))
 decided-follows st free r S (byTake i G e) =
     let k = take-passed st free i r e in
-    rw (k .1) (does-append (decideTake st (takeHead + imageLength i) i) (took i) (take-appends st (takeHead + imageLength i) i (k .0) (omega arith)))
+    rw (k .2, tests-take st (takeHead + imageLength i) i (k .0) (omega arith))
 decided-follows st free r S (byRelease p m l e) =
     let k = release-passed st free p m r e in
-    let n = pointAt st p .number in
-    let a = does-append (decideRelease st releaseSize p n) _ (release-appends st releaseSize p n (record { given = k .0 .given; newer = omega arith }) (omega arith)) in
-    rw (k .1) (and-both (appends (decideRelease st releaseSize p n)) (eqb n n) a (eqb-same n))
+    let n = pointAt st p .moveNumber in
+    rw (k .2, tests-release st releaseSize p n (record { given = k .0 .given; newer = omega arith }) (omega arith), eqb-same n)
 
 pub decided-sound : (st : State) (free : ℕ) (r : LogRecord) → Sound st → Decides st free r → st .size + recordSize r < word * word
     → Sound (applyRecord r (st .size + recordSize r) st)
@@ -254,32 +273,32 @@ decided-sound st free r S D z = follows-sound st r S (decided-good st free r S D
 -- the log has space for what is appended
 pub decided-space : (st : State) (free : ℕ) (r : LogRecord) → Decides st free r → recordSize r ≤ free
 unfolding recordSize
-decided-space st free r (byRequest q G e) = rw (request-passed st free q r e .1) (request-terms st free q r e .1)
-decided-space st free r (byNotice n G e) = rw (notice-passed st free n r e .1) (notice-space st free n r e)
-decided-space st free r (byGive p d e) = rw (give-passed st free p d r e .1) (give-space st free p d r e)
-decided-space st free r (byTake i G e) = rw (take-passed st free i r e .1) (take-space st free i r e)
-decided-space st free r (byRelease p m l e) = rw (release-passed st free p m r e .1) (release-space st free p m r e)
+decided-space st free r (byRequest v q G e) = rw (request-passed v st free q r e .1) (request-terms v st free q r e .1)
+decided-space st free r (byNotice n G e) = let k = notice-passed st free n r e in rw (k .2) (k .1)
+decided-space st free r (byGive p d e) = let k = give-passed st free p d r e in rw (k .2) (k .1)
+decided-space st free r (byTake i G e) = let k = take-passed st free i r e in rw (k .2) (k .1)
+decided-space st free r (byRelease p m l e) = let k = release-passed st free p m r e in rw (k .2) (k .1)
 
 pub sync-sound : (st : State) (m n : ℕ) → Sound st → onSync st m ≡ marks n → Sound (withMark n st)
 sync-sound st m n S e = let k = sync-passed st m n e in rw (k .0) (sound-mark st m S (k .1) (k .2))
 
 -- ---- the mark
 
-request-mark : (st : State) (m free : ℕ) (q : Request) (r : LogRecord) → decideRequest (withMark m st) free q ≡ append r
-    → decideRequest st free q ≡ append r
+request-mark : (v : Versions) (st : State) (m free : ℕ) (q : Request) (r : LogRecord) → decideRequest v (withMark m st) free q ≡ append r
+    → decideRequest v st free q ≡ append r
 unfolding withMark pointAt executedFor resultFor
-request-mark st m free q r e =
-    let k = request-passed (withMark m st) free q r e in
-    let t = request-terms (withMark m st) free q r e in
-    let x : r ≡ executed (executedFor st q) = k .1 in
-    let P : PassedRequest st (q .client) (q .call) (q .point)
+request-mark v st m free q r e =
+    let k = request-passed v (withMark m st) free q r e in
+    let t = request-terms v (withMark m st) free q r e in
+    let x : r ≡ executed (executedFor v st q) = k .1 in
+    let P : PassedRequest st (q .command .client) (q .command .call) (q .command .point)
     = record { held = k .0 .held; over = k .0 .over; fresh = k .0 .fresh; place = k .0 .place } in
-    request-appends st free q P (t .0) (t .1) ∙ ap append (sym x)
+    request-appends v st free q P (t .0) (t .1) ∙ ap append (sym x)
 
 -- what is decided does not depend on the mark
 pub decides-mark : (st : State) (free : ℕ) (m : ℕ) (r : LogRecord) → Decides (withMark m st) free r → Decides st free r
-unfolding withMark pointAt decideNotice onGive decideTake decideRelease
-decides-mark st free m r (byRequest q G e) = byRequest q G (request-mark st m free q r e)
+unfolding withMark pointAt decideNotice onGive takeTests decideTake decideRelease
+decides-mark st free m r (byRequest v q G e) = byRequest v q G (request-mark v st m free q r e)
 decides-mark st free m r (byNotice n G e) = byNotice n G e
 decides-mark st free m r (byGive p d e) = byGive p d e
 decides-mark st free m r (byTake i G e) = byTake i G e

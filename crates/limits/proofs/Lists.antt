@@ -1,5 +1,5 @@
 -- Laws of lists whose elements all have a property, and of what keep leaves, beside those of laws.
---     all-to, all-with            a property from one, from two
+--     all-any, all-to, all-with   a property of any element, from one, from two
 --     all-image, all-swap         of a mapped list; of two lists, the other way round
 --     getD-all                    of every element by its place
 --     keep-passes, keep-none      what a test keeps
@@ -22,6 +22,11 @@ impossible e = absurd (false≢true (sym e))
 module _ {A : Type 0} {P Q : A → Type 0} where
   pub all-to : (xs : List A) → ((x : A) → P x → Q x) → All P xs → All Q xs
   all-to xs f h = all-map P Q f xs h
+
+module _ {A : Type 0} {P : A → Type 0} where
+  pub all-any : (xs : List A) → ((x : A) → P x) → All P xs
+  all-any [] f = tt
+  all-any (x ∷ xs) f = (f x, all-any xs f)
 
 module _ {A : Type 0} {P Q R : A → Type 0} where
   pub all-with : (xs : List A) → ((x : A) → P x → Q x → R x) → All P xs → All Q xs → All R xs

@@ -24,7 +24,7 @@ use Rattle.model.specs.Logs.{LogRecord, Entry, recordSize, recordBytes, headByt
 use Rattle.model.specs.States.{State, load, sound, stateEnd, stateBytes}
 use Rattle.model.specs.Apply.{applyRecord, apply, founded, replayFrom, replay, withMark}
 use Rattle.model.specs.Decisions.{Decided}
-use Rattle.model.specs.Operations.{After, answerOf, after, short, freeIn, stored, settle, lent, foundOf, recoverOf, settleRecovered, recoveredState}
+use Rattle.model.specs.Operations.{After, answerOf, after, freeIn, stored, settle, lent, foundOf, leftUnless, recoverRefusal, recoverOf, settleRecovered, recoveredState}
 use Rattle.laws.specs.Bytes.{Bytes}
 use Rattle.laws.specs.Fits.{EntriesFrom, lastEnd}
 use Rattle.laws.proofs.Written.{take-written-run}
@@ -171,7 +171,7 @@ module _ (plan : List PlanEntry) (n : ℕ) (g : GoodPlan plan) (h : n ≤ lastSe
 
   pub recover-holds : (es : List Entry) (state log fresh bytes : List ℕ) (c : ℕ) → Holds plan n es state log → headSize ≤ c → c ≤ lastEnd headSize es
       → stateSize ≤ length fresh → planOk bytes ≡ true → planOf bytes ≡ plan → Recovered plan n es c (recoverOf fresh (take c log) bytes) log
-  unfolding recoverOf settleRecovered short
+  unfolding recoverOf recoverRefusal leftUnless settleRecovered
   recover-holds es state log fresh bytes c H low high l ok same =
       let a : List Entry = keep (λ (x : Entry). leb (x .end) c) es in
       let f = decided-from plan n g h es (H .decided) in
@@ -192,14 +192,14 @@ module _ (plan : List PlanEntry) (n : ℕ) (g : GoodPlan plan) (h : n ≤ lastSe
         same = own-mark _ rp (rp .size) (stored-load fresh (withMark (rp .size) rp) M (omega arith));
         logged = cut-logged es log c f (H .logged) low high;
       } in
-      subst (λ (y : After). Recovered plan n es c y log) (sym e) (record { number = refl; holds = x })
+      subst (λ (y : After). Recovered plan n es c y log) (sym e) (record { refusal = refl; holds = x })
 
 -- ---- founding
 
-pub found-holds : (state log plan : List ℕ) (n : ℕ) → Bytes plan → foundOf state log plan n .answer .number ≡ 0
+pub found-holds : (state log plan : List ℕ) (n : ℕ) → Bytes plan → foundOf state log plan n .answer .refusal ≡ 0
     → GoodPlan (planOf plan) × (n ≤ lastServer) × Holds (planOf plan) n [] (foundOf state log plan n .state) (foundOf state log plan n .log)
 found-holds state log plan n b =
-    found-elim (λ a. a .answer .number ≡ 0 → GoodPlan (planOf plan) × (n ≤ lastServer) × Holds (planOf plan) n [] (a .state) (a .log)) state log plan n b
+    found-elim (λ a. a .answer .refusal ≡ 0 → GoodPlan (planOf plan) × (n ≤ lastServer) × Holds (planOf plan) n [] (a .state) (a .log)) state log plan n b
     (λ e. absurd (omega (arith, e))) (λ e. absurd (omega (arith, e)))
     (λ l k g h e.
     let st = founded (planOf plan) n in

@@ -5,7 +5,7 @@
 --     good-point, point-good             pointOk;     points-length, points-at, at-points: pointsOk
 --     good-floor, floor-good             floorOk;     ascends, ascend-test: clientsAscend
 --     in-window, window-in               inWindow;    good-completion, completion-good: completionOk
---     differ, differ-test                idsDiffer
+--     differ, differ-test                idsDiffer;   arrives, arrive-test: endsFrom
 --     sound-of, state-of, fits-of        stateOk, of a state that fits, is Sound
 -- Assumes nothing.
 use Prim.Native.Nat.{ℕ, zero, suc, _+_, _*_, _≤_, _<_}
@@ -14,7 +14,7 @@ use mathlib.Core.Bool.{Bool, true, false, _&&_, _||_, not, false≢true}
 use mathlib.Core.List.{List, [], _∷_}
 use mathlib.Core.Logic.{_≢_}
 use native.Mathlib.Omega.{arith}
-use lib.ListN.{length, getD, List·getD-eq-default}
+use lib.ListN.{length, getD}
 use lib.Dec.{eqb, leb, ltb}
 use borrow.Author.Tests.{eqb-true, eqb-false, ltb-true, ltb-false, leb-true, leb-false, eq-eqb, ne-eqb, lt-ltb, le-leb, not-true}
 use Rattle.model.specs.declared.PlanEntry.{PlanEntry}
@@ -23,17 +23,17 @@ use Rattle.model.specs.declared.Point.{Point}
 use Rattle.model.specs.declared.Completion.{Completion}
 use Rattle.model.specs.Choice.{pick}
 use Rattle.model.specs.Numbers.{word}
-use Rattle.model.specs.Limits.{lastPoint, lastServer, lastOp, lastOutcome, lastQuality, last32, headSize}
-use Rattle.model.specs.Rules.{leastArgument, greatestArguments, greatestArgument, argumentOk}
+use Rattle.model.specs.Limits.{lastPoint, lastServer, lastOutcome, lastQuality, headSize}
 use Rattle.model.specs.Tables.{every}
 use Rattle.model.specs.Plan.{planEntryOk, inRange, entryAt, noEntry}
 use Rattle.model.specs.Packets.{commandOk, outcomeOk, idOk}
 use Rattle.model.specs.Images.{floorOf, floorOk, inWindow, clientsAscend}
-use Rattle.model.specs.States.{State, pointAt, noPoint, endOk, giveFieldsOk, takeFieldsOk, pointOk, pointsOk, completionOk, isId, idsDiffer, stateOk}
+use Rattle.model.specs.States.{State, pointAt, noPoint, isHeld, isGiven, endOk, notGiven, originOk, absentOk, heldOk, givenOk, statusOk, pointOk, pointsOk, keepsRecords, completionOk, isId, idsDiffer, endsFrom, stateOk}
 use Rattle.laws.specs.Bytes.{All}
 use Rattle.laws.specs.Fits.{FloorFits, PlanEntryFits, PointFits, CompletionFits, StateFits}
-use Rattle.laws.proofs.Tests.{and-left, and-right, and-both, joined-all}
-use Rattle.limits.specs.Sound.{GoodEntry, Ranged, GoodEnd, GoodPoint, GoodFloor, Ascending, InWindow, GoodCompletion, Windowed, Other, Distinct, Sound, CommandFits}
+use Rattle.laws.proofs.Tests.{and-left, and-right, and-both, joined-all, all-joined}
+use Rattle.laws.proofs.Commands.{command-parts}
+use Rattle.limits.specs.Sound.{GoodEntry, Ranged, GoodEnd, Origin, Standing, GoodPoint, Keeps, GoodFloor, Ascending, InWindow, GoodCompletion, Windowed, Other, Distinct, Arrived, Sound, CommandFits}
 use Rattle.laws.proofs.Tables.{every-all, all-every, all-getD}
 use Rattle.limits.proofs.Lists.{all-to, all-with, getD-all, impossible}
 use Rattle.limits.proofs.Floors.{eqb-no, tests, above-from}
@@ -75,22 +75,8 @@ range-in e v h = and-both (leb (e .low) v) (leb v (e .high)) (le-leb _ _ (h .low
 
 -- ---- commands and outcomes
 
-greatest : (op : ℕ) → greatestArgument op ≤ last32
-unfolding greatestArgument
-greatest op = go (ltb op 6) refl
-  where
-    go : (b : Bool) → ltb op 6 ≡ b → getD greatestArguments op 0 ≤ last32
-    go true e =
-        all-getD (λ (a : ℕ). a ≤ last32) greatestArguments op 0 (omega arith, (omega arith, (omega arith, (omega arith, (omega arith, (omega arith, tt))))))
-        (ltb-true op 6 e)
-    go false e = rw (List·getD-eq-default greatestArguments 0 (ltb-false op 6 e)) (omega arith)
-
 pub command-fits : (op p a : ℕ) → commandOk op p a ≡ true → CommandFits op p a
-unfolding commandOk argumentOk
-command-fits op p a h =
-    let t = joined-all (leb op lastOp ∷ leb p lastPoint ∷ (leb (leastArgument op) a && leb a (greatestArgument op)) ∷ []) h in
-    let g = leb-true a (greatestArgument op) (and-right (leb (leastArgument op) a) (leb a (greatestArgument op)) (t .1 .1 .0)) in
-    record { op = leb-true _ _ (t .0); point = leb-true _ _ (t .1 .0); argument = omega (arith, g, greatest op) }
+command-fits op p a h = let c = command-parts op p a h in record { op = c .op; point = c .point; argument = c .fits }
 
 pub outcome-fits : (o q : ℕ) → outcomeOk o q ≡ true → (o ≤ lastOutcome) × (q ≤ lastQuality)
 unfolding outcomeOk
@@ -118,140 +104,194 @@ end-good size end g = go (eqb end 0) refl
     go true e = refl
     go false e = and-both (ltb headSize end) (leb end size) (lt-ltb _ _ (g .past (eqb-no _ _ e))) (le-leb _ _ (g .within))
 
--- the fields of a give
-record GiveFields (server : ℕ) (x : Point) : Type 0 where
-  moved : 2 ≤ x .status → 1 ≤ x .number
-  away : 2 ≤ x .status → x .destination ≢ server
-  ended : 2 ≤ x .status → 1 ≤ x .gave
-  stays : x .status < 2 → x .destination ≡ 0
-  unended : x .status < 2 → x .gave ≡ 0
-
-give-fields : (server : ℕ) (x : Point) → giveFieldsOk server x ≡ true → GiveFields server x
-unfolding giveFieldsOk
-give-fields server x h = go (leb 2 (x .status)) refl h
+-- where a point came from
+origin-of : (server : ℕ) (e : PlanEntry) (x : Point) → originOk server e x ≡ true → Origin server (e .home) (x .takenMove) (x .takeEnd)
+unfolding originOk
+origin-of server e x h = go (eqb (x .takenMove) 0) refl h
   where
-    go : (b : Bool) → leb 2 (x .status) ≡ b
-        → pick b (leb 1 (x .number) && (not (eqb (x .destination) server) && leb 1 (x .gave))) (eqb (x .destination) 0 && eqb (x .gave) 0) ≡ true
-        → GiveFields server x
-    go true e k =
-        let a = split (leb 1 (x .number)) (not (eqb (x .destination) server) && leb 1 (x .gave)) k in
-        let b = split (not (eqb (x .destination) server)) (leb 1 (x .gave)) (a .1) in
+    go : (b : Bool) → eqb (x .takenMove) 0 ≡ b → pick b (eqb (x .takeEnd) 0 && eqb (e .home) server) (leb 1 (x .takeEnd)) ≡ true
+        → Origin server (e .home) (x .takenMove) (x .takeEnd)
+    go true t k =
+        let a = split (eqb (x .takeEnd) 0) (eqb (e .home) server) k in
+        let z = eqb-true _ _ t in
         record {
-          moved = λ (l : 2 ≤ x .status). leb-true _ _ (a .0);
-          away = λ (l : 2 ≤ x .status). eqb-no _ _ (not-true _ (b .0));
-          ended = λ (l : 2 ≤ x .status). leb-true _ _ (b .1);
-          stays = λ (l : x .status < 2). absurd (omega (arith, tests));
-          unended = λ (l : x .status < 2). absurd (omega (arith, tests));
+          founded = λ (l : x .takenMove ≡ 0). eqb-true _ _ (a .1);
+          untaken = λ (l : x .takenMove ≡ 0). eqb-true _ _ (a .0);
+          takenAt = λ (l : x .takenMove ≢ 0). absurd (l z);
         }
-    go false e k =
-        let a = split (eqb (x .destination) 0) (eqb (x .gave) 0) k in
+    go false t k =
         record {
-          moved = λ (l : 2 ≤ x .status). absurd (omega (arith, tests));
-          away = λ (l : 2 ≤ x .status). absurd (omega (arith, tests));
-          ended = λ (l : 2 ≤ x .status). absurd (omega (arith, tests));
-          stays = λ (l : x .status < 2). eqb-true _ _ (a .0);
-          unended = λ (l : x .status < 2). eqb-true _ _ (a .1);
+          founded = λ (l : x .takenMove ≡ 0). absurd (eqb-false _ _ t l);
+          untaken = λ (l : x .takenMove ≡ 0). absurd (eqb-false _ _ t l);
+          takenAt = λ (l : x .takenMove ≢ 0). leb-true _ _ k;
         }
 
-fields-give : (server : ℕ) (x : Point) → GiveFields server x → giveFieldsOk server x ≡ true
-unfolding giveFieldsOk
-fields-give server x g = go (leb 2 (x .status)) refl
+of-origin : (server : ℕ) (e : PlanEntry) (x : Point) → Origin server (e .home) (x .takenMove) (x .takeEnd) → originOk server e x ≡ true
+unfolding originOk
+of-origin server e x o = go (eqb (x .takenMove) 0) refl
   where
-    go : (b : Bool) → leb 2 (x .status) ≡ b
-        → pick b (leb 1 (x .number) && (not (eqb (x .destination) server) && leb 1 (x .gave))) (eqb (x .destination) 0 && eqb (x .gave) 0) ≡ true
-    go true e =
-        let l = leb-true _ _ e in
-        and-both (leb 1 (x .number)) (not (eqb (x .destination) server) && leb 1 (x .gave)) (le-leb _ _ (g .moved l))
-        (and-both (not (eqb (x .destination) server)) (leb 1 (x .gave)) (not-of-false _ (ne-eqb _ _ (g .away l))) (le-leb _ _ (g .ended l)))
-    go false e =
-        let l = leb-false _ _ e in
-        and-both (eqb (x .destination) 0) (eqb (x .gave) 0) (eq-eqb _ _ (g .stays l)) (eq-eqb _ _ (g .unended l))
+    go : (b : Bool) → eqb (x .takenMove) 0 ≡ b → pick b (eqb (x .takeEnd) 0 && eqb (e .home) server) (leb 1 (x .takeEnd)) ≡ true
+    go true t =
+        let z = eqb-true _ _ t in
+        and-both (eqb (x .takeEnd) 0) (eqb (e .home) server) (eq-eqb _ _ (o .untaken z)) (eq-eqb _ _ (o .founded z))
+    go false t = le-leb _ _ (o .takenAt (eqb-no _ _ t))
 
--- the fields of a take
-record TakeFields (x : Point) : Type 0 where
-  taken : x .taken ≤ x .number
-  untaken : x .taken ≡ 0 → x .took ≡ 0
-  takenAt : x .taken ≢ 0 → 1 ≤ x .took
+abbrev absentTests : ℕ → PlanEntry → Point → List Bool
+absentTests server e x =
+    not (eqb (e .home) server) ∷ eqb (x .value) (e .fallback) ∷ eqb (x .quality) 1 ∷ eqb (x .moveNumber) 0 ∷ eqb (x .takenMove) 0 ∷ eqb (x .takeEnd) 0
+    ∷ eqb (x .destination) 0 ∷ eqb (x .giveEnd) 0 ∷ []
 
-take-fields : (x : Point) → takeFieldsOk x ≡ true → TakeFields x
-unfolding takeFieldsOk
-take-fields x h = go (eqb (x .taken) 0) refl h
+-- what a status says, by status
+absent-standing : (server : ℕ) (e : PlanEntry) (x : Point) → x .status ≡ 0 → absentOk server e x ≡ true → Standing server e x
+unfolding absentOk notGiven
+absent-standing server e x s h =
+    let a = joined-all (absentTests server e x) h in
+    record {
+      absent =
+          λ (k : x .status ≡ 0).
+          record {
+            home = eqb-no _ _ (not-true _ (a .0));
+            value = eqb-true _ _ (a .1 .0);
+            quality = eqb-true _ _ (a .1 .1 .0);
+            moveNumber = eqb-true _ _ (a .1 .1 .1 .0);
+            takenMove = eqb-true _ _ (a .1 .1 .1 .1 .0);
+            takeEnd = eqb-true _ _ (a .1 .1 .1 .1 .1 .0);
+          };
+      held = λ (k : x .status ≡ 1). absurd (omega arith);
+      given = λ (k : 2 ≤ x .status). absurd (omega arith);
+      away = λ (k : 2 ≤ x .status). absurd (omega arith);
+      ended = λ (k : 2 ≤ x .status). absurd (omega arith);
+      stays = λ (k : x .status < 2). eqb-true _ _ (a .1 .1 .1 .1 .1 .1 .0);
+      unended = λ (k : x .status < 2). eqb-true _ _ (a .1 .1 .1 .1 .1 .1 .1 .0);
+      origin = λ (k : 1 ≤ x .status). absurd (omega arith);
+    }
+
+held-standing : (server : ℕ) (e : PlanEntry) (x : Point) → x .status ≡ 1 → heldOk server e x ≡ true → Standing server e x
+unfolding heldOk notGiven
+held-standing server e x s h =
+    let a = split (eqb (x .moveNumber) (x .takenMove)) ((eqb (x .destination) 0 && eqb (x .giveEnd) 0) && originOk server e x) h in
+    let b = split (eqb (x .destination) 0 && eqb (x .giveEnd) 0) (originOk server e x) (a .1) in
+    let c = split (eqb (x .destination) 0) (eqb (x .giveEnd) 0) (b .0) in
+    record {
+      absent = λ (k : x .status ≡ 0). absurd (omega arith);
+      held = λ (k : x .status ≡ 1). eqb-true _ _ (a .0);
+      given = λ (k : 2 ≤ x .status). absurd (omega arith);
+      away = λ (k : 2 ≤ x .status). absurd (omega arith);
+      ended = λ (k : 2 ≤ x .status). absurd (omega arith);
+      stays = λ (k : x .status < 2). eqb-true _ _ (c .0);
+      unended = λ (k : x .status < 2). eqb-true _ _ (c .1);
+      origin = λ (k : 1 ≤ x .status). origin-of server e x (b .1);
+    }
+
+given-standing : (server : ℕ) (e : PlanEntry) (x : Point) → 2 ≤ x .status → givenOk server e x ≡ true → Standing server e x
+unfolding givenOk
+given-standing server e x s h =
+    let a = joined-all (eqb (x .moveNumber) (suc (x .takenMove)) ∷ not (eqb (x .destination) server) ∷ ltb (x .takeEnd) (x .giveEnd) ∷ originOk server e x ∷ []) h in
+    record {
+      absent = λ (k : x .status ≡ 0). absurd (omega arith);
+      held = λ (k : x .status ≡ 1). absurd (omega arith);
+      given = λ (k : 2 ≤ x .status). eqb-true _ _ (a .0);
+      away = λ (k : 2 ≤ x .status). eqb-no _ _ (not-true _ (a .1 .0));
+      ended = λ (k : 2 ≤ x .status). ltb-true _ _ (a .1 .1 .0);
+      stays = λ (k : x .status < 2). absurd (omega arith);
+      unended = λ (k : x .status < 2). absurd (omega arith);
+      origin = λ (k : 1 ≤ x .status). origin-of server e x (a .1 .1 .1 .0);
+    }
+
+-- which status it is
+past-held : (n : ℕ) → n ≢ 0 → n ≢ 1 → 2 ≤ n
+past-held n p q = omega arith
+
+standing-of : (server : ℕ) (e : PlanEntry) (x : Point) → statusOk server e x ≡ true → Standing server e x
+unfolding statusOk
+standing-of server e x h = go (eqb (x .status) 0) (eqb (x .status) 1) refl refl h
   where
-    go : (b : Bool) → eqb (x .taken) 0 ≡ b → (leb (x .taken) (x .number) && pick b (eqb (x .took) 0) (leb 1 (x .took))) ≡ true → TakeFields x
-    go true e k =
-        let a = split (leb (x .taken) (x .number)) (eqb (x .took) 0) k in
-        let z = eqb-true _ _ e in
-        record { taken = leb-true _ _ (a .0); untaken = λ (l : x .taken ≡ 0). eqb-true _ _ (a .1); takenAt = λ (l : x .taken ≢ 0). absurd (l z) }
-    go false e k =
-        let a = split (leb (x .taken) (x .number)) (leb 1 (x .took)) k in
-        record {
-          taken = leb-true _ _ (a .0);
-          untaken = λ (l : x .taken ≡ 0). absurd (eqb-false _ _ e l);
-          takenAt = λ (l : x .taken ≢ 0). leb-true _ _ (a .1);
-        }
+    go : (b d : Bool) → eqb (x .status) 0 ≡ b → eqb (x .status) 1 ≡ d → pick b (absentOk server e x) (pick d (heldOk server e x) (givenOk server e x)) ≡ true
+        → Standing server e x
+    go true d p q k = absent-standing server e x (eqb-true _ _ p) k
+    go false true p q k = held-standing server e x (eqb-true _ _ q) k
+    go false false p q k = given-standing server e x (past-held (x .status) (eqb-no _ _ p) (eqb-no _ _ q)) k
 
-fields-take : (x : Point) → TakeFields x → takeFieldsOk x ≡ true
-unfolding takeFieldsOk
-fields-take x g = go (eqb (x .taken) 0) refl
+of-standing : (server : ℕ) (e : PlanEntry) (x : Point) → Standing server e x → statusOk server e x ≡ true
+unfolding statusOk absentOk heldOk givenOk notGiven
+of-standing server e x g = go (eqb (x .status) 0) (eqb (x .status) 1) refl refl
   where
-    go : (b : Bool) → eqb (x .taken) 0 ≡ b → (leb (x .taken) (x .number) && pick b (eqb (x .took) 0) (leb 1 (x .took))) ≡ true
-    go true e = and-both (leb (x .taken) (x .number)) (eqb (x .took) 0) (le-leb _ _ (g .taken)) (eq-eqb _ _ (g .untaken (eqb-true _ _ e)))
-    go false e = and-both (leb (x .taken) (x .number)) (leb 1 (x .took)) (le-leb _ _ (g .taken)) (le-leb _ _ (g .takenAt (eqb-no _ _ e)))
+    go : (b d : Bool) → eqb (x .status) 0 ≡ b → eqb (x .status) 1 ≡ d
+        → pick b (absentOk server e x) (pick d (heldOk server e x) (givenOk server e x)) ≡ true
+    go true d p q =
+        let z : x .status ≡ 0 = eqb-true _ _ p in
+        let u = g .absent z in
+        all-joined (absentTests server e x) (
+          not-of-false _ (ne-eqb _ _ (u .home)),
+          (
+            eq-eqb _ _ (u .value),
+            (
+              eq-eqb _ _ (u .quality),
+              (
+                eq-eqb _ _ (u .moveNumber),
+                (eq-eqb _ _ (u .takenMove), (eq-eqb _ _ (u .takeEnd), (eq-eqb _ _ (g .stays (omega arith)), (eq-eqb _ _ (g .unended (omega arith)), tt)))),
+              ),
+            ),
+          ),
+        )
+    go false true p q =
+        let z : x .status ≡ 1 = eqb-true _ _ q in
+        and-both (eqb (x .moveNumber) (x .takenMove)) ((eqb (x .destination) 0 && eqb (x .giveEnd) 0) && originOk server e x) (eq-eqb _ _ (g .held z))
+        (and-both (eqb (x .destination) 0 && eqb (x .giveEnd) 0) (originOk server e x)
+        (and-both (eqb (x .destination) 0) (eqb (x .giveEnd) 0) (eq-eqb _ _ (g .stays (omega arith))) (eq-eqb _ _ (g .unended (omega arith))))
+        (of-origin server e x (g .origin (omega arith))))
+    go false false p q =
+        let l : 2 ≤ x .status = past-held (x .status) (eqb-no _ _ p) (eqb-no _ _ q) in
+        all-joined (eqb (x .moveNumber) (suc (x .takenMove)) ∷ not (eqb (x .destination) server) ∷ ltb (x .takeEnd) (x .giveEnd) ∷ originOk server e x ∷ [])
+        (eq-eqb _ _ (g .given l), (not-of-false _ (ne-eqb _ _ (g .away l)), (lt-ltb _ _ (g .ended l), (of-origin server e x (g .origin (omega arith)), tt))))
 
-pub good-point : (server size : ℕ) (e : PlanEntry) (x : Point) → pointOk server size e x ≡ true → x .number < word → GoodPoint server size e x
+-- the latest taken move is not above the move number
+taken-low : (server : ℕ) (e : PlanEntry) (x : Point) → Standing server e x → x .takenMove ≤ x .moveNumber
+taken-low server e x g = go (eqb (x .status) 0) (eqb (x .status) 1) refl refl
+  where
+    go : (b d : Bool) → eqb (x .status) 0 ≡ b → eqb (x .status) 1 ≡ d → x .takenMove ≤ x .moveNumber
+    go true d p q = omega (arith, g .absent (eqb-true _ _ p) .takenMove)
+    go false true p q = omega (arith, g .held (eqb-true _ _ q))
+    go false false p q = omega (arith, g .given (past-held (x .status) (eqb-no _ _ p) (eqb-no _ _ q)))
+
+abbrev pointTests : ℕ → ℕ → PlanEntry → Point → List Bool
+pointTests server size e x =
+    leb (x .status) 3 ∷ leb (x .quality) lastQuality ∷ leb (x .destination) lastServer ∷ inRange e (x .value) ∷ endOk size (x .giveEnd) ∷ endOk size (x .takeEnd)
+    ∷ statusOk server e x ∷ []
+
+pub good-point : (server size : ℕ) (e : PlanEntry) (x : Point) → pointOk server size e x ≡ true → x .moveNumber < word → GoodPoint server size e x
 unfolding pointOk
 good-point server size e x h f =
-    let t7 = giveFieldsOk server x && takeFieldsOk x in
-    let t6 = endOk size (x .took) && t7 in
-    let t5 = endOk size (x .gave) && t6 in
-    let t4 = inRange e (x .value) && t5 in
-    let t3 = leb (x .destination) lastServer && t4 in
-    let t2 = leb (x .quality) lastQuality && t3 in
-    let k1 = split (leb (x .status) 3) t2 h in
-    let k2 = split (leb (x .quality) lastQuality) t3 (k1 .1) in
-    let k3 = split (leb (x .destination) lastServer) t4 (k2 .1) in
-    let k4 = split (inRange e (x .value)) t5 (k3 .1) in
-    let k5 = split (endOk size (x .gave)) t6 (k4 .1) in
-    let k6 = split (endOk size (x .took)) t7 (k5 .1) in
-    let k7 = split (giveFieldsOk server x) (takeFieldsOk x) (k6 .1) in
-    let g = give-fields server x (k7 .0) in
-    let t = take-fields x (k7 .1) in
+    let t = joined-all (pointTests server size e x) h in
+    let g = standing-of server e x (t .1 .1 .1 .1 .1 .1 .0) in
     record {
-      status = leb-true _ _ (k1 .0);
-      quality = leb-true _ _ (k2 .0);
-      destination = leb-true _ _ (k3 .0);
-      value = in-range e (x .value) (k4 .0);
-      gave = good-end size (x .gave) (k5 .0);
-      took = good-end size (x .took) (k6 .0);
-      moved = g .moved;
-      away = g .away;
-      ended = g .ended;
-      stays = g .stays;
-      unended = g .unended;
-      taken = t .taken;
-      untaken = t .untaken;
-      takenAt = t .takenAt;
-      number = f;
+      status = leb-true _ _ (t .0);
+      quality = leb-true _ _ (t .1 .0);
+      destination = leb-true _ _ (t .1 .1 .0);
+      value = in-range e (x .value) (t .1 .1 .1 .0);
+      giveEnd = good-end size (x .giveEnd) (t .1 .1 .1 .1 .0);
+      takeEnd = good-end size (x .takeEnd) (t .1 .1 .1 .1 .1 .0);
+      standing = g;
+      takenMove = taken-low server e x g;
+      moveNumber = f;
     }
 
 pub point-good : (server size : ℕ) (e : PlanEntry) (x : Point) → GoodPoint server size e x → pointOk server size e x ≡ true
 unfolding pointOk
 point-good server size e x g =
-    let t7 = giveFieldsOk server x && takeFieldsOk x in
-    let t6 = endOk size (x .took) && t7 in
-    let t5 = endOk size (x .gave) && t6 in
-    let t4 = inRange e (x .value) && t5 in
-    let t3 = leb (x .destination) lastServer && t4 in
-    let t2 = leb (x .quality) lastQuality && t3 in
-    and-both (leb (x .status) 3) t2 (le-leb _ _ (g .status))
-    (and-both (leb (x .quality) lastQuality) t3 (le-leb _ _ (g .quality))
-    (and-both (leb (x .destination) lastServer) t4 (le-leb _ _ (g .destination))
-    (and-both (inRange e (x .value)) t5 (range-in e (x .value) (g .value))
-    (and-both (endOk size (x .gave)) t6 (end-good size (x .gave) (g .gave))
-    (and-both (endOk size (x .took)) t7 (end-good size (x .took) (g .took))
-    (and-both (giveFieldsOk server x) (takeFieldsOk x)
-    (fields-give server x (record { moved = g .moved; away = g .away; ended = g .ended; stays = g .stays; unended = g .unended }))
-    (fields-take x (record { taken = g .taken; untaken = g .untaken; takenAt = g .takenAt }))))))))
+    all-joined (pointTests server size e x) (
+      le-leb _ _ (g .status),
+      (
+        le-leb _ _ (g .quality),
+        (
+          le-leb _ _ (g .destination),
+          (
+            range-in e (x .value) (g .value),
+            (end-good size (x .giveEnd) (g .giveEnd), (end-good size (x .takeEnd) (g .takeEnd), (of-standing server e x (g .standing), tt))),
+          ),
+        ),
+      ),
+    )
 
 pub points-length : (server size : ℕ) (es : List PlanEntry) (xs : List Point) → pointsOk server size es xs ≡ true → length xs ≡ length es
 unfolding pointsOk
@@ -328,80 +368,112 @@ window-in floor call w =
     and-both (leb 1 floor) (leb floor call && leb call (floor + 15)) (le-leb _ _ (w .known))
     (and-both (leb floor call) (leb call (floor + 15)) (le-leb _ _ (w .low)) (le-leb _ _ (w .high)))
 
-pub good-completion : (st : State) (r : Completion) → completionOk st r ≡ true → CompletionFits r
-    → GoodCompletion (st .plan) (st .size) r × Windowed (st .floors) r
+-- a point whose records stay
+keeps : (x : Point) → keepsRecords x ≡ true → Keeps x
+unfolding keepsRecords isHeld isGiven
+keeps x h = go (eqb (x .status) 1) refl h
+  where
+    go : (b : Bool) → eqb (x .status) 1 ≡ b → (b || eqb (x .status) 2) ≡ true → Keeps x
+    go true e k = let z : x .status ≡ 1 = eqb-true _ _ e in record { low = omega arith; high = omega arith }
+    go false e k = let z : x .status ≡ 2 = eqb-true _ _ k in record { low = omega arith; high = omega arith }
+
+keeps-test : (x : Point) → Keeps x → keepsRecords x ≡ true
+unfolding keepsRecords isHeld isGiven
+keeps-test x k = go (eqb (x .status) 1) refl
+  where
+    go : (b : Bool) → eqb (x .status) 1 ≡ b → (b || eqb (x .status) 2) ≡ true
+    go true e = refl
+    go false e =
+        let n : x .status ≢ 1 = eqb-no _ _ e in
+        let z : x .status ≡ 2 = omega (arith, k .low, k .high) in
+        eq-eqb _ _ z
+
+abbrev completionTests : State → Completion → List Bool
+completionTests st r =
+    commandOk (r .command .op) (r .command .point) (r .command .argument) ∷ outcomeOk (r .result .outcome) (r .result .quality) ∷ (leb 1 (r .command .client) && leb 1 (r .command .call))
+    ∷ inRange (entryAt (st .plan) (r .command .point)) (r .result .value) ∷ keepsRecords (pointAt st (r .command .point)) ∷ ltb headSize (r .end) ∷ leb (r .end) (st .size)
+    ∷ inWindow (floorOf (r .command .client) (st .floors)) (r .command .call) ∷ []
+
+-- what the test of a completion record says
+pub record Passed (st : State) (r : Completion) : Type 0 where
+  pub good : GoodCompletion (st .plan) (st .size) r
+  pub kept : Keeps (pointAt st (r .command .point))
+  pub window : Windowed (st .floors) r
+
+pub good-completion : (st : State) (r : Completion) → completionOk st r ≡ true → CompletionFits r → Passed st r
 unfolding completionOk idOk
 good-completion st r h f =
-    let c = commandOk (r .op) (r .point) (r .argument) in
-    let o = outcomeOk (r .outcome) (r .quality) in
-    let i = leb 1 (r .client) && leb 1 (r .call) in
-    let v = inRange (entryAt (st .plan) (r .point)) (r .value) in
-    let w = inWindow (floorOf (r .client) (st .floors)) (r .call) in
-    let k1 = split c (o && (i && (v && (ltb headSize (r .end) && (leb (r .end) (st .size) && w))))) h in
-    let k2 = split o (i && (v && (ltb headSize (r .end) && (leb (r .end) (st .size) && w)))) (k1 .1) in
-    let k3 = split i (v && (ltb headSize (r .end) && (leb (r .end) (st .size) && w))) (k2 .1) in
-    let k4 = split v (ltb headSize (r .end) && (leb (r .end) (st .size) && w)) (k3 .1) in
-    let k5 = split (ltb headSize (r .end)) (leb (r .end) (st .size) && w) (k4 .1) in
-    let k6 = split (leb (r .end) (st .size)) w (k5 .1) in
-    let j = split (leb 1 (r .client)) (leb 1 (r .call)) (k3 .0) in (
-      record {
-        command = k1 .0;
-        outcome = k2 .0;
-        client = leb-true _ _ (j .0);
-        call = leb-true _ _ (j .1);
-        client-fits = f .client;
-        call-fits = f .call;
-        value = in-range (entryAt (st .plan) (r .point)) (r .value) (k4 .0);
-        past = ltb-true _ _ (k5 .0);
-        within = leb-true _ _ (k6 .0);
-      },
-      in-window (floorOf (r .client) (st .floors)) (r .call) (k6 .1),
-    )
+    let t = joined-all (completionTests st r) h in
+    let j = split (leb 1 (r .command .client)) (leb 1 (r .command .call)) (t .1 .1 .0) in
+    record {
+      good =
+          record {
+            command = t .0;
+            outcome = t .1 .0;
+            client = leb-true _ _ (j .0);
+            call = leb-true _ _ (j .1);
+            client-fits = f .client;
+            call-fits = f .call;
+            value = in-range (entryAt (st .plan) (r .command .point)) (r .result .value) (t .1 .1 .1 .0);
+            past = ltb-true _ _ (t .1 .1 .1 .1 .1 .0);
+            within = leb-true _ _ (t .1 .1 .1 .1 .1 .1 .0);
+          };
+      kept = keeps (pointAt st (r .command .point)) (t .1 .1 .1 .1 .0);
+      window = in-window (floorOf (r .command .client) (st .floors)) (r .command .call) (t .1 .1 .1 .1 .1 .1 .1 .0);
+    }
 
-pub completion-good : (st : State) (r : Completion) → GoodCompletion (st .plan) (st .size) r → Windowed (st .floors) r → completionOk st r ≡ true
+pub completion-good : (st : State) (r : Completion) → Passed st r → completionOk st r ≡ true
 unfolding completionOk idOk
-completion-good st r g w =
-    let c = commandOk (r .op) (r .point) (r .argument) in
-    let o = outcomeOk (r .outcome) (r .quality) in
-    let i = leb 1 (r .client) && leb 1 (r .call) in
-    let v = inRange (entryAt (st .plan) (r .point)) (r .value) in
-    let u = inWindow (floorOf (r .client) (st .floors)) (r .call) in
-    and-both c (o && (i && (v && (ltb headSize (r .end) && (leb (r .end) (st .size) && u))))) (g .command)
-    (and-both o (i && (v && (ltb headSize (r .end) && (leb (r .end) (st .size) && u)))) (g .outcome)
-    (and-both i (v && (ltb headSize (r .end) && (leb (r .end) (st .size) && u)))
-    (and-both (leb 1 (r .client)) (leb 1 (r .call)) (le-leb _ _ (g .client)) (le-leb _ _ (g .call)))
-    (and-both v (ltb headSize (r .end) && (leb (r .end) (st .size) && u)) (range-in (entryAt (st .plan) (r .point)) (r .value) (g .value))
-    (and-both (ltb headSize (r .end)) (leb (r .end) (st .size) && u) (lt-ltb _ _ (g .past))
-    (and-both (leb (r .end) (st .size)) u (le-leb _ _ (g .within)) (window-in (floorOf (r .client) (st .floors)) (r .call) w))))))
+completion-good st r p =
+    let g = p .good in
+    all-joined (completionTests st r) (
+      g .command,
+      (
+        g .outcome,
+        (
+          and-both (leb 1 (r .command .client)) (leb 1 (r .command .call)) (le-leb _ _ (g .client)) (le-leb _ _ (g .call)),
+          (
+            range-in (entryAt (st .plan) (r .command .point)) (r .result .value) (g .value),
+            (
+              keeps-test (pointAt st (r .command .point)) (p .kept),
+              (
+                lt-ltb _ _ (g .past),
+                (le-leb _ _ (g .within), (window-in (floorOf (r .command .client) (st .floors)) (r .command .call) (p .window), tt)),
+              ),
+            ),
+          ),
+        ),
+      ),
+    )
 
 -- ---- ids
 
 -- an id against a record's
-pub is-id : (x c : ℕ) (r : Completion) → isId x c r ≡ true → (r .client ≡ x) × (r .call ≡ c)
+pub is-id : (x c : ℕ) (r : Completion) → isId x c r ≡ true → (r .command .client ≡ x) × (r .command .call ≡ c)
 unfolding isId
-is-id x c r e = let a = split (eqb (r .client) x) (eqb (r .call) c) e in (eqb-true _ _ (a .0), eqb-true _ _ (a .1))
+is-id x c r e = let a = split (eqb (r .command .client) x) (eqb (r .command .call) c) e in (eqb-true _ _ (a .0), eqb-true _ _ (a .1))
 
-pub id-is : (x c : ℕ) (r : Completion) → r .client ≡ x → r .call ≡ c → isId x c r ≡ true
+pub id-is : (x c : ℕ) (r : Completion) → r .command .client ≡ x → r .command .call ≡ c → isId x c r ≡ true
 unfolding isId
-id-is x c r p q = and-both (eqb (r .client) x) (eqb (r .call) c) (eq-eqb _ _ p) (eq-eqb _ _ q)
+id-is x c r p q = and-both (eqb (r .command .client) x) (eqb (r .command .call) c) (eq-eqb _ _ p) (eq-eqb _ _ q)
 
-pub id-not : (x c : ℕ) (r : Completion) → (r .client ≡ x → r .call ≡ c → ⊥) → isId x c r ≡ false
+pub id-not : (x c : ℕ) (r : Completion) → (r .command .client ≡ x → r .command .call ≡ c → ⊥) → isId x c r ≡ false
 id-not x c r h = go (isId x c r) refl
   where
     go : (b : Bool) → isId x c r ≡ b → b ≡ false
     go true e = let k = is-id x c r e in absurd (h (k .0) (k .1))
     go false e = refl
 
-pub not-id : (x c : ℕ) (r : Completion) → isId x c r ≡ false → r .client ≡ x → r .call ≡ c → ⊥
+pub not-id : (x c : ℕ) (r : Completion) → isId x c r ≡ false → r .command .client ≡ x → r .command .call ≡ c → ⊥
 not-id x c r e p q = impossible (sym (id-is x c r p q) ∙ e)
 
 pub differ : (rs : List Completion) → idsDiffer rs ≡ true → Distinct rs
 unfolding idsDiffer
 differ [] h = tt
 differ (r ∷ rs) h =
-    let t : Completion → Bool = λ (q : Completion). not (isId (r .client) (r .call) q) in
+    let t : Completion → Bool = λ (q : Completion). not (isId (r .command .client) (r .command .call) q) in
     let a = split (every t rs) (idsDiffer rs) h in (
-      all-to rs (λ (q : Completion) (k : t q ≡ true) (c : r .client ≡ q .client) (d : r .call ≡ q .call). not-id (r .client) (r .call) q (not-true _ k) (sym c) (sym d)) (every-all t rs (a .0)),
+      all-to rs (λ (q : Completion) (k : t q ≡ true) (c : r .command .client ≡ q .command .client) (d : r .command .call ≡ q .command .call). not-id (r .command .client) (r .command .call) q (not-true _ k) (sym c) (sym d)) (every-all t rs (a .0)),
       differ rs (a .1),
     )
 
@@ -409,82 +481,116 @@ pub differ-test : (rs : List Completion) → Distinct rs → idsDiffer rs ≡ tr
 unfolding idsDiffer
 differ-test [] d = refl
 differ-test (r ∷ rs) d =
-    let t : Completion → Bool = λ (q : Completion). not (isId (r .client) (r .call) q) in
+    let t : Completion → Bool = λ (q : Completion). not (isId (r .command .client) (r .command .call) q) in
     and-both (every t rs) (idsDiffer rs)
-    (all-every t rs (all-to rs (λ (q : Completion) (o : Other r q). not-of-false _ (id-not (r .client) (r .call) q (λ (c : q .client ≡ r .client) (e : q .call ≡ r .call). o (sym c) (sym e)))) (d .0)))
+    (all-every t rs (all-to rs (λ (q : Completion) (o : Other r q). not-of-false _ (id-not (r .command .client) (r .command .call) q (λ (c : q .command .client ≡ r .command .client) (e : q .command .call ≡ r .command .call). o (sym c) (sym e)))) (d .0)))
     (differ-test rs (d .1))
 
+-- ---- order of arrival
+
+not-below : (last : ℕ) (rs : List Completion) → endsFrom last rs ≡ true → All (λ (r : Completion). last ≤ r .end) rs
+unfolding endsFrom
+not-below last [] h = tt
+not-below last (r ∷ rs) h =
+    let a = split (leb last (r .end)) (endsFrom (r .end) rs) h in
+    let l : last ≤ r .end = leb-true _ _ (a .0) in
+    (l, all-to rs (λ (q : Completion) (k : r .end ≤ q .end). omega arith) (not-below (r .end) rs (a .1)))
+
+pub arrives : (last : ℕ) (rs : List Completion) → endsFrom last rs ≡ true → Arrived rs
+unfolding endsFrom
+arrives last [] h = tt
+arrives last (r ∷ rs) h =
+    let a = split (leb last (r .end)) (endsFrom (r .end) rs) h in
+    (not-below (r .end) rs (a .1), arrives (r .end) rs (a .1))
+
+pub arrive-test : (last : ℕ) (rs : List Completion) → All (λ (r : Completion). last ≤ r .end) rs → Arrived rs → endsFrom last rs ≡ true
+unfolding endsFrom
+arrive-test last [] h a = refl
+arrive-test last (r ∷ rs) h a = and-both (leb last (r .end)) (endsFrom (r .end) rs) (le-leb _ _ (h .0)) (arrive-test (r .end) rs (a .0) (a .1))
+
 -- ---- the whole state
+
+abbrev stateTests : State → List Bool
+stateTests st =
+    leb (st .server) lastServer ∷ leb headSize (st .mark) ∷ leb (st .mark) (st .size) ∷ pointsOk (st .server) (st .size) (st .plan) (st .points)
+    ∷ every floorOk (st .floors) ∷ clientsAscend (st .floors) ∷ every (completionOk st) (st .records) ∷ idsDiffer (st .records)
+    ∷ endsFrom headSize (st .records) ∷ []
 
 pub sound-of : (st : State) → stateOk st ≡ true → StateFits st → Sound st
 unfolding stateOk pointAt entryAt
 sound-of st h F =
-    let c1 = leb (st .server) lastServer in
-    let c2 = leb headSize (st .mark) in
-    let c3 = leb (st .mark) (st .size) in
-    let c4 = pointsOk (st .server) (st .size) (st .plan) (st .points) in
-    let c5 = every floorOk (st .floors) in
-    let c6 = clientsAscend (st .floors) in
-    let c7 = every (completionOk st) (st .records) in
-    let c8 = idsDiffer (st .records) in
-    let k1 = split c1 (c2 && (c3 && (c4 && (c5 && (c6 && (c7 && c8)))))) h in
-    let k2 = split c2 (c3 && (c4 && (c5 && (c6 && (c7 && c8))))) (k1 .1) in
-    let k3 = split c3 (c4 && (c5 && (c6 && (c7 && c8)))) (k2 .1) in
-    let k4 = split c4 (c5 && (c6 && (c7 && c8))) (k3 .1) in
-    let k5 = split c5 (c6 && (c7 && c8)) (k4 .1) in
-    let k6 = split c6 (c7 && c8) (k5 .1) in
-    let k7 = split c7 c8 (k6 .1) in
-    let rs : All (λ (r : Completion). GoodCompletion (st .plan) (st .size) r × Windowed (st .floors) r) (st .records)
-    = all-with (st .records) (good-completion st) (every-all (completionOk st) (st .records) (k7 .0)) (F .records) in
-    let windows : All (Windowed (st .floors)) (st .records)
-    = all-to (st .records) (λ (r : Completion) (k : GoodCompletion (st .plan) (st .size) r × Windowed (st .floors) r). k .1) rs in
-    let ids : Distinct (st .records) = differ (st .records) (k7 .1) in
+    let t = joined-all (stateTests st) h in
+    let rs : All (Passed st) (st .records)
+    = all-with (st .records) (good-completion st) (every-all (completionOk st) (st .records) (t .1 .1 .1 .1 .1 .1 .0)) (F .records) in
+    let windows : All (Windowed (st .floors)) (st .records) = all-to (st .records) (λ (r : Completion) (k : Passed st r). k .window) rs in
+    let ids : Distinct (st .records) = differ (st .records) (t .1 .1 .1 .1 .1 .1 .1 .0) in
     record {
-      server = leb-true _ _ (k1 .0);
+      server = leb-true _ _ (t .0);
       heard = F .heard;
-      head = leb-true _ _ (k2 .0);
-      mark = leb-true _ _ (k3 .0);
+      head = leb-true _ _ (t .1 .0);
+      mark = leb-true _ _ (t .1 .1 .0);
       size = F .size;
       plan = F .plan-count;
       entries = all-to (st .plan) (λ (e : PlanEntry) (f : PlanEntryFits e). good-entry e (f .ok) (f .high)) (F .plan);
       points = F .points-count;
-      point =
-          λ (p : ℕ) (l : p ≤ lastPoint).
-          good-point (st .server) (st .size) (getD (st .plan) p noEntry) (getD (st .points) p noPoint)
-          (points-at (st .server) (st .size) (st .plan) (st .points) (k4 .0) p (omega (arith, F .plan-count)))
-          (all-getD PointFits (st .points) p noPoint (F .points) (omega (arith, F .points-count)) .number);
+      point = λ (p : ℕ) (l : p ≤ lastPoint). point-of p l (t .1 .1 .1 .0);
       clients = F .floors-count;
-      floors = all-with (st .floors) good-floor (every-all floorOk (st .floors) (k5 .0)) (F .floors);
-      ascending = ascends (st .floors) (k6 .0);
+      floors = all-with (st .floors) good-floor (every-all floorOk (st .floors) (t .1 .1 .1 .1 .0)) (F .floors);
+      ascending = ascends (st .floors) (t .1 .1 .1 .1 .1 .0);
       count = omega (arith, windows-few (st .floors) (st .records) windows ids, F .floors-count);
-      records = all-to (st .records) (λ (r : Completion) (k : GoodCompletion (st .plan) (st .size) r × Windowed (st .floors) r). k .0) rs;
+      records = all-to (st .records) (λ (r : Completion) (k : Passed st r). k .good) rs;
       windows = windows;
+      kept = all-to (st .records) (λ (r : Completion) (k : Passed st r). k .kept) rs;
       ids = ids;
+      arrived = arrives headSize (st .records) (t .1 .1 .1 .1 .1 .1 .1 .1 .0);
     }
+  where
+    point-of : (p : ℕ) → p ≤ lastPoint → pointsOk (st .server) (st .size) (st .plan) (st .points) ≡ true
+        → GoodPoint (st .server) (st .size) (entryAt (st .plan) p) (pointAt st p)
+    point-of p l k =
+        good-point (st .server) (st .size) (getD (st .plan) p noEntry) (getD (st .points) p noPoint)
+        (points-at (st .server) (st .size) (st .plan) (st .points) k p (omega (arith, F .plan-count)))
+        (all-getD PointFits (st .points) p noPoint (F .points) (omega (arith, F .points-count)) .moveNumber)
 
 pub state-of : (st : State) → Sound st → stateOk st ≡ true
 unfolding stateOk pointAt entryAt
 state-of st S =
-    let c1 = leb (st .server) lastServer in
-    let c2 = leb headSize (st .mark) in
-    let c3 = leb (st .mark) (st .size) in
-    let c4 = pointsOk (st .server) (st .size) (st .plan) (st .points) in
-    let c5 = every floorOk (st .floors) in
-    let c6 = clientsAscend (st .floors) in
-    let c7 = every (completionOk st) (st .records) in
-    let c8 = idsDiffer (st .records) in
-    let points : c4 ≡ true
-    = at-points (st .server) (st .size) (st .plan) (st .points) (S .points ∙ sym (S .plan))
-    (λ (p : ℕ) (l : p < length (st .plan)).
-    point-good (st .server) (st .size) (getD (st .plan) p noEntry) (getD (st .points) p noPoint) (S .point p (omega (arith, S .plan)))) in
-    and-both c1 (c2 && (c3 && (c4 && (c5 && (c6 && (c7 && c8)))))) (le-leb _ _ (S .server))
-    (and-both c2 (c3 && (c4 && (c5 && (c6 && (c7 && c8))))) (le-leb _ _ (S .head))
-    (and-both c3 (c4 && (c5 && (c6 && (c7 && c8)))) (le-leb _ _ (S .mark))
-    (and-both c4 (c5 && (c6 && (c7 && c8))) points
-    (and-both c5 (c6 && (c7 && c8)) (all-every floorOk (st .floors) (all-to (st .floors) floor-good (S .floors)))
-    (and-both c6 (c7 && c8) (ascend-test (st .floors) (S .ascending))
-    (and-both c7 c8 (all-every (completionOk st) (st .records) (all-with (st .records) (completion-good st) (S .records) (S .windows)))
-    (differ-test (st .records) (S .ids))))))))
+    let passed : All (Passed st) (st .records)
+    = all-with (st .records)
+    (λ (r : Completion) (g : GoodCompletion (st .plan) (st .size) r) (k : Keeps (pointAt st (r .command .point)) × Windowed (st .floors) r).
+    record { good = g; kept = k .0; window = k .1 })
+    (S .records)
+    (all-with (st .records) (λ (r : Completion) (k : Keeps (pointAt st (r .command .point))) (w : Windowed (st .floors) r). (k, w)) (S .kept) (S .windows)) in
+    let past : All (λ (r : Completion). headSize ≤ r .end) (st .records)
+    = all-to (st .records) (λ (r : Completion) (g : GoodCompletion (st .plan) (st .size) r). omega (arith, g .past)) (S .records) in
+    all-joined (stateTests st) (
+      le-leb _ _ (S .server),
+      (
+        le-leb _ _ (S .head),
+        (
+          le-leb _ _ (S .mark),
+          (
+            points,
+            (
+              all-every floorOk (st .floors) (all-to (st .floors) floor-good (S .floors)),
+              (
+                ascend-test (st .floors) (S .ascending),
+                (
+                  all-every (completionOk st) (st .records) (all-to (st .records) (completion-good st) passed),
+                  (differ-test (st .records) (S .ids), (arrive-test headSize (st .records) past (S .arrived), tt)),
+                ),
+              ),
+            ),
+          ),
+        ),
+      ),
+    )
+  where
+    points : pointsOk (st .server) (st .size) (st .plan) (st .points) ≡ true
+    points =
+        at-points (st .server) (st .size) (st .plan) (st .points) (S .points ∙ sym (S .plan))
+        (λ (p : ℕ) (l : p < length (st .plan)).
+        point-good (st .server) (st .size) (getD (st .plan) p noEntry) (getD (st .points) p noPoint) (S .point p (omega (arith, S .plan))))
 
 -- the entry of a point in a sound state
 pub sound-entry : (st : State) → Sound st → (p : ℕ) → p ≤ lastPoint → GoodEntry (entryAt (st .plan) p)
@@ -508,17 +614,17 @@ point-fits server size e x z E g =
       quality = omega (arith, g .quality);
       destination = omega (arith, g .destination);
       value = omega (arith, g .value .high, E .fits);
-      number = g .number;
-      taken = omega (arith, g .taken, g .number);
-      gave = omega (arith, g .gave .within);
-      took = omega (arith, g .took .within);
+      moveNumber = g .moveNumber;
+      takenMove = omega (arith, g .takenMove, g .moveNumber);
+      giveEnd = omega (arith, g .giveEnd .within);
+      takeEnd = omega (arith, g .takeEnd .within);
     }
 
 record-fits : (st : State) → Sound st → (r : Completion) → GoodCompletion (st .plan) (st .size) r → CompletionFits r
 record-fits st S r g =
-    let c = command-fits (r .op) (r .point) (r .argument) (g .command) in
-    let o = outcome-fits (r .outcome) (r .quality) (g .outcome) in
-    let E = sound-entry st S (r .point) (c .point) in
+    let c = command-fits (r .command .op) (r .command .point) (r .command .argument) (g .command) in
+    let o = outcome-fits (r .result .outcome) (r .result .quality) (g .outcome) in
+    let E = sound-entry st S (r .command .point) (c .point) in
     record {
       client = g .client-fits;
       call = g .call-fits;

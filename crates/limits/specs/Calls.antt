@@ -7,6 +7,7 @@ use mathlib.Core.Bool.{true}
 use mathlib.Core.List.{List, [], _∷_, _++_}
 use lib.ListN.{take}
 use lib.Dec.{leb}
+use Rattle.model.specs.Versions.{Versions}
 use Rattle.model.specs.declared.PlanEntry.{PlanEntry}
 use Rattle.model.specs.Choice.{refuse, deny, reply, append, marks}
 use Rattle.model.specs.Limits.{headSize, resultSize, receiptSize, greatestImage}
@@ -23,7 +24,7 @@ use Rattle.laws.specs.Fits.{lastEnd}
 use Rattle.limits.specs.History.{Decides, entryFor, DecidedLog}
 
 pub data Operation : Type 0 where
-  request : List ℕ → Operation  -- packet
+  request : Versions → List ℕ → Operation  -- the versions it executes by, packet
   fetch : ℕ → ℕ → Operation  -- client, call
   sync : ℕ → Operation  -- mark
   notice : List ℕ → Operation  -- packet
@@ -35,7 +36,7 @@ pub data Operation : Type 0 where
 
 -- what it decides on a state, with free bytes left in the log
 unfoldable pub decision : Operation → State → ℕ → Decided
-decision (request packet) st free = onRequest st free (parsePacket packet)
+decision (request v packet) st free = onRequest v st free (parsePacket packet)
 decision (fetch client call) st free = onFetch st client call
 decision (sync mark) st free = onSync st mark
 decision (notice packet) st free = onNotice st free (parsePacket packet)
@@ -47,7 +48,7 @@ decision (release packet) st free = onRelease st free (parsePacket packet)
 
 -- the output it is lent, the empty one where it has none, and the bytes it needs there
 unfoldable pub output : Operation → List ℕ → List ℕ
-output (request packet) out = out
+output (request v packet) out = out
 output (fetch client call) out = out
 output (sync mark) out = []
 output (notice packet) out = []
@@ -58,7 +59,7 @@ output (receipt point) out = out
 output (release packet) out = []
 
 unfoldable pub outputSize : Operation → ℕ
-outputSize (request packet) = resultSize
+outputSize (request v packet) = resultSize
 outputSize (fetch client call) = resultSize
 outputSize (sync mark) = 0
 outputSize (notice packet) = 0
@@ -74,7 +75,7 @@ decidedOn o state log out = lent state log (output o out) (outputSize o) (decisi
 
 -- what it leaves of state, log and output
 unfoldable pub operated : Operation → List ℕ → List ℕ → List ℕ → After
-operated (request packet) state log out = requestOf state log packet out
+operated (request v packet) state log out = requestOf v state log packet out
 operated (fetch client call) state log out = fetchOf state log client call out
 operated (sync mark) state log out = syncOf state log mark
 operated (notice packet) state log out = noticeOf state log packet
@@ -86,7 +87,7 @@ operated (release packet) state log out = releaseOf state log packet
 
 -- the packet or image it is lent are bytes
 abbrev pub LentBytes : Operation → Type 0
-LentBytes (request packet) = Bytes packet
+LentBytes (request v packet) = Bytes packet
 LentBytes (fetch client call) = Unit
 LentBytes (sync mark) = Unit
 LentBytes (notice packet) = Bytes packet
@@ -146,5 +147,5 @@ entriesAfter plan n es (marks m) = es
 
 -- a recovery from the log's first c bytes was not refused, and left the records that end at or under c
 pub record Recovered (plan : List PlanEntry) (n : ℕ) (es : List Entry) (c : ℕ) (a : After) (log : List ℕ) : Type 0 where
-  pub number : a .answer .number ≡ 0
+  pub refusal : a .answer .refusal ≡ 0
   pub holds : Holds plan n (keep (λ (e : Entry). leb (e .end) c) es) (a .state) log

@@ -5,6 +5,7 @@ use mathlib.Core.Path.{_≡_}
 use mathlib.Core.List.{List, [], _∷_, _++_}
 use mathlib.Core.Option.{some}
 use lib.ListN.{length}
+use Rattle.model.specs.Versions.{Versions}
 use Rattle.model.specs.declared.PlanEntry.{PlanEntry}
 use Rattle.model.specs.declared.Request.{Request}
 use Rattle.model.specs.declared.Notice.{Notice}
@@ -27,7 +28,7 @@ pub record GoodPlan (plan : List PlanEntry) : Type 0 where
 
 -- an operation decided on the state st, with free bytes left in the log, to append the record r
 pub data Decides (st : State) (free : ℕ) (r : LogRecord) : Type 0 where
-  byRequest : (q : Request) → GoodRequest q → decideRequest st free q ≡ append r → Decides st free r
+  byRequest : (v : Versions) (q : Request) → GoodRequest q → decideRequest v st free q ≡ append r → Decides st free r
   byNotice : (n : Notice) → GoodNotice n → decideNotice st free n ≡ append r → Decides st free r
   byGive : (p d : ℕ) → onGive st free p d ≡ append r → Decides st free r
   byTake : (i : Image) → GoodImage i → decideTake st free i ≡ append r → Decides st free r

@@ -17,7 +17,7 @@ use Rattle.limits.specs.Sound.{GoodValues}
 
 -- no record has the id
 abbrev pub Fresh : ℕ → ℕ → List Completion → Type 0
-Fresh x c rs = All (λ (r : Completion). r .client ≡ x → r .call ≡ c → ⊥) rs
+Fresh x c rs = All (λ (r : Completion). r .command .client ≡ x → r .command .call ≡ c → ⊥) rs
 
 -- a request of client x, call c, on point p; the lease apart
 pub record PassedRequest (st : State) (x c p : ℕ) : Type 0 where
@@ -32,16 +32,16 @@ pub record PassedGive (st : State) (p d : ℕ) : Type 0 where
   pub destination : d ≤ lastServer
   pub held : pointAt st p .status ≡ held
   pub other : d ≢ st .server
-  pub number : pointAt st p .number < last32
+  pub moveNumber : pointAt st p .moveNumber < last32
 
 -- an id of the image that is held stands for the image's point
 abbrev pub FreeFor : ℕ → List Completion → ImageEntry → Type 0
-FreeFor p rs e = All (λ (r : Completion). r .client ≡ e .client → r .call ≡ e .call → r .point ≡ p) rs
+FreeFor p rs e = All (λ (r : Completion). r .command .client ≡ e .client → r .command .call ≡ e .call → r .command .point ≡ p) rs
 
 pub record PassedTake (st : State) (i : Image) : Type 0 where
   pub values : GoodValues (entryAt (st .plan) (i .point)) i
   pub destination : i .destination ≡ st .server
-  pub newer : pointAt st (i .point) .number < i .number
+  pub newer : pointAt st (i .point) .moveNumber < i .moveNumber
   pub away : pointAt st (i .point) .status ≢ held
   pub free : All (FreeFor (i .point) (st .records)) (i .entries)
   pub clients : length (mergeFloors (i .floors) (st .floors)) ≤ clientCount
@@ -49,4 +49,4 @@ pub record PassedTake (st : State) (i : Image) : Type 0 where
 -- a release of point p by a receipt of move m
 pub record PassedRelease (st : State) (p m : ℕ) : Type 0 where
   pub given : pointAt st p .status ≡ given
-  pub newer : pointAt st p .number ≤ m
+  pub newer : pointAt st p .moveNumber ≤ m

@@ -1,6 +1,6 @@
 -- A server's state within every limit, as propositions: what the tests of States say, with the counts and the widths of fields.
 -- Assumes nothing.
-use Prim.Native.Nat.{ℕ, _+_, _*_, _≤_, _<_}
+use Prim.Native.Nat.{ℕ, suc, _+_, _*_, _≤_, _<_}
 use mathlib.Core.Path.{_≡_}
 use mathlib.Core.Bool.{Bool, true}
 use mathlib.Core.List.{List, [], _∷_}
@@ -23,7 +23,7 @@ use Rattle.model.specs.Plan.{entryAt}
 use Rattle.model.specs.Packets.{commandOk, outcomeOk, requestOk}
 use Rattle.model.specs.Images.{Image, floorOf}
 use Rattle.model.specs.Logs.{LogRecord, executed, gone, gave, took, released, executedOk}
-use Rattle.model.specs.States.{State, pointAt, given, released as releasedStatus}
+use Rattle.model.specs.States.{State, pointAt, absent as absentStatus, held as heldStatus, given as givenStatus, releasedStatus}
 use Rattle.laws.specs.Bytes.{All}
 
 -- ---- parts
@@ -45,23 +45,47 @@ pub record GoodEnd (size end : ℕ) : Type 0 where
   pub past : end ≢ 0 → headSize < end
   pub within : end ≤ size
 
--- a given or released point has a destination and a give; another has neither. A point was taken or never was
+-- never taken: founded here; else the take has an end
+pub record Origin (server home taken took : ℕ) : Type 0 where
+  pub founded : taken ≡ 0 → home ≡ server
+  pub untaken : taken ≡ 0 → took ≡ 0
+  pub takenAt : taken ≢ 0 → 1 ≤ took
+
+-- as founding left it, at a server that is not its home
+pub record Untouched (server : ℕ) (e : PlanEntry) (x : Point) : Type 0 where
+  pub home : e .home ≢ server
+  pub value : x .value ≡ e .fallback
+  pub quality : x .quality ≡ 1
+  pub moveNumber : x .moveNumber ≡ 0
+  pub takenMove : x .takenMove ≡ 0
+  pub takeEnd : x .takeEnd ≡ 0
+
+-- what a point's status says of its other fields
+pub record Standing (server : ℕ) (e : PlanEntry) (x : Point) : Type 0 where
+  pub absent : x .status ≡ absentStatus → Untouched server e x
+  pub held : x .status ≡ heldStatus → x .moveNumber ≡ x .takenMove
+  pub given : givenStatus ≤ x .status → x .moveNumber ≡ suc (x .takenMove)
+  pub away : givenStatus ≤ x .status → x .destination ≢ server
+  pub ended : givenStatus ≤ x .status → x .takeEnd < x .giveEnd
+  pub stays : x .status < givenStatus → x .destination ≡ 0
+  pub unended : x .status < givenStatus → x .giveEnd ≡ 0
+  pub origin : heldStatus ≤ x .status → Origin server (e .home) (x .takenMove) (x .takeEnd)
+
 pub record GoodPoint (server size : ℕ) (e : PlanEntry) (x : Point) : Type 0 where
   pub status : x .status ≤ releasedStatus
   pub quality : x .quality ≤ lastQuality
   pub destination : x .destination ≤ lastServer
   pub value : Ranged e (x .value)
-  pub gave : GoodEnd size (x .gave)
-  pub took : GoodEnd size (x .took)
-  pub moved : given ≤ x .status → 1 ≤ x .number
-  pub away : given ≤ x .status → x .destination ≢ server
-  pub ended : given ≤ x .status → 1 ≤ x .gave
-  pub stays : x .status < given → x .destination ≡ 0
-  pub unended : x .status < given → x .gave ≡ 0
-  pub taken : x .taken ≤ x .number
-  pub untaken : x .taken ≡ 0 → x .took ≡ 0
-  pub takenAt : x .taken ≢ 0 → 1 ≤ x .took
-  pub number : x .number < word
+  pub giveEnd : GoodEnd size (x .giveEnd)
+  pub takeEnd : GoodEnd size (x .takeEnd)
+  pub standing : Standing server e x
+  pub takenMove : x .takenMove ≤ x .moveNumber
+  pub moveNumber : x .moveNumber < word
+
+-- held, or given and not released
+pub record Keeps (x : Point) : Type 0 where
+  pub low : heldStatus ≤ x .status
+  pub high : x .status ≤ givenStatus
 
 pub record GoodFloor (f : Floor) : Type 0 where
   pub client : 1 ≤ f .client
@@ -86,37 +110,49 @@ pub record InWindow (floor call : ℕ) : Type 0 where
 
 -- a completion record's own fields
 pub record GoodCompletion (plan : List PlanEntry) (size : ℕ) (r : Completion) : Type 0 where
-  pub command : commandOk (r .op) (r .point) (r .argument) ≡ true
-  pub outcome : outcomeOk (r .outcome) (r .quality) ≡ true
-  pub client : 1 ≤ r .client
-  pub call : 1 ≤ r .call
-  pub client-fits : r .client < word
-  pub call-fits : r .call < word
-  pub value : Ranged (entryAt plan (r .point)) (r .value)
+  pub command : commandOk (r .command .op) (r .command .point) (r .command .argument) ≡ true
+  pub outcome : outcomeOk (r .result .outcome) (r .result .quality) ≡ true
+  pub client : 1 ≤ r .command .client
+  pub call : 1 ≤ r .command .call
+  pub client-fits : r .command .client < word
+  pub call-fits : r .command .call < word
+  pub value : Ranged (entryAt plan (r .command .point)) (r .result .value)
   pub past : headSize < r .end
   pub within : r .end ≤ size
 
 -- its call against its client's floor
 abbrev pub Windowed : List Floor → Completion → Type 0
-Windowed fs r = InWindow (floorOf (r .client) fs) (r .call)
+Windowed fs r = InWindow (floorOf (r .command .client) fs) (r .command .call)
+
+-- each record against every later one
+abbrev pub Pairs : (Completion → Completion → Type 0) → List Completion → Type 0
+Pairs R [] = Unit
+Pairs R (r ∷ rs) = All (R r) rs × Pairs R rs
 
 -- another id
 abbrev pub Other : Completion → Completion → Type 0
-Other r q = r .client ≡ q .client → r .call ≡ q .call → ⊥
+Other r q = r .command .client ≡ q .command .client → r .command .call ≡ q .command .call → ⊥
 
 -- no id stands twice
 abbrev pub Distinct : List Completion → Type 0
-Distinct [] = Unit
-Distinct (r ∷ rs) = All (Other r) rs × Distinct rs
+Distinct rs = Pairs Other rs
+
+-- an end that is not below
+abbrev pub NotBelow : Completion → Completion → Type 0
+NotBelow r q = r .end ≤ q .end
+
+-- in order of arrival
+abbrev pub Arrived : List Completion → Type 0
+Arrived rs = Pairs NotBelow rs
 
 -- calls from floor to floor + n - 1
 pub record CallIn (floor n : ℕ) (r : Completion) : Type 0 where
-  pub low : floor ≤ r .call
-  pub high : r .call < floor + n
+  pub low : floor ≤ r .command .call
+  pub high : r .command .call < floor + n
 
 -- the records of one client
 unfoldable pub isOf : ℕ → Completion → Bool
-isOf x r = eqb (r .client) x
+isOf x r = eqb (r .command .client) x
 
 -- ---- the whole state
 
@@ -136,7 +172,9 @@ pub record Sound (st : State) : Type 0 where
   pub count : length (st .records) ≤ recordCount
   pub records : All (GoodCompletion (st .plan) (st .size)) (st .records)
   pub windows : All (Windowed (st .floors)) (st .records)
+  pub kept : All (λ (r : Completion). Keeps (pointAt st (r .command .point))) (st .records)
   pub ids : Distinct (st .records)
+  pub arrived : Arrived (st .records)
 
 -- ---- images
 
@@ -153,12 +191,12 @@ EntriesAscending (e ∷ es) = All (Before e) es × EntriesAscending es
 -- a record of the point p among floors fs
 pub record GoodImageEntry (p : ℕ) (fs : List Floor) (e : ImageEntry) : Type 0 where
   pub command : commandOk (e .op) p (e .argument) ≡ true
-  pub outcome : outcomeOk (e .outcome) (e .quality) ≡ true
+  pub outcome : outcomeOk (e .result .outcome) (e .result .quality) ≡ true
   pub client : 1 ≤ e .client
   pub call : 1 ≤ e .call
   pub client-fits : e .client < word
   pub call-fits : e .call < word
-  pub value-fits : e .value < word
+  pub value-fits : e .result .value < word
   pub window : InWindow (floorOf (e .client) fs) (e .call)
 
 -- all rules but the one on values, which needs the plan
@@ -167,7 +205,7 @@ pub record GoodImage (i : Image) : Type 0 where
   pub destination : i .destination ≤ lastServer
   pub source : i .source ≤ lastServer
   pub quality : i .quality ≤ lastQuality
-  pub number : i .number < word
+  pub moveNumber : i .moveNumber < word
   pub heard : i .heard < word
   pub value : i .value < word
   pub clients : length (i .floors) ≤ clientCount
@@ -180,20 +218,20 @@ pub record GoodImage (i : Image) : Type 0 where
 -- the values lie in the range of e
 pub record GoodValues (e : PlanEntry) (i : Image) : Type 0 where
   pub value : Ranged e (i .value)
-  pub values : All (λ (r : ImageEntry). Ranged e (r .value)) (i .entries)
+  pub values : All (λ (r : ImageEntry). Ranged e (r .result .value)) (i .entries)
 
 -- ---- log records that keep their layout, requests that keep theirs
 
 pub record GoodRequest (q : Request) : Type 0 where
   pub ok : requestOk q ≡ true
-  pub client : q .client < word
-  pub call : q .call < word
+  pub client : q .command .client < word
+  pub call : q .command .call < word
 
 pub record GoodExecuted (x : Executed) : Type 0 where
   pub ok : executedOk x ≡ true
-  pub client : x .client < word
-  pub call : x .call < word
-  pub value : x .value < word
+  pub client : x .command .client < word
+  pub call : x .command .call < word
+  pub value : x .result .value < word
 
 pub record GoodNotice (n : Notice) : Type 0 where
   pub ok : 1 ≤ n .client
@@ -203,11 +241,11 @@ pub record GoodNotice (n : Notice) : Type 0 where
 pub record GoodGive (g : Give) : Type 0 where
   pub point : g .point ≤ lastPoint
   pub destination : g .destination ≤ lastServer
-  pub number : g .number < word
+  pub moveNumber : g .moveNumber < word
 
 pub record GoodRelease (r : Release) : Type 0 where
   pub point : r .point ≤ lastPoint
-  pub number : r .number < word
+  pub moveNumber : r .moveNumber < word
 
 abbrev pub GoodRecord : LogRecord → Type 0
 GoodRecord (executed x) = GoodExecuted x
@@ -224,11 +262,11 @@ pub record CommandFits (o p a : ℕ) : Type 0 where
 
 -- the tests of an executed record
 pub record Tested (x : Executed) : Type 0 where
-  pub command : commandOk (x .op) (x .point) (x .argument) ≡ true
-  pub outcome : outcomeOk (x .outcome) (x .quality) ≡ true
-  pub quality : x .quality ≤ lastQuality
-  pub client : 1 ≤ x .client
-  pub call : 1 ≤ x .call
+  pub command : commandOk (x .command .op) (x .command .point) (x .command .argument) ≡ true
+  pub outcome : outcomeOk (x .result .outcome) (x .result .quality) ≡ true
+  pub quality : x .result .quality ≤ lastQuality
+  pub client : 1 ≤ x .command .client
+  pub call : 1 ≤ x .command .call
   pub done : 1 ≤ x .done
-  pub low : x .done ≤ x .call
-  pub high : x .call ≤ x .done + 15
+  pub low : x .done ≤ x .command .call
+  pub high : x .command .call ≤ x .done + lastInWindow

@@ -6,6 +6,7 @@ use mathlib.Core.List.{List, [], _∷_, _++_, map}
 use lib.ListN.{length, set}
 use lib.Dec.{eqb, leb, ltb}
 use Rattle.model.specs.declared.PlanEntry.{PlanEntry}
+use Rattle.model.specs.declared.Command.{Command}
 use Rattle.model.specs.declared.Floor.{Floor}
 use Rattle.model.specs.declared.ImageEntry.{ImageEntry}
 use Rattle.model.specs.declared.Executed.{Executed}
@@ -20,7 +21,7 @@ use Rattle.model.specs.Images.{Image, floorOf}
 use Rattle.model.specs.Logs.{LogRecord, executed, gone, gave, took, released, Entry, recordSize}
 use Rattle.model.specs.States
 use Rattle.model.specs.States.{State, pointAt}
-use Rattle.model.specs.Limits.{headSize}
+use Rattle.model.specs.Limits.{invalid, headSize}
 
 -- ---- floors, by client
 
@@ -43,16 +44,16 @@ isNotClient x f = not (eqb (f .client) x)
 
 -- of client x only calls from the floor on
 unfoldable pub staysOver : ℕ → ℕ → Completion → Bool
-staysOver x floor r = not (eqb (r .client) x) || leb floor (r .call)
+staysOver x floor r = not (eqb (r .command .client) x) || leb floor (r .command .call)
 
 unfoldable pub staysOverFloors : List Floor → Completion → Bool
-staysOverFloors fs r = leb (floorOf (r .client) fs) (r .call)
+staysOverFloors fs r = leb (floorOf (r .command .client) fs) (r .command .call)
 
 unfoldable pub isOfOther : ℕ → Completion → Bool
-isOfOther x r = not (eqb (r .client) x)
+isOfOther x r = not (eqb (r .command .client) x)
 
 unfoldable pub isOnOther : ℕ → Completion → Bool
-isOnOther p r = not (eqb (r .point) p)
+isOnOther p r = not (eqb (r .command .point) p)
 
 -- ---- the five records; `end` is the log's length after the record
 
@@ -60,42 +61,32 @@ unfoldable pub executedPoint : Executed → Point → Point
 executedPoint x q =
     record {
       status = q .status;
-      quality = x .quality;
+      quality = x .result .quality;
       destination = q .destination;
-      value = x .value;
-      number = q .number;
-      taken = q .taken;
-      gave = q .gave;
-      took = q .took;
+      value = x .result .value;
+      moveNumber = q .moveNumber;
+      takenMove = q .takenMove;
+      giveEnd = q .giveEnd;
+      takeEnd = q .takeEnd;
     }
 
 unfoldable pub completion : Executed → ℕ → Completion
-completion x end =
-    record {
-      client = x .client;
-      call = x .call;
-      argument = x .argument;
-      value = x .value;
-      op = x .op;
-      outcome = x .outcome;
-      quality = x .quality;
-      point = x .point;
-      end = end;
-    }
+completion x end = record { command = x .command; result = x .result; end = end }
 
 -- executed: the point's value and quality, a completion record, the client's floor, its records under the floor go
 unfoldable pub applyExecuted : Executed → ℕ → State → State
 applyExecuted x end st =
-    let fs = raise (x .client) (x .done) (st .floors) in
+    let c = x .command in
+    let fs = raise (c .client) (x .done) (st .floors) in
     record {
       server = st .server;
       heard = st .heard;
       size = end;
       mark = st .mark;
       plan = st .plan;
-      points = set (st .points) (x .point) (executedPoint x (pointAt st (x .point)));
+      points = set (st .points) (c .point) (executedPoint x (pointAt st (c .point)));
       floors = fs;
-      records = keep (staysOver (x .client) (floorOf (x .client) fs)) (st .records ++ (completion x end ∷ []));
+      records = keep (staysOver (c .client) (floorOf (c .client) fs)) (st .records ++ (completion x end ∷ []));
     }
 
 -- gone: the client and its records go, heard time rises to the notice's time
@@ -120,10 +111,10 @@ gavePoint g end q =
       quality = q .quality;
       destination = g .destination;
       value = q .value;
-      number = g .number;
-      taken = q .taken;
-      gave = end;
-      took = q .took;
+      moveNumber = g .moveNumber;
+      takenMove = q .takenMove;
+      giveEnd = end;
+      takeEnd = q .takeEnd;
     }
 
 unfoldable pub applyGave : Give → ℕ → State → State
@@ -148,23 +139,17 @@ tookPoint i end =
       quality = i .quality;
       destination = 0;
       value = i .value;
-      number = i .number;
-      taken = i .number;
-      gave = 0;
-      took = end;
+      moveNumber = i .moveNumber;
+      takenMove = i .moveNumber;
+      giveEnd = 0;
+      takeEnd = end;
     }
 
 unfoldable pub takenRecord : ℕ → ℕ → ImageEntry → Completion
 takenRecord p end e =
     record {
-      client = e .client;
-      call = e .call;
-      argument = e .argument;
-      value = e .value;
-      op = e .op;
-      outcome = e .outcome;
-      quality = e .quality;
-      point = p;
+      command = record { client = e .client; call = e .call; op = e .op; point = p; argument = e .argument };
+      result = e .result;
       end = end;
     }
 
@@ -187,14 +172,14 @@ applyTook i end st =
 unfoldable pub releasedPoint : Point → Point
 releasedPoint q =
     record {
-      status = States.released;
+      status = States.releasedStatus;
       quality = q .quality;
       destination = q .destination;
       value = q .value;
-      number = q .number;
-      taken = q .taken;
-      gave = q .gave;
-      took = q .took;
+      moveNumber = q .moveNumber;
+      takenMove = q .takenMove;
+      giveEnd = q .giveEnd;
+      takeEnd = q .takeEnd;
     }
 
 unfoldable pub applyReleased : Release → ℕ → State → State
@@ -227,13 +212,13 @@ unfoldable pub foundedPoint : ℕ → PlanEntry → Point
 foundedPoint server e =
     record {
       status = pick (eqb (e .home) server) States.held States.absent;
-      quality = 1;
+      quality = invalid;
       destination = 0;
       value = e .fallback;
-      number = 0;
-      taken = 0;
-      gave = 0;
-      took = 0;
+      moveNumber = 0;
+      takenMove = 0;
+      giveEnd = 0;
+      takeEnd = 0;
     }
 
 -- founding puts the mark at 8

@@ -1,9 +1,10 @@
--- Choice by a test, and what a call decides. Ordered refusals read as in the paper:
---     3 if not-held else 4 if lease-over else ..
+-- Choice by a test, and what a call decides. The number of ordered refusals reads as in the paper:
+--     3 if not-held else 4 if lease-over else .. else passed
 -- Assumes nothing.
 use Prim.Native.Nat.{ℕ}
 use mathlib.Core.Bool.{Bool, true, false}
 use mathlib.Core.List.{List}
+use lib.Dec.{eqb}
 
 -- a where t holds, else b
 abbrev pub pick : {A : Type 0} → Bool → A → A → A
@@ -23,7 +24,17 @@ pub data Decision (R : Type 0) : Type 0 where
   append : R → Decision R
   marks : ℕ → Decision R
 
--- the refusal n where the test holds, else what follows
+-- the number n where the test holds, else that of the tests that follow; 0 where all are passed
 infixr 5 _if_else_
-abbrev pub _if_else_ : {R : Type 0} → ℕ → Bool → Decision R → Decision R
-_if_else_ n t d = pick t (refuse n) d
+abbrev pub _if_else_ : ℕ → Bool → ℕ → ℕ
+_if_else_ n t m = pick t n m
+
+abbrev pub passed : ℕ
+passed = 0
+
+abbrev pub isPassed : ℕ → Bool
+isPassed n = eqb n passed
+
+-- the refusal n, or what the call does where the tests are passed
+unfoldable pub unlessRefused : {R : Type 0} → ℕ → Decision R → Decision R
+unlessRefused n d = pick (isPassed n) d (refuse n)

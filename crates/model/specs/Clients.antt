@@ -4,7 +4,6 @@
 use Prim.Native.Nat.{ℕ, zero, suc, _+_, _%_}
 use mathlib.Core.Bool.{Bool, true, false, _&&_, _||_, not}
 use mathlib.Core.List.{List, [], _∷_}
-use mathlib.Core.Option.{Option, none, some}
 use lib.ListN.{length, getD, set, replicate}
 use lib.Dec.{eqb, leb, ltb}
 use Rattle.model.specs.declared.Request.{Request}
@@ -24,11 +23,12 @@ use Rattle.model.specs.declared.Received.the-variants.{NotReceived, Comp
 use Rattle.model.specs.declared.StartAnswer.{StartAnswer}
 use Rattle.model.specs.declared.SendAnswer.{SendAnswer}
 use Rattle.model.specs.declared.ReceiveAnswer.{ReceiveAnswer}
+use Rattle.model.specs.declared.Command.{Command}
 use Rattle.model.specs.declared.CommandResult.{CommandResult}
 use Rattle.model.specs.Choice.{pick}
 use Rattle.model.specs.Numbers.{half}
-use Rattle.model.specs.Refusals.{malformed, windowFull, numbersOut, unknown}
-use Rattle.model.specs.Limits.{last32, callWindow}
+use Rattle.model.specs.Refusals.{noRefusal, malformed, windowFull, numbersOut, unknown}
+use Rattle.model.specs.Limits.{last32, callWindow, resultKind, refusalKind, grantKind}
 use Rattle.model.specs.Packets.{parsePacket, commandOk, requestBytes}
 
 abbrev pub noCall : OpenCall
@@ -71,13 +71,9 @@ closed d c = withCalls d (d .next) (set (d .calls) (placeOf c) noCall)
 unfoldable pub requestFor : Client → OpenCall → Request
 requestFor d k =
     record {
-      op = k .op;
-      point = k .point;
-      client = d .client;
-      call = k .call;
+      command = record { client = d .client; call = k .call; op = k .op; point = k .point; argument = k .argument };
       done = firstOpen d;
       lease = d .lease;
-      argument = k .argument;
     }
 
 -- ---- Start: 1 not a grant. The next number is 1
@@ -160,36 +156,36 @@ receiveOf d packet = receiveWith d (parsePacket packet)
 
 unfoldable pub startNumber : Started → ℕ
 startNumber (NotStarted n) = n
-startNumber Running = 0
+startNumber Running = noRefusal
 
 unfoldable pub sendNumber : Sent → ℕ
 sendNumber (NotSent n) = n
-sendNumber (Asked q) = 0
+sendNumber (Asked q) = noRefusal
 
 unfoldable pub receiveNumber : Received → ℕ
 receiveNumber (NotReceived n) = n
-receiveNumber (Completed r) = 0
-receiveNumber (Denied r) = 0
-receiveNumber (Extended g) = 0
+receiveNumber (Completed r) = noRefusal
+receiveNumber (Denied r) = noRefusal
+receiveNumber (Extended g) = noRefusal
 
--- what a receive brings: a result's outcome, value and quality; the value alone (x + 2 ^ 31), 0 where there is none; a lease end
-unfoldable pub receivedResult : Received → Option CommandResult
-receivedResult (NotReceived n) = none
-receivedResult (Completed r) = some (record { outcome = r .outcome; value = r .value; quality = r .quality })
-receivedResult (Denied r) = none
-receivedResult (Extended g) = none
+-- what a receive brings, 0 where its case lacks it: the packet's kind, call and point, the result, a refusal's own number, a lease end
+pub record Brought : Type 0 where
+  pub kind : ℕ
+  pub call : ℕ
+  pub point : ℕ
+  pub result : CommandResult
+  pub refusal : ℕ
+  pub lease : ℕ
 
-unfoldable pub receivedValue : Received → ℕ
-receivedValue (NotReceived n) = half
-receivedValue (Completed r) = r .value
-receivedValue (Denied r) = half
-receivedValue (Extended g) = half
+abbrev pub noResult : CommandResult
+noResult = record { outcome = 0; value = half; quality = 0 }
 
-unfoldable pub receivedLease : Received → Option ℕ
-receivedLease (NotReceived n) = none
-receivedLease (Completed r) = none
-receivedLease (Denied r) = none
-receivedLease (Extended g) = some (g .lease)
+unfoldable pub brought : Received → Brought
+brought (NotReceived n) = record { kind = 0; call = 0; point = 0; result = noResult; refusal = 0; lease = 0 }
+brought (Completed r) =
+    record { kind = resultKind; call = r .call; point = r .point; result = r .result; refusal = 0; lease = 0 }
+brought (Denied r) = record { kind = refusalKind; call = r .call; point = r .point; result = noResult; refusal = r .refusal; lease = 0 }
+brought (Extended g) = record { kind = grantKind; call = 0; point = 0; result = noResult; refusal = 0; lease = g .lease }
 
 -- the packet that an answer carries
 unfoldable pub sentBytes : Sent → List ℕ

@@ -17,6 +17,7 @@ use Rattle.model.specs.Choice.{pick}
 use Rattle.model.specs.Numbers.{byteAt, le32At, le32, signedAt, signed32, zeroAt, zeros3At, quad}
 use Rattle.model.specs.Tables.{rows, everyRow, bytesOf, every}
 use Rattle.model.specs.Plan.{inRange}
+use Rattle.model.specs.Refusals.{noRefusal, malformed}
 use Rattle.model.specs.Packets.{idOk, commandOk, outcomeOk}
 use Rattle.model.specs.Limits.{lastPoint, lastServer, lastQuality, lastInWindow, clientCount, greatestImage, leastImage, partsStart, pointPart, floorRow, entryRow}
 
@@ -24,7 +25,7 @@ pub record Image : Type 0 where
   pub point : ℕ
   pub destination : ℕ
   pub source : ℕ
-  pub number : ℕ  -- the move number
+  pub moveNumber : ℕ
   pub heard : ℕ
   pub value : ℕ
   pub quality : ℕ
@@ -49,21 +50,24 @@ imageEntryOf s =
     record {
       client = le32At s 0;
       call = le32At s 4;
-      argument = signedAt s 8;
-      value = signedAt s 12;
       op = byteAt s 16;
-      outcome = byteAt s 17;
-      quality = byteAt s 18;
+      argument = signedAt s 8;
+      result = record { outcome = byteAt s 17; value = signedAt s 12; quality = byteAt s 18 };
     }
 
 unfoldable pub imageEntryBytes : ImageEntry → List ℕ
 imageEntryBytes e =
-    le32 (e .client) ++ (le32 (e .call) ++ (signed32 (e .argument) ++ (signed32 (e .value) ++ quad (e .op) (e .outcome) (e .quality) 0)))
+    let r = e .result in
+    le32 (e .client) ++ (le32 (e .call) ++ (signed32 (e .argument) ++ (signed32 (r .value) ++ quad (e .op) (r .outcome) (r .quality) 0)))
 
 -- the floor of a client among floors, 0 where it has none (floors are ≥ 1)
 unfoldable pub floorOf : ℕ → List Floor → ℕ
 floorOf x [] = 0
 floorOf x (f ∷ fs) = pick (eqb (f .client) x) (f .floor) (floorOf x fs)
+
+-- a client with this floor is not known: a floor is at least 1
+abbrev pub notKnown : ℕ → Bool
+notKnown floor = eqb floor 0
 
 -- the call is from floor to floor + 15, and the client has a floor
 unfoldable pub inWindow : ℕ → ℕ → Bool
@@ -90,7 +94,7 @@ floorOk f = leb 1 (f .client) && leb 1 (f .floor)
 unfoldable pub imageEntryOk : ℕ → List Floor → ImageEntry → Bool
 imageEntryOk p fs e =
     commandOk (e .op) p (e .argument)
-    && (outcomeOk (e .outcome) (e .quality) && (idOk (e .client) (e .call) && inWindow (floorOf (e .client) fs) (e .call)))
+    && (outcomeOk (e .result .outcome) (e .result .quality) && (idOk (e .client) (e .call) && inWindow (floorOf (e .client) fs) (e .call)))
 
 -- ---- the whole
 
@@ -100,7 +104,7 @@ imageHeadOf s =
       point = byteAt s 4;
       destination = byteAt s 5;
       source = byteAt s 6;
-      number = le32At s 8;
+      moveNumber = le32At s 8;
       heard = le32At s 12;
       value = signedAt s 40;
       quality = byteAt s 44;
@@ -115,7 +119,7 @@ imageAt h s =
       point = h .point;
       destination = h .destination;
       source = h .source;
-      number = h .number;
+      moveNumber = h .moveNumber;
       heard = h .heard;
       value = h .value;
       quality = h .quality;
@@ -126,7 +130,9 @@ imageAt h s =
 -- 4D 56 49 31, and the zero bytes
 unfoldable pub imageFramed : List ℕ → Bool
 imageFramed s =
-    eqb (byteAt s 0) 77 && (eqb (byteAt s 1) 86 && (eqb (byteAt s 2) 73 && (eqb (byteAt s 3) 49 && (zeroAt s 7 && zeros3At s 45))))
+    eqb (byteAt s 0) (byteAt imageMagic 0)
+    && (eqb (byteAt s 1) (byteAt imageMagic 1)
+    && (eqb (byteAt s 2) (byteAt imageMagic 2) && (eqb (byteAt s 3) (byteAt imageMagic 3) && (zeroAt s 7 && zeros3At s 45))))
 
 -- three parts without gaps from byte 40 to the slice's end: 8 bytes, 8 a floor, 20 a record
 unfoldable pub imageParts : ImageHead → List ℕ → Bool
@@ -167,9 +173,14 @@ imageOk s =
 unfoldable pub parseImage : List ℕ → Option Image
 parseImage s = pick (imageOk s) (some (imageAt (imageHeadOf s) s)) none
 
+-- the paper's number for what the reader of images finds
+unfoldable pub imageNumber : Option Image → ℕ
+imageNumber none = malformed
+imageNumber (some i) = noRefusal
+
 -- the values lie in the point's range
 unfoldable pub entryInRange : PlanEntry → ImageEntry → Bool
-entryInRange e r = inRange e (r .value)
+entryInRange e r = inRange e (r .result .value)
 
 unfoldable pub imageInRange : PlanEntry → Image → Bool
 imageInRange e i = inRange e (i .value) && every (entryInRange e) (i .entries)
@@ -181,7 +192,7 @@ unfoldable pub imageHeadBytes : Image → List ℕ
 imageHeadBytes i =
     imageMagic
     ++ (quad (i .point) (i .destination) (i .source) 0
-    ++ (le32 (i .number)
+    ++ (le32 (i .moveNumber)
     ++ (le32 (i .heard)
     ++ (le32 partsStart
     ++ (le32 pointPart

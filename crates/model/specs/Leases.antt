@@ -14,8 +14,8 @@ use Rattle.model.specs.declared.Told.{Told}
 use Rattle.model.specs.declared.Told.the-variants.{NotTold, ByGrant, ByNotice}
 use Rattle.model.specs.declared.LeaseAnswer.{LeaseAnswer}
 use Rattle.model.specs.Choice.{pick}
-use Rattle.model.specs.Refusals.{malformed, numbersOut, unknown, leasesFull}
-use Rattle.model.specs.Limits.{last32, leaseCount, longestSpan}
+use Rattle.model.specs.Refusals.{noRefusal, malformed, numbersOut, unknown, leasesFull}
+use Rattle.model.specs.Limits.{last32, noticeKind, leaseCount, longestSpan}
 use Rattle.model.specs.Tables.{every}
 use Rattle.model.specs.Packets.{grantBytes, noticeBytes}
 
@@ -46,9 +46,9 @@ unfoldable pub isTaken : Lease → Bool
 isTaken l = not (eqb (l .client) 0)
 
 -- a new lease, at the first free place
-unfoldable pub entered : Lease → List Lease → List Lease
-entered n [] = []
-entered n (l ∷ ls) = pick (isTaken l) (l ∷ entered n ls) (n ∷ ls)
+unfoldable pub withNewLease : Lease → List Lease → List Lease
+withNewLease n [] = []
+withNewLease n (l ∷ ls) = pick (isTaken l) (l ∷ withNewLease n ls) (n ∷ ls)
 
 -- the client's lease with the end e
 unfoldable pub extended : ℕ → ℕ → List Lease → List Lease
@@ -77,7 +77,7 @@ openOf m t span =
     pick (not (spanOk span)) (notTold m malformed)
     (pick (every isTaken ls) (notTold m leasesFull)
     (pick (ltb last32 x || ltb last32 (now + span)) (notTold m numbersOut)
-    (granted (manager now x (entered (record { client = x; lease = now + span }) ls)) x (now + span))))
+    (granted (manager now x (withNewLease (record { client = x; lease = now + span }) ls)) x (now + span))))
 
 -- ---- Renew (client, time, span): 1; 17 no running lease; 16. The end becomes the time + span if that is greater
 
@@ -106,10 +106,10 @@ queryOf m x t =
 
 unfoldable pub toldNumber : Told → ℕ
 toldNumber (NotTold n) = n
-toldNumber (ByGrant g) = 0
-toldNumber (ByNotice n) = 0
+toldNumber (ByGrant g) = noRefusal
+toldNumber (ByNotice n) = noRefusal
 
 unfoldable pub toldBytes : Told → List ℕ
 toldBytes (NotTold n) = []
 toldBytes (ByGrant g) = grantBytes g
-toldBytes (ByNotice n) = noticeBytes 5 n
+toldBytes (ByNotice n) = noticeBytes noticeKind n

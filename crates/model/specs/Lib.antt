@@ -5,6 +5,7 @@ pub mod Tables
 pub mod Limits
 pub mod Refusals
 pub mod Plan
+pub mod Versions
 pub mod Rules
 pub mod Sequential
 pub mod Packets

@@ -1,8 +1,56 @@
--- Every limit and size of the paper, each once. A later change of a format changes it here.
+-- Every limit, size, kind and code of the paper, each once; derived ones are computed. A later change of a format changes it here.
+-- crates/model/src/constants.rt has the same numbers for the code.
 -- Assumes nothing.
-use Prim.Native.Nat.{ℕ}
+use Prim.Native.Nat.{ℕ, suc, _+_, _-_, _*_}
 
--- greatest values of the fields with a range
+-- ---- ops
+
+abbrev pub readOp : ℕ
+readOp = 0
+
+abbrev pub setOp : ℕ
+setOp = 1
+
+abbrev pub stepOp : ℕ
+stepOp = 2
+
+abbrev pub reportOp : ℕ
+reportOp = 3
+
+abbrev pub faultOp : ℕ
+faultOp = 4
+
+abbrev pub partOp : ℕ
+partOp = 5
+
+-- the argument of part that means the whole range
+abbrev pub wholePart : ℕ
+wholePart = 1000
+
+-- ---- outcomes: carried out; the value would be out of range; the value is invalid; the fallback was put
+
+abbrev pub carriedOut : ℕ
+carriedOut = 0
+
+abbrev pub outOfRange : ℕ
+outOfRange = 1
+
+abbrev pub onInvalid : ℕ
+onInvalid = 2
+
+abbrev pub fellBack : ℕ
+fellBack = 3
+
+-- ---- qualities
+
+abbrev pub valid : ℕ
+valid = 0
+
+abbrev pub invalid : ℕ
+invalid = 1
+
+-- ---- greatest values of the fields with a range
+
 abbrev pub lastPoint : ℕ
 lastPoint = 63
 
@@ -10,34 +58,35 @@ abbrev pub lastServer : ℕ
 lastServer = 15
 
 abbrev pub lastOp : ℕ
-lastOp = 5
+lastOp = partOp
 
 abbrev pub lastOutcome : ℕ
-lastOutcome = 3
+lastOutcome = fellBack
 
 abbrev pub lastQuality : ℕ
-lastQuality = 1
+lastQuality = invalid
 
 -- the greatest number of 32 bits
 abbrev pub last32 : ℕ
 last32 = 4294967295
 
--- points of a plan, clients of a server, completion records of a server and of one client
+-- ---- counts: points of a plan, clients of a server, completion records of one client and of a server
+
 abbrev pub pointCount : ℕ
-pointCount = 64
+pointCount = suc lastPoint
 
 abbrev pub clientCount : ℕ
 clientCount = 32
 
-abbrev pub recordCount : ℕ
-recordCount = 512
-
 abbrev pub callWindow : ℕ
 callWindow = 16
 
+abbrev pub recordCount : ℕ
+recordCount = clientCount * callWindow
+
 -- a call is at most this far above its request's done, or above its client's floor
 abbrev pub lastInWindow : ℕ
-lastInWindow = 15
+lastInWindow = callWindow - 1
 
 -- leases of a lease manager, and the longest span in seconds
 abbrev pub leaseCount : ℕ
@@ -46,44 +95,26 @@ leaseCount = 32
 abbrev pub longestSpan : ℕ
 longestSpan = 86400
 
--- lent buffers
-abbrev pub stateSize : ℕ
-stateSize = 32768
+-- ---- packets: kinds, and bytes by kind; a result and a receipt are also what an output must hold
 
--- the least and the greatest length of an image
-abbrev pub leastImage : ℕ
-leastImage = 48
+abbrev pub requestKind : ℕ
+requestKind = 1
 
-abbrev pub greatestImage : ℕ
-greatestImage = 10544
+abbrev pub resultKind : ℕ
+resultKind = 2
 
--- bytes of a plan and of its entries
-abbrev pub planSize : ℕ
-planSize = 1024
+abbrev pub refusalKind : ℕ
+refusalKind = 3
 
-abbrev pub planRow : ℕ
-planRow = 16
+abbrev pub receiptKind : ℕ
+receiptKind = 4
 
--- bytes of the log's head and of its records; a take has 8 and its image
-abbrev pub headSize : ℕ
-headSize = 8
+abbrev pub noticeKind : ℕ
+noticeKind = 5
 
-abbrev pub executedSize : ℕ
-executedSize = 28
+abbrev pub grantKind : ℕ
+grantKind = 6
 
-abbrev pub goneSize : ℕ
-goneSize = 12
-
-abbrev pub giveSize : ℕ
-giveSize = 8
-
-abbrev pub takeHead : ℕ
-takeHead = 8
-
-abbrev pub releaseSize : ℕ
-releaseSize = 8
-
--- bytes of the packets, by kind; a result and a receipt are also what an output must hold
 abbrev pub requestSize : ℕ
 requestSize = 24
 
@@ -102,27 +133,70 @@ noticeSize = 12
 abbrev pub grantSize : ℕ
 grantSize = 12
 
--- the refusals that make a packet
-abbrev pub firstDenied : ℕ
-firstDenied = 3
+-- ---- the plan: bytes of an entry, and of all
 
-abbrev pub lastDenied : ℕ
-lastDenied = 9
+abbrev pub planRow : ℕ
+planRow = 16
 
--- the argument of part that means the whole range
-abbrev pub wholePart : ℕ
-wholePart = 1000
+abbrev pub planSize : ℕ
+planSize = planRow * pointCount
 
--- an image's parts: where the first starts, and its bytes; the floors start at the least length of an image
+-- ---- the log: bytes of its head, its records' kinds and bytes; a take has 8 and its image
+
+abbrev pub headSize : ℕ
+headSize = 8
+
+abbrev pub executedKind : ℕ
+executedKind = 1
+
+abbrev pub goneKind : ℕ
+goneKind = 2
+
+abbrev pub giveKind : ℕ
+giveKind = 3
+
+abbrev pub takeKind : ℕ
+takeKind = 4
+
+abbrev pub releaseKind : ℕ
+releaseKind = 5
+
+abbrev pub executedSize : ℕ
+executedSize = 28
+
+abbrev pub goneSize : ℕ
+goneSize = 12
+
+abbrev pub giveSize : ℕ
+giveSize = 8
+
+abbrev pub takeHead : ℕ
+takeHead = 8
+
+abbrev pub releaseSize : ℕ
+releaseSize = 8
+
+-- ---- images: where the parts start, the bytes of the point's, the rows of the two tables, the least and the greatest length
+
 abbrev pub partsStart : ℕ
 partsStart = 40
 
 abbrev pub pointPart : ℕ
 pointPart = 8
 
--- rows of an image
 abbrev pub floorRow : ℕ
 floorRow = 8
 
 abbrev pub entryRow : ℕ
 entryRow = 20
+
+abbrev pub leastImage : ℕ
+leastImage = partsStart + pointPart
+
+abbrev pub greatestImage : ℕ
+greatestImage = leastImage + floorRow * clientCount + entryRow * recordCount
+
+-- ---- the lent buffer of a server's state
+
+abbrev pub stateSize : ℕ
+stateSize = 32768

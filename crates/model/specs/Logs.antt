@@ -12,9 +12,10 @@ use Rattle.model.specs.declared.Give.{Give}
 use Rattle.model.specs.declared.Release.{Release}
 use Rattle.model.specs.Choice.{pick}
 use Rattle.model.specs.Numbers.{byteAt, le32At, le32, signedAt, signed32, zeroAt, zeros3At, quad}
+use Rattle.model.specs.Refusals.{noRefusal, badLog}
 use Rattle.model.specs.Packets.{idOk, doneOk, commandOk, outcomeOk, noticeAt, noticeOk, noticeBytes}
 use Rattle.model.specs.Images.{Image, parseImage, imageBytes, imageLength}
-use Rattle.model.specs.Limits.{lastPoint, lastServer, leastImage, greatestImage, headSize, executedSize, goneSize, giveSize, takeHead, releaseSize}
+use Rattle.model.specs.Limits.{lastPoint, lastServer, leastImage, greatestImage, headSize, executedKind, goneKind, giveKind, takeKind, releaseKind, executedSize, goneSize, giveSize, takeHead, releaseSize}
 
 -- ---- head: 57 4C 47 31, server number, three zeros
 
@@ -30,8 +31,10 @@ headServer s = byteAt s 4
 unfoldable pub headOk : List ℕ → Bool
 headOk s =
     leb headSize (length s)
-    && (eqb (byteAt s 0) 87
-    && (eqb (byteAt s 1) 76 && (eqb (byteAt s 2) 71 && (eqb (byteAt s 3) 49 && (leb (headServer s) lastServer && zeros3At s 5)))))
+    && (eqb (byteAt s 0) (byteAt logMagic 0)
+    && (eqb (byteAt s 1) (byteAt logMagic 1)
+    && (eqb (byteAt s 2) (byteAt logMagic 2)
+    && (eqb (byteAt s 3) (byteAt logMagic 3) && (leb (headServer s) lastServer && zeros3At s 5)))))
 
 -- ---- records
 
@@ -46,55 +49,53 @@ pub data LogRecord : Type 0 where
 unfoldable pub executedAt : List ℕ → Executed
 executedAt s =
     record {
-      op = byteAt s 1;
-      point = byteAt s 2;
-      outcome = byteAt s 3;
-      client = le32At s 4;
-      call = le32At s 8;
+      command =
+          record { client = le32At s 4; call = le32At s 8; op = byteAt s 1; point = byteAt s 2; argument = signedAt s 16 };
       done = le32At s 12;
-      argument = signedAt s 16;
-      value = signedAt s 20;
-      quality = byteAt s 24;
+      result = record { outcome = byteAt s 3; value = signedAt s 20; quality = byteAt s 24 };
     }
 
 unfoldable pub executedOk : Executed → Bool
 executedOk x =
-    commandOk (x .op) (x .point) (x .argument)
-    && (outcomeOk (x .outcome) (x .quality) && (idOk (x .client) (x .call) && doneOk (x .done) (x .call)))
+    let c = x .command in
+    commandOk (c .op) (c .point) (c .argument)
+    && (outcomeOk (x .result .outcome) (x .result .quality) && (idOk (c .client) (c .call) && doneOk (x .done) (c .call)))
 
 unfoldable pub executedBytes : Executed → List ℕ
 executedBytes x =
-    quad 1 (x .op) (x .point) (x .outcome)
-    ++ (le32 (x .client)
-    ++ (le32 (x .call) ++ (le32 (x .done) ++ (signed32 (x .argument) ++ (signed32 (x .value) ++ quad (x .quality) 0 0 0)))))
+    let c = x .command in
+    let r = x .result in
+    quad executedKind (c .op) (c .point) (r .outcome)
+    ++ (le32 (c .client)
+    ++ (le32 (c .call) ++ (le32 (x .done) ++ (signed32 (c .argument) ++ (signed32 (r .value) ++ quad (r .quality) 0 0 0)))))
 
 -- 3 give: kind, point, destination, 0, move
 unfoldable pub giveAt : List ℕ → Give
-giveAt s = record { point = byteAt s 1; destination = byteAt s 2; number = le32At s 4 }
+giveAt s = record { point = byteAt s 1; destination = byteAt s 2; moveNumber = le32At s 4 }
 
 unfoldable pub giveOk : Give → Bool
 giveOk g = leb (g .point) lastPoint && leb (g .destination) lastServer
 
 unfoldable pub giveBytes : Give → List ℕ
-giveBytes g = quad 3 (g .point) (g .destination) 0 ++ le32 (g .number)
+giveBytes g = quad giveKind (g .point) (g .destination) 0 ++ le32 (g .moveNumber)
 
 -- 4 take: kind, three zeros, image length, image
 unfoldable pub takeBytes : Image → List ℕ
-takeBytes i = quad 4 0 0 0 ++ (le32 (imageLength i) ++ imageBytes i)
+takeBytes i = quad takeKind 0 0 0 ++ (le32 (imageLength i) ++ imageBytes i)
 
 -- 5 release: kind, point, two zeros, move (the give's)
 unfoldable pub releaseAt : List ℕ → Release
-releaseAt s = record { point = byteAt s 1; number = le32At s 4 }
+releaseAt s = record { point = byteAt s 1; moveNumber = le32At s 4 }
 
 unfoldable pub releaseOk : Release → Bool
 releaseOk r = leb (r .point) lastPoint
 
 unfoldable pub releaseBytes : Release → List ℕ
-releaseBytes r = quad 5 (r .point) 0 0 ++ le32 (r .number)
+releaseBytes r = quad releaseKind (r .point) 0 0 ++ le32 (r .moveNumber)
 
 unfoldable pub recordBytes : LogRecord → List ℕ
 recordBytes (executed x) = executedBytes x
-recordBytes (gone n) = noticeBytes 2 n
+recordBytes (gone n) = noticeBytes goneKind n
 recordBytes (gave g) = giveBytes g
 recordBytes (took i) = takeBytes i
 recordBytes (released r) = releaseBytes r
@@ -126,11 +127,11 @@ takeExtent s =
 -- the extent of the record at the front of s, of at least one byte
 unfoldable pub extentOf : List ℕ → Extent
 extentOf s =
-    pick (eqb (byteAt s 0) 1) (within s executedSize)
-    (pick (eqb (byteAt s 0) 2) (within s goneSize)
-    (pick (eqb (byteAt s 0) 3) (within s giveSize)
-    (pick (eqb (byteAt s 0) 4) (takeExtent s)
-    (pick (eqb (byteAt s 0) 5) (within s releaseSize) off))))
+    pick (eqb (byteAt s 0) executedKind) (within s executedSize)
+    (pick (eqb (byteAt s 0) goneKind) (within s goneSize)
+    (pick (eqb (byteAt s 0) giveKind) (within s giveSize)
+    (pick (eqb (byteAt s 0) takeKind) (takeExtent s)
+    (pick (eqb (byteAt s 0) releaseKind) (within s releaseSize) off))))
 
 -- a whole take record's image, read from its place
 unfoldable pub takeParsed : Option Image → Option LogRecord
@@ -140,11 +141,21 @@ takeParsed (some i) = some (took i)
 -- the whole record at the front of s, if it keeps its layout
 unfoldable pub recordAt : List ℕ → Option LogRecord
 recordAt s =
-    pick (eqb (byteAt s 0) 1) (pick (zeros3At s 25 && executedOk (executedAt s)) (some (executed (executedAt s))) none)
-    (pick (eqb (byteAt s 0) 2) (pick (zeros3At s 1 && noticeOk (noticeAt s)) (some (gone (noticeAt s))) none)
-    (pick (eqb (byteAt s 0) 3) (pick (zeroAt s 3 && giveOk (giveAt s)) (some (gave (giveAt s))) none)
-    (pick (eqb (byteAt s 0) 4) (pick (zeros3At s 1) (takeParsed (parseImage (take (le32At s 4) (drop takeHead s)))) none)
-    (pick (eqb (byteAt s 0) 5) (pick (zeroAt s 2 && (zeroAt s 3 && releaseOk (releaseAt s))) (some (released (releaseAt s))) none) none))))
+    pick (eqb (byteAt s 0) executedKind) (pick (zeros3At s 25 && executedOk (executedAt s)) (some (executed (executedAt s))) none)
+    (pick (eqb (byteAt s 0) goneKind) (pick (zeros3At s 1 && noticeOk (noticeAt s)) (some (gone (noticeAt s))) none)
+    (pick (eqb (byteAt s 0) giveKind) (pick (zeroAt s 3 && giveOk (giveAt s)) (some (gave (giveAt s))) none)
+    (pick (eqb (byteAt s 0) takeKind) (pick (zeros3At s 1) (takeParsed (parseImage (take (le32At s 4) (drop takeHead s)))) none)
+    (pick (eqb (byteAt s 0) releaseKind) (pick (zeroAt s 2 && (zeroAt s 3 && releaseOk (releaseAt s))) (some (released (releaseAt s))) none) none))))
+
+-- the paper's number for what stands at a place, where it is read: an incomplete last record is dropped
+unfoldable pub extentNumber : Extent → ℕ
+extentNumber off = badLog
+extentNumber cut = noRefusal
+extentNumber (spans n) = noRefusal
+
+unfoldable pub recordNumber : Option LogRecord → ℕ
+recordNumber none = badLog
+recordNumber (some r) = noRefusal
 
 -- ---- the walk over all records
 

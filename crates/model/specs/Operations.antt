@@ -10,10 +10,11 @@ use lib.ListN.{length}
 use lib.Dec.{eqb, leb, ltb}
 use Rattle.model.specs.declared.PlanEntry.{PlanEntry}
 use Rattle.model.specs.declared.Answer.{Answer}
-use Rattle.model.specs.Choice.{pick, Decision, refuse, deny, reply, append, marks, _if_else_}
+use Rattle.model.specs.Choice.{pick, Decision, refuse, deny, reply, append, marks, _if_else_, passed, isPassed, unlessRefused}
 use Rattle.model.specs.Refusals.{malformed, tooShort, badLog, unsound}
 use Rattle.model.specs.Limits.{lastServer, stateSize, headSize, resultSize, receiptSize, greatestImage}
 use Rattle.model.specs.Tables.{written}
+use Rattle.model.specs.Versions.{Versions}
 use Rattle.model.specs.Plan.{planOk, planOf}
 use Rattle.model.specs.Packets.{parsePacket}
 use Rattle.model.specs.Images.{parseImage}
@@ -29,9 +30,9 @@ pub record After : Type 0 where
   pub log : List ℕ
   pub out : List ℕ
 
--- 0 or the refusal's number, and the number of bytes written to the output
+-- the refusal's number, 0 for none, and the number of bytes written to the output
 abbrev pub answerOf : ℕ → ℕ → Answer
-answerOf n w = record { number = n; wrote = w }
+answerOf n w = record { refusal = n; wrote = w }
 
 abbrev pub after : Answer → List ℕ → List ℕ → List ℕ → After
 after a s l o = record { answer = a; state = s; log = l; out = o }
@@ -62,23 +63,38 @@ settle state log out (append r) =
     (written log (load state .size) (recordBytes r)) out
 settle state log out (marks m) = after (answerOf 0 0) (stored state (withMark m (load state))) log out
 
--- 2 state or output too short; 19; else what the operation decides
-unfoldable pub lent : List ℕ → List ℕ → List ℕ → ℕ → Decided → Decided
-lent state log out need d =
-    tooShort if (short state stateSize || short out need)
+-- 2 state or output too short; 19. The output has n bytes, of which `need` are asked
+unfoldable pub lentRefusal : List ℕ → List ℕ → ℕ → ℕ → ℕ
+lentRefusal state log n need =
+    tooShort if (short state stateSize || ltb n need)
     else unsound if unfit state log
-    else d
+    else passed
 
--- Found (plan, server number): 2 state, or log under 8 bytes; 1 bad plan or server number
+-- else what the operation decides
+unfoldable pub lent : List ℕ → List ℕ → List ℕ → ℕ → Decided → Decided
+lent state log out need d = unlessRefused (lentRefusal state log (length out) need) d
+
+-- what is left by a call that makes a state: the refusal n, or a where the tests are passed
+unfoldable pub leftUnless : ℕ → List ℕ → List ℕ → After → After
+leftUnless n state log a = pick (isPassed n) a (settle state log [] (refuse n))
+
+-- Found (plan, server number): 2 state, or log under 8 bytes; 1 bad plan or server number. By the lengths of state and log, and
+-- whether the plan is good
+unfoldable pub foundRefusal : ℕ → ℕ → Bool → ℕ → ℕ
+foundRefusal states logs good n =
+    tooShort if (ltb states stateSize || ltb logs headSize)
+    else malformed if (not good || ltb lastServer n)
+    else passed
+
 unfoldable pub foundOf : List ℕ → List ℕ → List ℕ → ℕ → After
 foundOf state log plan n =
-    pick (short state stateSize || short log headSize) (after (answerOf tooShort 0) state log [])
-    (pick (not (planOk plan) || ltb lastServer n) (after (answerOf malformed 0) state log [])
-    (after (answerOf 0 0) (stored state (founded (planOf plan) n)) (written log 0 (headBytes n)) []))
+    leftUnless (foundRefusal (length state) (length log) (planOk plan) n) state log
+    (after (answerOf 0 0) (stored state (founded (planOf plan) n)) (written log 0 (headBytes n)) [])
 
-unfoldable pub requestOf : List ℕ → List ℕ → List ℕ → List ℕ → After
-requestOf state log packet out =
-    settle state log out (lent state log out resultSize (onRequest (load state) (freeIn state log) (parsePacket packet)))
+-- by a program that executes by v
+unfoldable pub requestOf : Versions → List ℕ → List ℕ → List ℕ → List ℕ → After
+requestOf v state log packet out =
+    settle state log out (lent state log out resultSize (onRequest v (load state) (freeIn state log) (parsePacket packet)))
 
 unfoldable pub fetchOf : List ℕ → List ℕ → ℕ → ℕ → List ℕ → After
 fetchOf state log client call out = settle state log out (lent state log out resultSize (onFetch (load state) client call))
@@ -124,11 +140,16 @@ unfoldable pub recoveredState : List PlanEntry → List ℕ → Option State
 recoveredState plan log = elim (headOk log) [ true ↦ recoveredAll (founded plan (headServer log)) (entriesOf log) | false ↦ none ]
 
 unfoldable pub settleRecovered : List ℕ → List ℕ → Option State → After
-settleRecovered state log none = after (answerOf badLog 0) state log []
+settleRecovered state log none = settle state log [] (refuse badLog)
 settleRecovered state log (some st) = after (answerOf 0 0) (stored state (withMark (st .size) st)) log []
+
+-- by the state's length and whether the plan is good
+unfoldable pub recoverRefusal : ℕ → Bool → ℕ
+recoverRefusal states good =
+    tooShort if ltb states stateSize
+    else malformed if not good
+    else passed
 
 unfoldable pub recoverOf : List ℕ → List ℕ → List ℕ → After
 recoverOf state log plan =
-    pick (short state stateSize) (after (answerOf tooShort 0) state log [])
-    (pick (not (planOk plan)) (after (answerOf malformed 0) state log [])
-    (settleRecovered state log (recoveredState (planOf plan) log)))
+    leftUnless (recoverRefusal (length state) (planOk plan)) state log (settleRecovered state log (recoveredState (planOf plan) log))

@@ -3,6 +3,7 @@
 -- Assumes nothing.
 use Prim.Native.Nat.{ℕ, _+_}
 use mathlib.Core.Bool.{Bool, _&&_}
+use mathlib.Core.Option.{Option, none, some}
 use mathlib.Core.List.{List, [], _∷_, _++_}
 use lib.ListN.{length, getD}
 use lib.Dec.{eqb, leb}
@@ -13,12 +14,14 @@ use Rattle.model.specs.declared.Receipt.{Receipt}
 use Rattle.model.specs.declared.Notice.{Notice}
 use Rattle.model.specs.declared.Grant.{Grant}
 use Rattle.model.specs.declared.Command.{Command}
+use Rattle.model.specs.declared.CommandResult.{CommandResult}
 use Rattle.model.specs.declared.Packet.{Packet}
 use Rattle.model.specs.declared.Packet.the-variants.{Malformed, Requested, Resulted, Refused, Receipted, Noticed, Granted}
 use Rattle.model.specs.Choice.{pick}
 use Rattle.model.specs.Numbers.{byteAt, le32At, le32, signedAt, signed32, zeroAt, zeros3At, quad}
 use Rattle.model.specs.Rules.{argumentOk}
-use Rattle.model.specs.Limits.{lastPoint, lastServer, lastOp, lastOutcome, lastQuality, lastInWindow, requestSize, resultSize, refusalSize, receiptSize, noticeSize, grantSize, firstDenied, lastDenied}
+use Rattle.model.specs.Limits.{lastPoint, lastServer, lastOutcome, lastQuality, lastInWindow, requestKind, resultKind, refusalKind, receiptKind, noticeKind, grantKind, requestSize, resultSize, refusalSize, receiptSize, noticeSize, grantSize}
+use Rattle.model.specs.Refusals.{noRefusal, malformed, firstDenied, lastDenied}
 
 -- the lengths by kind; there is no kind 0
 abbrev pub packetLengths : List ℕ
@@ -35,9 +38,9 @@ idOk client call = leb 1 client && leb 1 call
 unfoldable pub doneOk : ℕ → ℕ → Bool
 doneOk done call = leb 1 done && (leb done call && leb call (done + lastInWindow))
 
--- op 0 to 5, point 0 to 63, the op's argument in its range
+-- op 0 to 5 with its argument in its range, point 0 to 63
 unfoldable pub commandOk : ℕ → ℕ → ℕ → Bool
-commandOk op point a = leb op lastOp && (leb point lastPoint && argumentOk op a)
+commandOk op point a = argumentOk op a && leb point lastPoint
 
 -- outcome 0 to 3, quality 0 or 1
 unfoldable pub outcomeOk : ℕ → ℕ → Bool
@@ -47,52 +50,65 @@ outcomeOk outcome quality = leb outcome lastOutcome && leb quality lastQuality
 
 unfoldable pub requestAt : List ℕ → Request
 requestAt p =
-    record { op = byteAt p 1; point = byteAt p 2; client = le32At p 4; call = le32At p 8; done = le32At p 12; lease = le32At p 16; argument = signedAt p 20 }
+    record {
+      command =
+          record { client = le32At p 4; call = le32At p 8; op = byteAt p 1; point = byteAt p 2; argument = signedAt p 20 };
+      done = le32At p 12;
+      lease = le32At p 16;
+    }
 
 unfoldable pub requestOk : Request → Bool
-requestOk q = commandOk (q .op) (q .point) (q .argument) && (idOk (q .client) (q .call) && doneOk (q .done) (q .call))
+requestOk q =
+    let c = q .command in
+    commandOk (c .op) (c .point) (c .argument) && (idOk (c .client) (c .call) && doneOk (q .done) (c .call))
 
 unfoldable pub requestBytes : Request → List ℕ
 requestBytes q =
-    quad 1 (q .op) (q .point) 0
-    ++ (le32 (q .client) ++ (le32 (q .call) ++ (le32 (q .done) ++ (le32 (q .lease) ++ signed32 (q .argument)))))
-
--- the command of a request
-unfoldable pub commandOf : Request → Command
-commandOf q = record { client = q .client; call = q .call; op = q .op; point = q .point; argument = q .argument }
+    let c = q .command in
+    quad requestKind (c .op) (c .point) 0
+    ++ (le32 (c .client) ++ (le32 (c .call) ++ (le32 (q .done) ++ (le32 (q .lease) ++ signed32 (c .argument)))))
 
 -- ---- 2 result: outcome, point, quality, client, call, value
 
 unfoldable pub resultAt : List ℕ → ResultPacket
-resultAt p = record { outcome = byteAt p 1; point = byteAt p 2; quality = byteAt p 3; client = le32At p 4; call = le32At p 8; value = signedAt p 12 }
+resultAt p =
+    record {
+      client = le32At p 4;
+      call = le32At p 8;
+      point = byteAt p 2;
+      result = record { outcome = byteAt p 1; value = signedAt p 12; quality = byteAt p 3 };
+    }
 
 unfoldable pub resultOk : ResultPacket → Bool
-resultOk r = leb (r .point) lastPoint && (outcomeOk (r .outcome) (r .quality) && idOk (r .client) (r .call))
+resultOk r =
+    leb (r .point) lastPoint && (outcomeOk (r .result .outcome) (r .result .quality) && idOk (r .client) (r .call))
 
 unfoldable pub resultBytes : ResultPacket → List ℕ
-resultBytes r = quad 2 (r .outcome) (r .point) (r .quality) ++ (le32 (r .client) ++ (le32 (r .call) ++ signed32 (r .value)))
+resultBytes r =
+    quad resultKind (r .result .outcome) (r .point) (r .result .quality)
+    ++ (le32 (r .client) ++ (le32 (r .call) ++ signed32 (r .result .value)))
 
--- ---- 3 refusal: number (3 to 9), point, 0, client, call
+-- ---- 3 refusal: its number (3 to 9), point, 0, client, call
 
 unfoldable pub refusalAt : List ℕ → RefusalPacket
-refusalAt p = record { number = byteAt p 1; point = byteAt p 2; client = le32At p 4; call = le32At p 8 }
+refusalAt p = record { refusal = byteAt p 1; point = byteAt p 2; client = le32At p 4; call = le32At p 8 }
 
 unfoldable pub refusalOk : RefusalPacket → Bool
-refusalOk r = leb firstDenied (r .number) && (leb (r .number) lastDenied && (leb (r .point) lastPoint && idOk (r .client) (r .call)))
+refusalOk r = leb firstDenied (r .refusal) && (leb (r .refusal) lastDenied && (leb (r .point) lastPoint && idOk (r .client) (r .call)))
 
 unfoldable pub refusalBytes : RefusalPacket → List ℕ
-refusalBytes r = quad 3 (r .number) (r .point) 0 ++ (le32 (r .client) ++ le32 (r .call))
+refusalBytes r = quad refusalKind (r .refusal) (r .point) 0 ++ (le32 (r .client) ++ le32 (r .call))
 
 -- ---- 4 receipt: point, server (the taker), 0, move
 
 unfoldable pub receiptAt : List ℕ → Receipt
-receiptAt p = record { point = byteAt p 1; server = byteAt p 2; number = le32At p 4 }
+receiptAt p = record { point = byteAt p 1; server = byteAt p 2; moveNumber = le32At p 4 }
 
 unfoldable pub receiptOk : Receipt → Bool
 receiptOk r = leb (r .point) lastPoint && leb (r .server) lastServer
 
 unfoldable pub receiptBytes : Receipt → List ℕ
-receiptBytes r = quad 4 (r .point) (r .server) 0 ++ le32 (r .number)
+receiptBytes r = quad receiptKind (r .point) (r .server) 0 ++ le32 (r .moveNumber)
 
 -- ---- 5 notice: three zeros, client, time; log record 2 is the same with its own kind
 
@@ -114,7 +130,7 @@ unfoldable pub grantOk : Grant → Bool
 grantOk g = leb 1 (g .client)
 
 unfoldable pub grantBytes : Grant → List ℕ
-grantBytes g = quad 6 0 0 0 ++ (le32 (g .client) ++ le32 (g .lease))
+grantBytes g = quad grantKind 0 0 0 ++ (le32 (g .client) ++ le32 (g .lease))
 
 -- ---- all kinds
 
@@ -123,31 +139,31 @@ unfoldable pub whole : List ℕ → ℕ → Bool → Packet → Packet
 whole p kind ok found = pick (eqb (length p) (packetLength kind)) (pick ok found Malformed) Malformed
 
 unfoldable pub parseRequest : List ℕ → Packet
-parseRequest p = whole p 1 (zeroAt p 3 && requestOk (requestAt p)) (Requested (requestAt p))
+parseRequest p = whole p requestKind (zeroAt p 3 && requestOk (requestAt p)) (Requested (requestAt p))
 
 unfoldable pub parseResult : List ℕ → Packet
-parseResult p = whole p 2 (resultOk (resultAt p)) (Resulted (resultAt p))
+parseResult p = whole p resultKind (resultOk (resultAt p)) (Resulted (resultAt p))
 
 unfoldable pub parseRefusal : List ℕ → Packet
-parseRefusal p = whole p 3 (zeroAt p 3 && refusalOk (refusalAt p)) (Refused (refusalAt p))
+parseRefusal p = whole p refusalKind (zeroAt p 3 && refusalOk (refusalAt p)) (Refused (refusalAt p))
 
 unfoldable pub parseReceipt : List ℕ → Packet
-parseReceipt p = whole p 4 (zeroAt p 3 && receiptOk (receiptAt p)) (Receipted (receiptAt p))
+parseReceipt p = whole p receiptKind (zeroAt p 3 && receiptOk (receiptAt p)) (Receipted (receiptAt p))
 
 unfoldable pub parseNotice : List ℕ → Packet
-parseNotice p = whole p 5 (zeros3At p 1 && noticeOk (noticeAt p)) (Noticed (noticeAt p))
+parseNotice p = whole p noticeKind (zeros3At p 1 && noticeOk (noticeAt p)) (Noticed (noticeAt p))
 
 unfoldable pub parseGrant : List ℕ → Packet
-parseGrant p = whole p 6 (zeros3At p 1 && grantOk (grantAt p)) (Granted (grantAt p))
+parseGrant p = whole p grantKind (zeros3At p 1 && grantOk (grantAt p)) (Granted (grantAt p))
 
 unfoldable pub parsePacket : List ℕ → Packet
 parsePacket p =
-    pick (eqb (byteAt p 0) 1) (parseRequest p)
-    (pick (eqb (byteAt p 0) 2) (parseResult p)
-    (pick (eqb (byteAt p 0) 3) (parseRefusal p)
-    (pick (eqb (byteAt p 0) 4) (parseReceipt p)
-    (pick (eqb (byteAt p 0) 5) (parseNotice p)
-    (pick (eqb (byteAt p 0) 6) (parseGrant p) Malformed)))))
+    pick (eqb (byteAt p 0) requestKind) (parseRequest p)
+    (pick (eqb (byteAt p 0) resultKind) (parseResult p)
+    (pick (eqb (byteAt p 0) refusalKind) (parseRefusal p)
+    (pick (eqb (byteAt p 0) receiptKind) (parseReceipt p)
+    (pick (eqb (byteAt p 0) noticeKind) (parseNotice p)
+    (pick (eqb (byteAt p 0) grantKind) (parseGrant p) Malformed)))))
 
 -- the bytes of a packet
 unfoldable pub packetBytes : Packet → List ℕ
@@ -156,15 +172,43 @@ packetBytes (Requested q) = requestBytes q
 packetBytes (Resulted r) = resultBytes r
 packetBytes (Refused r) = refusalBytes r
 packetBytes (Receipted r) = receiptBytes r
-packetBytes (Noticed n) = noticeBytes 5 n
+packetBytes (Noticed n) = noticeBytes noticeKind n
 packetBytes (Granted g) = grantBytes g
+
+-- the packet of one kind, none of any other
+unfoldable pub asRequest : Packet → Option Request
+asRequest Malformed = none
+asRequest (Requested q) = some q
+asRequest (Resulted r) = none
+asRequest (Refused r) = none
+asRequest (Receipted r) = none
+asRequest (Noticed n) = none
+asRequest (Granted g) = none
+
+unfoldable pub asReceipt : Packet → Option Receipt
+asReceipt Malformed = none
+asReceipt (Requested q) = none
+asReceipt (Resulted r) = none
+asReceipt (Refused r) = none
+asReceipt (Receipted r) = some r
+asReceipt (Noticed n) = none
+asReceipt (Granted g) = none
+
+unfoldable pub asNotice : Packet → Option Notice
+asNotice Malformed = none
+asNotice (Requested q) = none
+asNotice (Resulted r) = none
+asNotice (Refused r) = none
+asNotice (Receipted r) = none
+asNotice (Noticed n) = some n
+asNotice (Granted g) = none
 
 -- the paper's number for what a parser finds: 1 malformed
 unfoldable pub packetNumber : Packet → ℕ
-packetNumber Malformed = 1
-packetNumber (Requested q) = 0
-packetNumber (Resulted r) = 0
-packetNumber (Refused r) = 0
-packetNumber (Receipted r) = 0
-packetNumber (Noticed n) = 0
-packetNumber (Granted g) = 0
+packetNumber Malformed = malformed
+packetNumber (Requested q) = noRefusal
+packetNumber (Resulted r) = noRefusal
+packetNumber (Refused r) = noRefusal
+packetNumber (Receipted r) = noRefusal
+packetNumber (Noticed n) = noRefusal
+packetNumber (Granted g) = noRefusal

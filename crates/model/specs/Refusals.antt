@@ -2,6 +2,10 @@
 -- Assumes nothing.
 use Prim.Native.Nat.{ℕ}
 
+-- 0: not refused
+abbrev pub noRefusal : ℕ
+noRefusal = 0
+
 -- 1 malformed, a field outside its range, a bad plan or server number, not a packet of the kind asked for
 abbrev pub malformed : ℕ
 malformed = 1
@@ -77,3 +81,10 @@ leasesFull = 18
 -- 19 the state is not sound, or the log slice is shorter than its recorded length
 abbrev pub unsound : ℕ
 unsound = 19
+
+-- the refusals that make a packet
+abbrev pub firstDenied : ℕ
+firstDenied = notHeld
+
+abbrev pub lastDenied : ℕ
+lastDenied = logFull

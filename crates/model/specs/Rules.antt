@@ -9,26 +9,40 @@ use lib.Dec.{eqb, leb}
 use Rattle.model.specs.declared.PlanEntry.{PlanEntry}
 use Rattle.model.specs.declared.Reading.{Reading}
 use Rattle.model.specs.declared.CommandResult.{CommandResult}
+use Rattle.model.specs.declared.ArgumentRange.{ArgumentRange}
 use Rattle.model.specs.Choice.{pick}
 use Rattle.model.specs.Numbers.{half}
 use Rattle.model.specs.Plan.{inRange}
-use Rattle.model.specs.Limits.{wholePart}
+use Rattle.model.specs.Limits.{last32, readOp, setOp, stepOp, reportOp, faultOp, partOp, wholePart, carriedOut, outOfRange, onInvalid, fellBack, valid, invalid}
+use Rattle.model.specs.Versions.{Version, first}
 
--- the least and the greatest argument by op: read and fault 0, part 0 to 1000, others any
-abbrev pub leastArguments : List ℕ
-leastArguments = 2147483648 ∷ 0 ∷ 0 ∷ 0 ∷ 2147483648 ∷ 2147483648 ∷ []
+-- the arguments from one to another
+abbrev pub arguments : ℕ → ℕ → ArgumentRange
+arguments least greatest = record { least = least; greatest = greatest }
 
-abbrev pub greatestArguments : List ℕ
-greatestArguments = 2147483648 ∷ 4294967295 ∷ 4294967295 ∷ 4294967295 ∷ 2147483648 ∷ 2147484648 ∷ []
+-- by op: read 0; set, step and report any; fault 0; part 0 to 1000
+abbrev pub argumentRanges : List ArgumentRange
+argumentRanges =
+    arguments half half
+    ∷ arguments 0 last32
+    ∷ arguments 0 last32
+    ∷ arguments 0 last32
+    ∷ arguments half half
+    ∷ arguments half (half + wholePart)
+    ∷ []
 
-unfoldable pub leastArgument : ℕ → ℕ
-leastArgument op = getD leastArguments op 0
+-- an op past the last has no argument: its range is empty
+abbrev pub noArguments : ArgumentRange
+noArguments = arguments 1 0
 
-unfoldable pub greatestArgument : ℕ → ℕ
-greatestArgument op = getD greatestArguments op 0
+unfoldable pub argumentRange : ℕ → ArgumentRange
+argumentRange op = getD argumentRanges op noArguments
+
+unfoldable pub inArguments : ArgumentRange → ℕ → Bool
+inArguments r a = leb (r .least) a && leb a (r .greatest)
 
 unfoldable pub argumentOk : ℕ → ℕ → Bool
-argumentOk op a = leb (leastArgument op) a && leb a (greatestArgument op)
+argumentOk op a = inArguments (argumentRange op) a
 
 -- outcome n, value v, quality q
 abbrev pub result : ℕ → ℕ → ℕ → CommandResult
@@ -43,28 +57,28 @@ unfoldable pub sumInRange : PlanEntry → ℕ → ℕ → Bool
 sumInRange e v a = leb (e .low + half) (v + a) && leb (v + a) (e .high + half)
 
 unfoldable pub setRule : PlanEntry → ℕ → Reading → CommandResult
-setRule e a r = pick (inRange e a) (result 0 a 0) (same 1 r)
+setRule e a r = pick (inRange e a) (result carriedOut a valid) (same outOfRange r)
 
 unfoldable pub stepRule : PlanEntry → ℕ → Reading → CommandResult
 stepRule e a r =
-    pick (eqb (r .quality) 1) (same 2 r)
-    (pick (sumInRange e (r .value) a) (result 0 (r .value + a - half) (r .quality)) (same 1 r))
+    pick (eqb (r .quality) invalid) (same onInvalid r)
+    (pick (sumInRange e (r .value) a) (result carriedOut (r .value + a - half) (r .quality)) (same outOfRange r))
 
 unfoldable pub reportRule : PlanEntry → ℕ → Reading → CommandResult
-reportRule e a r = pick (inRange e a) (result 0 a 0) (result 3 (e .fallback) 1)
+reportRule e a r = pick (inRange e a) (result carriedOut a valid) (result fellBack (e .fallback) invalid)
 
 unfoldable pub faultRule : PlanEntry → CommandResult
-faultRule e = result 3 (e .fallback) 1
+faultRule e = result fellBack (e .fallback) invalid
 
 unfoldable pub partRule : PlanEntry → ℕ → CommandResult
-partRule e a = result 0 (e .low + (e .high - e .low) * (a - half) / wholePart) 0
+partRule e a = result carriedOut (e .low + (e .high - e .low) * (a - half) / wholePart) valid
 
--- by the op; another op is refused before (malformed)
-unfoldable pub ruleOf : PlanEntry → ℕ → ℕ → Reading → CommandResult
-ruleOf e op a r =
-    pick (eqb op 0) (same 0 r)
-    (pick (eqb op 1) (setRule e a r)
-    (pick (eqb op 2) (stepRule e a r)
-    (pick (eqb op 3) (reportRule e a r)
-    (pick (eqb op 4) (faultRule e)
-    (pick (eqb op 5) (partRule e a) (same 1 r))))))
+-- by the version and the op; another op is refused before (malformed)
+unfoldable pub ruleOf : Version → PlanEntry → ℕ → ℕ → Reading → CommandResult
+ruleOf first e op a r =
+    pick (eqb op readOp) (same carriedOut r)
+    (pick (eqb op setOp) (setRule e a r)
+    (pick (eqb op stepOp) (stepRule e a r)
+    (pick (eqb op reportOp) (reportRule e a r)
+    (pick (eqb op faultOp) (faultRule e)
+    (pick (eqb op partOp) (partRule e a) (same outOfRange r))))))

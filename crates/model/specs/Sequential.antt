@@ -1,10 +1,10 @@
--- The sequential specification (paper: the book): the six ops' rules over the integers, and a run over an order of commands.
--- It knows the plan and the commands alone, nothing of servers. Each command carries the version of the rules it was
--- executed under, so that a later change of a rule adds a version and leaves old commands as they were.
+-- The sequential specification (paper: the book): the six ops' rules over the integers, and a run over an order of entries.
+-- It knows the plan and the commands alone, nothing of servers. Each command carries the version of its op's rule
+-- that it was executed by.
 -- Assumes nothing.
 use Prim.Native.Nat.{ℕ, zero, suc, _/_}
 use mathlib.Core.Bool.{Bool, _&&_}
-use mathlib.Core.List.{List, [], _∷_}
+use mathlib.Core.List.{List, [], _∷_, map}
 use lib.Dec.{eqb}
 use lib.IntN.{ℤ, pos, negsuc, _+ℤ_, _-ℤ_, _*ℤ_}
 use lib.Signed.{leZ}
@@ -15,15 +15,8 @@ use Rattle.model.specs.declared.Command.{Command}
 use Rattle.model.specs.Choice.{pick}
 use Rattle.model.specs.Numbers.{signed}
 use Rattle.model.specs.Plan.{entryAt}
-use Rattle.model.specs.Limits.{wholePart}
-
--- the versions of the rules; the first is paper 01's
-pub data Version : Type 0 where
-  first : Version
-
--- the rules that servers execute by today
-abbrev pub today : Version
-today = first
+use Rattle.model.specs.Limits.{readOp, setOp, stepOp, reportOp, faultOp, partOp, wholePart, carriedOut, outOfRange, onInvalid, fellBack, valid, invalid}
+use Rattle.model.specs.Versions.{Version, first, Versions}
 
 -- ---- over the integers
 
@@ -73,46 +66,50 @@ quotientDown (negsuc m) n = negsuc (m / n)
 
 -- 0 read: outcome 0, no change
 unfoldable pub readZ : ReadingZ → ResultZ
-readZ r = resultZ 0 (r .value) (r .quality)
+readZ r = resultZ carriedOut (r .value) (r .quality)
 
 -- 1 set: in range, value a, quality 0, outcome 0; else outcome 1, no change
 unfoldable pub setZ : EntryZ → ℤ → ReadingZ → ResultZ
-setZ e a r = pick (inRangeZ e a) (resultZ 0 a 0) (resultZ 1 (r .value) (r .quality))
+setZ e a r = pick (inRangeZ e a) (resultZ carriedOut a valid) (resultZ outOfRange (r .value) (r .quality))
 
 -- 2 step: on quality 1, outcome 2; if value + a is out of range, outcome 1; both change nothing. Else add, outcome 0
 unfoldable pub stepZ : EntryZ → ℤ → ReadingZ → ResultZ
 stepZ e a r =
-    pick (eqb (r .quality) 1) (resultZ 2 (r .value) (r .quality))
-    (pick (inRangeZ e (r .value +ℤ a)) (resultZ 0 (r .value +ℤ a) (r .quality)) (resultZ 1 (r .value) (r .quality)))
+    pick (eqb (r .quality) invalid) (resultZ onInvalid (r .value) (r .quality))
+    (pick (inRangeZ e (r .value +ℤ a)) (resultZ carriedOut (r .value +ℤ a) (r .quality)) (resultZ outOfRange (r .value) (r .quality)))
 
 -- 3 report: in range, as set; else value = fallback, quality 1, outcome 3
 unfoldable pub reportZ : EntryZ → ℤ → ResultZ
-reportZ e a = pick (inRangeZ e a) (resultZ 0 a 0) (resultZ 3 (e .fallback) 1)
+reportZ e a = pick (inRangeZ e a) (resultZ carriedOut a valid) (resultZ fellBack (e .fallback) invalid)
 
 -- 4 fault: value = fallback, quality 1, outcome 3
 unfoldable pub faultZ : EntryZ → ResultZ
-faultZ e = resultZ 3 (e .fallback) 1
+faultZ e = resultZ fellBack (e .fallback) invalid
 
 -- 5 part: value = low + (high − low) × a / 1000, the quotient rounded down; quality 0, outcome 0
 unfoldable pub partZ : EntryZ → ℤ → ResultZ
-partZ e a = resultZ 0 (e .low +ℤ quotientDown ((e .high -ℤ e .low) *ℤ a) wholePart) 0
+partZ e a = resultZ carriedOut (e .low +ℤ quotientDown ((e .high -ℤ e .low) *ℤ a) wholePart) valid
 
 -- by the version and the op; commands have no other op, and one would change nothing
 unfoldable pub ruleZ : Version → EntryZ → ℕ → ℤ → ReadingZ → ResultZ
 ruleZ first e op a r =
-    pick (eqb op 0) (readZ r)
-    (pick (eqb op 1) (setZ e a r)
-    (pick (eqb op 2) (stepZ e a r)
-    (pick (eqb op 3) (reportZ e a)
-    (pick (eqb op 4) (faultZ e)
-    (pick (eqb op 5) (partZ e a) (resultZ 1 (r .value) (r .quality)))))))
+    pick (eqb op readOp) (readZ r)
+    (pick (eqb op setOp) (setZ e a r)
+    (pick (eqb op stepOp) (stepZ e a r)
+    (pick (eqb op reportOp) (reportZ e a)
+    (pick (eqb op faultOp) (faultZ e)
+    (pick (eqb op partOp) (partZ e a) (resultZ outOfRange (r .value) (r .quality)))))))
 
 -- ---- the run
 
--- a command with the version of the rules it was executed under
+-- a command with the version of its op's rule that it was executed by
 pub record Marked : Type 0 where
   pub version : Version
   pub command : Command
+
+-- a command as a program that executes by v marks it
+abbrev pub markedBy : Versions → Command → Marked
+markedBy v k = record { version = v (k .op); command = k }
 
 -- each point's value and quality
 abbrev pub Book : Type 0
@@ -120,7 +117,7 @@ Book = ℕ → ReadingZ
 
 -- first fallback and quality 1
 unfoldable pub opened : List PlanEntry → Book
-opened plan p = readingZ (entryZ (entryAt plan p) .fallback) 1
+opened plan p = readingZ (entryZ (entryAt plan p) .fallback) invalid
 
 -- the answer to a command
 unfoldable pub answerZ : List PlanEntry → Book → Marked → ResultZ
@@ -131,13 +128,34 @@ answerZ plan b m =
 unfoldable pub entered : List PlanEntry → Book → Marked → Book
 entered plan b m p = pick (eqb p (m .command .point)) (afterZ (answerZ plan b m)) (b p)
 
--- the book after an order of commands, from b
-unfoldable pub bookAfter : List PlanEntry → Book → List Marked → Book
-bookAfter plan b [] = b
-bookAfter plan b (m ∷ ms) = bookAfter plan (entered plan b m) ms
+-- an entry of an order: commands with one place in it, its parts
+pub data OrderEntry : Type 0 where
+  single : Marked → OrderEntry
 
--- `Answers plan b ms c r`: run over ms from b, the book answers r to the entry of command c
-pub data Answers (plan : List PlanEntry) : Book → List Marked → Command → ResultZ → Type 0 where
-  here : {b : Book} {m : Marked} {ms : List Marked} → Answers plan b (m ∷ ms) (m .command) (answerZ plan b m)
-  later : {b : Book} {m : Marked} {c : Command} {ms : List Marked} {r : ResultZ}
-      → Answers plan (entered plan b m) ms c r → Answers plan b (m ∷ ms) c r
+unfoldable pub parts : OrderEntry → List Marked
+parts (single m) = m ∷ []
+
+unfoldable pub commands : OrderEntry → List Command
+commands e = map (λ (m : Marked). m .command) (parts e)
+
+-- what the book answers to an entry
+pub data EntryResult : Type 0 where
+  one : ResultZ → EntryResult
+
+unfoldable pub answerTo : List PlanEntry → Book → OrderEntry → EntryResult
+answerTo plan b (single m) = one (answerZ plan b m)
+
+-- the book once an entry is entered
+unfoldable pub bookWith : List PlanEntry → Book → OrderEntry → Book
+bookWith plan b (single m) = entered plan b m
+
+-- the book after an order of entries, from b
+unfoldable pub bookAfter : List PlanEntry → Book → List OrderEntry → Book
+bookAfter plan b [] = b
+bookAfter plan b (e ∷ es) = bookAfter plan (bookWith plan b e) es
+
+-- `Answers plan b es ks r`: run over es from b, the book answers r to the entry of the commands ks
+pub data Answers (plan : List PlanEntry) : Book → List OrderEntry → List Command → EntryResult → Type 0 where
+  here : {b : Book} {e : OrderEntry} {es : List OrderEntry} → Answers plan b (e ∷ es) (commands e) (answerTo plan b e)
+  later : {b : Book} {e : OrderEntry} {ks : List Command} {es : List OrderEntry} {r : EntryResult}
+      → Answers plan (bookWith plan b e) es ks r → Answers plan b (e ∷ es) ks r

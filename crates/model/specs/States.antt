@@ -19,7 +19,7 @@ use Rattle.model.specs.Tables.{rows, everyRow, bytesOf, every, zeros}
 use Rattle.model.specs.Plan.{planEntryOf, planBytes, planRowOk, entryAt, inRange}
 use Rattle.model.specs.Packets.{idOk, commandOk, outcomeOk}
 use Rattle.model.specs.Images.{floorOfBytes, floorBytes, floorOf, floorOk, inWindow, clientsAscend}
-use Rattle.model.specs.Limits.{lastServer, lastQuality, pointCount, clientCount, recordCount, planRow, headSize, floorRow}
+use Rattle.model.specs.Limits.{lastServer, lastQuality, pointCount, clientCount, recordCount, planSize, planRow, planSize, headSize, floorRow}
 
 -- `size` is the recorded length of the log; `records` are in order of arrival, `floors` by client
 pub record State : Type 0 where
@@ -43,12 +43,12 @@ held = 1
 abbrev pub given : ℕ
 given = 2
 
-abbrev pub released : ℕ
-released = 3
+abbrev pub releasedStatus : ℕ
+releasedStatus = 3
 
 -- what a lookup past the points' end gives
 abbrev pub noPoint : Point
-noPoint = record { status = 0; quality = 0; destination = 0; value = 0; number = 0; taken = 0; gave = 0; took = 0 }
+noPoint = record { status = 0; quality = 0; destination = 0; value = 0; moveNumber = 0; takenMove = 0; giveEnd = 0; takeEnd = 0 }
 
 unfoldable pub pointAt : State → ℕ → Point
 pointAt st p = getD (st .points) p noPoint
@@ -60,8 +60,8 @@ unfoldable pub isGiven : Point → Bool
 isGiven x = eqb (x .status) given
 
 -- a record that ends at `end` is synced
-unfoldable pub isSynced : State → ℕ → Bool
-isSynced st end = leb end (st .mark)
+unfoldable pub isSynced : ℕ → ℕ → Bool
+isSynced mark end = leb end mark
 
 -- ---- layout
 
@@ -77,17 +77,18 @@ pointRow = 32
 abbrev pub recordRow : ℕ
 recordRow = 28
 
+-- one table after the other: plan, points, clients, completion records
 abbrev pub pointsStart : ℕ
-pointsStart = 1064
+pointsStart = stateHead + planSize
 
 abbrev pub floorsStart : ℕ
-floorsStart = 3112
+floorsStart = pointsStart + pointRow * pointCount
 
 abbrev pub recordsStart : ℕ
-recordsStart = 3368
+recordsStart = floorsStart + floorRow * clientCount
 
 abbrev pub stateEnd : ℕ
-stateEnd = 17704
+stateEnd = recordsStart + recordRow * recordCount
 
 -- status, quality, destination, 0, value, move, latest taken move, end of the give (8), end of the take (8)
 unfoldable pub pointOf : List ℕ → Point
@@ -96,38 +97,34 @@ pointOf s =
       status = byteAt s 0;
       quality = byteAt s 1;
       destination = byteAt s 2;
-      value = le32At s 4;
-      number = le32At s 8;
-      taken = le32At s 12;
-      gave = le64At s 16;
-      took = le64At s 24;
+      value = signedAt s 4;
+      moveNumber = le32At s 8;
+      takenMove = le32At s 12;
+      giveEnd = le64At s 16;
+      takeEnd = le64At s 24;
     }
 
 unfoldable pub pointBytes : Point → List ℕ
 pointBytes x =
     quad (x .status) (x .quality) (x .destination) 0
-    ++ (le32 (x .value) ++ (le32 (x .number) ++ (le32 (x .taken) ++ (le64 (x .gave) ++ le64 (x .took)))))
+    ++ (signed32 (x .value) ++ (le32 (x .moveNumber) ++ (le32 (x .takenMove) ++ (le64 (x .giveEnd) ++ le64 (x .takeEnd)))))
 
 -- client, call, argument, value, op, outcome, quality, point, end (8)
 unfoldable pub completionOf : List ℕ → Completion
 completionOf s =
     record {
-      client = le32At s 0;
-      call = le32At s 4;
-      argument = le32At s 8;
-      value = le32At s 12;
-      op = byteAt s 16;
-      outcome = byteAt s 17;
-      quality = byteAt s 18;
-      point = byteAt s 19;
+      command = record { client = le32At s 0; call = le32At s 4; op = byteAt s 16; point = byteAt s 19; argument = signedAt s 8 };
+      result = record { outcome = byteAt s 17; value = signedAt s 12; quality = byteAt s 18 };
       end = le64At s 20;
     }
 
 unfoldable pub completionBytes : Completion → List ℕ
 completionBytes r =
-    le32 (r .client)
-    ++ (le32 (r .call)
-    ++ (le32 (r .argument) ++ (le32 (r .value) ++ (quad (r .op) (r .outcome) (r .quality) (r .point) ++ le64 (r .end)))))
+    let c = r .command in
+    let a = r .result in
+    le32 (c .client)
+    ++ (le32 (c .call)
+    ++ (signed32 (c .argument) ++ (signed32 (a .value) ++ (quad (c .op) (a .outcome) (a .quality) (c .point) ++ le64 (r .end)))))
 
 unfoldable pub clientsIn : List ℕ → ℕ
 clientsIn s = le32At s 12
@@ -168,28 +165,46 @@ stateBytes st =
     ++ (bytesOf pointBytes (st .points)
     ++ (padded floorBytes floorRow clientCount (st .floors) ++ padded completionBytes recordRow recordCount (st .records))))
 
--- ---- soundness: every field in range, every limit kept
+-- ---- soundness: every field in range, every limit kept, nothing that no run leaves as far as one pass tells
 
 -- an end of a log record, or 0 for none
 unfoldable pub endOk : ℕ → ℕ → Bool
 endOk size end = eqb end 0 || (ltb headSize end && leb end size)
 
--- a point of a given or released status has a destination and the give's end; another has neither
-unfoldable pub giveFieldsOk : ℕ → Point → Bool
-giveFieldsOk server x =
-    pick (leb given (x .status)) (leb 1 (x .number) && (not (eqb (x .destination) server) && leb 1 (x .gave)))
-    (eqb (x .destination) 0 && eqb (x .gave) 0)
+-- neither destination nor give
+unfoldable pub notGiven : Point → Bool
+notGiven x = eqb (x .destination) 0 && eqb (x .giveEnd) 0
 
--- a point was taken or never was
-unfoldable pub takeFieldsOk : Point → Bool
-takeFieldsOk x = leb (x .taken) (x .number) && pick (eqb (x .taken) 0) (eqb (x .took) 0) (leb 1 (x .took))
+-- never taken: founded here; else the take has an end
+unfoldable pub originOk : ℕ → PlanEntry → Point → Bool
+originOk server e x = pick (eqb (x .takenMove) 0) (eqb (x .takeEnd) 0 && eqb (e .home) server) (leb 1 (x .takeEnd))
+
+-- absent: as founding left it
+unfoldable pub absentOk : ℕ → PlanEntry → Point → Bool
+absentOk server e x =
+    not (eqb (e .home) server)
+    && (eqb (x .value) (e .fallback)
+    && (eqb (x .quality) 1 && (eqb (x .moveNumber) 0 && (eqb (x .takenMove) 0 && (eqb (x .takeEnd) 0 && notGiven x)))))
+
+-- held: since founding, or taken with just this move
+unfoldable pub heldOk : ℕ → PlanEntry → Point → Bool
+heldOk server e x = eqb (x .moveNumber) (x .takenMove) && (notGiven x && originOk server e x)
+
+-- given or released: to another server, by the move and the log record after those of being held
+unfoldable pub givenOk : ℕ → PlanEntry → Point → Bool
+givenOk server e x =
+    eqb (x .moveNumber) (suc (x .takenMove)) && (not (eqb (x .destination) server) && (ltb (x .takeEnd) (x .giveEnd) && originOk server e x))
+
+unfoldable pub statusOk : ℕ → PlanEntry → Point → Bool
+statusOk server e x =
+    pick (eqb (x .status) absent) (absentOk server e x) (pick (eqb (x .status) held) (heldOk server e x) (givenOk server e x))
 
 unfoldable pub pointOk : ℕ → ℕ → PlanEntry → Point → Bool
 pointOk server size e x =
-    leb (x .status) released
+    leb (x .status) releasedStatus
     && (leb (x .quality) lastQuality
     && (leb (x .destination) lastServer
-    && (inRange e (x .value) && (endOk size (x .gave) && (endOk size (x .took) && (giveFieldsOk server x && takeFieldsOk x))))))
+    && (inRange e (x .value) && (endOk size (x .giveEnd) && (endOk size (x .takeEnd) && statusOk server e x)))))
 
 -- each point keeps its entry of the plan
 unfoldable pub pointsOk : ℕ → ℕ → List PlanEntry → List Point → Bool
@@ -198,22 +213,34 @@ pointsOk server size [] (x ∷ xs) = false
 pointsOk server size (e ∷ es) [] = false
 pointsOk server size (e ∷ es) (x ∷ xs) = pointOk server size e x && pointsOk server size es xs
 
--- a completion record: fields, a value in its point's range, an end in the log, a known client, a call from floor to floor + 15
+-- a point whose completion records stay: held, or given and not released
+unfoldable pub keepsRecords : Point → Bool
+keepsRecords x = isHeld x || isGiven x
+
+-- a completion record: fields, a value in its point's range, a point held or given, an end in the log, a known client, a call from
+-- floor to floor + 15
 unfoldable pub completionOk : State → Completion → Bool
 completionOk st r =
-    commandOk (r .op) (r .point) (r .argument)
-    && (outcomeOk (r .outcome) (r .quality)
-    && (idOk (r .client) (r .call)
-    && (inRange (entryAt (st .plan) (r .point)) (r .value)
-    && (ltb headSize (r .end) && (leb (r .end) (st .size) && inWindow (floorOf (r .client) (st .floors)) (r .call))))))
+    let c = r .command in
+    commandOk (c .op) (c .point) (c .argument)
+    && (outcomeOk (r .result .outcome) (r .result .quality)
+    && (idOk (c .client) (c .call)
+    && (inRange (entryAt (st .plan) (c .point)) (r .result .value)
+    && (keepsRecords (pointAt st (c .point))
+    && (ltb headSize (r .end) && (leb (r .end) (st .size) && inWindow (floorOf (c .client) (st .floors)) (c .call)))))))
 
 unfoldable pub isId : ℕ → ℕ → Completion → Bool
-isId x c r = eqb (r .client) x && eqb (r .call) c
+isId x c r = eqb (r .command .client) x && eqb (r .command .call) c
 
 -- no id stands twice
 unfoldable pub idsDiffer : List Completion → Bool
 idsDiffer [] = true
-idsDiffer (r ∷ rs) = every (λ q. not (isId (r .client) (r .call) q)) rs && idsDiffer rs
+idsDiffer (r ∷ rs) = every (λ q. not (isId (r .command .client) (r .command .call) q)) rs && idsDiffer rs
+
+-- in order of arrival: no end is below the one before; the first is not below `last`
+unfoldable pub endsFrom : ℕ → List Completion → Bool
+endsFrom last [] = true
+endsFrom last (r ∷ rs) = leb last (r .end) && endsFrom (r .end) rs
 
 -- the magic, the zero bytes, the counts and the rows past them
 unfoldable pub stateFramed : List ℕ → Bool
@@ -240,7 +267,8 @@ stateOk st =
     && (leb (st .mark) (st .size)
     && (pointsOk (st .server) (st .size) (st .plan) (st .points)
     && (every floorOk (st .floors)
-    && (clientsAscend (st .floors) && (every (completionOk st) (st .records) && idsDiffer (st .records)))))))
+    && (clientsAscend (st .floors)
+    && (every (completionOk st) (st .records) && (idsDiffer (st .records) && endsFrom headSize (st .records))))))))
 
 -- the written rule of soundness, a test over the bytes
 unfoldable pub sound : List ℕ → Bool

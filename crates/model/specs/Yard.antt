@@ -15,11 +15,13 @@ use Rattle.model.specs.declared.ReceiveAnswer.{ReceiveAnswer}
 use Rattle.model.specs.Choice.{pick}
 use Rattle.model.specs.Numbers.{half, byteAt}
 use Rattle.model.specs.Refusals.{malformed, badMark, unknown}
-use Rattle.model.specs.Limits.{last32, stateSize, resultSize, receiptSize, greatestImage, pointCount, callWindow}
+use Rattle.model.specs.Limits.{last32, requestKind, receiptKind, stateSize, resultSize, receiptSize, greatestImage, pointCount, callWindow}
 use Rattle.model.specs.Plan.{planBytes}
+use Rattle.model.specs.Images.{imageMagic}
 use Rattle.model.specs.States.{State, load}
+use Rattle.model.specs.Versions.{today}
 use Rattle.model.specs.Operations.{After, foundOf, requestOf, syncOf, giveOf, imageOf, takeOf, receiptOf, releaseOf, recoverOf}
-use Rattle.model.specs.Clients.{issueOf, resendOf, receiveOf, sendNumber, receiveNumber, receivedValue, sentBytes, noCall}
+use Rattle.model.specs.Clients.{issueOf, resendOf, receiveOf, sendNumber, receiveNumber, brought, sentBytes, noCall}
 
 -- lines read at the most, and the bytes of a log
 abbrev pub mostLines : ℕ
@@ -132,8 +134,8 @@ withPacket y b =
 unfoldable pub called : Yard → ℕ → After → Step
 called y n a =
     let z = withServer y n (record { state = a .state; log = a .log }) in
-    pick (eqb (a .answer .wrote) 0) (step z (plain (a .answer .number)))
-    (step (withPacket z (take (a .answer .wrote) (a .out))) (answered (a .answer .number) (suc (length (y .packets))) half))
+    pick (eqb (a .answer .wrote) 0) (step z (plain (a .answer .refusal)))
+    (step (withPacket z (take (a .answer .wrote) (a .out))) (answered (a .answer .refusal) (suc (length (y .packets))) half))
 
 unfoldable pub room : ℕ → List ℕ
 room n = replicate n 0
@@ -141,9 +143,9 @@ room n = replicate n 0
 -- delivery is request, take or release by kind
 unfoldable pub delivered : Server → List ℕ → Option After
 delivered s b =
-    pick (eqb (byteAt b 0) 1) (some (requestOf (s .state) (s .log) b (room resultSize)))
-    (pick (eqb (byteAt b 0) 4) (some (releaseOf (s .state) (s .log) b))
-    (pick (eqb (byteAt b 0) 77) (some (takeOf (s .state) (s .log) b)) none))
+    pick (eqb (byteAt b 0) requestKind) (some (requestOf today (s .state) (s .log) b (room resultSize)))
+    (pick (eqb (byteAt b 0) receiptKind) (some (releaseOf (s .state) (s .log) b))
+    (pick (eqb (byteAt b 0) (byteAt imageMagic 0)) (some (takeOf (s .state) (s .log) b)) none))
 
 unfoldable pub deliverTo : Yard → ℕ → Option After → Step
 deliverTo y n none = step y (plain malformed)
@@ -158,7 +160,7 @@ cutServer y n k =
     let s = serverOf y n in
     let a = cutAt s k in
     pick (ltb k (load (s .state) .mark) || ltb (load (s .state) .size) k) (step y (plain badMark))
-    (step (withServer y n (record { state = a .state; log = s .log })) (plain (a .answer .number)))
+    (step (withServer y n (record { state = a .state; log = s .log })) (plain (a .answer .refusal)))
 
 unfoldable pub issued : Yard → ℕ → SendAnswer → Step
 issued y n a =
@@ -167,7 +169,7 @@ issued y n a =
     (step z (plain (sendNumber (a .answer))))
 
 unfoldable pub receivedAt : Yard → ℕ → ReceiveAnswer → Step
-receivedAt y n a = step (withClient y n (a .client)) (answered (receiveNumber (a .answer)) 0 (receivedValue (a .answer)))
+receivedAt y n a = step (withClient y n (a .client)) (answered (receiveNumber (a .answer)) 0 (brought (a .answer) .result .value))
 
 unfoldable pub deliverAt : Yard → ℕ → Option (List ℕ) → Step
 deliverAt y n none = step y (plain unknown)

@@ -1,5 +1,6 @@
 // The kernel's types: plain data, no logic. What they mean stands in specs/.
 // A signed number x of 32 bits is kept as x + 2^31, unsigned, in every field.
+pub mod constants;
 
 // ---- plan and commands
 
@@ -9,6 +10,12 @@ pub struct PlanEntry {
     pub high: u32,
     pub fallback: u32,
     pub home: u8,
+}
+
+// The arguments that an op takes.
+pub struct ArgumentRange {
+    pub least: u32,
+    pub greatest: u32,
 }
 
 // A point's value and quality: 0 valid, 1 invalid.
@@ -37,38 +44,32 @@ pub struct Command {
 
 // Packet 1. `lease` is the lease end.
 pub struct Request {
-    pub op: u8,
-    pub point: u8,
-    pub client: u32,
-    pub call: u32,
+    pub command: Command,
     pub done: u32,
     pub lease: u32,
-    pub argument: u32,
 }
 
 // Packet 2.
 pub struct ResultPacket {
-    pub outcome: u8,
-    pub point: u8,
-    pub quality: u8,
     pub client: u32,
     pub call: u32,
-    pub value: u32,
+    pub point: u8,
+    pub result: CommandResult,
 }
 
 // Packet 3.
 pub struct RefusalPacket {
-    pub number: u8,
+    pub refusal: u8,
     pub point: u8,
     pub client: u32,
     pub call: u32,
 }
 
-// Packet 4. `server` is the taker; `number` is the move number.
+// Packet 4. `server` is the taker.
 pub struct Receipt {
     pub point: u8,
     pub server: u8,
-    pub number: u32,
+    pub moveNumber: u32,
 }
 
 // Packet 5, and log record 2 (gone).
@@ -98,28 +99,22 @@ pub enum Packet {
 
 // Log record 1.
 pub struct Executed {
-    pub op: u8,
-    pub point: u8,
-    pub outcome: u8,
-    pub client: u32,
-    pub call: u32,
+    pub command: Command,
     pub done: u32,
-    pub argument: u32,
-    pub value: u32,
-    pub quality: u8,
+    pub result: CommandResult,
 }
 
-// Log record 3. `number` is the move number.
+// Log record 3.
 pub struct Give {
     pub point: u8,
     pub destination: u8,
-    pub number: u32,
+    pub moveNumber: u32,
 }
 
-// Log record 5. `number` is the give's move number.
+// Log record 5. `moveNumber` is the give's.
 pub struct Release {
     pub point: u8,
-    pub number: u32,
+    pub moveNumber: u32,
 }
 
 // ---- images
@@ -130,15 +125,13 @@ pub struct Floor {
     pub floor: u32,
 }
 
-// A completion record in an image.
+// A completion record in an image: a command on the image's point, and its result.
 pub struct ImageEntry {
     pub client: u32,
     pub call: u32,
-    pub argument: u32,
-    pub value: u32,
     pub op: u8,
-    pub outcome: u8,
-    pub quality: u8,
+    pub argument: u32,
+    pub result: CommandResult,
 }
 
 // The fields of an image outside its two tables, with the numbers of their rows.
@@ -146,7 +139,7 @@ pub struct ImageHead {
     pub point: u8,
     pub destination: u8,
     pub source: u8,
-    pub number: u32,
+    pub moveNumber: u32,
     pub heard: u32,
     pub value: u32,
     pub quality: u8,
@@ -156,35 +149,29 @@ pub struct ImageHead {
 
 // ---- a server's state (paper: cabinet), rows of the lent buffer
 
-// A point at a server. `status`: 0 absent, 1 held, 2 given, 3 released. `number` is the move number, `taken` the latest
-// taken one (0: never taken); `gave` and `took` are the log ends of the latest give and take (0: none).
+// A point at a server. `status`: 0 absent, 1 held, 2 given, 3 released. `takenMove` is the latest taken move number (0: never
+// taken); `giveEnd` and `takeEnd` are the log ends of the latest give and take (0: none).
 pub struct Point {
     pub status: u8,
     pub quality: u8,
     pub destination: u8,
     pub value: u32,
-    pub number: u32,
-    pub taken: u32,
-    pub gave: u64,
-    pub took: u64,
+    pub moveNumber: u32,
+    pub takenMove: u32,
+    pub giveEnd: u64,
+    pub takeEnd: u64,
 }
 
 // A completion record. `end` is the end of the log record that brought it.
 pub struct Completion {
-    pub client: u32,
-    pub call: u32,
-    pub argument: u32,
-    pub value: u32,
-    pub op: u8,
-    pub outcome: u8,
-    pub quality: u8,
-    pub point: u8,
+    pub command: Command,
+    pub result: CommandResult,
     pub end: u64,
 }
 
-// The answer of a server's call: 0 or the refusal's number, and the bytes written to the output.
+// The answer of a server's call: the refusal's number, 0 for none, and the bytes written to the output.
 pub struct Answer {
-    pub number: u32,
+    pub refusal: u32,
     pub wrote: u32,
 }
 
@@ -205,7 +192,7 @@ pub struct Client {
     pub client: u32,
     pub lease: u32,
     pub next: u32,
-    pub calls: [OpenCall; 16],
+    pub calls: [OpenCall; constants::CALL_WINDOW],
 }
 
 // What start answers.
@@ -260,7 +247,7 @@ pub struct Lease {
 pub struct LeaseManager {
     pub time: u32,
     pub issued: u32,
-    pub leases: [Lease; 32],
+    pub leases: [Lease; constants::LEASE_COUNT],
 }
 
 // What open, renew and query answer.

@@ -1,5 +1,5 @@
 -- Each call as a chain of refusals, and what it does at the chain's end.
---     first-by, pick-by       numbers one behind the other; by-zero: none of them
+--     first-by                numbers one behind the other
 --     first-no, first-yes     the first test in code; first-zero: both are passed
 --     places-good             a point and a server number in range
 --     give-is, give-ready, give-settled
@@ -18,7 +18,7 @@ use Rattle.model.specs.declared.Answer.{Answer}
 use Rattle.model.specs.declared.Point.{Point}
 use Rattle.model.specs.declared.Packet.{Packet}
 use Rattle.model.specs.declared.Packet.the-variants.{Malformed, Requested, Resulted, Refused, Receipted, Noticed, Granted}
-use Rattle.model.specs.Choice.{pick, refuse, reply, append}
+use Rattle.model.specs.Choice.{pick, refuse, reply, append, unlessRefused}
 use Rattle.model.specs.Limits.{lastPoint, lastServer, giveSize, releaseSize, receiptSize, greatestImage}
 use Rattle.model.specs.Tables.{written}
 use Rattle.model.specs.Packets.{parsePacket, receiptBytes}
@@ -26,39 +26,35 @@ use Rattle.model.specs.Images.{imageBytes, imageLength}
 use Rattle.model.specs.Logs.{LogRecord, gave, released, recordBytes, recordSize}
 use Rattle.model.specs.States.{load, sound, pointAt}
 use Rattle.model.specs.Apply.{applyRecord, applyGave, applyReleased}
-use Rattle.model.specs.Decisions.{Decided, onGive, imageFor, decideRelease, onRelease}
-use Rattle.model.specs.Operations.{answerOf, after, settle, stored, lent, freeIn, giveOf, receiptOf, imageOf, releaseOf}
+use Rattle.model.specs.Decisions.{Decided, placesBad, giveRefusal, onGive, imageFor, imageRefusal, onImage, receiptRefusal, onReceipt, releaseRefusal, decideRelease, onRelease}
+use Rattle.model.specs.Operations.{answerOf, after, settle, stored, lentRefusal, lent, freeIn, giveOf, receiptOf, imageOf, releaseOf}
 use Rattle.laws.specs.Bytes.{Bytes}
 use Rattle.laws.proofs.Images.{image-length}
 use Rattle.limits.specs.Passed.{PassedGive}
-use Rattle.limits.proofs.Decided.{or-left-no, or-right-no, give-passed, give-space, release-space}
+use Rattle.laws.proofs.Refused.{unless-passed}
+use Rattle.limits.proofs.Decided.{or-left-no, or-right-no, give-passed, release-passed}
 use Rattle.limits.proofs.Loaded.{loaded-sound}
 use Rattle.limits.proofs.Images.{image-good, image-short}
 use Rattle.limits.proofs.Formats.{parsed-receipt}
-use Rattle.decide.specs.Tests.{byNumber, placesBad, giveRefusal, receiptRefusal, imageRefusal, releaseRefusal}
-use Rattle.decide.proofs.Decided.{give-decided, receipt-decided, image-decided, release-decided}
-use Rattle.lent.specs.Memory.{lentRefusal, Fit}
-use Rattle.lent.proofs.Settled.{lent-number, lent-fit}
+use Rattle.lent.specs.Memory.{Fit}
+use Rattle.lent.proofs.Settled.{lent-fit}
 use Rattle.moves.specs.Numbers.{first, giveFor, giveNumber, placeNumber, releaseFor, Placed}
 
 -- ---- numbers one behind the other
 
-pub first-by : (n m : ℕ) (d : Decided) → byNumber n (byNumber m d) ≡ byNumber (first n m) d
-unfolding byNumber first
+pub first-by : (n m : ℕ) (d : Decided) → unlessRefused n (unlessRefused m d) ≡ unlessRefused (first n m) d
+unfolding unlessRefused first
 first-by n m d = go (eqb n 0) refl
   where
     go : (t : Bool) → eqb n 0 ≡ t → pick t (pick (eqb m 0) d (refuse m)) (refuse n) ≡ pick (eqb (pick t m n) 0) d (refuse (pick t m n))
     go true e = refl
     go false e = rw e
 
-pub pick-by : (t : Bool) (n m : ℕ) (d : Decided) → eqb n 0 ≡ false → pick t (refuse n) (byNumber m d) ≡ byNumber (pick t n m) d
-unfolding byNumber
-pick-by true n m d z = rw z
-pick-by false n m d z = refl
-
-pub by-zero : (n : ℕ) (d : Decided) → n ≡ 0 → byNumber n d ≡ d
-unfolding byNumber
-by-zero n d e = rw e
+-- 1, then the others
+malformed-by : (t : Bool) (m : ℕ) (d : Decided) → unlessRefused (pick t 1 m) d ≡ unlessRefused (pick t 1 0) (unlessRefused m d)
+unfolding unlessRefused
+malformed-by true m d = refl
+malformed-by false m d = refl
 
 -- the first test in code
 pub first-no : {n k : ℕ} (m : ℕ) → n ≡ k → (n ≡ 0 → ⊥) → n ≡ first k m
@@ -91,54 +87,52 @@ module _ (s log : List ℕ) where
     abbrev given : LogRecord
     given = gave (giveFor (load s) p d)
 
-    give-by : onGive (load s) (freeIn s log) p d ≡ byNumber (pick (placesBad p d) 1 (giveRefusal (pointAt (load s) p) (load s .server) (freeIn s log) d)) (append given)
-    unfolding giveFor
-    give-by = give-decided (load s) (freeIn s log) p d ∙ pick-by (placesBad p d) 1 _ (append given) refl
+    give-by : onGive (load s) (freeIn s log) p d ≡ unlessRefused (pick (placesBad p d) 1 (giveRefusal (pointAt (load s) p) (load s .server) (freeIn s log) d)) (append given)
+    unfolding giveFor onGive
+    give-by = refl
 
-    pub give-is : giveOf s log p d ≡ settle s log [] (byNumber (giveNumber s log p d) (append given))
-    unfolding giveOf giveNumber
-    give-is = ap (settle s log []) (lent-number s log [] 0 (onGive (load s) (freeIn s log) p d) ∙ ap (byNumber (lentRefusal s log 0 0)) give-by ∙ first-by _ _ (append given))
+    pub give-is : giveOf s log p d ≡ settle s log [] (unlessRefused (giveNumber s log p d) (append given))
+    unfolding giveOf giveNumber lent
+    give-is = ap (settle s log []) (ap (unlessRefused (lentRefusal s log 0 0)) give-by ∙ first-by _ _ (append given))
 
     pub give-ready : giveNumber s log p d ≡ 0 → Fit s log 0 0 × PassedGive (load s) p d × (load s .size + giveSize ≤ length log)
     unfolding giveNumber freeIn
     give-ready e =
         let k = first-zero _ _ e in
-        let a : onGive (load s) (freeIn s log) p d ≡ append given = give-by ∙ by-zero _ (append given) (k .1) in
+        let a : onGive (load s) (freeIn s log) p d ≡ append given = give-by ∙ unless-passed _ (append given) (k .1) in
         let F = lent-fit s log 0 0 (k .0) in
-        (F, give-passed (load s) (freeIn s log) p d given a .0, omega (arith, F .logged, give-space (load s) (freeIn s log) p d given a))
+        let P = give-passed (load s) (freeIn s log) p d given a in
+        (F, P .0, omega (arith, F .logged, P .1))
 
   -- the point's number as it was read, and the log's length
   pub give-settled : (p d : ℕ) {x : Point} {k : ℕ} {r : Answer} {t l : List ℕ} → x ≡ pointAt (load s) p → k ≡ load s .size
-      → t ≡ stored s (applyGave (record { point = p; destination = d; number = x .number + 1 }) (k + 8) (load s))
-      → l ≡ written log k (recordBytes (gave (record { point = p; destination = d; number = x .number + 1 }))) → r ≡ answerOf 0 0
+      → t ≡ stored s (applyGave (record { point = p; destination = d; moveNumber = x .moveNumber + 1 }) (k + 8) (load s))
+      → l ≡ written log k (recordBytes (gave (record { point = p; destination = d; moveNumber = x .moveNumber + 1 }))) → r ≡ answerOf 0 0
       → after r t l [] ≡ settle s log [] (append (gave (giveFor (load s) p d)))
   unfolding settle recordSize applyRecord giveFor
-  give-settled p d {x} a b e f g = let n : x .number + 1 ≡ suc (x .number) = omega arith in rw (e, f, g, n, a, b)
+  give-settled p d {x} a b e f g = let n : x .moveNumber + 1 ≡ suc (x .moveNumber) = omega arith in rw (e, f, g, n, a, b)
 
 -- ---- receipt and image
 
 module _ (s log : List ℕ) (p : ℕ) where
   module _ (out : List ℕ) where
-    place-by : (need : ℕ) (d : Decided) → lent s log out need (pick (ltb lastPoint p) (refuse 1) d) ≡ byNumber (placeNumber s log (length out) need p) d
-    unfolding placeNumber
-    place-by need d =
-        lent-number s log out need (pick (ltb lastPoint p) (refuse 1) d)
-        ∙ ap (byNumber (lentRefusal s log (length out) need)) (ap (λ (e : Decided). pick (ltb lastPoint p) (refuse 1) e) (sym (by-zero 0 d refl)) ∙ pick-by (ltb lastPoint p) 1 0 d refl)
-        ∙ first-by _ _ d
+    place-by : (need m : ℕ) (d : Decided) → lent s log out need (unlessRefused (pick (ltb lastPoint p) 1 m) d) ≡ unlessRefused (placeNumber s log (length out) need p) (unlessRefused m d)
+    unfolding placeNumber lent
+    place-by need m d = ap (unlessRefused (lentRefusal s log (length out) need)) (malformed-by (ltb lastPoint p) m d) ∙ first-by _ _ (unlessRefused m d)
 
     pub receipt-is : receiptOf s log p out
-        ≡ settle s log out (byNumber (placeNumber s log (length out) receiptSize p) (byNumber (receiptRefusal (pointAt (load s) p) (load s .mark)) (reply (receiptBytes (record { point = p; server = load s .server; number = pointAt (load s) p .taken })))))
-    unfolding receiptOf
-    receipt-is = ap (settle s log out) (ap (lent s log out receiptSize) (receipt-decided (load s) p) ∙ place-by receiptSize _)
+        ≡ settle s log out (unlessRefused (placeNumber s log (length out) receiptSize p) (unlessRefused (receiptRefusal (pointAt (load s) p) (load s .mark)) (reply (receiptBytes (record { point = p; server = load s .server; moveNumber = pointAt (load s) p .takenMove })))))
+    unfolding receiptOf onReceipt
+    receipt-is = ap (settle s log out) (place-by receiptSize _ _)
 
     pub image-is : imageOf s log p out
-        ≡ settle s log out (byNumber (placeNumber s log (length out) greatestImage p) (byNumber (imageRefusal (pointAt (load s) p) (load s .mark)) (reply (imageBytes (imageFor (load s) p)))))
-    unfolding imageOf
-    image-is = ap (settle s log out) (ap (lent s log out greatestImage) (image-decided (load s) p) ∙ place-by greatestImage _)
+        ≡ settle s log out (unlessRefused (placeNumber s log (length out) greatestImage p) (unlessRefused (imageRefusal (pointAt (load s) p) (load s .mark)) (reply (imageBytes (imageFor (load s) p)))))
+    unfolding imageOf onImage
+    image-is = ap (settle s log out) (place-by greatestImage _ _)
 
     pub receipt-done : {x : Point} {v : ℕ} {r : Answer} {o : List ℕ} → x ≡ pointAt (load s) p → v ≡ load s .server
-        → o ≡ written out 0 (receiptBytes (record { point = p; server = v; number = x .taken })) → r ≡ answerOf 0 8
-        → after r s log o ≡ settle s log out (reply (receiptBytes (record { point = p; server = load s .server; number = pointAt (load s) p .taken })))
+        → o ≡ written out 0 (receiptBytes (record { point = p; server = v; moveNumber = x .takenMove })) → r ≡ answerOf 0 8
+        → after r s log o ≡ settle s log out (reply (receiptBytes (record { point = p; server = load s .server; moveNumber = pointAt (load s) p .takenMove })))
     unfolding settle receiptBytes
     receipt-done a b e f = rw (e, f, a, b)
 
@@ -161,28 +155,28 @@ module _ (s log : List ℕ) (p : ℕ) where
 -- ---- release
 
 module _ (s log : List ℕ) where
-  pub release-is : (b : List ℕ) → releaseOf s log b ≡ settle s log [] (byNumber (lentRefusal s log 0 0) (onRelease (load s) (freeIn s log) (parsePacket b)))
-  unfolding releaseOf
-  release-is b = ap (settle s log []) (lent-number s log [] 0 (onRelease (load s) (freeIn s log) (parsePacket b)))
+  pub release-is : (b : List ℕ) → releaseOf s log b ≡ settle s log [] (unlessRefused (lentRefusal s log 0 0) (onRelease (load s) (freeIn s log) (parsePacket b)))
+  unfolding releaseOf lent
+  release-is b = refl
 
   module _ (p m : ℕ) where
-    release-by : decideRelease (load s) (freeIn s log) p m ≡ byNumber (releaseRefusal (pointAt (load s) p) (freeIn s log) m) (append (released (releaseFor (load s) p)))
-    unfolding releaseFor
-    release-by = release-decided (load s) (freeIn s log) p m
+    release-by : decideRelease (load s) (freeIn s log) p m ≡ unlessRefused (releaseRefusal (pointAt (load s) p) (freeIn s log) m) (append (released (releaseFor (load s) p)))
+    unfolding releaseFor decideRelease
+    release-by = refl
 
     pub release-chain : settle s log [] (decideRelease (load s) (freeIn s log) p m)
-        ≡ settle s log [] (byNumber (releaseRefusal (pointAt (load s) p) (freeIn s log) m) (append (released (releaseFor (load s) p))))
+        ≡ settle s log [] (unlessRefused (releaseRefusal (pointAt (load s) p) (freeIn s log) m) (append (released (releaseFor (load s) p))))
     release-chain = ap (settle s log []) release-by
 
     pub release-room : {n : ℕ} → n ≡ releaseRefusal (pointAt (load s) p) (freeIn s log) m → n ≡ 0 → load s .size ≤ length log → load s .size + releaseSize ≤ length log
     unfolding freeIn
     release-room q z l =
-        let a = release-by ∙ by-zero _ (append (released (releaseFor (load s) p))) (sym q ∙ z) in
-        omega (arith, l, release-space (load s) (freeIn s log) p m (released (releaseFor (load s) p)) a)
+        let a = release-by ∙ unless-passed _ (append (released (releaseFor (load s) p))) (sym q ∙ z) in
+        omega (arith, l, release-passed (load s) (freeIn s log) p m (released (releaseFor (load s) p)) a .1)
 
   pub release-settled : (p : ℕ) {x : Point} {k : ℕ} {r : Answer} {t l : List ℕ} → x ≡ pointAt (load s) p → k ≡ load s .size
-      → t ≡ stored s (applyReleased (record { point = p; number = x .number }) (k + 8) (load s))
-      → l ≡ written log k (recordBytes (released (record { point = p; number = x .number }))) → r ≡ answerOf 0 0
+      → t ≡ stored s (applyReleased (record { point = p; moveNumber = x .moveNumber }) (k + 8) (load s))
+      → l ≡ written log k (recordBytes (released (record { point = p; moveNumber = x .moveNumber }))) → r ≡ answerOf 0 0
       → after r t l [] ≡ settle s log [] (append (released (releaseFor (load s) p)))
   unfolding settle recordSize applyRecord releaseFor
   release-settled p a b e f g = rw (e, f, g, a, b)

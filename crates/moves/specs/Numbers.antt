@@ -12,9 +12,8 @@ use Rattle.model.specs.Choice.{pick}
 use Rattle.model.specs.Refusals.{malformed}
 use Rattle.model.specs.Limits.{lastPoint}
 use Rattle.model.specs.States.{State, load, pointAt}
-use Rattle.model.specs.Operations.{freeIn}
-use Rattle.decide.specs.Tests.{placesBad, giveRefusal}
-use Rattle.lent.specs.Memory.{lentRefusal}
+use Rattle.model.specs.Decisions.{placesBad, giveRefusal}
+use Rattle.model.specs.Operations.{lentRefusal, freeIn}
 
 -- the number n, or what comes behind it where n is 0
 unfoldable pub first : ℕ → ℕ → ℕ
@@ -23,7 +22,7 @@ first n m = pick (eqb n 0) m n
 -- ---- give
 
 unfoldable pub giveFor : State → ℕ → ℕ → Give
-giveFor st p d = record { point = p; destination = d; number = suc (pointAt st p .number) }
+giveFor st p d = record { point = p; destination = d; moveNumber = suc (pointAt st p .moveNumber) }
 
 unfoldable pub giveNumber : List ℕ → List ℕ → ℕ → ℕ → ℕ
 giveNumber s log p d =
@@ -37,7 +36,7 @@ placeNumber s log n need p = first (lentRefusal s log n need) (pick (ltb lastPoi
 -- ---- release
 
 unfoldable pub releaseFor : State → ℕ → Release
-releaseFor st p = record { point = p; number = pointAt st p .number }
+releaseFor st p = record { point = p; moveNumber = pointAt st p .moveNumber }
 
 -- a packet's point, where a release reads it, is in range
 abbrev pub Placed : Packet → Type 0

@@ -5,6 +5,7 @@ use model::Give;
 use model::Packet;
 use model::Receipt;
 use model::Release;
+use model::constants;
 ghost use mathlib.Core.Path.{_≡_};
 ghost use Prim.Native.Nat.{_+_, _≤_};
 ghost use mathlib.Core.List.{[]};
@@ -30,7 +31,7 @@ fn give_number(s: &[u8], log: &[u8], point: u32, destination: u32) -> u32
         return n;
     }
     if decide::places_bad(point, destination) {
-        return 1;
+        return constants::MALFORMED;
     }
     let x = state::point_at(s, point as u8);
     let server = state::server_of(s);
@@ -48,10 +49,10 @@ fn give_done(s: &mut [u8], log: &mut [u8], point: u8, destination: u8) -> Answer
     let g = Give {
         point,
         destination,
-        number: x.number + 1,
+        moveNumber: x.moveNumber + 1,
     };
     appends::append_give(log, size as usize, g);
-    apply::apply_gave(s, g, size + 8);
+    apply::apply_gave(s, g, size + constants::GIVE_SIZE_U64);
     lent::made(0)
 }
 
@@ -76,8 +77,8 @@ fn place_number(s: &[u8], log: &[u8], n: usize, need: usize, point: u32) -> u32
     if m != 0 {
         return m;
     }
-    if 63 < point {
-        return 1;
+    if constants::LAST_POINT_U32 < point {
+        return constants::MALFORMED;
     }
     0
 }
@@ -86,7 +87,7 @@ fn place_number(s: &[u8], log: &[u8], n: usize, need: usize, point: u32) -> u32
 pub fn receipt(s: &[u8], log: &[u8], point: u32, out: &mut [u8]) -> Answer
     ensures { λ r. ⌜ after r (now (s .entry)) (now (log .entry)) (now (out .exit)) ≡ receiptOf (now (s .entry)) (now (log .entry)) point (now (out .entry)) ⌝ }
 {
-    let n = place_number(s, log, out.len(), 8, point);
+    let n = place_number(s, log, out.len(), constants::RECEIPT_SIZE, point);
     if n != 0 {
         return lent::refused(n);
     }
@@ -100,17 +101,17 @@ pub fn receipt(s: &[u8], log: &[u8], point: u32, out: &mut [u8]) -> Answer
     let q = Receipt {
         point: point as u8,
         server,
-        number: x.taken,
+        moveNumber: x.takenMove,
     };
     packets::write_receipt(out, q);
-    lent::made(8)
+    lent::made(constants::RECEIPT_SIZE_U32)
 }
 
 // 2; 19; 1; 3 not given, or released; 7 give not synced; else the image of the point.
 pub fn image(s: &[u8], log: &[u8], point: u32, out: &mut [u8]) -> Answer
     ensures { λ r. ⌜ after r (now (s .entry)) (now (log .entry)) (now (out .exit)) ≡ imageOf (now (s .entry)) (now (log .entry)) point (now (out .entry)) ⌝ }
 {
-    let n = place_number(s, log, out.len(), image_rows::GREATEST_IMAGE, point);
+    let n = place_number(s, log, out.len(), constants::GREATEST_IMAGE, point);
     if n != 0 {
         return lent::refused(n);
     }
@@ -135,21 +136,21 @@ fn release_done(s: &mut [u8], log: &mut [u8], point: u8) -> Answer
     let x = state::point_at(s, point);
     let q = Release {
         point,
-        number: x.number,
+        moveNumber: x.moveNumber,
     };
     appends::append_release(log, size as usize, q);
-    apply::apply_released(s, q, size + 8);
+    apply::apply_released(s, q, size + constants::RELEASE_SIZE_U64);
     lent::made(0)
 }
 
 // By a receipt: 3 not given, or released; 12 receipt's move below the given move; 9; else the point is released.
 fn release_by(s: &mut [u8], log: &mut [u8], q: Receipt) -> Answer
     requires { ⌜ Canonical (now s) × (load (now s) .size ≤ length (now log)) × (q .point ≤ lastPoint) ⌝ }
-    ensures { λ r. ⌜ after r (now (s .exit)) (now (log .exit)) [] ≡ settle (now (s .entry)) (now (log .entry)) [] (decideRelease (load (now (s .entry))) (freeIn (now (s .entry)) (now (log .entry))) (q .point) (q .number)) ⌝ }
+    ensures { λ r. ⌜ after r (now (s .exit)) (now (log .exit)) [] ≡ settle (now (s .entry)) (now (log .entry)) [] (decideRelease (load (now (s .entry))) (freeIn (now (s .entry)) (now (log .entry))) (q .point) (q .moveNumber)) ⌝ }
 {
     let x = state::point_at(s, q.point);
     let free = lent::free_in(s, log);
-    let n = decide::release_refusal(x, free, q.number);
+    let n = decide::release_refusal(x, free, q.moveNumber);
     if n != 0 {
         return lent::refused(n);
     }
@@ -162,13 +163,13 @@ fn release_on(s: &mut [u8], log: &mut [u8], p: Packet) -> Answer
     ensures { λ r. ⌜ after r (now (s .exit)) (now (log .exit)) [] ≡ settle (now (s .entry)) (now (log .entry)) [] (onRelease (load (now (s .entry))) (freeIn (now (s .entry)) (now (log .entry))) p) ⌝ }
 {
     match p {
-        Packet::Malformed => lent::refused(1),
-        Packet::Requested(_) => lent::refused(1),
-        Packet::Resulted(_) => lent::refused(1),
-        Packet::Refused(_) => lent::refused(1),
+        Packet::Malformed => lent::refused(constants::MALFORMED),
+        Packet::Requested(_) => lent::refused(constants::MALFORMED),
+        Packet::Resulted(_) => lent::refused(constants::MALFORMED),
+        Packet::Refused(_) => lent::refused(constants::MALFORMED),
         Packet::Receipted(q) => release_by(s, log, q),
-        Packet::Noticed(_) => lent::refused(1),
-        Packet::Granted(_) => lent::refused(1),
+        Packet::Noticed(_) => lent::refused(constants::MALFORMED),
+        Packet::Granted(_) => lent::refused(constants::MALFORMED),
     }
 }
 

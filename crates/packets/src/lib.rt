@@ -6,10 +6,12 @@ use model::Receipt;
 use model::RefusalPacket;
 use model::Request;
 use model::ResultPacket;
+use model::constants;
 ghost use mathlib.Core.Path.{_≡_};
 ghost use Prim.Native.Nat.{_≤_};
 ghost use lib.ListN.{length};
 ghost use Rattle.model.specs.Tables.{written};
+ghost use Rattle.model.specs.Limits.{noticeKind};
 ghost use Rattle.model.specs.Packets.{requestBytes, resultBytes, refusalBytes, receiptBytes, noticeBytes, grantBytes, packetBytes};
 
 // ---- into a lent slice
@@ -18,29 +20,43 @@ pub fn write_request(out: &mut [u8], q: Request)
     requires { ⌜ 24 ≤ length (now out) ⌝ }
     ensures { λ r. ⌜ now (out .exit) ≡ written (now (out .entry)) 0 (requestBytes q) ⌝ }
 {
-    wire::write_4(out, 0, 1, q.op, q.point, 0);
-    wire::write_u32(out, 4, q.client);
-    wire::write_u32(out, 8, q.call);
+    wire::write_4(
+        out,
+        0,
+        constants::REQUEST_KIND,
+        q.command.op,
+        q.command.point,
+        0,
+    );
+    wire::write_u32(out, 4, q.command.client);
+    wire::write_u32(out, 8, q.command.call);
     wire::write_u32(out, 12, q.done);
     wire::write_u32(out, 16, q.lease);
-    wire::write_signed(out, 20, q.argument);
+    wire::write_signed(out, 20, q.command.argument);
 }
 
 pub fn write_result(out: &mut [u8], q: ResultPacket)
     requires { ⌜ 16 ≤ length (now out) ⌝ }
     ensures { λ r. ⌜ now (out .exit) ≡ written (now (out .entry)) 0 (resultBytes q) ⌝ }
 {
-    wire::write_4(out, 0, 2, q.outcome, q.point, q.quality);
+    wire::write_4(
+        out,
+        0,
+        constants::RESULT_KIND,
+        q.result.outcome,
+        q.point,
+        q.result.quality,
+    );
     wire::write_u32(out, 4, q.client);
     wire::write_u32(out, 8, q.call);
-    wire::write_signed(out, 12, q.value);
+    wire::write_signed(out, 12, q.result.value);
 }
 
 pub fn write_refusal(out: &mut [u8], q: RefusalPacket)
     requires { ⌜ 12 ≤ length (now out) ⌝ }
     ensures { λ r. ⌜ now (out .exit) ≡ written (now (out .entry)) 0 (refusalBytes q) ⌝ }
 {
-    wire::write_4(out, 0, 3, q.number, q.point, 0);
+    wire::write_4(out, 0, constants::REFUSAL_KIND, q.refusal, q.point, 0);
     wire::write_u32(out, 4, q.client);
     wire::write_u32(out, 8, q.call);
 }
@@ -49,8 +65,8 @@ pub fn write_receipt(out: &mut [u8], q: Receipt)
     requires { ⌜ 8 ≤ length (now out) ⌝ }
     ensures { λ r. ⌜ now (out .exit) ≡ written (now (out .entry)) 0 (receiptBytes q) ⌝ }
 {
-    wire::write_4(out, 0, 4, q.point, q.server, 0);
-    wire::write_u32(out, 4, q.number);
+    wire::write_4(out, 0, constants::RECEIPT_KIND, q.point, q.server, 0);
+    wire::write_u32(out, 4, q.moveNumber);
 }
 
 // Kind 5; log record 2 is the same with its own kind.
@@ -67,7 +83,7 @@ pub fn write_grant(out: &mut [u8], q: Grant)
     requires { ⌜ 12 ≤ length (now out) ⌝ }
     ensures { λ r. ⌜ now (out .exit) ≡ written (now (out .entry)) 0 (grantBytes q) ⌝ }
 {
-    wire::write_4(out, 0, 6, 0, 0, 0);
+    wire::write_4(out, 0, constants::GRANT_KIND, 0, 0, 0);
     wire::write_u32(out, 4, q.client);
     wire::write_u32(out, 8, q.lease);
 }
@@ -81,53 +97,53 @@ pub fn write_packet(out: &mut [u8], p: Packet) -> u32
         Packet::Malformed => 0,
         Packet::Requested(q) => {
             write_request(out, q);
-            24
+            constants::REQUEST_SIZE_U32
         }
         Packet::Resulted(q) => {
             write_result(out, q);
-            16
+            constants::RESULT_SIZE_U32
         }
         Packet::Refused(q) => {
             write_refusal(out, q);
-            12
+            constants::REFUSAL_SIZE_U32
         }
         Packet::Receipted(q) => {
             write_receipt(out, q);
-            8
+            constants::RECEIPT_SIZE_U32
         }
         Packet::Noticed(q) => {
-            write_notice(out, 5, q);
-            12
+            write_notice(out, constants::NOTICE_KIND, q);
+            constants::NOTICE_SIZE_U32
         }
         Packet::Granted(q) => {
             write_grant(out, q);
-            12
+            constants::GRANT_SIZE_U32
         }
     }
 }
 
 // ---- by value, for the client and the lease manager
 
-pub fn request_packet(q: Request) -> [u8; 24]
+pub fn request_packet(q: Request) -> [u8; constants::REQUEST_SIZE]
     ensures { λ r. ⌜ r ≡ requestBytes q ⌝ }
 {
-    let mut p = [0u8; 24];
+    let mut p = [0u8; constants::REQUEST_SIZE];
     write_request(&mut p, q);
     p
 }
 
-pub fn notice_packet(q: Notice) -> [u8; 12]
-    ensures { λ r. ⌜ r ≡ noticeBytes 5 q ⌝ }
+pub fn notice_packet(q: Notice) -> [u8; constants::NOTICE_SIZE]
+    ensures { λ r. ⌜ r ≡ noticeBytes noticeKind q ⌝ }
 {
-    let mut p = [0u8; 12];
-    write_notice(&mut p, 5, q);
+    let mut p = [0u8; constants::NOTICE_SIZE];
+    write_notice(&mut p, constants::NOTICE_KIND, q);
     p
 }
 
-pub fn grant_packet(q: Grant) -> [u8; 12]
+pub fn grant_packet(q: Grant) -> [u8; constants::GRANT_SIZE]
     ensures { λ r. ⌜ r ≡ grantBytes q ⌝ }
 {
-    let mut p = [0u8; 12];
+    let mut p = [0u8; constants::GRANT_SIZE];
     write_grant(&mut p, q);
     p
 }

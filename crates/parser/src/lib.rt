@@ -1,5 +1,6 @@
 // The parsers of the six packets: one of each kind, and one of any.
 use model::Packet;
+use model::constants;
 ghost use mathlib.Core.Path.{_≡_};
 ghost use Rattle.model.specs.Choice.{pick};
 ghost use Rattle.model.specs.declared.Packet.the-variants.{Malformed};
@@ -15,7 +16,7 @@ fn checked(ok: bool, found: Packet) -> Packet
 fn parse_request(p: &[u8]) -> Packet
     ensures { λ r. ⌜ r ≡ parseRequest (now (p .entry)) ⌝ }
 {
-    if p.len() != wire::PACKET_LENGTHS[1] {
+    if p.len() != constants::PACKET_LENGTHS[1] {
         return Packet::Malformed;
     }
     let q = wire::request_at(p);
@@ -28,7 +29,7 @@ fn parse_request(p: &[u8]) -> Packet
 fn parse_result(p: &[u8]) -> Packet
     ensures { λ r. ⌜ r ≡ parseResult (now (p .entry)) ⌝ }
 {
-    if p.len() != wire::PACKET_LENGTHS[2] {
+    if p.len() != constants::PACKET_LENGTHS[2] {
         return Packet::Malformed;
     }
     let q = wire::result_at(p);
@@ -38,7 +39,7 @@ fn parse_result(p: &[u8]) -> Packet
 fn parse_refusal(p: &[u8]) -> Packet
     ensures { λ r. ⌜ r ≡ parseRefusal (now (p .entry)) ⌝ }
 {
-    if p.len() != wire::PACKET_LENGTHS[3] {
+    if p.len() != constants::PACKET_LENGTHS[3] {
         return Packet::Malformed;
     }
     let q = wire::refusal_at(p);
@@ -51,7 +52,7 @@ fn parse_refusal(p: &[u8]) -> Packet
 fn parse_receipt(p: &[u8]) -> Packet
     ensures { λ r. ⌜ r ≡ parseReceipt (now (p .entry)) ⌝ }
 {
-    if p.len() != wire::PACKET_LENGTHS[4] {
+    if p.len() != constants::PACKET_LENGTHS[4] {
         return Packet::Malformed;
     }
     let q = wire::receipt_at(p);
@@ -64,7 +65,7 @@ fn parse_receipt(p: &[u8]) -> Packet
 fn parse_notice(p: &[u8]) -> Packet
     ensures { λ r. ⌜ r ≡ parseNotice (now (p .entry)) ⌝ }
 {
-    if p.len() != wire::PACKET_LENGTHS[5] {
+    if p.len() != constants::PACKET_LENGTHS[5] {
         return Packet::Malformed;
     }
     let q = wire::notice_at(p);
@@ -77,7 +78,7 @@ fn parse_notice(p: &[u8]) -> Packet
 fn parse_grant(p: &[u8]) -> Packet
     ensures { λ r. ⌜ r ≡ parseGrant (now (p .entry)) ⌝ }
 {
-    if p.len() != wire::PACKET_LENGTHS[6] {
+    if p.len() != constants::PACKET_LENGTHS[6] {
         return Packet::Malformed;
     }
     let q = wire::grant_at(p);
@@ -95,12 +96,12 @@ pub fn parse_packet(p: &[u8]) -> Packet
         return Packet::Malformed;
     }
     match p[0] {
-        1 => parse_request(p),
-        2 => parse_result(p),
-        3 => parse_refusal(p),
-        4 => parse_receipt(p),
-        5 => parse_notice(p),
-        6 => parse_grant(p),
+        constants::REQUEST_KIND => parse_request(p),
+        constants::RESULT_KIND => parse_result(p),
+        constants::REFUSAL_KIND => parse_refusal(p),
+        constants::RECEIPT_KIND => parse_receipt(p),
+        constants::NOTICE_KIND => parse_notice(p),
+        constants::GRANT_KIND => parse_grant(p),
         0 | 7..=255 => Packet::Malformed,
     }
 }

@@ -9,13 +9,14 @@ use mathlib.Core.Bool.{true}
 use mathlib.Core.List.{List, [], _∷_}
 use lib.ListN.{length, replicate}
 use lib.IntN.{pos}
+use Rattle.model.specs.Versions.{today}
 use Rattle.model.specs.declared.Command.{Command}
 use Rattle.model.specs.declared.PlanEntry.{PlanEntry}
 use Rattle.model.specs.Tables.{every, keep}
 use Rattle.model.specs.Numbers.{signed}
 use Rattle.model.specs.Plan.{entryAt}
-use Rattle.model.specs.Rules.{argumentOk, leastArgument, greatestArgument}
-use Rattle.model.specs.Packets.{commandOk, commandOf}
+use Rattle.model.specs.Rules.{argumentOk, argumentRange, inArguments}
+use Rattle.model.specs.Packets.{commandOk}
 use Rattle.model.specs.Images.{floorOf, idBefore}
 use Rattle.model.specs.Apply.{raise, mergeFloors, isNotClient}
 use Rattle.model.specs.Sequential.{resultZ, entryZ, afterZ, inRangeZ, readZ, setZ, stepZ, reportZ, faultZ, partZ, ruleZ, opened}
@@ -41,13 +42,13 @@ lost =
     ∷ W.open·lease 0 1000
     ∷ W.start 0
     ∷ W.issue 1 1 5 2147483688
-    ∷ W.request 0 1 true
-    ∷ W.request 0 1 true
+    ∷ W.request 0 1 today true
+    ∷ W.request 0 1 today true
     ∷ W.crash 0 1
     ∷ W.recover 0
-    ∷ W.request 0 1 true
+    ∷ W.request 0 1 today true
     ∷ W.sync 0 1
-    ∷ W.request 0 1 true
+    ∷ W.request 0 1 today true
     ∷ W.receive 1 3
     ∷ W.receive 1 3
     ∷ []
@@ -60,14 +61,14 @@ moved =
     ∷ W.open·lease 0 1000
     ∷ W.start 0
     ∷ W.issue 1 1 5 2147483688
-    ∷ W.request 0 1 true
+    ∷ W.request 0 1 today true
     ∷ W.give 0 5 1 true
     ∷ W.sync 0 2
     ∷ W.image 0 5
     ∷ W.take·image 1 2 true
-    ∷ W.request 1 1 true
+    ∷ W.request 1 1 today true
     ∷ W.sync 1 1
-    ∷ W.request 1 1 true
+    ∷ W.request 1 1 today true
     ∷ W.receive 1 4
     ∷ []
 
@@ -78,10 +79,10 @@ ended =
     ∷ W.open·lease 0 10
     ∷ W.start 0
     ∷ W.issue 1 1 5 2147483688
-    ∷ W.request 0 1 true
+    ∷ W.request 0 1 today true
     ∷ W.query 1 20
     ∷ W.notice 0 2 true
-    ∷ W.request 0 1 true
+    ∷ W.request 0 1 today true
     ∷ []
 
 -- two leases end, and server 0 hears of the later end first; a late repeat is refused with 4
@@ -94,13 +95,13 @@ endedTwice =
     ∷ W.start 1
     ∷ W.issue 1 1 5 2147483688
     ∷ W.issue 2 1 6 2147483688
-    ∷ W.request 0 2 true
-    ∷ W.request 0 3 true
+    ∷ W.request 0 2 today true
+    ∷ W.request 0 3 today true
     ∷ W.query 2 15
     ∷ W.query 1 20
     ∷ W.notice 0 5 true
     ∷ W.notice 0 4 true
-    ∷ W.request 0 2 true
+    ∷ W.request 0 2 today true
     ∷ []
 
 -- the lease ends, server 0 hears of it, and the point moves to server 1; a late repeat there is refused with 4
@@ -111,14 +112,14 @@ endedMoved =
     ∷ W.open·lease 0 10
     ∷ W.start 0
     ∷ W.issue 1 1 5 2147483688
-    ∷ W.request 0 1 true
+    ∷ W.request 0 1 today true
     ∷ W.query 1 20
     ∷ W.notice 0 2 true
     ∷ W.give 0 5 1 true
     ∷ W.sync 0 3
     ∷ W.image 0 5
     ∷ W.take·image 1 3 true
-    ∷ W.request 1 1 true
+    ∷ W.request 1 1 today true
     ∷ []
 
 -- call 1 is finished at the client, call 2 says so, and the point moves to server 1; a late repeat of call 1 there is refused with 5
@@ -129,17 +130,17 @@ finished =
     ∷ W.open·lease 0 1000
     ∷ W.start 0
     ∷ W.issue 1 1 5 2147483688
-    ∷ W.request 0 1 true
+    ∷ W.request 0 1 today true
     ∷ W.sync 0 1
-    ∷ W.request 0 1 true
+    ∷ W.request 0 1 today true
     ∷ W.receive 1 2
     ∷ W.issue 1 1 5 2147483689
-    ∷ W.request 0 3 true
+    ∷ W.request 0 3 today true
     ∷ W.give 0 5 1 true
     ∷ W.sync 0 3
     ∷ W.image 0 5
     ∷ W.take·image 1 4 true
-    ∷ W.request 1 1 true
+    ∷ W.request 1 1 today true
     ∷ []
 
 -- call 1 is finished, and call 2 says so to server 1 alone; then point 6 comes from server 0, which has not heard of it; a late repeat
@@ -151,21 +152,21 @@ finishedThere =
     ∷ W.open·lease 0 1000
     ∷ W.start 0
     ∷ W.issue 1 1 5 2147483688
-    ∷ W.request 0 1 true
+    ∷ W.request 0 1 today true
     ∷ W.sync 0 1
-    ∷ W.request 0 1 true
+    ∷ W.request 0 1 today true
     ∷ W.receive 1 2
     ∷ W.give 0 5 1 true
     ∷ W.sync 0 2
     ∷ W.image 0 5
     ∷ W.take·image 1 3 true
     ∷ W.issue 1 1 5 2147483689
-    ∷ W.request 1 4 true
+    ∷ W.request 1 4 today true
     ∷ W.give 0 6 1 true
     ∷ W.sync 0 3
     ∷ W.image 0 6
     ∷ W.take·image 1 5 true
-    ∷ W.request 1 1 true
+    ∷ W.request 1 1 today true
     ∷ []
 
 -- a result is asked for, by request and by fetch, before it is synced, and a crash removes the execution
@@ -175,8 +176,8 @@ unsynced =
     ∷ W.open·lease 0 1000
     ∷ W.start 0
     ∷ W.issue 1 1 5 2147483688
-    ∷ W.request 0 1 true
-    ∷ W.request 0 1 true
+    ∷ W.request 0 1 today true
+    ∷ W.request 0 1 today true
     ∷ W.fetch 0 1 1
     ∷ W.receive 1 2
     ∷ W.receive 1 3
@@ -196,8 +197,8 @@ unsyncedGive =
     ∷ W.take·image 1 2 true
     ∷ W.crash 0 1
     ∷ W.recover 0
-    ∷ W.request 0 1 true
-    ∷ W.request 1 1 true
+    ∷ W.request 0 1 today true
+    ∷ W.request 1 1 today true
     ∷ []
 
 -- the point goes to server 1 and back, and the command runs at server 0; the image of the first move comes to server 1 again
@@ -216,9 +217,9 @@ returned =
     ∷ W.sync 1 2
     ∷ W.image 1 5
     ∷ W.take·image 0 3 true
-    ∷ W.request 0 1 true
+    ∷ W.request 0 1 today true
     ∷ W.take·image 1 2 true
-    ∷ W.request 1 1 true
+    ∷ W.request 1 1 today true
     ∷ []
 
 -- the point goes to server 1 and back and is given to it again; the receipt of the first move does not let it go before it has an image
@@ -245,15 +246,15 @@ givenAgain =
     ∷ []
 
 pub lost-seen : run plan₀ lost .seen ≡ received command (resultZ 0 (pos 40) 0) ∷ issued command ∷ []
-unfolding run W.runFrom W.emptyWorld W.step W.tick W.change W.founded W.withServer W.withClient W.withManager W.making W.seeing W.told W.numbered W.packet W.deliver W.asStart W.asIssue W.issuing W.askedIn W.asRequest W.asTake W.at W.acted W.appended W.stateOf W.synced W.crashed W.recovered W.asReceive W.receiveResult W.commandAt S.ruleAt S.onRequest S.withPacket S.decideRequest S.onId S.onHeld S.sameCommand S.onNew S.executedFor S.noPlace S.onGive S.onImage S.imageFor S.insertRecord S.sortRecords S.freeFor S.onTake S.tested S.isId S.find S.replay S.apply S.applyRecord S.founding S.foundedPoint S.executedPoint S.gavePoint S.tookPoint S.takenRecord S.staysOver S.staysOverFloors S.isOfOther S.isOnOther S.isOnPoint every keep signed entryAt argumentOk leastArgument greatestArgument commandOk commandOf floorOf idBefore raise mergeFloors isNotClient entryZ afterZ inRangeZ readZ setZ stepZ reportZ faultZ partZ ruleZ opened C.placeOf C.callAt C.isOpen C.leastOpen C.firstOpen C.withCalls C.withLease C.closed C.requestFor C.newCall C.withCall C.notSent C.sent C.issueOf C.isOwn L.timeAt L.endedAt L.runningAt L.leaseEnd L.isTaken L.entered L.spanOk L.manager L.notTold L.granted L.openOf
+unfolding run W.runFrom W.emptyWorld W.step W.tick W.change W.founded W.withServer W.withClient W.withManager W.making W.seeing W.told W.numbered W.packet W.deliver W.asStart W.asIssue W.issuing W.askedIn W.asRequest W.asTake W.at W.acted W.appended W.stateOf W.synced W.crashed W.recovered W.asReceive W.receiveResult W.commandAt S.ruleAt S.onRequest S.denying S.decideRequest S.onId S.onHeld S.sameCommand S.onNew S.executedFor S.noPlace S.onGive S.onImage S.imageFor S.insertRecord S.sortRecords S.freeFor S.onTake S.tested S.isId S.find S.replay S.apply S.applyRecord S.founding S.foundedPoint S.executedPoint S.gavePoint S.tookPoint S.takenRecord S.staysOver S.staysOverFloors S.isOfOther S.isOnOther S.isOnPoint every keep signed entryAt argumentOk argumentRange inArguments commandOk floorOf idBefore raise mergeFloors isNotClient entryZ afterZ inRangeZ readZ setZ stepZ reportZ faultZ partZ ruleZ opened C.placeOf C.callAt C.isOpen C.leastOpen C.firstOpen C.withCalls C.withLease C.closed C.requestFor C.newCall C.withCall C.notSent C.sent C.issueOf C.isOwn L.timeAt L.endedAt L.runningAt L.leaseEnd L.isTaken L.withNewLease L.spanOk L.manager L.notTold L.granted L.openOf
 lost-seen = refl
 
 pub moved-seen : run plan₀ moved .seen ≡ received command (resultZ 0 (pos 40) 0) ∷ issued command ∷ []
-unfolding run W.runFrom W.emptyWorld W.step W.tick W.change W.founded W.withServer W.withClient W.withManager W.making W.seeing W.told W.numbered W.packet W.deliver W.asStart W.asIssue W.issuing W.askedIn W.asRequest W.asTake W.at W.acted W.appended W.stateOf W.synced W.crashed W.recovered W.asReceive W.receiveResult W.commandAt S.ruleAt S.onRequest S.withPacket S.decideRequest S.onId S.onHeld S.sameCommand S.onNew S.executedFor S.noPlace S.onGive S.onImage S.imageFor S.insertRecord S.sortRecords S.freeFor S.onTake S.tested S.isId S.find S.replay S.apply S.applyRecord S.founding S.foundedPoint S.executedPoint S.gavePoint S.tookPoint S.takenRecord S.staysOver S.staysOverFloors S.isOfOther S.isOnOther S.isOnPoint every keep signed entryAt argumentOk leastArgument greatestArgument commandOk commandOf floorOf idBefore raise mergeFloors isNotClient entryZ afterZ inRangeZ readZ setZ stepZ reportZ faultZ partZ ruleZ opened C.placeOf C.callAt C.isOpen C.leastOpen C.firstOpen C.withCalls C.withLease C.closed C.requestFor C.newCall C.withCall C.notSent C.sent C.issueOf C.isOwn L.timeAt L.endedAt L.runningAt L.leaseEnd L.isTaken L.entered L.spanOk L.manager L.notTold L.granted L.openOf
+unfolding run W.runFrom W.emptyWorld W.step W.tick W.change W.founded W.withServer W.withClient W.withManager W.making W.seeing W.told W.numbered W.packet W.deliver W.asStart W.asIssue W.issuing W.askedIn W.asRequest W.asTake W.at W.acted W.appended W.stateOf W.synced W.crashed W.recovered W.asReceive W.receiveResult W.commandAt S.ruleAt S.onRequest S.denying S.decideRequest S.onId S.onHeld S.sameCommand S.onNew S.executedFor S.noPlace S.onGive S.onImage S.imageFor S.insertRecord S.sortRecords S.freeFor S.onTake S.tested S.isId S.find S.replay S.apply S.applyRecord S.founding S.foundedPoint S.executedPoint S.gavePoint S.tookPoint S.takenRecord S.staysOver S.staysOverFloors S.isOfOther S.isOnOther S.isOnPoint every keep signed entryAt argumentOk argumentRange inArguments commandOk floorOf idBefore raise mergeFloors isNotClient entryZ afterZ inRangeZ readZ setZ stepZ reportZ faultZ partZ ruleZ opened C.placeOf C.callAt C.isOpen C.leastOpen C.firstOpen C.withCalls C.withLease C.closed C.requestFor C.newCall C.withCall C.notSent C.sent C.issueOf C.isOwn L.timeAt L.endedAt L.runningAt L.leaseEnd L.isTaken L.withNewLease L.spanOk L.manager L.notTold L.granted L.openOf
 moved-seen = refl
 
 pub unsynced-seen : run plan₀ unsynced .seen ≡ issued command ∷ []
-unfolding run W.runFrom W.emptyWorld W.step W.tick W.change W.founded W.withServer W.withClient W.withManager W.making W.seeing W.told W.numbered W.packet W.deliver W.asStart W.asIssue W.issuing W.askedIn W.asRequest W.asTake W.at W.acted W.appended W.stateOf W.synced W.crashed W.recovered W.asReceive W.receiveResult W.commandAt S.ruleAt S.onRequest S.withPacket S.decideRequest S.onId S.onHeld S.sameCommand S.onNew S.executedFor S.noPlace S.onGive S.onImage S.imageFor S.insertRecord S.sortRecords S.freeFor S.onTake S.tested S.isId S.find S.replay S.apply S.applyRecord S.founding S.foundedPoint S.executedPoint S.gavePoint S.tookPoint S.takenRecord S.staysOver S.staysOverFloors S.isOfOther S.isOnOther S.isOnPoint every keep signed entryAt argumentOk leastArgument greatestArgument commandOk commandOf floorOf idBefore raise mergeFloors isNotClient entryZ afterZ inRangeZ readZ setZ stepZ reportZ faultZ partZ ruleZ opened C.placeOf C.callAt C.isOpen C.leastOpen C.firstOpen C.withCalls C.withLease C.closed C.requestFor C.newCall C.withCall C.notSent C.sent C.issueOf C.isOwn L.timeAt L.endedAt L.runningAt L.leaseEnd L.isTaken L.entered L.spanOk L.manager L.notTold L.granted L.openOf W.asNotice S.onNotice S.onFound S.onFetch L.queryOf
+unfolding run W.runFrom W.emptyWorld W.step W.tick W.change W.founded W.withServer W.withClient W.withManager W.making W.seeing W.told W.numbered W.packet W.deliver W.asStart W.asIssue W.issuing W.askedIn W.asRequest W.asTake W.at W.acted W.appended W.stateOf W.synced W.crashed W.recovered W.asReceive W.receiveResult W.commandAt S.ruleAt S.onRequest S.denying S.decideRequest S.onId S.onHeld S.sameCommand S.onNew S.executedFor S.noPlace S.onGive S.onImage S.imageFor S.insertRecord S.sortRecords S.freeFor S.onTake S.tested S.isId S.find S.replay S.apply S.applyRecord S.founding S.foundedPoint S.executedPoint S.gavePoint S.tookPoint S.takenRecord S.staysOver S.staysOverFloors S.isOfOther S.isOnOther S.isOnPoint every keep signed entryAt argumentOk argumentRange inArguments commandOk floorOf idBefore raise mergeFloors isNotClient entryZ afterZ inRangeZ readZ setZ stepZ reportZ faultZ partZ ruleZ opened C.placeOf C.callAt C.isOpen C.leastOpen C.firstOpen C.withCalls C.withLease C.closed C.requestFor C.newCall C.withCall C.notSent C.sent C.issueOf C.isOwn L.timeAt L.endedAt L.runningAt L.leaseEnd L.isTaken L.withNewLease L.spanOk L.manager L.notTold L.granted L.openOf W.asNotice S.onNotice S.onFetched S.onFetch L.queryOf
 unsynced-seen = refl
 
 -- the records in the log of server c
@@ -264,5 +265,5 @@ records c es = length (run plan₀ es .servers c .log)
 -- none; took, gave; took; took, gave, took
 pub logs-stay : (records 0 ended ≡ 2) × (records 0 endedTwice ≡ 4) × (records 1 endedMoved ≡ 1) × (records 1 finished ≡ 1) × (records 1 finishedThere ≡ 3)
     × (records 1 unsyncedGive ≡ 0) × (records 1 returned ≡ 2) × (records 1 moved ≡ 1) × (records 1 givenAgain ≡ 3)
-unfolding run W.runFrom W.emptyWorld W.step W.tick W.change W.founded W.withServer W.withClient W.withManager W.making W.seeing W.told W.numbered W.packet W.deliver W.asStart W.asIssue W.issuing W.askedIn W.asRequest W.asTake W.at W.acted W.appended W.stateOf W.synced W.crashed W.recovered W.asReceive W.receiveResult W.commandAt S.ruleAt S.onRequest S.withPacket S.decideRequest S.onId S.onHeld S.sameCommand S.onNew S.executedFor S.noPlace S.onGive S.onImage S.imageFor S.insertRecord S.sortRecords S.freeFor S.onTake S.tested S.isId S.find S.replay S.apply S.applyRecord S.founding S.foundedPoint S.executedPoint S.gavePoint S.tookPoint S.takenRecord S.staysOver S.staysOverFloors S.isOfOther S.isOnOther S.isOnPoint every keep signed entryAt argumentOk leastArgument greatestArgument commandOk commandOf floorOf idBefore raise mergeFloors isNotClient entryZ afterZ inRangeZ readZ setZ stepZ reportZ faultZ partZ ruleZ opened C.placeOf C.callAt C.isOpen C.leastOpen C.firstOpen C.withCalls C.withLease C.closed C.requestFor C.newCall C.withCall C.notSent C.sent C.issueOf C.isOwn L.timeAt L.endedAt L.runningAt L.leaseEnd L.isTaken L.entered L.spanOk L.manager L.notTold L.granted L.openOf W.asNotice S.onNotice S.onFound S.onFetch L.queryOf W.asRelease S.onRelease S.onReceipt S.freedPoint
+unfolding run W.runFrom W.emptyWorld W.step W.tick W.change W.founded W.withServer W.withClient W.withManager W.making W.seeing W.told W.numbered W.packet W.deliver W.asStart W.asIssue W.issuing W.askedIn W.asRequest W.asTake W.at W.acted W.appended W.stateOf W.synced W.crashed W.recovered W.asReceive W.receiveResult W.commandAt S.ruleAt S.onRequest S.denying S.decideRequest S.onId S.onHeld S.sameCommand S.onNew S.executedFor S.noPlace S.onGive S.onImage S.imageFor S.insertRecord S.sortRecords S.freeFor S.onTake S.tested S.isId S.find S.replay S.apply S.applyRecord S.founding S.foundedPoint S.executedPoint S.gavePoint S.tookPoint S.takenRecord S.staysOver S.staysOverFloors S.isOfOther S.isOnOther S.isOnPoint every keep signed entryAt argumentOk argumentRange inArguments commandOk floorOf idBefore raise mergeFloors isNotClient entryZ afterZ inRangeZ readZ setZ stepZ reportZ faultZ partZ ruleZ opened C.placeOf C.callAt C.isOpen C.leastOpen C.firstOpen C.withCalls C.withLease C.closed C.requestFor C.newCall C.withCall C.notSent C.sent C.issueOf C.isOwn L.timeAt L.endedAt L.runningAt L.leaseEnd L.isTaken L.withNewLease L.spanOk L.manager L.notTold L.granted L.openOf W.asNotice S.onNotice S.onFetched S.onFetch L.queryOf W.asRelease S.onRelease S.onReceipt S.freedPoint
 logs-stay = (refl, refl, refl, refl, refl, refl, refl, refl, refl)

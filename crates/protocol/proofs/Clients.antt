@@ -18,7 +18,6 @@ use Rattle.model.specs.declared.OpenCall.{OpenCall}
 use Rattle.model.specs.declared.Client.{Client}
 use Rattle.model.specs.Choice.{pick}
 use Rattle.model.specs.Limits.{callWindow}
-use Rattle.model.specs.Packets.{commandOf}
 use Rattle.model.specs.Sequential.{ResultZ}
 use Rattle.model.specs.Clients.{noCall, placeOf, callAt, isOpen, withCalls, withLease, closed, requestFor, newCall, withCall, isOwn}
 use Rattle.protocol.specs.Servers.{Packet, Asked}
@@ -213,10 +212,10 @@ module _ (clients : ℕ → Option Client) (made : List Packet) (seen : List See
     d′ = withCall d call
 
     abbrev c : Command
-    c = commandOf (requestFor d′ call)
+    c = (requestFor d′ call) .command
 
     pub issued-is : c ≡ record { client = d .client; call = d .next; op = o; point = p; argument = a }
-    unfolding commandOf requestFor withCall withCalls newCall
+    unfolding requestFor withCall withCalls newCall
     issued-is = refl
 
     cx : c .client ≡ x
@@ -255,7 +254,7 @@ module _ (clients : ℕ → Option Client) (made : List Packet) (seen : List See
     call-is = refl
 
     command-is : commandIn (d′ .client) call ≡ c
-    unfolding commandOf requestFor withCall withCalls newCall
+    unfolding requestFor withCall withCalls newCall
     command-is = refl
 
     issue-ok : ClientOk made seen′ x d′
@@ -322,17 +321,17 @@ module _ (clients : ℕ → Option Client) (made : List Packet) (seen : List See
     request-issued = List·Memᴰ·head refl
 
     pub request-leased : In made (S.grant (askedIn (requestFor d′ call) .cmd .client) (askedIn (requestFor d′ call) .lease))
-    unfolding askedIn requestFor commandOf withCall withCalls
+    unfolding askedIn requestFor withCall withCalls
     request-leased = subst (λ (z : ℕ). In made (S.grant z (d .lease))) (sym (ok .client x d e .own)) (ok .client x d e .granted)
 
   -- a call is sent again
   module _ (x : ℕ) (d : Client) (n : ℕ) (e : clients x ≡ some d) (h : isOpen d n ≡ true) where
     pub resent-issued : Saw seen (issued (askedIn (requestFor d (callAt d n)) .cmd))
-    unfolding askedIn requestFor commandOf
+    unfolding askedIn requestFor
     resent-issued = subst (λ (k : Command). Saw seen (issued k)) (command-at d n) (ok .client x d e .opens n h)
 
     pub resent-leased : In made (S.grant (askedIn (requestFor d (callAt d n)) .cmd .client) (askedIn (requestFor d (callAt d n)) .lease))
-    unfolding askedIn requestFor commandOf
+    unfolding askedIn requestFor
     resent-leased = subst (λ (z : ℕ). In made (S.grant z (d .lease))) (sym (ok .client x d e .own)) (ok .client x d e .granted)
 
   -- ---- a result is received

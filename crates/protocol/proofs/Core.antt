@@ -81,9 +81,9 @@ change-early : {c : ℕ} {s : State} {made : List Packet} {p : ℕ} {e : Entry} 
     → ((d : Execution) → List·Memᴰ d (s .points p .past) → d .at < clock) → Logs.Change c s (In made) p e x → (d : Execution) → List·Memᴰ d (x .past) → d .at < clock
 unfolding S.executedPoint S.gavePoint S.tookPoint S.freedPoint
 change-early clock lt im ih Logs.untouched d m = ih d m
-change-early {s = s} {p = p} {e = e} clock lt im ih (Logs.ran k done r h q hd) d m = go (List·Memᴰ·cases-cons m)
+change-early {s = s} {p = p} {e = e} clock lt im ih (Logs.ran v k done r h q hd) d m = go (List·Memᴰ·cases-cons m)
   where
-    go : (d ≡ record { cmd = k; res = r; at = e .at }) ⊎ List·Memᴰ d (s .points p .past) → d .at < clock
+    go : (d ≡ record { version = v; cmd = k; res = r; at = e .at }) ⊎ List·Memᴰ d (s .points p .past) → d .at < clock
     go (inl q) = subst (λ (z : Execution). z .at < clock) (sym q) lt
     go (inr j) = ih d j
 change-early clock lt im ih (Logs.left d′ h hd) d m = ih d m

@@ -12,6 +12,7 @@ use Prim.Native.Nat.{ℕ, suc, _+_, _-_, _≤_, _<_, max}
 use lib.Dec.{ltb, leb, eqb}
 use lib.ListN.{length, drop}
 use borrow.Author.Tests.{ltb-false, leb-true, eqb-true, eqb-false}
+use Rattle.model.specs.Versions.{Version, Versions}
 use Rattle.model.specs.declared.Command.{Command}
 use Rattle.model.specs.declared.OpenCall.{OpenCall}
 use Rattle.model.specs.declared.Client.{Client}
@@ -22,10 +23,11 @@ use Rattle.model.specs.Choice.{pick}
 use Rattle.model.specs.Limits.{lastServer, last32, callWindow}
 use Rattle.model.specs.Refusals.{malformed, numbersOut, unknown, leasesFull, windowFull}
 use Rattle.model.specs.Tables.{every}
-use Rattle.model.specs.Packets.{commandOk, commandOf}
+use Rattle.model.specs.Rules.{argumentOk}
+use Rattle.model.specs.Packets.{commandOk}
 use Rattle.model.specs.Sequential.{ResultZ}
 use Rattle.model.specs.Clients.{callAt, isOpen, firstOpen, closed, withLease, requestFor, newCall, withCall, notSent, sent, issueOf, resendOf, isOwn}
-use Rattle.model.specs.Leases.{timeAt, runningAt, leaseEnd, isTaken, entered, extended, spanOk, manager, notTold, granted, openOf, renewOf, queryOf}
+use Rattle.model.specs.Leases.{timeAt, runningAt, leaseEnd, isTaken, withNewLease, extended, spanOk, manager, notTold, granted, openOf, renewOf, queryOf}
 use Rattle.protocol.specs.Servers.{Plan, LogRecord, Packet, Act, refuse, deny, tell, write}
 use Rattle.protocol.specs.Servers as S
 use Rattle.protocol.specs.World.{World, issued, received, Event, withServer, withClient, withManager, making, seeing, numbered, packet, deliver, stateOf, appended, acted, at, asRequest, asNotice, asTake, asRelease, founded, synced, crashed, recovered, commandAt, askedIn, newClient, asStart, issuing, asIssue, resending, asResend, receiveResult, receiveGrant, asReceive, told, change}
@@ -44,7 +46,7 @@ runs w now = runningAt now (w .manager .leases)
 -- a client's world after an issued call
 abbrev pub issuedWorld : World → ℕ → Client → OpenCall → World
 issuedWorld w x d k =
-    seeing (issued (commandOf (requestFor (withCall d k) k))) (making (S.request (askedIn (requestFor (withCall d k) k))) (withClient x (withCall d k) w))
+    seeing (issued ((requestFor (withCall d k) k) .command)) (making (S.request (askedIn (requestFor (withCall d k) k))) (withClient x (withCall d k) w))
 
 abbrev pub managed : ℕ → ℕ → List Lease → LeaseManager
 managed now n ls = record { time = now; issued = n; leases = ls }
@@ -68,7 +70,7 @@ pub data Kind (plan : Plan) (w : World) (Src : ℕ → LogRecord → Type 0) (Cu
   relets : (x t : ℕ) (d : Client) → Made w (S.grant (d .client) t) → w .clients x ≡ some d → Kind plan w Src Cut (withClient x (withLease d t) w)
   opens : (now span : ℕ) → w .manager .time ≤ now → every isTaken (runs w now) ≡ false
       → Kind plan w Src Cut (making (S.grant (suc (w .manager .issued)) (now + span))
-      (withManager (managed now (suc (w .manager .issued)) (entered (record { client = suc (w .manager .issued); lease = now + span }) (runs w now))) w))
+      (withManager (managed now (suc (w .manager .issued)) (withNewLease (record { client = suc (w .manager .issued); lease = now + span }) (runs w now))) w))
   renews : (x now span : ℕ) → w .manager .time ≤ now → (leaseEnd x (runs w now) ≡ 0 → ⊥)
       → Kind plan w Src Cut (making (S.grant x (max (leaseEnd x (runs w now)) (now + span)))
       (withManager (managed now (w .manager .issued) (extended x (max (leaseEnd x (runs w now)) (now + span)) (runs w now))) w))
@@ -94,13 +96,13 @@ packet-made w n p e = numbered-made (w .made) n p e
 -- a command's point is one of the 64
 pub point-small : (o p a : ℕ) → commandOk o p a ≡ true → p < 64
 unfolding commandOk
-point-small o p a e = let h = and-true (and-true {a = leb o 5} e .1) in let l = leb-true p 63 (h .0) in omega arith
+point-small o p a e = let l = leb-true p 63 (and-true {a = argumentOk o a} e .1) in omega arith
 
 module _ (plan : Plan) (w : World) (Src : ℕ → LogRecord → Type 0) (Cut : ℕ → Type 0) where
   acts : (c : ℕ) (a : Act) → w .servers c .founded ≡ true → Outcome plan c (w .servers c .mark) (stateOf plan w c) (Made w) a → ((r : LogRecord) → a ≡ write r → Src c r) → Kind plan w Src Cut (acted plan w c a)
   unfolding acted
   acts c (refuse n) f o src = same
-  acts c (deny n p x k) f o src = tells c _ f (I.denying n p x k)
+  acts c (deny n p x k) f o src = tells c _ f (I.refusing n p x k)
   acts c (tell p) f o src = tells c p f o
   acts c (write r) f o src = writes c r f o (src r refl)
 
@@ -121,17 +123,19 @@ module _ (plan : Plan) (w : World) (Src : ℕ → LogRecord → Type 0) (Cut : �
       go none e = same
       go (some p) e = h p e (packet-made w n p e)
 
-  as-request : (c : ℕ) (room : Bool) (p : Packet) → Made w p → ((q : S.Asked) → p ≡ S.request q → (d : ℕ) (x : ResultZ) → Src c (S.executed (q .cmd) d x)) → Kind plan w Src Cut (asRequest plan w c room p)
+  as-request : (c : ℕ) (v : Versions) (room : Bool) (p : Packet) → Made w p → ((q : S.Asked) → p ≡ S.request q → (d : ℕ) (x : ResultZ) → Src c (S.executed (v (q .cmd .op)) (q .cmd) d x))
+      → Kind plan w Src Cut (asRequest plan w c v room p)
   unfolding asRequest
-  as-request c room (S.request q) m src = ats c _ (request-out plan c (w .servers c .mark) (stateOf plan w c) (Made w) room q m) (λ r e. let h = request-writes plan c (w .servers c .mark) (stateOf plan w c) (Made w) room q r e in subst (λ (z : LogRecord). Src c z) (h .2) (src q refl (h .0) (h .1)))
-  as-request c room (S.answered k r) m src = same
-  as-request c room (S.refusal n p x k) m src = same
-  as-request c room (S.receipt p d k) m src = same
-  as-request c room (S.notice x t) m src = same
-  as-request c room (S.grant x t) m src = same
-  as-request c room (S.image i) m src = same
+  as-request c v room (S.request q) m src = ats c _ (request-out plan c (w .servers c .mark) (stateOf plan w c) (Made w) v room q m) (λ r e. let h = request-writes plan c (w .servers c .mark) (stateOf plan w c) (Made w) v room q r e in subst (λ (z : LogRecord). Src c z) (h .2) (src q refl (h .0) (h .1)))
+  as-request c v room (S.answered k r) m src = same
+  as-request c v room (S.refusal n p x k) m src = same
+  as-request c v room (S.receipt p d k) m src = same
+  as-request c v room (S.notice x t) m src = same
+  as-request c v room (S.grant x t) m src = same
+  as-request c v room (S.image i) m src = same
 
-  as-notice : ((c : ℕ) (r : LogRecord) → ((k : Command) (d : ℕ) (x : ResultZ) → r ≡ S.executed k d x → ⊥) → Src c r) → (c : ℕ) (room : Bool) (p : Packet) → Made w p → Kind plan w Src Cut (asNotice plan w c room p)
+  as-notice : ((c : ℕ) (r : LogRecord) → ((v : Version) (k : Command) (d : ℕ) (x : ResultZ) → r ≡ S.executed v k d x → ⊥) → Src c r) → (c : ℕ) (room : Bool) (p : Packet) → Made w p
+      → Kind plan w Src Cut (asNotice plan w c room p)
   unfolding asNotice
   as-notice src c room (S.request q) m = same
   as-notice src c room (S.answered k r) m = same
@@ -141,7 +145,8 @@ module _ (plan : Plan) (w : World) (Src : ℕ → LogRecord → Type 0) (Cut : �
   as-notice src c room (S.grant x t) m = same
   as-notice src c room (S.image i) m = same
 
-  as-take : ((c : ℕ) (r : LogRecord) → ((k : Command) (d : ℕ) (x : ResultZ) → r ≡ S.executed k d x → ⊥) → Src c r) → (c : ℕ) (room : Bool) (p : Packet) → Made w p → Kind plan w Src Cut (asTake plan w c room p)
+  as-take : ((c : ℕ) (r : LogRecord) → ((v : Version) (k : Command) (d : ℕ) (x : ResultZ) → r ≡ S.executed v k d x → ⊥) → Src c r) → (c : ℕ) (room : Bool) (p : Packet) → Made w p
+      → Kind plan w Src Cut (asTake plan w c room p)
   unfolding asTake
   as-take src c room (S.request q) m = same
   as-take src c room (S.answered k r) m = same
@@ -151,7 +156,8 @@ module _ (plan : Plan) (w : World) (Src : ℕ → LogRecord → Type 0) (Cut : �
   as-take src c room (S.grant x t) m = same
   as-take src c room (S.image i) m = ats c _ (take-out plan c (w .servers c .mark) (stateOf plan w c) (Made w) room i m) (λ r e. src c r (take-writes plan c (w .servers c .mark) (stateOf plan w c) (Made w) room i r e))
 
-  as-release : ((c : ℕ) (r : LogRecord) → ((k : Command) (d : ℕ) (x : ResultZ) → r ≡ S.executed k d x → ⊥) → Src c r) → (c : ℕ) (room : Bool) (p : Packet) → Made w p → Kind plan w Src Cut (asRelease plan w c room p)
+  as-release : ((c : ℕ) (r : LogRecord) → ((v : Version) (k : Command) (d : ℕ) (x : ResultZ) → r ≡ S.executed v k d x → ⊥) → Src c r) → (c : ℕ) (room : Bool) (p : Packet) → Made w p
+      → Kind plan w Src Cut (asRelease plan w c room p)
   unfolding asRelease
   as-release src c room (S.request q) m = same
   as-release src c room (S.answered k r) m = same
@@ -290,7 +296,7 @@ module _ (plan : Plan) (w : World) (Src : ℕ → LogRecord → Type 0) (Cut : �
     where
       go : (a b : Bool) → every isTaken (runs w (max (w .manager .time) t)) ≡ b → (c : Bool)
           → Kind plan w Src Cut (told w (pick a (notTold (w .manager) malformed) (pick b (notTold (w .manager) leasesFull) (pick c (notTold (w .manager) numbersOut)
-          (granted (manager (max (w .manager .time) t) (suc (w .manager .issued)) (entered (record { client = suc (w .manager .issued); lease = (max (w .manager .time) t) + span }) (runs w (max (w .manager .time) t)))) (suc (w .manager .issued)) ((max (w .manager .time) t) + span))))))
+          (granted (manager (max (w .manager .time) t) (suc (w .manager .issued)) (withNewLease (record { client = suc (w .manager .issued); lease = (max (w .manager .time) t) + span }) (runs w (max (w .manager .time) t)))) (suc (w .manager .issued)) ((max (w .manager .time) t) + span))))))
       go true b e c = same
       go false true e c = same
       go false false e true = same
@@ -324,7 +330,7 @@ module _ (plan : Plan) (w : World) (Src : ℕ → LogRecord → Type 0) (Cut : �
 abbrev pub isAsking : Event → Bool
 isAsking W.idle = false
 isAsking (W.found c) = false
-isAsking (W.request c n room) = true
+isAsking (W.request c n v room) = true
 isAsking (W.fetch c x k) = false
 isAsking (W.sync c m) = false
 isAsking (W.notice c n room) = false
@@ -345,8 +351,9 @@ isAsking (W.query x t) = false
 
 -- event e may write record r at server c: a request the execution of its command, others no execution
 pub data Source (w : World) (e : Event) (c : ℕ) (r : LogRecord) : Type 0 where
-  asks : (n : ℕ) (room : Bool) (q : S.Asked) (d : ℕ) (x : ResultZ) → e ≡ W.request c n room → packet w n ≡ some (S.request q) → r ≡ S.executed (q .cmd) d x → Source w e c r
-  other : isAsking e ≡ false → ((k : Command) (d : ℕ) (x : ResultZ) → r ≡ S.executed k d x → ⊥) → Source w e c r
+  asks : (n : ℕ) (v : Versions) (room : Bool) (q : S.Asked) (d : ℕ) (x : ResultZ) → e ≡ W.request c n v room → packet w n ≡ some (S.request q) → r ≡ S.executed (v (q .cmd .op)) (q .cmd) d x
+      → Source w e c r
+  other : isAsking e ≡ false → ((v : Version) (k : Command) (d : ℕ) (x : ResultZ) → r ≡ S.executed v k d x → ⊥) → Source w e c r
 
 -- event e is a crash of server c
 abbrev pub Crashes : Event → ℕ → Type 0
@@ -357,7 +364,7 @@ module _ (plan : Plan) (w : World) where
   unfolding change
   kind W.idle = same
   kind (W.found c) = as-found plan w _ _ c
-  kind (W.request c n room) = delivers plan w _ _ n _ (λ p e m. as-request plan w _ _ c room p m (λ q h d x. asks n room q d x refl (e ∙ ap some h) refl))
+  kind (W.request c n v room) = delivers plan w _ _ n _ (λ p e m. as-request plan w _ _ c v room p m (λ q h d x. asks n v room q d x refl (e ∙ ap some h) refl))
   kind (W.fetch c x k) = ats plan w _ _ c _ (fetch-out plan c (w .servers c .mark) (stateOf plan w c) (Made w) x k) (λ r e. absurd (fetch-writes plan c (w .servers c .mark) (stateOf plan w c) (Made w) x k r e))
   kind (W.sync c m) = as-sync plan w _ _ c m
   kind (W.notice c n room) = delivers plan w _ _ n _ (λ p e m. as-notice plan w _ _ (λ b r h. other refl h) c room p m)

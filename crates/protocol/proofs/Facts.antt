@@ -10,6 +10,7 @@ use native.Mathlib.Omega.{arith}
 use Prim.Native.Nat.{ℕ, suc, _-_, _≤_, _<_}
 use lib.Dec.{eqb}
 use lib.ListN.{length}
+use Rattle.model.specs.Versions.{Version}
 use Rattle.model.specs.Sequential.{ResultZ}
 use Rattle.model.specs.declared.Command.{Command}
 use Rattle.model.specs.Tables.{keep}
@@ -31,7 +32,7 @@ use Rattle.protocol.proofs.Core.{In}
 -- a record is new in the last step, with the last place, or was there
 newest : (s : State) (e : LogRecord) (t : ℕ) (r : Completion) → List·Memᴰ r (applyRecord s e t .records) → (r .place ≡ suc (s .count)) ⊎ List·Memᴰ r (s .records)
 unfolding applyRecord
-newest s (S.executed k d x) t r m = go (last-cases (s .records) (keep-out _ r _ m .0))
+newest s (S.executed v k d x) t r m = go (last-cases (s .records) (keep-out _ r _ m .0))
   where
     go : (r ≡ record { cmd = k; res = x; place = suc (s .count) }) ⊎ List·Memᴰ r (s .records) → (r .place ≡ suc (s .count)) ⊎ List·Memᴰ r (s .records)
     go (inl e) = inl (ap (λ (z : Completion). z .place) e)
@@ -105,7 +106,7 @@ module _ (plan : Plan) (Made : Packet → Type 0) (Allowed : ℕ → List Entry 
   pub new-grows : {e : Entry} {x : Point} → Change c (replay plan c log) Made p e x → Tail (replay plan c log .points p .past) (x .past)
   unfolding S.executedPoint S.gavePoint S.tookPoint S.freedPoint
   new-grows Logs.untouched = Tail-refl _
-  new-grows (Logs.ran k done r h q hd) = within (Tail-refl _)
+  new-grows (Logs.ran v k done r h q hd) = within (Tail-refl _)
   new-grows (Logs.left d h hd) = Tail-refl _
   new-grows (Logs.came i h m pt dst lt nh) = came-grows i m pt dst lt nh (ch .places c log now)
   new-grows (Logs.let-go d m k g le) = Tail-refl _
@@ -118,7 +119,7 @@ pub record Stands-in (d : Execution) (most : ℕ) (log : List Entry) : Type 0 wh
   pub tail : Tail (entry ∷ rest) log
   pub short : length (entry ∷ rest) ≤ most
   pub done : ℕ
-  pub item : entry .item ≡ S.executed (d .cmd) done (d .res)
+  pub item : entry .item ≡ S.executed (d .version) (d .cmd) done (d .res)
   pub at : entry .at ≡ d .at
 
 abbrev pub Rooted : (ℕ → Server) → Execution → Type 0
@@ -137,13 +138,13 @@ module _ (plan : Plan) (made : List Packet) (srv : ℕ → Server) (c clock : �
       up (inl s) = inl (deeper (within (Tail-refl l)) (omega arith) s)
       up (inr r) = inr r
 
-      ran-root : (k : Command) (done : ℕ) (r : ResultZ) → e .item ≡ S.executed k done r → (d ≡ record { cmd = k; res = r; at = e .at }) ⊎ List·Memᴰ d (replay plan c l .points p .past) → Stands-in d (suc (length l)) (e ∷ l) ⊎ Rooted srv d
-      ran-root k done r h (inl q) = inl (record { entry = e; rest = l; tail = Tail-refl _; short = omega arith; done = done; item = h ∙ ap (λ (z : Execution). S.executed (z .cmd) done (z .res)) (sym q); at = ap (λ (z : Execution). z .at) (sym q) })
-      ran-root k done r h (inr j) = up (ih d j)
+      ran-root : (v : Version) (k : Command) (done : ℕ) (r : ResultZ) → e .item ≡ S.executed v k done r → (d ≡ record { version = v; cmd = k; res = r; at = e .at }) ⊎ List·Memᴰ d (replay plan c l .points p .past) → Stands-in d (suc (length l)) (e ∷ l) ⊎ Rooted srv d
+      ran-root v k done r h (inl q) = inl (record { entry = e; rest = l; tail = Tail-refl _; short = omega arith; done = done; item = h ∙ ap (λ (z : Execution). S.executed (z .version) (z .cmd) done (z .res)) (sym q); at = ap (λ (z : Execution). z .at) (sym q) })
+      ran-root v k done r h (inr j) = up (ih d j)
 
       at-step : {x : Point} → Change c (replay plan c l) (In made) p e x → List·Memᴰ d (x .past) → Stands-in d (suc (length l)) (e ∷ l) ⊎ Rooted srv d
       at-step Logs.untouched j = up (ih d j)
-      at-step (Logs.ran k done r h q hd) j = ran-root k done r h (List·Memᴰ·cases-cons j)
+      at-step (Logs.ran v k done r h q hd) j = ran-root v k done r h (List·Memᴰ·cases-cons j)
       at-step (Logs.left d′ h hd) j = up (ih d j)
       at-step (Logs.came i h mm pt dst lt nh) j = inr (im i mm d j)
       at-step (Logs.let-go d′ k mm g le) j = up (ih d j)

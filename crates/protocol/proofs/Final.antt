@@ -10,7 +10,8 @@ use native.Mathlib.Omega.{arith}
 use Prim.Native.Nat.{ℕ, _+_, _<_}
 use lib.Dec.{eqb}
 use borrow.Author.Tests.{eqb-false}
-use Rattle.model.specs.Sequential.{ResultZ, Marked, opened, bookAfter, Answers}
+use Rattle.model.specs.Versions.{Version}
+use Rattle.model.specs.Sequential.{ResultZ, Marked, OrderEntry, parts, one, opened, bookAfter, Answers}
 use Rattle.model.specs.declared.Command.{Command}
 use Rattle.model.specs.Choice.{pick}
 use Rattle.protocol.specs.Servers.{Plan, Execution, Entry, LogRecord, replay}
@@ -31,7 +32,7 @@ use Rattle.protocol.proofs.Clients.{Saw}
 use Rattle.protocol.proofs.Inv.{Inv, run-inv}
 use Rattle.protocol.proofs.Top.{Top, one-past}
 use Rattle.protocol.proofs.Order as Order
-use Rattle.protocol.proofs.Order.{merged, marked, ordered, only, merged-good, merged-only, merged-in, book-values, book-answers}
+use Rattle.protocol.proofs.Order.{merged, entry, ordered, only, merged-good, merged-only, merged-in, book-values, book-answers}
 
 module _ (plan : Plan) (es : List Event) where
   abbrev w : World
@@ -50,7 +51,7 @@ module _ (plan : Plan) (es : List Event) where
   unfoldable pub timeline : List Execution
   timeline = merged H 64
 
-  unfoldable pub order : List Marked
+  unfoldable pub order : List OrderEntry
   order = ordered timeline
 
   good : (p : ℕ) → Past plan p (only p timeline)
@@ -59,11 +60,11 @@ module _ (plan : Plan) (es : List Event) where
 
   -- ---- every execution in a past was issued
 
-  pub executed-issued : {c : ℕ} {l : List Entry} {k : Command} {done : ℕ} {r : ResultZ} (e : Entry) → Legit plan (In (w .made)) c (w .clock) (e ∷ l) → e .item ≡ S.executed k done r → Saw (w .seen) (issued k)
-  executed-issued {c} {l} {k} {done} {r} e (Logs.then wr a o g) q = go (e .item) q wr
+  pub executed-issued : {c : ℕ} {l : List Entry} {v : Version} {k : Command} {done : ℕ} {r : ResultZ} (e : Entry) → Legit plan (In (w .made)) c (w .clock) (e ∷ l) → e .item ≡ S.executed v k done r → Saw (w .seen) (issued k)
+  executed-issued {c} {l} {v} {k} {done} {r} e (Logs.then wr a o g) q = go (e .item) q wr
     where
-      go : (x : LogRecord) → x ≡ S.executed k done r → Written plan c (replay plan c l) (In (w .made)) x → Saw (w .seen) (issued k)
-      go x h (I.executing a m b d f n) = let z : a .cmd ≡ k = cc in subst (λ (y : Command). Saw (w .seen) (issued y)) z (inv .clients .asked a m)
+      go : (x : LogRecord) → x ≡ S.executed v k done r → Written plan c (replay plan c l) (In (w .made)) x → Saw (w .seen) (issued k)
+      go x h (I.executing u a m b d f n) = let z : a .cmd ≡ k = cc in subst (λ (y : Command). Saw (w .seen) (issued y)) z (inv .clients .asked a m)
       go x h (I.going y t m) = let z : _≡_ {A = ℕ} 0 1 = cc in absurd (omega arith)
       go x h (I.giving p d hd) = let z : _≡_ {A = ℕ} 0 1 = cc in absurd (omega arith)
       go x h (I.taking i m b d f) = let z : _≡_ {A = ℕ} 0 1 = cc in absurd (omega arith)
@@ -77,7 +78,7 @@ module _ (plan : Plan) (es : List Event) where
   pub shown-top : (c : ℕ) (k : Command) (r : ResultZ) (s : Shown plan c (w .servers c .mark) (w .servers c .log) k r) → List·Memᴰ (s .done) (H (k .point))
   shown-top c k r s = Tail-mem (Tail-trans (past-tail (k .point) (s .tail) (inv .facts .grows c)) (tops (k .point) .all c)) (s .among)
 
-  pub results : (k : Command) (r : ResultZ) → Saw (w .seen) (received k r) → Answers plan (opened plan) order k r
+  pub results : (k : Command) (r : ResultZ) → Saw (w .seen) (received k r) → Answers plan (opened plan) order (k ∷ []) (one r)
   unfolding order timeline
   results k r m =
       let h = inv .clients .results k r m in
@@ -87,8 +88,8 @@ module _ (plan : Plan) (es : List Event) where
       let i = subst (λ (z : Command). Saw (w .seen) (issued z)) (s .1 .cmd) (issued-past (b .other .point) (s .1 .done) t) in
       let same : b .other ≡ k = inv .clients .single (b .other) k i (h .0) (b .same) in
       let a = book-answers plan (merged H 64) good (s .1 .done) (merged-in H (s .1 .done) (b .other .point) 64 (inv .clients .small (b .other) i) t) in
-      subst (λ (z : ResultZ). Answers plan (opened plan) (ordered (merged H 64)) k z) (s .1 .res)
-      (subst (λ (z : Command). Answers plan (opened plan) (ordered (merged H 64)) z (s .1 .done .res)) (s .1 .cmd ∙ same) a)
+      subst (λ (z : ResultZ). Answers plan (opened plan) (ordered (merged H 64)) (k ∷ []) (one z)) (s .1 .res)
+      (subst (λ (z : Command). Answers plan (opened plan) (ordered (merged H 64)) (z ∷ []) (one (s .1 .done .res))) (s .1 .cmd ∙ same) a)
 
   -- ---- values
 
@@ -124,34 +125,60 @@ module _ (plan : Plan) (es : List Event) where
       go ih false x (inl y) = absurd (eqb-false _ _ x (ap (λ (z : Execution). z .cmd .point) (sym y) ∙ q))
       go ih false x (inr j) = ih j
 
-  once-last : (xs : List Marked) (c : Marked) → Once xs → ((d : Marked) → List·Memᴰ d xs → d .command .client ≡ c .command .client → d .command .call ≡ c .command .call → ⊥) → Once (xs ++ (c ∷ []))
-  once-last [] c Claim.none-left f = Claim.one-more (λ d m. absurd (List·Memᴰ·not-nil m)) Claim.none-left
-  once-last (x ∷ xs) c (Claim.one-more g o) f = Claim.one-more (λ d m. either d (List·Memᴰ·append-cases xs m)) (once-last xs c o (λ d m. f d (List·Memᴰ·tail m)))
-    where
-      either : (d : Marked) → List·Memᴰ d xs ⊎ List·Memᴰ d (c ∷ []) → d .command .client ≡ x .command .client → d .command .call ≡ x .command .call → ⊥
-      either d (inl m) a b = g d m a b
-      either d (inr m) a b = let e = List·Memᴰ·eq-of-singleton m in f x (List·Memᴰ·head refl) (sym a ∙ ap (λ (z : Marked). z .command .client) e) (sym b ∙ ap (λ (z : Marked). z .command .call) e)
+  -- two entries with parts of one id
+  pub record Meet (o e : OrderEntry) : Type 0 where
+    pub left : Marked
+    pub right : Marked
+    pub in-left : List·Memᴰ left (parts o)
+    pub in-right : List·Memᴰ right (parts e)
+    pub client : left .command .client ≡ right .command .client
+    pub call : left .command .call ≡ right .command .call
 
-  pub ordered-out : (l : List Execution) (k : Marked) → List·Memᴰ k (ordered l) → (d : Execution) × List·Memᴰ d l × (marked d ≡ k)
+  once-last : (xs : List OrderEntry) (c : OrderEntry) → Once xs → ((d : OrderEntry) → List·Memᴰ d xs → Meet d c → ⊥) → Once (xs ++ (c ∷ []))
+  once-last [] c Claim.none-left f = Claim.one-more (λ d k m i. absurd (List·Memᴰ·not-nil i)) Claim.none-left
+  once-last (x ∷ xs) c (Claim.one-more g o) f =
+      Claim.one-more (λ d k m i a b p q. either d (List·Memᴰ·append-cases xs i) (record { left = k; right = m; in-left = a; in-right = b; client = p; call = q }))
+      (once-last xs c o (λ d m. f d (List·Memᴰ·tail m)))
+    where
+      turned : Meet c x → Meet x c
+      turned h = record { left = h .right; right = h .left; in-left = h .in-right; in-right = h .in-left; client = sym (h .client); call = sym (h .call) }
+
+      either : (d : OrderEntry) → List·Memᴰ d xs ⊎ List·Memᴰ d (c ∷ []) → Meet d x → ⊥
+      either d (inl m) h = g d (h .left) (h .right) m (h .in-left) (h .in-right) (h .client) (h .call)
+      either d (inr m) h = f x (List·Memᴰ·head refl) (turned (subst (λ (z : OrderEntry). Meet z x) (List·Memᴰ·eq-of-singleton m) h))
+
+  pub ordered-out : (l : List Execution) (k : OrderEntry) → List·Memᴰ k (ordered l) → (d : Execution) × List·Memᴰ d l × (entry d ≡ k)
   unfolding ordered
   ordered-out [] k m = absurd (List·Memᴰ·not-nil m)
   ordered-out (d ∷ ds) k m = go (λ j. ordered-out ds k j) (List·Memᴰ·append-cases (ordered ds) m)
     where
-      go : (List·Memᴰ k (ordered ds) → (x : Execution) × List·Memᴰ x ds × (marked x ≡ k)) → List·Memᴰ k (ordered ds) ⊎ List·Memᴰ k (marked d ∷ []) → (x : Execution) × List·Memᴰ x (d ∷ ds) × (marked x ≡ k)
+      go : (List·Memᴰ k (ordered ds) → (x : Execution) × List·Memᴰ x ds × (entry x ≡ k)) → List·Memᴰ k (ordered ds) ⊎ List·Memᴰ k (entry d ∷ [])
+          → (x : Execution) × List·Memᴰ x (d ∷ ds) × (entry x ≡ k)
       go ih (inl j) = let r = ih j in (r .0, List·Memᴰ·tail (r .1), r .2)
       go ih (inr j) = (d, List·Memᴰ·head refl, sym (List·Memᴰ·eq-of-singleton j))
+
+  -- the executions of two entries that meet
+  meet-same : (d e : Execution) → Meet (entry e) (entry d) → Same (e .cmd) (d .cmd)
+  unfolding parts
+  meet-same d e h =
+      let a = ap (λ (z : Marked). z .command) (List·Memᴰ·eq-of-singleton (h .in-left)) in
+      let b = ap (λ (z : Marked). z .command) (List·Memᴰ·eq-of-singleton (h .in-right)) in
+      record {
+        client = ap (λ (z : Command). z .client) (sym a) ∙ h .client ∙ ap (λ (z : Command). z .client) b;
+        call = ap (λ (z : Command). z .call) (sym a) ∙ h .call ∙ ap (λ (z : Command). z .call) b;
+      }
 
   once-all : (l : List Execution) → ((p : ℕ) → Past plan p (only p l)) → ((d : Execution) → List·Memᴰ d l → Saw (w .seen) (issued (d .cmd))) → Once (ordered l)
   unfolding ordered
   once-all [] g iss = Claim.none-left
-  once-all (d ∷ ds) g iss = once-last (ordered ds) (marked d) (once-all ds (rest g) (λ e m. iss e (List·Memᴰ·tail m))) (λ k m a b. no-twin k a b (ordered-out ds k m))
+  once-all (d ∷ ds) g iss = once-last (ordered ds) (entry d) (once-all ds (rest g) (λ e m. iss e (List·Memᴰ·tail m))) (λ k m h. no-twin k h (ordered-out ds k m))
     where
       rest : ((p : ℕ) → Past plan p (only p (d ∷ ds))) → (p : ℕ) → Past plan p (only p ds)
       rest g p = Order.tail-good plan d ds g p
 
-      no-twin : (k : Marked) → k .command .client ≡ d .cmd .client → k .command .call ≡ d .cmd .call → (e : Execution) × List·Memᴰ e ds × (marked e ≡ k) → ⊥
-      no-twin k a b e =
-          let sm : Same (e .0 .cmd) (d .cmd) = record { client = ap (λ (z : Marked). z .command .client) (e .2) ∙ a; call = ap (λ (z : Marked). z .command .call) (e .2) ∙ b } in
+      no-twin : (k : OrderEntry) → Meet k (entry d) → (e : Execution) × List·Memᴰ e ds × (entry e ≡ k) → ⊥
+      no-twin k h e =
+          let sm : Same (e .0 .cmd) (d .cmd) = meet-same d (e .0) (subst (λ (z : OrderEntry). Meet z (entry d)) (sym (e .2)) h) in
           let q = inv .clients .single (e .0 .cmd) (d .cmd) (iss (e .0) (List·Memᴰ·tail (e .1))) (iss d (List·Memᴰ·head refl)) sm in
           clear d ds g (e .0) (only-in (e .0) ds (d .cmd .point) (e .1) (ap (λ (z : Command). z .point) q)) sm
 

@@ -59,7 +59,7 @@ module _ (plan : Plan) (w : World) (inv : Inv plan w) where
   unfolding stateOf
   tells-ok c p f (I.repeating x k r fnd le) = (core-tick plan srv _ _ (core-plain plan srv made (w .clock) (inv .core) _ refl), refl, refl)
   tells-ok c p f (I.imaging q g le) = (core-tick plan srv _ _ (core-image plan srv made (w .clock) (inv .core) honest q c g le f), refl, refl)
-  tells-ok c p f (I.denying n q x k) = (core-tick plan srv _ _ (core-plain plan srv made (w .clock) (inv .core) _ refl), refl, refl)
+  tells-ok c p f (I.refusing n q x k) = (core-tick plan srv _ _ (core-plain plan srv made (w .clock) (inv .core) _ refl), refl, refl)
   tells-ok c p f (I.receipting q ne le) = (core-tick plan srv _ _ (core-receipt plan srv made (w .clock) (inv .core) q c), refl, refl)
 
   -- what a told result and a told image rest on
@@ -105,7 +105,7 @@ module _ (plan : Plan) (w : World) (inv : Inv plan w) where
     where
       same-image : (i : Image) → S.image i ≡ S.image (imageFor (replay plan c (srv c .log)) c q) → i ≡ imageFor (replay plan c (srv c .log)) c q
       same-image i e = cc
-  tells-facts c p (I.denying n q x k) = plain-facts _ refl (λ l r e. let z : _≡_ {A = ℕ} 0 1 = cc in omega arith)
+  tells-facts c p (I.refusing n q x k) = plain-facts _ refl (λ l r e. let z : _≡_ {A = ℕ} 0 1 = cc in omega arith)
   tells-facts c p (I.receipting q ne le) = facts-told plan srv made (inv .facts) _
       (λ k y e. let z : _≡_ {A = ℕ} 0 1 = cc in absurd (omega arith)) (λ i e. let z : _≡_ {A = ℕ} 0 1 = cc in absurd (omega arith))
 

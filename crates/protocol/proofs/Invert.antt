@@ -11,11 +11,12 @@ use mathlib.Core.Option.{Option, none, some}
 use native.Mathlib.Omega.{arith}
 use Prim.Native.Nat.{ℕ, suc, _≤_, _<_}
 use borrow.Author.Tests.{ltb-false, leb-true, leb-false, eqb-true, eqb-false, not-false}
+use Rattle.model.specs.Versions.{Version, Versions}
 use Rattle.model.specs.declared.Command.{Command}
 use Rattle.model.specs.Sequential.{ResultZ}
 use Rattle.model.specs.Images.{floorOf}
 use Rattle.model.specs.Choice.{pick}
-use Rattle.protocol.specs.Servers.{Plan, ruleAt, Completion, Image, LogRecord, State, Holding, held, given, isHeld, isGiven, givenPlace, find, Asked, Packet, Act, refuse, deny, tell, write, Test, tested, answered, image, receipt, refusal, imageFor, executedFor, onHeld, onNew, onId, decideRequest, withPacket, onRequest, onFound, onFetch, onNotice, onGive, onImage, onTake, onReceipt, onRelease, executed, gone, gave, took, freed}
+use Rattle.protocol.specs.Servers.{Plan, ruleAt, Completion, Image, LogRecord, State, Holding, held, given, isHeld, isGiven, givenPlace, find, Asked, Packet, Act, refuse, deny, tell, write, Test, tested, answered, image, receipt, refusal, imageFor, executedFor, onHeld, onNew, onId, decideRequest, denying, onRequest, onFetched, onFetch, onNotice, onGive, onImage, onTake, onReceipt, onRelease, executed, gone, gave, took, freed}
 use Rattle.protocol.proofs.Basics.{or-false}
 
 pub refuse≢write : {X : Type 0} {n : ℕ} {r : LogRecord} → refuse n ≡ write r → X
@@ -48,15 +49,15 @@ passed (t ∷ ts) a {b} e f = go (λ h. passed ts a h f) (t .fails) refl e
     go rest false q h = let r = rest h in ((q, r .0), r .1)
 
 -- numbers 3 to 9 also make a packet; nothing else changes
-pub packet-tells : (q : Asked) (a : Act) {p : Packet} → withPacket q a ≡ tell p → a ≡ tell p
-unfolding withPacket
+pub packet-tells : (q : Asked) (a : Act) {p : Packet} → denying q a ≡ tell p → a ≡ tell p
+unfolding denying
 packet-tells q (refuse n) e = let z : _≡_ {A = ℕ} 0 1 = cc in absurd (omega arith)
 packet-tells q (deny n p x k) e = let z : _≡_ {A = ℕ} 0 1 = cc in absurd (omega arith)
 packet-tells q (tell p) e = e
 packet-tells q (write r) e = e
 
-pub packet-writes : (q : Asked) (a : Act) {r : LogRecord} → withPacket q a ≡ write r → a ≡ write r
-unfolding withPacket
+pub packet-writes : (q : Asked) (a : Act) {r : LogRecord} → denying q a ≡ write r → a ≡ write r
+unfolding denying
 packet-writes q (refuse n) e = let z : _≡_ {A = ℕ} 0 1 = cc in absurd (omega arith)
 packet-writes q (deny n p x k) e = let z : _≡_ {A = ℕ} 0 1 = cc in absurd (omega arith)
 packet-writes q (tell p) e = e
@@ -82,10 +83,10 @@ given-yes (Holding.given d n) e = record { destination = d; place = n; is = refl
 -- ---- what is written, and why
 
 pub data Written (plan : Plan) (self : ℕ) (s : State) (Made : Packet → Type 0) : LogRecord → Type 0 where
-  executing : (q : Asked) → Made (Packet.request q)
+  executing : (v : Version) (q : Asked) → Made (Packet.request q)
       → s .points (q .cmd .point) .holding ≡ held → s .heard < q .lease → floorOf (q .cmd .client) (s .floors) ≤ q .cmd .call
       → find (q .cmd .client) (q .cmd .call) (s .records) ≡ none
-      → Written plan self s Made (executed (q .cmd) (q .done) (ruleAt plan (q .cmd) (s .points (q .cmd .point) .value)))
+      → Written plan self s Made (executed v (q .cmd) (q .done) (ruleAt plan v (q .cmd) (s .points (q .cmd .point) .value)))
   going : (x time : ℕ) → Made (Packet.notice x time) → Written plan self s Made (gone x time)
   giving : (p d : ℕ) → s .points p .holding ≡ held → Written plan self s Made (gave p d (suc (s .points p .move)))
   taking : (i : Image) → Made (Packet.image i) → i .destination ≡ self → s .points (i .point) .move < i .move → (s .points (i .point) .holding ≡ held → ⊥) → Written plan self s Made (took i)
@@ -97,7 +98,7 @@ pub data Told (self mark : ℕ) (s : State) : Packet → Type 0 where
   repeating : (x c : ℕ) (r : Completion) → find x c (s .records) ≡ some r → r .place ≤ mark → Told self mark s (answered (r .cmd) (r .res))
   imaging : (p : ℕ) (g : Given (s .points p .holding)) → g .place ≤ mark → Told self mark s (image (imageFor s self p))
   receipting : (p : ℕ) → (s .points p .taken ≡ 0 → ⊥) → s .points p .takenPlace ≤ mark → Told self mark s (receipt p self (s .points p .taken))
-  denying : (n p x k : ℕ) → Told self mark s (refusal n p x k)
+  refusing : (n p x k : ℕ) → Told self mark s (refusal n p x k)
 
 -- the outcome of a decision
 abbrev pub Outcome : Plan → ℕ → ℕ → State → (Packet → Type 0) → Act → Type 0
@@ -110,13 +111,14 @@ module _ (plan : Plan) (self mark : ℕ) (s : State) (Made : Packet → Type 0) 
   abbrev Out : Act → Type 0
   Out a = Outcome plan self mark s Made a
 
-  new-write : (room : Bool) (q : Asked) (r : LogRecord) → onNew plan s room q ≡ write r → executed (q .cmd) (q .done) (ruleAt plan (q .cmd) (s .points (q .cmd .point) .value)) ≡ r
+  new-write : (v : Versions) (room : Bool) (q : Asked) (r : LogRecord) → onNew plan v s room q ≡ write r
+      → executed (v (q .cmd .op)) (q .cmd) (q .done) (ruleAt plan (v (q .cmd .op)) (q .cmd) (s .points (q .cmd .point) .value)) ≡ r
   unfolding onNew executedFor
-  new-write room q r e = let h = passed _ _ e tt in let k = h .1 in cc
+  new-write v room q r e = let h = passed _ _ e tt in let k = h .1 in cc
 
-  new-tell : (room : Bool) (q : Asked) (p : Packet) → onNew plan s room q ≡ tell p → ⊥
+  new-tell : (v : Versions) (room : Bool) (q : Asked) (p : Packet) → onNew plan v s room q ≡ tell p → ⊥
   unfolding onNew
-  new-tell room q p e = let h = passed _ _ e tt in tell≢write (sym (h .1))
+  new-tell v room q p e = let h = passed _ _ e tt in tell≢write (sym (h .1))
 
   held-write : (q : Asked) (c : Completion) (r : LogRecord) → onHeld mark q c ≡ write r → ⊥
   unfolding onHeld
@@ -126,50 +128,51 @@ module _ (plan : Plan) (self mark : ℕ) (s : State) (Made : Packet → Type 0) 
   unfolding onHeld
   held-tell q c p e = let h = passed _ _ e tt in (leb-true _ _ (not-false _ (h .0 .1 .0)), h .1)
 
-  found-tell : (c : Completion) (p : Packet) → onFound mark (some c) ≡ tell p → (c .place ≤ mark) × (tell (answered (c .cmd) (c .res)) ≡ tell p)
-  unfolding onFound
+  found-tell : (c : Completion) (p : Packet) → onFetched mark (some c) ≡ tell p → (c .place ≤ mark) × (tell (answered (c .cmd) (c .res)) ≡ tell p)
+  unfolding onFetched
   found-tell c p e = let h = passed _ _ e tt in (leb-true _ _ (not-false _ (h .0 .0)), h .1)
 
-  found-write : (o : Option Completion) (r : LogRecord) → onFound mark o ≡ write r → ⊥
-  unfolding onFound
+  found-write : (o : Option Completion) (r : LogRecord) → onFetched mark o ≡ write r → ⊥
+  unfolding onFetched
   found-write none r e = refuse≢write e
   found-write (some c) r e = tell≢write (passed _ _ e tt .1)
 
   retold : (x c : ℕ) (k : Completion) (p : Packet) → find x c (s .records) ≡ some k → (k .place ≤ mark) × (tell (answered (k .cmd) (k .res)) ≡ tell p) → Told self mark s p
   retold x c k p f h = subst (λ (a : Act). Out a) (h .1) (repeating x c k f (h .0))
 
-  id-tell : (room : Bool) (q : Asked) (p : Packet) (o : Option Completion) → find (q .cmd .client) (q .cmd .call) (s .records) ≡ o → onId plan s mark room q o ≡ tell p → Told self mark s p
+  id-tell : (v : Versions) (room : Bool) (q : Asked) (p : Packet) (o : Option Completion) → find (q .cmd .client) (q .cmd .call) (s .records) ≡ o → onId plan v s mark room q o ≡ tell p
+      → Told self mark s p
   unfolding onId
-  id-tell room q p none f e = absurd (new-tell room q p e)
-  id-tell room q p (some c) f e = retold (q .cmd .client) (q .cmd .call) c p f (held-tell q c p e)
+  id-tell v room q p none f e = absurd (new-tell v room q p e)
+  id-tell v room q p (some c) f e = retold (q .cmd .client) (q .cmd .call) c p f (held-tell q c p e)
 
-  id-write : (room : Bool) (q : Asked) (r : LogRecord) (o : Option Completion) → onId plan s mark room q o ≡ write r
-      → (o ≡ none) × (executed (q .cmd) (q .done) (ruleAt plan (q .cmd) (s .points (q .cmd .point) .value)) ≡ r)
+  id-write : (v : Versions) (room : Bool) (q : Asked) (r : LogRecord) (o : Option Completion) → onId plan v s mark room q o ≡ write r
+      → (o ≡ none) × (executed (v (q .cmd .op)) (q .cmd) (q .done) (ruleAt plan (v (q .cmd .op)) (q .cmd) (s .points (q .cmd .point) .value)) ≡ r)
   unfolding onId
-  id-write room q r none e = (refl, new-write room q r e)
-  id-write room q r (some c) e = absurd (held-write q c r e)
+  id-write v room q r none e = (refl, new-write v room q r e)
+  id-write v room q r (some c) e = absurd (held-write q c r e)
 
-  decide-tell : (room : Bool) (q : Asked) (p : Packet) → decideRequest plan s mark room q ≡ tell p → Told self mark s p
+  decide-tell : (v : Versions) (room : Bool) (q : Asked) (p : Packet) → decideRequest plan v s mark room q ≡ tell p → Told self mark s p
   unfolding decideRequest
-  decide-tell room q p e = id-tell room q p _ refl (passed _ _ e tt .1)
+  decide-tell v room q p e = id-tell v room q p _ refl (passed _ _ e tt .1)
 
-  decide-write : (room : Bool) (q : Asked) → Made (Packet.request q) → (r : LogRecord) → decideRequest plan s mark room q ≡ write r → Written plan self s Made r
+  decide-write : (v : Versions) (room : Bool) (q : Asked) → Made (Packet.request q) → (r : LogRecord) → decideRequest plan v s mark room q ≡ write r → Written plan self s Made r
   unfolding decideRequest
-  decide-write room q m r e =
+  decide-write v room q m r e =
       let h = passed _ _ e tt in
-      let k = id-write room q r _ (h .1) in
+      let k = id-write v room q r _ (h .1) in
       subst (λ (x : LogRecord). Written plan self s Made x) (k .1)
-      (executing q m (held-yes _ (h .0 .0)) (leb-false _ _ (h .0 .1 .0)) (ltb-false _ _ (h .0 .1 .1 .0)) (k .0))
+      (executing (v (q .cmd .op)) q m (held-yes _ (h .0 .0)) (leb-false _ _ (h .0 .1 .0)) (ltb-false _ _ (h .0 .1 .1 .0)) (k .0))
 
-  pub request-out : (room : Bool) (q : Asked) → Made (Packet.request q) → (b : Act) → onRequest plan s mark room q ≡ b → Out b
+  pub request-out : (v : Versions) (room : Bool) (q : Asked) → Made (Packet.request q) → (b : Act) → onRequest plan v s mark room q ≡ b → Out b
   unfolding onRequest
-  request-out room q m (refuse n) e = tt
-  request-out room q m (deny n p x k) e = tt
-  request-out room q m (tell p) e = decide-tell room q p (packet-tells q _ e)
-  request-out room q m (write r) e = decide-write room q m r (packet-writes q _ e)
+  request-out v room q m (refuse n) e = tt
+  request-out v room q m (deny n p x k) e = tt
+  request-out v room q m (tell p) e = decide-tell v room q p (packet-tells q _ e)
+  request-out v room q m (write r) e = decide-write v room q m r (packet-writes q _ e)
 
-  fetch-tell : (x c : ℕ) (p : Packet) (o : Option Completion) → find x c (s .records) ≡ o → onFound mark o ≡ tell p → Told self mark s p
-  unfolding onFound
+  fetch-tell : (x c : ℕ) (p : Packet) (o : Option Completion) → find x c (s .records) ≡ o → onFetched mark o ≡ tell p → Told self mark s p
+  unfolding onFetched
   fetch-tell x c p none f e = refuse≢tell e
   fetch-tell x c p (some k) f e = retold x c k p f (found-tell k p e)
 
@@ -236,38 +239,38 @@ module _ (plan : Plan) (self mark : ℕ) (s : State) (Made : Packet → Type 0) 
 
   -- ---- only a request writes an execution
 
-  decide-writes : (room : Bool) (q : Asked) (r : LogRecord) → decideRequest plan s mark room q ≡ write r → (d : ℕ) × (x : ResultZ) × (executed (q .cmd) d x ≡ r)
+  decide-writes : (v : Versions) (room : Bool) (q : Asked) (r : LogRecord) → decideRequest plan v s mark room q ≡ write r → (d : ℕ) × (x : ResultZ) × (executed (v (q .cmd .op)) (q .cmd) d x ≡ r)
   unfolding decideRequest
-  decide-writes room q r e = (q .done, ruleAt plan (q .cmd) (s .points (q .cmd .point) .value), id-write room q r _ (passed _ _ e tt .1) .1)
+  decide-writes v room q r e = (q .done, ruleAt plan (v (q .cmd .op)) (q .cmd) (s .points (q .cmd .point) .value), id-write v room q r _ (passed _ _ e tt .1) .1)
 
-  pub request-writes : (room : Bool) (q : Asked) (r : LogRecord) → onRequest plan s mark room q ≡ write r → (d : ℕ) × (x : ResultZ) × (executed (q .cmd) d x ≡ r)
+  pub request-writes : (v : Versions) (room : Bool) (q : Asked) (r : LogRecord) → onRequest plan v s mark room q ≡ write r → (d : ℕ) × (x : ResultZ) × (executed (v (q .cmd .op)) (q .cmd) d x ≡ r)
   unfolding onRequest
-  request-writes room q r e = decide-writes room q r (packet-writes q _ e)
+  request-writes v room q r e = decide-writes v room q r (packet-writes q _ e)
 
   pub fetch-writes : (x c : ℕ) (r : LogRecord) → onFetch s mark x c ≡ write r → ⊥
   unfolding onFetch
   fetch-writes x c r e = found-write _ r e
 
-  pub notice-writes : (room : Bool) (x time : ℕ) (r : LogRecord) → onNotice s room x time ≡ write r → (k : Command) (d : ℕ) (y : ResultZ) → r ≡ executed k d y → ⊥
+  pub notice-writes : (room : Bool) (x time : ℕ) (r : LogRecord) → onNotice s room x time ≡ write r → (v : Version) (k : Command) (d : ℕ) (y : ResultZ) → r ≡ executed v k d y → ⊥
   unfolding onNotice
-  notice-writes room x time r e k d y h = let z = passed _ _ e tt .1 in let o : _≡_ {A = ℕ} 0 1 = cc in omega arith
+  notice-writes room x time r e v k d y h = let z = passed _ _ e tt .1 in let o : _≡_ {A = ℕ} 0 1 = cc in omega arith
 
-  pub give-writes : (room : Bool) (p b : ℕ) (r : LogRecord) → onGive s self room p b ≡ write r → (k : Command) (d : ℕ) (y : ResultZ) → r ≡ executed k d y → ⊥
+  pub give-writes : (room : Bool) (p b : ℕ) (r : LogRecord) → onGive s self room p b ≡ write r → (v : Version) (k : Command) (d : ℕ) (y : ResultZ) → r ≡ executed v k d y → ⊥
   unfolding onGive
-  give-writes room p b r e k d y h = let z = passed _ _ e tt .1 in let o : _≡_ {A = ℕ} 0 1 = cc in omega arith
+  give-writes room p b r e v k d y h = let z = passed _ _ e tt .1 in let o : _≡_ {A = ℕ} 0 1 = cc in omega arith
 
   pub image-writes : (p : ℕ) (r : LogRecord) → onImage s mark self p ≡ write r → ⊥
   unfolding onImage
   image-writes p r e = tell≢write (passed _ _ e tt .1)
 
-  pub take-writes : (room : Bool) (i : Image) (r : LogRecord) → onTake s self room i ≡ write r → (k : Command) (d : ℕ) (y : ResultZ) → r ≡ executed k d y → ⊥
+  pub take-writes : (room : Bool) (i : Image) (r : LogRecord) → onTake s self room i ≡ write r → (v : Version) (k : Command) (d : ℕ) (y : ResultZ) → r ≡ executed v k d y → ⊥
   unfolding onTake
-  take-writes room i r e k d y h = let z = passed _ _ e tt .1 in let o : _≡_ {A = ℕ} 0 1 = cc in omega arith
+  take-writes room i r e v k d y h = let z = passed _ _ e tt .1 in let o : _≡_ {A = ℕ} 0 1 = cc in omega arith
 
   pub receipt-writes : (p : ℕ) (r : LogRecord) → onReceipt s mark self p ≡ write r → ⊥
   unfolding onReceipt
   receipt-writes p r e = tell≢write (passed _ _ e tt .1)
 
-  pub release-writes : (room : Bool) (p m : ℕ) (r : LogRecord) → onRelease s room p m ≡ write r → (k : Command) (d : ℕ) (y : ResultZ) → r ≡ executed k d y → ⊥
+  pub release-writes : (room : Bool) (p m : ℕ) (r : LogRecord) → onRelease s room p m ≡ write r → (v : Version) (k : Command) (d : ℕ) (y : ResultZ) → r ≡ executed v k d y → ⊥
   unfolding onRelease
-  release-writes room p m r e k d y h = let z = passed _ _ e tt .1 in let o : _≡_ {A = ℕ} 0 1 = cc in omega arith
+  release-writes room p m r e v k d y h = let z = passed _ _ e tt .1 in let o : _≡_ {A = ℕ} 0 1 = cc in omega arith

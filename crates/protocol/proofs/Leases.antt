@@ -14,7 +14,7 @@ use Rattle.model.specs.declared.Lease.{Lease}
 use Rattle.model.specs.declared.LeaseManager.{LeaseManager}
 use Rattle.model.specs.Choice.{pick}
 use Rattle.model.specs.Tables.{every}
-use Rattle.model.specs.Leases.{noLease, endedAt, runningAt, leaseEnd, isTaken, entered, extended}
+use Rattle.model.specs.Leases.{noLease, endedAt, runningAt, leaseEnd, isTaken, withNewLease, extended}
 use Rattle.protocol.specs.Servers.{Packet}
 use Rattle.protocol.specs.Servers as S
 use Rattle.protocol.proofs.Basics.{impossible}
@@ -152,8 +152,8 @@ extended-out x e l (k ∷ ls) m = go (eqb (k .client) x) refl m (λ j. extended-
 
 -- ---- a lease is entered at the first free place
 
-entered-out : (n l : Lease) (ls : List Lease) → List·Memᴰ l (entered n ls) → (l ≡ n) ⊎ List·Memᴰ l ls
-unfolding entered
+entered-out : (n l : Lease) (ls : List Lease) → List·Memᴰ l (withNewLease n ls) → (l ≡ n) ⊎ List·Memᴰ l ls
+unfolding withNewLease
 entered-out n l [] m = absurd (List·Memᴰ·not-nil m)
 entered-out n l (k ∷ ls) m = go (isTaken k) m (λ j. entered-out n l ls j)
   where
@@ -161,31 +161,31 @@ entered-out n l (k ∷ ls) m = go (isTaken k) m (λ j. entered-out n l ls j)
     new (inl e) = inl e
     new (inr j) = inr (List·Memᴰ·tail j)
 
-    old : (l ≡ k) ⊎ List·Memᴰ l (entered n ls) → (List·Memᴰ l (entered n ls) → (l ≡ n) ⊎ List·Memᴰ l ls) → (l ≡ n) ⊎ List·Memᴰ l (k ∷ ls)
+    old : (l ≡ k) ⊎ List·Memᴰ l (withNewLease n ls) → (List·Memᴰ l (withNewLease n ls) → (l ≡ n) ⊎ List·Memᴰ l ls) → (l ≡ n) ⊎ List·Memᴰ l (k ∷ ls)
     old (inl e) ih = inr (List·Memᴰ·head e)
     old (inr j) ih = new (ih j)
 
-    go : (b : Bool) → List·Memᴰ l (pick b (k ∷ entered n ls) (n ∷ ls)) → (List·Memᴰ l (entered n ls) → (l ≡ n) ⊎ List·Memᴰ l ls) → (l ≡ n) ⊎ List·Memᴰ l (k ∷ ls)
+    go : (b : Bool) → List·Memᴰ l (pick b (k ∷ withNewLease n ls) (n ∷ ls)) → (List·Memᴰ l (withNewLease n ls) → (l ≡ n) ⊎ List·Memᴰ l ls) → (l ≡ n) ⊎ List·Memᴰ l (k ∷ ls)
     go true j ih = old (List·Memᴰ·cases-cons j) ih
     go false j ih = new (List·Memᴰ·cases-cons j)
 
-entered-in : (n : Lease) (x e : ℕ) (ls : List Lease) → (x ≡ 0 → ⊥) → Covers x e ls → Covers x e (entered n ls)
-unfolding entered isTaken
+entered-in : (n : Lease) (x e : ℕ) (ls : List Lease) → (x ≡ 0 → ⊥) → Covers x e ls → Covers x e (withNewLease n ls)
+unfolding withNewLease isTaken
 entered-in n x e [] z c = absurd (List·Memᴰ·not-nil (c .among))
 entered-in n x e (k ∷ ls) z c = go (eqb (k .client) 0) refl (List·Memᴰ·cases-cons (c .among)) (λ d. entered-in n x e ls z d)
   where
-    go : (b : Bool) → eqb (k .client) 0 ≡ b → (c .lease ≡ k) ⊎ List·Memᴰ (c .lease) ls → (Covers x e ls → Covers x e (entered n ls)) → Covers x e (pick (not b) (k ∷ entered n ls) (n ∷ ls))
+    go : (b : Bool) → eqb (k .client) 0 ≡ b → (c .lease ≡ k) ⊎ List·Memᴰ (c .lease) ls → (Covers x e ls → Covers x e (withNewLease n ls)) → Covers x e (pick (not b) (k ∷ withNewLease n ls) (n ∷ ls))
     go true q (inl r) ih = absurd (z (sym (c .client) ∙ ap (λ (l : Lease). l .client) r ∙ eqb-true _ _ q))
     go true q (inr j) ih = record { lease = c .lease; among = List·Memᴰ·tail j; client = c .client; upto = c .upto }
     go false q (inl r) ih = record { lease = c .lease; among = List·Memᴰ·head r; client = c .client; upto = c .upto }
     go false q (inr j) ih = covers-tail (ih (record { lease = c .lease; among = j; client = c .client; upto = c .upto }))
 
-entered-new : (n : Lease) (ls : List Lease) → every isTaken ls ≡ false → List·Memᴰ n (entered n ls)
-unfolding entered every
+entered-new : (n : Lease) (ls : List Lease) → every isTaken ls ≡ false → List·Memᴰ n (withNewLease n ls)
+unfolding withNewLease every
 entered-new n [] e = impossible e
 entered-new n (k ∷ ls) e = go (isTaken k) e (λ h. entered-new n ls h)
   where
-    go : (b : Bool) → b && every isTaken ls ≡ false → (every isTaken ls ≡ false → List·Memᴰ n (entered n ls)) → List·Memᴰ n (pick b (k ∷ entered n ls) (n ∷ ls))
+    go : (b : Bool) → b && every isTaken ls ≡ false → (every isTaken ls ≡ false → List·Memᴰ n (withNewLease n ls)) → List·Memᴰ n (pick b (k ∷ withNewLease n ls) (n ∷ ls))
     go true h ih = List·Memᴰ·tail (ih h)
     go false h ih = List·Memᴰ·head refl
 
@@ -385,7 +385,7 @@ module _ (o : LeaseManager) (made : List Packet) (k : ManagerOk o made) (now : �
       }
 
   pub open-ok : (span : ℕ) → every isTaken ls ≡ false
-      → ManagerOk (record { time = now; issued = suc (o .issued); leases = entered (record { client = suc (o .issued); lease = now + span }) ls }) (S.grant (suc (o .issued)) (now + span) ∷ made)
+      → ManagerOk (record { time = now; issued = suc (o .issued); leases = withNewLease (record { client = suc (o .issued); lease = now + span }) ls }) (S.grant (suc (o .issued)) (now + span) ∷ made)
   open-ok span f = manager-grant _ made mid (suc (o .issued)) (now + span) (λ e. absurd (omega arith)) (record { lease = new; among = entered-new new ls f; client = refl; upto = omega arith })
     where
       new : Lease
@@ -395,7 +395,7 @@ module _ (o : LeaseManager) (made : List Packet) (k : ManagerOk o made) (now : �
       kn l (inl e) = let q : l .client ≡ suc (o .issued) = ap (λ (z : Lease). z .client) e in omega arith
       kn l (inr j) = let r = k′ .known l j in omega arith
 
-      up : (y e : ℕ) → (y ≡ 0 → ⊥) → (e ≤ now) ⊎ Covers y e ls → (e ≤ now) ⊎ Covers y e (entered new ls)
+      up : (y e : ℕ) → (y ≡ 0 → ⊥) → (e ≤ now) ⊎ Covers y e ls → (e ≤ now) ⊎ Covers y e (withNewLease new ls)
       up y e n (inl r) = inl r
       up y e n (inr c) = inr (entered-in new y e ls n c)
 
@@ -403,7 +403,7 @@ module _ (o : LeaseManager) (made : List Packet) (k : ManagerOk o made) (now : �
       en x t m l (inl e) q = let r = k′ .noticed x t m in let s : l .client ≡ suc (o .issued) = ap (λ (z : Lease). z .client) e in omega arith
       en x t m l (inr j) q = k′ .ended x t m l j q
 
-      mid : ManagerOk (record { time = now; issued = suc (o .issued); leases = entered new ls }) made
+      mid : ManagerOk (record { time = now; issued = suc (o .issued); leases = withNewLease new ls }) made
       mid = record {
         known = λ l m. kn l (entered-out new l ls m);
         granted = λ x e m. let r = k′ .granted x e m in omega arith;

@@ -12,6 +12,7 @@ use native.Mathlib.Omega.{arith}
 use Prim.Native.Nat.{ℕ, zero, suc, _≤_, _<_}
 use lib.Dec.{eqb}
 use lib.ListN.{length, drop}
+use Rattle.model.specs.Versions.{Version}
 use Rattle.model.specs.Sequential.{ResultZ}
 use Rattle.model.specs.declared.Command.{Command}
 use Rattle.model.specs.Choice.{pick}
@@ -78,7 +79,7 @@ Legit-tail (whole e) g = subst (Legit _ _ _ _) (sym e) g
 Legit-tail (within t) (then w a s g) = Legit-tail t g
 
 pub Written-more : {plan : Plan} {M N : Packet → Type 0} {c : ℕ} {s : State} {r : LogRecord} → ((p : Packet) → M p → N p) → Written plan c s M r → Written plan c s N r
-Written-more f (I.executing q m a b d e) = I.executing q (f _ m) a b d e
+Written-more f (I.executing v q m a b d e) = I.executing v q (f _ m) a b d e
 Written-more f (I.going x t m) = I.going x t (f _ m)
 Written-more f (I.giving p d h) = I.giving p d h
 Written-more f (I.taking i m a b d) = I.taking i (f _ m) a b d
@@ -91,7 +92,7 @@ Legit-more f h (then {e = e} w a o g) = then {e = e} (Written-more f w) (omega a
 -- floors ascend in every replay
 apply-ascends : (s : State) (r : LogRecord) (t : ℕ) → Ascends (s .floors) → Ascends (applyRecord s r t .floors)
 unfolding applyRecord
-apply-ascends s (S.executed k d r) t a = raise-ascends (k .client) d (s .floors) a
+apply-ascends s (S.executed v k d r) t a = raise-ascends (k .client) d (s .floors) a
 apply-ascends s (S.gone x y) t a = keep-ascends (isNotClient x) (s .floors) a
 apply-ascends s (S.gave p d m) t a = a
 apply-ascends s (S.took i) t a = merge-ascends (i .floors) (s .floors) a
@@ -110,7 +111,7 @@ module _ (plan : Plan) (Made : Packet → Type 0) (hon : Honest plan Made) where
 
 applied-count : (s : State) (r : LogRecord) (t : ℕ) → applyRecord s r t .count ≡ suc (s .count)
 unfolding applyRecord
-applied-count s (S.executed k d r) t = refl
+applied-count s (S.executed v k d r) t = refl
 applied-count s (S.gone x y) t = refl
 applied-count s (S.gave p d m) t = refl
 applied-count s (S.took i) t = refl
@@ -125,7 +126,8 @@ count-length plan c (e ∷ l) = applied-count (replay plan c l) (e .item) (e .at
 
 pub data Change (c : ℕ) (s : State) (Made : Packet → Type 0) (p : ℕ) (e : Entry) : Point → Type 0 where
   untouched : Change c s Made p e (s .points p)
-  ran : (k : Command) (done : ℕ) (r : ResultZ) → e .item ≡ S.executed k done r → k .point ≡ p → s .points p .holding ≡ S.held → Change c s Made p e (executedPoint k r (e .at) (s .points p))
+  ran : (v : Version) (k : Command) (done : ℕ) (r : ResultZ) → e .item ≡ S.executed v k done r → k .point ≡ p → s .points p .holding ≡ S.held
+      → Change c s Made p e (executedPoint v k r (e .at) (s .points p))
   left : (d : ℕ) → e .item ≡ S.gave p d (suc (s .points p .move)) → s .points p .holding ≡ S.held → Change c s Made p e (gavePoint d (suc (s .points p .move)) (suc (s .count)) (s .points p))
   came : (i : Image) → e .item ≡ S.took i → Made (S.image i) → i .point ≡ p → i .destination ≡ c → s .points p .move < i .move → (s .points p .holding ≡ S.held → ⊥) → Change c s Made p e (tookPoint i (suc (s .count)))
   let-go : (d m : ℕ) → Made (S.receipt p d m) → Given (s .points p .holding) → s .points p .move ≤ m → Change c s Made p e (freedPoint (s .points p))
@@ -136,7 +138,7 @@ module _ (plan : Plan) (Made : Packet → Type 0) (c : ℕ) (s : State) (e : Ent
 
   changes : (r : LogRecord) → e .item ≡ r → Written plan c s Made r → Change c s Made p e (applyRecord s r (e .at) .points p)
   unfolding applyRecord
-  changes r h (I.executing q m hd b d f) = change-at (q .cmd .point) _ (ran (q .cmd) (q .done) _ h refl hd)
+  changes r h (I.executing v q m hd b d f) = change-at (q .cmd .point) _ (ran v (q .cmd) (q .done) _ h refl hd)
   changes r h (I.going x t m) = untouched
   changes r h (I.giving q d hd) = change-at q _ (left d h hd)
   changes r h (I.taking i m a b d) = change-at (i .point) _ (came i h m refl a b d)
@@ -152,7 +154,7 @@ stepAt plan Made c e l p w = changes plan Made c (replay plan c l) e p (e .item)
 pub change-move : {c : ℕ} {s : State} {Made : Packet → Type 0} {p : ℕ} {e : Entry} {x : Point} → Change c s Made p e x → s .points p .move ≤ x .move
 unfolding executedPoint gavePoint tookPoint freedPoint
 change-move untouched = omega arith
-change-move (ran k done r h q hd) = omega arith
+change-move (ran v k done r h q hd) = omega arith
 change-move (left d h hd) = omega arith
 change-move (came i h m pt dst lt nh) = omega arith
 change-move (let-go d m k g le) = omega arith
@@ -160,7 +162,7 @@ change-move (let-go d m k g le) = omega arith
 change-taken : {c : ℕ} {s : State} {Made : Packet → Type 0} {p : ℕ} {e : Entry} {x : Point} → Change c s Made p e x → s .points p .taken ≤ s .points p .move → x .taken ≤ x .move
 unfolding executedPoint gavePoint tookPoint freedPoint
 change-taken untouched ih = ih
-change-taken (ran k done r h q hd) ih = ih
+change-taken (ran v k done r h q hd) ih = ih
 change-taken (left d h hd) ih = omega arith
 change-taken (came i h m pt dst lt nh) ih = omega arith
 change-taken (let-go d m k g le) ih = ih
@@ -194,7 +196,7 @@ data LastGive (s : State) (p n : ℕ) (x : Point) : Type 0 where
 last-give : {c : ℕ} {s : State} {Made : Packet → Type 0} {p : ℕ} {e : Entry} {x : Point} (d n : ℕ) → Change c s Made p e x → x .holding ≡ S.given d n → LastGive s p n x
 unfolding executedPoint gavePoint tookPoint freedPoint
 last-give d n untouched h = older refl
-last-give d n (ran k done r q pt hd) h = absurd (given-held (sym h ∙ hd))
+last-give d n (ran v k done r q pt hd) h = absurd (given-held (sym h ∙ hd))
 last-give {s = s} d n (left d′ q hd) h = let z : suc (s .count) ≡ n = cc in gives (sym z)
 last-give d n (came i q m pt dst lt nh) h = absurd (given-held (sym h))
 last-give d n (let-go d′ m k g le) h = absurd (given-released (sym h))

@@ -13,6 +13,7 @@ use native.Mathlib.Omega.{arith}
 use Prim.Native.Nat.{ℕ, suc, _+_, _≤_, _<_, max}
 use lib.Dec.{eqb}
 use borrow.Author.Tests.{leb-false, eqb-true, eqb-false, not-false}
+use Rattle.model.specs.Versions.{Version}
 use Rattle.model.specs.declared.Command.{Command}
 use Rattle.model.specs.declared.Floor.{Floor}
 use Rattle.model.specs.Tables.{keep}
@@ -37,10 +38,10 @@ pub record Same (k l : Command) : Type 0 where
   pub client : k .client ≡ l .client
   pub call : k .call ≡ l .call
 
--- each execution gave what the ruleAt gives on the value before it, on this point, and its id stands once
+-- each execution gave what its version of the rule gives on the value before it, on this point, and its id stands once
 pub data Past (plan : Plan) (p : ℕ) : List Execution → Type 0 where
   begun : Past plan p []
-  more : {d : Execution} {ds : List Execution} → d .cmd .point ≡ p → d .res ≡ ruleAt plan (d .cmd) (valueAfter plan p ds)
+  more : {d : Execution} {ds : List Execution} → d .cmd .point ≡ p → d .res ≡ ruleAt plan (d .version) (d .cmd) (valueAfter plan p ds)
       → ((e : Execution) → List·Memᴰ e ds → Same (e .cmd) (d .cmd) → ⊥) → ((e : Execution) → List·Memᴰ e ds → e .at < d .at) → Past plan p ds → Past plan p (d ∷ ds)
 
 -- it is of its point
@@ -171,14 +172,14 @@ module _ (plan : Plan) (Made : Packet → Type 0) (hon : Honest plan Made) where
 
   -- ---- executed
 
-  module _ (s : State) (q : Asked) (t : ℕ) (res : ResultZ) (sok : StateOk plan Made s) (made : Made (S.request q)) (isheld : s .points (q .cmd .point) .holding ≡ S.held)
+  module _ (s : State) (v : Version) (q : Asked) (t : ℕ) (res : ResultZ) (sok : StateOk plan Made s) (made : Made (S.request q)) (isheld : s .points (q .cmd .point) .holding ≡ S.held)
       (lease : s .heard < q .lease) (floor : floorOf (q .cmd .client) (s .floors) ≤ q .cmd .call) (nil : find (q .cmd .client) (q .cmd .call) (s .records) ≡ Option.none)
-      (is : res ≡ ruleAt plan (q .cmd) (s .points (q .cmd .point) .value)) (asc : Ascends (s .floors)) (older : (p : ℕ) (d : Execution) → List·Memᴰ d (s .points p .past) → d .at < t) where
+      (is : res ≡ ruleAt plan v (q .cmd) (s .points (q .cmd .point) .value)) (asc : Ascends (s .floors)) (older : (p : ℕ) (d : Execution) → List·Memᴰ d (s .points p .past) → d .at < t) where
     abbrev new : Completion
     new = record { cmd = q .cmd; res = res; place = suc (s .count) }
 
     abbrev event : Execution
-    event = record { cmd = q .cmd; res = res; at = t }
+    event = record { version = v; cmd = q .cmd; res = res; at = t }
 
     abbrev fs′ : List Floor
     fs′ = raise (q .cmd .client) (q .done) (s .floors)
@@ -213,11 +214,11 @@ module _ (plan : Plan) (Made : Packet → Type 0) (hon : Honest plan Made) where
             (recorded new (last-in new (s .records)) (ap (λ (z : Execution). z .cmd) (sym e)))
         go (inr i) = grow (d .cmd) (old .memory d i)
 
-    executed-here : At plan Made rs′ fs′ (s .heard) p (executedPoint (q .cmd) res t (s .points p))
+    executed-here : At plan Made rs′ fs′ (s .heard) p (executedPoint v (q .cmd) res t (s .points p))
     unfolding executedPoint valueAfter
     executed-here = record {
       ok = λ l. record {
-        past = more refl (is ∙ ap (ruleAt plan (q .cmd)) (old .value)) (λ d m. fresh s q d made lease floor nil (old .memory d m)) (older p) (old .past);
+        past = more refl (is ∙ ap (ruleAt plan v (q .cmd)) (old .value)) (λ d m. fresh s q d made lease floor nil (old .memory d m)) (older p) (old .past);
         value = refl;
         memory = memory′;
       };
@@ -229,7 +230,7 @@ module _ (plan : Plan) (Made : Packet → Type 0) (hon : Honest plan Made) where
         tell r e (inl x) = record { done = event; among = List·Memᴰ·head refl; cmd = ap (λ (z : Completion). z .cmd) (sym x); res = ap (λ (z : Completion). z .res) (sym x) }
         tell r e (inr i) = let k = sok p .tells r i e in record { done = k .done; among = List·Memᴰ·tail (k .among); cmd = k .cmd; res = k .res }
 
-    executed-ok : StateOk plan Made (applyRecord s (S.executed (q .cmd) (q .done) res) t)
+    executed-ok : StateOk plan Made (applyRecord s (S.executed v (q .cmd) (q .done) res) t)
     unfolding applyRecord
     executed-ok = changed-cases (λ n x. At plan Made rs′ fs′ (s .heard) n x) (s .points) p _ executed-here
         (λ n d. atMap (s .records) rs′ (s .floors) fs′ (s .heard) (s .heard) n (s .points n) (λ k _ m. grow k m)
@@ -339,7 +340,7 @@ module _ (plan : Plan) (Made : Packet → Type 0) (hon : Honest plan Made) where
   -- ---- all
 
   pub keeps : (c : ℕ) (s : State) (r : LogRecord) (t : ℕ) → ((p : ℕ) (d : Execution) → List·Memᴰ d (s .points p .past) → d .at < t) → Ascends (s .floors) → Written plan c s Made r → StateOk plan Made s → StateOk plan Made (applyRecord s r t)
-  keeps c s r t old asc (I.executing q made isheld lease floor nil) sok = executed-ok s q t _ sok made isheld lease floor nil refl asc old
+  keeps c s r t old asc (I.executing v q made isheld lease floor nil) sok = executed-ok s v q t _ sok made isheld lease floor nil refl asc old
   keeps c s r t old asc (I.going x time made) sok = gone-ok s x time t made sok
   keeps c s r t old asc (I.giving p d isheld) sok = gave-ok s p d _ t isheld sok
   keeps c s r t old asc (I.taking i made _ _ _) sok = took-ok s i t sok made asc

@@ -1,5 +1,5 @@
 -- One order of all executions: the points' pasts merged by the number of the event, and what the book makes of it.
---     merged, ordered            the executions of all points, the newest first; their commands, the oldest first
+--     merged, ordered            the executions of all points, the newest first; their entries, the oldest first
 --     merged-only, merged-good   each point's part of it is that point's past
 --     book-values, book-answers  the book's values and answers over it are the pasts'
 --     merged-falls               it falls by event
@@ -12,11 +12,10 @@ use native.Mathlib.Omega.{arith}
 use Prim.Native.Nat.{ℕ, zero, suc, _+_, _≤_, _<_}
 use lib.Dec.{ltb, eqb}
 use borrow.Author.Tests.{eqb-true, eqb-false, ltb-true, ltb-false}
-use Rattle.model.specs.Sequential.{Marked, ReadingZ, ResultZ, Book, afterZ, opened, answerZ, entered, bookAfter, Answers, here, later}
+use Rattle.model.specs.Sequential.{Marked, OrderEntry, single, parts, commands, EntryResult, one, ReadingZ, Book, afterZ, opened, answerZ, entered, answerTo, bookWith, bookAfter, Answers, here, later}
 use Rattle.model.specs.declared.Command.{Command}
 use Rattle.model.specs.Choice.{pick}
 use Rattle.protocol.specs.Servers.{Plan, ruleAt, Execution}
-use Rattle.protocol.specs.Explains.{versionAt}
 use Rattle.protocol.proofs.Basics.{impossible, eqb-same}
 use Rattle.protocol.proofs.Memory.{Past, begun, more, valueAfter}
 
@@ -37,14 +36,18 @@ unfoldable pub only : ℕ → List Execution → List Execution
 only p [] = []
 only p (d ∷ ds) = pick (eqb (d .cmd .point) p) (d ∷ only p ds) (only p ds)
 
--- a command with the rules it was executed under
+-- an execution's command with its version
 abbrev pub marked : Execution → Marked
-marked d = record { version = versionAt (d .at); command = d .cmd }
+marked d = record { version = d .version; command = d .cmd }
 
--- the commands, oldest first
-unfoldable pub ordered : List Execution → List Marked
+-- its entry
+abbrev pub entry : Execution → OrderEntry
+entry d = single (marked d)
+
+-- the entries, oldest first
+unfoldable pub ordered : List Execution → List OrderEntry
 ordered [] = []
-ordered (d ∷ ds) = ordered ds ++ (marked d ∷ [])
+ordered (d ∷ ds) = ordered ds ++ (entry d ∷ [])
 
 only-other : (p : ℕ) (d : Execution) (l : List Execution) → (d .cmd .point ≡ p → ⊥) → only p (insert d l) ≡ only p l
 unfolding only insert
@@ -108,10 +111,10 @@ module _ (plan : Plan) where
 
   -- ---- the book over an order
 
-  book-last : (b : Book) (xs : List Marked) (c : Marked) → bookAfter plan b (xs ++ (c ∷ [])) ≡ entered plan (bookAfter plan b xs) c
+  book-last : (b : Book) (xs : List OrderEntry) (c : OrderEntry) → bookAfter plan b (xs ++ (c ∷ [])) ≡ bookWith plan (bookAfter plan b xs) c
   unfolding bookAfter
   book-last b [] c = refl
-  book-last b (x ∷ xs) c = book-last (entered plan b x) xs c
+  book-last b (x ∷ xs) c = book-last (bookWith plan b x) xs c
 
   pub tail-good : (d : Execution) (ds : List Execution) → ((p : ℕ) → Past plan p (only p (d ∷ ds))) → (p : ℕ) → Past plan p (only p ds)
   unfolding only
@@ -121,52 +124,55 @@ module _ (plan : Plan) where
       go true (more pt r f old rest) = rest
       go false k = k
 
-  head-good : (d : Execution) (ds : List Execution) → ((p : ℕ) → Past plan p (only p (d ∷ ds))) → d .res ≡ ruleAt plan (d .cmd) (valueAfter plan (d .cmd .point) (only (d .cmd .point) ds))
+  head-good : (d : Execution) (ds : List Execution) → ((p : ℕ) → Past plan p (only p (d ∷ ds))) → d .res ≡ ruleAt plan (d .version) (d .cmd) (valueAfter plan (d .cmd .point) (only (d .cmd .point) ds))
   unfolding only
   head-good d ds g = go (eqb (d .cmd .point) (d .cmd .point)) (eqb-same (d .cmd .point)) (g (d .cmd .point))
     where
-      go : (b : Bool) → b ≡ true → Past plan (d .cmd .point) (pick b (d ∷ only (d .cmd .point) ds) (only (d .cmd .point) ds)) → d .res ≡ ruleAt plan (d .cmd) (valueAfter plan (d .cmd .point) (only (d .cmd .point) ds))
+      go : (b : Bool) → b ≡ true → Past plan (d .cmd .point) (pick b (d ∷ only (d .cmd .point) ds) (only (d .cmd .point) ds))
+          → d .res ≡ ruleAt plan (d .version) (d .cmd) (valueAfter plan (d .cmd .point) (only (d .cmd .point) ds))
       go true e (more pt r f old rest) = r
       go false e k = impossible (sym e)
 
   -- the book's pages are the pasts' values
   pub book-values : (l : List Execution) → ((p : ℕ) → Past plan p (only p l)) → (p : ℕ) → bookAfter plan (opened plan) (ordered l) p ≡ valueAfter plan p (only p l)
-  unfolding ordered bookAfter entered answerZ only valueAfter ruleAt versionAt
+  unfolding ordered bookAfter bookWith entered answerZ only valueAfter ruleAt
   book-values [] g p = refl
-  book-values (d ∷ ds) g p = ap (λ (b : Book). b p) (book-last (opened plan) (ordered ds) (marked d)) ∙ go (book-values ds (tail-good d ds g)) (eqb p (d .cmd .point)) refl (eqb (d .cmd .point) p) refl
+  book-values (d ∷ ds) g p = ap (λ (b : Book). b p) (book-last (opened plan) (ordered ds) (entry d)) ∙ go (book-values ds (tail-good d ds g)) (eqb p (d .cmd .point)) refl (eqb (d .cmd .point) p) refl
     where
       go : ((q : ℕ) → bookAfter plan (opened plan) (ordered ds) q ≡ valueAfter plan q (only q ds)) → (b : Bool) → eqb p (d .cmd .point) ≡ b → (c : Bool) → eqb (d .cmd .point) p ≡ c
-          → pick b (afterZ (ruleAt plan (d .cmd) (bookAfter plan (opened plan) (ordered ds) (d .cmd .point)))) (bookAfter plan (opened plan) (ordered ds) p) ≡ valueAfter plan p (pick c (d ∷ only p ds) (only p ds))
-      go ih true q true r = ap (λ (v : ReadingZ). afterZ (ruleAt plan (d .cmd) v)) (ih (d .cmd .point)) ∙ ap afterZ (sym (head-good d ds g))
+          → pick b (afterZ (ruleAt plan (d .version) (d .cmd) (bookAfter plan (opened plan) (ordered ds) (d .cmd .point)))) (bookAfter plan (opened plan) (ordered ds) p)
+          ≡ valueAfter plan p (pick c (d ∷ only p ds) (only p ds))
+      go ih true q true r = ap (λ (v : ReadingZ). afterZ (ruleAt plan (d .version) (d .cmd) v)) (ih (d .cmd .point)) ∙ ap afterZ (sym (head-good d ds g))
       go ih true q false r = absurd (eqb-false _ _ r (sym (eqb-true p (d .cmd .point) q)))
       go ih false q true r = absurd (eqb-false _ _ q (sym (eqb-true (d .cmd .point) p r)))
       go ih false q false r = ih p
 
-  answers-left : (b : Book) (xs ys : List Marked) (c : Command) (r : ResultZ) → Answers plan b xs c r → Answers plan b (xs ++ ys) c r
+  answers-left : (b : Book) (xs ys : List OrderEntry) (c : List Command) (r : EntryResult) → Answers plan b xs c r → Answers plan b (xs ++ ys) c r
   answers-left b xs ys c r here = here
   answers-left b xs ys c r (later a) = later (answers-left _ _ ys c r a)
 
-  answers-last : (b : Book) (xs : List Marked) (c : Marked) → Answers plan b (xs ++ (c ∷ [])) (c .command) (answerZ plan (bookAfter plan b xs) c)
+  answers-last : (b : Book) (xs : List OrderEntry) (c : OrderEntry) → Answers plan b (xs ++ (c ∷ [])) (commands c) (answerTo plan (bookAfter plan b xs) c)
   unfolding bookAfter
   answers-last b [] c = here
-  answers-last b (x ∷ xs) c = later (answers-last (entered plan b x) xs c)
+  answers-last b (x ∷ xs) c = later (answers-last (bookWith plan b x) xs c)
 
-  answer-is : (b : Book) (d : Execution) → answerZ plan b (marked d) ≡ ruleAt plan (d .cmd) (b (d .cmd .point))
-  unfolding answerZ ruleAt versionAt
+  answer-is : (b : Book) (d : Execution) → answerTo plan b (entry d) ≡ one (ruleAt plan (d .version) (d .cmd) (b (d .cmd .point)))
+  unfolding answerTo answerZ ruleAt
   answer-is b d = refl
 
   -- the book answers what was answered
-  pub book-answers : (l : List Execution) → ((p : ℕ) → Past plan p (only p l)) → (d : Execution) → List·Memᴰ d l → Answers plan (opened plan) (ordered l) (d .cmd) (d .res)
-  unfolding ordered
+  pub book-answers : (l : List Execution) → ((p : ℕ) → Past plan p (only p l)) → (d : Execution) → List·Memᴰ d l → Answers plan (opened plan) (ordered l) (d .cmd ∷ []) (one (d .res))
+  unfolding ordered commands parts
   book-answers [] g d m = absurd (List·Memᴰ·not-nil m)
   book-answers (e ∷ es) g d m = go (λ j. book-answers es (tail-good e es g) d j) (List·Memᴰ·cases-cons m)
     where
-      last : answerZ plan (bookAfter plan (opened plan) (ordered es)) (marked e) ≡ e .res
-      last = answer-is (bookAfter plan (opened plan) (ordered es)) e ∙ ap (ruleAt plan (e .cmd)) (book-values es (tail-good e es g) (e .cmd .point)) ∙ sym (head-good e es g)
+      last : answerTo plan (bookAfter plan (opened plan) (ordered es)) (entry e) ≡ one (e .res)
+      last = answer-is (bookAfter plan (opened plan) (ordered es)) e ∙ ap one (ap (ruleAt plan (e .version) (e .cmd)) (book-values es (tail-good e es g) (e .cmd .point)) ∙ sym (head-good e es g))
 
-      go : (List·Memᴰ d es → Answers plan (opened plan) (ordered es) (d .cmd) (d .res)) → (d ≡ e) ⊎ List·Memᴰ d es → Answers plan (opened plan) (ordered es ++ (marked e ∷ [])) (d .cmd) (d .res)
-      go ih (inl q) = subst (λ (z : Execution). Answers plan (opened plan) (ordered es ++ (marked e ∷ [])) (z .cmd) (z .res)) (sym q)
-          (subst (λ (r : ResultZ). Answers plan (opened plan) (ordered es ++ (marked e ∷ [])) (e .cmd) r) last (answers-last (opened plan) (ordered es) (marked e)))
+      go : (List·Memᴰ d es → Answers plan (opened plan) (ordered es) (d .cmd ∷ []) (one (d .res))) → (d ≡ e) ⊎ List·Memᴰ d es
+          → Answers plan (opened plan) (ordered es ++ (entry e ∷ [])) (d .cmd ∷ []) (one (d .res))
+      go ih (inl q) = subst (λ (z : Execution). Answers plan (opened plan) (ordered es ++ (entry e ∷ [])) (z .cmd ∷ []) (one (z .res))) (sym q)
+          (subst (λ (r : EntryResult). Answers plan (opened plan) (ordered es ++ (entry e ∷ [])) (e .cmd ∷ []) r) last (answers-last (opened plan) (ordered es) (entry e)))
       go ih (inr j) = answers-left _ _ _ _ _ (ih j)
 
 pub insert-in : (x d : Execution) (l : List Execution) → (x ≡ d) ⊎ List·Memᴰ x l → List·Memᴰ x (insert d l)

@@ -5,7 +5,7 @@
 -- Assumes nothing.
 use mathlib.Core.Path.{_≡_, refl, sym, _∙_, ap, subst}
 use mathlib.Core.Bool.{Bool, true, false, not}
-use mathlib.Core.List.{List, [], _∷_, _++_, List·Memᴰ, List·Memᴰ·head, List·Memᴰ·tail, List·Memᴰ·cases-cons, List·Memᴰ·not-nil, Memᴰ·append-left}
+use mathlib.Core.List.{List, [], _∷_, _++_, List·Memᴰ, List·Memᴰ·head, List·Memᴰ·tail, List·Memᴰ·cases-cons, List·Memᴰ·not-nil, List·Memᴰ·eq-of-singleton, Memᴰ·append-left}
 use mathlib.Core.Logic.{_⊎_, inl, inr}
 use mathlib.Core.Option.{Option, none, some}
 use native.Mathlib.Omega.{arith}
@@ -20,8 +20,9 @@ use Rattle.model.specs.declared.Sent.the-variants.{Asked}
 use Rattle.model.specs.Choice.{pick}
 use Rattle.model.specs.Limits.{last32, callWindow}
 use Rattle.model.specs.Refusals.{malformed, numbersOut, windowFull}
-use Rattle.model.specs.Packets.{commandOk, commandOf}
-use Rattle.model.specs.Sequential.{Marked, ResultZ, opened, Answers}
+use Rattle.model.specs.Packets.{commandOk}
+use Rattle.model.specs.Versions.{Version}
+use Rattle.model.specs.Sequential.{Marked, OrderEntry, single, parts, commands, EntryResult, one, ResultZ, opened, Answers}
 use Rattle.model.specs.Clients.{firstOpen, requestFor, newCall, withCall, notSent, sent, issueOf, isOwn, closed}
 use Rattle.protocol.specs.Servers.{Plan, Execution, Entry}
 use Rattle.protocol.specs.Servers as S
@@ -38,7 +39,7 @@ use Rattle.protocol.proofs.Core.{early-past}
 use Rattle.protocol.proofs.Facts.{past-tail, Stands-in}
 use Rattle.protocol.proofs.Clients.{Saw, not-yet}
 use Rattle.protocol.proofs.Inv.{run-inv}
-use Rattle.protocol.proofs.Order.{marked, ordered, merged-in, merged-out, Falls, next, merged-falls}
+use Rattle.protocol.proofs.Order.{marked, entry, ordered, merged-in, merged-out, Falls, next, merged-falls}
 use Rattle.protocol.proofs.Trace.{after-suc, at-is, clock-is, last-world, wrote, seen-on, synced-on, inv-at}
 use Rattle.protocol.proofs.Final.{H, timeline, order, tops, inv, shown-top, issued-past, ordered-out, once, results, values}
 use Rattle.protocol.proofs.Survive.{ordered-in, survivors, survives-at}
@@ -57,6 +58,19 @@ past-single (more {d = x} {ds = xs} _ _ f _ rest) d e m n s = go (List·Memᴰ·
     go (inl a) (inr j) ih = absurd (f e j (twin d e a (sym s)))
     go (inr i) (inl b) ih = absurd (f d i (twin e d b s))
     go (inr i) (inr j) ih = ih i j
+
+-- ---- the command of an entry
+
+same-command : {k l : Command} → k ∷ [] ≡ l ∷ [] → k ≡ l
+same-command h = cc
+
+entry-commands : (d : Execution) (a : OrderEntry) → entry d ≡ a → d .cmd ∷ [] ≡ commands a
+unfolding commands parts
+entry-commands d a e = ap commands e
+
+part-commands : (d : Execution) (j : Marked) (a : OrderEntry) → marked d ≡ j → List·Memᴰ j (parts a) → d .cmd ∷ [] ≡ commands a
+unfolding commands parts
+part-commands d j (single m) e i = ap (λ (z : Marked). z .command ∷ []) (e ∙ List·Memᴰ·eq-of-singleton i)
 
 -- ---- what an issue and a receive leave
 
@@ -93,37 +107,37 @@ module _ (w : World) (x n : ℕ) (d : Client) (k : Command) (r : ResultZ) (p : p
   receive-seen plan = deliver-seen
 
 module _ (plan : Plan) (es : List Event) where
-  before-last : (k l : Marked) (xs : List Marked) → List·Memᴰ k xs → Before k l (xs ++ (l ∷ []))
+  before-last : (k l : OrderEntry) (xs : List OrderEntry) → List·Memᴰ k xs → Before k l (xs ++ (l ∷ []))
   before-last k l [] m = absurd (List·Memᴰ·not-nil m)
   before-last k l (x ∷ xs) m = go (λ j. before-last k l xs j) (List·Memᴰ·cases-cons m)
     where
-      end : (ys : List Marked) → List·Memᴰ l (ys ++ (l ∷ []))
+      end : (ys : List OrderEntry) → List·Memᴰ l (ys ++ (l ∷ []))
       end [] = List·Memᴰ·head refl
       end (y ∷ ys) = List·Memᴰ·tail (end ys)
 
       go : (List·Memᴰ k xs → Before k l (xs ++ (l ∷ []))) → (k ≡ x) ⊎ List·Memᴰ k xs → Before k l (x ∷ (xs ++ (l ∷ [])))
-      go ih (inl e) = subst (λ (z : Marked). Before k l (z ∷ (xs ++ (l ∷ [])))) e (Claim.first (end xs))
+      go ih (inl e) = subst (λ (z : OrderEntry). Before k l (z ∷ (xs ++ (l ∷ [])))) e (Claim.first (end xs))
       go ih (inr j) = Claim.later (ih j)
 
-  before-more : (k l : Marked) (xs ys : List Marked) → Before k l xs → Before k l (xs ++ ys)
+  before-more : (k l : OrderEntry) (xs ys : List OrderEntry) → Before k l xs → Before k l (xs ++ ys)
   before-more k l xs ys (Claim.first m) = Claim.first (Memᴰ·append-left ys m)
   before-more k l xs ys (Claim.later b) = Claim.later (before-more k l _ ys b)
 
-  by-time : (x y : Execution) (ls : List Execution) → Falls ls → List·Memᴰ x ls → List·Memᴰ y ls → x .at < y .at → Before (marked x) (marked y) (ordered ls)
+  by-time : (x y : Execution) (ls : List Execution) → Falls ls → List·Memᴰ x ls → List·Memᴰ y ls → x .at < y .at → Before (entry x) (entry y) (ordered ls)
   unfolding ordered
   by-time x y [] f mx my h = absurd (List·Memᴰ·not-nil mx)
   by-time x y (z ∷ zs) (next g f) mx my h = go (λ a b. by-time x y zs f a b h) (List·Memᴰ·cases-cons mx) (List·Memᴰ·cases-cons my)
     where
-      go : (List·Memᴰ x zs → List·Memᴰ y zs → Before (marked x) (marked y) (ordered zs)) → (x ≡ z) ⊎ List·Memᴰ x zs → (y ≡ z) ⊎ List·Memᴰ y zs → Before (marked x) (marked y) (ordered zs ++ (marked z ∷ []))
+      go : (List·Memᴰ x zs → List·Memᴰ y zs → Before (entry x) (entry y) (ordered zs)) → (x ≡ z) ⊎ List·Memᴰ x zs → (y ≡ z) ⊎ List·Memᴰ y zs → Before (entry x) (entry y) (ordered zs ++ (entry z ∷ []))
       go ih (inl a) (inl b) = let p : x .at ≡ z .at = ap (λ (d : Execution). d .at) a in let q : y .at ≡ z .at = ap (λ (d : Execution). d .at) b in absurd (omega arith)
       go ih (inl a) (inr j) = let p : x .at ≡ z .at = ap (λ (d : Execution). d .at) a in let q = g y j in absurd (omega arith)
-      go ih (inr i) (inl b) = subst (λ (d : Execution). Before (marked x) (marked y) (ordered zs ++ (marked d ∷ []))) b (before-last (marked x) (marked y) (ordered zs) (ordered-in zs x i))
+      go ih (inr i) (inl b) = subst (λ (d : Execution). Before (entry x) (entry y) (ordered zs ++ (entry d ∷ []))) b (before-last (entry x) (entry y) (ordered zs) (ordered-in zs x i))
       go ih (inr i) (inr j) = before-more _ _ _ _ (ih i j)
 
   -- two executions of the timeline with one command are one
-  single : (d e : Execution) → List·Memᴰ d (timeline plan es) → List·Memᴰ e (timeline plan es) → d .cmd ≡ e .cmd → d ≡ e
+  one-run : (d e : Execution) → List·Memᴰ d (timeline plan es) → List·Memᴰ e (timeline plan es) → d .cmd ≡ e .cmd → d ≡ e
   unfolding timeline
-  single d e m n s = go (merged-out (H plan es) d 64 m) (merged-out (H plan es) e 64 n)
+  one-run d e m n s = go (merged-out (H plan es) d 64 m) (merged-out (H plan es) e 64 n)
     where
       go : (p : ℕ) × List·Memᴰ d (H plan es p) → (q : ℕ) × List·Memᴰ e (H plan es q) → d ≡ e
       go p q =
@@ -133,17 +147,17 @@ module _ (plan : Plan) (es : List Event) where
           past-single (tops plan es (p .0) .past) d e (p .1) (subst (λ (z : ℕ). List·Memᴰ e (H plan es z)) c (q .1)) s
 
   -- executions of the order stand in it by their events
-  in-sequence : (a b : Marked) (d e : Execution) → List·Memᴰ d (timeline plan es) → List·Memᴰ e (timeline plan es) → d .cmd ≡ a .command → e .cmd ≡ b .command → d .at < e .at
+  in-sequence : (a b : OrderEntry) (d e : Execution) → List·Memᴰ d (timeline plan es) → List·Memᴰ e (timeline plan es) → d .cmd ∷ [] ≡ commands a → e .cmd ∷ [] ≡ commands b → d .at < e .at
       → List·Memᴰ a (order plan es) → List·Memᴰ b (order plan es) → Before a b (order plan es)
   unfolding order
-  in-sequence a b d e m n p q lt ma mb = subst (λ (z : Marked). Before z b (ordered (timeline plan es))) (one a d m p (ordered-out plan es (timeline plan es) a ma))
-      (subst (λ (z : Marked). Before (marked d) z (ordered (timeline plan es))) (one b e n q (ordered-out plan es (timeline plan es) b mb)) (by-time d e (timeline plan es) falls m n lt))
+  in-sequence a b d e m n p q lt ma mb = subst (λ (z : OrderEntry). Before z b (ordered (timeline plan es))) (its a d m p (ordered-out plan es (timeline plan es) a ma))
+      (subst (λ (z : OrderEntry). Before (entry d) z (ordered (timeline plan es))) (its b e n q (ordered-out plan es (timeline plan es) b mb)) (by-time d e (timeline plan es) falls m n lt))
     where
       falls : Falls (timeline plan es)
       falls = unfold timeline in (merged-falls (H plan es) 64)
 
-      one : (c : Marked) (f : Execution) → List·Memᴰ f (timeline plan es) → f .cmd ≡ c .command → (g : Execution) × List·Memᴰ g (timeline plan es) × (marked g ≡ c) → marked f ≡ c
-      one c f k s g = ap marked (single f (g .0) k (g .1) (s ∙ sym (ap (λ (z : Marked). z .command) (g .2)))) ∙ g .2
+      its : (c : OrderEntry) (f : Execution) → List·Memᴰ f (timeline plan es) → f .cmd ∷ [] ≡ commands c → (g : Execution) × List·Memᴰ g (timeline plan es) × (entry g ≡ c) → entry f ≡ c
+      its c f k s g = ap entry (one-run f (g .0) k (g .1) (same-command (s ∙ sym (entry-commands (g .0) c (g .2))))) ∙ g .2
 
   run-last : run plan es ≡ after plan es (length es)
   run-last = unfold-final ∙ sym (last-world plan es)
@@ -162,14 +176,14 @@ module _ (plan : Plan) (es : List Event) where
           let at-is = st .1 .at in
           (subst (λ (z : ℕ). z < length es) at-is (wr .early), subst (λ (z : ℕ). Saw (after plan es z .seen) (issued (d .cmd))) at-is (src (st .0) e (st .1 .done) (st .1 .item) (wr .src)))
         where
-          src : (c : ℕ) (e : Entry) (dn : ℕ) → e .item ≡ S.executed (d .cmd) dn (d .res) → Source (after plan es (e .at)) (getD es (e .at) W.idle) c (e .item) → Saw (after plan es (e .at) .seen) (issued (d .cmd))
-          src c e dn r (K.asks n room q dd x a b g) =
+          src : (c : ℕ) (e : Entry) (dn : ℕ) → e .item ≡ S.executed (d .version) (d .cmd) dn (d .res) → Source (after plan es (e .at)) (getD es (e .at) W.idle) c (e .item) → Saw (after plan es (e .at) .seen) (issued (d .cmd))
+          src c e dn r (K.asks n v room q dd x a b g) =
               let s = inv-at plan es (e .at) .clients .asked q (packet-made _ n _ b) in
               subst (λ (z : Command). Saw (after plan es (e .at) .seen) (issued z)) (same-cmd (sym g ∙ r)) s
             where
-              same-cmd : {k₁ k₂ : Command} {d₁ d₂ : ℕ} {x₁ x₂ : ResultZ} → S.executed k₁ d₁ x₁ ≡ S.executed k₂ d₂ x₂ → k₁ ≡ k₂
+              same-cmd : {v₁ v₂ : Version} {k₁ k₂ : Command} {d₁ d₂ : ℕ} {x₁ x₂ : ResultZ} → S.executed v₁ k₁ d₁ x₁ ≡ S.executed v₂ k₂ d₂ x₂ → k₁ ≡ k₂
               same-cmd h = cc
-          src c e dn r (K.other a f) = absurd (f _ _ _ r)
+          src c e dn r (K.other a f) = absurd (f _ _ _ _ r)
 
   -- a command completed within the first b events was executed by one of them, and that execution is in the order
   completed-then : (b : ℕ) → b ≤ length es → (k : Command) (r : ResultZ) → Saw (after plan es b .seen) (received k r) → (d : Execution) × List·Memᴰ d (H plan es (k .point)) × (d .cmd ≡ k) × (d .at < b)
@@ -207,44 +221,51 @@ module _ (plan : Plan) (es : List Event) where
 
   -- ---- the clauses by event numbers
 
-  completes-seen : (n : ℕ) (k : Command) (r : ResultZ) → Completes plan es n k r → (n < length es) × Saw (after plan es (suc n) .seen) (received k r)
-  completes-seen n k r c =
+  -- the command and the result that event n completes
+  abbrev done : {n : ℕ} {ks : List Command} {r : EntryResult} → Completes plan es n ks r → Command
+  done c = commandAt (c .state) (c .told .call)
+
+  completes-seen : (n : ℕ) (ks : List Command) (r : EntryResult) (c : Completes plan es n ks r) → (n < length es) × Saw (after plan es (suc n) .seen) (received (done c) (c .res))
+  completes-seen n ks r c =
       let i = at-is plan es n _ (c .event) in
       let s : after plan es (suc n) ≡ step plan (after plan es n) (W.receive (c .client) (c .number)) = after-suc plan es n (i .0) ∙ ap (step plan (after plan es n)) (i .1) in
-      let q = receive-seen (after plan es n) (c .client) (c .number) (c .state) (c .told) r (c .delivered) (c .started) (c .own) plan in
-      (i .0, rw (s, q) (List·Memᴰ·head (ap (λ (z : Command). received z r) (sym (c .its)))))
+      let q = receive-seen (after plan es n) (c .client) (c .number) (c .state) (c .told) (c .res) (c .delivered) (c .started) (c .own) plan in
+      (i .0, rw (s, q) (List·Memᴰ·head refl))
 
   -- what was seen after n events was seen after N
   later-seen : (n N : ℕ) → n ≤ N → N ≤ length es → Tail (after plan es n .seen) (after plan es N .seen)
   later-seen n N a b = let e : n + (N - n) ≡ N = omega arith in subst (λ (z : ℕ). Tail (after plan es n .seen) (after plan es z .seen)) e (seen-on plan es n (N - n) (omega arith))
 
-  issues-new : (n : ℕ) (k : Command) → Issues plan es n k → Saw (after plan es n .seen) (issued k) → ⊥
+  issues-new : (n : ℕ) (k : Command) → Issues plan es n (k ∷ []) → Saw (after plan es n .seen) (issued k) → ⊥
   issues-new n k i s =
       let q = issue-is (i .state) (i .op) (i .point) (i .argument) (i .asked) (i .answer) in
-      let e : commandOf (requestFor (withCall (i .state) (newCall (i .state) (i .op) (i .point) (i .argument))) (newCall (i .state) (i .op) (i .point) (i .argument))) ≡ k = ap commandOf (q .0) ∙ i .its in
+      let e : (requestFor (withCall (i .state) (newCall (i .state) (i .op) (i .point) (i .argument))) (newCall (i .state) (i .op) (i .point) (i .argument))) .command ≡ k = ap (λ (q : Request). q .command) (q .0) ∙ same-command (i .its) in
       not-yet (after plan es n .clients) (after plan es n .made) (after plan es n .seen) (inv-at plan es n .clients) (i .client) (i .state) (i .op) (i .point) (i .argument) (i .started) (q .1) k s
       (record { client = ap (λ (z : Command). z .client) (sym e); call = ap (λ (z : Command). z .call) (sym e) })
 
   -- the execution of a completed command
-  completed-at : (n : ℕ) (k : Command) (r : ResultZ) → Completes plan es n k r → (d : Execution) × List·Memᴰ d (timeline plan es) × (d .cmd ≡ k) × (d .at < suc n)
+  completed-at : (n : ℕ) (ks : List Command) (r : EntryResult) → Completes plan es n ks r → (d : Execution) × List·Memᴰ d (timeline plan es) × (d .cmd ∷ [] ≡ ks) × (d .at < suc n)
   unfolding timeline
-  completed-at n k r c =
-      let s = completes-seen n k r c in
-      let d = completed-then (suc n) (s .0) k r (s .1) in
+  completed-at n ks r c =
+      let k = done c in
+      let s = completes-seen n ks r c in
+      let d = completed-then (suc n) (s .0) k (c .res) (s .1) in
       let i = subst (λ (z : Command). Saw (run plan es .seen) (issued z)) (d .2) (issued-past plan es (k .point) (d .0) (d .1)) in
-      (d .0, merged-in (H plan es) (d .0) (k .point) 64 (inv plan es .clients .small k i) (d .1), d .2, d .3)
+      (d .0, merged-in (H plan es) (d .0) (k .point) 64 (inv plan es .clients .small k i) (d .1), ap (λ (z : Command). z ∷ []) (d .2) ∙ c .its, d .3)
 
-  pub completed : (n : ℕ) (k : Command) (r : ResultZ) → Completes plan es n k r → (a : Marked) × (a .command ≡ k) × List·Memᴰ a (order plan es)
+  pub completed : (n : ℕ) (ks : List Command) (r : EntryResult) → Completes plan es n ks r → (a : OrderEntry) × (commands a ≡ ks) × List·Memᴰ a (order plan es)
   unfolding order
-  completed n k r c = let d = completed-at n k r c in (marked (d .0), d .2, ordered-in (timeline plan es) (d .0) (d .1))
+  completed n ks r c = let d = completed-at n ks r c in (entry (d .0), sym (entry-commands (d .0) _ refl) ∙ d .2, ordered-in (timeline plan es) (d .0) (d .1))
 
-  pub results-of : (n : ℕ) (k : Command) (r : ResultZ) → Completes plan es n k r → Answers plan (opened plan) (order plan es) k r
-  results-of n k r c =
-      let s = completes-seen n k r c in
-      results plan es k r (subst (λ (z : World). Saw (z .seen) (received k r)) (sym run-last) (Tail-mem (later-seen (suc n) (length es) (s .0) (omega arith)) (s .1)))
+  pub results-of : (n : ℕ) (ks : List Command) (r : EntryResult) → Completes plan es n ks r → Answers plan (opened plan) (order plan es) ks r
+  results-of n ks r c =
+      let s = completes-seen n ks r c in
+      subst (Answers plan (opened plan) (order plan es) ks) (c .result)
+      (subst (λ (z : List Command). Answers plan (opened plan) (order plan es) z (one (c .res))) (c .its)
+      (results plan es (done c) (c .res) (subst (λ (z : World). Saw (z .seen) (received (done c) (c .res))) (sym run-last) (Tail-mem (later-seen (suc n) (length es) (s .0) (omega arith)) (s .1)))))
 
   -- a command that event n issues is executed after it
-  after-issue : (n : ℕ) (k : Command) → Issues plan es n k → (e : Execution) → List·Memᴰ e (timeline plan es) → e .cmd ≡ k → n ≤ e .at
+  after-issue : (n : ℕ) (k : Command) → Issues plan es n (k ∷ []) → (e : Execution) → List·Memᴰ e (timeline plan es) → e .cmd ≡ k → n ≤ e .at
   unfolding timeline
   after-issue n k i e j q = go (merged-out (H plan es) e 64 j)
     where
@@ -261,28 +282,28 @@ module _ (plan : Plan) (es : List Event) where
               absurd (issues-new n k i (subst (λ (z : Command). Saw (after plan es n .seen) (issued z)) q u))
 
   -- the execution of a command of the order
-  order-out : (b : Marked) → List·Memᴰ b (order plan es) → (e : Execution) × List·Memᴰ e (timeline plan es) × (marked e ≡ b)
+  order-out : (b : OrderEntry) → List·Memᴰ b (order plan es) → (e : Execution) × List·Memᴰ e (timeline plan es) × (entry e ≡ b)
   unfolding order
   order-out b m = ordered-out plan es (timeline plan es) b m
 
-  pub real-time : (m n : ℕ) (a b : Marked) (r : ResultZ) → Completes plan es m (a .command) r → Issues plan es n (b .command) → m < n
+  pub real-time : (m n : ℕ) (a b : OrderEntry) (r : EntryResult) → Completes plan es m (commands a) r → Issues plan es n (commands b) → m < n
       → List·Memᴰ a (order plan es) → List·Memᴰ b (order plan es) → Before a b (order plan es)
   real-time m n a b r c i lt ma mb =
-      let d = completed-at m (a .command) r c in
+      let d = completed-at m (commands a) r c in
       let e = order-out b mb in
-      let k : e .0 .cmd ≡ b .command = ap (λ (z : Marked). z .command) (e .2) in
+      let k : e .0 .cmd ∷ [] ≡ commands b = entry-commands (e .0) b (e .2) in
       let early = d .3 in
-      let late = after-issue n (b .command) i (e .0) (e .1) k in
+      let late = after-issue n (e .0 .cmd) (subst (Issues plan es n) (sym k) i) (e .0) (e .1) refl in
       in-sequence a b (d .0) (e .0) (d .1) (e .1) (d .2) k (omega arith) ma mb
 
-  pub sequence : (m n : ℕ) (a b : Marked) → SurvivesAt plan es m (a .command) → SurvivesAt plan es n (b .command) → m < n
-      → a .command .point ≡ b .command .point → List·Memᴰ a (order plan es) → List·Memᴰ b (order plan es) → Before a b (order plan es)
-  sequence m n a b s t lt same ma mb =
-      let d = survives-at plan es m (a .command) s in
-      let e = survives-at plan es n (b .command) t in
+  pub sequence : (m n : ℕ) (j k : Marked) (a b : OrderEntry) → SurvivesAt plan es m j → SurvivesAt plan es n k → m < n
+      → j .command .point ≡ k .command .point → List·Memᴰ j (parts a) → List·Memᴰ k (parts b) → List·Memᴰ a (order plan es) → List·Memᴰ b (order plan es) → Before a b (order plan es)
+  sequence m n j k a b s t lt same ja kb ma mb =
+      let d = survives-at plan es m j s in
+      let e = survives-at plan es n k t in
       let p = d .at in
       let q = e .at in
-      in-sequence a b (d .run) (e .run) (d .among) (e .among) (d .cmd) (e .cmd) (omega arith) ma mb
+      in-sequence a b (d .run) (e .run) (d .among) (e .among) (part-commands (d .run) j a (d .its) ja) (part-commands (e .run) k b (e .its) kb) (omega arith) ma mb
 
 -- demand 3 over the abstract world
 pub explained : Explained

@@ -12,6 +12,7 @@ use native.Mathlib.Omega.{arith}
 use Prim.Native.Nat.{ℕ, suc, _≤_, _<_}
 use lib.Dec.{eqb}
 use borrow.Author.Tests.{eqb-true, eqb-false}
+use Rattle.model.specs.Versions.{Version}
 use Rattle.model.specs.Plan.{entryAt}
 use Rattle.model.specs.Sequential.{ResultZ}
 use Rattle.model.specs.declared.Command.{Command}
@@ -109,11 +110,11 @@ module _ (plan : Plan) (Made : Packet → Type 0) (Allowed : ℕ → List Entry 
   abbrev s : State
   s = replay plan c log
 
-  ran-place : (k : Command) (r : ResultZ) (t : ℕ) → s .points p .holding ≡ S.held → Place Made p tok c (s .points p) → Place Made p tok c (executedPoint k r t (s .points p))
+  ran-place : (v : Version) (k : Command) (r : ResultZ) (t : ℕ) → s .points p .holding ≡ S.held → Place Made p tok c (s .points p) → Place Made p tok c (executedPoint v k r t (s .points p))
   unfolding executedPoint
-  ran-place k r t hd (behind a b d e g h) = absurd (a hd)
-  ran-place k r t hd (front a b d e g) = front a b d e (within g)
-  ran-place k r t hd (leaving a b d e g) = absurd (held-given b hd)
+  ran-place v k r t hd (behind a b d e g h) = absurd (a hd)
+  ran-place v k r t hd (front a b d e g) = front a b d e (within g)
+  ran-place v k r t hd (leaving a b d e g) = absurd (held-given b hd)
 
   left-place : (d n : ℕ) → s .points p .holding ≡ S.held → Place Made p tok c (s .points p) → Place Made p tok c (gavePoint d (suc (s .points p .move)) n (s .points p))
   unfolding gavePoint
@@ -143,7 +144,7 @@ module _ (plan : Plan) (Made : Packet → Type 0) (Allowed : ℕ → List Entry 
 
   change-place : {e : Entry} {x : Point} → Change c s Made p e x → Place Made p tok c (s .points p) → Place Made p tok c x
   change-place untouched o = o
-  change-place (ran k done r h q hd) o = ran-place k r _ hd o
+  change-place (ran v k done r h q hd) o = ran-place v k r _ hd o
   change-place (left d h hd) o = left-place d _ hd o
   change-place (came i h m pt dst lt nh) o = came-place i _ m pt dst lt
   change-place (let-go d m k g le) o = freed-place d m k g le o

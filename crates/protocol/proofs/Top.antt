@@ -27,7 +27,7 @@ use Rattle.protocol.proofs.Inv.{Inv, honest, run-inv}
 value-step : {plan : Plan} {made : List Packet} {c : ℕ} {s : State} {p : ℕ} {e : Entry} {x : Point} → Honest plan (In made) → s .points p .value ≡ valueAfter plan p (s .points p .past) → Change c s (In made) p e x → x .value ≡ valueAfter plan p (x .past)
 unfolding S.executedPoint S.gavePoint S.tookPoint S.freedPoint valueAfter
 value-step hon ih Logs.untouched = ih
-value-step hon ih (Logs.ran k done r h q hd) = refl
+value-step hon ih (Logs.ran v k done r h q hd) = refl
 value-step hon ih (Logs.left d h hd) = ih
 value-step {plan} hon ih (Logs.came i h m pt dst lt nh) = subst (λ (z : ℕ). i .value ≡ valueAfter plan z (i .past)) pt (hon .images i m .point .value)
 value-step hon ih (Logs.let-go d m k g le) = ih

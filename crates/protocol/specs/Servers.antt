@@ -1,6 +1,6 @@
 -- A server (paper: cabinet) as its log: records, the state that replay makes of them, and what each call decides. The definitions
--- follow those of `model` on numbers instead of bytes; values are over the integers. Two things are added, which no decision reads:
--- an entry's event number, and a point's past, all its executions so far.
+-- follow those of `model` on numbers instead of bytes; values are over the integers. Three things are added, which no decision
+-- reads: an entry's event number, the version that a command was executed by, and a point's past, all its executions so far.
 -- Assumes nothing.
 use Prim.Native.Nat.{ℕ, suc, _+_, max}
 use mathlib.Core.Bool.{Bool, true, false, not, _&&_, _||_}
@@ -17,16 +17,17 @@ use Rattle.model.specs.Limits.{lastPoint, lastServer, last32, clientCount}
 use Rattle.model.specs.Numbers.{signed}
 use Rattle.model.specs.Tables.{every, keep}
 use Rattle.model.specs.Plan.{entryAt}
-use Rattle.model.specs.Images.{idBefore, floorOf}
+use Rattle.model.specs.Images.{idBefore, floorOf, notKnown}
 use Rattle.model.specs.Apply.{raise, mergeFloors, isNotClient}
-use Rattle.model.specs.Sequential.{today, ReadingZ, ResultZ, entryZ, afterZ, ruleZ, opened}
+use Rattle.model.specs.Versions.{Version, Versions}
+use Rattle.model.specs.Sequential.{ReadingZ, ResultZ, entryZ, afterZ, ruleZ, opened}
 
 abbrev pub Plan : Type 0
 Plan = List PlanEntry
 
--- what today's rule makes of a command on a value
-unfoldable pub ruleAt : Plan → Command → ReadingZ → ResultZ
-ruleAt plan k v = ruleZ today (entryZ (entryAt plan (k .point))) (k .op) (signed (k .argument)) v
+-- what a version of its op's rule makes of a command on a value
+unfoldable pub ruleAt : Plan → Version → Command → ReadingZ → ResultZ
+ruleAt plan v k x = ruleZ v (entryZ (entryAt plan (k .point))) (k .op) (signed (k .argument)) x
 
 -- ---- records and images
 
@@ -36,8 +37,9 @@ pub record Completion : Type 0 where
   pub res : ResultZ
   pub place : ℕ
 
--- an execution, with the number of the event that made it
+-- an execution, with the version it was by and the number of the event that made it
 pub record Execution : Type 0 where
+  pub version : Version
   pub cmd : Command
   pub res : ResultZ
   pub at : ℕ
@@ -54,7 +56,7 @@ pub record Image : Type 0 where
   pub past : List Execution  -- all executions of the point so far
 
 pub data LogRecord : Type 0 where
-  executed : Command → ℕ → ResultZ → LogRecord  -- command, done, result
+  executed : Version → Command → ℕ → ResultZ → LogRecord  -- version, command, done, result
   gone : ℕ → ℕ → LogRecord  -- client, time
   gave : ℕ → ℕ → ℕ → LogRecord  -- point, destination, move
   took : Image → LogRecord
@@ -115,15 +117,15 @@ takenRecord n r = record { cmd = r .cmd; res = r .res; place = n }
 
 -- ---- replay: the one way a state changes
 
-unfoldable pub executedPoint : Command → ResultZ → ℕ → Point → Point
-executedPoint k r t x =
+unfoldable pub executedPoint : Version → Command → ResultZ → ℕ → Point → Point
+executedPoint v k r t x =
     record {
       holding = x .holding;
       move = x .move;
       taken = x .taken;
       takenPlace = x .takenPlace;
       value = afterZ r;
-      past = record { cmd = k; res = r; at = t } ∷ x .past;
+      past = record { version = v; cmd = k; res = r; at = t } ∷ x .past;
     }
 
 unfoldable pub gavePoint : ℕ → ℕ → ℕ → Point → Point
@@ -139,10 +141,10 @@ freedPoint x =
 
 -- the record r, appended by event t
 unfoldable pub applyRecord : State → LogRecord → ℕ → State
-applyRecord s (executed k done r) t =
+applyRecord s (executed v k done r) t =
     let fs = raise (k .client) done (s .floors) in
     record {
-      points = atPoint (s .points) (k .point) (executedPoint k r t (s .points (k .point)));
+      points = atPoint (s .points) (k .point) (executedPoint v k r t (s .points (k .point)));
       floors = fs;
       records =
           keep (staysOver (k .client) (floorOf (k .client) fs)) (s .records ++ (record { cmd = k; res = r; place = suc (s .count) } ∷ []));
@@ -289,53 +291,53 @@ unfoldable pub onHeld : ℕ → Asked → Completion → Act
 onHeld mark q r =
     tested ((otherCommand if not (sameCommand r q)) ∷ (notSynced if not (leb (r .place) mark)) ∷ []) (tell (answered (r .cmd) (r .res)))
 
-unfoldable pub executedFor : Plan → State → Asked → LogRecord
-executedFor plan s q = executed (q .cmd) (q .done) (ruleAt plan (q .cmd) (s .points (q .cmd .point) .value))
+unfoldable pub executedFor : Plan → Versions → State → Asked → LogRecord
+executedFor plan v s q = executed (v (q .cmd .op)) (q .cmd) (q .done) (ruleAt plan (v (q .cmd .op)) (q .cmd) (s .points (q .cmd .point) .value))
 
 unfoldable pub noPlace : State → ℕ → Bool
-noPlace s x = eqb (floorOf x (s .floors)) 0 && leb clientCount (length (s .floors))
+noPlace s x = notKnown (floorOf x (s .floors)) && leb clientCount (length (s .floors))
 
 -- an id that is not held: 8 new client and 32 known; 9; else it is executed
-unfoldable pub onNew : Plan → State → Bool → Asked → Act
-onNew plan s room q = tested ((clientsFull if noPlace s (q .cmd .client)) ∷ (logFull if not room) ∷ []) (write (executedFor plan s q))
+unfoldable pub onNew : Plan → Versions → State → Bool → Asked → Act
+onNew plan v s room q = tested ((clientsFull if noPlace s (q .cmd .client)) ∷ (logFull if not room) ∷ []) (write (executedFor plan v s q))
 
-unfoldable pub onId : Plan → State → ℕ → Bool → Asked → Option Completion → Act
-onId plan s mark room q none = onNew plan s room q
-onId plan s mark room q (some r) = onHeld mark q r
+unfoldable pub onId : Plan → Versions → State → ℕ → Bool → Asked → Option Completion → Act
+onId plan v s mark room q none = onNew plan v s room q
+onId plan v s mark room q (some r) = onHeld mark q r
 
 -- 3 point not held; 4 lease end ≤ heard time; 5 call under the floor; then by whether the id is held
-unfoldable pub decideRequest : Plan → State → ℕ → Bool → Asked → Act
-decideRequest plan s mark room q =
+unfoldable pub decideRequest : Plan → Versions → State → ℕ → Bool → Asked → Act
+decideRequest plan v s mark room q =
     tested
     ((notHeld if not (isHeld (s .points (q .cmd .point) .holding)))
     ∷ (leaseOver if leb (q .lease) (s .heard))
     ∷ (underFloor if ltb (q .cmd .call) (floorOf (q .cmd .client) (s .floors)))
     ∷ [])
-    (onId plan s mark room q (find (q .cmd .client) (q .cmd .call) (s .records)))
+    (onId plan v s mark room q (find (q .cmd .client) (q .cmd .call) (s .records)))
 
 -- numbers 3 to 9 also make a refusal packet
-unfoldable pub withPacket : Asked → Act → Act
-withPacket q (refuse n) = deny n (q .cmd .point) (q .cmd .client) (q .cmd .call)
-withPacket q (deny n p x k) = deny n p x k
-withPacket q (tell p) = tell p
-withPacket q (write r) = write r
+unfoldable pub denying : Asked → Act → Act
+denying q (refuse n) = deny n (q .cmd .point) (q .cmd .client) (q .cmd .call)
+denying q (deny n p x k) = deny n p x k
+denying q (tell p) = tell p
+denying q (write r) = write r
 
-unfoldable pub onRequest : Plan → State → ℕ → Bool → Asked → Act
-onRequest plan s mark room q = withPacket q (decideRequest plan s mark room q)
+unfoldable pub onRequest : Plan → Versions → State → ℕ → Bool → Asked → Act
+onRequest plan v s mark room q = denying q (decideRequest plan v s mark room q)
 
 -- ---- Fetch (client, call): 17 none held; 7 not synced; else the result packet
 
-unfoldable pub onFound : ℕ → Option Completion → Act
-onFound mark none = refuse unknown
-onFound mark (some r) = tested ((notSynced if not (leb (r .place) mark)) ∷ []) (tell (answered (r .cmd) (r .res)))
+unfoldable pub onFetched : ℕ → Option Completion → Act
+onFetched mark none = refuse unknown
+onFetched mark (some r) = tested ((notSynced if not (leb (r .place) mark)) ∷ []) (tell (answered (r .cmd) (r .res)))
 
 unfoldable pub onFetch : State → ℕ → ℕ → ℕ → Act
-onFetch s mark x c = onFound mark (find x c (s .records))
+onFetch s mark x c = onFetched mark (find x c (s .records))
 
 -- ---- Notice: 17 client not known; 9
 
 unfoldable pub onNotice : State → Bool → ℕ → ℕ → Act
-onNotice s room x time = tested ((unknown if eqb (floorOf x (s .floors)) 0) ∷ (logFull if not room) ∷ []) (write (gone x time))
+onNotice s room x time = tested ((unknown if notKnown (floorOf x (s .floors))) ∷ (logFull if not room) ∷ []) (write (gone x time))
 
 -- ---- Give (point, destination): 1; 3; 11 destination is this server; 16 move number at its greatest; 9
 

@@ -17,7 +17,7 @@ use Rattle.model.specs.declared.Told.the-variants.{NotTold, ByGrant, ByNotice}
 use Rattle.model.specs.declared.LeaseAnswer.{LeaseAnswer}
 use Rattle.model.specs.Choice.{pick}
 use Rattle.model.specs.Limits.{lastServer, callWindow}
-use Rattle.model.specs.Packets.{commandOf}
+use Rattle.model.specs.Versions.{Versions}
 use Rattle.model.specs.Sequential.{ResultZ}
 use Rattle.model.specs.Clients.{noCall, callAt, isOwn, closed, withLease, issueOf, resendOf}
 use Rattle.model.specs.Leases.{newManager, openOf, renewOf, queryOf}
@@ -51,7 +51,7 @@ pub record World : Type 0 where
 pub data Event : Type 0 where
   idle : Event  -- any call that changes nothing and makes nothing: refused with 1, 2 or 19, or with no party to take it
   found : ℕ → Event  -- server
-  request : ℕ → ℕ → Bool → Event  -- server, packet, room
+  request : ℕ → ℕ → Versions → Bool → Event  -- server, packet, versions, room
   fetch : ℕ → ℕ → ℕ → Event  -- server, client, call
   sync : ℕ → ℕ → Event  -- server, whole records at or under the new mark
   notice : ℕ → ℕ → Bool → Event  -- server, packet, room
@@ -143,14 +143,14 @@ module _ (plan : Plan) where
   unfoldable pub at : World → ℕ → Act → World
   at w c a = pick (w .servers c .founded && w .servers c .up) (acted w c a) w
 
-  unfoldable pub asRequest : World → ℕ → Bool → Packet → World
-  asRequest w c room (S.request q) = at w c (onRequest plan (stateOf w c) (w .servers c .mark) room q)
-  asRequest w c room (S.answered k r) = w
-  asRequest w c room (S.refusal n p x k) = w
-  asRequest w c room (S.receipt p d m) = w
-  asRequest w c room (S.notice x t) = w
-  asRequest w c room (S.grant x t) = w
-  asRequest w c room (S.image i) = w
+  unfoldable pub asRequest : World → ℕ → Versions → Bool → Packet → World
+  asRequest w c v room (S.request q) = at w c (onRequest plan v (stateOf w c) (w .servers c .mark) room q)
+  asRequest w c v room (S.answered k r) = w
+  asRequest w c v room (S.refusal n p x k) = w
+  asRequest w c v room (S.receipt p d m) = w
+  asRequest w c v room (S.notice x t) = w
+  asRequest w c v room (S.grant x t) = w
+  asRequest w c v room (S.image i) = w
 
   unfoldable pub asNotice : World → ℕ → Bool → Packet → World
   asNotice w c room (S.request q) = w
@@ -213,7 +213,7 @@ commandAt d c =
 
 -- what a request packet asks
 unfoldable pub askedIn : Request → S.Asked
-askedIn q = record { cmd = commandOf q; done = q .done; lease = q .lease }
+askedIn q = record { cmd = q .command; done = q .done; lease = q .lease }
 
 abbrev pub newClient : ℕ → ℕ → Client
 newClient x t = record { client = x; lease = t; next = 1; calls = replicate callWindow noCall }
@@ -230,7 +230,7 @@ asStart w (S.image i) = w
 
 unfoldable pub issuing : World → ℕ → SendAnswer → World
 issuing w x a =
-    elim (a .answer) [ NotSent n ↦ w | Asked q ↦ seeing (issued (commandOf q)) (making (S.request (askedIn q)) (withClient x (a .client) w)) ]
+    elim (a .answer) [ NotSent n ↦ w | Asked q ↦ seeing (issued (q .command)) (making (S.request (askedIn q)) (withClient x (a .client) w)) ]
 
 unfoldable pub asIssue : World → ℕ → ℕ → ℕ → ℕ → World
 asIssue w x o p a = elim (w .clients x) [ none ↦ w | some d ↦ issuing w x (issueOf d o p a) ]
@@ -274,7 +274,7 @@ module _ (plan : Plan) where
   unfoldable pub change : World → Event → World
   change w idle = w
   change w (found c) = founded plan w c
-  change w (request c n room) = deliver w n (asRequest plan w c room)
+  change w (request c n v room) = deliver w n (asRequest plan w c v room)
   change w (fetch c x k) = at plan w c (onFetch (stateOf plan w c) (w .servers c .mark) x k)
   change w (sync c m) = synced plan w c m
   change w (notice c n room) = deliver w n (asNotice plan w c room)

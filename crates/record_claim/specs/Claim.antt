@@ -5,46 +5,47 @@ use Prim.Native.Nat.{ℕ}
 use mathlib.Core.Path.{_≡_}
 use mathlib.Core.List.{List, []}
 use mathlib.Core.Option.{Option, none, some}
-use Rattle.model.specs.declared.CommandResult.{CommandResult}
 use Rattle.model.specs.declared.Command.{Command}
 use Rattle.model.specs.declared.Request.{Request}
 use Rattle.model.specs.declared.Packet.the-variants.{Requested}
-use Rattle.model.specs.Sequential.{Marked}
-use Rattle.model.specs.Packets.{parsePacket, commandOf}
+use Rattle.model.specs.Versions.{Versions}
+use Rattle.model.specs.Sequential.{Marked, markedBy, OrderEntry, EntryResult}
+use Rattle.model.specs.Packets.{parsePacket}
 use Rattle.model.specs.States.{State}
 use Rattle.model.specs.Decisions.{onRequest}
 use Rattle.claim.specs.World.{packet}
-use Rattle.claim.specs.Claim.{versionAt, IssuesBy, CompletesBy, SurvivesAtBy, Account, ExplainedBy}
+use Rattle.claim.specs.Claim.{IssuesBy, CompletesBy, SurvivesAtBy, Account, ExplainedBy}
 use Rattle.record_claim.specs.World.{Event, request, crash, issue, receive, Log, Server, nothing, running, crashed, callOf, recoveredFrom, run, after}
 use Rattle.record_claim.specs.Provisos.{Provisos, At, lengthOf}
 
 module _ (plan : List ℕ) (es : List Event) where
-  -- event n issues k
-  abbrev pub Issues : ℕ → Command → Type 0
+  -- event n issues ks
+  abbrev pub Issues : ℕ → List Command → Type 0
   Issues = IssuesBy (after es) (λ n x op p a. At plan es n (issue x op p a))
 
-  -- event n completes k, with the result r
-  abbrev pub Completes : ℕ → Command → CommandResult → Type 0
+  -- event n completes ks, with the result r
+  abbrev pub Completes : ℕ → List Command → EntryResult → Type 0
   Completes = CompletesBy (after es) (λ n x p. At plan es n (receive x p))
 
-  -- "A Request of it that gives neither number nor packet executes it": event n executes k at server c
-  pub record Executes (n c : ℕ) (k : Command) : Type 0 where
+  -- "A Request of it that gives neither number nor packet executes it": event n executes m at server c
+  pub record Executes (n c : ℕ) (m : Marked) : Type 0 where
     pub number : ℕ
+    pub versions : Versions
     pub room : ℕ
-    pub event : At plan es n (request c number room)
+    pub event : At plan es n (request c number versions room)
     pub state : State
     pub log : Log
     pub up : after es n .servers c ≡ running state log
     pub bytes : List ℕ
     pub delivered : packet (after es n) number ≡ some bytes
-    pub no-number : callOf state log room (λ st free. onRequest st free (parsePacket bytes)) .number ≡ 0
-    pub no-packet : callOf state log room (λ st free. onRequest st free (parsePacket bytes)) .made ≡ []
+    pub no-number : callOf state log room (λ st free. onRequest versions st free (parsePacket bytes)) .number ≡ 0
+    pub no-packet : callOf state log room (λ st free. onRequest versions st free (parsePacket bytes)) .made ≡ []
     pub asked : Request
     pub parsed : parsePacket bytes ≡ Requested asked
-    pub its : commandOf asked ≡ k
+    pub its : markedBy versions (asked .command) ≡ m
 
-  -- event n executes k, and that execution survives
-  abbrev pub SurvivesAt : ℕ → Command → Type 0
+  -- event n executes m, and that execution survives
+  abbrev pub SurvivesAt : ℕ → Marked → Type 0
   SurvivesAt = SurvivesAtBy Executes (λ n c b. At plan es n (crash c b)) (λ n c. lengthOf (after es n .servers c))
 
   -- "until it succeeds, or if the list ends first, the cabinet counts with the state that Recover gives from these"
@@ -67,15 +68,14 @@ module _ (plan : List ℕ) (es : List Event) where
         Issues = Issues;
         Completes = Completes;
         SurvivesAt = SurvivesAt;
-        version = versionAt es;
         final = finalState;
         Recovers = Recovers;
       }
 
   -- the order explains the schedule
-  abbrev pub Explains : List Marked → Type 0
+  abbrev pub Explains : List OrderEntry → Type 0
   Explains = ExplainedBy plan account
 
 -- the claim
 unfoldable pub Demand3 : Type 0
-Demand3 = (plan : List ℕ) (es : List Event) → Provisos plan es → (order : List Marked) × Explains plan es order
+Demand3 = (plan : List ℕ) (es : List Event) → Provisos plan es → (order : List OrderEntry) × Explains plan es order

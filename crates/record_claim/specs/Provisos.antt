@@ -14,30 +14,30 @@ use Rattle.model.specs.Numbers.{word}
 use Rattle.model.specs.States.{State}
 use Rattle.model.specs.Clients.{startOf}
 use Rattle.claim.specs.World.{packet}
-use Rattle.claim.specs.Provisos.{Slice}
+use Rattle.claim.specs.Provisos.{Bytes}
 use Rattle.record_claim.specs.World.{Event, found, request, fetch, sync, notice, give, image, take·image, receipt, release, recover, crash, start, issue, resend, receive, open·lease, renew, query, Log, Server, nothing, running, crashed, foundOf, recoverOf, keptBy, after}
 
--- a plan is a slice of bytes; the length of a lent log is counted by a machine's address; numbers have 32 bits, a mark 64
+-- what the interface's types say and the conclusion needs, as over bytes
 unfoldable pub Typed : Event → Type 0
-Typed (found c plan n) = Slice plan × (n < word)
-Typed (request c p room) = room < word * word
-Typed (fetch c x k room) = (room < word * word) × (x < word) × (k < word)
-Typed (sync c m room) = (room < word * word) × (m < word * word)
+Typed (found c plan n) = Bytes plan
+Typed (request c p v room) = room < word * word
+Typed (fetch c x k room) = room < word * word
+Typed (sync c m room) = room < word * word
 Typed (notice c p room) = room < word * word
-Typed (give c p d room) = (room < word * word) × (p < word) × (d < word)
-Typed (image c p room) = (room < word * word) × (p < word)
+Typed (give c p d room) = room < word * word
+Typed (image c p room) = room < word * word
 Typed (take·image c p room) = room < word * word
-Typed (receipt c p room) = (room < word * word) × (p < word)
+Typed (receipt c p room) = room < word * word
 Typed (release c p room) = room < word * word
-Typed (recover c plan) = Slice plan
+Typed (recover c plan) = Unit
 Typed (crash c k) = Unit
 Typed (start p) = Unit
-Typed (issue x op p a) = (op < 256) × (p < 256) × (a < word)
-Typed (resend x c) = c < word
+Typed (issue x op p a) = Unit
+Typed (resend x c) = Unit
 Typed (receive x p) = Unit
-Typed (open·lease t span) = (t < word) × (span < word)
-Typed (renew x t span) = (x < word) × (t < word) × (span < word)
-Typed (query x t) = (x < word) × (t < word)
+Typed (open·lease t span) = t < word
+Typed (renew x t span) = t < word
+Typed (query x t) = t < word
 
 -- the sync mark and the length in bytes of a server's log
 unfoldable pub markOf : Server → ℕ

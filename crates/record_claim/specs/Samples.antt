@@ -4,6 +4,7 @@ use Prim.Native.Nat.{ℕ}
 use mathlib.Core.List.{List, [], _∷_}
 use mathlib.Core.Option.{Option, none, some}
 use lib.ListN.{length}
+use Rattle.model.specs.Versions.{today}
 use Rattle.model.specs.Yard.{yardPlan}
 use Rattle.record_claim.specs.World.{Event, found, request, sync, give, image, take·image, receipt, release, recover, crash, open·lease, start, issue, receive, Log, World, keptBy, step, emptyWorld}
 use Rattle.record_claim.specs.Provisos.{lengthOf, markOf}
@@ -16,19 +17,19 @@ lost =
     ∷ open·lease 0 1000
     ∷ start 0
     ∷ issue 1 1 5 2147483688
-    ∷ request 0 1 100
-    ∷ request 0 1 100
+    ∷ request 0 1 today 100
+    ∷ request 0 1 today 100
     ∷ crash 0 35
     ∷ recover 0 yardPlan
-    ∷ request 0 1 100
+    ∷ request 0 1 today 100
     ∷ crash 0 36
     ∷ recover 0 yardPlan
-    ∷ request 0 1 100
+    ∷ request 0 1 today 100
     ∷ receive 1 3
     ∷ issue 1 2 5 2147483649
-    ∷ request 0 4 35
-    ∷ request 0 4 63
-    ∷ request 0 4 64
+    ∷ request 0 4 today 35
+    ∷ request 0 4 today 63
+    ∷ request 0 4 today 64
     ∷ []
 
 -- point 5 moves from server 0 to server 1 with its record: a repeat there is told once the take is synced, and server 0 releases the point
@@ -39,15 +40,15 @@ moved =
     ∷ open·lease 0 1000
     ∷ start 0
     ∷ issue 1 1 5 2147483688
-    ∷ request 0 1 100
+    ∷ request 0 1 today 100
     ∷ give 0 5 1 100
     ∷ sync 0 44 100
     ∷ image 0 5 100
     ∷ take·image 1 2 200
     ∷ take·image 1 2 200
-    ∷ request 1 1 200
+    ∷ request 1 1 today 200
     ∷ sync 1 92 200
-    ∷ request 1 1 200
+    ∷ request 1 1 today 200
     ∷ receipt 1 5 200
     ∷ release 0 5 100
     ∷ []

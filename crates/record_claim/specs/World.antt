@@ -8,11 +8,12 @@ use mathlib.Core.List.{List, [], _∷_, _++_}
 use mathlib.Core.Option.{Option, none, some}
 use lib.ListN.{take}
 use lib.Dec.{leb, ltb}
-use Rattle.model.specs.Choice.{pick, refuse, deny, reply, append, marks, _if_else_}
+use Rattle.model.specs.Choice.{pick, refuse, deny, reply, append, marks}
 use Rattle.model.specs.Refusals.{unsound}
 use Rattle.model.specs.Limits.{lastServer}
 use Rattle.model.specs.Tables.{keep}
 use Rattle.model.specs.Plan.{planOk, planOf}
+use Rattle.model.specs.Versions.{Versions}
 use Rattle.model.specs.Packets.{parsePacket}
 use Rattle.model.specs.Images.{parseImage}
 use Rattle.model.specs.Logs.{Entry, recordSize}
@@ -46,7 +47,7 @@ World = WorldOf Server
 -- as in `claim`, with `room`, the number of bytes of the lent log slice, for what a call is lent
 pub data Event : Type 0 where
   found : ℕ → List ℕ → ℕ → Event  -- server, plan, server number
-  request : ℕ → ℕ → ℕ → Event  -- server, packet, room
+  request : ℕ → ℕ → Versions → ℕ → Event  -- server, packet, versions, room
   fetch : ℕ → ℕ → ℕ → ℕ → Event  -- server, client, call, room
   sync : ℕ → ℕ → ℕ → Event  -- server, mark, room
   notice : ℕ → ℕ → ℕ → Event  -- server, packet, room
@@ -89,7 +90,7 @@ settle st log (marks m) = record { number = 0; made = []; state = withMark m st;
 
 -- 19 the log slice is shorter than its recorded length; else what the operation decides, by the state and the space left in the log
 unfoldable pub callOf : State → Log → ℕ → (State → ℕ → Decided) → Left
-callOf st log room d = settle st log (unsound if ltb room (st .size) else d st (room - st .size))
+callOf st log room d = settle st log (pick (ltb room (st .size)) (refuse unsound) (d st (room - st .size)))
 
 -- a call; a server that is not running takes no call but found and recover
 unfoldable pub calls : ℕ → ℕ → (State → ℕ → Decided) → Server → World → World
@@ -150,7 +151,7 @@ crashAt c k (crashed log n mark) w = withServer c (crashed (cutAt k log) k mark)
 
 unfoldable pub step : World → Event → World
 step w (found c plan n) = founds c n (foundOf plan n) w
-step w (request c p room) = callsOn c room (λ b st free. onRequest st free (parsePacket b)) (packet w p) w
+step w (request c p v room) = callsOn c room (λ b st free. onRequest v st free (parsePacket b)) (packet w p) w
 step w (fetch c x k room) = calls c room (λ st free. onFetch st x k) (w .servers c) w
 step w (sync c m room) = calls c room (λ st free. onSync st m) (w .servers c) w
 step w (notice c p room) = callsOn c room (λ b st free. onNotice st free (parsePacket b)) (packet w p) w

@@ -1,11 +1,11 @@
 -- A call of a server leaves both worlds alike.
---     blank-length, blank-bytes, blank-slice, lent-ok     what the calls are lent
+--     blank-length, blank-bytes     what the calls are lent
 --     settled-alike            every decision, carried out in both
 --     call-left                a call of a running server with memory enough: the answer, what was made, and the server
 --     call-alike               the worlds after a call
 --     lent-whole, lent-room, room-for     the memory that the encoding lends
 -- Assumes nothing.
-use Prim.Native.Nat.{ℕ, _+_, _-_, _*_, _≤_, _<_}
+use Prim.Native.Nat.{ℕ, _+_, _-_, _≤_, _<_}
 use mathlib.Core.Path.{_≡_, refl, sym, _∙_, ap, subst}
 use mathlib.Core.Bool.{Bool, true, false, _||_}
 use mathlib.Core.List.{List, [], _∷_, _++_}
@@ -15,15 +15,14 @@ use lib.Dec.{ltb}
 use borrow.Author.Tests.{ltb-false, lt-ltb}
 use lib.ListN.{length, length-take, length-append, length-replicate}
 use Rattle.model.specs.declared.PlanEntry.{PlanEntry}
-use Rattle.model.specs.Choice.{pick, refuse, deny, reply, append, marks}
+use Rattle.model.specs.Choice.{pick, refuse, deny, reply, append, marks, unlessRefused}
 use Rattle.model.specs.Refusals.{tooShort, unsound}
-use Rattle.model.specs.Numbers.{word}
-use Rattle.model.specs.Limits.{stateSize, greatestImage}
+use Rattle.model.specs.Limits.{stateSize}
 use Rattle.model.specs.Logs.{LogRecord, Entry, recordSize}
 use Rattle.model.specs.States.{State, load}
 use Rattle.model.specs.Apply.{apply, replay, withMark}
 use Rattle.model.specs.Decisions.{Decided}
-use Rattle.model.specs.Operations.{After, short, unfit, settle, lent, freeIn}
+use Rattle.model.specs.Operations.{After, short, unfit, settle, lentRefusal, lent, freeIn}
 use Rattle.laws.specs.Bytes.{Bytes}
 use Rattle.laws.proofs.Tables.{bytes-replicate}
 use Rattle.limits.specs.Sound.{Sound}
@@ -34,8 +33,7 @@ use Rattle.sim_bytes.proofs.Facts.{holds-sound, holds-recorded, holds-next}
 use Rattle.sim_bytes.proofs.Settled.{refuses, called-whole}
 use Rattle.claim.specs.World.{lentState, lentLog, stateBack, logBack}
 use Rattle.claim.specs.World as B
-use Rattle.claim.specs.Provisos.{Slice, LentOk}
-use Rattle.claim.specs.Provisos as BP
+use Rattle.claim.specs.Provisos.{Counted}
 use Rattle.record_claim.specs.World as R
 use Rattle.record_safety.specs.Encoded.{blank, lentFor}
 use Rattle.record_safety.specs.Stands.{RoomFor}
@@ -51,14 +49,6 @@ blank-length n = length-replicate n 0
 pub blank-bytes : (n : ℕ) → Bytes (blank n)
 unfolding blank
 blank-bytes n = bytes-replicate n
-
-pub blank-slice : (n : ℕ) → n < word * word → Slice (blank n)
-unfolding BP.Bytes
-blank-slice n h = record { bytes = blank-bytes n; counted = rw (blank-length n) h }
-
-pub lent-ok : (room : ℕ) → room < word * word → LentOk (lentFor room)
-unfolding BP.Bytes
-lent-ok room h = record { counted = h; tail = blank-bytes room; out = blank-slice greatestImage (omega arith) }
 
 -- the lent log has `room` bytes
 pub lent-room : (room : ℕ) (log : List ℕ) → length (lentLog (lentFor room) log) ≡ room
@@ -119,7 +109,7 @@ module _ {plan : List PlanEntry} {c : ℕ} {log : R.Log} {state bytes : List ℕ
 
 -- an operation on bytes, by what it decides
 module _ (f : List ℕ → List ℕ → After) (out : List ℕ) (need : ℕ) (d : State → ℕ → Decided) (does : Performs f out need d)
-    (terms : (st : State) (free : ℕ) → Sound st → Admissible st free need (d st free)) (t : B.Lent) (ok : LentOk t) where
+    (terms : (st : State) (free : ℕ) → Sound st → Admissible st free need (d st free)) (t : B.Lent) (ok : Counted t) where
   module _ {plan : List PlanEntry} {c : ℕ} {log : R.Log} {state bytes : List ℕ} (K : RunningAlike plan c (load state) log state bytes) where
     abbrev s : List ℕ
     s = lentState t state
@@ -139,11 +129,11 @@ module _ (f : List ℕ → List ℕ → After) (out : List ℕ) (need : ℕ) (d 
 
     -- too little memory: 2
     left-short : (length s < stateSize) ⊎ (length out < need) → Says t state bytes (f s g) tooShort []
-    unfolding Performs lent settle short
+    unfolding Performs lent lentRefusal unlessRefused settle short
     left-short e = subst (λ (x : After). Says t state bytes x tooShort []) (sym (does s g)) (go (ltb (length s) stateSize) (ltb (length out) need) refl refl e)
       where
         go : (p q : Bool) → ltb (length s) stateSize ≡ p → ltb (length out) need ≡ q → (length s < stateSize) ⊎ (length out < need)
-            → Says t state bytes (settle s g out (pick (p || q) (refuse tooShort) (pick (unfit s g) (refuse unsound) (d (load s) (freeIn s g))))) tooShort []
+            → Says t state bytes (settle s g out (unlessRefused (pick (p || q) tooShort (pick (unfit s g) unsound 0)) (d (load s) (freeIn s g)))) tooShort []
         go true q x y e = refuses (K .holds) t tooShort out
         go false true x y e = refuses (K .holds) t tooShort out
         go false false x y (inl h) = absurd (omega (arith, ltb-false (length s) stateSize x))

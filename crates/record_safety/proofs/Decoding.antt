@@ -27,7 +27,7 @@ use Rattle.sim_bytes.proofs.Starts.{recover-passed}
 use Rattle.safety_steps.specs.Allowed as Bytes
 use Rattle.claim.specs.World.{Lent, lentState, lentLog}
 use Rattle.claim.specs.World as B
-use Rattle.claim.specs.Provisos.{Slice, LentOk}
+use Rattle.claim.specs.Provisos.{Counted}
 use Rattle.claim.specs.Provisos as BP
 use Rattle.record_claim.specs.World as R
 use Rattle.record_claim.specs.Provisos.{Typed}
@@ -67,24 +67,24 @@ module _ (t : Lent) (out : List ℕ) (need : ℕ) where
       go false e false f = inl (ltb-false _ _ e, ltb-false _ _ f, refl)
   room-stands (crashed K) = tt
 
-  room-counted : (y : B.Server) → LentOk t → roomOf y t out need < word * word
+  room-counted : (y : B.Server) → Counted t → roomOf y t out need < word * word
   unfolding roomOf lentLog
   room-counted B.nothing ok = lit< tt
   room-counted (B.running state log) ok = go (short (lentState t state) stateSize || short out need)
     where
       go : (p : Bool) → pick p 0 (length (lentLog t log)) < word * word
       go true = lit< tt
-      go false = omega (arith, ok .counted, length-take (t .log) (log ++ t .tail))
+      go false = omega (arith, ok, length-take (t .log) (log ++ t .tail))
   room-counted (B.crashed kept mark) ok = lit< tt
 
 -- a plan, or none
-plan-slice : (a : After) (p : List ℕ) → Slice p → Slice (planIf a p)
+plan-bytes : (a : After) (p : List ℕ) → BP.Bytes p → BP.Bytes (planIf a p)
 unfolding planIf BP.Bytes
-plan-slice a p s = go (eqb (a .answer .number) 0)
+plan-bytes a p s = go (eqb (a .answer .refusal) 0)
   where
-    go : (t : Bool) → Slice (pick t p [])
+    go : (t : Bool) → BP.Bytes (pick t p [])
     go true = s
-    go false = record { bytes = bytes-nil; counted = lit< tt }
+    go false = bytes-nil
 
 module _ (plan : List ℕ) {r : R.World} {b : B.World} (l : WorldAlike (planOf plan) r b) where
   -- ---- they do the same
@@ -92,15 +92,15 @@ module _ (plan : List ℕ) {r : R.World} {b : B.World} (l : WorldAlike (planOf p
   found-stands : (c : ℕ) (state log p : List ℕ) (n : ℕ) → Bytes.Keeps plan b (B.found c state log p n)
       → Stands plan r b (R.found c (planIf (foundOf state log p n) p) n) (B.found c state log p n)
   unfolding Bytes.Keeps planIf
-  found-stands c state log p n a = go (eqb (foundOf state log p n .answer .number) 0) refl
+  found-stands c state log p n a = go (eqb (foundOf state log p n .answer .refusal) 0) refl
     where
-      go : (t : Bool) → eqb (foundOf state log p n .answer .number) 0 ≡ t → Stands plan r b (R.found c (pick t p []) n) (B.found c state log p n)
+      go : (t : Bool) → eqb (foundOf state log p n .answer .refusal) 0 ≡ t → Stands plan r b (R.found c (pick t p []) n) (B.found c state log p n)
       go true e =
-          let z : foundOf state log p n .answer .number ≡ 0 = eqb-true _ _ e in
+          let z : foundOf state log p n .answer .refusal ≡ 0 = eqb-true _ _ e in
           let f = a z in
-          let y : foundOf state log plan c .answer .number ≡ 0
-          = subst (λ (q : List ℕ). foundOf state log q c .answer .number ≡ 0) (f .one-plan)
-          (subst (λ (m : ℕ). foundOf state log p m .answer .number ≡ 0) (f .own-number) z) in
+          let y : foundOf state log plan c .answer .refusal ≡ 0
+          = subst (λ (q : List ℕ). foundOf state log q c .answer .refusal ≡ 0) (f .one-plan)
+          (subst (λ (m : ℕ). foundOf state log p m .answer .refusal ≡ 0) (f .own-number) z) in
           subst (λ (m : ℕ). Stands plan r b (R.found c p m) (B.found c state log p m)) (sym (f .own-number))
           (subst (λ (q : List ℕ). Stands plan r b (R.found c q c) (B.found c state log q c)) (sym (f .one-plan)) (Stands.founds c state log y))
       go false e = Stands.not-found c [] n state log p n (none-found n) (eqb-false _ _ e)
@@ -108,11 +108,11 @@ module _ (plan : List ℕ) {r : R.World} {b : B.World} (l : WorldAlike (planOf p
   recover-stands : (c : ℕ) (state log p : List ℕ) → Bytes.Keeps plan b (B.recover c state log p)
       → Stands plan r b (R.recover c (planIf (recoverOf state log p) p)) (B.recover c state log p)
   unfolding Bytes.Keeps planIf
-  recover-stands c state log p a = go (eqb (recoverOf state log p .answer .number) 0) refl
+  recover-stands c state log p a = go (eqb (recoverOf state log p .answer .refusal) 0) refl
     where
-      go : (t : Bool) → eqb (recoverOf state log p .answer .number) 0 ≡ t → Stands plan r b (R.recover c (pick t p [])) (B.recover c state log p)
+      go : (t : Bool) → eqb (recoverOf state log p .answer .refusal) 0 ≡ t → Stands plan r b (R.recover c (pick t p [])) (B.recover c state log p)
       go true e =
-          let z : recoverOf state log p .answer .number ≡ 0 = eqb-true _ _ e in
+          let z : recoverOf state log p .answer .refusal ≡ 0 = eqb-true _ _ e in
           let f = a z in
           let k = recover-passed state log p z in
           subst (λ (q : List ℕ). Stands plan r b (R.recover c q) (B.recover c state log q)) (sym (f .one-plan))
@@ -125,7 +125,7 @@ module _ (plan : List ℕ) {r : R.World} {b : B.World} (l : WorldAlike (planOf p
   pub decoded-stands : (y : B.Event) → Bytes.Keeps plan b y → Stands plan r b (decoded b y) y
   unfolding decoded Bytes.Keeps
   decoded-stands (B.found c state log p n) a = found-stands c state log p n a
-  decoded-stands (B.request c p t) a = Stands.request c p _ t (room c t (t .out) resultSize)
+  decoded-stands (B.request c p vs t) a = Stands.request c p vs _ t (room c t (t .out) resultSize)
   decoded-stands (B.fetch c x n t) a = Stands.fetch c x n _ t (room c t (t .out) resultSize)
   decoded-stands (B.sync c m t) a = Stands.sync c m _ t (room c t [] 0)
   decoded-stands (B.notice c p t) a = Stands.notice c p _ t (room c t [] 0)
@@ -149,17 +149,17 @@ module _ (plan : List ℕ) {r : R.World} {b : B.World} (l : WorldAlike (planOf p
 
   pub decoded-typed : (y : B.Event) → BP.Typed y → Typed (decoded b y)
   unfolding decoded Typed BP.Typed
-  decoded-typed (B.found c state log p n) t = (plan-slice (foundOf state log p n) p (t .2), t .3)
-  decoded-typed (B.request c p u) t = room-counted u (u .out) resultSize (b .servers c) t
-  decoded-typed (B.fetch c x n u) t = (room-counted u (u .out) resultSize (b .servers c) (t .0), t .1, t .2)
-  decoded-typed (B.sync c m u) t = (room-counted u [] 0 (b .servers c) (t .0), t .1)
+  decoded-typed (B.found c state log p n) t = plan-bytes (foundOf state log p n) p (t .1)
+  decoded-typed (B.request c p vs u) t = room-counted u (u .out) resultSize (b .servers c) t
+  decoded-typed (B.fetch c x n u) t = room-counted u (u .out) resultSize (b .servers c) t
+  decoded-typed (B.sync c m u) t = room-counted u [] 0 (b .servers c) t
   decoded-typed (B.notice c p u) t = room-counted u [] 0 (b .servers c) t
-  decoded-typed (B.give c p d u) t = (room-counted u [] 0 (b .servers c) (t .0), t .1, t .2)
-  decoded-typed (B.image c p u) t = (room-counted u (u .out) greatestImage (b .servers c) (t .0), t .1)
+  decoded-typed (B.give c p d u) t = room-counted u [] 0 (b .servers c) t
+  decoded-typed (B.image c p u) t = room-counted u (u .out) greatestImage (b .servers c) t
   decoded-typed (B.take·image c p u) t = room-counted u [] 0 (b .servers c) t
-  decoded-typed (B.receipt c p u) t = (room-counted u (u .out) receiptSize (b .servers c) (t .0), t .1)
+  decoded-typed (B.receipt c p u) t = room-counted u (u .out) receiptSize (b .servers c) t
   decoded-typed (B.release c p u) t = room-counted u [] 0 (b .servers c) t
-  decoded-typed (B.recover c state log p) t = plan-slice (recoverOf state log p) p (t .2)
+  decoded-typed (B.recover c state log p) t = tt
   decoded-typed (B.crash c n) t = tt
   decoded-typed (B.start p) t = tt
   decoded-typed (B.issue x op p n) t = t
@@ -172,25 +172,25 @@ module _ (plan : List ℕ) {r : R.World} {b : B.World} (l : WorldAlike (planOf p
   found-ok : (c : ℕ) (state log p : List ℕ) (n : ℕ) → Bytes.Keeps plan b (B.found c state log p n) → (st : State)
       → R.foundOf (planIf (foundOf state log p n) p) n ≡ some st → FoundOk plan r c (planIf (foundOf state log p n) p) n
   unfolding Bytes.Keeps planIf
-  found-ok c state log p n a st = go (eqb (foundOf state log p n .answer .number) 0) refl
+  found-ok c state log p n a st = go (eqb (foundOf state log p n .answer .refusal) 0) refl
     where
-      go : (t : Bool) → eqb (foundOf state log p n .answer .number) 0 ≡ t → R.foundOf (pick t p []) n ≡ some st → FoundOk plan r c (pick t p []) n
+      go : (t : Bool) → eqb (foundOf state log p n .answer .refusal) 0 ≡ t → R.foundOf (pick t p []) n ≡ some st → FoundOk plan r c (pick t p []) n
       go true e s = let f = a (eqb-true _ _ e) in record { one-plan = f .one-plan; own-number = f .own-number; once = nothing-back (l .servers c) (f .once) }
       go false e s = let k = none-found n in let z : _≡_ {A = ℕ} 0 1 = cc in absurd (omega arith)
 
   recover-ok : (c : ℕ) (state log p : List ℕ) → Bytes.Keeps plan b (B.recover c state log p) → (g : R.Log) (st : State)
       → R.recoverOf (planIf (recoverOf state log p) p) g ≡ some st → planIf (recoverOf state log p) p ≡ plan
   unfolding Bytes.Keeps planIf
-  recover-ok c state log p a g st = go (eqb (recoverOf state log p .answer .number) 0) refl
+  recover-ok c state log p a g st = go (eqb (recoverOf state log p .answer .refusal) 0) refl
     where
-      go : (t : Bool) → eqb (recoverOf state log p .answer .number) 0 ≡ t → R.recoverOf (pick t p []) g ≡ some st → pick t p [] ≡ plan
+      go : (t : Bool) → eqb (recoverOf state log p .answer .refusal) 0 ≡ t → R.recoverOf (pick t p []) g ≡ some st → pick t p [] ≡ plan
       go true e s = a (eqb-true _ _ e) .one-plan
       go false e s = let k = none-recovered g in let z : _≡_ {A = ℕ} 0 1 = cc in absurd (omega arith)
 
   pub decoded-keeps : (y : B.Event) → Bytes.Keeps plan b y → Keeps plan r (decoded b y)
   unfolding decoded Keeps Bytes.Keeps
   decoded-keeps (B.found c state log p n) a = found-ok c state log p n a
-  decoded-keeps (B.request c p t) a = tt
+  decoded-keeps (B.request c p vs t) a = tt
   decoded-keeps (B.fetch c x n t) a = tt
   decoded-keeps (B.sync c m t) a = tt
   decoded-keeps (B.notice c p t) a = tt

@@ -60,10 +60,10 @@ module _ (plan : List ℕ) (es : List R.Event) (P : Provisos plan es) where
           (replay (planOf plan) c (g .entries), sym (recovered-either (K .number) (K .keeps) plan) ∙ recovered-kept (K .keeps))
 
 pub demand3-records : RC.Demand3
-unfolding RC.Demand3 BC.Demand3 BC.versionAt
+unfolding RC.Demand3 BC.Demand3
 demand3-records plan es P =
     let x = demand3 plan (schedule es) (provisos-there plan (along-there plan es P)) in (
       x .0,
       explained-too plan (RC.account plan es) (BC.account plan (schedule es)) (issues-there plan es P) (completes-there plan es P) (survives-there plan es P)
-          (survives-here plan es P) (λ n op. refl) (same-final plan es P) (recovers-end plan es P) (x .0) (x .1),
+          (survives-here plan es P) (same-final plan es P) (recovers-end plan es P) (x .0) (x .1),
     )

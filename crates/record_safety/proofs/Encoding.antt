@@ -2,32 +2,30 @@
 --     encoded-stands           they do the same
 --     encoded-typed, encoded-keeps     the provisos of the byte event
 -- Assumes nothing.
-use Prim.Native.Nat.{ℕ, _≤_, _<_}
+use Prim.Native.Nat.{ℕ, _≤_}
 use mathlib.Core.Path.{_≡_, refl, sym, _∙_, ap, subst}
 use mathlib.Core.Bool.{Bool, true, false, _||_, not}
 use mathlib.Core.List.{List, []}
 use mathlib.Core.Logic.{_⊎_, inl, inr, _≢_}
 use mathlib.Core.Option.{Option, none, some}
 use native.Mathlib.Omega.{arith}
-use lib.Dec.{ltb, lit≤, lit<}
+use lib.Dec.{ltb, lit≤}
 use Rattle.model.specs.declared.PlanEntry.{PlanEntry}
 use Rattle.model.specs.declared.Client.{Client}
-use Rattle.model.specs.Choice.{pick}
+use Rattle.model.specs.Choice.{pick, refuse}
 use Rattle.model.specs.Limits.{lastServer, stateSize, headSize, resultSize, receiptSize, greatestImage}
 use Rattle.model.specs.Tables.{written}
 use Rattle.model.specs.Plan.{planOk, planOf}
 use Rattle.model.specs.Logs.{headBytes, headOk}
 use Rattle.model.specs.States.{State}
 use Rattle.model.specs.Apply.{founded}
-use Rattle.model.specs.Operations.{After, answerOf, after, short, stored, foundOf, recoverOf, recoveredState, settleRecovered}
+use Rattle.model.specs.Operations.{After, answerOf, after, settle, stored, leftUnless, foundRefusal, foundOf, recoverRefusal, recoverOf, recoveredState, settleRecovered}
 use Rattle.model.specs.Clients.{startOf}
-use Rattle.laws.proofs.Numbers.{bytes-nil}
 use Rattle.simulation.specs.Holds.{Kept}
-use Rattle.sim_bytes.proofs.Facts.{holds-fits, holds-size, holds-bytes}
 use Rattle.sim_bytes.proofs.Crashes.{holds-kept}
 use Rattle.safety_steps.specs.Allowed as Bytes
 use Rattle.claim.specs.World as B
-use Rattle.claim.specs.Provisos.{Slice, keptBy}
+use Rattle.claim.specs.Provisos.{keptBy}
 use Rattle.claim.specs.Provisos as BP
 use Rattle.record_claim.specs.World as R
 use Rattle.record_claim.specs.Provisos.{Typed}
@@ -37,47 +35,47 @@ use Rattle.record_safety.specs.Stands.{RoomFor, Stands}
 use Rattle.record_safety.specs.Stands as Stands
 use Rattle.record_safety.specs.Allowed.{Keeps}
 use Rattle.record_safety.proofs.Worlds.{same-packet, alike-nothing, alike-mark, alike-length}
-use Rattle.record_safety.proofs.Calls.{blank-length, blank-slice, lent-ok, room-for}
+use Rattle.record_safety.proofs.Calls.{blank-length, blank-bytes, room-for}
 use Rattle.record_safety.proofs.Starts.{recovered-either}
 
 -- ---- found and recover are refused in both worlds, or in none
 
 found-either : (p : List ℕ) (n : ℕ) → Founding p n
-unfolding R.foundOf foundOf short
+unfolding R.foundOf foundOf foundRefusal leftUnless settle
 found-either p n = rw (blank-length stateSize, blank-length headSize) (go (not (planOk p) || ltb lastServer n))
   where
     a : Bool → After
     a t =
-        pick t (after (answerOf 1 0) (blank stateSize) (blank headSize) [])
+        leftUnless (pick t 1 0) (blank stateSize) (blank headSize)
         (after (answerOf 0 0) (stored (blank stateSize) (founded (planOf p) n)) (written (blank headSize) 0 (headBytes n)) [])
 
     s : Bool → Option State
     s t = pick t none (some (founded (planOf p) n))
 
-    go : (t : Bool) → ((s t ≡ none) × (a t .answer .number ≢ 0)) ⊎ ((s t ≡ some (founded (planOf p) n)) × (a t .answer .number ≡ 0))
+    go : (t : Bool) → ((s t ≡ none) × (a t .answer .refusal ≢ 0)) ⊎ ((s t ≡ some (founded (planOf p) n)) × (a t .answer .refusal ≡ 0))
     go true = inl (refl, λ z. omega arith)
     go false = inr (refl, refl)
 
 recover-either : {plan : List PlanEntry} {c : ℕ} {log : R.Log} {kept : List ℕ} {mark : ℕ} → log .number ≡ c → Kept plan c (log .entries) kept mark → (p : List ℕ) → Recovery log kept p
-unfolding R.recoverOf recoverOf short settleRecovered
+unfolding R.recoverOf recoverOf recoverRefusal leftUnless settle settleRecovered
 recover-either {log = log} {kept = kept} number K p = rw (blank-length stateSize) (go (planOk p) (R.recoveredFrom p log) (recovered-either number K p))
   where
     a : Bool → Option State → After
-    a t o = pick (not t) (after (answerOf 1 0) (blank stateSize) kept []) (settleRecovered (blank stateSize) kept o)
+    a t o = leftUnless (pick (not t) 1 0) (blank stateSize) kept (settleRecovered (blank stateSize) kept o)
 
     go : (t : Bool) (o : Option State) → recoveredState (planOf p) kept ≡ o
-        → ((pick (not t) none o ≡ none) × (a t (recoveredState (planOf p) kept) .answer .number ≢ 0))
+        → ((pick (not t) none o ≡ none) × (a t (recoveredState (planOf p) kept) .answer .refusal ≢ 0))
         ⊎ ((st : State) × (pick (not t) none o ≡ some st) × (t ≡ true) × (recoveredState (planOf p) kept ≡ some st))
     go false o e = inl (refl, λ z. omega arith)
     go true none e = inl (refl, rw e (λ z. omega arith))
     go true (some st) e = inr (st, refl, refl, e)
 
 -- a server that is not there has no log to recover from
-none-recovers : (p : List ℕ) → recoverOf (blank stateSize) [] p .answer .number ≢ 0
-unfolding recoverOf short settleRecovered recoveredState headOk
+none-recovers : (p : List ℕ) → recoverOf (blank stateSize) [] p .answer .refusal ≢ 0
+unfolding recoverOf recoverRefusal leftUnless settle settleRecovered recoveredState headOk
 none-recovers p = rw (blank-length stateSize) (go (planOk p))
   where
-    go : (t : Bool) → pick (not t) (after (answerOf 1 0) (blank stateSize) [] []) (after (answerOf 14 0) (blank stateSize) [] []) .answer .number ≢ 0
+    go : (t : Bool) → leftUnless (pick (not t) 1 0) (blank stateSize) [] (settle (blank stateSize) [] [] (refuse 14)) .answer .refusal ≢ 0
     go true z = omega arith
     go false z = omega arith
 
@@ -92,9 +90,9 @@ module _ (plan : List ℕ) {r : R.World} {b : B.World} (l : WorldAlike (planOf p
       go (inl e) = Stands.not-found c p n (blank stateSize) (blank headSize) p n (e .0) (e .1)
       go (inr e) =
           let f = a (founded (planOf p) n) (e .0) in
-          let z : foundOf (blank stateSize) (blank headSize) plan c .answer .number ≡ 0
-          = subst (λ (q : List ℕ). foundOf (blank stateSize) (blank headSize) q c .answer .number ≡ 0) (f .one-plan)
-          (subst (λ (m : ℕ). foundOf (blank stateSize) (blank headSize) p m .answer .number ≡ 0) (f .own-number) (e .1)) in
+          let z : foundOf (blank stateSize) (blank headSize) plan c .answer .refusal ≡ 0
+          = subst (λ (q : List ℕ). foundOf (blank stateSize) (blank headSize) q c .answer .refusal ≡ 0) (f .one-plan)
+          (subst (λ (m : ℕ). foundOf (blank stateSize) (blank headSize) p m .answer .refusal ≡ 0) (f .own-number) (e .1)) in
           subst (λ (m : ℕ). Stands plan r b (R.found c p m) (B.found c (blank stateSize) (blank headSize) p m)) (sym (f .own-number))
           (subst (λ (q : List ℕ). Stands plan r b (R.found c q c) (B.found c (blank stateSize) (blank headSize) q c)) (sym (f .one-plan))
           (Stands.founds c (blank stateSize) (blank headSize) z))
@@ -133,7 +131,7 @@ module _ (plan : List ℕ) {r : R.World} {b : B.World} (l : WorldAlike (planOf p
   pub encoded-stands : (e : R.Event) → Keeps plan r e → Stands plan r b e (encoded b e)
   unfolding encoded Keeps
   encoded-stands (R.found c p n) a = found-stands c p n a
-  encoded-stands (R.request c p room) a = Stands.request c p room (lentFor room) (output c room resultSize (lit≤ tt))
+  encoded-stands (R.request c p vs room) a = Stands.request c p vs room (lentFor room) (output c room resultSize (lit≤ tt))
   encoded-stands (R.fetch c x n room) a = Stands.fetch c x n room (lentFor room) (output c room resultSize (lit≤ tt))
   encoded-stands (R.sync c m room) a = Stands.sync c m room (lentFor room) (no-output c room)
   encoded-stands (R.notice c p room) a = Stands.notice c p room (lentFor room) (no-output c room)
@@ -154,32 +152,19 @@ module _ (plan : List ℕ) {r : R.World} {b : B.World} (l : WorldAlike (planOf p
 
   -- ---- the provisos
 
-  -- what recover is given is a slice
-  log-slice : (c : ℕ) → Slice (logIn (b .servers c))
-  unfolding BP.Bytes logIn
-  log-slice c = go (l .servers c)
-    where
-      go : {x : R.Server} {y : B.Server} → ServerAlike (planOf plan) c x y → Slice (logIn y)
-      go nothing = record { bytes = bytes-nil; counted = lit< tt }
-      go (running K) = record { bytes = holds-bytes (K .holds); counted = omega (arith, holds-fits (K .holds) .size, holds-size (K .holds)) }
-      go (crashed K) = record { bytes = K .bytes; counted = K .counted }
-
-  buffer-slice : Slice (blank stateSize)
-  buffer-slice = blank-slice stateSize (lit< tt)
-
   pub encoded-typed : (e : R.Event) → Typed e → BP.Typed (encoded b e)
-  unfolding Typed BP.Typed encoded
-  encoded-typed (R.found c p n) t = (buffer-slice, blank-slice headSize (lit< tt), t .0, t .1)
-  encoded-typed (R.request c p room) t = lent-ok room t
-  encoded-typed (R.fetch c x n room) t = (lent-ok room (t .0), t .1, t .2)
-  encoded-typed (R.sync c m room) t = (lent-ok room (t .0), t .1)
-  encoded-typed (R.notice c p room) t = lent-ok room t
-  encoded-typed (R.give c p d room) t = (lent-ok room (t .0), t .1, t .2)
-  encoded-typed (R.image c p room) t = (lent-ok room (t .0), t .1)
-  encoded-typed (R.take·image c p room) t = lent-ok room t
-  encoded-typed (R.receipt c p room) t = (lent-ok room (t .0), t .1)
-  encoded-typed (R.release c p room) t = lent-ok room t
-  encoded-typed (R.recover c p) t = (buffer-slice, log-slice c, t)
+  unfolding Typed BP.Typed BP.Bytes encoded
+  encoded-typed (R.found c p n) t = (blank-bytes stateSize, t)
+  encoded-typed (R.request c p vs room) t = t
+  encoded-typed (R.fetch c x n room) t = t
+  encoded-typed (R.sync c m room) t = t
+  encoded-typed (R.notice c p room) t = t
+  encoded-typed (R.give c p d room) t = t
+  encoded-typed (R.image c p room) t = t
+  encoded-typed (R.take·image c p room) t = t
+  encoded-typed (R.receipt c p room) t = t
+  encoded-typed (R.release c p room) t = t
+  encoded-typed (R.recover c p) t = blank-bytes stateSize
   encoded-typed (R.crash c n) t = tt
   encoded-typed (R.start p) t = tt
   encoded-typed (R.issue x op p n) t = t
@@ -189,7 +174,7 @@ module _ (plan : List ℕ) {r : R.World} {b : B.World} (l : WorldAlike (planOf p
   encoded-typed (R.renew x n span) t = t
   encoded-typed (R.query x n) t = t
 
-  found-ok : (c : ℕ) (p : List ℕ) (n : ℕ) → Keeps plan r (R.found c p n) → foundOf (blank stateSize) (blank headSize) p n .answer .number ≡ 0 → Bytes.FoundOk plan b c p n
+  found-ok : (c : ℕ) (p : List ℕ) (n : ℕ) → Keeps plan r (R.found c p n) → foundOf (blank stateSize) (blank headSize) p n .answer .refusal ≡ 0 → Bytes.FoundOk plan b c p n
   unfolding Keeps
   found-ok c p n a z = go (found-either p n)
     where
@@ -198,13 +183,13 @@ module _ (plan : List ℕ) {r : R.World} {b : B.World} (l : WorldAlike (planOf p
       go (inr e) = let f = a (founded (planOf p) n) (e .0) in record { one-plan = f .one-plan; own-number = f .own-number; once = alike-nothing (l .servers c) (f .once) }
 
   -- a recover on bytes that succeeds: the one plan, and the log that the server has
-  recover-ok : (c : ℕ) (p : List ℕ) → Keeps plan r (R.recover c p) → recoverOf (blank stateSize) (logIn (b .servers c)) p .answer .number ≡ 0
+  recover-ok : (c : ℕ) (p : List ℕ) → Keeps plan r (R.recover c p) → recoverOf (blank stateSize) (logIn (b .servers c)) p .answer .refusal ≡ 0
       → Bytes.RecoverOk plan b c (logIn (b .servers c)) p
   unfolding Keeps R.keptBy logIn keptBy
   recover-ok c p again z = let k = go (l .servers c) again z in record { one-plan = k .0; uses = k .1 }
     where
       only : {log : R.Log} {kept : List ℕ} {mark : ℕ} → log .number ≡ c → Kept (planOf plan) c (log .entries) kept mark
-          → ((st : State) → R.recoverOf p log ≡ some st → p ≡ plan) → recoverOf (blank stateSize) kept p .answer .number ≡ 0 → p ≡ plan
+          → ((st : State) → R.recoverOf p log ≡ some st → p ≡ plan) → recoverOf (blank stateSize) kept p .answer .refusal ≡ 0 → p ≡ plan
       only {log} {kept} number K again z = one (recover-either number K p)
         where
           one : Recovery log kept p → p ≡ plan
@@ -212,7 +197,7 @@ module _ (plan : List ℕ) {r : R.World} {b : B.World} (l : WorldAlike (planOf p
           one (inr e) = again (e .0) (e .1)
 
       go : {x : R.Server} {y : B.Server} → ServerAlike (planOf plan) c x y → ((log : R.Log) (st : State) → R.keptBy x ≡ some log → R.recoverOf p log ≡ some st → p ≡ plan)
-          → recoverOf (blank stateSize) (logIn y) p .answer .number ≡ 0 → (p ≡ plan) × (keptBy y ≡ some (logIn y))
+          → recoverOf (blank stateSize) (logIn y) p .answer .refusal ≡ 0 → (p ≡ plan) × (keptBy y ≡ some (logIn y))
       go nothing again z = absurd (none-recovers p z)
       go (running {log = log} K) again z = (only (K .number) (holds-kept (K .holds)) (λ st. again log st refl) z, refl)
       go (crashed {log = log} K) again z = (only (K .number) (K .keeps) (λ st. again log st refl) z, refl)
@@ -220,7 +205,7 @@ module _ (plan : List ℕ) {r : R.World} {b : B.World} (l : WorldAlike (planOf p
   pub encoded-keeps : (e : R.Event) → Keeps plan r e → Bytes.Keeps plan b (encoded b e)
   unfolding Keeps Bytes.Keeps encoded
   encoded-keeps (R.found c p n) a = found-ok c p n a
-  encoded-keeps (R.request c p room) a = tt
+  encoded-keeps (R.request c p vs room) a = tt
   encoded-keeps (R.fetch c x n room) a = tt
   encoded-keeps (R.sync c m room) a = tt
   encoded-keeps (R.notice c p room) a = tt

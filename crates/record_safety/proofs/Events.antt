@@ -11,11 +11,12 @@ use mathlib.Core.Option.{Option, some}
 use native.Mathlib.Omega.{arith}
 use lib.Dec.{lit≤}
 use lib.ListN.{length}
+use Rattle.model.specs.Versions.{Versions}
 use Rattle.model.specs.declared.PlanEntry.{PlanEntry}
 use Rattle.model.specs.declared.Answer.{Answer}
 use Rattle.model.specs.declared.Client.{Client}
 use Rattle.model.specs.declared.Command.{Command}
-use Rattle.model.specs.declared.CommandResult.{CommandResult}
+use Rattle.model.specs.Sequential.{Marked, EntryResult}
 use Rattle.model.specs.Numbers.{word}
 use Rattle.model.specs.Limits.{resultSize, greatestImage}
 use Rattle.model.specs.Packets.{parsePacket}
@@ -37,37 +38,43 @@ use Rattle.record_claim.specs.Claim as RC
 use Rattle.record_safety.specs.Encoded.{blank, lentFor, encoded, schedule}
 use Rattle.record_safety.specs.Alike.{RunningAlike, ServerAlike, nothing, running, crashed, Performs}
 use Rattle.record_safety.proofs.Worlds.{same-packet, alike-length}
-use Rattle.record_safety.proofs.Calls.{blank-length, lent-ok, lent-whole, lent-room, call-left}
+use Rattle.record_safety.proofs.Calls.{blank-length, lent-whole, lent-room, call-left}
 use Rattle.record_safety.proofs.Runs.{both-at, at-there, at-back}
 
 -- ---- the events that are encoded so
 
-pub from-request : (w : B.World) (c p : ℕ) (t : Lent) (e : R.Event) → B.request c p t ≡ encoded w e → (room : ℕ) × (e ≡ R.request c p room) × (t ≡ lentFor room)
+pub from-request : (w : B.World) (c p : ℕ) (vs : Versions) (t : Lent) (e : R.Event) → B.request c p vs t ≡ encoded w e
+    → (room : ℕ) × (e ≡ R.request c p vs room) × (t ≡ lentFor room)
 unfolding encoded
-from-request w c p t (R.found d x n) q = let z : _≡_ {A = ℕ} 0 1 = cc in absurd (omega arith)
-from-request w c p t (R.request d x room) q = let a : d ≡ c = cc in let b : x ≡ p = cc in let l : t ≡ lentFor room = cc in (room, rw (a, b) refl, l)
-from-request w c p t (R.fetch d x n room) q = let z : _≡_ {A = ℕ} 0 1 = cc in absurd (omega arith)
-from-request w c p t (R.sync d m room) q = let z : _≡_ {A = ℕ} 0 1 = cc in absurd (omega arith)
-from-request w c p t (R.notice d x room) q = let z : _≡_ {A = ℕ} 0 1 = cc in absurd (omega arith)
-from-request w c p t (R.give d x y room) q = let z : _≡_ {A = ℕ} 0 1 = cc in absurd (omega arith)
-from-request w c p t (R.image d x room) q = let z : _≡_ {A = ℕ} 0 1 = cc in absurd (omega arith)
-from-request w c p t (R.take·image d x room) q = let z : _≡_ {A = ℕ} 0 1 = cc in absurd (omega arith)
-from-request w c p t (R.receipt d x room) q = let z : _≡_ {A = ℕ} 0 1 = cc in absurd (omega arith)
-from-request w c p t (R.release d x room) q = let z : _≡_ {A = ℕ} 0 1 = cc in absurd (omega arith)
-from-request w c p t (R.recover d x) q = let z : _≡_ {A = ℕ} 0 1 = cc in absurd (omega arith)
-from-request w c p t (R.crash d k) q = let z : _≡_ {A = ℕ} 0 1 = cc in absurd (omega arith)
-from-request w c p t (R.start x) q = let z : _≡_ {A = ℕ} 0 1 = cc in absurd (omega arith)
-from-request w c p t (R.issue x op y a) q = let z : _≡_ {A = ℕ} 0 1 = cc in absurd (omega arith)
-from-request w c p t (R.resend x k) q = let z : _≡_ {A = ℕ} 0 1 = cc in absurd (omega arith)
-from-request w c p t (R.receive x y) q = let z : _≡_ {A = ℕ} 0 1 = cc in absurd (omega arith)
-from-request w c p t (R.open·lease n span) q = let z : _≡_ {A = ℕ} 0 1 = cc in absurd (omega arith)
-from-request w c p t (R.renew x n span) q = let z : _≡_ {A = ℕ} 0 1 = cc in absurd (omega arith)
-from-request w c p t (R.query x n) q = let z : _≡_ {A = ℕ} 0 1 = cc in absurd (omega arith)
+from-request w c p vs t (R.found d x n) q = let z : _≡_ {A = ℕ} 0 1 = cc in absurd (omega arith)
+from-request w c p vs t (R.request d x us room) q =
+    let a : d ≡ c = cc in
+    let b : x ≡ p = cc in
+    let u : us ≡ vs = cc in
+    let l : t ≡ lentFor room = cc in
+    (room, rw (a, b, u) refl, l)
+from-request w c p vs t (R.fetch d x n room) q = let z : _≡_ {A = ℕ} 0 1 = cc in absurd (omega arith)
+from-request w c p vs t (R.sync d m room) q = let z : _≡_ {A = ℕ} 0 1 = cc in absurd (omega arith)
+from-request w c p vs t (R.notice d x room) q = let z : _≡_ {A = ℕ} 0 1 = cc in absurd (omega arith)
+from-request w c p vs t (R.give d x y room) q = let z : _≡_ {A = ℕ} 0 1 = cc in absurd (omega arith)
+from-request w c p vs t (R.image d x room) q = let z : _≡_ {A = ℕ} 0 1 = cc in absurd (omega arith)
+from-request w c p vs t (R.take·image d x room) q = let z : _≡_ {A = ℕ} 0 1 = cc in absurd (omega arith)
+from-request w c p vs t (R.receipt d x room) q = let z : _≡_ {A = ℕ} 0 1 = cc in absurd (omega arith)
+from-request w c p vs t (R.release d x room) q = let z : _≡_ {A = ℕ} 0 1 = cc in absurd (omega arith)
+from-request w c p vs t (R.recover d x) q = let z : _≡_ {A = ℕ} 0 1 = cc in absurd (omega arith)
+from-request w c p vs t (R.crash d k) q = let z : _≡_ {A = ℕ} 0 1 = cc in absurd (omega arith)
+from-request w c p vs t (R.start x) q = let z : _≡_ {A = ℕ} 0 1 = cc in absurd (omega arith)
+from-request w c p vs t (R.issue x op y a) q = let z : _≡_ {A = ℕ} 0 1 = cc in absurd (omega arith)
+from-request w c p vs t (R.resend x k) q = let z : _≡_ {A = ℕ} 0 1 = cc in absurd (omega arith)
+from-request w c p vs t (R.receive x y) q = let z : _≡_ {A = ℕ} 0 1 = cc in absurd (omega arith)
+from-request w c p vs t (R.open·lease n span) q = let z : _≡_ {A = ℕ} 0 1 = cc in absurd (omega arith)
+from-request w c p vs t (R.renew x n span) q = let z : _≡_ {A = ℕ} 0 1 = cc in absurd (omega arith)
+from-request w c p vs t (R.query x n) q = let z : _≡_ {A = ℕ} 0 1 = cc in absurd (omega arith)
 
 pub from-crash : (w : B.World) (c k : ℕ) (e : R.Event) → B.crash c k ≡ encoded w e → e ≡ R.crash c k
 unfolding encoded
 from-crash w c k (R.found d x n) q = let z : _≡_ {A = ℕ} 0 1 = cc in absurd (omega arith)
-from-crash w c k (R.request d x room) q = let z : _≡_ {A = ℕ} 0 1 = cc in absurd (omega arith)
+from-crash w c k (R.request d x vs room) q = let z : _≡_ {A = ℕ} 0 1 = cc in absurd (omega arith)
 from-crash w c k (R.fetch d x n room) q = let z : _≡_ {A = ℕ} 0 1 = cc in absurd (omega arith)
 from-crash w c k (R.sync d m room) q = let z : _≡_ {A = ℕ} 0 1 = cc in absurd (omega arith)
 from-crash w c k (R.notice d x room) q = let z : _≡_ {A = ℕ} 0 1 = cc in absurd (omega arith)
@@ -107,14 +114,14 @@ running-here {plan} {c} (running {st = st} {log = log} {state = s} {bytes = g} K
 running-here (crashed K) state bytes e = let z : _≡_ {A = ℕ} 0 1 = cc in absurd (omega arith)
 
 -- a request, in both worlds
-request-left : (room : ℕ) → room < word * word → (b : List ℕ) → Bytes b → {plan : List PlanEntry} {c : ℕ} {st : State} {log : R.Log} {state bytes : List ℕ}
+request-left : (vs : Versions) (room : ℕ) → room < word * word → (b : List ℕ) → Bytes b → {plan : List PlanEntry} {c : ℕ} {st : State} {log : R.Log} {state bytes : List ℕ}
     → RunningAlike plan c st log state bytes
-    → requestOf (lentState (lentFor room) state) (lentLog (lentFor room) bytes) b (blank greatestImage) .answer
-    ≡ answerOf (R.callOf st log room (λ s free. onRequest s free (parsePacket b)) .number) (length (R.callOf st log room (λ s free. onRequest s free (parsePacket b)) .made))
+    → requestOf vs (lentState (lentFor room) state) (lentLog (lentFor room) bytes) b (blank greatestImage) .answer
+    ≡ answerOf (R.callOf st log room (λ s free. onRequest vs s free (parsePacket b)) .number) (length (R.callOf st log room (λ s free. onRequest vs s free (parsePacket b)) .made))
 unfolding Performs requestOf
-request-left room ok b h {state = state} {bytes = bytes} K =
-    call-left (λ s g. requestOf s g b (blank greatestImage)) (blank greatestImage) resultSize (λ s free. onRequest s free (parsePacket b)) (λ s g. refl)
-    (λ s free S. request-terms s free b h (parsePacket b) refl) (lentFor room) (lent-ok room ok) K (lent-whole room state (K .holds .long))
+request-left vs room ok b h {state = state} {bytes = bytes} K =
+    call-left (λ s g. requestOf vs s g b (blank greatestImage)) (blank greatestImage) resultSize (λ s free. onRequest vs s free (parsePacket b)) (λ s g. refl)
+    (λ s free S. request-terms s free vs b h (parsePacket b) refl) (lentFor room) ok K (lent-whole room state (K .holds .long))
     (rw (blank-length greatestImage) (lit≤ tt)) room (lent-room room bytes) .answer
 
 no-bytes : (b : List ℕ) → length b ≡ 0 → b ≡ []
@@ -133,7 +140,7 @@ module _ (plan : List ℕ) (es : List R.Event) (P : RP.Provisos plan es) where
 
   -- ---- issues and completions
 
-  pub issues-there : (n : ℕ) (k : Command) → RC.Issues plan es n k → BC.Issues plan (schedule es) n k
+  pub issues-there : (n : ℕ) (k : List Command) → RC.Issues plan es n k → BC.Issues plan (schedule es) n k
   unfolding encoded
   issues-there n k i =
       record {
@@ -149,7 +156,7 @@ module _ (plan : List ℕ) (es : List R.Event) (P : RP.Provisos plan es) where
         its = i .its;
       }
 
-  pub completes-there : (n : ℕ) (k : Command) (r : CommandResult) → RC.Completes plan es n k r → BC.Completes plan (schedule es) n k r
+  pub completes-there : (n : ℕ) (k : List Command) (r : EntryResult) → RC.Completes plan es n k r → BC.Completes plan (schedule es) n k r
   unfolding encoded
   completes-there n k r c =
       record {
@@ -175,47 +182,49 @@ module _ (plan : List ℕ) (es : List R.Event) (P : RP.Provisos plan es) where
       go (absent q) = let z : _≡_ {A = ℕ} 0 1 = cc in absurd (omega arith)
       go (here y v q s k) = let z : y ≡ x = cc in subst Bytes z (like-bytes k)
 
-  typed-room : (n c p room : ℕ) → RP.At plan es n (R.request c p room) → room < word * word
+  typed-room : (n c p : ℕ) (vs : Versions) (room : ℕ) → RP.At plan es n (R.request c p vs room) → room < word * word
   unfolding RP.Typed
-  typed-room n c p room a = P .typed n (R.request c p room) a
+  typed-room n c p vs room a = P .typed n (R.request c p vs room) a
 
-  pub executes-there : (n c : ℕ) (k : Command) → RC.Executes plan es n c k → BC.Executes plan (schedule es) n c k
+  pub executes-there : (n c : ℕ) (k : Marked) → RC.Executes plan es n c k → BC.Executes plan (schedule es) n c k
   unfolding encoded
   executes-there n c k x =
       let u = running-there (both-at plan es P n .alike .servers c) (x .state) (x .log) (x .up) in
       let d : packet (b n) (x .number) ≡ some (x .bytes) = sym (same-packets n (x .number)) ∙ x .delivered in
       record {
         number = x .number;
+        versions = x .versions;
         lent = lentFor (x .room);
-        event = at-there plan es P n (R.request c (x .number) (x .room)) (x .event);
+        event = at-there plan es P n (R.request c (x .number) (x .versions) (x .room)) (x .event);
         state = u .0;
         log = u .1;
         up = u .2;
         bytes = x .bytes;
         delivered = d;
         answer =
-            request-left (x .room) (typed-room n c (x .number) (x .room) (x .event)) (x .bytes) (made-bytes n (x .number) (x .bytes) d) (u .3)
-            ∙ ap (λ (m : ℕ). answerOf m (length (R.callOf (x .state) (x .log) (x .room) (λ s free. onRequest s free (parsePacket (x .bytes))) .made))) (x .no-number)
+            request-left (x .versions) (x .room) (typed-room n c (x .number) (x .versions) (x .room) (x .event)) (x .bytes) (made-bytes n (x .number) (x .bytes) d) (u .3)
+            ∙ ap (λ (m : ℕ). answerOf m (length (R.callOf (x .state) (x .log) (x .room) (λ s free. onRequest (x .versions) s free (parsePacket (x .bytes))) .made))) (x .no-number)
             ∙ ap (λ (y : List ℕ). answerOf 0 (length y)) (x .no-packet);
         asked = x .asked;
         parsed = x .parsed;
         its = x .its;
       }
 
-  pub executes-here : (n c : ℕ) (k : Command) → BC.Executes plan (schedule es) n c k → RC.Executes plan es n c k
+  pub executes-here : (n c : ℕ) (k : Marked) → BC.Executes plan (schedule es) n c k → RC.Executes plan es n c k
   executes-here n c k x =
-      let e = at-back plan es P n (B.request c (x .number) (x .lent)) (x .event) in
-      let f = from-request (b n) c (x .number) (x .lent) (e .0) (e .2) in
+      let e = at-back plan es P n (B.request c (x .number) (x .versions) (x .lent)) (x .event) in
+      let f = from-request (b n) c (x .number) (x .versions) (x .lent) (e .0) (e .2) in
       let room : ℕ = f .0 in
-      let at : RP.At plan es n (R.request c (x .number) room) = subst (RP.At plan es n) (f .1) (e .1) in
+      let at : RP.At plan es n (R.request c (x .number) (x .versions) room) = subst (RP.At plan es n) (f .1) (e .1) in
       let u = running-here (both-at plan es P n .alike .servers c) (x .state) (x .log) (x .up) in
-      let a : R.Left = R.callOf (u .0) (u .1) room (λ s free. onRequest s free (parsePacket (x .bytes))) in
-      let q : requestOf (lentState (lentFor room) (x .state)) (lentLog (lentFor room) (x .log)) (x .bytes) (blank greatestImage) .answer ≡ answerOf 0 0
-      = subst (λ (t : Lent). requestOf (lentState t (x .state)) (lentLog t (x .log)) (x .bytes) (t .out) .answer ≡ answerOf 0 0) (f .2) (x .answer) in
+      let a : R.Left = R.callOf (u .0) (u .1) room (λ s free. onRequest (x .versions) s free (parsePacket (x .bytes))) in
+      let q : requestOf (x .versions) (lentState (lentFor room) (x .state)) (lentLog (lentFor room) (x .log)) (x .bytes) (blank greatestImage) .answer ≡ answerOf 0 0
+      = subst (λ (t : Lent). requestOf (x .versions) (lentState t (x .state)) (lentLog t (x .log)) (x .bytes) (t .out) .answer ≡ answerOf 0 0) (f .2) (x .answer) in
       let z : answerOf (a .number) (length (a .made)) ≡ answerOf 0 0
-      = sym (request-left room (typed-room n c (x .number) room at) (x .bytes) (made-bytes n (x .number) (x .bytes) (x .delivered)) (u .3)) ∙ q in
+      = sym (request-left (x .versions) room (typed-room n c (x .number) (x .versions) room at) (x .bytes) (made-bytes n (x .number) (x .bytes) (x .delivered)) (u .3)) ∙ q in
       record {
         number = x .number;
+        versions = x .versions;
         room = room;
         event = at;
         state = u .0;
@@ -223,7 +232,7 @@ module _ (plan : List ℕ) (es : List R.Event) (P : RP.Provisos plan es) where
         up = u .2;
         bytes = x .bytes;
         delivered = same-packets n (x .number) ∙ x .delivered;
-        no-number = ap (λ (y : Answer). y .number) z;
+        no-number = ap (λ (y : Answer). y .refusal) z;
         no-packet = no-bytes (a .made) (ap (λ (y : Answer). y .wrote) z);
         asked = x .asked;
         parsed = x .parsed;
@@ -235,7 +244,7 @@ module _ (plan : List ℕ) (es : List R.Event) (P : RP.Provisos plan es) where
   same-length : (n c : ℕ) → RP.lengthOf (R.after es n .servers c) ≡ BP.lengthOf (b n .servers c)
   same-length n c = alike-length (both-at plan es P n .alike .servers c)
 
-  pub survives-there : (n : ℕ) (k : Command) → RC.SurvivesAt plan es n k → BC.SurvivesAt plan (schedule es) n k
+  pub survives-there : (n : ℕ) (k : Marked) → RC.SurvivesAt plan es n k → BC.SurvivesAt plan (schedule es) n k
   survives-there n k s =
       record {
         server = s .server;
@@ -247,7 +256,7 @@ module _ (plan : List ℕ) (es : List R.Event) (P : RP.Provisos plan es) where
             subst (λ (z : ℕ). z ≤ d) (same-length (suc n) (s .server)) (s .kept m d h (subst (RP.At plan es m) q (e .1)));
       }
 
-  pub survives-here : (n : ℕ) (k : Command) → BC.SurvivesAt plan (schedule es) n k → RC.SurvivesAt plan es n k
+  pub survives-here : (n : ℕ) (k : Marked) → BC.SurvivesAt plan (schedule es) n k → RC.SurvivesAt plan es n k
   unfolding encoded
   survives-here n k s =
       record {

@@ -8,7 +8,10 @@ use mathlib.Core.List.{List, [], _∷_}
 use mathlib.Core.Option.{some}
 use native.Mathlib.Omega.{arith}
 use lib.Dec.{lit≤, lit<}
-use lib.ListN.{drop, replicate, getElem?, length-replicate}
+use lib.ListN.{drop, replicate, getElem?}
+use Rattle.model.specs.Versions.{Versions, today}
+use Rattle.model.specs.Sequential.{markedBy, one, resultMeant}
+use Rattle.model.specs.Choice.{unlessRefused}
 use Rattle.model.specs.declared.PlanEntry.{PlanEntry}
 use Rattle.model.specs.declared.Packet.the-variants.{Requested}
 use Rattle.model.specs.declared.Received.the-variants.{Completed}
@@ -17,24 +20,23 @@ use Rattle.model.specs.States.{State}
 use Rattle.model.specs.Numbers.{signed, flip, le32At, le64At, le64, signedAt, zeros3At}
 use Rattle.model.specs.Tables.{rows, everyRow, bytesOf, every, keep, zeros, written}
 use Rattle.model.specs.Plan.{planEntryOf, planEntryBytes, planEntryOk, planRowOk, planOk, planOf, planBytes, entryAt, inRange}
-use Rattle.model.specs.Rules.{leastArgument, greatestArgument, argumentOk, sumInRange, setRule, stepRule, reportRule, faultRule, partRule, ruleOf}
-use Rattle.model.specs.Packets.{packetLength, idOk, doneOk, commandOk, outcomeOk, requestAt, requestOk, requestBytes, commandOf, resultAt, resultOk, resultBytes, refusalAt, refusalOk, refusalBytes, receiptAt, receiptOk, receiptBytes, noticeAt, noticeOk, noticeBytes, grantAt, grantOk, grantBytes, whole, parseRequest, parseResult, parseRefusal, parseReceipt, parseNotice, parseGrant, parsePacket, packetBytes}
+use Rattle.model.specs.Rules.{argumentRange, inArguments, argumentOk, sumInRange, setRule, stepRule, reportRule, faultRule, partRule, ruleOf}
+use Rattle.model.specs.Packets.{packetLength, idOk, doneOk, commandOk, outcomeOk, requestAt, requestOk, requestBytes, resultAt, resultOk, resultBytes, refusalAt, refusalOk, refusalBytes, receiptAt, receiptOk, receiptBytes, noticeAt, noticeOk, noticeBytes, grantAt, grantOk, grantBytes, whole, parseRequest, parseResult, parseRefusal, parseReceipt, parseNotice, parseGrant, parsePacket, asRequest, asReceipt, asNotice, packetBytes}
 use Rattle.model.specs.Images.{floorOfBytes, floorBytes, imageEntryOf, imageEntryBytes, floorOf, inWindow, clientsAscend, idBefore, idsAscend, floorOk, imageEntryOk, imageHeadOf, imageAt, imageFramed, imageParts, imageHeadOk, entryRowOk, imageTablesOk, imageOk, parseImage, entryInRange, imageInRange, imageLength, imageHeadBytes, imageBytes}
 use Rattle.model.specs.Logs.{recordSize}
 use Rattle.model.specs.States.{pointAt, isHeld, isGiven, isSynced, isId}
 use Rattle.model.specs.Apply.{raise, mergeFloors, isNotClient, staysOver, staysOverFloors, isOfOther, isOnOther, executedPoint, completion, applyExecuted, applyGone, gavePoint, applyGave, tookPoint, takenRecord, applyTook, releasedPoint, applyReleased, applyRecord, apply, foundedPoint, founded, replayFrom, replay, withMark}
-use Rattle.model.specs.Decisions.{find, resultOfRecord, sameCommand, onHeld, resultFor, executedFor, noPlace, onNew, onId, decideRequest, onRequest, onFound, onFetch, onSync, decideNotice, onNotice, onGive, isOnPoint, entryOfRecord, insertEntry, sortEntries, imageFor, onImage, freeFor, decideTake, onTake, onReceipt, decideRelease, onRelease, appends, requestBehind, follows}
+use Rattle.model.specs.Decisions.{orMalformed, find, resultOfRecord, sameCommand, requestRefusal, heldRefusal, onHeld, resultFor, executedFor, newRefusal, onNew, onId, decideRequest, denying, onRequest, fetchRefusal, onFetched, onFetch, syncRefusal, onSync, noticeRefusal, decideNotice, onNotice, placesBad, giveRefusal, onGive, isOnPoint, entryOfRecord, insertEntry, sortEntries, imageFor, imageRefusal, onImage, freeFor, takeRefusal, takeTests, decideTake, onTake, receiptRefusal, onReceipt, releaseRefusal, decideRelease, onRelease, isNone, follows}
 use Rattle.model.specs.Operations.{recovered}
-use Rattle.model.specs.Clients.{placeOf, callAt, isOpen, leastOpen, firstOpen, withCalls, withLease, closed, requestFor, startWith, startOf, newCall, withCall, notSent, sent, issueOf, resendOf, isOwn, notReceived, receiveResult, receiveRefusal, receiveGrant, receiveWith, receiveOf, startNumber, sendNumber, receiveNumber, receivedResult, receivedValue, receivedLease, sentBytes}
-use Rattle.model.specs.Decisions
-use Rattle.model.specs.Leases.{timeAt, endedAt, runningAt, leaseEnd, isTaken, entered, spanOk, manager, notTold, granted, openOf, toldBytes}
+use Rattle.model.specs.Clients.{placeOf, callAt, isOpen, leastOpen, firstOpen, withCalls, withLease, closed, requestFor, startWith, startOf, newCall, withCall, notSent, sent, issueOf, resendOf, isOwn, notReceived, receiveResult, receiveRefusal, receiveGrant, receiveWith, receiveOf, startNumber, sendNumber, receiveNumber, brought, sentBytes}
+use Rattle.model.specs.Leases.{timeAt, endedAt, runningAt, leaseEnd, isTaken, withNewLease, spanOk, manager, notTold, granted, openOf, toldBytes}
 use Rattle.model.specs.Yard.{yardPlan}
 use Rattle.claim.specs.World.{withServer, withClient, withManager, making, startsAs, startsOn, sends, receives, told, packet}
 use Rattle.laws.specs.Bytes.{All}
 use Rattle.laws.specs.Fits.{PlanEntryFits}
-use Rattle.laws.proofs.Plans.{plan-length, plan-bytes}
-use Rattle.claim.specs.Provisos.{Slice, Bytes}
-use Rattle.claim.specs.Claim.{commandAt, resultIn}
+use Rattle.laws.proofs.Plans.{plan-bytes}
+use Rattle.claim.specs.Provisos.{Bytes}
+use Rattle.claim.specs.Claim.{commandAt}
 use Rattle.sanity.specs.Sample.{command, result, asked, answered, waiting}
 use Rattle.record_claim.specs.World.{Event, Log, running, crash, runFrom, run, after, longer, settle, callOf, calls, callsOn, foundOf, recoveredFrom, recoverOf, keptBy, founds, recoversTo, recoversFrom, cutAt, crashAt, step, emptyWorld}
 use Rattle.record_claim.specs.World as R
@@ -53,24 +55,20 @@ all-same P e h (suc n) = (h, all-same P e h n)
 abbrev entry : PlanEntry
 entry = record { low = 2147483548; high = 2147484648; fallback = 2147483648; home = 0 }
 
-plan-slice : Slice yardPlan
+yard-bytes : Bytes yardPlan
 unfolding yardPlan Bytes planEntryOk
-plan-slice =
-    record {
-      bytes = plan-bytes (replicate pointCount entry) (all-same PlanEntryFits entry (record { low = lit< tt; high = lit< tt; fallback = lit< tt; home = lit< tt; ok = refl }) pointCount);
-      counted = rw (plan-length (replicate pointCount entry) (length-replicate {A = PlanEntry} pointCount entry)) (lit< tt);
-    }
+yard-bytes = plan-bytes (replicate pointCount entry) (all-same PlanEntryFits entry (record { low = lit< tt; high = lit< tt; fallback = lit< tt; home = lit< tt; ok = refl }) pointCount)
 
 allowed-lost : AllowedFrom yardPlan emptyWorld lost
-unfolding AllowedFrom Typed Keeps lost signed flip le32At le64At le64 signedAt zeros3At rows everyRow bytesOf every keep zeros written planEntryOf planEntryBytes planEntryOk planRowOk planOk planOf planBytes entryAt inRange leastArgument greatestArgument argumentOk sumInRange setRule stepRule reportRule faultRule partRule ruleOf packetLength idOk doneOk commandOk outcomeOk requestAt requestOk requestBytes commandOf resultAt resultOk resultBytes refusalAt refusalOk refusalBytes receiptAt receiptOk receiptBytes noticeAt noticeOk noticeBytes grantAt grantOk grantBytes whole parseRequest parseResult parseRefusal parseReceipt parseNotice parseGrant parsePacket packetBytes floorOfBytes floorBytes imageEntryOf imageEntryBytes floorOf inWindow clientsAscend idBefore idsAscend floorOk imageEntryOk imageHeadOf imageAt imageFramed imageParts imageHeadOk entryRowOk imageTablesOk imageOk parseImage entryInRange imageInRange imageLength imageHeadBytes imageBytes recordSize pointAt isHeld isGiven isSynced isId raise mergeFloors isNotClient staysOver staysOverFloors isOfOther isOnOther executedPoint completion applyExecuted applyGone gavePoint applyGave tookPoint takenRecord applyTook releasedPoint applyReleased applyRecord apply foundedPoint founded replayFrom replay withMark find resultOfRecord sameCommand onHeld resultFor executedFor noPlace onNew onId decideRequest onRequest onFound onFetch onSync decideNotice onNotice onGive isOnPoint entryOfRecord insertEntry sortEntries imageFor onImage freeFor decideTake onTake onReceipt decideRelease onRelease appends requestBehind follows recovered placeOf callAt isOpen leastOpen firstOpen withCalls withLease closed requestFor startWith startOf newCall withCall notSent sent issueOf resendOf isOwn notReceived receiveResult receiveRefusal receiveGrant receiveWith receiveOf startNumber sendNumber receiveNumber receivedResult receivedValue receivedLease sentBytes Decisions.withPacket timeAt endedAt runningAt leaseEnd isTaken entered spanOk manager notTold granted openOf toldBytes yardPlan withServer withClient withManager making startsAs startsOn sends receives told packet longer settle callOf calls callsOn foundOf recoveredFrom recoverOf keptBy founds recoversTo recoversFrom cutAt crashAt step emptyWorld markOf lengthOf
+unfolding AllowedFrom Typed Keeps lost signed flip le32At le64At le64 signedAt zeros3At rows everyRow bytesOf every keep zeros written planEntryOf planEntryBytes planEntryOk planRowOk planOk planOf planBytes entryAt inRange argumentRange inArguments argumentOk sumInRange setRule stepRule reportRule faultRule partRule ruleOf packetLength idOk doneOk commandOk outcomeOk requestAt requestOk requestBytes resultAt resultOk resultBytes refusalAt refusalOk refusalBytes receiptAt receiptOk receiptBytes noticeAt noticeOk noticeBytes grantAt grantOk grantBytes whole parseRequest parseResult parseRefusal parseReceipt parseNotice parseGrant parsePacket asRequest asReceipt asNotice packetBytes floorOfBytes floorBytes imageEntryOf imageEntryBytes floorOf inWindow clientsAscend idBefore idsAscend floorOk imageEntryOk imageHeadOf imageAt imageFramed imageParts imageHeadOk entryRowOk imageTablesOk imageOk parseImage entryInRange imageInRange imageLength imageHeadBytes imageBytes recordSize pointAt isHeld isGiven isSynced isId raise mergeFloors isNotClient staysOver staysOverFloors isOfOther isOnOther executedPoint completion applyExecuted applyGone gavePoint applyGave tookPoint takenRecord applyTook releasedPoint applyReleased applyRecord apply foundedPoint founded replayFrom replay withMark find resultOfRecord sameCommand unlessRefused orMalformed requestRefusal heldRefusal onHeld resultFor executedFor newRefusal onNew onId decideRequest onRequest fetchRefusal onFetched onFetch syncRefusal onSync noticeRefusal decideNotice onNotice placesBad giveRefusal onGive isOnPoint entryOfRecord insertEntry sortEntries imageFor imageRefusal onImage freeFor takeRefusal takeTests decideTake onTake receiptRefusal onReceipt releaseRefusal decideRelease onRelease isNone follows recovered placeOf callAt isOpen leastOpen firstOpen withCalls withLease closed requestFor startWith startOf newCall withCall notSent sent issueOf resendOf isOwn notReceived receiveResult receiveRefusal receiveGrant receiveWith receiveOf startNumber sendNumber receiveNumber brought sentBytes denying timeAt endedAt runningAt leaseEnd isTaken withNewLease spanOk manager notTold granted openOf toldBytes yardPlan withServer withClient withManager making startsAs startsOn sends receives told packet longer settle callOf calls callsOn foundOf recoveredFrom recoverOf keptBy founds recoversTo recoversFrom cutAt crashAt step emptyWorld markOf lengthOf
 allowed-lost = (
-  record { typed = (plan-slice, lit< tt); keeps = λ st z. record { one-plan = refl; own-number = refl; once = refl } },
+  record { typed = yard-bytes; keeps = λ st z. record { one-plan = refl; own-number = refl; once = refl } },
   (
-    record { typed = (lit< tt, lit< tt); keeps = tt },
+    record { typed = lit< tt; keeps = tt },
     (
       record { typed = tt; keeps = λ b e s. refl },
       (
-        record { typed = (lit< tt, lit< tt, lit< tt); keeps = tt },
+        record { typed = tt; keeps = tt },
         (
           record { typed = lit< tt; keeps = tt },
           (
@@ -78,19 +76,19 @@ allowed-lost = (
             (
               record { typed = tt; keeps = (lit≤ tt, lit≤ tt) },
               (
-                record { typed = plan-slice; keeps = λ log st e z. refl },
+                record { typed = tt; keeps = λ log st e z. refl },
                 (
                   record { typed = lit< tt; keeps = tt },
                   (
                     record { typed = tt; keeps = (lit≤ tt, lit≤ tt) },
                     (
-                      record { typed = plan-slice; keeps = λ log st e z. refl },
+                      record { typed = tt; keeps = λ log st e z. refl },
                       (
                         record { typed = lit< tt; keeps = tt },
                         (
                           record { typed = tt; keeps = tt },
                           (
-                            record { typed = (lit< tt, lit< tt, lit< tt); keeps = tt },
+                            record { typed = tt; keeps = tt },
                             (
                               record { typed = lit< tt; keeps = tt },
                               (
@@ -124,14 +122,14 @@ log = record { number = 0; entries = [] }
 
 runs : (after lost 8 .servers 0 ≡ running st log)
     × (packet (after lost 8) 1 ≡ some (requestBytes asked))
-    × (callOf st log 100 (λ s free. onRequest s free (parsePacket (requestBytes asked))) .number ≡ 0)
-    × (callOf st log 100 (λ s free. onRequest s free (parsePacket (requestBytes asked))) .made ≡ [])
+    × (callOf st log 100 (λ s free. onRequest today s free (parsePacket (requestBytes asked))) .number ≡ 0)
+    × (callOf st log 100 (λ s free. onRequest today s free (parsePacket (requestBytes asked))) .made ≡ [])
     × (parsePacket (requestBytes asked) ≡ Requested asked)
     × (lengthOf (after lost 9 .servers 0) ≡ 36)
     × (after lost 12 .clients 1 ≡ some waiting)
     × (packet (after lost 12) 3 ≡ some (resultBytes answered))
     × (receiveOf waiting (resultBytes answered) .answer ≡ Completed answered)
-unfolding after run runFrom lost signed flip le32At le64At le64 signedAt zeros3At rows everyRow bytesOf every keep zeros written planEntryOf planEntryBytes planEntryOk planRowOk planOk planOf planBytes entryAt inRange leastArgument greatestArgument argumentOk sumInRange setRule stepRule reportRule faultRule partRule ruleOf packetLength idOk doneOk commandOk outcomeOk requestAt requestOk requestBytes commandOf resultAt resultOk resultBytes refusalAt refusalOk refusalBytes receiptAt receiptOk receiptBytes noticeAt noticeOk noticeBytes grantAt grantOk grantBytes whole parseRequest parseResult parseRefusal parseReceipt parseNotice parseGrant parsePacket packetBytes floorOfBytes floorBytes imageEntryOf imageEntryBytes floorOf inWindow clientsAscend idBefore idsAscend floorOk imageEntryOk imageHeadOf imageAt imageFramed imageParts imageHeadOk entryRowOk imageTablesOk imageOk parseImage entryInRange imageInRange imageLength imageHeadBytes imageBytes recordSize pointAt isHeld isGiven isSynced isId raise mergeFloors isNotClient staysOver staysOverFloors isOfOther isOnOther executedPoint completion applyExecuted applyGone gavePoint applyGave tookPoint takenRecord applyTook releasedPoint applyReleased applyRecord apply foundedPoint founded replayFrom replay withMark find resultOfRecord sameCommand onHeld resultFor executedFor noPlace onNew onId decideRequest onRequest onFound onFetch onSync decideNotice onNotice onGive isOnPoint entryOfRecord insertEntry sortEntries imageFor onImage freeFor decideTake onTake onReceipt decideRelease onRelease appends requestBehind follows recovered placeOf callAt isOpen leastOpen firstOpen withCalls withLease closed requestFor startWith startOf newCall withCall notSent sent issueOf resendOf isOwn notReceived receiveResult receiveRefusal receiveGrant receiveWith receiveOf startNumber sendNumber receiveNumber receivedResult receivedValue receivedLease sentBytes Decisions.withPacket timeAt endedAt runningAt leaseEnd isTaken entered spanOk manager notTold granted openOf toldBytes yardPlan withServer withClient withManager making startsAs startsOn sends receives told packet longer settle callOf calls callsOn foundOf recoveredFrom recoverOf keptBy founds recoversTo recoversFrom cutAt crashAt step emptyWorld markOf lengthOf
+unfolding after run runFrom lost signed flip le32At le64At le64 signedAt zeros3At rows everyRow bytesOf every keep zeros written planEntryOf planEntryBytes planEntryOk planRowOk planOk planOf planBytes entryAt inRange argumentRange inArguments argumentOk sumInRange setRule stepRule reportRule faultRule partRule ruleOf packetLength idOk doneOk commandOk outcomeOk requestAt requestOk requestBytes resultAt resultOk resultBytes refusalAt refusalOk refusalBytes receiptAt receiptOk receiptBytes noticeAt noticeOk noticeBytes grantAt grantOk grantBytes whole parseRequest parseResult parseRefusal parseReceipt parseNotice parseGrant parsePacket asRequest asReceipt asNotice packetBytes floorOfBytes floorBytes imageEntryOf imageEntryBytes floorOf inWindow clientsAscend idBefore idsAscend floorOk imageEntryOk imageHeadOf imageAt imageFramed imageParts imageHeadOk entryRowOk imageTablesOk imageOk parseImage entryInRange imageInRange imageLength imageHeadBytes imageBytes recordSize pointAt isHeld isGiven isSynced isId raise mergeFloors isNotClient staysOver staysOverFloors isOfOther isOnOther executedPoint completion applyExecuted applyGone gavePoint applyGave tookPoint takenRecord applyTook releasedPoint applyReleased applyRecord apply foundedPoint founded replayFrom replay withMark find resultOfRecord sameCommand unlessRefused orMalformed requestRefusal heldRefusal onHeld resultFor executedFor newRefusal onNew onId decideRequest onRequest fetchRefusal onFetched onFetch syncRefusal onSync noticeRefusal decideNotice onNotice placesBad giveRefusal onGive isOnPoint entryOfRecord insertEntry sortEntries imageFor imageRefusal onImage freeFor takeRefusal takeTests decideTake onTake receiptRefusal onReceipt releaseRefusal decideRelease onRelease isNone follows recovered placeOf callAt isOpen leastOpen firstOpen withCalls withLease closed requestFor startWith startOf newCall withCall notSent sent issueOf resendOf isOwn notReceived receiveResult receiveRefusal receiveGrant receiveWith receiveOf startNumber sendNumber receiveNumber brought sentBytes denying timeAt endedAt runningAt leaseEnd isTaken withNewLease spanOk manager notTold granted openOf toldBytes yardPlan withServer withClient withManager making startsAs startsOn sends receives told packet longer settle callOf calls callsOn foundOf recoveredFrom recoverOf keptBy founds recoversTo recoversFrom cutAt crashAt step emptyWorld markOf lengthOf
 runs = (refl, refl, refl, refl, refl, refl, refl, refl, refl)
 
 -- what all events of a list from number n on have
@@ -153,7 +151,7 @@ later m b h e = from-on (λ x. x ≡ crash 0 b → 36 ≤ b) 9 lost (first, (rec
     recover : {c : ℕ} {p : List ℕ} → R.recover c p ≡ crash 0 b → 36 ≤ b
     recover q = let z : _≡_ {A = ℕ} 0 1 = cc in absurd (omega arith)
 
-    request : {c p room : ℕ} → R.request c p room ≡ crash 0 b → 36 ≤ b
+    request : {c p : ℕ} {v : Versions} {room : ℕ} → R.request c p v room ≡ crash 0 b → 36 ≤ b
     request q = let z : _≡_ {A = ℕ} 0 1 = cc in absurd (omega arith)
 
     receive : {x p : ℕ} → R.receive x p ≡ crash 0 b → 36 ≤ b
@@ -162,8 +160,8 @@ later m b h e = from-on (λ x. x ≡ crash 0 b → 36 ≤ b) 9 lost (first, (rec
     issue : {x op p a : ℕ} → R.issue x op p a ≡ crash 0 b → 36 ≤ b
     issue q = let z : _≡_ {A = ℕ} 0 1 = cc in absurd (omega arith)
 
-pub not-vacuous : Provisos yardPlan lost × SurvivesAt yardPlan lost 8 command × Completes yardPlan lost 12 command result
-unfolding At commandOf commandAt callAt placeOf resultIn lost
+pub not-vacuous : Provisos yardPlan lost × SurvivesAt yardPlan lost 8 (markedBy today command) × Completes yardPlan lost 12 (command ∷ []) (one (resultMeant result))
+unfolding At commandAt callAt placeOf lost
 not-vacuous = (
   provisos-from yardPlan lost allowed-lost,
   record {
@@ -171,6 +169,7 @@ not-vacuous = (
     executes =
         record {
           number = 1;
+          versions = today;
           room = 100;
           event = refl;
           state = st;

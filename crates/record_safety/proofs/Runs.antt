@@ -174,7 +174,7 @@ module _ (plan : List ℕ) (es : List R.Event) (P : RP.Provisos plan es) where
   keeps : (n : ℕ) (e : R.Event) → RP.At plan es n e → Keeps plan (R.after es n) e
   unfolding Keeps
   keeps n (R.found c p k) a = λ st z. record { one-plan = P .one-plan n c p k st a z; own-number = P .own-number n c p k st a z; once = P .founded-once n c p k st a z }
-  keeps n (R.request c p room) a = tt
+  keeps n (R.request c p vs room) a = tt
   keeps n (R.fetch c x k room) a = tt
   keeps n (R.sync c m room) a = tt
   keeps n (R.notice c p room) a = tt

@@ -81,7 +81,7 @@ unfolding R.foundOf
 found-state p n ok h = rw (ok, le-ltb lastServer n h)
 
 module _ (plan : List ℕ) {r : R.World} {b : B.World} (l : WorldAlike (planOf plan) r b) (c : ℕ) where
-  module _ (state log : List ℕ) (h : Bytes state) (bytes : Bytes plan) (z : foundOf state log plan c .answer .number ≡ 0) where
+  module _ (state log : List ℕ) (h : Bytes state) (bytes : Bytes plan) (z : foundOf state log plan c .answer .refusal ≡ 0) where
     abbrev found : After
     found = foundOf state log plan c
 
@@ -101,7 +101,7 @@ module _ (plan : List ℕ) {r : R.World} {b : B.World} (l : WorldAlike (planOf p
         let k = found-passed state log plan c z in
         rw (found-state plan c (k .2) (k .3), started-runs c found b z) (alike-server l c _ _ (running found-running))
 
-  pub not-found-alike : (p : List ℕ) (n : ℕ) (a : After) → R.foundOf p n ≡ none → a .answer .number ≢ 0
+  pub not-found-alike : (p : List ℕ) (n : ℕ) (a : After) → R.foundOf p n ≡ none → a .answer .refusal ≢ 0
       → WorldAlike (planOf plan) (R.founds c n (R.foundOf p n) r) (foundAs c a b)
   unfolding R.founds
   not-found-alike p n a e h = rw (e, started-refused c a b h) l
@@ -128,7 +128,7 @@ module _ (plan : List ℕ) {r : R.World} {b : B.World} (l : WorldAlike (planOf p
         let same : R.recoveredFrom plan log ≡ some st = sym (recovered-either number K plan) ∙ recovered-kept K in
         let x : RunningAlike (planOf plan) c (withMark (st .size) st) log (a .state) (take (load (a .state) .size) (a .log))
         = record { number = number; holds = S .holds; loads = S .holds .loaded ∙ ap (λ (m : ℕ). withMark m st) (S .mark ∙ size) } in
-        rw (ok, same, started-runs c a b (ap (λ (y : Answer). y .number) (S .answer))) (alike-server l c _ _ (running x))
+        rw (ok, same, started-runs c a b (ap (λ (y : Answer). y .refusal) (S .answer))) (alike-server l c _ _ (running x))
 
     pub recovers-alike : (log : List ℕ) → keptBy (b .servers c) ≡ some log
         → WorldAlike (planOf plan) (R.recoversFrom c plan (R.keptBy (r .servers c)) r) (foundAs c (recoverOf state log plan) b)
@@ -147,7 +147,7 @@ module _ (plan : List ℕ) {r : R.World} {b : B.World} (l : WorldAlike (planOf p
             subst (λ (k : List ℕ). WorldAlike (planOf plan) (R.recoversTo c g (R.recoverOf plan g) r) (foundAs c (recoverOf state k plan) b)) q
             (from-kept (K .number) (K .keeps))
 
-  pub not-recovered-alike : (p : List ℕ) (a : After) → ((g : R.Log) → R.keptBy (r .servers c) ≡ some g → R.recoverOf p g ≡ none) → a .answer .number ≢ 0
+  pub not-recovered-alike : (p : List ℕ) (a : After) → ((g : R.Log) → R.keptBy (r .servers c) ≡ some g → R.recoverOf p g ≡ none) → a .answer .refusal ≢ 0
       → WorldAlike (planOf plan) (R.recoversFrom c p (R.keptBy (r .servers c)) r) (foundAs c a b)
   unfolding R.recoversFrom R.recoversTo
   not-recovered-alike p a e h = rw (started-refused c a b h) (go (R.keptBy (r .servers c)) e)

@@ -19,7 +19,6 @@ use Rattle.model.specs.Leases.{openOf, renewOf, queryOf}
 use Rattle.laws.specs.Bytes.{Bytes}
 use Rattle.protocol.specs.World as Abstract
 use Rattle.simulation.specs.Worlds.{WorldLike}
-use Rattle.sim_bytes.proofs.Steps.{slice-bytes}
 use Rattle.sim_bytes.proofs.Terms.{request-terms, fetch-terms, sync-terms, notice-terms, give-terms, image-terms, take-terms, receipt-terms, release-terms}
 use Rattle.safety_steps.specs.Left.{Delivered, absent, here}
 use Rattle.safety_steps.proofs.Made.{like-bytes}
@@ -27,6 +26,7 @@ use Rattle.safety_steps.proofs.Calls.{delivered}
 use Rattle.claim.specs.World.{Lent, packet, sends, receives, told}
 use Rattle.claim.specs.World as B
 use Rattle.claim.specs.Provisos.{Typed}
+use Rattle.claim.specs.Provisos as BP
 use Rattle.record_claim.specs.World as R
 use Rattle.record_safety.specs.Alike.{WorldAlike, Performs}
 use Rattle.record_safety.specs.Stands.{Stands}
@@ -55,36 +55,36 @@ module _ (plan : List ℕ) {r : R.World} {b : B.World} {v : Abstract.World} (l :
   manager-alike f y h = subst (λ (m : LeaseManager). WorldAlike (planOf plan) (f m) y) (sym (l .manager)) h
 
   pub step-alike : {e : R.Event} {y : B.Event} → Stands plan r b e y → Typed y → WorldAlike (planOf plan) (R.step r e) (B.step b y)
-  unfolding Typed R.step B.step Performs requestOf fetchOf syncOf noticeOf giveOf imageOf takeOf receiptOf releaseOf
-  step-alike (Stands.founds c state log z) t = founds-alike plan l c state log (slice-bytes (t .0)) (slice-bytes (t .2)) z
+  unfolding Typed BP.Bytes R.step B.step Performs requestOf fetchOf syncOf noticeOf giveOf imageOf takeOf receiptOf releaseOf
+  step-alike (Stands.founds c state log z) t = founds-alike plan l c state log (t .0) (t .1) z
   step-alike (Stands.not-found c p n state log q m e z) t = not-found-alike plan l c p n (foundOf state log q m) e z
-  step-alike (Stands.recovers c state log ok long e) t = recovers-alike plan l c state (slice-bytes (t .0)) long ok log e
+  step-alike (Stands.recovers c state log ok long e) t = recovers-alike plan l c state t long ok log e
   step-alike (Stands.not-recovered c p state log q e z) t = not-recovered-alike plan l c p (recoverOf state log q) e z
   step-alike (Stands.crash c n low high) t = crash-alike l c n low high
-  step-alike (Stands.request c p room u h) t =
-      on-alike c room p u _ (λ s g bs. requestOf s g bs (u .out))
+  step-alike (Stands.request c p vs room u h) t =
+      on-alike c room p u _ (λ s g bs. requestOf vs s g bs (u .out))
       (λ bs x.
-      call-alike (λ s g. requestOf s g bs (u .out)) (u .out) resultSize (λ st free. onRequest st free (parsePacket bs)) (λ s g. refl)
-      (λ st free S. request-terms st free bs x (parsePacket bs) refl) u t l c room h)
+      call-alike (λ s g. requestOf vs s g bs (u .out)) (u .out) resultSize (λ st free. onRequest vs st free (parsePacket bs)) (λ s g. refl)
+      (λ st free S. request-terms st free vs bs x (parsePacket bs) refl) u t l c room h)
   step-alike (Stands.fetch c x n room u h) t =
-      call-alike (λ s g. fetchOf s g x n (u .out)) (u .out) resultSize (λ st free. onFetch st x n) (λ s g. refl) (λ st free S. fetch-terms st free x n) u (t .0) l c room h
+      call-alike (λ s g. fetchOf s g x n (u .out)) (u .out) resultSize (λ st free. onFetch st x n) (λ s g. refl) (λ st free S. fetch-terms st free x n) u t l c room h
   step-alike (Stands.sync c m room u h) t =
-      call-alike (λ s g. syncOf s g m) [] 0 (λ st free. onSync st m) (λ s g. refl) (λ st free S. sync-terms st free m) u (t .0) l c room h
+      call-alike (λ s g. syncOf s g m) [] 0 (λ st free. onSync st m) (λ s g. refl) (λ st free S. sync-terms st free m) u t l c room h
   step-alike (Stands.notice c p room u h) t =
       on-alike c room p u _ noticeOf
       (λ bs x.
       call-alike (λ s g. noticeOf s g bs) [] 0 (λ st free. onNotice st free (parsePacket bs)) (λ s g. refl)
       (λ st free S. notice-terms st free bs x (parsePacket bs) refl) u t l c room h)
   step-alike (Stands.give c p d room u h) t =
-      call-alike (λ s g. giveOf s g p d) [] 0 (λ st free. onGive st free p d) (λ s g. refl) (λ st free S. give-terms st free p d) u (t .0) l c room h
+      call-alike (λ s g. giveOf s g p d) [] 0 (λ st free. onGive st free p d) (λ s g. refl) (λ st free S. give-terms st free p d) u t l c room h
   step-alike (Stands.image c p room u h) t =
-      call-alike (λ s g. imageOf s g p (u .out)) (u .out) greatestImage (λ st free. onImage st p) (λ s g. refl) (λ st free S. image-terms st free S p) u (t .0) l c room h
+      call-alike (λ s g. imageOf s g p (u .out)) (u .out) greatestImage (λ st free. onImage st p) (λ s g. refl) (λ st free S. image-terms st free S p) u t l c room h
   step-alike (Stands.take·image c p room u h) t =
       on-alike c room p u _ takeOf
       (λ bs x.
       call-alike (λ s g. takeOf s g bs) [] 0 (λ st free. onTake st free (parseImage bs)) (λ s g. refl) (λ st free S. take-terms st free bs x (parseImage bs) refl) u t l c room h)
   step-alike (Stands.receipt c p room u h) t =
-      call-alike (λ s g. receiptOf s g p (u .out)) (u .out) receiptSize (λ st free. onReceipt st p) (λ s g. refl) (λ st free S. receipt-terms st free p) u (t .0) l c room h
+      call-alike (λ s g. receiptOf s g p (u .out)) (u .out) receiptSize (λ st free. onReceipt st p) (λ s g. refl) (λ st free S. receipt-terms st free p) u t l c room h
   step-alike (Stands.release c p room u h) t =
       on-alike c room p u _ releaseOf
       (λ bs x.

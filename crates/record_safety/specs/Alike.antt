@@ -62,11 +62,11 @@ Performs f out need d = (s g : List ℕ) → f s g ≡ settle s g out (lent s g 
 
 abbrev pub Founding : List ℕ → ℕ → Type 0
 Founding p n =
-    ((R.foundOf p n ≡ none) × (foundOf (blank stateSize) (blank headSize) p n .answer .number ≢ 0))
-    ⊎ ((R.foundOf p n ≡ some (founded (planOf p) n)) × (foundOf (blank stateSize) (blank headSize) p n .answer .number ≡ 0))
+    ((R.foundOf p n ≡ none) × (foundOf (blank stateSize) (blank headSize) p n .answer .refusal ≢ 0))
+    ⊎ ((R.foundOf p n ≡ some (founded (planOf p) n)) × (foundOf (blank stateSize) (blank headSize) p n .answer .refusal ≡ 0))
 
 -- of a log whose bytes are kept
 abbrev pub Recovery : R.Log → List ℕ → List ℕ → Type 0
 Recovery log kept p =
-    ((R.recoverOf p log ≡ none) × (recoverOf (blank stateSize) kept p .answer .number ≢ 0))
+    ((R.recoverOf p log ≡ none) × (recoverOf (blank stateSize) kept p .answer .refusal ≢ 0))
     ⊎ ((st : State) × (R.recoverOf p log ≡ some st) × (planOk p ≡ true) × (recoveredState (planOf p) kept ≡ some st))

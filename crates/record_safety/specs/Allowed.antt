@@ -20,7 +20,7 @@ pub record FoundOk (plan : List ℕ) (w : World) (c : ℕ) (p : List ℕ) (k : �
 
 unfoldable pub Keeps : List ℕ → World → Event → Type 0
 Keeps plan w (R.found c p k) = (st : State) → foundOf p k ≡ some st → FoundOk plan w c p k
-Keeps plan w (R.request c p room) = Unit
+Keeps plan w (R.request c p vs room) = Unit
 Keeps plan w (R.fetch c x k room) = Unit
 Keeps plan w (R.sync c m room) = Unit
 Keeps plan w (R.notice c p room) = Unit

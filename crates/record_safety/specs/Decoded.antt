@@ -20,12 +20,12 @@ roomOf (B.crashed kept mark) t out need = 0
 
 -- the plan; none where found or recover is refused, so that it is refused
 unfoldable pub planIf : After → List ℕ → List ℕ
-planIf a p = pick (eqb (a .answer .number) 0) p []
+planIf a p = pick (eqb (a .answer .refusal) 0) p []
 
 -- the event of the byte world w
 unfoldable pub decoded : B.World → B.Event → R.Event
 decoded w (B.found c state log p n) = R.found c (planIf (foundOf state log p n) p) n
-decoded w (B.request c p t) = R.request c p (roomOf (w .servers c) t (t .out) resultSize)
+decoded w (B.request c p vs t) = R.request c p vs (roomOf (w .servers c) t (t .out) resultSize)
 decoded w (B.fetch c x k t) = R.fetch c x k (roomOf (w .servers c) t (t .out) resultSize)
 decoded w (B.sync c m t) = R.sync c m (roomOf (w .servers c) t [] 0)
 decoded w (B.notice c p t) = R.notice c p (roomOf (w .servers c) t [] 0)

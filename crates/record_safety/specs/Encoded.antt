@@ -24,7 +24,7 @@ logIn (B.crashed kept mark) = kept
 -- the event of the byte world w
 unfoldable pub encoded : B.World → R.Event → B.Event
 encoded w (R.found c plan n) = B.found c (blank stateSize) (blank headSize) plan n
-encoded w (R.request c p room) = B.request c p (lentFor room)
+encoded w (R.request c p vs room) = B.request c p vs (lentFor room)
 encoded w (R.fetch c x k room) = B.fetch c x k (lentFor room)
 encoded w (R.sync c m room) = B.sync c m (lentFor room)
 encoded w (R.notice c p room) = B.notice c p (lentFor room)

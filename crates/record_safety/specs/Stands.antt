@@ -7,6 +7,7 @@ use mathlib.Core.List.{List, []}
 use mathlib.Core.Logic.{_⊎_, _≢_}
 use mathlib.Core.Option.{none, some}
 use lib.ListN.{length}
+use Rattle.model.specs.Versions.{Versions}
 use Rattle.model.specs.Limits.{stateSize, resultSize, receiptSize, greatestImage}
 use Rattle.model.specs.Plan.{planOk}
 use Rattle.model.specs.States.{load}
@@ -28,16 +29,16 @@ RoomFor (B.crashed kept mark) t out need room = Unit
 
 pub data Stands (plan : List ℕ) (r : R.World) (b : B.World) : R.Event → B.Event → Type 0 where
   -- found and recover succeed in both worlds, or are refused in both
-  founds : (c : ℕ) (state log : List ℕ) → foundOf state log plan c .answer .number ≡ 0 → Stands plan r b (R.found c plan c) (B.found c state log plan c)
-  not-found : (c : ℕ) (p : List ℕ) (n : ℕ) (state log q : List ℕ) (m : ℕ) → R.foundOf p n ≡ none → foundOf state log q m .answer .number ≢ 0
+  founds : (c : ℕ) (state log : List ℕ) → foundOf state log plan c .answer .refusal ≡ 0 → Stands plan r b (R.found c plan c) (B.found c state log plan c)
+  not-found : (c : ℕ) (p : List ℕ) (n : ℕ) (state log q : List ℕ) (m : ℕ) → R.foundOf p n ≡ none → foundOf state log q m .answer .refusal ≢ 0
       → Stands plan r b (R.found c p n) (B.found c state log q m)
   recovers : (c : ℕ) (state log : List ℕ) → planOk plan ≡ true → stateSize ≤ length state → keptBy (b .servers c) ≡ some log
       → Stands plan r b (R.recover c plan) (B.recover c state log plan)
   not-recovered : (c : ℕ) (p state log q : List ℕ) → ((g : R.Log) → R.keptBy (r .servers c) ≡ some g → R.recoverOf p g ≡ none)
-      → recoverOf state log q .answer .number ≢ 0 → Stands plan r b (R.recover c p) (B.recover c state log q)
+      → recoverOf state log q .answer .refusal ≢ 0 → Stands plan r b (R.recover c p) (B.recover c state log q)
   crash : (c k : ℕ) → markOf (r .servers c) ≤ k → k ≤ lengthOf (r .servers c) → Stands plan r b (R.crash c k) (B.crash c k)
   -- calls of a server
-  request : (c p room : ℕ) (t : Lent) → RoomFor (b .servers c) t (t .out) resultSize room → Stands plan r b (R.request c p room) (B.request c p t)
+  request : (c p : ℕ) (vs : Versions) (room : ℕ) (t : Lent) → RoomFor (b .servers c) t (t .out) resultSize room → Stands plan r b (R.request c p vs room) (B.request c p vs t)
   fetch : (c x k room : ℕ) (t : Lent) → RoomFor (b .servers c) t (t .out) resultSize room → Stands plan r b (R.fetch c x k room) (B.fetch c x k t)
   sync : (c m room : ℕ) (t : Lent) → RoomFor (b .servers c) t [] 0 room → Stands plan r b (R.sync c m room) (B.sync c m t)
   notice : (c p room : ℕ) (t : Lent) → RoomFor (b .servers c) t [] 0 room → Stands plan r b (R.notice c p room) (B.notice c p t)

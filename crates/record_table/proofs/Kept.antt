@@ -46,8 +46,8 @@ module _ (fs : List Floor) where
 pub clients-within : (s : List ℕ) {n : ℕ} → stateEnd ≤ length s → clientsIn s ≤ clientCount → n ≡ length (load s .floors) → floorsStart + 8 * n ≤ length s
 clients-within s l h e = omega (arith, floors-count s)
 
-pub floor-stays : (s : List ℕ) (r : Completion) {n f : ℕ} → n ≡ length (load s .floors) → f ≡ floorOf (r .client) (rows floorOfBytes floorRow n (drop floorsStart s))
-    → leb f (r .call) ≡ staysBy OverFloors (load s .floors) r
+pub floor-stays : (s : List ℕ) (r : Completion) {n f : ℕ} → n ≡ length (load s .floors) → f ≡ floorOf (r .command .client) (rows floorOfBytes floorRow n (drop floorsStart s))
+    → leb f (r .command .call) ≡ staysBy OverFloors (load s .floors) r
 unfolding staysBy staysOverFloors
 floor-stays s r {n} {f} e p = rw (p, e ∙ floors-count s) (unfold load in refl)
 

@@ -1,14 +1,15 @@
 // The completion records' table of a server's state, in order of arrival: a record found by its id, records added, and those kept that a
 // rule lets stay. What a change leaves is the bytes of the changed state.
-use image_rows::ENTRY_ROW;
-use image_rows::FLOOR_ROW;
-use image_rows::LEAST_IMAGE;
+use model::Command;
 use model::Completion;
 use model::ImageEntry;
 use model::ImageHead;
-use state_rows::FLOORS_START;
-use state_rows::RECORD_ROW;
-use state_rows::RECORDS_START;
+use model::constants::ENTRY_ROW;
+use model::constants::FLOOR_ROW;
+use model::constants::FLOORS_START;
+use model::constants::LEAST_IMAGE;
+use model::constants::RECORD_ROW;
+use model::constants::RECORDS_START;
 ghost use mathlib.Core.Path.{_≡_};
 ghost use Prim.Native.Nat.{_+_, _-_, _*_, _≤_, _<_};
 ghost use mathlib.Core.List.{[], _∷_, _++_};
@@ -78,12 +79,12 @@ fn stays(s: &[u8], rule: Rule, r: Completion) -> bool
     ensures { λ b. ⌜ b ≡ staysBy rule (load (now (s .entry)) .floors) r ⌝ }
 {
     match rule {
-        Rule::OverFloor(x, floor) => (r.client != x) | (floor <= r.call),
-        Rule::OfOther(x) => r.client != x,
-        Rule::OnOther(p) => r.point != p,
+        Rule::OverFloor(x, floor) => (r.command.client != x) | (floor <= r.command.call),
+        Rule::OfOther(x) => r.command.client != x,
+        Rule::OnOther(p) => r.command.point != p,
         Rule::OverFloors => {
-            let floor = floors::floor_of(s, FLOORS_START, state::clients_of(s), r.client);
-            floor <= r.call
+            let floor = floors::floor_of(s, FLOORS_START, state::clients_of(s), r.command.client);
+            floor <= r.command.call
         }
     }
 }
@@ -172,15 +173,17 @@ pub fn append(s: &mut [u8], r: Completion)
 fn taken_record(point: u8, end: u64, e: ImageEntry) -> Completion
     ensures { λ r. ⌜ r ≡ takenRecord point end e ⌝ }
 {
-    Completion {
+    let command = Command {
         client: e.client,
         call: e.call,
-        argument: e.argument,
-        value: e.value,
         op: e.op,
-        outcome: e.outcome,
-        quality: e.quality,
         point: point,
+        argument: e.argument,
+    };
+    let result = e.result;
+    Completion {
+        command,
+        result,
         end: end,
     }
 }

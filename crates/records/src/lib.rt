@@ -1,8 +1,11 @@
 // The log's head and its records: where a record ends, and what it says.
+use model::Command;
+use model::CommandResult;
 use model::Executed;
 use model::Give;
 use model::Notice;
 use model::Release;
+use model::constants;
 ghost use mathlib.Core.Path.{_≡_};
 ghost use Prim.Native.Nat.{_+_, _≤_, _<_};
 ghost use lib.ListN.{length};
@@ -49,14 +52,15 @@ pub enum Found {
 pub fn head_ok(log: &[u8]) -> bool
     ensures { λ r. ⌜ r ≡ headOk (now (log .entry)) ⌝ }
 {
-    if log.len() < appends::HEAD_SIZE {
+    if log.len() < constants::HEAD_SIZE {
         return false;
     }
     let zeros = wire::zeros3_at(log, 5);
-    (log[0] == appends::MAGIC[0])
-        & ((log[1] == appends::MAGIC[1])
-            & ((log[2] == appends::MAGIC[2])
-                & ((log[3] == appends::MAGIC[3]) & ((log[4] <= wire::LAST_SERVER) & zeros))))
+    (log[0] == constants::LOG_MAGIC[0])
+        & ((log[1] == constants::LOG_MAGIC[1])
+            & ((log[2] == constants::LOG_MAGIC[2])
+                & ((log[3] == constants::LOG_MAGIC[3])
+                    & ((log[4] <= constants::LAST_SERVER) & zeros))))
 }
 
 pub fn head_server(log: &[u8]) -> u8
@@ -82,14 +86,14 @@ fn extent_within(s: &[u8], n: usize) -> Extent
 fn take_extent(s: &[u8]) -> Extent
     ensures { λ r. ⌜ extentMeans r ≡ takeExtent (now (s .entry)) ⌝ }
 {
-    if s.len() < appends::TAKE_HEAD {
+    if s.len() < constants::TAKE_HEAD {
         return Extent::Cut;
     }
     let n = wire::read_u32(s, 4) as usize;
-    if (n < image_rows::LEAST_IMAGE) | (image_rows::GREATEST_IMAGE < n) {
+    if (n < constants::LEAST_IMAGE) | (constants::GREATEST_IMAGE < n) {
         return Extent::Off;
     }
-    extent_within(s, appends::TAKE_HEAD + n)
+    extent_within(s, constants::TAKE_HEAD + n)
 }
 
 // The record at the front of s.
@@ -98,11 +102,11 @@ fn extent_of(s: &[u8]) -> Extent
     ensures { λ r. ⌜ extentMeans r ≡ extentOf (now (s .entry)) ⌝ }
 {
     match s[0] {
-        1 => extent_within(s, appends::EXECUTED_SIZE),
-        2 => extent_within(s, appends::GONE_SIZE),
-        3 => extent_within(s, appends::GIVE_SIZE),
-        4 => take_extent(s),
-        5 => extent_within(s, appends::RELEASE_SIZE),
+        constants::EXECUTED_KIND => extent_within(s, constants::EXECUTED_SIZE),
+        constants::GONE_KIND => extent_within(s, constants::GONE_SIZE),
+        constants::GIVE_KIND => extent_within(s, constants::GIVE_SIZE),
+        constants::TAKE_KIND => take_extent(s),
+        constants::RELEASE_KIND => extent_within(s, constants::RELEASE_SIZE),
         0 | 6..=255 => Extent::Off,
     }
 }
@@ -123,26 +127,32 @@ fn executed_at(s: &[u8]) -> Executed
     requires { ⌜ 28 ≤ length (now s) ⌝ }
     ensures { λ r. ⌜ r ≡ executedAt (now (s .entry)) ⌝ }
 {
-    Executed {
-        op: s[1],
-        point: s[2],
-        outcome: s[3],
+    let command = Command {
         client: wire::read_u32(s, 4),
         call: wire::read_u32(s, 8),
-        done: wire::read_u32(s, 12),
+        op: s[1],
+        point: s[2],
         argument: wire::read_signed(s, 16),
+    };
+    let result = CommandResult {
+        outcome: s[3],
         value: wire::read_signed(s, 20),
         quality: s[24],
+    };
+    Executed {
+        command,
+        done: wire::read_u32(s, 12),
+        result,
     }
 }
 
 fn executed_ok(x: Executed) -> bool
     ensures { λ r. ⌜ r ≡ executedOk x ⌝ }
 {
-    let command = wire::command_ok(x.op, x.point, x.argument);
-    let outcome = wire::outcome_ok(x.outcome, x.quality);
-    let id = wire::id_ok(x.client, x.call);
-    let done = wire::done_ok(x.done, x.call);
+    let command = wire::command_ok(x.command.op, x.command.point, x.command.argument);
+    let outcome = wire::outcome_ok(x.result.outcome, x.result.quality);
+    let id = wire::id_ok(x.command.client, x.command.call);
+    let done = wire::done_ok(x.done, x.command.call);
     command & (outcome & (id & done))
 }
 
@@ -153,14 +163,14 @@ fn give_at(s: &[u8]) -> Give
     Give {
         point: s[1],
         destination: s[2],
-        number: wire::read_u32(s, 4),
+        moveNumber: wire::read_u32(s, 4),
     }
 }
 
 fn give_ok(g: Give) -> bool
     ensures { λ r. ⌜ r ≡ giveOk g ⌝ }
 {
-    (g.point <= wire::LAST_POINT) & (g.destination <= wire::LAST_SERVER)
+    (g.point <= constants::LAST_POINT) & (g.destination <= constants::LAST_SERVER)
 }
 
 fn release_at(s: &[u8]) -> Release
@@ -169,14 +179,14 @@ fn release_at(s: &[u8]) -> Release
 {
     Release {
         point: s[1],
-        number: wire::read_u32(s, 4),
+        moveNumber: wire::read_u32(s, 4),
     }
 }
 
 fn release_ok(x: Release) -> bool
     ensures { λ r. ⌜ r ≡ releaseOk x ⌝ }
 {
-    x.point <= wire::LAST_POINT
+    x.point <= constants::LAST_POINT
 }
 
 // What was found, if its zero bytes and fields are as they should be.
@@ -215,10 +225,10 @@ fn take_from(s: &[u8], at: usize, n: usize) -> Record
     requires { ⌜ (8 ≤ n) × (n ≤ length (now s)) × (at + n < 18446744073709551616) ⌝ }
     ensures { λ r. ⌜ r ≡ takeFrom (now (s .entry)) at n ⌝ }
 {
-    let image = images::image_ok(&s[appends::TAKE_HEAD..n]);
+    let image = images::image_ok(&s[constants::TAKE_HEAD..n]);
     let place = Span {
-        from: at + appends::TAKE_HEAD,
-        len: n - appends::TAKE_HEAD,
+        from: at + constants::TAKE_HEAD,
+        len: n - constants::TAKE_HEAD,
     };
     checked(wire::zeros3_at(s, 1) & image, Record::Took(place))
 }
@@ -241,11 +251,11 @@ fn record_from(s: &[u8], at: usize, n: usize) -> Record
     ensures { λ r. ⌜ r ≡ recordFrom (now (s .entry)) at n ⌝ }
 {
     match s[0] {
-        1 => executed_from(s),
-        2 => gone_from(s),
-        3 => give_from(s),
-        4 => take_from(s, at, n),
-        5 => release_from(s),
+        constants::EXECUTED_KIND => executed_from(s),
+        constants::GONE_KIND => gone_from(s),
+        constants::GIVE_KIND => give_from(s),
+        constants::TAKE_KIND => take_from(s, at, n),
+        constants::RELEASE_KIND => release_from(s),
         0 | 6..=255 => Record::Broken,
     }
 }

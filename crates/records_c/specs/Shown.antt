@@ -13,6 +13,7 @@ use Rattle.model.specs.declared.ImageHead.{ImageHead}
 use Rattle.model.specs.Choice.{pick}
 use Rattle.model.specs.Numbers.{word, flip, le32}
 use Rattle.model.specs.Tables.{written}
+use Rattle.model.specs.Limits.{executedKind, goneKind, giveKind, takeKind, releaseKind}
 use Rattle.model.specs.Images.{imageOk, imageHeadOf, imageAt}
 use Rattle.model.specs.Logs.{LogRecord, executed, gone, gave, took, released, recordBytes, recordSize, recordAt, Extent, off, cut, spans}
 use Rattle.laws.specs.Fits.{imageHead}
@@ -50,20 +51,20 @@ blank k n = eleven k n 0 0 0 0 0 0 0 0 0
 
 unfoldable pub executedWords : ℕ → Executed → Words
 executedWords n x =
-    eleven 1 n (x .op) (x .point) (x .outcome) (x .client) (x .call) (x .done) (flip (x .argument)) (flip (x .value)) (x .quality)
+    eleven executedKind n (x .command .op) (x .command .point) (x .result .outcome) (x .command .client) (x .command .call) (x .done) (flip (x .command .argument)) (flip (x .result .value)) (x .result .quality)
 
 unfoldable pub headWords : ℕ → ImageHead → Words
 headWords n h =
-    eleven 4 n (h .point) (h .destination) (h .source) (h .number) (h .heard) (flip (h .value)) (h .quality) (h .floors) (h .entries)
+    eleven takeKind n (h .point) (h .destination) (h .source) (h .moveNumber) (h .heard) (flip (h .value)) (h .quality) (h .floors) (h .entries)
 
 -- a whole record of n bytes
 unfoldable pub recordWords : ℕ → Option LogRecord → Words
 recordWords n none = blank 7 n
 recordWords n (some (executed x)) = executedWords n x
-recordWords n (some (gone x)) = eleven 2 n (x .client) (x .time) 0 0 0 0 0 0 0
-recordWords n (some (gave x)) = eleven 3 n (x .point) (x .destination) (x .number) 0 0 0 0 0 0
+recordWords n (some (gone x)) = eleven goneKind n (x .client) (x .time) 0 0 0 0 0 0 0
+recordWords n (some (gave x)) = eleven giveKind n (x .point) (x .destination) (x .moveNumber) 0 0 0 0 0 0
 recordWords n (some (took i)) = headWords n (imageHead i)
-recordWords n (some (released x)) = eleven 5 n (x .point) (x .number) 0 0 0 0 0 0 0
+recordWords n (some (released x)) = eleven releaseKind n (x .point) (x .moveNumber) 0 0 0 0 0 0 0
 
 unfoldable pub shown : Extent → Option LogRecord → Words
 shown off o = blank 0 0

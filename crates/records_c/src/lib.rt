@@ -1,10 +1,13 @@
 // The log's records for a test program in C or Rust that compares them with another program's: a record as eleven numbers of 32
 // bits, little-endian, and an append for each kind. Signed fields are in two's complement.
+use model::Command;
+use model::CommandResult;
 use model::Executed;
 use model::Give;
 use model::ImageHead;
 use model::Notice;
 use model::Release;
+use model::constants;
 use records::Extent;
 use records::Record;
 ghost use mathlib.Core.Path.{_≡_};
@@ -77,15 +80,15 @@ fn executed_words(size: u32, x: Executed) -> Words
     numbered(
         1,
         size,
-        x.op as u32,
-        x.point as u32,
-        x.outcome as u32,
-        x.client,
-        x.call,
+        x.command.op as u32,
+        x.command.point as u32,
+        x.result.outcome as u32,
+        x.command.client,
+        x.command.call,
         x.done,
-        wire::flipped(x.argument),
-        wire::flipped(x.value),
-        x.quality as u32,
+        wire::flipped(x.command.argument),
+        wire::flipped(x.result.value),
+        x.result.quality as u32,
     )
 }
 
@@ -98,7 +101,7 @@ fn head_words(size: u32, h: ImageHead) -> Words
         h.point as u32,
         h.destination as u32,
         h.source as u32,
-        h.number,
+        h.moveNumber,
         h.heard,
         wire::flipped(h.value),
         h.quality as u32,
@@ -131,7 +134,7 @@ fn record_words(log: &[u8], at: usize, n: usize) -> Words
             size,
             x.point as u32,
             x.destination as u32,
-            x.number,
+            x.moveNumber,
             0,
             0,
             0,
@@ -139,8 +142,8 @@ fn record_words(log: &[u8], at: usize, n: usize) -> Words
             0,
             0,
         ),
-        Record::Took(_) => image_words(size, log, at + appends::TAKE_HEAD, at + n),
-        Record::Released(x) => numbered(5, size, x.point as u32, x.number, 0, 0, 0, 0, 0, 0, 0),
+        Record::Took(_) => image_words(size, log, at + constants::TAKE_HEAD, at + n),
+        Record::Released(x) => numbered(5, size, x.point as u32, x.moveNumber, 0, 0, 0, 0, 0, 0, 0),
     }
 }
 
@@ -259,21 +262,27 @@ pub extern "C" fn mantelorris_test_append_executed(
     value: u32,
     quality: u8,
 ) -> u64
-    ensures { λ r. ⌜ after r (now (log .exit)) ≡ appending (now (log .entry)) at (executed (record { op = op; point = point; outcome = outcome; client = client; call = call; done = done; argument = flip argument; value = flip value; quality = quality })) ⌝ }
+    ensures { λ r. ⌜ after r (now (log .exit)) ≡ appending (now (log .entry)) at (executed (record { command = record { client = client; call = call; op = op; point = point; argument = flip argument }; done = done; result = record { outcome = outcome; value = flip value; quality = quality } })) ⌝ }
 {
-    if !has_room(log, at as usize, appends::EXECUTED_SIZE) {
+    if !has_room(log, at as usize, constants::EXECUTED_SIZE) {
         return 0;
     }
-    let x = Executed {
-        op: op,
-        point: point,
-        outcome: outcome,
+    let command = Command {
         client: client,
         call: call,
-        done: done,
+        op: op,
+        point: point,
         argument: wire::flipped(argument),
+    };
+    let result = CommandResult {
+        outcome: outcome,
         value: wire::flipped(value),
         quality: quality,
+    };
+    let x = Executed {
+        command,
+        done: done,
+        result,
     };
     appends::append_executed(log, at as usize, x);
     28
@@ -288,7 +297,7 @@ pub extern "C" fn mantelorris_test_append_gone(
 ) -> u64
     ensures { λ r. ⌜ after r (now (log .exit)) ≡ appending (now (log .entry)) at (gone (record { client = client; time = time })) ⌝ }
 {
-    if !has_room(log, at as usize, appends::GONE_SIZE) {
+    if !has_room(log, at as usize, constants::GONE_SIZE) {
         return 0;
     }
     appends::append_gone(
@@ -310,9 +319,9 @@ pub extern "C" fn mantelorris_test_append_give(
     destination: u8,
     number: u32,
 ) -> u64
-    ensures { λ r. ⌜ after r (now (log .exit)) ≡ appending (now (log .entry)) at (gave (record { point = point; destination = destination; number = number })) ⌝ }
+    ensures { λ r. ⌜ after r (now (log .exit)) ≡ appending (now (log .entry)) at (gave (record { point = point; destination = destination; moveNumber = number })) ⌝ }
 {
-    if !has_room(log, at as usize, appends::GIVE_SIZE) {
+    if !has_room(log, at as usize, constants::GIVE_SIZE) {
         return 0;
     }
     appends::append_give(
@@ -321,7 +330,7 @@ pub extern "C" fn mantelorris_test_append_give(
         Give {
             point: point,
             destination: destination,
-            number: number,
+            moveNumber: number,
         },
     );
     8
@@ -335,7 +344,7 @@ pub extern "C" fn mantelorris_test_append_take(log: &mut [u8], at: u64, image: &
     if !images::image_ok(image) {
         return 0;
     }
-    if !has_room(log, at as usize, appends::TAKE_HEAD + image.len()) {
+    if !has_room(log, at as usize, constants::TAKE_HEAD + image.len()) {
         return 0;
     }
     appends::append_take(log, at as usize, image);
@@ -349,9 +358,9 @@ pub extern "C" fn mantelorris_test_append_release(
     point: u8,
     number: u32,
 ) -> u64
-    ensures { λ r. ⌜ after r (now (log .exit)) ≡ appending (now (log .entry)) at (released (record { point = point; number = number })) ⌝ }
+    ensures { λ r. ⌜ after r (now (log .exit)) ≡ appending (now (log .entry)) at (released (record { point = point; moveNumber = number })) ⌝ }
 {
-    if !has_room(log, at as usize, appends::RELEASE_SIZE) {
+    if !has_room(log, at as usize, constants::RELEASE_SIZE) {
         return 0;
     }
     appends::append_release(
@@ -359,7 +368,7 @@ pub extern "C" fn mantelorris_test_append_release(
         at as usize,
         Release {
             point: point,
-            number: number,
+            moveNumber: number,
         },
     );
     8

@@ -1,7 +1,7 @@
 -- The whole recovery: founding, all records, the mark; and the operation.
 --     begun, ended-standing         founding leaves a sound state at the head's end; so do all records
 --     no-head, no-replay, rebuilt-done     what rebuilding answers
---     recover-no, recover-done      the last two answers of the operation
+--     recover-refused, long-passed, plan-passed, recover-no, recover-done     the answers of the operation
 -- Assumes nothing.
 use Prim.Native.Nat.{ℕ, _+_, _*_, _≤_, _<_}
 use mathlib.Core.Path.{_≡_, refl, sym, ap, _∙_}
@@ -11,19 +11,21 @@ use mathlib.Core.Option.{Option, none, some}
 use native.Mathlib.Omega.{arith}
 use lib.ListN.{length, drop, drop-of-length-le}
 use lib.Dec.{eqb, leb, ltb}
-use borrow.Author.Tests.{leb-true, ltb-false}
+use borrow.Author.Tests.{leb-true, ltb-false, ne-eqb, not-false}
 use Rattle.model.specs.Choice.{pick}
 use Rattle.model.specs.Limits.{lastServer, stateSize, headSize}
+use Rattle.model.specs.Refusals.{malformed, tooShort}
 use Rattle.model.specs.Numbers.{word, byteAt, zeros3At}
 use Rattle.model.specs.Tables.{written}
 use Rattle.model.specs.Plan.{planOk, planOf}
 use Rattle.model.specs.Logs.{headOk, headServer, entriesOf}
 use Rattle.model.specs.States.{State, load, stateBytes, stateEnd}
 use Rattle.model.specs.Apply.{founded, withMark}
-use Rattle.model.specs.Operations.{After, after, answerOf, short, stored, recoveredState, settleRecovered, recoverOf}
+use Rattle.model.specs.Operations.{After, after, answerOf, settle, stored, leftUnless, recoveredState, settleRecovered, recoverRefusal, recoverOf}
 use Rattle.laws.specs.Bytes.{Bytes}
 use Rattle.laws.specs.Fits.{StateFits}
 use Rattle.laws.proofs.Tests.{joined-all}
+use Rattle.laws.proofs.Refused.{if-passed}
 use Rattle.laws.proofs.Written.{written-front}
 use Rattle.laws.proofs.States.{state-length}
 use Rattle.limits.specs.Sound.{Sound}
@@ -99,29 +101,39 @@ module _ {log plan s1 s2 : List ℕ} {t : Bool} (w : Begun log plan s1) (d : End
 
 -- ---- the operation
 
-pub long-passed : (state : List ℕ) {t : Bool} → t ≡ short state stateSize → t ≡ false → stateSize ≤ length state
-unfolding short
-long-passed state p q = ltb-false (length state) stateSize (sym p ∙ q)
+-- by the refusal's number, with the plan's test as a call gave it
+module _ (state log plan : List ℕ) {g : Bool} (p : g ≡ planOk plan) {k : ℕ} (q : k ≡ recoverRefusal (length state) g) where
+  pub recover-refused : (k ≡ 0 → ⊥) → after (answerOf k 0) state log [] ≡ recoverOf state log plan
+  unfolding recoverOf leftUnless settle
+  recover-refused h = rw (← p, ← q, ne-eqb k 0 h)
 
-module _ (state log plan : List ℕ) where
-  pub recover-no : (work : List ℕ) {t u v : Bool} → t ≡ short state stateSize → t ≡ false → u ≡ planOk plan → u ≡ true → rebuilt v work ≡ recoveredBytes (recoveredState (planOf plan) log) → v ≡ false
-      → after (answerOf 14 0) state log [] ≡ recoverOf state log plan
-  unfolding recoverOf rebuilt recoveredBytes settleRecovered
-  recover-no work {t} {u} {v} p p' q q' r f =
-      rw (sym p ∙ p', sym q ∙ q') (go (recoveredState (planOf plan) log) (rw f at r))
-    where
-      go : (o : Option State) → none ≡ recoveredBytes o → after (answerOf 14 0) state log [] ≡ settleRecovered state log o
-      go none e = refl
-      go (some st) e = let z : _≡_ {A = ℕ} 0 1 = cc in absurd (omega arith)
+  module _ (z : k ≡ 0) where
+    tests : (ltb (length state) stateSize ≡ false) × (not g ≡ false)
+    unfolding recoverRefusal
+    tests = let a = if-passed tooShort refl (ltb (length state) stateSize) _ (sym q ∙ z) in (a .0, if-passed malformed refl (not g) 0 (a .1) .0)
 
-  pub recover-done : (work : List ℕ) {state' : List ℕ} {t u v : Bool} → t ≡ short state stateSize → t ≡ false → u ≡ planOk plan → u ≡ true → rebuilt v work ≡ recoveredBytes (recoveredState (planOf plan) log) → v ≡ true
-      → state' ≡ written state 0 work → after (answerOf 0 0) state' log [] ≡ recoverOf state log plan
-  unfolding recoverOf rebuilt recoveredBytes settleRecovered stored
-  recover-done work {state'} {t} {u} {v} p p' q q' r f c =
-      rw (sym p ∙ p', sym q ∙ q') (go (recoveredState (planOf plan) log) (rw f at r))
-    where
-      go : (o : Option State) → some work ≡ recoveredBytes o → after (answerOf 0 0) state' log [] ≡ settleRecovered state log o
-      go none e = let z : _≡_ {A = ℕ} 0 1 = cc in absurd (omega arith)
-      go (some st) e =
-          let w : work ≡ stateBytes (withMark (st .size) st) = cc in
-          ap (λ (x : List ℕ). after (answerOf 0 0) x log []) (c ∙ ap (written state 0) w)
+    pub long-passed : stateSize ≤ length state
+    long-passed = ltb-false (length state) stateSize (tests .0)
+
+    pub plan-passed : planOk plan ≡ true
+    plan-passed = sym p ∙ not-false g (tests .1)
+
+    pub recover-no : (work : List ℕ) {v : Bool} → rebuilt v work ≡ recoveredBytes (recoveredState (planOf plan) log) → v ≡ false
+        → after (answerOf 14 0) state log [] ≡ recoverOf state log plan
+    unfolding recoverOf leftUnless rebuilt recoveredBytes settleRecovered settle
+    recover-no work {v} r f = rw (← p, ← q, z) (go (recoveredState (planOf plan) log) (rw f at r))
+      where
+        go : (o : Option State) → none ≡ recoveredBytes o → after (answerOf 14 0) state log [] ≡ settleRecovered state log o
+        go none e = refl
+        go (some st) e = let z : _≡_ {A = ℕ} 0 1 = cc in absurd (omega arith)
+
+    pub recover-done : (work : List ℕ) {state' : List ℕ} {v : Bool} → rebuilt v work ≡ recoveredBytes (recoveredState (planOf plan) log) → v ≡ true
+        → state' ≡ written state 0 work → after (answerOf 0 0) state' log [] ≡ recoverOf state log plan
+    unfolding recoverOf leftUnless rebuilt recoveredBytes settleRecovered settle stored
+    recover-done work {state'} {v} r f c = rw (← p, ← q, z) (go (recoveredState (planOf plan) log) (rw f at r))
+      where
+        go : (o : Option State) → some work ≡ recoveredBytes o → after (answerOf 0 0) state' log [] ≡ settleRecovered state log o
+        go none e = let z : _≡_ {A = ℕ} 0 1 = cc in absurd (omega arith)
+        go (some st) e =
+            let w : work ≡ stateBytes (withMark (st .size) st) = cc in
+            ap (λ (x : List ℕ). after (answerOf 0 0) x log []) (c ∙ ap (written state 0) w)

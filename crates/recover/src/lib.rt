@@ -1,20 +1,20 @@
 // Recover: the state that a kept log gives.
 use model::Answer;
+use model::constants;
+use model::constants::BAD_LOG;
 use records::Extent;
 use records::Record;
-use state_rows::STATE_SIZE;
 ghost use mathlib.Core.Path.{_≡_};
 ghost use mathlib.Core.Bool.{true};
 ghost use mathlib.Core.List.{[]};
 ghost use Prim.Native.Nat.{_+_, _-_, _≤_};
 ghost use lib.ListN.{length, drop};
-ghost use Rattle.model.specs.Limits.{stateSize};
 ghost use Rattle.model.specs.Plan.{planOk, planOf};
 ghost use Rattle.model.specs.Images.{imageOk};
 ghost use Rattle.model.specs.Logs.{headOk, took, spans, recordAt};
 ghost use Rattle.model.specs.States.{load, stateEnd};
 ghost use Rattle.model.specs.Decisions.{follows};
-ghost use Rattle.model.specs.Operations.{after, short, recoveredState, recoverOf};
+ghost use Rattle.model.specs.Operations.{after, recoveredState, recoverOf};
 ghost use Rattle.laws.specs.Bytes.{part};
 ghost use Rattle.records.specs.Answers.{extentFrom};
 ghost use Rattle.replay.specs.Standing.{Ready, replayed};
@@ -80,7 +80,7 @@ fn replay_log(s: &mut [u8], log: &[u8]) -> bool
     requires { ⌜ StandsAt (now s) 8 ⌝ }
     ensures { λ r. ⌜ Ended (now (log .entry)) 8 (load (now (s .entry))) (now (s .exit)) r ⌝ }
 {
-    let mut at = 8;
+    let mut at = constants::HEAD_SIZE;
     loop {
         let next = advance(s, log, at);
         match next {
@@ -119,48 +119,37 @@ fn rebuild(work: &mut [u8], log: &[u8], plan: &[u8]) -> bool
     true
 }
 
-// Under 32,768 bytes.
-fn is_short(state: &[u8]) -> bool
-    ensures { λ r. ⌜ r ≡ short (now (state .entry)) stateSize ⌝ }
-{
-    state.len() < STATE_SIZE
-}
-
 // A refusal leaves the lent state as it was, so the records are replayed in a buffer apart.
 fn recover_with(state: &mut [u8], work: &mut [u8], log: &[u8], plan: &[u8]) -> Answer
     requires { ⌜ length (now work) ≡ stateEnd ⌝ }
     ensures { λ r. ⌜ after r (now (state .exit)) (now (log .entry)) [] ≡ recoverOf (now (state .entry)) (now (log .entry)) (now (plan .entry)) ⌝ }
 {
-    if is_short(state) {
+    let good = command::plan_ok(plan);
+    let k = decide::recover_refusal(state.len(), good);
+    if k != 0 {
         return Answer {
-            number: 2,
-            wrote: 0,
-        };
-    }
-    if !command::plan_ok(plan) {
-        return Answer {
-            number: 1,
+            refusal: k,
             wrote: 0,
         };
     }
     if !rebuild(work, log, plan) {
         return Answer {
-            number: 14,
+            refusal: BAD_LOG,
             wrote: 0,
         };
     }
     appends::copy_bytes(state, work);
     Answer {
-        number: 0,
+        refusal: constants::NO_REFUSAL,
         wrote: 0,
     }
 }
 
 // A buffer of the state's size.
-fn blank() -> [u8; 17704]
+fn blank() -> [u8; constants::STATE_END]
     ensures { λ r. ⌜ length r ≡ stateEnd ⌝ }
 {
-    [0; 17704]
+    [0; constants::STATE_END]
 }
 
 // 2 state too short; 1 bad plan; 14 the head or a whole record breaks its layout, or a record cannot follow the state; else the state that

@@ -1,21 +1,26 @@
 -- One record replayed.
 --     replayed-no, replayed-yes     one that does not follow, and one that does
 --     free-yes, free-no             what a search answers of a free id, and of another
+--     gave-tests                    a give in range
 -- Assumes nothing.
-use Prim.Native.Nat.{ℕ}
+use Prim.Native.Nat.{ℕ, suc, _+_, _≤_}
 use mathlib.Core.Path.{_≡_, refl, sym, ap, _∙_}
-use mathlib.Core.Bool.{Bool, true, false}
+use mathlib.Core.Bool.{Bool, true, false, _&&_}
 use mathlib.Core.List.{List}
 use mathlib.Core.Option.{Option, none, some}
 use native.Mathlib.Omega.{arith}
+use native.Mathlib.Numerals.{add-one}
+use lib.Dec.{eqb}
+use borrow.Author.Tests.{le-ltb}
+use Rattle.model.specs.declared.Give.{Give}
 use Rattle.model.specs.declared.Completion.{Completion}
 use Rattle.model.specs.Choice.{pick}
-use Rattle.model.specs.Logs.{LogRecord}
-use Rattle.model.specs.States.{load}
+use Rattle.model.specs.Limits.{lastPoint, lastServer, giveSize}
+use Rattle.model.specs.Logs.{LogRecord, gave}
+use Rattle.model.specs.States.{State, load, pointAt}
 use Rattle.model.specs.Apply.{applyRecord}
-use Rattle.model.specs.Decisions.{follows}
+use Rattle.model.specs.Decisions.{isNone, placesBad, giveRefusal, follows}
 use Rattle.model.specs.Operations.{stored}
-use Rattle.follow.specs.Tests.{isNone}
 use Rattle.record_table.specs.declared.Found.{Found}
 use Rattle.record_table.specs.declared.Found.the-variants.{Nothing, At}
 use Rattle.record_table.specs.Rules.{foundOf}
@@ -30,6 +35,12 @@ pub free-no : (o : Option Completion) {f : Found} {r : Completion} → f ≡ fou
 unfolding foundOf isNone
 free-no none p q = let z : _≡_ {A = ℕ} 0 1 = cc in absurd (omega arith)
 free-no (some x) p q = refl
+
+-- a give in range
+pub gave-tests : (st : State) (g : Give) → g .point ≤ lastPoint → g .destination ≤ lastServer
+    → (eqb (giveRefusal (pointAt st (g .point)) (st .server) giveSize (g .destination)) 0 && eqb (g .moveNumber) (pointAt st (g .point) .moveNumber + 1)) ≡ follows st (gave g)
+unfolding follows placesBad
+gave-tests st g p d = rw (le-ltb lastPoint (g .point) p, le-ltb lastServer (g .destination) d, add-one)
 
 module _ (s : List ℕ) (r : LogRecord) {t : Bool} (e : t ≡ follows (load s) r) where
   pub replayed-no : (end : ℕ) → t ≡ false → (false ≡ follows (load s) r) × (s ≡ replayed r end s)

@@ -35,8 +35,8 @@ use Rattle.state.proofs.Chains.{canonical-stored, load-stored}
 use Rattle.apply.specs.Room.{Room, floorWith}
 use Rattle.replay.specs.Standing.{Standing, Ready}
 
-pub executed-place : (x : Executed) → GoodExecuted x → x .point ≤ lastPoint
-executed-place x G = command-fits (x .op) (x .point) (x .argument) (tested x (G .ok) .command) .point
+pub executed-place : (x : Executed) → GoodExecuted x → x .command .point ≤ lastPoint
+executed-place x G = command-fits (x .command .op) (x .command .point) (x .command .argument) (tested x (G .ok) .command) .point
 
 -- ---- the state that a record leaves
 
@@ -59,23 +59,23 @@ module _ (s : List ℕ) (r : LogRecord) (end : ℕ) (w : Ready s r end) (z : end
 
 -- ---- room
 
-executed-call : (st : State) (x : Executed) → Sound st → GoodExecuted x → follows st (executed x) ≡ true → floorWith x st ≤ x .call
+executed-call : (st : State) (x : Executed) → Sound st → GoodExecuted x → follows st (executed x) ≡ true → floorWith x st ≤ x .command .call
 executed-call st x S G f =
     let p = executed-follows st x f in
     let t = tested x (G .ok) in
-    omega (arith, raise-same (x .client) (x .done) (st .floors) (S .ascending), p .0 .over, t .low)
+    omega (arith, raise-same (x .command .client) (x .done) (st .floors) (S .ascending), p .0 .over, t .low)
 
-executed-stays : (st : State) (x : Executed) (end : ℕ) → floorWith x st ≤ x .call → staysOver (x .client) (floorWith x st) (completion x end) ≡ true
+executed-stays : (st : State) (x : Executed) (end : ℕ) → floorWith x st ≤ x .command .call → staysOver (x .command .client) (floorWith x st) (completion x end) ≡ true
 unfolding staysOver completion
-executed-stays st x end h = rw (eqb-same (x .client), le-leb (floorWith x st) (x .call) h)
+executed-stays st x end h = rw (eqb-same (x .command .client), le-leb (floorWith x st) (x .command .call) h)
 
 pub executed-room : (s : List ℕ) (x : Executed) (end : ℕ) → Ready s (executed x) end → end < word * word → true ≡ follows (load s) (executed x) → Room x (load s)
 unfolding applyRecord applyExecuted
 executed-room s x end w z f =
     let st : State = load s in
     let S : Sound (applyExecuted x end st) = ready-sound s (executed x) end w z f in
-    let call : floorWith x st ≤ x .call = executed-call st x (w .standing .sound) (w .good) (sym f) in
-    let p : Completion → Bool = staysOver (x .client) (floorWith x st) in
+    let call : floorWith x st ≤ x .command .call = executed-call st x (w .standing .sound) (w .good) (sym f) in
+    let p : Completion → Bool = staysOver (x .command .client) (floorWith x st) in
     let one = keep-yes p (st .records) (completion x end) (executed-stays st x end call) in
     record {
       clients = S .clients;

@@ -3,14 +3,18 @@ use model::Executed;
 use model::Give;
 use model::Notice;
 use model::Release;
+use model::constants::EXECUTED_SIZE;
+use model::constants::GIVE_SIZE;
+use model::constants::GONE_SIZE;
+use model::constants::NO_REFUSAL;
+use model::constants::RELEASE_SIZE;
 use record_table::Found;
 ghost use mathlib.Core.Path.{_≡_};
 ghost use Prim.Native.Nat.{_≤_};
-ghost use Rattle.model.specs.Limits.{lastPoint};
+ghost use Rattle.model.specs.Limits.{lastPoint, lastServer};
 ghost use Rattle.model.specs.Logs.{executed, gone, gave, released};
 ghost use Rattle.model.specs.States.{load};
-ghost use Rattle.model.specs.Decisions.{find, follows};
-ghost use Rattle.follow.specs.Tests.{isNone};
+ghost use Rattle.model.specs.Decisions.{find, isNone, follows};
 ghost use Rattle.state.specs.Canonical.{Canonical};
 ghost use Rattle.replay.specs.Standing.{Ready, replayed};
 
@@ -29,15 +33,18 @@ fn is_free(s: &[u8], client: u32, call: u32) -> bool
 }
 
 fn executed_follows(s: &[u8], x: Executed) -> bool
-    requires { ⌜ Canonical (now s) × (x .point ≤ lastPoint) ⌝ }
+    requires { ⌜ Canonical (now s) × (x .command .point ≤ lastPoint) ⌝ }
     ensures { λ r. ⌜ r ≡ follows (load (now (s .entry))) (executed x) ⌝ }
 {
-    let q = state::point_at(s, x.point);
-    let e = state::entry_at(s, x.point);
-    let floor = client_table::floor_in(s, x.client);
-    let fresh = is_free(s, x.client, x.call);
+    let q = state::point_at(s, x.command.point);
+    let e = state::entry_at(s, x.command.point);
+    let floor = client_table::floor_in(s, x.command.client);
+    let fresh = is_free(s, x.command.client, x.command.call);
     let clients = state::clients_of(s);
-    follow::executed_follows(q, e, floor, fresh, clients, x)
+    let asked = decide::request_refusal(q, false, floor, x.command.call);
+    let new = decide::new_refusal(floor, clients, EXECUTED_SIZE);
+    let in_range = (e.low <= x.result.value) & (x.result.value <= e.high);
+    (asked == NO_REFUSAL) & (fresh & ((new == NO_REFUSAL) & in_range))
 }
 
 pub fn replay_executed(s: &mut [u8], x: Executed, end: u64) -> bool
@@ -57,7 +64,8 @@ fn gone_follows(s: &[u8], n: Notice) -> bool
     requires { ⌜ Canonical (now s) ⌝ }
     ensures { λ r. ⌜ r ≡ follows (load (now (s .entry))) (gone n) ⌝ }
 {
-    follow::gone_follows(client_table::floor_in(s, n.client))
+    let floor = client_table::floor_in(s, n.client);
+    decide::notice_refusal(floor, GONE_SIZE) == NO_REFUSAL
 }
 
 pub fn replay_gone(s: &mut [u8], n: Notice, end: u64) -> bool
@@ -74,12 +82,13 @@ pub fn replay_gone(s: &mut [u8], n: Notice, end: u64) -> bool
 // ---- give
 
 fn gave_follows(s: &[u8], g: Give) -> bool
-    requires { ⌜ Canonical (now s) × (g .point ≤ lastPoint) ⌝ }
+    requires { ⌜ Canonical (now s) × (g .point ≤ lastPoint) × (g .destination ≤ lastServer) ⌝ }
     ensures { λ r. ⌜ r ≡ follows (load (now (s .entry))) (gave g) ⌝ }
 {
     let q = state::point_at(s, g.point);
     let server = state::server_of(s);
-    follow::gave_follows(q, server, g)
+    let n = decide::give_refusal(q, server, GIVE_SIZE, g.destination as u32);
+    (n == NO_REFUSAL) & (g.moveNumber as u64 == q.moveNumber as u64 + 1)
 }
 
 pub fn replay_gave(s: &mut [u8], g: Give, end: u64) -> bool
@@ -100,7 +109,8 @@ fn released_follows(s: &[u8], x: Release) -> bool
     ensures { λ r. ⌜ r ≡ follows (load (now (s .entry))) (released x) ⌝ }
 {
     let q = state::point_at(s, x.point);
-    follow::released_follows(q, x)
+    let n = decide::release_refusal(q, RELEASE_SIZE, x.moveNumber);
+    (n == NO_REFUSAL) & (x.moveNumber == q.moveNumber)
 }
 
 pub fn replay_released(s: &mut [u8], x: Release, end: u64) -> bool

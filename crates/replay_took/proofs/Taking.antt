@@ -1,6 +1,6 @@
 -- A take on the state in a buffer.
 --     free-nothing, free-at         an id is held for no other point, by the one record that has it
---     took-no, took-other, took-last     the tests of a take, one after the other
+--     took-follows                  the tests of a take
 --     imaged-size, imaged-ascend    what a well-formed image has
 --     took-place, took-room         the point of a take; the tables have room for it
 -- Assumes nothing.
@@ -16,7 +16,7 @@ use borrow.Author.Tests.{eqb-true, leb-true, le-leb, lt-leb, le-ltb, ltb-true, l
 use Rattle.model.specs.declared.Completion.{Completion}
 use Rattle.model.specs.declared.ImageEntry.{ImageEntry}
 use Rattle.model.specs.declared.ImageHead.{ImageHead}
-use Rattle.model.specs.Choice.{pick, refuse, append}
+use Rattle.model.specs.Choice.{pick}
 use Rattle.model.specs.Limits.{lastPoint, clientCount, recordCount, takeHead, leastImage, floorRow, entryRow}
 use Rattle.model.specs.Numbers.{word}
 use Rattle.model.specs.Tables.{rows, every}
@@ -25,13 +25,11 @@ use Rattle.model.specs.Images.{Image, imageAt, imageHeadOf, imageHeadOk, imageO
 use Rattle.model.specs.Logs.{took}
 use Rattle.model.specs.States.{State, load, pointAt, isId}
 use Rattle.model.specs.Apply.{mergeFloors, applyTook, applyRecord}
-use Rattle.model.specs.Decisions.{Decided, find, freeFor, decideTake, appends, follows}
+use Rattle.model.specs.Decisions.{find, freeFor, takeRefusal, takeTests, follows}
 use Rattle.laws.specs.Bytes.{All}
 use Rattle.laws.proofs.Tests.{and-left, and-right}
 use Rattle.laws.proofs.Images.{tested}
 use Rattle.limits.specs.Sound.{Other, Distinct, Sound}
-use Rattle.decide.specs.Tests.{byNumber, takeRefusal, spaceRefusal}
-use Rattle.decide.proofs.Decided.{take-decided}
 use Rattle.images.proofs.Whole.{ok-size}
 use Rattle.record_table.specs.declared.Found.{Found}
 use Rattle.record_table.specs.declared.Found.the-variants.{Nothing, At}
@@ -44,12 +42,12 @@ use Rattle.replay_took.specs.Imaged.{Imaged}
 
 -- one record against an id
 fits : ℕ → ℕ → ℕ → Completion → Bool
-fits p x c r = not (isId x c r) || eqb (r .point) p
+fits p x c r = not (isId x c r) || eqb (r .command .point) p
 
 -- what the record of the id says
 by : ℕ → Option Completion → Bool
 by p none = true
-by p (some r) = eqb (r .point) p
+by p (some r) = eqb (r .command .point) p
 
 and-true : (t : Bool) → (t && true) ≡ t
 and-true true = refl
@@ -60,13 +58,13 @@ unfolding every fits isId
 others p x c r [] e a = refl
 others p x c r (q ∷ rs) e a = go (isId x c q) refl (others p x c r rs e (a .1))
   where
-    go : (b : Bool) → isId x c q ≡ b → every (fits p x c) rs ≡ true → ((not (isId x c q) || eqb (q .point) p) && every (fits p x c) rs) ≡ true
+    go : (b : Bool) → isId x c q ≡ b → every (fits p x c) rs ≡ true → ((not (isId x c q) || eqb (q .command .point) p) && every (fits p x c) rs) ≡ true
     go false k ih = rw (k, ih)
     go true k ih =
-        let r1 : r .client ≡ x = eqb-true (r .client) x (and-left (eqb (r .client) x) (eqb (r .call) c) e) in
-        let r2 : r .call ≡ c = eqb-true (r .call) c (and-right (eqb (r .client) x) (eqb (r .call) c) e) in
-        let q1 : q .client ≡ x = eqb-true (q .client) x (and-left (eqb (q .client) x) (eqb (q .call) c) k) in
-        let q2 : q .call ≡ c = eqb-true (q .call) c (and-right (eqb (q .client) x) (eqb (q .call) c) k) in
+        let r1 : r .command .client ≡ x = eqb-true (r .command .client) x (and-left (eqb (r .command .client) x) (eqb (r .command .call) c) e) in
+        let r2 : r .command .call ≡ c = eqb-true (r .command .call) c (and-right (eqb (r .command .client) x) (eqb (r .command .call) c) e) in
+        let q1 : q .command .client ≡ x = eqb-true (q .command .client) x (and-left (eqb (q .command .client) x) (eqb (q .command .call) c) k) in
+        let q2 : q .command .call ≡ c = eqb-true (q .command .call) c (and-right (eqb (q .command .client) x) (eqb (q .command .call) c) k) in
         absurd (a .0 (r1 ∙ sym q1) (r2 ∙ sym q2))
 
 free-found : (p x c : ℕ) (rs : List Completion) → Distinct rs → every (fits p x c) rs ≡ by p (find x c rs)
@@ -77,7 +75,7 @@ free-found p x c (r ∷ rs) d = go (isId x c r) refl (free-found p x c rs (d .1)
     go : (b : Bool) → isId x c r ≡ b → every (fits p x c) rs ≡ by p (find x c rs)
         → (fits p x c r && every (fits p x c) rs) ≡ by p (pick (isId x c r) (some r) (find x c rs))
     go false k ih = unfold fits in rw k ih
-    go true k ih = unfold fits in rw (k, others p x c r rs k (d .0)) (and-true (eqb (r .point) p))
+    go true k ih = unfold fits in rw (k, others p x c r rs k (d .0)) (and-true (eqb (r .command .point) p))
 
 module _ (p : ℕ) (rs : List Completion) (e : ImageEntry) (d : Distinct rs) {f : Found} (q : f ≡ foundOf (find (e .client) (e .call) rs)) where
   free-is : freeFor p rs e ≡ by p (find (e .client) (e .call) rs)
@@ -92,70 +90,26 @@ module _ (p : ℕ) (rs : List Completion) (e : ImageEntry) (d : Distinct rs) {f 
       go none k = refl
       go (some r) k = let z : _≡_ {A = ℕ} 0 1 = cc in absurd (omega arith)
 
-  pub free-at : {r : Completion} → f ≡ At r → eqb (r .point) p ≡ freeFor p rs e
+  pub free-at : {r : Completion} → f ≡ At r → eqb (r .command .point) p ≡ freeFor p rs e
   unfolding by foundOf
   free-at {r} n = go (find (e .client) (e .call) rs) q ∙ sym free-is
     where
-      go : (o : Option Completion) → f ≡ foundOf o → eqb (r .point) p ≡ by p o
+      go : (o : Option Completion) → f ≡ foundOf o → eqb (r .command .point) p ≡ by p o
       go none k = let z : _≡_ {A = ℕ} 0 1 = cc in absurd (omega arith)
-      go (some x) k = let h : r ≡ x = cc in ap (λ (y : Completion). eqb (y .point) p) h
+      go (some x) k = let h : r ≡ x = cc in ap (λ (y : Completion). eqb (y .command .point) p) h
 
 -- ---- the tests of a take
 
-number-appends : (n : ℕ) (d : Decided) → appends (byNumber n d) ≡ (eqb n 0 && appends d)
-unfolding byNumber appends
-number-appends n d = go (eqb n 0)
-  where
-    go : (t : Bool) → appends (pick t d (refuse n)) ≡ (t && appends d)
-    go true = refl
-    go false = refl
-
-refused : (t : Bool) (n : ℕ) (d : Decided) → appends (pick (not t) (refuse n) d) ≡ (t && appends d)
-unfolding appends
-refused true n d = refl
-refused false n d = refl
-
--- room for just the record; at most 32 clients
-space-fits : (m k : ℕ) → eqb (spaceRefusal m k k) 0 ≡ leb m clientCount
-unfolding spaceRefusal
-space-fits m k = rw (le-ltb k k (omega arith)) (go (ltb clientCount m) refl)
-  where
-    go : (t : Bool) → ltb clientCount m ≡ t → eqb (pick (ltb clientCount m) 8 0) 0 ≡ leb m clientCount
-    go true e = rw (e, lt-leb m clientCount (ltb-true clientCount m e))
-    go false e = rw (e, le-leb m clientCount (ltb-false clientCount m e))
+-- room for just the record, of whatever size
+took-tests : (st : State) (i : Image) → takeRefusal (pointAt st (i .point)) (st .server) (i .destination) (i .moveNumber) (imageInRange (entryAt (st .plan) (i .point)) i) (every (freeFor (i .point) (st .records)) (i .entries)) (length (mergeFloors (i .floors) (st .floors))) 0 0 ≡ takeTests st (takeHead + imageLength i) i
+unfolding takeTests takeRefusal
+took-tests st i = let n : ℕ = takeHead + imageLength i in rw (le-ltb n n (omega arith))
 
 module _ (st : State) (h : ImageHead) (image : List ℕ) where
-  abbrev i : Image
-  i = imageAt h image
-
-  abbrev pub refusal : ℕ
-  refusal = takeRefusal (pointAt st (h .point)) (st .server) (imageInRange (entryAt (st .plan) (h .point)) (imageAt h image)) h
-
-  abbrev free : Bool
-  free = every (freeFor (h .point) (st .records)) (imageAt h image .entries)
-
-  abbrev merged : ℕ
-  merged = length (mergeFloors (imageAt h image .floors) (st .floors))
-
-  tests : follows st (took (imageAt h image)) ≡ (eqb refusal 0 && (free && leb merged clientCount))
-  unfolding follows appends imageAt
-  tests =
-      let need : ℕ = takeHead + imageLength i in
-      let last : Decided = byNumber (spaceRefusal merged need need) (append (took i)) in
-      ap appends (take-decided st need i h refl refl)
-      ∙ number-appends refusal (pick (not free) (refuse 13) last)
-      ∙ ap (λ (b : Bool). eqb refusal 0 && b)
-      (refused free 13 last
-      ∙ ap (λ (b : Bool). free && b) (number-appends (spaceRefusal merged need need) (append (took i)) ∙ and-true (eqb (spaceRefusal merged need need) 0) ∙ space-fits merged need))
-
-  pub took-no : {a : Bool} → a ≡ eqb refusal 0 → a ≡ false → false ≡ follows st (took (imageAt h image))
-  took-no p q = sym (tests ∙ rw (sym p ∙ q))
-
-  pub took-other : {a b : Bool} → a ≡ eqb refusal 0 → a ≡ true → b ≡ free → b ≡ false → false ≡ follows st (took (imageAt h image))
-  took-other p q p' q' = sym (tests ∙ rw (sym p ∙ q, sym p' ∙ q'))
-
-  pub took-last : {a b : Bool} {n : ℕ} → a ≡ eqb refusal 0 → a ≡ true → b ≡ free → b ≡ true → n ≡ merged → leb n clientCount ≡ follows st (took (imageAt h image))
-  took-last p q p' q' e = sym (tests ∙ rw (sym p ∙ q, sym p' ∙ q', e))
+  pub took-follows : {n : ℕ} → n ≡ takeRefusal (pointAt st (h .point)) (st .server) (h .destination) (h .moveNumber) (imageInRange (entryAt (st .plan) (h .point)) (imageAt h image)) (every (freeFor (h .point) (st .records)) (imageAt h image .entries)) (length (mergeFloors (imageAt h image .floors) (st .floors))) 0 0
+      → eqb n 0 ≡ follows st (took (imageAt h image))
+  unfolding follows imageAt
+  took-follows e = ap (λ (k : ℕ). eqb k 0) (e ∙ took-tests st (imageAt h image))
 
 -- ---- a well-formed image
 

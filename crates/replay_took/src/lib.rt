@@ -1,21 +1,18 @@
 // A take record on the state in a buffer: whether it follows the state, and its replay there if it does.
 use model::ImageEntry;
 use model::ImageHead;
+use model::constants::NO_REFUSAL;
 use record_table::Found;
 ghost use mathlib.Core.Path.{_≡_};
 ghost use mathlib.Core.Bool.{true};
 ghost use Prim.Native.Nat.{_+_, _*_, _≤_};
-ghost use lib.Dec.{eqb};
 ghost use lib.ListN.{length};
 ghost use Rattle.model.specs.Limits.{lastPoint, leastImage, floorRow, entryRow};
 ghost use Rattle.model.specs.Tables.{every};
-ghost use Rattle.model.specs.Plan.{entryAt};
-ghost use Rattle.model.specs.Images.{imageAt, imageHeadOf, imageOk, imageInRange};
+ghost use Rattle.model.specs.Images.{imageAt, imageHeadOf, imageOk};
 ghost use Rattle.model.specs.Logs.{took};
-ghost use Rattle.model.specs.States.{load, pointAt};
+ghost use Rattle.model.specs.States.{load};
 ghost use Rattle.model.specs.Decisions.{freeFor, follows};
-ghost use Rattle.decide.specs.Tests.{takeRefusal};
-ghost use Rattle.state.specs.Canonical.{Canonical};
 ghost use Rattle.replay.specs.Standing.{Standing, Ready, replayed};
 ghost use Rattle.replay_took.specs.Imaged.{Imaged};
 
@@ -29,7 +26,7 @@ fn entry_free(s: &[u8], point: u8, e: ImageEntry) -> bool
     let found = record_table::find(s, e.client, e.call);
     match found {
         Found::Nothing => true,
-        Found::At(x) => x.point == point,
+        Found::At(x) => x.command.point == point,
     }
 }
 
@@ -51,29 +48,29 @@ pub fn entries_free(s: &[u8], image: &[u8], h: ImageHead) -> bool
     true
 }
 
-// The values in range, this server the destination, a newer move, and the point not held here.
-fn point_free(s: &[u8], image: &[u8], h: ImageHead) -> bool
-    requires { ⌜ Canonical (now s) × (h .point ≤ lastPoint) × (leastImage + floorRow * h .floors + entryRow * h .entries ≤ length (now image)) ⌝ }
-    ensures { λ r. ⌜ r ≡ eqb (takeRefusal (pointAt (load (now (s .entry))) (h .point)) (load (now (s .entry)) .server) (imageInRange (entryAt (load (now (s .entry)) .plan) (h .point)) (imageAt h (now (image .entry)))) h) 0 ⌝ }
+// The image is asked no space: its record stands in the log.
+fn took_follows(s: &[u8], image: &[u8], h: ImageHead) -> bool
+    requires { ⌜ Standing (now s) × (h .point ≤ lastPoint) × Imaged (now image) h ⌝ }
+    ensures { λ r. ⌜ r ≡ follows (load (now (s .entry))) (took (imageAt h (now (image .entry)))) ⌝ }
 {
     let q = state::point_at(s, h.point);
     let e = state::entry_at(s, h.point);
     let server = state::server_of(s);
     let ranged = images::values_in_range(image, h, e);
-    decide::take_refusal(q, server, ranged, h) == 0
-}
-
-fn took_follows(s: &[u8], image: &[u8], h: ImageHead) -> bool
-    requires { ⌜ Standing (now s) × (h .point ≤ lastPoint) × Imaged (now image) h ⌝ }
-    ensures { λ r. ⌜ r ≡ follows (load (now (s .entry))) (took (imageAt h (now (image .entry)))) ⌝ }
-{
-    if !point_free(s, image, h) {
-        return false;
-    }
-    if !entries_free(s, image, h) {
-        return false;
-    }
-    client_table::merged_count(s, image, h.floors as usize) <= 32
+    let ids = entries_free(s, image, h);
+    let merged = client_table::merged_count(s, image, h.floors as usize);
+    let n = decide::take_refusal(
+        q,
+        server,
+        h.destination,
+        h.moveNumber,
+        ranged,
+        ids,
+        merged,
+        0,
+        0,
+    );
+    n == NO_REFUSAL
 }
 
 // ---- the record

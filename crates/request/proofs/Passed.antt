@@ -6,7 +6,7 @@
 -- Assumes nothing.
 use Prim.Native.Nat.{ℕ, _+_, _*_, _≤_, _<_}
 use mathlib.Core.Path.{_≡_, refl, sym, _∙_}
-use mathlib.Core.Bool.{Bool, true, false, _||_, not}
+use mathlib.Core.Bool.{Bool, true, false, _&&_, _||_, not}
 use mathlib.Core.List.{[], _∷_, _++_}
 use mathlib.Core.Option.{Option, none, some}
 use native.Mathlib.Omega.{arith}
@@ -16,15 +16,17 @@ use borrow.Author.Tests.{le-leb}
 use Rattle.model.specs.declared.Request.{Request}
 use Rattle.model.specs.declared.Executed.{Executed}
 use Rattle.model.specs.declared.Completion.{Completion}
-use Rattle.model.specs.Choice.{pick, refuse, append}
+use Rattle.model.specs.Choice.{pick, refuse, append, isPassed, unlessRefused}
 use Rattle.model.specs.Numbers.{word}
-use Rattle.model.specs.Limits.{lastPoint, recordCount, executedSize}
+use Rattle.model.specs.Versions.{today}
+use Rattle.model.specs.Limits.{lastPoint, clientCount, recordCount, executedSize}
 use Rattle.model.specs.Tables.{keep}
-use Rattle.model.specs.Images.{floorOf}
+use Rattle.model.specs.Images.{floorOf, notKnown}
 use Rattle.model.specs.Logs.{executed, recordSize}
 use Rattle.model.specs.States.{State, pointAt, isHeld, isSynced}
 use Rattle.model.specs.Apply.{staysOver, completion, applyRecord, applyExecuted}
-use Rattle.model.specs.Decisions.{Decided, find, sameCommand, executedFor, onHeld, noPlace, onNew, onId, decideRequest}
+use Rattle.model.specs.Decisions.{Decided, find, sameCommand, executedFor, requestRefusal, heldRefusal, onHeld, newRefusal, onNew, onId, decideRequest}
+use Rattle.laws.proofs.Tests.{choose}
 use Rattle.laws.proofs.Tables.{keep-yes}
 use Rattle.limits.specs.Sound.{Sound, GoodRequest, GoodExecuted, Tested}
 use Rattle.limits.specs.History.{Decides, byRequest}
@@ -41,34 +43,44 @@ use Rattle.request.specs.Decisions.{decided}
 -- ---- refusals
 
 -- every refusal's number is at most 9
+small-if : (t : Bool) (k m : ℕ) → k ≤ 9 → m ≤ 9 → pick t k m ≤ 9
+small-if true k m h l = h
+small-if false k m h l = l
+
 abbrev Small : Decided → Type 0
 Small d = (n : ℕ) → d ≡ refuse n → n ≤ 9
 
-small-step : (t : Bool) (k : ℕ) (d : Decided) → k ≤ 9 → Small d → Small (pick t (refuse k) d)
-small-step true k d h s n e = let m : k ≡ n = cc in omega (arith, m, h)
-small-step false k d h s n e = s n e
+small-unless : (k : ℕ) (d : Decided) → k ≤ 9 → Small d → Small (unlessRefused k d)
+unfolding unlessRefused
+small-unless k d h s = choose Small (isPassed k) (λ e. s) (λ e n p. let m : k ≡ n = cc in omega (arith, m, h))
 
 small-held : (st : State) (q : Request) (r : Completion) → Small (onHeld st q r)
-unfolding onHeld
-small-held st q r = small-step (not (sameCommand r q)) 6 _ (omega arith) (small-step (not (isSynced st (r .end))) 7 _ (omega arith) (λ n e. let z : _≡_ {A = ℕ} 0 1 = cc in absurd (omega arith)))
+unfolding onHeld heldRefusal
+small-held st q r =
+    small-unless _ _ (small-if (not (sameCommand r q)) 6 _ (omega arith) (small-if (not (isSynced (st .mark) (r .end))) 7 0 (omega arith) (omega arith)))
+    (λ n e. let z : _≡_ {A = ℕ} 0 1 = cc in absurd (omega arith))
 
-small-new : (st : State) (free : ℕ) (q : Request) → Small (onNew st free q)
-unfolding onNew
-small-new st free q = small-step (noPlace st (q .client)) 8 _ (omega arith) (small-step (ltb free executedSize) 9 _ (omega arith) (λ n e. let z : _≡_ {A = ℕ} 0 1 = cc in absurd (omega arith)))
+small-new : (st : State) (free : ℕ) (q : Request) → Small (onNew today st free q)
+unfolding onNew newRefusal
+small-new st free q =
+    small-unless _ _
+    (small-if (notKnown (floorOf (q .command .client) (st .floors)) && leb clientCount (length (st .floors))) 8 _ (omega arith) (small-if (ltb free executedSize) 9 0 (omega arith) (omega arith)))
+    (λ n e. let z : _≡_ {A = ℕ} 0 1 = cc in absurd (omega arith))
 
-small-id : (st : State) (free : ℕ) (q : Request) (o : Option Completion) → Small (onId st free q o)
+small-id : (st : State) (free : ℕ) (q : Request) (o : Option Completion) → Small (onId today st free q o)
 unfolding onId
 small-id st free q none = small-new st free q
 small-id st free q (some r) = small-held st q r
 
-small-request : (st : State) (free : ℕ) (q : Request) → Small (decideRequest st free q)
-unfolding decideRequest
+small-request : (st : State) (free : ℕ) (q : Request) → Small (decideRequest today st free q)
+unfolding decideRequest requestRefusal
 small-request st free q =
-    small-step (not (isHeld (pointAt st (q .point)))) 3 _ (omega arith)
-    (small-step (leb (q .lease) (st .heard)) 4 _ (omega arith)
-    (small-step (ltb (q .call) (floorOf (q .client) (st .floors))) 5 _ (omega arith) (small-id st free q (find (q .client) (q .call) (st .records)))))
+    small-unless _ _
+    (small-if (not (isHeld (pointAt st (q .command .point)))) 3 _ (omega arith)
+    (small-if (leb (q .lease) (st .heard)) 4 _ (omega arith) (small-if (ltb (q .command .call) (floorOf (q .command .client) (st .floors))) 5 0 (omega arith) (omega arith))))
+    (small-id st free q (find (q .command .client) (q .command .call) (st .records)))
 
-module _ (st : State) (free : ℕ) (q : Request) {d : Decision} (p : decided d ≡ decideRequest st free q) where
+module _ (st : State) (free : ℕ) (q : Request) {d : Decision} (p : decided d ≡ decideRequest today st free q) where
   pub request-number : (n : ℕ) → d ≡ Refuse n → n ≤ 9
   unfolding decided
   request-number n h = small-request st free q n (sym p ∙ rw h)
@@ -76,16 +88,16 @@ module _ (st : State) (free : ℕ) (q : Request) {d : Decision} (p : decided d �
   -- ---- executions
 
   module _ (x : Executed) (h : d ≡ Execute x) where
-    appends : decideRequest st free q ≡ append (executed x)
+    appends : decideRequest today st free q ≡ append (executed x)
     unfolding decided
     appends = sym p ∙ rw h
 
     pub request-space : 28 ≤ free
-    request-space = request-terms st free q (executed x) appends .1
+    request-space = request-terms today st free q (executed x) appends .1
 
     module _ (S : Sound st) (G : GoodRequest q) where
       decides : Decides st free (executed x)
-      decides = byRequest q G appends
+      decides = byRequest today q G appends
 
       good : GoodExecuted x
       good = decided-good st free (executed x) S decides
@@ -93,25 +105,25 @@ module _ (st : State) (free : ℕ) (q : Request) {d : Decision} (p : decided d �
       tests : Tested x
       tests = tested x (good .ok)
 
-      pub request-place : x .point ≤ lastPoint
-      request-place = command-fits (x .op) (x .point) (x .argument) (tests .command) .point
+      pub request-place : x .command .point ≤ lastPoint
+      request-place = command-fits (x .command .op) (x .command .point) (x .command .argument) (tests .command) .point
 
-      over : floorOf (x .client) (st .floors) ≤ x .call
+      over : floorOf (x .command .client) (st .floors) ≤ x .command .call
       unfolding executedFor
       over =
-          let k = request-passed st free q (executed x) appends in
-          let i : x ≡ executedFor st q = one (k .1) in
+          let k = request-passed today st free q (executed x) appends in
+          let i : x ≡ executedFor today st q = one (k .1) in
           rw i (k .0 .over)
         where
           one : {a b : Executed} → executed a ≡ executed b → a ≡ b
           one e = cc
 
-      call : floorWith x st ≤ x .call
-      call = rw (raise-same (x .client) (x .done) (st .floors) (S .ascending)) (omega (arith, over, tests .low))
+      call : floorWith x st ≤ x .command .call
+      call = rw (raise-same (x .command .client) (x .done) (st .floors) (S .ascending)) (omega (arith, over, tests .low))
 
-      stays : (end : ℕ) → staysOver (x .client) (floorWith x st) (completion x end) ≡ true
+      stays : (end : ℕ) → staysOver (x .command .client) (floorWith x st) (completion x end) ≡ true
       unfolding staysOver completion
-      stays end = or-right (not (eqb (x .client) (x .client))) (leb (floorWith x st) (x .call)) (le-leb _ _ call)
+      stays end = or-right (not (eqb (x .command .client) (x .command .client))) (leb (floorWith x st) (x .command .call)) (le-leb _ _ call)
         where
           or-right : (a b : Bool) → b ≡ true → (a || b) ≡ true
           or-right true b e = refl
@@ -122,10 +134,10 @@ module _ (st : State) (free : ℕ) (q : Request) {d : Decision} (p : decided d �
         unfolding applyRecord recordSize
         after-it = decided-sound st free (executed x) S decides z
 
-        few : length (keep (staysOver (x .client) (floorWith x st)) (st .records)) < recordCount
+        few : length (keep (staysOver (x .command .client) (floorWith x st)) (st .records)) < recordCount
         unfolding applyExecuted
         few =
-            let t : Completion → Bool = staysOver (x .client) (floorWith x st) in
+            let t : Completion → Bool = staysOver (x .command .client) (floorWith x st) in
             let c : length (keep t (st .records ++ (completion x (st .size + 28) ∷ []))) ≤ recordCount = after-it .count in
             let k : length (keep t (st .records) ++ (completion x (st .size + 28) ∷ [])) ≤ recordCount = rw (keep-yes t (st .records) (completion x (st .size + 28)) (stays (st .size + 28))) at c in
             omega (arith, k, length-append (keep t (st .records)) (completion x (st .size + 28) ∷ []))

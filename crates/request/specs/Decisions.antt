@@ -16,4 +16,4 @@ decided (Reply x) = reply (resultBytes (resultOfRecord x))
 decided (Execute x) = append (executed x)
 
 abbrev pub refusalFor : ℕ → Request → RefusalPacket
-refusalFor n q = record { number = n; point = q .point; client = q .client; call = q .call }
+refusalFor n q = record { refusal = n; point = q .command .point; client = q .command .client; call = q .command .call }

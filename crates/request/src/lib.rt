@@ -7,6 +7,7 @@ use model::Packet;
 use model::Reading;
 use model::RefusalPacket;
 use model::Request;
+use model::constants;
 use record_table::Found;
 ghost use mathlib.Core.Path.{_≡_};
 ghost use Prim.Native.Nat.{_+_, _≤_};
@@ -18,7 +19,8 @@ ghost use Rattle.model.specs.Images.{floorOf};
 ghost use Rattle.model.specs.Logs.{executed, recordBytes};
 ghost use Rattle.model.specs.States.{load, stateEnd};
 ghost use Rattle.model.specs.Apply.{applyExecuted};
-ghost use Rattle.model.specs.Decisions.{executedFor, onHeld, onNew, decideRequest, withPacket};
+ghost use Rattle.model.specs.Versions.{today};
+ghost use Rattle.model.specs.Decisions.{executedFor, onHeld, onNew, decideRequest, denying};
 ghost use Rattle.model.specs.Operations.{answerOf, after, stored, settle, freeIn, requestOf};
 ghost use Rattle.limits.specs.Sound.{GoodRequest};
 ghost use Rattle.state.specs.Canonical.{Canonical};
@@ -54,36 +56,31 @@ fn held_decision(s: &[u8], q: Request, x: Completion) -> Decision
 // The record of the command's execution.
 fn executed_for(s: &[u8], q: Request) -> Executed
     requires { ⌜ (stateEnd ≤ length (now s)) × GoodRequest q ⌝ }
-    ensures { λ r. ⌜ r ≡ executedFor (load (now (s .entry))) q ⌝ }
+    ensures { λ r. ⌜ r ≡ executedFor today (load (now (s .entry))) q ⌝ }
 {
-    let e = state::entry_at(s, q.point);
-    let x = state::point_at(s, q.point);
+    let e = state::entry_at(s, q.command.point);
+    let x = state::point_at(s, q.command.point);
     let r = command::checked_rule(
         e,
-        q.op,
-        q.argument,
+        q.command.op,
+        q.command.argument,
         Reading {
             value: x.value,
             quality: x.quality,
         },
     );
+    let command = q.command;
     Executed {
-        op: q.op,
-        point: q.point,
-        outcome: r.outcome,
-        client: q.client,
-        call: q.call,
+        command,
         done: q.done,
-        argument: q.argument,
-        value: r.value,
-        quality: r.quality,
+        result: r,
     }
 }
 
 // An id that is not held: 8 new client and 32 known; 9 log lacks 28 bytes; else it is executed.
 fn new_decision(s: &[u8], floor: u32, free: usize, q: Request) -> Decision
-    requires { ⌜ (stateEnd ≤ length (now s)) × GoodRequest q × (floor ≡ floorOf (q .client) (load (now s) .floors)) ⌝ }
-    ensures { λ r. ⌜ decided r ≡ onNew (load (now (s .entry))) free q ⌝ }
+    requires { ⌜ (stateEnd ≤ length (now s)) × GoodRequest q × (floor ≡ floorOf (q .command .client) (load (now s) .floors)) ⌝ }
+    ensures { λ r. ⌜ decided r ≡ onNew today (load (now (s .entry))) free q ⌝ }
 {
     let clients = state::clients_of(s);
     let n = decide::new_refusal(floor, clients, free);
@@ -97,16 +94,16 @@ fn new_decision(s: &[u8], floor: u32, free: usize, q: Request) -> Decision
 // 3 point not held; 4 lease end <= heard time; 5 call under the floor; then by whether the id is held.
 fn request_decision(s: &[u8], free: usize, q: Request) -> Decision
     requires { ⌜ Canonical (now s) × GoodRequest q ⌝ }
-    ensures { λ r. ⌜ decided r ≡ decideRequest (load (now (s .entry))) free q ⌝ }
+    ensures { λ r. ⌜ decided r ≡ decideRequest today (load (now (s .entry))) free q ⌝ }
 {
-    let x = state::point_at(s, q.point);
+    let x = state::point_at(s, q.command.point);
     let heard = state::heard_of(s);
-    let floor = client_table::floor_in(s, q.client);
-    let n = decide::request_refusal(x, heard, floor, q);
+    let floor = client_table::floor_in(s, q.command.client);
+    let n = decide::request_refusal(x, q.lease <= heard, floor, q.command.call);
     if n != 0 {
         return Decision::Refuse(n);
     }
-    let f = record_table::find(s, q.client, q.call);
+    let f = record_table::find(s, q.command.client, q.command.call);
     match f {
         Found::Nothing => new_decision(s, floor, free, q),
         Found::At(r) => held_decision(s, q, r),
@@ -121,33 +118,33 @@ fn deny(out: &mut [u8], n: u32, q: Request) -> Answer
     ensures { λ r. ⌜ (r ≡ answerOf n 12) × (now (out .exit) ≡ written (now (out .entry)) 0 (refusalBytes (refusalFor n q))) ⌝ }
 {
     let p = RefusalPacket {
-        number: n as u8,
-        point: q.point,
-        client: q.client,
-        call: q.call,
+        refusal: n as u8,
+        point: q.command.point,
+        client: q.command.client,
+        call: q.command.call,
     };
     packets::write_refusal(out, p);
     Answer {
-        number: n,
-        wrote: 12,
+        refusal: n,
+        wrote: constants::REFUSAL_SIZE_U32,
     }
 }
 
 // Logs and applies the record.
 fn execute(s: &mut [u8], log: &mut [u8], x: Executed) -> Answer
-    requires { ⌜ Canonical (now s) × (x .point ≤ lastPoint) × Room x (load (now s)) × (load (now s) .size + 28 ≤ length (now log)) ⌝ }
+    requires { ⌜ Canonical (now s) × (x .command .point ≤ lastPoint) × Room x (load (now s)) × (load (now s) .size + 28 ≤ length (now log)) ⌝ }
     ensures { λ r. ⌜ (r ≡ answerOf 0 0) × (now (s .exit) ≡ stored (now (s .entry)) (applyExecuted x (load (now (s .entry)) .size + 28) (load (now (s .entry))))) × (now (log .exit) ≡ written (now (log .entry)) (load (now (s .entry)) .size) (recordBytes (executed x))) ⌝ }
 {
     let size = state::size_of(s);
     appends::append_executed(log, size as usize, x);
-    apply::apply_executed(s, x, size + 28);
+    apply::apply_executed(s, x, size + constants::EXECUTED_SIZE_U64);
     lent::made(0)
 }
 
 // A well-formed request, once the tests of lent memory are passed.
 fn requested(s: &mut [u8], log: &mut [u8], q: Request, out: &mut [u8]) -> Answer
     requires { ⌜ Fit (now s) (now log) (length (now out)) 16 × GoodRequest q ⌝ }
-    ensures { λ r. ⌜ after r (now (s .exit)) (now (log .exit)) (now (out .exit)) ≡ settle (now (s .entry)) (now (log .entry)) (now (out .entry)) (withPacket q (decideRequest (load (now (s .entry))) (freeIn (now (s .entry)) (now (log .entry))) q)) ⌝ }
+    ensures { λ r. ⌜ after r (now (s .exit)) (now (log .exit)) (now (out .exit)) ≡ settle (now (s .entry)) (now (log .entry)) (now (out .entry)) (denying q (decideRequest today (load (now (s .entry))) (freeIn (now (s .entry)) (now (log .entry))) q)) ⌝ }
 {
     let free = lent::free_in(s, log);
     let d = request_decision(s, free, q);
@@ -161,15 +158,15 @@ fn requested(s: &mut [u8], log: &mut [u8], q: Request, out: &mut [u8]) -> Answer
 // 2; 19; 1 malformed or no request; 3 to 9, each with a refusal packet; held and synced: the result packet; else it is executed, with no
 // packet.
 pub fn request(s: &mut [u8], log: &mut [u8], packet: &[u8], out: &mut [u8]) -> Answer
-    ensures { λ r. ⌜ after r (now (s .exit)) (now (log .exit)) (now (out .exit)) ≡ requestOf (now (s .entry)) (now (log .entry)) (now (packet .entry)) (now (out .entry)) ⌝ }
+    ensures { λ r. ⌜ after r (now (s .exit)) (now (log .exit)) (now (out .exit)) ≡ requestOf today (now (s .entry)) (now (log .entry)) (now (packet .entry)) (now (out .entry)) ⌝ }
 {
-    let k = lent::lent_refusal(s, log, out.len(), 16);
+    let k = lent::lent_refusal(s, log, out.len(), constants::RESULT_SIZE);
     if k != 0 {
         return lent::refused(k);
     }
     let p = parser::parse_packet(packet);
     let Packet::Requested(q) = p else {
-        return lent::refused(1);
+        return lent::refused(constants::MALFORMED);
     };
     requested(s, log, q, out)
 }

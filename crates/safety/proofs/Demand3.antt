@@ -14,7 +14,7 @@ use lib.ListN.{length, take}
 use lib.Seq.{take-length}
 use Rattle.model.specs.Plan.{planOf}
 use Rattle.model.specs.Limits.{pointCount}
-use Rattle.model.specs.Sequential.{Marked, readingMeant}
+use Rattle.model.specs.Sequential.{OrderEntry, commands, readingMeant}
 use Rattle.model.specs.States.{State, pointAt}
 use Rattle.model.specs.Operations.{recoveredState}
 use Rattle.model.specs.Apply.{replay}
@@ -23,7 +23,7 @@ use Rattle.protocol.specs.Explains as X
 use Rattle.protocol.proofs.RealTime.{explained}
 use Rattle.claim.specs.World.{Event, Server, crashed, run, after, emptyWorld}
 use Rattle.claim.specs.Provisos.{At}
-use Rattle.claim.specs.Claim.{versionAt, readingAt, Survives, finalState, Holder, Explains, Demand3}
+use Rattle.claim.specs.Claim.{readingAt, Survives, finalState, Holder, Explains, Demand3}
 use Rattle.simulation.specs.Likeness.{readingOf, entriesIn}
 use Rattle.simulation.specs.Worlds.{WorldLike, ServerLike}
 use Rattle.sim_bytes.proofs.Starts.{recovered-kept}
@@ -55,8 +55,8 @@ module _ (plan : List ℕ) (es : List Event) (is : List Abstract.Event) (F : Fol
   founded-end c f = let k = given-like plan es c (X.final (planOf plan) is .servers c) (run es .servers c) (final-like .servers c) f in (k .0, k .1 .given)
 
   record Same (c p : ℕ) (st : State) : Type 0 where
-    move : Abstract.stateOf (planOf plan) (X.final (planOf plan) is) c .points p .move ≡ pointAt st p .number
-    taken : Abstract.stateOf (planOf plan) (X.final (planOf plan) is) c .points p .taken ≡ pointAt st p .taken
+    move : Abstract.stateOf (planOf plan) (X.final (planOf plan) is) c .points p .move ≡ pointAt st p .moveNumber
+    taken : Abstract.stateOf (planOf plan) (X.final (planOf plan) is) c .points p .taken ≡ pointAt st p .takenMove
     value : Abstract.stateOf (planOf plan) (X.final (planOf plan) is) c .points p .value ≡ readingMeant (readingAt (pointAt st p))
 
   same-point : (c p : ℕ) (st : State) → p < pointCount → finalState plan es c ≡ some st → Same c p st
@@ -79,13 +79,11 @@ module _ (plan : List ℕ) (es : List Event) (is : List Abstract.Event) (F : Fol
 
   -- ---- survivors
 
-  survivor-there : (m : Marked) → Survives plan es m → X.Survives (planOf plan) is m
-  unfolding versionAt X.versionAt
-  survivor-there m s = record { at = s .at; survives = survives-there plan es is F (s .at) (m .command) (s .survives); version = s .version }
+  survivor-there : (e : OrderEntry) → Survives plan es e → X.Survives (planOf plan) is e
+  survivor-there e s = record { part = s .part; among = s .among; at = s .at; survives = survives-there plan es is F (s .at) (s .part) (s .survives) }
 
-  survivor-here : (m : Marked) → X.Survives (planOf plan) is m → Survives plan es m
-  unfolding versionAt X.versionAt
-  survivor-here m s = record { at = s .at; survives = survives-here plan es is F (s .at) (m .command) (s .survives); version = s .version }
+  survivor-here : (e : OrderEntry) → X.Survives (planOf plan) is e → Survives plan es e
+  survivor-here e s = record { part = s .part; among = s .among; at = s .at; survives = survives-here plan es is F (s .at) (s .part) (s .survives) }
 
   -- ---- recovery
 
@@ -97,18 +95,18 @@ module _ (plan : List ℕ) (es : List Event) (is : List Abstract.Event) (F : Fol
 
   -- ---- what explains there explains here
 
-  pub explains-here : (order : List Marked) → X.Explains (planOf plan) is order → Explains plan es order
+  pub explains-here : (order : List OrderEntry) → X.Explains (planOf plan) is order → Explains plan es order
   explains-here order E =
       record {
         once = E .once;
         survivors = λ m. (λ s. E .survivors m .0 (survivor-there m s), λ i. survivor-here m (E .survivors m .1 i));
-        results = λ n k r c. E .results n k _ (completes-there plan es is F n k r c);
+        results = λ n k r c. E .results n k r (completes-there plan es is F n k r c);
         values = λ p c st h H. sym (same-point c p st h (H .founded) .value) ∙ E .values p c h (holder-there p c st h H);
-        real-time = λ m n a b r c i h x y. E .real-time m n a b _ (completes-there plan es is F m (a .command) r c) (issues-there plan es is F n (b .command) i) h x y;
-        completed = λ n k r c. E .completed n k _ (completes-there plan es is F n k r c);
+        real-time = λ m n a b r c i h x y. E .real-time m n a b r (completes-there plan es is F m (commands a) r c) (issues-there plan es is F n (commands b) i) h x y;
+        completed = λ n k r c. E .completed n k r (completes-there plan es is F n k r c);
         sequence =
-            λ m n a b s t h e x y.
-            E .sequence m n a b (survives-there plan es is F m (a .command) s) (survives-there plan es is F n (b .command) t) h e x y;
+            λ m n j k a b s t h e u v x y.
+            E .sequence m n j k a b (survives-there plan es is F m j s) (survives-there plan es is F n k t) h e u v x y;
         recovers = recovers-end;
       }
 

@@ -11,8 +11,8 @@ use mathlib.Core.List.{List}
 use mathlib.Core.Option.{none, some}
 use native.Mathlib.Omega.{arith}
 use lib.Dec.{eqb, leb}
+use Rattle.model.specs.Versions.{Versions}
 use Rattle.model.specs.declared.Command.{Command}
-use Rattle.model.specs.declared.CommandResult.{CommandResult}
 use Rattle.model.specs.declared.Client.{Client}
 use Rattle.model.specs.declared.Request.{Request}
 use Rattle.model.specs.declared.ResultPacket.{ResultPacket}
@@ -22,8 +22,8 @@ use Rattle.model.specs.declared.Received.the-variants.{Completed, Denied, Exten
 use Rattle.model.specs.Choice.{pick}
 use Rattle.model.specs.Refusals.{unknown}
 use Rattle.model.specs.Plan.{planOf}
-use Rattle.model.specs.Sequential.{resultMeant}
-use Rattle.model.specs.Packets.{parsePacket, commandOf}
+use Rattle.model.specs.Sequential.{Marked, markedBy, EntryResult, one, resultMeant}
+use Rattle.model.specs.Packets.{parsePacket}
 use Rattle.model.specs.Operations.{answerOf, requestOf}
 use Rattle.model.specs.Clients.{isOwn, closed, withLease, receiveOf, receiveWith, receiveResult, receiveRefusal, receiveGrant, notReceived}
 use Rattle.protocol.specs.Servers as S
@@ -33,7 +33,7 @@ use Rattle.protocol.proofs.Basics.{impossible}
 use Rattle.claim.specs.World.{World, Event, Lent, running, packet, lentState, lentLog, run, after, emptyWorld}
 use Rattle.claim.specs.World as W
 use Rattle.claim.specs.Provisos.{At}
-use Rattle.claim.specs.Claim.{commandAt, resultIn, Issues, Completes, Executes}
+use Rattle.claim.specs.Claim.{commandAt, Issues, Completes, Executes}
 use Rattle.simulation.specs.Made.{PacketLike}
 use Rattle.simulation.specs.Made as Made
 use Rattle.simulation.specs.Worlds.{WorldLike}
@@ -47,17 +47,18 @@ use Rattle.safety.proofs.Runs.{like-at, matched-at, matched-back}
 -- ---- matched events
 
 module _ {w : World} {v v′ : Abstract.World} where
-  pub executes-on : {c p : ℕ} {l : Lent} {a : Abstract.Event} → Matched w v v′ (W.request c p l) a → (state log b : List ℕ) → w .servers c ≡ running state log
-      → packet w p ≡ some b → requestOf (lentState l state) (lentLog l log) b (l .out) .answer ≡ answerOf 0 0
-      → (room : Bool) × (a ≡ Abstract.request c p room) × Grows v v′ c × Executed w v c p l
+  pub executes-on : {c p : ℕ} {vs : Versions} {l : Lent} {a : Abstract.Event} → Matched w v v′ (W.request c p vs l) a → (state log b : List ℕ) → w .servers c ≡ running state log
+      → packet w p ≡ some b → requestOf vs (lentState l state) (lentLog l log) b (l .out) .answer ≡ answerOf 0 0
+      → (room : Bool) × (a ≡ Abstract.request c p vs room) × Grows v v′ c × Executed w v c p vs l
   unfolding Executing plain
-  executes-on (quiet c p l x) state log b u d z = absurd (x state log b u d z)
-  executes-on (ran c p l room g y) state log b u d z = let r = g state log b u d z in (room, refl, r, y r)
+  executes-on (quiet c p vs l x) state log b u d z = absurd (x state log b u d z)
+  executes-on (ran c p vs l room g y) state log b u d z = let r = g state log b u d z in (room, refl, r, y r)
   executes-on (other e a p q) state log b u d z = impossible (sym p)
 
-  pub executes-back : {c p : ℕ} {room : Bool} {e : Event} → Matched w v v′ e (Abstract.request c p room) → Grows v v′ c → (l : Lent) × (e ≡ W.request c p l) × Executed w v c p l
+  pub executes-back : {c p : ℕ} {vs : Versions} {room : Bool} {e : Event} → Matched w v v′ e (Abstract.request c p vs room) → Grows v v′ c
+      → (l : Lent) × (e ≡ W.request c p vs l) × Executed w v c p vs l
   unfolding quietEvent
-  executes-back (ran c p l room g y) r = (l, refl, y r)
+  executes-back (ran c p vs l room g y) r = (l, refl, y r)
   executes-back (other e a p q) r = impossible (sym q)
 
   pub crash-on : {c b : ℕ} {a : Abstract.Event} → Matched w v v′ (W.crash c b) a → (j : ℕ) × (a ≡ Abstract.crash c j) × Cut v v′ c b
@@ -125,7 +126,7 @@ module _ (plan : List ℕ) (es : List Event) (is : List Abstract.Event) (F : Fol
 
   -- ---- issues
 
-  pub issues-there : (n : ℕ) (k : Command) → Issues plan es n k → X.Issues (planOf plan) is n k
+  pub issues-there : (n : ℕ) (k : List Command) → Issues plan es n k → X.Issues (planOf plan) is n k
   issues-there n k i =
       let r = pairing n _ (i .event) in
       record {
@@ -143,9 +144,9 @@ module _ (plan : List ℕ) (es : List Event) (is : List Abstract.Event) (F : Fol
 
   -- ---- executions
 
-  pub executes-there : (n c : ℕ) (k : Command) → Executes plan es n c k → X.Executes (planOf plan) is n c k
+  pub executes-there : (n c : ℕ) (m : Marked) → Executes plan es n c m → X.Executes (planOf plan) is n c m
   unfolding Grows Abstract.askedIn
-  executes-there n c k x =
+  executes-there n c m x =
       let r = pairing n _ (x .event) in
       let y = executes-on (r .2) (x .state) (x .log) (x .bytes) (x .up) (x .delivered) (x .answer) in
       let e = y .3 in
@@ -153,11 +154,12 @@ module _ (plan : List ℕ) (es : List Event) (is : List Abstract.Event) (F : Fol
       let q : e .asked ≡ x .asked = same-asked (sym (e .parsed) ∙ ap parsePacket b ∙ x .parsed) in
       record {
         number = x .number;
+        versions = x .versions;
         room = y .0;
         event = subst (X.At (planOf plan) is n) (y .1) (r .1);
         asked = Abstract.askedIn (e .asked);
         delivered = e .told;
-        its = ap commandOf q ∙ x .its;
+        its = ap (λ (z : Request). markedBy (x .versions) (z .command)) q ∙ x .its;
         grew = y .2;
       }
     where
@@ -167,15 +169,16 @@ module _ (plan : List ℕ) (es : List Event) (is : List Abstract.Event) (F : Fol
       same-asked : {a b : Request} → Requested a ≡ Requested b → a ≡ b
       same-asked p = cc
 
-  pub executes-here : (n c : ℕ) (k : Command) → X.Executes (planOf plan) is n c k → Executes plan es n c k
+  pub executes-here : (n c : ℕ) (m : Marked) → X.Executes (planOf plan) is n c m → Executes plan es n c m
   unfolding Grows Abstract.askedIn
-  executes-here n c k x =
+  executes-here n c m x =
       let r = pairing-back n _ (x .event) in
       let y = executes-back (r .2) (x .grew) in
       let e = y .2 in
       let q : Abstract.askedIn (e .asked) ≡ x .asked = same-packet (sym (e .told) ∙ x .delivered) in
       record {
         number = x .number;
+        versions = x .versions;
         lent = y .0;
         event = subst (At plan es n) (y .1) (r .1);
         state = e .state;
@@ -186,7 +189,7 @@ module _ (plan : List ℕ) (es : List Event) (is : List Abstract.Event) (F : Fol
         answer = e .answer;
         asked = e .asked;
         parsed = e .parsed;
-        its = ap (λ (z : S.Asked). z .cmd) q ∙ x .its;
+        its = ap (λ (z : S.Asked). markedBy (x .versions) (z .cmd)) q ∙ x .its;
       }
     where
       same-packet : {a b : S.Asked} → some (S.request a) ≡ some (S.request b) → a ≡ b
@@ -195,10 +198,10 @@ module _ (plan : List ℕ) (es : List Event) (is : List Abstract.Event) (F : Fol
   -- ---- completions
 
   -- the packet is a result
-  completes-by : (n : ℕ) (k : Command) (r : CommandResult) (x : Completes plan es n k r) (b : List ℕ) (p : S.Packet)
+  completes-by : (n : ℕ) (k : List Command) (r : EntryResult) (x : Completes plan es n k r) (b : List ℕ) (p : S.Packet)
       → Abstract.packet (X.after (planOf plan) is n) (x .number) ≡ some p → PacketLike b p → parsePacket b ≡ Resulted (x .received)
       → isOwn (x .state) (x .received .client) (x .received .call) (x .received .point) ≡ true
-      → X.At (planOf plan) is n (Abstract.receive (x .client) (x .number)) → X.Completes (planOf plan) is n k (resultMeant r)
+      → X.At (planOf plan) is n (Abstract.receive (x .client) (x .number)) → X.Completes (planOf plan) is n k r
   unfolding commandAt Abstract.commandAt
   completes-by n k r x b p t (Made.request q m) e o a = let f = sym (parses m) ∙ e in let z : _≡_ {A = ℕ} 0 1 = cc in absurd (omega arith)
   completes-by n k r x b p t (Made.refusal q m) e o a = let f = sym (parses m) ∙ e in let z : _≡_ {A = ℕ} 0 1 = cc in absurd (omega arith)
@@ -208,7 +211,6 @@ module _ (plan : List ℕ) (es : List Event) (is : List Abstract.Event) (F : Fol
   completes-by n k r x b p t (Made.image i j m h) e o a = let f = sym (no-packet m) ∙ e in let z : _≡_ {A = ℕ} 0 1 = cc in absurd (omega arith)
   completes-by n k r x b p t (Made.answered q c m h) e o a =
       let s : q ≡ x .received = same-result (sym (parses m) ∙ e) in
-      let y : resultIn q ≡ r = ap resultIn s ∙ x .result in
       record {
         client = x .client;
         number = x .number;
@@ -216,16 +218,18 @@ module _ (plan : List ℕ) (es : List Event) (is : List Abstract.Event) (F : Fol
         state = x .state;
         started = sym (like n .clients (x .client)) ∙ x .started;
         told = c;
-        delivered = t ∙ ap (λ (z : CommandResult). some (S.answered c (resultMeant z))) y;
+        res = resultMeant (q .result);
+        delivered = t;
         own = rw (h .client, h .call, h .point, s) o;
         its = rw (h .call, s) (x .its);
+        result = ap (λ (z : ResultPacket). one (resultMeant (z .result))) s ∙ x .result;
       }
     where
       same-result : {u v : ResultPacket} → Resulted u ≡ Resulted v → u ≡ v
       same-result z = cc
 
-  completes-on : (n : ℕ) (k : Command) (r : CommandResult) (x : Completes plan es n k r) → Delivered (after es n) (X.after (planOf plan) is n) (x .number)
-      → X.At (planOf plan) is n (Abstract.receive (x .client) (x .number)) → X.Completes (planOf plan) is n k (resultMeant r)
+  completes-on : (n : ℕ) (k : List Command) (r : EntryResult) (x : Completes plan es n k r) → Delivered (after es n) (X.after (planOf plan) is n) (x .number)
+      → X.At (planOf plan) is n (Abstract.receive (x .client) (x .number)) → X.Completes (planOf plan) is n k r
   unfolding receiveOf
   completes-on n k r x (absent q) a = let f : some (x .bytes) ≡ none = sym (x .delivered) ∙ q in let z : _≡_ {A = ℕ} 0 1 = cc in absurd (omega arith)
   completes-on n k r x (here b p q t g) a =
@@ -234,7 +238,7 @@ module _ (plan : List ℕ) (es : List Event) (is : List Abstract.Event) (F : Fol
       let c = receive-completes (x .state) (parsePacket b) (x .received) (subst (λ (z : List ℕ). receiveWith (x .state) (parsePacket z) .answer ≡ Completed (x .received)) y (x .answer)) in
       completes-by n k r x b p t g (c .0) (c .1) a
 
-  pub completes-there : (n : ℕ) (k : Command) (r : CommandResult) → Completes plan es n k r → X.Completes (planOf plan) is n k (resultMeant r)
+  pub completes-there : (n : ℕ) (k : List Command) (r : EntryResult) → Completes plan es n k r → X.Completes (planOf plan) is n k r
   completes-there n k r x =
       let m = pairing n _ (x .event) in
       completes-on n k r x (delivered (like n) (x .number)) (subst (X.At (planOf plan) is n) (receive-on (m .2)) (m .1))

@@ -13,7 +13,7 @@ use lib.Dec.{ltb}
 use borrow.Author.Tests.{ltb-true, ltb-false}
 use Rattle.model.specs.Plan.{planOf, entryAt}
 use Rattle.model.specs.Limits.{pointCount, lastServer}
-use Rattle.model.specs.States.{State, load, pointAt}
+use Rattle.model.specs.States.{State, pointAt}
 use Rattle.claim.specs.World.{Event, Server, nothing, running, crashed, run, after, emptyWorld}
 use Rattle.claim.specs.Provisos.{Provisos, At}
 use Rattle.claim.specs.Claim.{stateGiven, finalState, Holder}
@@ -55,8 +55,8 @@ module _ (plan : List ℕ) (es : List Event) (P : Provisos plan es) where
   -- ---- the greatest of the servers
 
   module _ (p : ℕ) (h : p < pointCount) where
-    taken-under : (c : ℕ) (st : State) → finalState plan es c ≡ some st → pointAt st p .taken ≤ pointAt st p .number
-    taken-under c st e = counted c st e .sound .point p (omega arith) .taken
+    taken-under : (c : ℕ) (st : State) → finalState plan es c ≡ some st → pointAt st p .takenMove ≤ pointAt st p .moveNumber
+    taken-under c st e = counted c st e .sound .point p (omega arith) .takenMove
 
     at-most-self : (a : State) → AtMost p a a
     at-most-self a = record { number = omega arith; taken = λ e. omega arith }
@@ -67,14 +67,14 @@ module _ (plan : List ℕ) (es : List Event) (P : Provisos plan es) where
           number = omega (arith, x .number, y .number);
           taken =
               λ e.
-              let m : pointAt a p .number ≡ pointAt b p .number = omega (arith, e, x .number, y .number) in
-              let n : pointAt b p .number ≡ pointAt c p .number = omega (arith, e, x .number, y .number) in
+              let m : pointAt a p .moveNumber ≡ pointAt b p .moveNumber = omega (arith, e, x .number, y .number) in
+              let n : pointAt b p .moveNumber ≡ pointAt c p .moveNumber = omega (arith, e, x .number, y .number) in
               omega (arith, x .taken m, y .taken n);
         }
 
     -- one more server
     more : (n c : ℕ) (st : State) → Best plan es p n c st → (d : ℕ) (new : State) → finalState plan es d ≡ some new → AtMost p st new
-        → (pointAt new p .number ≡ 0 → entryAt (planOf plan) p .home ≡ d)
+        → (pointAt new p .moveNumber ≡ 0 → entryAt (planOf plan) p .home ≡ d)
         → ((x : State) → finalState plan es n ≡ some x → AtMost p x new) → Best plan es p (suc n) d new
     more n c st B d new e up home last =
         record {
@@ -96,16 +96,16 @@ module _ (plan : List ℕ) (es : List Event) (P : Provisos plan es) where
         go (ltb i j) refl (ltb j i) refl (ltb u v) refl
       where
         i : ℕ
-        i = pointAt st p .number
+        i = pointAt st p .moveNumber
 
         j : ℕ
-        j = pointAt x p .number
+        j = pointAt x p .moveNumber
 
         u : ℕ
-        u = pointAt st p .taken
+        u = pointAt st p .takenMove
 
         v : ℕ
-        v = pointAt x p .taken
+        v = pointAt x p .takenMove
 
         own : (y : State) → finalState plan es n ≡ some y → y ≡ x
         own y q = some-same (sym q ∙ e)
@@ -113,7 +113,7 @@ module _ (plan : List ℕ) (es : List Event) (P : Provisos plan es) where
         keep : AtMost p x st → (d : ℕ) × (new : State) × Best plan es p (suc n) d new
         keep k = (c, st, more n c st B c st (B .founded) (at-most-self st) (B .home) (λ y q. subst (λ (z : State). AtMost p z st) (sym (own y q)) k))
 
-        change : AtMost p st x → 1 ≤ pointAt x p .number → (d : ℕ) × (new : State) × Best plan es p (suc n) d new
+        change : AtMost p st x → 1 ≤ pointAt x p .moveNumber → (d : ℕ) × (new : State) × Best plan es p (suc n) d new
         change k l =
             (n, x, more n c st B n x e k (λ z. absurd (omega (arith, l, z))) (λ y q. subst (λ (z : State). AtMost p z x) (sym (own y q)) (at-most-self x)))
 

@@ -30,7 +30,7 @@ module _ (plan : List ℕ) (es : List Event) (P : Provisos plan es) where
   keeps : (n : ℕ) (e : Event) → At plan es n e → Keeps plan (after es n) e
   unfolding Keeps
   keeps n (W.found c state log p k) a = λ z. record { one-plan = P .one-plan n c state log p k a z; own-number = P .own-number n c state log p k a z; once = P .founded-once n c state log p k a z }
-  keeps n (W.request c p l) a = tt
+  keeps n (W.request c p vs l) a = tt
   keeps n (W.fetch c x k l) a = tt
   keeps n (W.sync c m l) a = tt
   keeps n (W.notice c p l) a = tt

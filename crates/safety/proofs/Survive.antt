@@ -10,8 +10,9 @@ use mathlib.Core.Logic.{_⊎_, inl, inr}
 use mathlib.Core.Option.{some}
 use native.Mathlib.Omega.{arith}
 use lib.ListN.{length, take, getD, getElem?}
+use Rattle.model.specs.Versions.{Versions}
 use Rattle.model.specs.Operations.{After}
-use Rattle.model.specs.declared.Command.{Command}
+use Rattle.model.specs.Sequential.{Marked}
 use Rattle.model.specs.Plan.{planOf}
 use Rattle.protocol.specs.Servers as S
 use Rattle.protocol.specs.World as Abstract
@@ -50,19 +51,19 @@ calls-run w c t f state log u =
     rw (u, making-servers (take (f (W.lentState t state) (W.lentLog t log) .answer .wrote) (f (W.lentState t state) (W.lentLog t log) .out)) _, eqb-same c)
     (record { state = _; log = _; up = refl })
 
-request-runs : (w : World) (c p : ℕ) (t : Lent) (state log b : List ℕ) → w .servers c ≡ running state log → packet w p ≡ some b → Running (step w (W.request c p t) .servers c)
+request-runs : (w : World) (c p : ℕ) (vs : Versions) (t : Lent) (state log b : List ℕ) → w .servers c ≡ running state log → packet w p ≡ some b → Running (step w (W.request c p vs t) .servers c)
 unfolding step callsOn
-request-runs w c p t state log b u d = rw d (calls-run w c t _ state log u)
+request-runs w c p vs t state log b u d = rw d (calls-run w c t _ state log u)
 
 module _ (plan : List ℕ) (es : List Event) (is : List Abstract.Event) (F : Follows (planOf plan) emptyWorld Abstract.emptyWorld es is) where
   abbrev logAt : ℕ → ℕ → List S.Entry
   logAt n c = X.after (planOf plan) is n .servers c .log
 
-  runs-after : (n c : ℕ) (k : Command) → Executes plan es n c k → Running (after es (suc n) .servers c)
+  runs-after : (n c : ℕ) (k : Marked) → Executes plan es n c k → Running (after es (suc n) .servers c)
   unfolding after run At
-  runs-after n c k x = rw (after-next es emptyWorld n _ (x .event)) (request-runs (after es n) c (x .number) (x .lent) (x .state) (x .log) (x .bytes) (x .up) (x .delivered))
+  runs-after n c k x = rw (after-next es emptyWorld n _ (x .event)) (request-runs (after es n) c (x .number) (x .versions) (x .lent) (x .state) (x .log) (x .bytes) (x .up) (x .delivered))
 
-  pub executed-bytes : (n c : ℕ) (k : Command) → Executes plan es n c k → lengthOf (after es (suc n) .servers c) ≡ bytesIn (logAt (suc n) c)
+  pub executed-bytes : (n c : ℕ) (k : Marked) → Executes plan es n c k → lengthOf (after es (suc n) .servers c) ≡ bytesIn (logAt (suc n) c)
   unfolding lengthOf ServerLike
   executed-bytes n c k x = go (after es (suc n) .servers c) (runs-after n c k x) (like plan es is F (suc n) .servers c)
     where
@@ -99,7 +100,7 @@ module _ (plan : List ℕ) (es : List Event) (is : List Abstract.Event) (F : Fol
         let t : Tail (logAt (suc n) c) (logAt m c) = subst (λ (z : ℕ). Tail (logAt (suc n) c) (logAt z c)) e (stays (m - suc n) (omega (arith, i .0))) in
         Tail-length (crash-stays m j h a t)
 
-  pub survives-there : (n : ℕ) (k : Command) → SurvivesAt plan es n k → X.SurvivesAt (planOf plan) is n k
+  pub survives-there : (n : ℕ) (k : Marked) → SurvivesAt plan es n k → X.SurvivesAt (planOf plan) is n k
   survives-there n k s =
       let c = s .server in
       record {
@@ -110,7 +111,7 @@ module _ (plan : List ℕ) (es : List Event) (is : List Abstract.Event) (F : Fol
 
   -- ---- and back
 
-  module _ (n c : ℕ) (k : Command) (x : X.Executes (planOf plan) is n c k)
+  module _ (n c : ℕ) (k : Marked) (x : X.Executes (planOf plan) is n c k)
       (kept : (m j : ℕ) → n < m → X.At (planOf plan) is m (Abstract.crash c j) → X.logLength (planOf plan) is (suc n) c ≤ X.logLength (planOf plan) is (suc m) c) where
     stands : (m : ℕ) → n < m → m ≤ length is → Tail (logAt (suc n) c) (logAt m c)
     stands m h b =
@@ -137,7 +138,7 @@ module _ (plan : List ℕ) (es : List Event) (is : List Abstract.Event) (F : Fol
         let i = at-is (planOf plan) is m (r .0) (r .1) in
         omega (arith, tail-bytes (stands (suc m) (omega arith) (i .0)), k .2 .most (founded-at m h (omega (arith, i .0))))
 
-  pub survives-here : (n : ℕ) (k : Command) → X.SurvivesAt (planOf plan) is n k → SurvivesAt plan es n k
+  pub survives-here : (n : ℕ) (k : Marked) → X.SurvivesAt (planOf plan) is n k → SurvivesAt plan es n k
   survives-here n k s =
       let c = s .server in
       let x = executes-here plan es is F n c k (s .executes) in

@@ -17,11 +17,11 @@ pub record Counted (c : ℕ) (st : State) : Type 0 where
   pub sound : Sound st
 
 pub record AtMost (p : ℕ) (a b : State) : Type 0 where
-  pub number : pointAt a p .number ≤ pointAt b p .number
-  pub taken : pointAt a p .number ≡ pointAt b p .number → pointAt a p .taken ≤ pointAt b p .taken
+  pub number : pointAt a p .moveNumber ≤ pointAt b p .moveNumber
+  pub taken : pointAt a p .moveNumber ≡ pointAt b p .moveNumber → pointAt a p .takenMove ≤ pointAt b p .takenMove
 
 -- server c, with the state st, is the greatest of the servers below n; the home where the move number is 0
 pub record Best (plan : List ℕ) (es : List Event) (p n c : ℕ) (st : State) : Type 0 where
   pub founded : finalState plan es c ≡ some st
   pub most : (d : ℕ) (other : State) → d < n → finalState plan es d ≡ some other → AtMost p other st
-  pub home : pointAt st p .number ≡ 0 → entryAt (planOf plan) p .home ≡ c
+  pub home : pointAt st p .moveNumber ≡ 0 → entryAt (planOf plan) p .home ≡ c

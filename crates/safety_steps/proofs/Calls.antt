@@ -12,14 +12,14 @@ use lib.Dec.{ltb, leb}
 use lib.ListN.{length, take, getElem?}
 use Rattle.model.specs.declared.PlanEntry.{PlanEntry}
 use Rattle.model.specs.declared.Packet.{Packet}
-use Rattle.model.specs.Choice.{pick, refuse, marks}
+use Rattle.model.specs.Choice.{pick, refuse, marks, unlessRefused}
 use Rattle.model.specs.Refusals.{malformed, badMark}
 use Rattle.model.specs.Limits.{goneSize, giveSize, takeHead, releaseSize}
 use Rattle.model.specs.Plan.{entryAt}
-use Rattle.model.specs.Packets.{parsePacket}
+use Rattle.model.specs.Packets.{parsePacket, asReceipt, asNotice}
 use Rattle.model.specs.Images.{Image, parseImage, imageInRange, imageLength}
 use Rattle.model.specs.States.{load}
-use Rattle.model.specs.Decisions.{Decided, onFetch, onSync, onNotice, onGive, onImage, onTake, onReceipt, onRelease, decideTake}
+use Rattle.model.specs.Decisions.{Decided, orMalformed, onFetch, syncRefusal, onSync, onNotice, onGive, onImage, onTake, onReceipt, onRelease, decideTake}
 use Rattle.model.specs.Operations.{After, fetchOf, syncOf, noticeOf, giveOf, imageOf, takeOf, receiptOf, releaseOf}
 use Rattle.laws.specs.Fits.{IsImage}
 use Rattle.protocol.specs.Servers as S
@@ -28,7 +28,7 @@ use Rattle.protocol.specs.World as Abstract
 use Rattle.protocol.proofs.Pairs.{Match, neither, both}
 use Rattle.claim.specs.World.{World, Event, Server, Lent, nothing, running, crashed, making, packet, step, calls, callsOn, lentState, lentLog}
 use Rattle.claim.specs.World as W
-use Rattle.claim.specs.Provisos.{LentOk}
+use Rattle.claim.specs.Provisos.{Counted}
 use Rattle.simulation.specs.Likeness.{ImageLike, entriesIn, placeOf}
 use Rattle.simulation.specs.Made.{PacketLike}
 use Rattle.simulation.specs.Made as Made
@@ -74,7 +74,7 @@ pub calls-none : (w : World) (c : ℕ) (t : Lent) (f : List ℕ → List ℕ →
 unfolding callsOn
 calls-none w c t f n e = rw e
 
-module _ {plan : List PlanEntry} {w : World} {v : Abstract.World} (l : WorldLike plan w v) (h : Parties w) (c : ℕ) (t : Lent) (ok : LentOk t) where
+module _ {plan : List PlanEntry} {w : World} {v : Abstract.World} (l : WorldLike plan w v) (h : Parties w) (c : ℕ) (t : Lent) (ok : Counted t) where
   -- a call: of a running server, or nothing changes
   follow : (e : Event) (f : List ℕ → List ℕ → After) → plain e ≡ true → step w e ≡ calls c t f (w .servers c) w
       → ((state log : List ℕ) → RunningLike plan c state log (v .servers c) → step w e ≡ left w c t state log (f (lentState t state) (lentLog t log)) → Stepped plan w v e)
@@ -139,9 +139,9 @@ module _ {plan : List PlanEntry} {w : World} {v : Abstract.World} (l : WorldLike
         (like-server l c _ _
         (record { pairs = zs; founded = refl; up = refl; same = R .same; marked = ap (placeOf zs) (sym (o .mark)); holds = o .holds }))
 
-    sync-settled : (b : Bool) → onSync (load state) m ≡ pick b (refuse badMark) (marks m)
-        → Called plan c (entriesIn (R .pairs)) t state log a (pick b (refuse badMark) (marks m)) → Stepped plan w v (W.sync c m t)
-    unfolding plain quietEvent Abstract.step
+    sync-settled : (b : Bool) → onSync (load state) m ≡ unlessRefused (pick b badMark 0) (marks m)
+        → Called plan c (entriesIn (R .pairs)) t state log a (unlessRefused (pick b badMark 0) (marks m)) → Stepped plan w v (W.sync c m t)
+    unfolding unlessRefused plain quietEvent Abstract.step
     sync-settled true e k = refused-step l h c t state log R (W.sync c m t) a s k refl
     sync-settled false e (short k) = refused-step l h c t state log R {n = 0} (W.sync c m t) a s (short k) refl
     sync-settled false e (lacking k) = refused-step l h c t state log R {n = 0} (W.sync c m t) a s (lacking k) refl
@@ -154,7 +154,7 @@ module _ {plan : List PlanEntry} {w : World} {v : Abstract.World} (l : WorldLike
         }
 
   pub sync-step : (m : ℕ) → Stepped plan w v (W.sync c m t)
-  unfolding step plain onSync
+  unfolding step plain onSync syncRefusal
   sync-step m =
       follow (W.sync c m t) (λ s g. syncOf s g m) refl refl
       (λ state log R s. sync-settled m state log R _ s (ltb m (load state .mark) || ltb (load state .size) m) refl (sync-called (R .holds) t ok m))
@@ -189,7 +189,7 @@ module _ {plan : List PlanEntry} {w : World} {v : Abstract.World} (l : WorldLike
   module _ (n : ℕ) (b : List ℕ) (state log : List ℕ) (R : RunningLike plan c state log (v .servers c)) (a : After) where
     notice-on : (p : S.Packet) → Abstract.packet v n ≡ some p → PacketLike b p → step w (W.notice c n t) ≡ left w c t state log a
         → Called plan c (entriesIn (R .pairs)) t state log a (onNotice (load state) (spaceIn t state log) (parsePacket b)) → Stepped plan w v (W.notice c n t)
-    unfolding onNotice plain quietEvent Abstract.change Abstract.asNotice
+    unfolding onNotice orMalformed asNotice plain quietEvent Abstract.change Abstract.asNotice
     notice-on p y (Made.request q k) s z = other-kind (W.notice c n t) refl (onNotice (load state) (spaceIn t state log)) b _ (parses k) refl state log R a s z
     notice-on p y (Made.answered r o k f) s z = other-kind (W.notice c n t) refl (onNotice (load state) (spaceIn t state log)) b _ (parses k) refl state log R a s z
     notice-on p y (Made.refusal r k) s z = other-kind (W.notice c n t) refl (onNotice (load state) (spaceIn t state log)) b _ (parses k) refl state log R a s z
@@ -214,7 +214,7 @@ module _ {plan : List PlanEntry} {w : World} {v : Abstract.World} (l : WorldLike
   module _ (n : ℕ) (b : List ℕ) (state log : List ℕ) (R : RunningLike plan c state log (v .servers c)) (a : After) where
     release-on : (p : S.Packet) → Abstract.packet v n ≡ some p → PacketLike b p → step w (W.release c n t) ≡ left w c t state log a
         → Called plan c (entriesIn (R .pairs)) t state log a (onRelease (load state) (spaceIn t state log) (parsePacket b)) → Stepped plan w v (W.release c n t)
-    unfolding onRelease plain quietEvent Abstract.change Abstract.asRelease
+    unfolding onRelease orMalformed asReceipt plain quietEvent Abstract.change Abstract.asRelease
     release-on p y (Made.request q k) s z = other-kind (W.release c n t) refl (onRelease (load state) (spaceIn t state log)) b _ (parses k) refl state log R a s z
     release-on p y (Made.answered r o k f) s z = other-kind (W.release c n t) refl (onRelease (load state) (spaceIn t state log)) b _ (parses k) refl state log R a s z
     release-on p y (Made.refusal r k) s z = other-kind (W.release c n t) refl (onRelease (load state) (spaceIn t state log)) b _ (parses k) refl state log R a s z
@@ -223,7 +223,7 @@ module _ {plan : List PlanEntry} {w : World} {v : Abstract.World} (l : WorldLike
     release-on p y (Made.image i j k f) s z = other-kind (W.release c n t) refl (onRelease (load state) (spaceIn t state log)) b _ (no-packet k) refl state log R a s z
     release-on p y (Made.receipt r k) s z =
         let room = not (ltb (spaceIn t state log) releaseSize) in
-        call-step l h c t state log R (W.release c n t) a s (Abstract.release c n room) (S.onRelease (Abstract.stateOf plan v c) room (r .point) (r .number))
+        call-step l h c t state log R (W.release c n t) a s (Abstract.release c n room) (S.onRelease (Abstract.stateOf plan v c) room (r .point) (r .moveNumber))
         (hands n _ (Abstract.asRelease plan v c room) y)
         (release-like plan c (R .pairs) (load state) (Abstract.stateOf plan v c) (alike l h c t state log R) r (spaceIn t state log) (good-receipt b r k))
         (subst (λ (x : Packet). Called plan c (entriesIn (R .pairs)) t state log a (onRelease (load state) (spaceIn t state log) x)) (parses k) z) refl refl
@@ -240,7 +240,7 @@ module _ {plan : List PlanEntry} {w : World} {v : Abstract.World} (l : WorldLike
     -- bytes that are no image
     no-take : parseImage b ≡ none → step w (W.take·image c n t) ≡ left w c t state log a
         → Called plan c (entriesIn (R .pairs)) t state log a (onTake (load state) (spaceIn t state log) (parseImage b)) → Stepped plan w v (W.take·image c n t)
-    unfolding onTake plain
+    unfolding onTake orMalformed plain
     no-take k s z =
         refused-step l h c t state log R (W.take·image c n t) a s
         (subst (λ (x : Option Image). Called plan c (entriesIn (R .pairs)) t state log a (onTake (load state) (spaceIn t state log) x)) k z) refl
@@ -268,7 +268,7 @@ module _ {plan : List PlanEntry} {w : World} {v : Abstract.World} (l : WorldLike
 
     take-on : (p : S.Packet) → Abstract.packet v n ≡ some p → PacketLike b p → step w (W.take·image c n t) ≡ left w c t state log a
         → Called plan c (entriesIn (R .pairs)) t state log a (onTake (load state) (spaceIn t state log) (parseImage b)) → Stepped plan w v (W.take·image c n t)
-    unfolding onTake
+    unfolding onTake orMalformed
     take-on p y (Made.request q k) s z = no-take (no-image k) s z
     take-on p y (Made.answered r o k f) s z = no-take (no-image k) s z
     take-on p y (Made.refusal r k) s z = no-take (no-image k) s z

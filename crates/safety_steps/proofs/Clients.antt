@@ -24,7 +24,6 @@ use Rattle.model.specs.declared.Received.the-variants.{Completed, Denied, Exten
 use Rattle.model.specs.Choice.{pick}
 use Rattle.model.specs.Refusals.{unknown}
 use Rattle.model.specs.Sequential.{ResultZ, resultMeant}
-use Rattle.claim.specs.Claim.{resultIn}
 use Rattle.model.specs.Packets.{parsePacket, requestBytes}
 use Rattle.model.specs.Clients.{startOf, startWith, issueOf, resendOf, receiveOf, receiveWith, receiveResult, receiveRefusal, receiveGrant, notReceived, isOwn, closed, withLease, withCalls, sentBytes, withCall}
 use Rattle.laws.specs.Bytes.{Bytes}
@@ -162,7 +161,7 @@ module _ {plan : List PlanEntry} {w : World} {v : Abstract.World} (l : WorldLike
     receive-like : (p : S.Packet) → PacketLike b p → WorldLike plan (withClient x (receiveOf d b .client) w) (Abstract.asReceive v x p)
     unfolding Abstract.asReceive receiveWith notReceived
     receive-like p (Made.request q k) = unchanged (Requested q) (parses k) refl
-    receive-like p (Made.answered r c k f) = rw (there e, Abstract.asReceive) (result-like r c (resultMeant (resultIn r)) (parses k) f)
+    receive-like p (Made.answered r c k f) = rw (there e, Abstract.asReceive) (result-like r c (resultMeant (r .result)) (parses k) f)
     receive-like p (Made.refusal r k) = unchanged (Refused r) (parses k) (refusal-same r)
     receive-like p (Made.receipt r k) = unchanged (Receipted r) (parses k) refl
     receive-like p (Made.notice n k) = unchanged (Noticed n) (parses k) refl

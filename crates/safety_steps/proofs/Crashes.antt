@@ -24,7 +24,8 @@ use Rattle.protocol.proofs.Basics.{eqb-same, impossible}
 use Rattle.protocol.proofs.Logs.{Tail, Tail-drop, Tail-short}
 use Rattle.claim.specs.World.{World, Event, Server, nothing, running, crashed, withServer, step, crashAt}
 use Rattle.claim.specs.World as W
-use Rattle.claim.specs.Provisos.{Slice, keptBy, markOf, lengthOf}
+use Rattle.laws.specs.Bytes.{Bytes}
+use Rattle.claim.specs.Provisos.{keptBy, markOf, lengthOf}
 use Rattle.simulation.specs.Likeness.{Pair, entriesIn, abstractIn, placeOf}
 use Rattle.simulation.specs.Holds.{Kept}
 use Rattle.simulation.specs.Worlds.{WorldLike, ServerLike}
@@ -34,7 +35,7 @@ use Rattle.sim_bytes.specs.Calls.{Started}
 use Rattle.sim_bytes.proofs.Facts.{decided-length}
 use Rattle.sim_bytes.proofs.Crashes.{holds-kept, crash-again}
 use Rattle.sim_bytes.proofs.Starts.{found-started, recover-passed, recover-started, recover-running}
-use Rattle.sim_bytes.proofs.Steps.{slice-bytes, started-refused, started-runs}
+use Rattle.sim_bytes.proofs.Steps.{started-refused, started-runs}
 use Rattle.safety_steps.specs.Parties.{Parties}
 use Rattle.safety_steps.specs.Allowed.{FoundOk, RecoverOk, CrashOk}
 use Rattle.safety_steps.specs.Matched.{bytesIn, plain, quietEvent, Cut, cut, other, Stepped}
@@ -152,30 +153,30 @@ module _ (plan : List ℕ) {w : World} {v : Abstract.World} (l : WorldLike (plan
         matched = other e i p q;
       }
 
-  module _ (state log p : List ℕ) (k : ℕ) (so : Slice state) (po : Slice p) where
-    found-runs : foundOf state log p k .answer .number ≡ 0 → FoundOk plan w c p k → Stepped (planOf plan) w v (W.found c state log p k)
+  module _ (state log p : List ℕ) (k : ℕ) (so : Bytes state) (po : Bytes p) where
+    found-runs : foundOf state log p k .answer .refusal ≡ 0 → FoundOk plan w c p k → Stepped (planOf plan) w v (W.found c state log p k)
     unfolding step ServerLike plain quietEvent entriesIn abstractIn placeOf Abstract.change Abstract.founded
     found-runs z F =
         let S : Started (planOf plan) c [] headSize (foundOf state log p k)
         = subst (λ (x : ℕ). Started (planOf plan) x [] headSize (foundOf state log p k)) (F .own-number)
-        (subst (λ (x : List ℕ). Started (planOf x) k [] headSize (foundOf state log p k)) (F .one-plan) (found-started state log p k (slice-bytes so) (slice-bytes po) z)) in
+        (subst (λ (x : List ℕ). Started (planOf x) k [] headSize (foundOf state log p k)) (F .one-plan) (found-started state log p k so po z)) in
         let f : v .servers c .founded ≡ false = subst (λ (x : Server). ServerLike (planOf plan) c x (v .servers c)) (F .once) (l .servers c) in
         let n : ltb lastServer c ≡ false = le-ltb lastServer c (S .holds .number) in
         starts (W.found c state log p k) (foundOf state log p k) (Abstract.found c) (record { founded = true; up = true; log = []; mark = 0 }) [] headSize refl refl
         (started-runs c (foundOf state log p k) w z) (rw (f, n)) refl refl refl refl S
 
-    pub found-step : (foundOf state log p k .answer .number ≡ 0 → FoundOk plan w c p k) → Stepped (planOf plan) w v (W.found c state log p k)
+    pub found-step : (foundOf state log p k .answer .refusal ≡ 0 → FoundOk plan w c p k) → Stepped (planOf plan) w v (W.found c state log p k)
     unfolding step plain
-    found-step F = go (eqb (foundOf state log p k .answer .number) 0) refl
+    found-step F = go (eqb (foundOf state log p k .answer .refusal) 0) refl
       where
-        go : (b : Bool) → eqb (foundOf state log p k .answer .number) 0 ≡ b → Stepped (planOf plan) w v (W.found c state log p k)
-        go true q = let z = eqb-true (foundOf state log p k .answer .number) 0 q in found-runs z (F z)
+        go : (b : Bool) → eqb (foundOf state log p k .answer .refusal) 0 ≡ b → Stepped (planOf plan) w v (W.found c state log p k)
+        go true q = let z = eqb-true (foundOf state log p k .answer .refusal) 0 q in found-runs z (F z)
         go false q =
-            idle-step l h (W.found c state log p k) (started-refused c (foundOf state log p k) w (λ z. eqb-false (foundOf state log p k .answer .number) 0 q z)) refl
+            idle-step l h (W.found c state log p k) (started-refused c (foundOf state log p k) w (λ z. eqb-false (foundOf state log p k .answer .refusal) 0 q z)) refl
 
-  module _ (state log p : List ℕ) (so : Slice state) where
+  module _ (state log p : List ℕ) (so : Bytes state) where
     -- all that is kept counts as synced
-    recovers : (zs : List Pair) (m : ℕ) → v .servers c .founded ≡ true → v .servers c .log ≡ abstractIn zs → recoverOf state log p .answer .number ≡ 0
+    recovers : (zs : List Pair) (m : ℕ) → v .servers c .founded ≡ true → v .servers c .log ≡ abstractIn zs → recoverOf state log p .answer .refusal ≡ 0
         → placeOf zs m ≡ length (abstractIn zs) → Started (planOf plan) c (entriesIn zs) m (recoverOf state log p) → Stepped (planOf plan) w v (W.recover c state log p)
     unfolding step plain quietEvent Abstract.change Abstract.recovered
     recovers zs m f b z k S =
@@ -183,7 +184,7 @@ module _ (plan : List ℕ) {w : World} {v : Abstract.World} (l : WorldLike (plan
         (record { founded = true; up = true; log = v .servers c .log; mark = length (v .servers c .log) }) zs m refl refl
         (started-runs c (recoverOf state log p) w z) (rw f) refl refl b (ap length b ∙ sym k) S
 
-    recover-runs : recoverOf state log p .answer .number ≡ 0 → RecoverOk plan w c log p → Stepped (planOf plan) w v (W.recover c state log p)
+    recover-runs : recoverOf state log p .answer .refusal ≡ 0 → RecoverOk plan w c log p → Stepped (planOf plan) w v (W.recover c state log p)
     unfolding ServerLike keptBy
     recover-runs z F = go (w .servers c) (F .uses) (l .servers c)
       where
@@ -206,18 +207,18 @@ module _ (plan : List ℕ) {w : World} {v : Abstract.World} (l : WorldLike (plan
             let q : kept ≡ log = cc in
             let H = R .holds in
             recovers (R .pairs) (length kept) (R .founded) (R .same) z (all (R .pairs) (H .good) (H .number) (H .decided) (length kept) (ap length (H .logged)))
-            (again (R .pairs) q (recover-running state plan H (slice-bytes so) (pass .0) (pass .1)))
+            (again (R .pairs) q (recover-running state plan H so (pass .0) (pass .1)))
         go (crashed kept mark) e R =
             let q : kept ≡ log = cc in
             let K = R .keeps in
             recovers (R .pairs) (length (headBytes c ++ entriesBytes (entriesIn (R .pairs)))) (R .founded) (R .same) z (all (R .pairs) (K .good) (K .number) (K .decided) _ refl)
-            (again (R .pairs) q (recover-started state plan K (slice-bytes so) (pass .0) (pass .1)))
+            (again (R .pairs) q (recover-started state plan K so (pass .0) (pass .1)))
 
-    pub recover-step : (recoverOf state log p .answer .number ≡ 0 → RecoverOk plan w c log p) → Stepped (planOf plan) w v (W.recover c state log p)
+    pub recover-step : (recoverOf state log p .answer .refusal ≡ 0 → RecoverOk plan w c log p) → Stepped (planOf plan) w v (W.recover c state log p)
     unfolding step plain
-    recover-step F = go (eqb (recoverOf state log p .answer .number) 0) refl
+    recover-step F = go (eqb (recoverOf state log p .answer .refusal) 0) refl
       where
-        go : (b : Bool) → eqb (recoverOf state log p .answer .number) 0 ≡ b → Stepped (planOf plan) w v (W.recover c state log p)
-        go true q = let z = eqb-true (recoverOf state log p .answer .number) 0 q in recover-runs z (F z)
+        go : (b : Bool) → eqb (recoverOf state log p .answer .refusal) 0 ≡ b → Stepped (planOf plan) w v (W.recover c state log p)
+        go true q = let z = eqb-true (recoverOf state log p .answer .refusal) 0 q in recover-runs z (F z)
         go false q =
-            idle-step l h (W.recover c state log p) (started-refused c (recoverOf state log p) w (λ z. eqb-false (recoverOf state log p .answer .number) 0 q z)) refl
+            idle-step l h (W.recover c state log p) (started-refused c (recoverOf state log p) w (λ z. eqb-false (recoverOf state log p .answer .refusal) 0 q z)) refl

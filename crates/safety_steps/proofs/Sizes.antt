@@ -34,7 +34,7 @@ mapped-length f (x ∷ l) = ap suc (mapped-length f l)
 
 pub size-like : {r : LogRecord} {a : S.LogRecord} → RecordLike r a → recordSize r ≡ sizeOf a
 unfolding recordSize sizeOf imageLength
-size-like (Likeness.executed x) = refl
+size-like (Likeness.executed v x) = refl
 size-like (Likeness.gone n) = refl
 size-like (Likeness.gave g) = refl
 size-like (Likeness.took i a k) =

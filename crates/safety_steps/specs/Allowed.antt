@@ -26,8 +26,8 @@ pub record CrashOk (w : World) (c k : ℕ) : Type 0 where
   pub within : k ≤ lengthOf (w .servers c)
 
 unfoldable pub Keeps : List ℕ → World → Event → Type 0
-Keeps plan w (W.found c state log p k) = foundOf state log p k .answer .number ≡ 0 → FoundOk plan w c p k
-Keeps plan w (W.request c p l) = Unit
+Keeps plan w (W.found c state log p k) = foundOf state log p k .answer .refusal ≡ 0 → FoundOk plan w c p k
+Keeps plan w (W.request c p vs l) = Unit
 Keeps plan w (W.fetch c x k l) = Unit
 Keeps plan w (W.sync c m l) = Unit
 Keeps plan w (W.notice c p l) = Unit
@@ -36,7 +36,7 @@ Keeps plan w (W.image c p l) = Unit
 Keeps plan w (W.take·image c p l) = Unit
 Keeps plan w (W.receipt c p l) = Unit
 Keeps plan w (W.release c p l) = Unit
-Keeps plan w (W.recover c state log p) = recoverOf state log p .answer .number ≡ 0 → RecoverOk plan w c log p
+Keeps plan w (W.recover c state log p) = recoverOf state log p .answer .refusal ≡ 0 → RecoverOk plan w c log p
 Keeps plan w (W.crash c k) = CrashOk w c k
 Keeps plan w (W.start p) = (b : List ℕ) → packet w p ≡ some b → startOf b .answer ≡ Running → w .clients (startOf b .client .client) ≡ none
 Keeps plan w (W.issue x op p a) = Unit

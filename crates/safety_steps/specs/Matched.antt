@@ -6,6 +6,7 @@ use mathlib.Core.Bool.{Bool, true, false}
 use mathlib.Core.List.{List, [], _∷_}
 use mathlib.Core.Option.{some}
 use lib.ListN.{length}
+use Rattle.model.specs.Versions.{Versions}
 use Rattle.model.specs.declared.PlanEntry.{PlanEntry}
 use Rattle.model.specs.declared.Request.{Request}
 use Rattle.model.specs.declared.Packet.the-variants.{Requested}
@@ -23,7 +24,7 @@ use Rattle.safety_steps.specs.Parties.{Parties}
 -- ---- the bytes of an abstract log
 
 unfoldable pub sizeOf : S.LogRecord → ℕ
-sizeOf (S.executed k d r) = executedSize
+sizeOf (S.executed v k d r) = executedSize
 sizeOf (S.gone x t) = goneSize
 sizeOf (S.gave p d m) = giveSize
 sizeOf (S.took a) = takeHead + (leastImage + floorRow * length (a .floors) + entryRow * length (a .records))
@@ -35,23 +36,23 @@ bytesIn (e ∷ es) = bytesIn es + sizeOf (e .item)
 
 -- ---- requests
 
--- packet p, delivered to server c, was executed: the answer is neither a number nor a packet
-pub record Executed (w : World) (v : Abstract.World) (c p : ℕ) (l : Lent) : Type 0 where
+-- packet p, delivered to server c with a program that executes by vs, was executed: the answer is neither a number nor a packet
+pub record Executed (w : World) (v : Abstract.World) (c p : ℕ) (vs : Versions) (l : Lent) : Type 0 where
   pub state : List ℕ
   pub log : List ℕ
   pub up : w .servers c ≡ running state log
   pub bytes : List ℕ
   pub delivered : packet w p ≡ some bytes
-  pub answer : requestOf (lentState l state) (lentLog l log) bytes (l .out) .answer ≡ answerOf 0 0
+  pub answer : requestOf vs (lentState l state) (lentLog l log) bytes (l .out) .answer ≡ answerOf 0 0
   pub asked : Request
   pub parsed : parsePacket bytes ≡ Requested asked
   pub told : Abstract.packet v p ≡ some (S.request (Abstract.askedIn asked))
 
 -- in the other direction: an execution makes P hold
-unfoldable pub Executing : World → ℕ → ℕ → Lent → Type 0 → Type 0
-Executing w c p l P =
+unfoldable pub Executing : World → ℕ → ℕ → Versions → Lent → Type 0 → Type 0
+Executing w c p vs l P =
     (state log b : List ℕ) → w .servers c ≡ running state log → packet w p ≡ some b
-    → requestOf (lentState l state) (lentLog l log) b (l .out) .answer ≡ answerOf 0 0 → P
+    → requestOf vs (lentState l state) (lentLog l log) b (l .out) .answer ≡ answerOf 0 0 → P
 
 -- the abstract log has one more record
 unfoldable pub Grows : Abstract.World → Abstract.World → ℕ → Type 0
@@ -69,7 +70,7 @@ pub record Cut (v v′ : Abstract.World) (c b : ℕ) : Type 0 where
 -- neither a request nor a crash nor what a client issues or receives
 unfoldable pub plain : Event → Bool
 plain (W.found c state log p k) = true
-plain (W.request c p l) = false
+plain (W.request c p vs l) = false
 plain (W.fetch c x k l) = true
 plain (W.sync c m l) = true
 plain (W.notice c p l) = true
@@ -92,7 +93,7 @@ plain (W.query x t) = true
 unfoldable pub quietEvent : Abstract.Event → Bool
 quietEvent Abstract.idle = true
 quietEvent (Abstract.found c) = true
-quietEvent (Abstract.request c n room) = false
+quietEvent (Abstract.request c n vs room) = false
 quietEvent (Abstract.fetch c x k) = true
 quietEvent (Abstract.sync c m) = true
 quietEvent (Abstract.notice c n room) = true
@@ -113,9 +114,9 @@ quietEvent (Abstract.query x t) = true
 
 -- v′ is the abstract world after the event
 pub data Matched (w : World) (v v′ : Abstract.World) : Event → Abstract.Event → Type 0 where
-  quiet : (c p : ℕ) (l : Lent) → Executing w c p l ⊥ → Matched w v v′ (W.request c p l) Abstract.idle
-  ran : (c p : ℕ) (l : Lent) (room : Bool) → Executing w c p l (Grows v v′ c) → (Grows v v′ c → Executed w v c p l)
-      → Matched w v v′ (W.request c p l) (Abstract.request c p room)
+  quiet : (c p : ℕ) (vs : Versions) (l : Lent) → Executing w c p vs l ⊥ → Matched w v v′ (W.request c p vs l) Abstract.idle
+  ran : (c p : ℕ) (vs : Versions) (l : Lent) (room : Bool) → Executing w c p vs l (Grows v v′ c) → (Grows v v′ c → Executed w v c p vs l)
+      → Matched w v v′ (W.request c p vs l) (Abstract.request c p vs room)
   cut : (c b j : ℕ) → Cut v v′ c b → Matched w v v′ (W.crash c b) (Abstract.crash c j)
   issued : (x op p a : ℕ) → Matched w v v′ (W.issue x op p a) (Abstract.issue x op p a)
   received : (x p : ℕ) → Matched w v v′ (W.receive x p) (Abstract.receive x p)

@@ -3,3 +3,4 @@ pub mod Rejected
 pub mod NotVacuous
 pub mod Traced
 pub mod Computed
+pub mod Forgetting

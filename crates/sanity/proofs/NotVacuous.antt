@@ -4,33 +4,35 @@
 -- Assumes nothing.
 use Prim.Native.Nat.{ℕ, zero, suc, _+_, _≤_}
 use mathlib.Core.Path.{_≡_, refl, sym, ap, _∙_, subst}
-use mathlib.Core.List.{List}
-use mathlib.Core.Option.{Option, none, some}
+use mathlib.Core.Option.{none, some}
 use native.Mathlib.Omega.{arith}
-use lib.Dec.{lit≤}
+use lib.Dec.{lit≤, lit<}
 use lib.ListN.{getElem?}
-use Rattle.model.specs.declared.Answer.{Answer}
 use Rattle.model.specs.declared.Client.{Client}
 use Rattle.model.specs.declared.Request.{Request}
 use Rattle.model.specs.declared.Point.{Point}
+use Rattle.model.specs.Choice.{unlessRefused}
 use Rattle.model.specs.declared.Packet.the-variants.{Requested}
 use Rattle.model.specs.declared.Received.the-variants.{Completed}
 use Rattle.model.specs.declared.Sent.the-variants.{Asked}
+use mathlib.Core.List.{[], _∷_}
+use Rattle.model.specs.Versions.{today}
+use Rattle.model.specs.Sequential.{markedBy, one, resultMeant}
 use Rattle.model.specs.Numbers.{half, flip, le32At, signedAt, zeros3At}
+use Rattle.model.specs.Limits.{refusalSize}
 use Rattle.model.specs.Tables.{every}
-use Rattle.model.specs.Plan.{planEntryOf, planOf, entryAt}
-use Rattle.model.specs.Rules.{leastArgument, greatestArgument, argumentOk}
-use Rattle.model.specs.Packets.{packetLength, idOk, doneOk, commandOk, outcomeOk, requestAt, requestOk, requestBytes, commandOf, resultAt, resultOk, resultBytes, whole, parseRequest, parseResult, parsePacket}
+use Rattle.model.specs.Rules.{argumentRange, inArguments, argumentOk}
+use Rattle.model.specs.Packets.{packetLength, idOk, doneOk, commandOk, outcomeOk, requestAt, requestOk, requestBytes, resultAt, resultOk, resultBytes, whole, parseRequest, parseResult, parsePacket}
 use Rattle.model.specs.States.{State, load, pointAt}
-use Rattle.model.specs.Operations.{After, answerOf, requestOf}
+use Rattle.model.specs.Operations.{After, answerOf}
 use Rattle.model.specs.Clients.{placeOf, callAt, isOpen, leastOpen, firstOpen, withCalls, closed, requestFor, newCall, withCall, notSent, sent, issueOf, isOwn, notReceived, receiveResult, receiveWith, receiveOf}
 use Rattle.model.specs.Yard.{yardPlan}
-use Rattle.claim.specs.World.{Event, request, sync, give, crash, issue, receive, Server, nothing, running, packet, lentState, lentLog, run, after}
+use Rattle.claim.specs.World.{Event, request, sync, give, crash, issue, receive, nothing, packet, run, after}
 use Rattle.claim.specs.Provisos.{lengthOf, At, Provisos}
-use Rattle.claim.specs.Claim.{commandAt, resultIn, Executes, SurvivesAt, Completes, Issues, stateGiven, finalState, Holder}
-use Rattle.sanity.specs.Trace.{Call, Seen, Answered, requestAnswer, callSeen, Stands, standsAt, Ended, endSeen, Trace, keepsMany, below}
+use Rattle.claim.specs.Claim.{commandAt, Executes, SurvivesAt, Completes, Issues, stateGiven, finalState, Holder}
+use Rattle.sanity.specs.Trace.{Call, Seen, requestAnswer, callSeen, up, standsAt, Ended, endSeen, Trace, keepsMany, below}
 use Rattle.sanity.specs.Moved.{setting, stepping, settingResult, steppingResult, settingAsked, steppingAsked, settingAnswer, steppingAnswer, lentAll, asks, schedule, setter, stepper, newStepper, giverPoint, takerPoint, rowsSeen, traceSeen}
-use Rattle.sanity.proofs.Traced.{call-at, end-at, provisos-kept, kept-after, untouched, stands-of, answer-of}
+use Rattle.sanity.proofs.Traced.{call-at, end-at, provisos-kept, kept-after, untouched, up-of, executes-seen}
 use Rattle.sanity.proofs.Computed.{trace-is}
 
 some-same : {A : Type 0} {a b : A} → some a ≡ some b → a ≡ b
@@ -46,33 +48,9 @@ provisos : Provisos yardPlan schedule
 unfolding traceSeen rowsSeen every
 provisos = provisos-kept yardPlan 5 schedule traceSeen trace-is refl
 
--- a request that is executed
-executes : (n c p size : ℕ) (q : Request) → At yardPlan schedule n (asks c p) → parsePacket (requestBytes q) ≡ Requested q
-    → callSeen (after schedule n) (asks c p) ≡ record { client = none; packet = some (requestBytes q); size = size; answer = some (answerOf 0 0) }
-    → Executes yardPlan schedule n c (commandOf q)
-unfolding callSeen
-executes n c p size q e parsed s =
-    let b : packet (after schedule n) p ≡ some (requestBytes q) = ap (λ (x : Call). x .packet) s in
-    let A = answer-of lentAll (after schedule n .servers c) (packet (after schedule n) p) (answerOf 0 0) (ap (λ (x : Call). x .answer) s) in
-    let same : A .bytes ≡ requestBytes q = some-same (sym (A .packet) ∙ b) in
-    record {
-      number = p;
-      lent = lentAll;
-      event = e;
-      state = A .state;
-      log = A .log;
-      up = A .up;
-      bytes = requestBytes q;
-      delivered = b;
-      answer = subst (λ (x : List ℕ). requestOf (lentState lentAll (A .state)) (lentLog lentAll (A .log)) x (lentAll .out) .answer ≡ answerOf 0 0) same (A .answer);
-      asked = q;
-      parsed = parsed;
-      its = refl;
-    }
-
 -- the packets and the clients, by themselves
 parsed : (parsePacket (requestBytes settingAsked) ≡ Requested settingAsked) × (parsePacket (requestBytes steppingAsked) ≡ Requested steppingAsked)
-unfolding flip le32At signedAt zeros3At packetLength leastArgument greatestArgument argumentOk idOk doneOk commandOk requestAt requestOk requestBytes whole parseRequest parsePacket
+unfolding flip le32At signedAt zeros3At packetLength argumentRange inArguments argumentOk idOk doneOk commandOk requestAt requestOk requestBytes whole parseRequest parsePacket
 parsed = (refl, refl)
 
 received : (receiveOf setter (resultBytes settingAnswer) .answer ≡ Completed settingAnswer) × (receiveOf stepper (resultBytes steppingAnswer) .answer ≡ Completed steppingAnswer)
@@ -80,35 +58,53 @@ unfolding flip le32At signedAt zeros3At packetLength idOk outcomeOk resultAt res
 received = (refl, refl)
 
 issued : issueOf newStepper 2 5 (half + 1) .answer ≡ Asked steppingAsked
-unfolding commandOk leastArgument greatestArgument argumentOk placeOf callAt isOpen leastOpen firstOpen withCalls requestFor newCall withCall notSent sent issueOf
+unfolding commandOk argumentRange inArguments argumentOk placeOf callAt isOpen leastOpen firstOpen withCalls requestFor newCall withCall notSent sent issueOf
 issued = refl
 
-set-survives : SurvivesAt yardPlan schedule 7 setting
-unfolding At schedule rowsSeen callSeen every keepsMany commandOf
+set-survives : SurvivesAt yardPlan schedule 7 (markedBy today setting)
+unfolding At schedule rowsSeen callSeen every keepsMany
 set-survives =
     record {
       server = 0;
-      executes = executes 7 0 2 8 settingAsked refl (parsed .0) (row 7 (asks 0 2) _ refl refl);
+      executes = executes-seen yardPlan schedule 7 0 2 8 today lentAll settingAsked refl (parsed .0) (row 7 (asks 0 2) _ refl refl);
       kept =
           λ m b h e.
           let z : lengthOf (after schedule 8 .servers 0) ≡ 36 = ap (λ (x : Call). x .size) (row 8 (sync 0 36 lentAll) _ refl refl) in
           rw z (kept-after 0 36 7 schedule refl m b h e);
     }
 
-step-survives : SurvivesAt yardPlan schedule 15 stepping
-unfolding At schedule rowsSeen callSeen every keepsMany commandOf
+step-survives : SurvivesAt yardPlan schedule 15 (markedBy today stepping)
+unfolding At schedule rowsSeen callSeen every keepsMany
 step-survives =
     record {
       server = 0;
-      executes = executes 15 0 4 36 steppingAsked refl (parsed .1) (row 15 (asks 0 4) _ refl refl);
+      executes = executes-seen yardPlan schedule 15 0 4 36 today lentAll steppingAsked refl (parsed .1) (row 15 (asks 0 4) _ refl refl);
       kept =
           λ m b h e.
           let z : lengthOf (after schedule 16 .servers 0) ≡ 64 = ap (λ (x : Call). x .size) (row 16 (give 0 5 1 lentAll) _ refl refl) in
           rw z (kept-after 0 64 15 schedule refl m b h e);
     }
 
-set-completed : Completes yardPlan schedule 10 setting settingResult
-unfolding At schedule rowsSeen callSeen commandAt callAt placeOf resultIn
+-- its first execution is cut off by the crash
+step-cut : Executes yardPlan schedule 12 0 (markedBy today stepping) × (SurvivesAt yardPlan schedule 12 (markedBy today stepping) → ⊥)
+unfolding At schedule rowsSeen callSeen
+step-cut = (executes-seen yardPlan schedule 12 0 4 36 today lentAll steppingAsked refl (parsed .1) (row 12 (asks 0 4) _ refl refl), cut)
+  where
+    cut : SurvivesAt yardPlan schedule 12 (markedBy today stepping) → ⊥
+    cut s =
+        let q : some (asks 0 4) ≡ some (request (s .server) (s .executes .number) (s .executes .versions) (s .executes .lent)) = s .executes .event in
+        let z : s .server ≡ 0 = cc in
+        let k : lengthOf (after schedule 13 .servers 0) ≤ 50 = subst (λ (d : ℕ). lengthOf (after schedule 13 .servers d) ≤ 50) z (s .kept 13 50 (lit< tt) (rw z refl)) in
+        let n : lengthOf (after schedule 13 .servers 0) ≡ 64 = ap (λ (x : Call). x .size) (row 13 (crash 0 50) _ refl refl) in
+        omega (arith, k, n)
+
+-- server 1 refuses the late repeat of the first with 4
+late-repeat : requestAnswer today lentAll (after schedule 26 .servers 1) (packet (after schedule 26) 2) ≡ some (answerOf 4 refusalSize)
+unfolding schedule rowsSeen callSeen
+late-repeat = ap (λ (x : Call). x .answer) (row 26 (asks 1 2) _ refl refl)
+
+set-completed : Completes yardPlan schedule 10 (setting ∷ []) (one (resultMeant settingResult))
+unfolding At schedule rowsSeen callSeen commandAt callAt placeOf
 set-completed =
     let s = row 10 (receive 1 3) _ refl refl in
     record {
@@ -125,8 +121,8 @@ set-completed =
       result = refl;
     }
 
-step-completed : Completes yardPlan schedule 23 stepping steppingResult
-unfolding At schedule rowsSeen callSeen commandAt callAt placeOf resultIn
+step-completed : Completes yardPlan schedule 23 (stepping ∷ []) (one (resultMeant steppingResult))
+unfolding At schedule rowsSeen callSeen commandAt callAt placeOf
 step-completed =
     let s = row 23 (receive 2 6) _ refl refl in
     record {
@@ -143,8 +139,8 @@ step-completed =
       result = refl;
     }
 
-step-issued : Issues yardPlan schedule 11 stepping
-unfolding At schedule rowsSeen callSeen commandOf
+step-issued : Issues yardPlan schedule 11 (stepping ∷ [])
+unfolding At schedule rowsSeen callSeen
 step-issued =
     record {
       client = 2;
@@ -161,21 +157,21 @@ step-issued =
 
 -- ---- the holder
 
-giver : standsAt 5 (run schedule .servers 0) ≡ some (record { point = giverPoint; heard = 0 })
+giver : standsAt 5 (run schedule .servers 0) ≡ up giverPoint 0
 unfolding endSeen traceSeen
 giver = ap (λ (x : Ended). x .first) (end-at yardPlan 5 schedule traceSeen trace-is)
 
-taker : standsAt 5 (run schedule .servers 1) ≡ some (record { point = takerPoint; heard = 20 })
+taker : standsAt 5 (run schedule .servers 1) ≡ up takerPoint 20
 unfolding endSeen traceSeen
 taker = ap (λ (x : Ended). x .second) (end-at yardPlan 5 schedule traceSeen trace-is)
 
 -- the point of a server that counts
-final-point : (c : ℕ) (x : Stands) → standsAt 5 (run schedule .servers c) ≡ some x → (st : State) → finalState yardPlan schedule c ≡ some st → pointAt st 5 ≡ x .point
+final-point : (c : ℕ) (x : Point) (h : ℕ) → standsAt 5 (run schedule .servers c) ≡ up x h → (st : State) → finalState yardPlan schedule c ≡ some st → pointAt st 5 ≡ x
 unfolding finalState stateGiven
-final-point c x e st q =
-    let s = stands-of 5 (run schedule .servers c) x e in
+final-point c x h e st q =
+    let s = up-of 5 (run schedule .servers c) x h e in
     let z : load (s .0) ≡ st = some-same (sym (ap (stateGiven yardPlan schedule) (s .2)) ∙ q) in
-    subst (λ (y : State). pointAt y 5 ≡ x .point) z (s .3)
+    subst (λ (y : State). pointAt y 5 ≡ x) z (s .3)
 
 -- every other server is not founded
 no-other : (d : ℕ) (st : State) → finalState yardPlan schedule (suc (suc d)) ≡ some st → ⊥
@@ -187,33 +183,36 @@ no-other d st q =
     omega arith
 
 -- both servers stand at move 1, and server 1 took the point there
-move-of : (d : ℕ) (st : State) → finalState yardPlan schedule d ≡ some st → (pointAt st 5 .number ≡ 1) × (pointAt st 5 .taken ≤ 1)
-move-of zero st q = let z = final-point 0 _ giver st q in (ap (λ (x : Point). x .number) z, rw z (lit≤ tt))
-move-of (suc zero) st q = let z = final-point 1 _ taker st q in (ap (λ (x : Point). x .number) z, rw z (lit≤ tt))
+move-of : (d : ℕ) (st : State) → finalState yardPlan schedule d ≡ some st → (pointAt st 5 .moveNumber ≡ 1) × (pointAt st 5 .takenMove ≤ 1)
+move-of zero st q = let z = final-point 0 giverPoint 0 giver st q in (ap (λ (x : Point). x .moveNumber) z, rw z (lit≤ tt))
+move-of (suc zero) st q = let z = final-point 1 takerPoint 20 taker st q in (ap (λ (x : Point). x .moveNumber) z, rw z (lit≤ tt))
 move-of (suc (suc d)) st q = absurd (no-other d st q)
 
 holder : (st : State) × Holder yardPlan schedule 5 1 st × (pointAt st 5 ≡ takerPoint) × (st .heard ≡ 20)
 unfolding finalState stateGiven
 holder =
-    let s = stands-of 5 (run schedule .servers 1) _ taker in
+    let s = up-of 5 (run schedule .servers 1) takerPoint 20 taker in
     let e : finalState yardPlan schedule 1 ≡ some (load (s .0)) = ap (stateGiven yardPlan schedule) (s .2) in (
       load (s .0),
       record {
         founded = e;
         greatest = λ d other q. rw (move-of d other q .0, s .3) (lit≤ tt);
         taker = λ d other q z. rw (s .3) (move-of d other q .1);
-        home = λ z. absurd (let k = ap (λ (x : Point). x .number) (s .3) in omega (arith, k, z));
+        home = λ z. absurd (let k = ap (λ (x : Point). x .moveNumber) (s .3) in omega (arith, k, z));
       },
       s .3,
       s .4,
     )
 
--- events 7 and 15 execute the two commands and survive, events 10 and 23 complete them, and event 11 issues the second
+-- events 7 and 15 execute the two commands and survive, events 10 and 23 complete them, and event 11 issues the second; event 12 executes
+-- it first, and is cut off; event 26 is the late repeat
 pub not-vacuous : Provisos yardPlan schedule
-    × SurvivesAt yardPlan schedule 7 setting
-    × Completes yardPlan schedule 10 setting settingResult
-    × Issues yardPlan schedule 11 stepping
-    × SurvivesAt yardPlan schedule 15 stepping
-    × Completes yardPlan schedule 23 stepping steppingResult
+    × SurvivesAt yardPlan schedule 7 (markedBy today setting)
+    × Completes yardPlan schedule 10 (setting ∷ []) (one (resultMeant settingResult))
+    × Issues yardPlan schedule 11 (stepping ∷ [])
+    × SurvivesAt yardPlan schedule 15 (markedBy today stepping)
+    × Completes yardPlan schedule 23 (stepping ∷ []) (one (resultMeant steppingResult))
+    × (Executes yardPlan schedule 12 0 (markedBy today stepping) × (SurvivesAt yardPlan schedule 12 (markedBy today stepping) → ⊥))
+    × (requestAnswer today lentAll (after schedule 26 .servers 1) (packet (after schedule 26) 2) ≡ some (answerOf 4 refusalSize))
     × ((st : State) × Holder yardPlan schedule 5 1 st × (pointAt st 5 ≡ takerPoint) × (st .heard ≡ 20))
-not-vacuous = (provisos, set-survives, set-completed, step-issued, step-survives, step-completed, holder)
+not-vacuous = (provisos, set-survives, set-completed, step-issued, step-survives, step-completed, step-cut, late-repeat, holder)

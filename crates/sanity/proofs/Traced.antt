@@ -4,8 +4,9 @@
 --     end-at                   what is seen at the end
 --     kept-after               crashes past an event keep enough
 --     untouched                a server that no event names is not founded
---     stands-of                a server that stands at the end runs
---     answer-of                a request that answered had a running server and a packet
+--     up-of, down-of           a server that is seen running, or crashed
+--     executes-seen            a request seen to answer 0 and no packet executes its command
+--     executes-only            where all requests that were answered had one packet, nothing else is executed
 -- Assumes nothing.
 use Prim.Native.Nat.{ℕ, zero, suc, _*_, _≤_, _<_}
 use mathlib.Core.Path.{_≡_, refl, sym, ap, _∙_, subst}
@@ -21,19 +22,26 @@ use Rattle.model.specs.declared.Client.{Client}
 use Rattle.model.specs.declared.Started.the-variants.{NotStarted, Running}
 use Rattle.model.specs.Numbers.{word}
 use Rattle.model.specs.Tables.{every}
-use Rattle.model.specs.Operations.{After, requestOf}
+use Rattle.model.specs.Versions.{Versions}
+use Rattle.model.specs.Sequential.{Marked, markedBy}
+use Rattle.model.specs.declared.Request.{Request}
+use Rattle.model.specs.declared.Packet.the-variants.{Requested}
+use Rattle.model.specs.Packets.{parsePacket, requestBytes}
+use Rattle.claim.specs.Claim.{Executes}
+use Rattle.model.specs.Operations.{After, answerOf, requestOf}
 use Rattle.model.specs.Clients.{startOf}
 use Rattle.model.specs.declared.LeaseAnswer.{LeaseAnswer}
+use Rattle.model.specs.declared.Point.{Point}
 use Rattle.model.specs.declared.SendAnswer.{SendAnswer}
 use Rattle.model.specs.declared.StartAnswer.{StartAnswer}
 use Rattle.model.specs.declared.Started.{Started}
 use Rattle.model.specs.States.{load, pointAt}
 use Rattle.claim.specs.World.{withServer, withClient, withManager, making, calls, callsOn, foundAs, crashAt, startsAs, startsOn, sends, receives, told}
 use Rattle.claim.specs.World.{Event, found, request, fetch, sync, notice, give, image, take·image, receipt, release, recover, crash, start, issue, resend, receive, open·lease, renew, query, Lent, World, Server, nothing, running, crashed, lentState, lentLog, packet, step, emptyWorld, runFrom, run, after}
-use Rattle.claim.specs.Provisos.{Bytes, Slice, LentOk, Typed, keptBy, markOf, lengthOf, At, Provisos}
+use Rattle.claim.specs.Provisos.{Bytes, Counted, Typed, keptBy, markOf, lengthOf, At, Provisos}
 use Rattle.laws.proofs.Tests.{choose, and-left, and-right}
 use Rattle.laws.proofs.Numbers.{bytes-nil, bytes-cons}
-use Rattle.sanity.specs.Trace.{bytesOk, sliceOk, lentOk, typedOk, sameBytes, isNothing, keptIs, isNone, startsNew, keepsOk, Call, Seen, requestAnswer, callSeen, seenAt, Ended, endSeen, Trace, traceFrom, keepsMany, below, Answered, Stands, standsAt}
+use Rattle.sanity.specs.Trace.{asksOnly, bytesOk, countedOk, typedOk, sameBytes, isNothing, keptIs, notStarted, startsNew, keepsOk, Call, Seen, requestAnswer, callSeen, seenAt, Ended, endSeen, Trace, traceFrom, keepsMany, below, Answered, Stands, up, down, standsAt}
 
 impossible : {A B : Type 0} {a : B} → none ≡ some a → A
 impossible e = let z : _≡_ {A = ℕ} 0 1 = cc in absurd (omega arith)
@@ -49,24 +57,6 @@ bytes-ok [] e = bytes-nil
 bytes-ok (b ∷ s) e =
     bytes-cons b s (ltb-true _ _ (and-left (ltb b 256) (every (λ x. ltb x 256) s) e)) (bytes-ok s (and-right (ltb b 256) (every (λ x. ltb x 256) s) e))
 
-slice-ok : (s : List ℕ) → sliceOk s ≡ true → Slice s
-unfolding sliceOk
-slice-ok s e =
-    record {
-      bytes = bytes-ok s (and-left (bytesOk s) (ltb (length s) (word * word)) e);
-      counted = ltb-true _ _ (and-right (bytesOk s) (ltb (length s) (word * word)) e);
-    }
-
-lent-ok : (l : Lent) → lentOk l ≡ true → LentOk l
-unfolding lentOk
-lent-ok l e =
-    let r = and-right (ltb (l .log) (word * word)) (bytesOk (l .tail) && sliceOk (l .out)) e in
-    record {
-      counted = ltb-true _ _ (and-left (ltb (l .log) (word * word)) (bytesOk (l .tail) && sliceOk (l .out)) e);
-      tail = bytes-ok (l .tail) (and-left (bytesOk (l .tail)) (sliceOk (l .out)) r);
-      out = slice-ok (l .out) (and-right (bytesOk (l .tail)) (sliceOk (l .out)) r);
-    }
-
 -- two and three tests
 both : {A B : Type 0} (s t : Bool) → (s ≡ true → A) → (t ≡ true → B) → (s && t) ≡ true → A × B
 both s t f g e = (f (and-left s t e), g (and-right s t e))
@@ -74,33 +64,31 @@ both s t f g e = (f (and-left s t e), g (and-right s t e))
 three : {A B C : Type 0} (s t u : Bool) → (s ≡ true → A) → (t ≡ true → B) → (u ≡ true → C) → (s && (t && u)) ≡ true → A × B × C
 three s t u f g h e = let r = and-right s (t && u) e in (f (and-left s (t && u) e), g (and-left t u r), h (and-right t u r))
 
-less : (a b : ℕ) → ltb a b ≡ true → a < b
-less a b e = ltb-true a b e
+counted-ok : (l : Lent) → countedOk l ≡ true → Counted l
+unfolding countedOk
+counted-ok l e = ltb-true _ _ e
 
 typed-ok : (e : Event) → typedOk e ≡ true → Typed e
 unfolding typedOk Typed
-typed-ok (found c state log plan n) h =
-    let a = both (sliceOk state) (sliceOk log && (sliceOk plan && ltb n word)) (slice-ok state)
-    (three (sliceOk log) (sliceOk plan) (ltb n word) (slice-ok log) (slice-ok plan) (less n word)) h in
-    (a .0, a .1 .0, a .1 .1, a .1 .2)
-typed-ok (request c p l) h = lent-ok l h
-typed-ok (fetch c x k l) h = three (lentOk l) (ltb x word) (ltb k word) (lent-ok l) (less x word) (less k word) h
-typed-ok (sync c m l) h = both (lentOk l) (ltb m (word * word)) (lent-ok l) (less m (word * word)) h
-typed-ok (notice c p l) h = lent-ok l h
-typed-ok (give c p d l) h = three (lentOk l) (ltb p word) (ltb d word) (lent-ok l) (less p word) (less d word) h
-typed-ok (image c p l) h = both (lentOk l) (ltb p word) (lent-ok l) (less p word) h
-typed-ok (take·image c p l) h = lent-ok l h
-typed-ok (receipt c p l) h = both (lentOk l) (ltb p word) (lent-ok l) (less p word) h
-typed-ok (release c p l) h = lent-ok l h
-typed-ok (recover c state log plan) h = three (sliceOk state) (sliceOk log) (sliceOk plan) (slice-ok state) (slice-ok log) (slice-ok plan) h
+typed-ok (found c state log plan n) h = both (bytesOk state) (bytesOk plan) (bytes-ok state) (bytes-ok plan) h
+typed-ok (request c p v l) h = counted-ok l h
+typed-ok (fetch c x k l) h = counted-ok l h
+typed-ok (sync c m l) h = counted-ok l h
+typed-ok (notice c p l) h = counted-ok l h
+typed-ok (give c p d l) h = counted-ok l h
+typed-ok (image c p l) h = counted-ok l h
+typed-ok (take·image c p l) h = counted-ok l h
+typed-ok (receipt c p l) h = counted-ok l h
+typed-ok (release c p l) h = counted-ok l h
+typed-ok (recover c state log plan) h = bytes-ok state h
 typed-ok (crash c k) h = tt
 typed-ok (start p) h = tt
-typed-ok (issue x op p a) h = three (ltb op 256) (ltb p 256) (ltb a word) (less op 256) (less p 256) (less a word) h
-typed-ok (resend x c) h = less c word h
+typed-ok (issue x op p a) h = tt
+typed-ok (resend x c) h = tt
 typed-ok (receive x p) h = tt
-typed-ok (open·lease t span) h = both (ltb t word) (ltb span word) (less t word) (less span word) h
-typed-ok (renew x t span) h = three (ltb x word) (ltb t word) (ltb span word) (less x word) (less t word) (less span word) h
-typed-ok (query x t) h = both (ltb x word) (ltb t word) (less x word) (less t word) h
+typed-ok (open·lease t span) h = ltb-true _ _ h
+typed-ok (renew x t span) h = ltb-true _ _ h
+typed-ok (query x t) h = ltb-true _ _ h
 
 -- ---- the other provisos
 
@@ -125,8 +113,8 @@ unfolding keptIs
 kept-is log none e = untrue e
 kept-is log (some s) e = ap some (same-bytes s log e)
 
-is-none : (o : Option Client) → isNone o ≡ true → o ≡ none
-unfolding isNone
+is-none : (o : Option Client) → notStarted o ≡ true → o ≡ none
+unfolding notStarted
 is-none none e = refl
 is-none (some d) e = untrue e
 
@@ -134,15 +122,15 @@ starts-new : (w : World) (o : Option (List ℕ)) (b : List ℕ) → startsNew w 
 unfolding startsNew
 starts-new w none b e q = impossible q
 starts-new w (some c) b e q =
-    let z : c ≡ b = cc in is-none (w .clients (startOf b .client .client)) (subst (λ (x : List ℕ). isNone (w .clients (startOf x .client .client)) ≡ true) z e)
+    let z : c ≡ b = cc in is-none (w .clients (startOf b .client .client)) (subst (λ (x : List ℕ). notStarted (w .clients (startOf x .client .client)) ≡ true) z e)
 
 -- ---- by number
 
-every-at : (rs : List Seen) → every (λ r. r .ok) rs ≡ true → (n : ℕ) (r : Seen) → getElem? rs n ≡ some r → r .ok ≡ true
+every-row : (t : Seen → Bool) (rs : List Seen) → every t rs ≡ true → (n : ℕ) (r : Seen) → getElem? rs n ≡ some r → t r ≡ true
 unfolding every
-every-at [] h n r e = impossible e
-every-at (x ∷ rs) h zero r e = let z : x ≡ r = cc in ap (λ (y : Seen). y .ok) (sym z) ∙ and-left (x .ok) (every (λ y. y .ok) rs) h
-every-at (x ∷ rs) h (suc n) r e = every-at rs (and-right (x .ok) (every (λ y. y .ok) rs) h) n r e
+every-row t [] h n r e = impossible e
+every-row t (x ∷ rs) h zero r e = let z : x ≡ r = cc in ap t (sym z) ∙ and-left (t x) (every t rs) h
+every-row t (x ∷ rs) h (suc n) r e = every-row t rs (and-right (t x) (every t rs) h) n r e
 
 module _ (plan : List ℕ) (p : ℕ) where
   row-from : (w : World) (es : List Event) (n : ℕ) (e : Event) → getElem? es n ≡ some e
@@ -178,7 +166,7 @@ module _ (plan : List ℕ) (p : ℕ) where
     module _ (h : every (λ r. r .ok) (t .rows) ≡ true) where
       passed : (n : ℕ) (x : Event) → getElem? es n ≡ some x → (typedOk x && keepsOk plan (after es n) x) ≡ true
       unfolding seenAt
-      passed n x q = every-at (t .rows) h n (seenAt plan (after es n) x) (row-at n x q)
+      passed n x q = every-row (λ r. r .ok) (t .rows) h n (seenAt plan (after es n) x) (row-at n x q)
 
       keeps-at : (n : ℕ) (x : Event) → getElem? es n ≡ some x → keepsOk plan (after es n) x ≡ true
       keeps-at n x q = and-right (typedOk x) (keepsOk plan (after es n) x) (passed n x q)
@@ -261,7 +249,7 @@ module _ (d : ℕ) where
 
   found-other : (c : ℕ) (a : After) (w : World) → eqb d c ≡ false → foundAs c a w .servers d ≡ w .servers d
   unfolding foundAs
-  found-other c a w h = choose (λ (x : World). x .servers d ≡ w .servers d) (eqb (a .answer .number) 0) (λ z. with-other c d _ w h) (λ z. refl)
+  found-other c a w h = choose (λ (x : World). x .servers d ≡ w .servers d) (eqb (a .answer .refusal) 0) (λ z. with-other c d _ w h) (λ z. refl)
 
   crash-other : (c k : ℕ) (s : Server) (w : World) → eqb d c ≡ false → crashAt c k s w .servers d ≡ w .servers d
   unfolding crashAt
@@ -304,7 +292,7 @@ module _ (d : ℕ) where
     step-other : (w : World) (e : Event) → below k e ≡ true → step w e .servers d ≡ w .servers d
     unfolding step below
     step-other w (found c state log p n) h = found-other c _ w (other c h)
-    step-other w (request c p t) h = on-other c t _ (packet w p) w (other c h)
+    step-other w (request c p v t) h = on-other c t _ (packet w p) w (other c h)
     step-other w (fetch c x n t) h = calls-other c t _ (w .servers c) w (other c h)
     step-other w (sync c m t) h = calls-other c t _ (w .servers c) w (other c h)
     step-other w (notice c p t) h = on-other c t _ (packet w p) w (other c h)
@@ -335,21 +323,61 @@ module _ (d : ℕ) where
 
 -- ---- at the end
 
-pub stands-of : (p : ℕ) (s : Server) (x : Stands) → standsAt p s ≡ some x
-    → (state : List ℕ) × (log : List ℕ) × (s ≡ running state log) × (pointAt (load state) p ≡ x .point) × (load state .heard ≡ x .heard)
+pub up-of : (p : ℕ) (s : Server) (x : Point) (h : ℕ) → standsAt p s ≡ up x h
+    → (state : List ℕ) × (log : List ℕ) × (s ≡ running state log) × (pointAt (load state) p ≡ x) × (load state .heard ≡ h)
 unfolding standsAt
-stands-of p nothing x e = impossible e
-stands-of p (running state log) x e = let z = some-same e in (state, log, refl, ap (λ (y : Stands). y .point) z, ap (λ (y : Stands). y .heard) z)
-  where
-    some-same : {a b : Stands} → some a ≡ some b → a ≡ b
-    some-same h = cc
-stands-of p (crashed kept mark) x e = impossible e
+up-of p nothing x h e = let z : _≡_ {A = ℕ} 0 1 = cc in absurd (omega arith)
+up-of p (running state log) x h e = (state, log, refl, cc, cc)
+up-of p (crashed kept mark) x h e = let z : _≡_ {A = ℕ} 0 1 = cc in absurd (omega arith)
+
+pub down-of : (p : ℕ) (s : Server) (kept : List ℕ) (mark : ℕ) → standsAt p s ≡ down kept mark → s ≡ crashed kept mark
+unfolding standsAt
+down-of p nothing kept mark e = let z : _≡_ {A = ℕ} 0 1 = cc in absurd (omega arith)
+down-of p (running state log) kept mark e = let z : _≡_ {A = ℕ} 0 1 = cc in absurd (omega arith)
+down-of p (crashed b m) kept mark e = cc
 
 -- ---- requests
 
-pub answer-of : (l : Lent) (s : Server) (o : Option (List ℕ)) (a : Answer) → requestAnswer l s o ≡ some a → Answered l s o a
+answer-of : (v : Versions) (l : Lent) (s : Server) (o : Option (List ℕ)) (a : Answer) → requestAnswer v l s o ≡ some a → Answered v l s o a
 unfolding requestAnswer
-answer-of l nothing o a e = impossible e
-answer-of l (running state log) none a e = impossible e
-answer-of l (running state log) (some b) a e = record { state = state; log = log; up = refl; bytes = b; packet = refl; answer = cc }
-answer-of l (crashed kept mark) o a e = impossible e
+answer-of v l nothing o a e = impossible e
+answer-of v l (running state log) none a e = impossible e
+answer-of v l (running state log) (some b) a e = record { state = state; log = log; up = refl; bytes = b; packet = refl; answer = cc }
+answer-of v l (crashed kept mark) o a e = impossible e
+
+module _ (plan : List ℕ) (es : List Event) where
+  -- a request that is executed
+  pub executes-seen : (n c p size : ℕ) (v : Versions) (l : Lent) (q : Request) → At plan es n (request c p v l) → parsePacket (requestBytes q) ≡ Requested q
+      → callSeen (after es n) (request c p v l) ≡ record { client = none; packet = some (requestBytes q); size = size; answer = some (answerOf 0 0) }
+      → Executes plan es n c (markedBy v (q .command))
+  unfolding callSeen
+  executes-seen n c p size v l q e parsed s =
+      let b : packet (after es n) p ≡ some (requestBytes q) = ap (λ (x : Call). x .packet) s in
+      let A = answer-of v l (after es n .servers c) (packet (after es n) p) (answerOf 0 0) (ap (λ (x : Call). x .answer) s) in
+      let same : A .bytes ≡ requestBytes q = some-list (sym (A .packet) ∙ b) in
+      record {
+        number = p;
+        versions = v;
+        lent = l;
+        event = e;
+        state = A .state;
+        log = A .log;
+        up = A .up;
+        bytes = requestBytes q;
+        delivered = b;
+        answer = subst (λ (x : List ℕ). requestOf v (lentState l (A .state)) (lentLog l (A .log)) x (l .out) .answer ≡ answerOf 0 0) same (A .answer);
+        asked = q;
+        parsed = parsed;
+        its = refl;
+      }
+    where
+      some-list : {a b : List ℕ} → some a ≡ some b → a ≡ b
+      some-list h = cc
+
+  -- where every request that was answered had the packet b, nothing else is executed
+  pub executes-only : (p : ℕ) (t : Trace) → traceFrom plan p emptyWorld es ≡ t → (b : List ℕ) → every (asksOnly b) (t .rows) ≡ true
+      → (n c : ℕ) (k : Marked) (E : Executes plan es n c k) → E .bytes ≡ b
+  unfolding At seenAt callSeen asksOnly requestAnswer keptIs
+  executes-only p t e b h n c k E =
+      let r = every-row (asksOnly b) (t .rows) h n (seenAt plan (after es n) (request c (E .number) (E .versions) (E .lent))) (row-at plan p es t e n (request c (E .number) (E .versions) (E .lent)) (E .event)) in
+      same-bytes (E .bytes) b (rw (E .up, E .delivered) at r)

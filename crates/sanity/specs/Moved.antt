@@ -8,7 +8,6 @@ use mathlib.Core.Bool.{true}
 use mathlib.Core.List.{List, [], _∷_, _++_}
 use mathlib.Core.Option.{Option, none, some}
 use lib.ListN.{replicate, take}
-use Rattle.model.specs.declared.Answer.{Answer}
 use Rattle.model.specs.declared.Client.{Client}
 use Rattle.model.specs.declared.OpenCall.{OpenCall}
 use Rattle.model.specs.declared.Command.{Command}
@@ -17,17 +16,18 @@ use Rattle.model.specs.declared.Executed.{Executed}
 use Rattle.model.specs.declared.Request.{Request}
 use Rattle.model.specs.declared.ResultPacket.{ResultPacket}
 use Rattle.model.specs.declared.Point.{Point}
+use Rattle.model.specs.Versions.{today}
 use Rattle.model.specs.Numbers.{half}
 use Rattle.model.specs.Limits.{stateSize, greatestImage, resultSize, refusalSize}
 use Rattle.model.specs.Packets.{requestBytes, resultBytes, receiptBytes, noticeBytes, grantBytes}
 use Rattle.model.specs.Images.{Image, imageBytes}
 use Rattle.model.specs.Logs.{headBytes, executedBytes, takeBytes}
-use Rattle.model.specs.States.{held, released}
+use Rattle.model.specs.States.{held, releasedStatus}
 use Rattle.model.specs.Operations.{answerOf}
 use Rattle.model.specs.Clients.{noCall}
 use Rattle.model.specs.Yard.{yardPlan}
 use Rattle.claim.specs.World.{Event, found, request, sync, notice, give, image, take·image, receipt, release, recover, crash, start, issue, receive, open·lease, query, Lent}
-use Rattle.sanity.specs.Trace.{Call, Seen, Stands, Ended, Trace}
+use Rattle.sanity.specs.Trace.{Call, Seen, up, Ended, Trace}
 
 -- ---- the two commands
 
@@ -45,23 +45,23 @@ steppingResult = record { outcome = 0; value = half + 41; quality = 0 }
 
 -- as requests, with the lease ends 10 and 1000, and their result packets
 abbrev pub settingAsked : Request
-settingAsked = record { op = 1; point = 5; client = 1; call = 1; done = 1; lease = 10; argument = half + 40 }
+settingAsked = record { command = setting; done = 1; lease = 10 }
 
 abbrev pub steppingAsked : Request
-steppingAsked = record { op = 2; point = 5; client = 2; call = 1; done = 1; lease = 1000; argument = half + 1 }
+steppingAsked = record { command = stepping; done = 1; lease = 1000 }
 
 abbrev pub settingAnswer : ResultPacket
-settingAnswer = record { outcome = 0; point = 5; quality = 0; client = 1; call = 1; value = half + 40 }
+settingAnswer = record { client = 1; call = 1; point = 5; result = settingResult }
 
 abbrev pub steppingAnswer : ResultPacket
-steppingAnswer = record { outcome = 0; point = 5; quality = 0; client = 2; call = 1; value = half + 41 }
+steppingAnswer = record { client = 2; call = 1; point = 5; result = steppingResult }
 
 -- in the log
 abbrev pub settingDone : Executed
-settingDone = record { op = 1; point = 5; outcome = 0; client = 1; call = 1; done = 1; argument = half + 40; value = half + 40; quality = 0 }
+settingDone = record { command = setting; done = 1; result = settingResult }
 
 abbrev pub steppingDone : Executed
-steppingDone = record { op = 2; point = 5; outcome = 0; client = 2; call = 1; done = 1; argument = half + 1; value = half + 41; quality = 0 }
+steppingDone = record { command = stepping; done = 1; result = steppingResult }
 
 -- the image of point 5 on its way to server 1
 abbrev pub movedImage : Image
@@ -70,14 +70,14 @@ movedImage =
       point = 5;
       destination = 1;
       source = 0;
-      number = 1;
+      moveNumber = 1;
       heard = 0;
       value = half + 41;
       quality = 0;
       floors = record { client = 1; floor = 1 } ∷ record { client = 2; floor = 1 } ∷ [];
       entries =
-          record { client = 1; call = 1; argument = half + 40; value = half + 40; op = 1; outcome = 0; quality = 0 }
-          ∷ record { client = 2; call = 1; argument = half + 1; value = half + 41; op = 2; outcome = 0; quality = 0 }
+          record { client = 1; call = 1; op = 1; argument = half + 40; result = settingResult }
+          ∷ record { client = 2; call = 1; op = 2; argument = half + 1; result = steppingResult }
           ∷ [];
     }
 
@@ -86,9 +86,12 @@ movedImage =
 abbrev pub newState : List ℕ
 newState = replicate stateSize 0
 
--- the whole state buffer, a log of up to 400 bytes, an output for the longest image
+-- the whole state buffer, a log of up to 200 bytes, an output of 16; for the longest image
 abbrev pub lentAll : Lent
-lentAll = record { state = stateSize; log = 400; tail = replicate 400 0; out = replicate greatestImage 0 }
+lentAll = record { state = stateSize; log = 200; tail = replicate 200 0; out = replicate resultSize 0 }
+
+abbrev pub lentImage : Lent
+lentImage = record { state = stateSize; log = 200; tail = replicate 200 0; out = replicate greatestImage 0 }
 
 -- what the crashes keep: 50 of server 0's 64 bytes, all 120 of server 1's
 abbrev pub keptFirst : List ℕ
@@ -99,7 +102,7 @@ keptSecond = headBytes 1 ++ takeBytes movedImage
 
 -- the number of a request's packet among those made
 abbrev pub asks : ℕ → ℕ → Event
-asks c p = request c p lentAll
+asks c p = request c p today lentAll
 
 unfoldable pub schedule : List Event
 schedule =
@@ -121,7 +124,7 @@ schedule =
     ∷ asks 0 4
     ∷ give 0 5 1 lentAll
     ∷ sync 0 72 lentAll
-    ∷ image 0 5 lentAll
+    ∷ image 0 5 lentImage
     ∷ take·image 1 5 lentAll
     ∷ crash 1 120
     ∷ recover 1 newState keptSecond yardPlan
@@ -152,19 +155,19 @@ stepper = clientWith 2 1000 2 (openCall stepping)
 abbrev pub newStepper : Client
 newStepper = clientWith 2 1000 1 noCall
 
-abbrev atServer : ℕ → Seen
+abbrev pub atServer : ℕ → Seen
 atServer size = record { ok = true; call = record { client = none; packet = none; size = size; answer = none } }
 
-abbrev onPacket : ℕ → List ℕ → Seen
+abbrev pub onPacket : ℕ → List ℕ → Seen
 onPacket size b = record { ok = true; call = record { client = none; packet = some b; size = size; answer = none } }
 
-abbrev answering : ℕ → List ℕ → ℕ → ℕ → Seen
+abbrev pub answering : ℕ → List ℕ → ℕ → ℕ → Seen
 answering size b n wrote = record { ok = true; call = record { client = none; packet = some b; size = size; answer = some (answerOf n wrote) } }
 
-abbrev atClient : Client → Option (List ℕ) → Seen
+abbrev pub atClient : Client → Option (List ℕ) → Seen
 atClient d b = record { ok = true; call = record { client = some d; packet = b; size = 0; answer = none } }
 
-abbrev atManager : Seen
+abbrev pub atManager : Seen
 atManager = record { ok = true; call = record { client = none; packet = none; size = 0; answer = none } }
 
 unfoldable pub rowsSeen : List Seen
@@ -197,20 +200,20 @@ rowsSeen =
     ∷ onPacket 120 (noticeBytes 5 (record { client = 1; time = 20 }))
     ∷ answering 132 (requestBytes settingAsked) 4 refusalSize
     ∷ atServer 132
-    ∷ onPacket 72 (receiptBytes (record { point = 5; server = 1; number = 1 }))
+    ∷ onPacket 72 (receiptBytes (record { point = 5; server = 1; moveNumber = 1 }))
     ∷ []
 
 -- server 0 has released the point, server 1 holds it, both with move number 1
 abbrev pub giverPoint : Point
 giverPoint =
-    record { status = released; quality = 0; destination = 1; value = half + 41; number = 1; taken = 0; gave = 72; took = 0 }
+    record { status = releasedStatus; quality = 0; destination = 1; value = half + 41; moveNumber = 1; takenMove = 0; giveEnd = 72; takeEnd = 0 }
 
 abbrev pub takerPoint : Point
-takerPoint = record { status = held; quality = 0; destination = 0; value = half + 41; number = 1; taken = 1; gave = 0; took = 120 }
+takerPoint = record { status = held; quality = 0; destination = 0; value = half + 41; moveNumber = 1; takenMove = 1; giveEnd = 0; takeEnd = 120 }
 
 unfoldable pub traceSeen : Trace
 traceSeen =
     record {
       rows = rowsSeen;
-      end = record { first = some (record { point = giverPoint; heard = 0 }); second = some (record { point = takerPoint; heard = 20 }) };
+      end = record { first = up giverPoint 0; second = up takerPoint 20 };
     }

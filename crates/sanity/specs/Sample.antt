@@ -18,10 +18,10 @@ result = record { outcome = 0; value = 2147483688; quality = 0 }
 
 -- its request and its result packet
 abbrev pub asked : Request
-asked = record { op = 1; point = 5; client = 1; call = 1; done = 1; lease = 1000; argument = 2147483688 }
+asked = record { command = record { client = 1; call = 1; op = 1; point = 5; argument = 2147483688 }; done = 1; lease = 1000 }
 
 abbrev pub answered : ResultPacket
-answered = record { outcome = 0; point = 5; quality = 0; client = 1; call = 1; value = 2147483688 }
+answered = record { client = 1; call = 1; point = 5; result = record { outcome = 0; value = 2147483688; quality = 0 } }
 
 -- the client with its call open
 abbrev pub waiting : Client

@@ -12,7 +12,7 @@ use Rattle.model.specs.declared.Answer.{Answer}
 use Rattle.model.specs.declared.Client.{Client}
 use Rattle.model.specs.declared.Point.{Point}
 use Rattle.model.specs.declared.StartAnswer.{StartAnswer}
-use Rattle.model.specs.declared.Started.the-variants.{NotStarted, Running}
+use Rattle.model.specs.Versions.{Versions}
 use Rattle.model.specs.Numbers.{word}
 use Rattle.model.specs.Tables.{every}
 use Rattle.model.specs.States.{load, pointAt}
@@ -26,32 +26,29 @@ use Rattle.claim.specs.Provisos.{keptBy, markOf, lengthOf}
 unfoldable pub bytesOk : List ℕ → Bool
 bytesOk s = every (λ b. ltb b 256) s
 
-unfoldable pub sliceOk : List ℕ → Bool
-sliceOk s = bytesOk s && ltb (length s) (word * word)
-
-unfoldable pub lentOk : Lent → Bool
-lentOk l = ltb (l .log) (word * word) && (bytesOk (l .tail) && sliceOk (l .out))
+unfoldable pub countedOk : Lent → Bool
+countedOk l = ltb (l .log) (word * word)
 
 unfoldable pub typedOk : Event → Bool
-typedOk (found c state log plan n) = sliceOk state && (sliceOk log && (sliceOk plan && ltb n word))
-typedOk (request c p l) = lentOk l
-typedOk (fetch c x k l) = lentOk l && (ltb x word && ltb k word)
-typedOk (sync c m l) = lentOk l && ltb m (word * word)
-typedOk (notice c p l) = lentOk l
-typedOk (give c p d l) = lentOk l && (ltb p word && ltb d word)
-typedOk (image c p l) = lentOk l && ltb p word
-typedOk (take·image c p l) = lentOk l
-typedOk (receipt c p l) = lentOk l && ltb p word
-typedOk (release c p l) = lentOk l
-typedOk (recover c state log plan) = sliceOk state && (sliceOk log && sliceOk plan)
+typedOk (found c state log plan n) = bytesOk state && bytesOk plan
+typedOk (request c p v l) = countedOk l
+typedOk (fetch c x k l) = countedOk l
+typedOk (sync c m l) = countedOk l
+typedOk (notice c p l) = countedOk l
+typedOk (give c p d l) = countedOk l
+typedOk (image c p l) = countedOk l
+typedOk (take·image c p l) = countedOk l
+typedOk (receipt c p l) = countedOk l
+typedOk (release c p l) = countedOk l
+typedOk (recover c state log plan) = bytesOk state
 typedOk (crash c k) = true
 typedOk (start p) = true
-typedOk (issue x op p a) = ltb op 256 && (ltb p 256 && ltb a word)
-typedOk (resend x c) = ltb c word
+typedOk (issue x op p a) = true
+typedOk (resend x c) = true
 typedOk (receive x p) = true
-typedOk (open·lease t span) = ltb t word && ltb span word
-typedOk (renew x t span) = ltb x word && (ltb t word && ltb span word)
-typedOk (query x t) = ltb x word && ltb t word
+typedOk (open·lease t span) = ltb t word
+typedOk (renew x t span) = ltb t word
+typedOk (query x t) = ltb t word
 
 unfoldable pub sameBytes : List ℕ → List ℕ → Bool
 sameBytes [] [] = true
@@ -68,19 +65,19 @@ unfoldable pub keptIs : List ℕ → Option (List ℕ) → Bool
 keptIs log none = false
 keptIs log (some s) = sameBytes s log
 
-unfoldable pub isNone : Option Client → Bool
-isNone none = true
-isNone (some d) = false
+unfoldable pub notStarted : Option Client → Bool
+notStarted none = true
+notStarted (some d) = false
 
 -- a start of the packet, if it starts a client, starts a new one
 unfoldable pub startsNew : World → Option (List ℕ) → Bool
 startsNew w none = true
-startsNew w (some b) = isNone (w .clients (startOf b .client .client))
+startsNew w (some b) = notStarted (w .clients (startOf b .client .client))
 
 -- the other provisos; found and recover are taken as not refused
 unfoldable pub keepsOk : List ℕ → World → Event → Bool
 keepsOk plan w (found c state log p n) = sameBytes p plan && (eqb n c && isNothing (w .servers c))
-keepsOk plan w (request c p l) = true
+keepsOk plan w (request c p v l) = true
 keepsOk plan w (fetch c x k l) = true
 keepsOk plan w (sync c m l) = true
 keepsOk plan w (notice c p l) = true
@@ -108,11 +105,11 @@ pub record Call : Type 0 where
   pub size : ℕ
   pub answer : Option Answer
 
-unfoldable pub requestAnswer : Lent → Server → Option (List ℕ) → Option Answer
-requestAnswer l nothing p = none
-requestAnswer l (running state log) none = none
-requestAnswer l (running state log) (some b) = some (requestOf (lentState l state) (lentLog l log) b (l .out) .answer)
-requestAnswer l (crashed kept mark) p = none
+unfoldable pub requestAnswer : Versions → Lent → Server → Option (List ℕ) → Option Answer
+requestAnswer v l nothing p = none
+requestAnswer v l (running state log) none = none
+requestAnswer v l (running state log) (some b) = some (requestOf v (lentState l state) (lentLog l log) b (l .out) .answer)
+requestAnswer v l (crashed kept mark) p = none
 
 abbrev pub atServer : Server → Option (List ℕ) → Option Answer → Call
 atServer s b a = record { client = none; packet = b; size = lengthOf s; answer = a }
@@ -122,7 +119,7 @@ atClient d b = record { client = d; packet = b; size = 0; answer = none }
 
 unfoldable pub callSeen : World → Event → Call
 callSeen w (found c state log p n) = atServer (w .servers c) none none
-callSeen w (request c p l) = atServer (w .servers c) (packet w p) (requestAnswer l (w .servers c) (packet w p))
+callSeen w (request c p v l) = atServer (w .servers c) (packet w p) (requestAnswer v l (w .servers c) (packet w p))
 callSeen w (fetch c x k l) = atServer (w .servers c) none none
 callSeen w (sync c m l) = atServer (w .servers c) none none
 callSeen w (notice c p l) = atServer (w .servers c) (packet w p) none
@@ -150,30 +147,35 @@ unfoldable pub seenAt : List ℕ → World → Event → Seen
 seenAt plan w e = record { ok = typedOk e && keepsOk plan w e; call = callSeen w e }
 
 -- a request that was answered: its server ran, and its packet was made
-pub record Answered (l : Lent) (s : Server) (o : Option (List ℕ)) (a : Answer) : Type 0 where
+pub record Answered (v : Versions) (l : Lent) (s : Server) (o : Option (List ℕ)) (a : Answer) : Type 0 where
   pub state : List ℕ
   pub log : List ℕ
   pub up : s ≡ running state log
   pub bytes : List ℕ
   pub packet : o ≡ some bytes
-  pub answer : requestOf (lentState l state) (lentLog l log) bytes (l .out) .answer ≡ a
+  pub answer : requestOf v (lentState l state) (lentLog l log) bytes (l .out) .answer ≡ a
+
+-- a request that was answered had the packet b
+unfoldable pub asksOnly : List ℕ → Seen → Bool
+asksOnly b r = elim (r .call .answer) [ none ↦ true | some a ↦ keptIs b (r .call .packet) ]
 
 -- ---- the end
 
--- of a running server: the point p, and heard time
-pub record Stands : Type 0 where
-  pub point : Point
-  pub heard : ℕ
+-- a server: not founded; running, with a point and heard time; crashed, with the bytes kept and the mark
+pub data Stands : Type 0 where
+  off : Stands
+  up : Point → ℕ → Stands
+  down : List ℕ → ℕ → Stands
 
-unfoldable pub standsAt : ℕ → Server → Option Stands
-standsAt p nothing = none
-standsAt p (running state log) = let st = load state in some (record { point = pointAt st p; heard = st .heard })
-standsAt p (crashed kept mark) = none
+unfoldable pub standsAt : ℕ → Server → Stands
+standsAt p nothing = off
+standsAt p (running state log) = let st = load state in up (pointAt st p) (st .heard)
+standsAt p (crashed kept mark) = down kept mark
 
--- of servers 0 and 1
+-- servers 0 and 1
 pub record Ended : Type 0 where
-  pub first : Option Stands
-  pub second : Option Stands
+  pub first : Stands
+  pub second : Stands
 
 unfoldable pub endSeen : ℕ → World → Ended
 endSeen p w = record { first = standsAt p (w .servers 0); second = standsAt p (w .servers 1) }
@@ -195,7 +197,7 @@ traceFrom plan p w (e ∷ es) =
 -- a crash of server c keeps k bytes or more
 unfoldable pub keepsMany : ℕ → ℕ → Event → Bool
 keepsMany c k (found d state log p n) = true
-keepsMany c k (request d p l) = true
+keepsMany c k (request d p v l) = true
 keepsMany c k (fetch d x n l) = true
 keepsMany c k (sync d m l) = true
 keepsMany c k (notice d p l) = true
@@ -219,7 +221,7 @@ keepsMany c k (query x t) = true
 -- its server, where it has one, has a number below k
 unfoldable pub below : ℕ → Event → Bool
 below k (found c state log p n) = ltb c k
-below k (request c p l) = ltb c k
+below k (request c p v l) = ltb c k
 below k (fetch c x n l) = ltb c k
 below k (sync c m l) = ltb c k
 below k (notice c p l) = ltb c k

@@ -22,27 +22,23 @@ use Rattle.model.specs.declared.Completion.{Completion}
 use Rattle.model.specs.declared.Packet.{Packet}
 use Rattle.model.specs.declared.Packet.the-variants.{Malformed, Requested, Resulted, Refused, Receipted, Noticed, Granted}
 use Rattle.model.proofs.Packet.{the-type}
-use Rattle.model.specs.Choice.{pick, refuse, reply, append, marks}
+use Rattle.model.specs.Choice.{pick, refuse, reply, append, marks, unlessRefused}
 use Rattle.model.specs.Tables.{written}
-use Rattle.model.specs.Packets.{resultBytes, parsePacket}
+use Rattle.model.specs.Packets.{resultBytes, parsePacket, asNotice}
 use Rattle.model.specs.Images.{floorOf}
 use Rattle.model.specs.Logs.{LogRecord, gone, recordBytes, recordSize}
 use Rattle.model.specs.States.{State, load}
 use Rattle.model.specs.Apply.{withMark, applyRecord}
-use Rattle.model.specs.Decisions.{find, resultOfRecord, onFound, onFetch, onSync, decideNotice, onNotice}
-use Rattle.model.specs.Operations.{After, answerOf, after, settle, stored, freeIn, syncOf, fetchOf, noticeOf}
-use Rattle.decide.specs.Tests.{byNumber, syncRefusal, fetchRefusal, noticeRefusal}
-use Rattle.decide.proofs.Decided.{sync-decided, fetch-decided, notice-decided}
+use Rattle.model.specs.Decisions.{orMalformed, find, resultOfRecord, fetchRefusal, onFetched, onFetch, syncRefusal, onSync, noticeRefusal, decideNotice, onNotice}
+use Rattle.model.specs.Operations.{After, answerOf, after, settle, stored, freeIn, lentRefusal, lent, syncOf, fetchOf, noticeOf}
 use Rattle.record_table.specs.declared.Found.{Found}
 use Rattle.record_table.specs.declared.Found.the-variants.{Nothing, At}
 use Rattle.record_table.specs.Rules.{foundOf}
-use Rattle.lent.specs.Memory.{lentRefusal}
-use Rattle.lent.proofs.Settled.{lent-number}
 
 module _ (s log : List ℕ) where
-  pub sync-is : (m : ℕ) → syncOf s log m ≡ settle s log [] (byNumber (lentRefusal s log 0 0) (byNumber (syncRefusal (load s .mark) (load s .size) m) (marks m)))
-  unfolding syncOf
-  sync-is m = ap (settle s log []) (lent-number s log [] 0 (onSync (load s) m)) ∙ rw (sync-decided (load s) m)
+  pub sync-is : (m : ℕ) → syncOf s log m ≡ settle s log [] (unlessRefused (lentRefusal s log 0 0) (unlessRefused (syncRefusal (load s .mark) (load s .size) m) (marks m)))
+  unfolding syncOf lent onSync
+  sync-is m = refl
 
   pub sync-done : (m : ℕ) {r : Answer} {t : List ℕ} → t ≡ stored s (withMark m (load s)) → r ≡ answerOf 0 0 → after r t log [] ≡ settle s log [] (marks m)
   unfolding settle
@@ -65,19 +61,19 @@ pub fetch-number : (x : Completion) {n k m : ℕ} → n ≡ fetchRefusal k x →
 fetch-number x p q = p ∙ rw q
 
 module _ (s log out : List ℕ) where
-  pub fetch-is : (client call : ℕ) → fetchOf s log client call out ≡ settle s log out (byNumber (lentRefusal s log (length out) 16) (onFetch (load s) client call))
-  unfolding fetchOf
-  fetch-is client call = ap (settle s log out) (lent-number s log out 16 (onFetch (load s) client call))
+  pub fetch-is : (client call : ℕ) → fetchOf s log client call out ≡ settle s log out (unlessRefused (lentRefusal s log (length out) 16) (onFetch (load s) client call))
+  unfolding fetchOf lent
+  fetch-is client call = refl
 
   pub fetch-none : (client call : ℕ) {f : Found} → f ≡ foundOf (find client call (load s .records)) → f ≡ Nothing → {r : Answer} → r ≡ answerOf 17 0
       → after r s log out ≡ settle s log out (onFetch (load s) client call)
-  unfolding settle onFetch onFound
+  unfolding settle onFetch onFetched
   fetch-none client call p q e = rw (e, found-none (find client call (load s .records)) (sym q ∙ p))
 
   pub fetch-at : (client call : ℕ) {f : Found} (x : Completion) → f ≡ foundOf (find client call (load s .records)) → f ≡ At x
-      → {a : After} → a ≡ settle s log out (byNumber (fetchRefusal (load s .mark) x) (reply (resultBytes (resultOfRecord x)))) → a ≡ settle s log out (onFetch (load s) client call)
-  unfolding onFetch
-  fetch-at client call x p q e = e ∙ ap (settle s log out) (sym (ap (onFound (load s)) (found-at (find client call (load s .records)) x (sym q ∙ p)) ∙ fetch-decided (load s) x))
+      → {a : After} → a ≡ settle s log out (unlessRefused (fetchRefusal (load s .mark) x) (reply (resultBytes (resultOfRecord x)))) → a ≡ settle s log out (onFetch (load s) client call)
+  unfolding onFetch onFetched
+  fetch-at client call x p q e = e ∙ ap (settle s log out) (sym (ap (onFetched (load s)) (found-at (find client call (load s .records)) x (sym q ∙ p))))
 
   pub replied : (p : ResultPacket) {r : Answer} {o : List ℕ} → r ≡ answerOf 0 16 → o ≡ written out 0 (resultBytes p) → after r s log o ≡ settle s log out (reply (resultBytes p))
   unfolding settle resultBytes
@@ -86,7 +82,7 @@ module _ (s log out : List ℕ) where
 -- ---- notice
 
 other-packet : (st : State) (free : ℕ) (p : Packet) → OneOf (0 ∷ 1 ∷ 2 ∷ 3 ∷ 4 ∷ 6 ∷ []) (tagOf the-type p) → onNotice st free p ≡ refuse 1
-unfolding onNotice
+unfolding onNotice orMalformed asNotice
 other-packet st free Malformed h = refl
 other-packet st free (Requested q) h = refl
 other-packet st free (Resulted q) h = refl
@@ -112,14 +108,15 @@ module _ (s log : List ℕ) where
   appended out x p q e = rw (p, q, e)
 
   pub notice-by : (n : Notice) {a : After}
-      → a ≡ settle s log [] (byNumber (noticeRefusal (floorOf (n .client) (load s .floors)) (freeIn s log)) (append (gone n)))
+      → a ≡ settle s log [] (unlessRefused (noticeRefusal (floorOf (n .client) (load s .floors)) (freeIn s log)) (append (gone n)))
       → a ≡ settle s log [] (decideNotice (load s) (freeIn s log) n)
-  notice-by n e = e ∙ ap (settle s log []) (sym (notice-decided (load s) (freeIn s log) n))
+  unfolding decideNotice
+  notice-by n e = e
 
   module _ (packet : List ℕ) where
-    pub notice-is : noticeOf s log packet ≡ settle s log [] (byNumber (lentRefusal s log 0 0) (onNotice (load s) (freeIn s log) (parsePacket packet)))
-    unfolding noticeOf
-    notice-is = ap (settle s log []) (lent-number s log [] 0 (onNotice (load s) (freeIn s log) (parsePacket packet)))
+    pub notice-is : noticeOf s log packet ≡ settle s log [] (unlessRefused (lentRefusal s log 0 0) (onNotice (load s) (freeIn s log) (parsePacket packet)))
+    unfolding noticeOf lent
+    notice-is = refl
 
     pub notice-other : {p : Packet} {r : Answer} → p ≡ parsePacket packet → OneOf (0 ∷ 1 ∷ 2 ∷ 3 ∷ 4 ∷ 6 ∷ []) (tagOf the-type p) → r ≡ answerOf 1 0
         → after r s log [] ≡ settle s log [] (onNotice (load s) (freeIn s log) (parsePacket packet))
@@ -128,5 +125,5 @@ module _ (s log : List ℕ) where
 
     pub notice-one : (n : Notice) {p : Packet} {a : After} → p ≡ parsePacket packet → p ≡ Noticed n → a ≡ settle s log [] (decideNotice (load s) (freeIn s log) n)
         → a ≡ settle s log [] (onNotice (load s) (freeIn s log) (parsePacket packet))
-    unfolding onNotice
+    unfolding onNotice orMalformed asNotice
     notice-one n e h q = rw (← e, h) q

@@ -5,6 +5,7 @@ use model::Completion;
 use model::Notice;
 use model::Packet;
 use model::ResultPacket;
+use model::constants;
 use record_table::Found;
 ghost use mathlib.Core.Path.{_≡_};
 ghost use mathlib.Core.List.{[]};
@@ -43,13 +44,12 @@ pub fn sync(s: &mut [u8], log: &[u8], mark: u64) -> Answer
 fn result_of(x: Completion) -> ResultPacket
     ensures { λ r. ⌜ r ≡ resultOfRecord x ⌝ }
 {
+    let result = x.result;
     ResultPacket {
-        outcome: x.outcome,
-        point: x.point,
-        quality: x.quality,
-        client: x.client,
-        call: x.call,
-        value: x.value,
+        client: x.command.client,
+        call: x.command.call,
+        point: x.command.point,
+        result,
     }
 }
 
@@ -59,20 +59,20 @@ pub fn reply(out: &mut [u8], x: Completion) -> Answer
     ensures { λ r. ⌜ (r ≡ answerOf 0 16) × (now (out .exit) ≡ written (now (out .entry)) 0 (resultBytes (resultOfRecord x))) ⌝ }
 {
     packets::write_result(out, result_of(x));
-    lent::made(16)
+    lent::made(constants::RESULT_SIZE_U32)
 }
 
 // 2; 19; 17 none held; 7 not synced; else the result packet.
 pub fn fetch(s: &[u8], log: &[u8], client: u32, call: u32, out: &mut [u8]) -> Answer
     ensures { λ r. ⌜ after r (now (s .entry)) (now (log .entry)) (now (out .exit)) ≡ fetchOf (now (s .entry)) (now (log .entry)) client call (now (out .entry)) ⌝ }
 {
-    let n = lent::lent_refusal(s, log, out.len(), 16);
+    let n = lent::lent_refusal(s, log, out.len(), constants::RESULT_SIZE);
     if n != 0 {
         return lent::refused(n);
     }
     let f = record_table::find(s, client, call);
     match f {
-        Found::Nothing => lent::refused(17),
+        Found::Nothing => lent::refused(constants::UNKNOWN),
         Found::At(x) => {
             let mark = state::mark_of(s);
             let m = decide::fetch_refusal(mark, x);
@@ -99,7 +99,7 @@ fn noticed(s: &mut [u8], log: &mut [u8], n: Notice) -> Answer
     }
     let size = state::size_of(s);
     appends::append_gone(log, size as usize, n);
-    apply::apply_gone(s, n, size + 12);
+    apply::apply_gone(s, n, size + constants::GONE_SIZE_U64);
     lent::made(0)
 }
 
@@ -113,7 +113,7 @@ pub fn notice(s: &mut [u8], log: &mut [u8], packet: &[u8]) -> Answer
     }
     let p = parser::parse_packet(packet);
     let Packet::Noticed(n) = p else {
-        return lent::refused(1);
+        return lent::refused(constants::MALFORMED);
     };
     noticed(s, log, n)
 }

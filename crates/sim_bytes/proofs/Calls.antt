@@ -10,6 +10,7 @@ use mathlib.Core.Option.{Option, none, some}
 use native.Mathlib.Omega.{arith}
 use lib.ListN.{length}
 use lib.Dec.{leb, ltb, lit≤}
+use Rattle.model.specs.Versions.{Versions}
 use Rattle.model.specs.declared.PlanEntry.{PlanEntry}
 use Rattle.model.specs.declared.Answer.{Answer}
 use Rattle.model.specs.declared.Request.{Request}
@@ -18,23 +19,24 @@ use Rattle.model.specs.declared.Packet.the-variants.{Requested}
 use Rattle.model.specs.Choice.{refuse, append}
 use Rattle.model.specs.Refusals as Refusals
 use Rattle.model.specs.Limits.{resultSize, receiptSize, greatestImage, executedSize}
-use Rattle.model.specs.Packets.{parsePacket}
+use Rattle.model.specs.Packets.{parsePacket, asRequest}
 use Rattle.model.specs.Images.{parseImage, floorOf}
 use Rattle.model.specs.Logs.{LogRecord, Entry, executed}
 use Rattle.model.specs.States.{State, load, pointAt, isHeld, isSynced}
 use Rattle.model.specs.Apply.{replay}
-use Rattle.model.specs.Decisions.{Decided, find, sameCommand, onHeld, executedFor, noPlace, onNew, onId, decideRequest, withPacket, onRequest, onFetch, onSync, onNotice, onGive, onImage, onTake, onReceipt, onRelease}
+use Rattle.model.specs.Decisions.{Decided, orMalformed, find, onHeld, executedFor, onNew, onId, decideRequest, denying, onRequest, onFetch, onSync, onNotice, onGive, onImage, onTake, onReceipt, onRelease}
 use Rattle.model.specs.Operations.{After, answerOf, requestOf, fetchOf, syncOf, noticeOf, giveOf, imageOf, takeOf, receiptOf, releaseOf}
 use Rattle.laws.specs.Bytes.{Bytes}
+use Rattle.laws.proofs.Refused.{unless}
 use Rattle.limits.specs.History.{entryFor}
 use Rattle.limits.proofs.Decided.{request-passed}
 use Rattle.claim.specs.World.{Lent, lentState, lentLog}
-use Rattle.claim.specs.Provisos.{LentOk}
+use Rattle.claim.specs.Provisos.{Counted}
 use Rattle.simulation.specs.Holds.{Holds}
 use Rattle.sim_bytes.specs.Calls.{spaceIn, Says, Leaves, Outcome, Called, short, lacking, decided}
 use Rattle.sim_bytes.proofs.Facts.{holds-sound}
 use Rattle.sim_bytes.proofs.Settled.{called}
-use Rattle.sim_bytes.proofs.Terms.{pass-on, request-terms, fetch-terms, sync-terms, notice-terms, give-terms, image-terms, take-terms, receipt-terms, release-terms}
+use Rattle.sim_bytes.proofs.Terms.{request-terms, fetch-terms, sync-terms, notice-terms, give-terms, image-terms, take-terms, receipt-terms, release-terms}
 
 -- a decision on a request that leaves the answer 0 and no packet
 module _ (plan : List PlanEntry) (c : ℕ) (es : List Entry) (l : Lent) (state log : List ℕ) (a : After) (zero : a .answer ≡ answerOf 0 0) where
@@ -42,32 +44,24 @@ module _ (plan : List PlanEntry) (c : ℕ) (es : List Entry) (l : Lent) (state l
   made-none : (n : ℕ) (b : List ℕ) → Says l state log a n b → 1 ≤ length b → ⊥
   made-none n b s h = let k : length b ≡ 0 = ap (λ (x : Answer). x .wrote) (sym (s .answer) ∙ zero) in omega arith
 
-  module _ (st : State) (free : ℕ) (q : Request) where
+  module _ (v : Versions) (st : State) (free : ℕ) (q : Request) where
     abbrev IsAppended : Decided → Type 0
-    IsAppended d = Outcome plan c es l state log a (withPacket q d) → (r : LogRecord) × (d ≡ append r)
+    IsAppended d = Outcome plan c es l state log a (denying q d) → (r : LogRecord) × (d ≡ append r)
 
     not-denied : (n : ℕ) → IsAppended (refuse n)
-    unfolding withPacket
+    unfolding denying
     not-denied n o = absurd (made-none n _ (o .0) (o .1))
 
-    by-id : (x : Option Completion) → IsAppended (onId st free q x)
-    unfolding onId onNew onHeld withPacket
-    by-id none =
-        pass-on IsAppended Refusals.clientsFull (noPlace st (q .client)) (not-denied Refusals.clientsFull)
-        (pass-on IsAppended Refusals.logFull (ltb free executedSize) (not-denied Refusals.logFull) (λ o. (executed (executedFor st q), refl)))
-    by-id (some r) =
-        pass-on IsAppended Refusals.otherCommand (not (sameCommand r q)) (not-denied Refusals.otherCommand)
-        (pass-on IsAppended Refusals.notSynced (not (isSynced st (r .end))) (not-denied Refusals.notSynced) (λ o. absurd (made-none 0 _ (o .0) (o .1))))
+    by-id : (x : Option Completion) → IsAppended (onId v st free q x)
+    unfolding onId onNew onHeld denying
+    by-id none = unless IsAppended _ not-denied (λ o. (executed (executedFor v st q), refl))
+    by-id (some r) = unless IsAppended _ not-denied (λ o. absurd (made-none 0 _ (o .0) (o .1)))
 
-    is-appended : IsAppended (decideRequest st free q)
+    is-appended : IsAppended (decideRequest v st free q)
     unfolding decideRequest
-    is-appended =
-        pass-on IsAppended Refusals.notHeld (not (isHeld (pointAt st (q .point)))) (not-denied Refusals.notHeld)
-        (pass-on IsAppended Refusals.leaseOver (leb (q .lease) (st .heard)) (not-denied Refusals.leaseOver)
-        (pass-on IsAppended Refusals.underFloor (ltb (q .call) (floorOf (q .client) (st .floors))) (not-denied Refusals.underFloor)
-        (by-id (find (q .client) (q .call) (st .records)))))
+    is-appended = unless IsAppended _ not-denied (by-id (find (q .command .client) (q .command .call) (st .records)))
 
-module _ {plan : List PlanEntry} {c : ℕ} {es : List Entry} {state log : List ℕ} (H : Holds plan c es state log) (l : Lent) (ok : LentOk l) where
+module _ {plan : List PlanEntry} {c : ℕ} {es : List Entry} {state log : List ℕ} (H : Holds plan c es state log) (l : Lent) (ok : Counted l) where
   abbrev s : List ℕ
   s = lentState l state
 
@@ -80,9 +74,9 @@ module _ {plan : List PlanEntry} {c : ℕ} {es : List Entry} {state log : List �
   abbrev free : ℕ
   free = spaceIn l state log
 
-  pub request-called : (b : List ℕ) → Bytes b → Called plan c es l state log (requestOf s g b (l .out)) (onRequest st free (parsePacket b))
+  pub request-called : (v : Versions) (b : List ℕ) → Bytes b → Called plan c es l state log (requestOf v s g b (l .out)) (onRequest v st free (parsePacket b))
   unfolding requestOf
-  request-called b h = called H l ok (l .out) resultSize (λ x k. onRequest x k (parsePacket b)) (request-terms st free b h (parsePacket b) refl)
+  request-called v b h = called H l ok (l .out) resultSize (λ x k. onRequest v x k (parsePacket b)) (request-terms st free v b h (parsePacket b) refl)
 
   pub fetch-called : (x k : ℕ) → Called plan c es l state log (fetchOf s g x k (l .out)) (onFetch st x k)
   unfolding fetchOf
@@ -117,29 +111,29 @@ module _ {plan : List PlanEntry} {c : ℕ} {es : List Entry} {state log : List �
   release-called b h = called H l ok [] 0 (λ x k. onRelease x k (parsePacket b)) (release-terms st free b h (parsePacket b) refl)
 
   -- a request that gives neither number nor packet
-  pub request-executed : (b : List ℕ) → Bytes b → (q : Request) → parsePacket b ≡ Requested q → requestOf s g b (l .out) .answer ≡ answerOf 0 0
-      → (decideRequest st free q ≡ append (executed (executedFor st q)))
-      × Leaves plan c (es ++ (entryFor (replay plan c es) (executed (executedFor st q)) ∷ [])) (st .mark) l state log (requestOf s g b (l .out))
-  unfolding onRequest withPacket
-  request-executed b h q e z = go (subst (λ p. Called plan c es l state log a (onRequest st free p)) e (request-called b h))
+  pub request-executed : (v : Versions) (b : List ℕ) → Bytes b → (q : Request) → parsePacket b ≡ Requested q → requestOf v s g b (l .out) .answer ≡ answerOf 0 0
+      → (decideRequest v st free q ≡ append (executed (executedFor v st q)))
+      × Leaves plan c (es ++ (entryFor (replay plan c es) (executed (executedFor v st q)) ∷ [])) (st .mark) l state log (requestOf v s g b (l .out))
+  unfolding onRequest orMalformed asRequest denying
+  request-executed v b h q e z = go (subst (λ p. Called plan c es l state log a (onRequest v st free p)) e (request-called v b h))
     where
       a : After
-      a = requestOf s g b (l .out)
+      a = requestOf v s g b (l .out)
 
       refused : (n : ℕ) → Says l state log a n [] → 1 ≤ n → ⊥
-      refused n x h = let k : n ≡ 0 = ap (λ (y : Answer). y .number) (sym (x .answer) ∙ z) in omega arith
+      refused n x h = let k : n ≡ 0 = ap (λ (y : Answer). y .refusal) (sym (x .answer) ∙ z) in omega arith
 
-      done : Outcome plan c es l state log a (withPacket q (decideRequest st free q))
-          → (decideRequest st free q ≡ append (executed (executedFor st q)))
-          × Leaves plan c (es ++ (entryFor (replay plan c es) (executed (executedFor st q)) ∷ [])) (st .mark) l state log a
+      done : Outcome plan c es l state log a (denying q (decideRequest v st free q))
+          → (decideRequest v st free q ≡ append (executed (executedFor v st q)))
+          × Leaves plan c (es ++ (entryFor (replay plan c es) (executed (executedFor v st q)) ∷ [])) (st .mark) l state log a
       done o =
-          let r = is-appended plan c es l state log a z st free q o in
-          let k : decideRequest st free q ≡ append (executed (executedFor st q)) = r .1 ∙ ap append (request-passed st free q (r .0) (r .1) .1) in
-          (k, subst (λ (d : Decided). Outcome plan c es l state log a (withPacket q d)) k o)
+          let r = is-appended plan c es l state log a z v st free q o in
+          let k : decideRequest v st free q ≡ append (executed (executedFor v st q)) = r .1 ∙ ap append (request-passed v st free q (r .0) (r .1) .1) in
+          (k, subst (λ (d : Decided). Outcome plan c es l state log a (denying q d)) k o)
 
-      go : Called plan c es l state log a (withPacket q (decideRequest st free q))
-          → (decideRequest st free q ≡ append (executed (executedFor st q)))
-          × Leaves plan c (es ++ (entryFor (replay plan c es) (executed (executedFor st q)) ∷ [])) (st .mark) l state log a
+      go : Called plan c es l state log a (denying q (decideRequest v st free q))
+          → (decideRequest v st free q ≡ append (executed (executedFor v st q)))
+          × Leaves plan c (es ++ (entryFor (replay plan c es) (executed (executedFor v st q)) ∷ [])) (st .mark) l state log a
       go (short x) = absurd (refused 2 x (lit≤ tt))
       go (lacking x) = absurd (refused 19 x (lit≤ tt))
       go (decided o) = done o

@@ -17,7 +17,7 @@ use lib.Seq.{take-append-le, take-take, take-append-seam, length-front}
 use lib.Dec.{ltb}
 use borrow.Author.Tests.{ltb-false, le-ltb}
 use Rattle.model.specs.declared.PlanEntry.{PlanEntry}
-use Rattle.model.specs.Choice.{pick, refuse, deny, reply, append, marks}
+use Rattle.model.specs.Choice.{pick, refuse, deny, reply, append, marks, unlessRefused}
 use Rattle.model.specs.Refusals.{tooShort, unsound}
 use Rattle.model.specs.Numbers.{word}
 use Rattle.model.specs.Limits.{headSize, stateSize}
@@ -26,7 +26,7 @@ use Rattle.model.specs.Logs.{LogRecord, Entry, recordSize, headBytes, recordByt
 use Rattle.model.specs.States.{State, load, stateBytes, stateEnd, sound}
 use Rattle.model.specs.Apply.{applyRecord, replay, withMark}
 use Rattle.model.specs.Decisions.{Decided}
-use Rattle.model.specs.Operations.{After, answerOf, after, short, unfit, freeIn, stored, settle, lent}
+use Rattle.model.specs.Operations.{After, answerOf, after, short, unfit, freeIn, stored, settle, lentRefusal, lent}
 use Rattle.laws.specs.Bytes.{Bytes}
 use Rattle.laws.specs.Fits.{lastEnd, StateFits}
 use Rattle.laws.proofs.Numbers.{bytes-append, bytes-drop, bytes-take}
@@ -40,7 +40,7 @@ use Rattle.limits.proofs.Steps.{sound-mark}
 use Rattle.limits.proofs.Kept.{decided-sound, decided-space, decides-mark}
 use Rattle.limits.proofs.Recovery.{apply-size}
 use Rattle.claim.specs.World.{Lent, lentState, lentLog, stateBack, logBack}
-use Rattle.claim.specs.Provisos.{LentOk}
+use Rattle.claim.specs.Provisos.{Counted}
 use Rattle.simulation.specs.Holds.{Holds}
 use Rattle.sim_bytes.specs.Calls.{spaceIn, Admissible, Says, Leaves, Outcome, Called, short as shortCall, lacking, decided}
 use Rattle.sim_bytes.specs.Chains.{Chain}
@@ -165,10 +165,10 @@ module _ {plan : List PlanEntry} {c : ℕ} {es : List Entry} {state log : List �
         stored-length : (st : State) → length (stored s st ++ drop (l .state) state) ≡ length state
         stored-length st = length-front state (stored s st) (l .state) (length-stored s st)
 
-    module _ (ok : LentOk l) (holding : length log ≤ length g) where
+    module _ (ok : Counted l) (holding : length log ≤ length g) where
       counted : length g < word * word
       unfolding lentLog
-      counted = omega (arith, ok .counted, length-take (l .log) (log ++ l .tail))
+      counted = omega (arith, ok, length-take (l .log) (log ++ l .tail))
 
       -- the lent log starts with the whole log
       log-front : take (length log) g ≡ log
@@ -250,9 +250,9 @@ module _ {plan : List PlanEntry} {c : ℕ} {es : List Entry} {state log : List �
           subst (Leaves plan c es m l state log) (sym (ap (λ (x : State). after (answerOf 0 0) (stored s (withMark m x)) g out) lent-load)) (marked m (a .0) (a .1) out)
 
   -- a call: the tests of lent memory, then the operation's decision d, by the state and the space in the log
-  pub called : LentOk l → (out : List ℕ) (need : ℕ) (d : State → ℕ → Decided) → Admissible (load state) (spaceIn l state log) need (d (load state) (spaceIn l state log))
+  pub called : Counted l → (out : List ℕ) (need : ℕ) (d : State → ℕ → Decided) → Admissible (load state) (spaceIn l state log) need (d (load state) (spaceIn l state log))
       → Called plan c es l state log (settle s g out (lent s g out need (d (load s) (freeIn s g)))) (d (load state) (spaceIn l state log))
-  unfolding settle lent short unfit freeIn spaceIn
+  unfolding settle lent lentRefusal unlessRefused short unfit freeIn spaceIn
   called ok out need d a = go (ltb (length s) stateSize) refl (ltb (length out) need) refl (not (sound s)) (ltb (length g) (load s .size)) refl
     where
       D : Decided
@@ -265,7 +265,7 @@ module _ {plan : List PlanEntry} {c : ℕ} {es : List Entry} {state log : List �
       refused n = refuses n out
 
       go : (p : Bool) → ltb (length s) stateSize ≡ p → (q : Bool) → ltb (length out) need ≡ q → (t u : Bool) → ltb (length g) (load s .size) ≡ u
-          → Called plan c es l state log (settle s g out (pick (p || q) (refuse tooShort) (pick (t || u) (refuse unsound) E))) D
+          → Called plan c es l state log (settle s g out (unlessRefused (pick (p || q) tooShort (pick (t || u) unsound 0)) E)) D
       go true e q f t u k = shortCall (refused tooShort)
       go false e true f t u k = shortCall (refused tooShort)
       go false e false f true u k = lacking (refused unsound)
@@ -278,18 +278,18 @@ module _ {plan : List PlanEntry} {c : ℕ} {es : List Entry} {state log : List �
           decided (subst (λ (x : Decided). Outcome plan c es l state log (settle s g out x) D) sames (settled whole ok holding out need (ltb-false _ _ f) D a))
 
   -- with a state buffer and an output that are long enough: 19 where the log slice is short, else the operation's decision
-  pub called-whole : stateSize ≤ length s → LentOk l → (out : List ℕ) (need : ℕ) → need ≤ length out → (d : State → ℕ → Decided)
+  pub called-whole : stateSize ≤ length s → Counted l → (out : List ℕ) (need : ℕ) → need ≤ length out → (d : State → ℕ → Decided)
       → Admissible (load state) (spaceIn l state log) need (d (load state) (spaceIn l state log))
       → Outcome plan c es l state log (settle s g out (lent s g out need (d (load s) (freeIn s g))))
       (pick (ltb (length g) (load state .size)) (refuse unsound) (d (load state) (spaceIn l state log)))
-  unfolding settle lent short unfit freeIn spaceIn
+  unfolding settle lent lentRefusal unlessRefused short unfit freeIn spaceIn
   called-whole whole ok out need enough d a =
       rw (le-ltb (length s) stateSize whole, le-ltb (length out) need enough, lent-sound whole, lent-load whole) (go (ltb (length g) (load state .size)) refl)
     where
       D : Decided
       D = d (load state) (length g - load state .size)
 
-      go : (t : Bool) → ltb (length g) (load state .size) ≡ t → Outcome plan c es l state log (settle s g out (pick t (refuse unsound) D)) (pick t (refuse unsound) D)
+      go : (t : Bool) → ltb (length g) (load state .size) ≡ t → Outcome plan c es l state log (settle s g out (unlessRefused (pick t unsound 0) D)) (pick t (refuse unsound) D)
       go true e = refuses unsound out
       go false e =
           settled whole ok (omega (arith, ltb-false (length g) (load state .size) e, holds-size H)) out need enough D a

@@ -28,7 +28,7 @@ use Rattle.model.specs.Plan.{planOk, planOf}
 use Rattle.model.specs.Logs.{Entry, headBytes, headOk, headServer, entriesBytes, entriesOf}
 use Rattle.model.specs.States.{State, load, stateEnd, sound}
 use Rattle.model.specs.Apply.{founded, replayFrom, replay, withMark}
-use Rattle.model.specs.Operations.{After, answerOf, after, short, stored, foundOf, recovered, recoveredAll, recoveredState, settleRecovered, recoverOf}
+use Rattle.model.specs.Operations.{After, answerOf, after, settle, stored, leftUnless, foundRefusal, foundOf, recovered, recoveredAll, recoveredState, settleRecovered, recoverRefusal, recoverOf}
 use Rattle.laws.specs.Bytes.{Bytes}
 use Rattle.laws.proofs.Numbers.{bytes-nil}
 use Rattle.laws.proofs.Written.{written-front}
@@ -78,16 +78,15 @@ starts plan c es m s st g n d h l S e log f =
 -- ---- found
 
 module _ (state log p : List ℕ) (n : ℕ) where
-  pub found-passed : foundOf state log p n .answer .number ≡ 0
+  pub found-passed : foundOf state log p n .answer .refusal ≡ 0
       → (stateSize ≤ length state) × (headSize ≤ length log) × (planOk p ≡ true) × (n ≤ lastServer)
-  unfolding foundOf short
+  unfolding foundOf foundRefusal leftUnless settle
   found-passed = go (ltb (length state) stateSize) refl (ltb (length log) headSize) refl (planOk p) refl (ltb lastServer n) refl
     where
       go : (a : Bool) → ltb (length state) stateSize ≡ a → (b : Bool) → ltb (length log) headSize ≡ b → (c : Bool) → planOk p ≡ c
           → (d : Bool) → ltb lastServer n ≡ d
-          → pick (a || b) (after (answerOf tooShort 0) state log [])
-          (pick (not c || d) (after (answerOf malformed 0) state log [])
-          (after (answerOf 0 0) (stored state (founded (planOf p) n)) (written log 0 (headBytes n)) [])) .answer .number ≡ 0
+          → leftUnless (pick (a || b) tooShort (pick (not c || d) malformed 0)) state log
+          (after (answerOf 0 0) (stored state (founded (planOf p) n)) (written log 0 (headBytes n)) []) .answer .refusal ≡ 0
           → (stateSize ≤ length state) × (headSize ≤ length log) × (planOk p ≡ true) × (n ≤ lastServer)
       go true ea b eb c ec d ed z = absurd (omega arith)
       go false ea true eb c ec d ed z = absurd (omega arith)
@@ -97,26 +96,25 @@ module _ (state log p : List ℕ) (n : ℕ) where
 
   pub found-does : stateSize ≤ length state → headSize ≤ length log → planOk p ≡ true → n ≤ lastServer
       → foundOf state log p n ≡ after (answerOf 0 0) (stored state (founded (planOf p) n)) (written log 0 (headBytes n)) []
-  unfolding foundOf short
+  unfolding foundOf foundRefusal leftUnless
   found-does a b c d = rw (le-ltb (length state) stateSize a, le-ltb (length log) headSize b, c, le-ltb lastServer n d)
 
-  pub found-refused : foundOf state log p n .answer .number ≢ 0 → (foundOf state log p n .state ≡ state) × (foundOf state log p n .log ≡ log)
-  unfolding foundOf
-  found-refused = go (short state stateSize || short log headSize) (not (planOk p) || ltb lastServer n)
+  pub found-refused : foundOf state log p n .answer .refusal ≢ 0 → (foundOf state log p n .state ≡ state) × (foundOf state log p n .log ≡ log)
+  unfolding foundOf foundRefusal leftUnless settle
+  found-refused = go (ltb (length state) stateSize || ltb (length log) headSize) (not (planOk p) || ltb lastServer n)
     where
       a : Bool → Bool → After
       a t u =
-          pick t (after (answerOf tooShort 0) state log [])
-          (pick u (after (answerOf malformed 0) state log [])
-          (after (answerOf 0 0) (stored state (founded (planOf p) n)) (written log 0 (headBytes n)) []))
+          leftUnless (pick t tooShort (pick u malformed 0)) state log
+          (after (answerOf 0 0) (stored state (founded (planOf p) n)) (written log 0 (headBytes n)) [])
 
-      go : (t u : Bool) → a t u .answer .number ≢ 0 → (a t u .state ≡ state) × (a t u .log ≡ log)
+      go : (t u : Bool) → a t u .answer .refusal ≢ 0 → (a t u .state ≡ state) × (a t u .log ≡ log)
       go true u h = (refl, refl)
       go false true h = (refl, refl)
       go false false h = absurd (h refl)
 
   -- a server that found starts
-  pub found-started : Bytes state → Bytes p → foundOf state log p n .answer .number ≡ 0 → Started (planOf p) n [] headSize (foundOf state log p n)
+  pub found-started : Bytes state → Bytes p → foundOf state log p n .answer .refusal ≡ 0 → Started (planOf p) n [] headSize (foundOf state log p n)
   unfolding replay replayFrom founded withMark headBytes entriesBytes
   found-started h b z =
       let k = found-passed z in
@@ -149,38 +147,37 @@ module _ {plan : List PlanEntry} {c : ℕ} {es : List Entry} {kept : List ℕ} {
   recovered-kept = kept-recovers plan ∙ recovers plan c (K .good) (K .number) es (K .decided) .same
 
 module _ (state log p : List ℕ) where
-  pub recover-passed : recoverOf state log p .answer .number ≡ 0 → (stateSize ≤ length state) × (planOk p ≡ true)
-  unfolding recoverOf short
+  pub recover-passed : recoverOf state log p .answer .refusal ≡ 0 → (stateSize ≤ length state) × (planOk p ≡ true)
+  unfolding recoverOf recoverRefusal leftUnless settle
   recover-passed = go (ltb (length state) stateSize) refl (planOk p) refl
     where
       go : (a : Bool) → ltb (length state) stateSize ≡ a → (c : Bool) → planOk p ≡ c
-          → pick a (after (answerOf tooShort 0) state log [])
-          (pick (not c) (after (answerOf malformed 0) state log []) (settleRecovered state log (recoveredState (planOf p) log))) .answer .number ≡ 0
+          → leftUnless (pick a tooShort (pick (not c) malformed 0)) state log (settleRecovered state log (recoveredState (planOf p) log)) .answer .refusal ≡ 0
           → (stateSize ≤ length state) × (planOk p ≡ true)
       go true ea c ec z = absurd (omega arith)
       go false ea false ec z = absurd (omega arith)
       go false ea true ec z = (ltb-false _ _ ea, ec)
 
   pub recover-short : length state < stateSize → recoverOf state log p ≡ after (answerOf tooShort 0) state log []
-  unfolding recoverOf short
+  unfolding recoverOf recoverRefusal leftUnless settle
   recover-short a = rw (lt-ltb (length state) stateSize a)
 
   pub recover-bad : stateSize ≤ length state → planOk p ≡ false → recoverOf state log p ≡ after (answerOf malformed 0) state log []
-  unfolding recoverOf short
+  unfolding recoverOf recoverRefusal leftUnless settle
   recover-bad a c = rw (le-ltb (length state) stateSize a, c)
 
   pub recover-does : stateSize ≤ length state → planOk p ≡ true → recoverOf state log p ≡ settleRecovered state log (recoveredState (planOf p) log)
-  unfolding recoverOf short
+  unfolding recoverOf recoverRefusal leftUnless
   recover-does a c = rw (le-ltb (length state) stateSize a, c)
 
-  pub recover-refused : recoverOf state log p .answer .number ≢ 0 → (recoverOf state log p .state ≡ state) × (recoverOf state log p .log ≡ log)
-  unfolding recoverOf settleRecovered
-  recover-refused = go (short state stateSize) (not (planOk p)) (recoveredState (planOf p) log)
+  pub recover-refused : recoverOf state log p .answer .refusal ≢ 0 → (recoverOf state log p .state ≡ state) × (recoverOf state log p .log ≡ log)
+  unfolding recoverOf recoverRefusal leftUnless settle settleRecovered
+  recover-refused = go (ltb (length state) stateSize) (not (planOk p)) (recoveredState (planOf p) log)
     where
       a : Bool → Bool → Option State → After
-      a t u o = pick t (after (answerOf tooShort 0) state log []) (pick u (after (answerOf malformed 0) state log []) (settleRecovered state log o))
+      a t u o = leftUnless (pick t tooShort (pick u malformed 0)) state log (settleRecovered state log o)
 
-      go : (t u : Bool) (o : Option State) → a t u o .answer .number ≢ 0 → (a t u o .state ≡ state) × (a t u o .log ≡ log)
+      go : (t u : Bool) (o : Option State) → a t u o .answer .refusal ≢ 0 → (a t u o .state ≡ state) × (a t u o .log ≡ log)
       go true u o h = (refl, refl)
       go false true o h = (refl, refl)
       go false false none h = (refl, refl)

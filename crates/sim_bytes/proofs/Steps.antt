@@ -1,5 +1,4 @@
 -- The steps of a schedule that call a server, by what the call leaves.
---     slice-bytes                   a slice is bytes
 --     same-server                   a server set to what it is
 --     says-nothing, says-bytes      a call that changes no buffer, with nothing made and with a packet or image made
 --     leaves-step                   a call that changes the buffers
@@ -20,14 +19,8 @@ use Rattle.model.specs.Choice.{pick}
 use Rattle.model.specs.Logs.{Entry}
 use Rattle.model.specs.States.{load}
 use Rattle.model.specs.Operations.{After}
-use Rattle.laws.specs.Bytes as laws
 use Rattle.claim.specs.World.{Lent, World, Server, running, crashed, withServer, making, lentState, lentLog, stateBack, logBack, calls, crashAt, foundAs}
-use Rattle.claim.specs.Provisos.{Bytes, Slice}
 use Rattle.sim_bytes.specs.Calls.{Says, Leaves, madeMore}
-
-pub slice-bytes : {s : List ℕ} → Slice s → laws.Bytes s
-unfolding Bytes
-slice-bytes x = x .bytes
 
 pub same-server : (c : ℕ) (x : Server) (w : World) → w .servers c ≡ x → withServer c x w ≡ w
 unfolding withServer
@@ -79,11 +72,11 @@ pub crash-twice : (c k : ℕ) (w : World) {kept : List ℕ} {mark : ℕ} → w .
 unfolding crashAt
 crash-twice c k w down = rw down
 
-pub started-refused : (c : ℕ) (a : After) (w : World) → a .answer .number ≢ 0 → foundAs c a w ≡ w
+pub started-refused : (c : ℕ) (a : After) (w : World) → a .answer .refusal ≢ 0 → foundAs c a w ≡ w
 unfolding foundAs
-started-refused c a w h = rw (ne-eqb (a .answer .number) 0 h)
+started-refused c a w h = rw (ne-eqb (a .answer .refusal) 0 h)
 
-pub started-runs : (c : ℕ) (a : After) (w : World) → a .answer .number ≡ 0
+pub started-runs : (c : ℕ) (a : After) (w : World) → a .answer .refusal ≡ 0
     → foundAs c a w ≡ withServer c (running (a .state) (take (load (a .state) .size) (a .log))) w
 unfolding foundAs
-started-runs c a w h = rw (eq-eqb (a .answer .number) 0 h)
+started-runs c a w h = rw (eq-eqb (a .answer .refusal) 0 h)

@@ -8,7 +8,7 @@ use mathlib.Core.Bool.{Bool, _&&_}
 use mathlib.Core.List.{List, [], _∷_, _++_, map, map-map}
 use native.Mathlib.Omega.{arith}
 use lib.ListN.{length, getD, set}
-use lib.Dec.{leb}
+use Rattle.model.specs.Versions.{Version}
 use Rattle.model.specs.declared.Floor.{Floor}
 use Rattle.model.specs.declared.Executed.{Executed}
 use Rattle.model.specs.declared.Notice.{Notice}
@@ -17,9 +17,7 @@ use Rattle.model.specs.declared.Release.{Release}
 use Rattle.model.specs.declared.ImageEntry.{ImageEntry}
 use Rattle.model.specs.declared.Point.{Point}
 use Rattle.model.specs.declared.Completion.{Completion}
-use borrow.Author.Tests.{leb-true}
-use Rattle.model.specs.Limits.{lastPoint, lastOp, pointCount}
-use Rattle.model.specs.Rules.{argumentOk}
+use Rattle.model.specs.Limits.{lastPoint, pointCount}
 use Rattle.model.specs.Packets.{commandOk}
 use Rattle.model.specs.Tables.{keep}
 use Rattle.model.specs.Sequential.{readingMeant, resultMeant, afterZ}
@@ -30,10 +28,11 @@ use Rattle.model.specs.Apply
 use Rattle.model.specs.Apply.{raise, mergeFloors, isNotClient}
 use Rattle.laws.specs.Bytes.{All}
 use Rattle.laws.proofs.Tables.{all-keep, all-append}
-use Rattle.laws.proofs.Tests.{and-left, and-right}
+use Rattle.laws.proofs.Tests.{and-left}
+use Rattle.laws.proofs.Commands.{command-parts}
 use Rattle.limits.specs.Sound.{GoodExecuted, GoodRecord}
 use Rattle.protocol.specs.Servers as Abstract
-use Rattle.simulation.specs.Likeness.{Pair, placeOf, commandOfExecuted, resultOfExecuted, readingOf, Done, doneOf, doneOfEntry, ImageLike, RecordLike, completionOf, holdingOf}
+use Rattle.simulation.specs.Likeness.{Pair, placeOf, readingOf, Done, doneOf, doneOfEntry, ImageLike, RecordLike, completionOf, holdingOf}
 use Rattle.simulation.specs.Likeness as Likeness
 use Rattle.sim_state.specs.Traced.{EndIn, PointTraced, Traced}
 use Rattle.sim_state.proofs.Mapped.{map-append, keep-map, set-each}
@@ -48,13 +47,10 @@ unfoldable withPlace : ℕ → Done → Abstract.Completion
 withPlace n d = record { cmd = d .cmd; res = d .res; place = n }
 
 -- the point of a well-formed executed record
-executed-point-good : (x : Executed) → GoodExecuted x → x .point ≤ lastPoint
-unfolding executedOk commandOk
+executed-point-good : (x : Executed) → GoodExecuted x → x .command .point ≤ lastPoint
+unfolding executedOk
 executed-point-good x G =
-    let o = leb (x .op) lastOp in
-    let p = leb (x .point) lastPoint in
-    let a = argumentOk (x .op) (x .argument) in
-    leb-true (x .point) lastPoint (and-left p a (and-right o (p && a) (and-left (o && (p && a)) _ (G .ok))))
+    command-parts (x .command .op) (x .command .point) (x .command .argument) (and-left (commandOk (x .command .op) (x .command .point) (x .command .argument)) _ (G .ok)) .point
 
 -- an end of the log
 abbrev Ended : List Pair → Completion → Type 0
@@ -83,10 +79,10 @@ module _ (zs : List Pair) where
 
 module _ (zs : List Pair) (st : State) (s : Abstract.State) (end t : ℕ) (T : Traced zs st s) (full : length (st .points) ≡ pointCount)
     (placed : placeOf zs end ≡ suc (s .count)) (ended : EndIn end zs) where
-  executed-point : (x : Executed) (q : Point) (y : Abstract.Point) → PointTraced zs q y
-      → PointTraced zs (Apply.executedPoint x q) (Abstract.executedPoint (commandOfExecuted x) (resultOfExecuted x) t y)
-  unfolding Apply.executedPoint Abstract.executedPoint holdingOf readingOf readingMeant resultOfExecuted resultMeant afterZ
-  executed-point x q y P =
+  executed-point : (v : Version) (x : Executed) (q : Point) (y : Abstract.Point) → PointTraced zs q y
+      → PointTraced zs (Apply.executedPoint x q) (Abstract.executedPoint v (x .command) (resultMeant (x .result)) t y)
+  unfolding Apply.executedPoint Abstract.executedPoint holdingOf readingOf readingMeant resultMeant afterZ
+  executed-point v x q y P =
       record {
         like =
             record {
@@ -100,23 +96,23 @@ module _ (zs : List Pair) (st : State) (s : Abstract.State) (end t : ℕ) (T : T
         took = P .took;
       }
 
-  executed-record : (x : Executed) → record { cmd = commandOfExecuted x; res = resultOfExecuted x; place = suc (s .count) } ≡ completionOf zs (Apply.completion x end)
-  unfolding commandOfExecuted resultOfExecuted completionOf Apply.completion
+  executed-record : (x : Executed) → record { cmd = x .command; res = resultMeant (x .result); place = suc (s .count) } ≡ completionOf zs (Apply.completion x end)
+  unfolding completionOf Apply.completion
   executed-record x = rw placed
 
-  pub executed-traced : (x : Executed) → x .point ≤ lastPoint
-      → Traced zs (Apply.applyExecuted x end st) (Abstract.applyRecord s (Abstract.executed (commandOfExecuted x) (x .done) (resultOfExecuted x)) t)
-  unfolding Apply.applyExecuted Abstract.applyRecord commandOfExecuted pointAt Apply.completion
-  executed-traced x l =
-      let fs = raise (x .client) (x .done) (st .floors) in
-      let es : raise (x .client) (x .done) (s .floors) ≡ fs = ap (raise (x .client) (x .done)) (T .floors) in
+  pub executed-traced : (v : Version) (x : Executed) → x .command .point ≤ lastPoint
+      → Traced zs (Apply.applyExecuted x end st) (Abstract.applyRecord s (Abstract.executed v (x .command) (x .done) (resultMeant (x .result))) t)
+  unfolding Apply.applyExecuted Abstract.applyRecord pointAt Apply.completion
+  executed-traced v x l =
+      let fs = raise (x .command .client) (x .done) (st .floors) in
+      let es : raise (x .command .client) (x .done) (s .floors) ≡ fs = ap (raise (x .command .client) (x .done)) (T .floors) in
       let g = completionOf zs in
-      let u : Completion → Bool = Apply.staysOver (x .client) (floorOf (x .client) fs) in
+      let u : Completion → Bool = Apply.staysOver (x .command .client) (floorOf (x .command .client) fs) in
       let new = Apply.completion x end in
       record {
-        points = set-each (PointTraced zs) (st .points) (s .points) (x .point) _ _ full (T .points) (executed-point x _ _ (T .points (x .point) l));
+        points = set-each (PointTraced zs) (st .points) (s .points) (x .command .point) _ _ full (T .points) (executed-point v x _ _ (T .points (x .command .point) l));
         floors = es;
-        records = rw (es, T .records, executed-record x, ← map-append g (st .records) (new ∷ [])) (keep-map g _ u (over-same zs (x .client) (floorOf (x .client) fs)) (st .records ++ (new ∷ [])));
+        records = rw (es, T .records, executed-record x, ← map-append g (st .records) (new ∷ [])) (keep-map g _ u (over-same zs (x .command .client) (floorOf (x .command .client) fs)) (st .records ++ (new ∷ [])));
         ends = all-keep (Ended zs) u (st .records ++ (new ∷ [])) (all-append (Ended zs) (st .records) (new ∷ []) (T .ends) (ended, tt));
         heard = T .heard;
       }
@@ -134,7 +130,7 @@ module _ (zs : List Pair) (st : State) (s : Abstract.State) (end t : ℕ) (T : T
       }
 
   gave-point : (g : Give) (q : Point) (y : Abstract.Point) → PointTraced zs q y
-      → PointTraced zs (Apply.gavePoint g end q) (Abstract.gavePoint (g .destination) (g .number) (suc (s .count)) y)
+      → PointTraced zs (Apply.gavePoint g end q) (Abstract.gavePoint (g .destination) (g .moveNumber) (suc (s .count)) y)
   unfolding Apply.gavePoint Abstract.gavePoint holdingOf readingOf
   gave-point g q y P =
       record {
@@ -151,7 +147,7 @@ module _ (zs : List Pair) (st : State) (s : Abstract.State) (end t : ℕ) (T : T
       }
 
   pub gave-traced : (g : Give) → g .point ≤ lastPoint
-      → Traced zs (Apply.applyGave g end st) (Abstract.applyRecord s (Abstract.gave (g .point) (g .destination) (g .number)) t)
+      → Traced zs (Apply.applyGave g end st) (Abstract.applyRecord s (Abstract.gave (g .point) (g .destination) (g .moveNumber)) t)
   unfolding Apply.applyGave Abstract.applyRecord pointAt
   gave-traced g l =
       record {
@@ -179,7 +175,7 @@ module _ (zs : List Pair) (st : State) (s : Abstract.State) (end t : ℕ) (T : T
       }
 
   pub released-traced : (r : Release) → r .point ≤ lastPoint
-      → Traced zs (Apply.applyReleased r end st) (Abstract.applyRecord s (Abstract.freed (r .point) (r .number)) t)
+      → Traced zs (Apply.applyReleased r end st) (Abstract.applyRecord s (Abstract.freed (r .point) (r .moveNumber)) t)
   unfolding Apply.applyReleased Abstract.applyRecord pointAt
   released-traced r l =
       let u : Completion → Bool = Apply.isOnOther (r .point) in
@@ -257,7 +253,7 @@ module _ (zs : List Pair) (st : State) (s : Abstract.State) (end t : ℕ) (T : T
   pub record-traced : (r : LogRecord) (a : Abstract.LogRecord) → RecordLike r a → GoodRecord r
       → Traced zs (Apply.applyRecord r end st) (Abstract.applyRecord s a t)
   unfolding Apply.applyRecord
-  record-traced r a (Likeness.executed x) G = executed-traced x (executed-point-good x G)
+  record-traced r a (Likeness.executed v x) G = executed-traced v x (executed-point-good x G)
   record-traced r a (Likeness.gone n) G = gone-traced n
   record-traced r a (Likeness.gave g) G = gave-traced g (G .point)
   record-traced r a (Likeness.took i b L) G = took-traced i b L (G .point)

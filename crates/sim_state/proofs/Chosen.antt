@@ -15,7 +15,7 @@ use lib.Dec.{eqb}
 use borrow.Author.Tests.{eqb-true}
 use Rattle.model.specs.declared.Point.{Point}
 use Rattle.model.specs.declared.Completion.{Completion}
-use Rattle.model.specs.Choice.{pick, refuse}
+use Rattle.model.specs.Choice.{pick, refuse, unlessRefused}
 use Rattle.model.specs.States.{isHeld, isGiven, given, isId}
 use Rattle.model.specs.Decisions.{Decided, find}
 use Rattle.laws.specs.Bytes.{All}
@@ -25,12 +25,13 @@ use Rattle.simulation.specs.Likeness.{Pair, placeOf, completionOf, holdingOf}
 use Rattle.sim_state.specs.Acts.{ActLike}
 use Rattle.sim_state.specs.Acts as Acts
 
-pub if-like : (n : ℕ) (t u : Bool) (d : Decided) (a : Abstract.Act) → u ≡ t → (t ≡ false → ActLike d a)
-    → ActLike (pick t (refuse n) d) (pick u (Abstract.refuse n) a)
-if-like n true true d a e h = Acts.refused n
-if-like n true false d a e h = impossible (sym e)
-if-like n false true d a e h = impossible e
-if-like n false false d a e h = h refl
+pub if-like : (n : ℕ) → eqb n 0 ≡ false → (m : ℕ) (t u : Bool) (d : Decided) (a : Abstract.Act) → u ≡ t → (t ≡ false → ActLike (unlessRefused m d) a)
+    → ActLike (unlessRefused (pick t n m) d) (pick u (Abstract.refuse n) a)
+unfolding unlessRefused
+if-like n z m true true d a e h = rw z (Acts.refused n)
+if-like n z m true false d a e h = impossible (sym e)
+if-like n z m false true d a e h = impossible e
+if-like n z m false false d a e h = h refl
 
 pub room-same : (t : Bool) → not (not t) ≡ t
 room-same t = Bool·not-not t
@@ -42,7 +43,7 @@ unfolding holdingOf isHeld
 held-same zs x h e = ap Abstract.isHeld e ∙ go (eqb (x .status) 1) (eqb (x .status) 2) (eqb (x .status) 3)
   where
     go : (a b c : Bool)
-        → Abstract.isHeld (pick a Abstract.held (pick b (Abstract.given (x .destination) (placeOf zs (x .gave))) (pick c Abstract.released Abstract.absent))) ≡ a
+        → Abstract.isHeld (pick a Abstract.held (pick b (Abstract.given (x .destination) (placeOf zs (x .giveEnd))) (pick c Abstract.released Abstract.absent))) ≡ a
     go true b c = refl
     go false true c = refl
     go false false true = refl
@@ -53,7 +54,7 @@ unfolding holdingOf isGiven
 given-same zs x h e = ap Abstract.isGiven e ∙ go (eqb (x .status) 1) refl (eqb (x .status) 2) refl (eqb (x .status) 3)
   where
     go : (a : Bool) → eqb (x .status) 1 ≡ a → (b : Bool) → eqb (x .status) 2 ≡ b → (c : Bool)
-        → Abstract.isGiven (pick a Abstract.held (pick b (Abstract.given (x .destination) (placeOf zs (x .gave))) (pick c Abstract.released Abstract.absent))) ≡ b
+        → Abstract.isGiven (pick a Abstract.held (pick b (Abstract.given (x .destination) (placeOf zs (x .giveEnd))) (pick c Abstract.released Abstract.absent))) ≡ b
     go true p true q c =
         let i : x .status ≡ 1 = eqb-true _ _ p in
         let j : x .status ≡ 2 = eqb-true _ _ q in
@@ -64,7 +65,7 @@ given-same zs x h e = ap Abstract.isGiven e ∙ go (eqb (x .status) 1) refl (eqb
     go false p false q false = refl
 
 pub given-is : (zs : List Pair) (x : Point) (h : Abstract.Holding) → h ≡ holdingOf zs x → x .status ≡ given
-    → h ≡ Abstract.given (x .destination) (placeOf zs (x .gave))
+    → h ≡ Abstract.given (x .destination) (placeOf zs (x .giveEnd))
 unfolding holdingOf
 given-is zs x h e g = e ∙ rw g
 

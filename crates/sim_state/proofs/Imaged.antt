@@ -16,13 +16,13 @@ use Rattle.model.specs.declared.PlanEntry.{PlanEntry}
 use Rattle.model.specs.declared.Floor.{Floor}
 use Rattle.model.specs.declared.ImageEntry.{ImageEntry}
 use Rattle.model.specs.declared.Completion.{Completion}
-use Rattle.model.specs.Choice.{pick, reply}
+use Rattle.model.specs.Choice.{pick, reply, unlessRefused}
 use Rattle.model.specs.Refusals.{malformed, notHeld, notSynced}
 use Rattle.model.specs.Limits.{lastPoint, lastServer, lastQuality, clientCount, greatestImage}
 use Rattle.model.specs.Tables.{keep}
 use Rattle.model.specs.Images.{Image, idBefore, imageHeadOk, imageTablesOk, imageLength, imageBytes}
 use Rattle.model.specs.States.{State, pointAt, isGiven, isSynced, given}
-use Rattle.model.specs.Decisions.{isOnPoint, entryOfRecord, insertEntry, sortEntries, imageFor, onImage}
+use Rattle.model.specs.Decisions.{isOnPoint, entryOfRecord, insertEntry, sortEntries, imageFor, imageRefusal, onImage}
 use Rattle.laws.specs.Bytes.{All}
 use Rattle.laws.specs.Fits.{FloorFits, ImageEntryFits, imageHead, imageWell, IsImage}
 use Rattle.laws.proofs.Tests.{and-both}
@@ -36,7 +36,8 @@ use Rattle.sim_state.specs.Traced.{Alike}
 use Rattle.sim_state.specs.Acts.{ActLike}
 use Rattle.sim_state.specs.Acts as Acts
 use Rattle.sim_state.proofs.Mapped.{keep-map}
-use Rattle.sim_state.proofs.Packed.{command-parts, outcome-parts}
+use Rattle.laws.proofs.Commands.{command-parts}
+use Rattle.sim_state.proofs.Packed.{outcome-parts}
 use Rattle.sim_state.proofs.Chosen.{if-like, given-same, given-is}
 use Rattle.sim_state.proofs.Requests.{synced-same}
 
@@ -77,7 +78,7 @@ module _ (p : ℕ) where
 
   done-same : (zs : List Pair) (r : Completion) → isOnPoint p r ≡ true → doneOf (completionOf zs r) ≡ doneOfEntry p (entryOfRecord r)
   unfolding isOnPoint doneOf completionOf doneOfEntry entryOfRecord
-  done-same zs r t = rw (eqb-true (r .point) p t)
+  done-same zs r t = rw (eqb-true (r .command .point) p t)
 
   sort-same : (zs : List Pair) (rs : List Completion) → All (λ (r : Completion). isOnPoint p r ≡ true) rs
       → map doneOf (Abstract.sortRecords (map (completionOf zs) rs)) ≡ map (doneOfEntry p) (sortEntries (map entryOfRecord rs))
@@ -117,18 +118,18 @@ module _ (plan : List PlanEntry) (c : ℕ) (zs : List Pair) (st : State) (s : Ab
       }
 
   pub image-like : (p : ℕ) → ActLike (onImage st p) (Abstract.onImage s (placeOf zs (st .mark)) c p)
-  unfolding onImage isGiven Abstract.onImage Abstract.tested
+  unfolding onImage imageRefusal unlessRefused isGiven Abstract.onImage Abstract.tested
   image-like p =
       let x = pointAt st p in
       let b = imageBytes (imageFor st p) in
-      if-like malformed (ltb lastPoint p) _ _ _ refl
+      if-like malformed refl _ (ltb lastPoint p) _ _ _ refl
       (λ e.
       let l : p ≤ lastPoint = ltb-false lastPoint p e in
       let P = A .traced .points p l in
-      if-like notHeld (not (isGiven x)) _ _ _ (ap not (given-same zs x (s .points p .holding) (P .like .holding)))
+      if-like notHeld refl _ (not (isGiven x)) _ _ _ (ap not (given-same zs x (s .points p .holding) (P .like .holding)))
       (λ f.
       let g : x .status ≡ given = eqb-true _ _ (not-false _ f) in
-      let h : Abstract.givenPlace (s .points p .holding) ≡ placeOf zs (x .gave) = ap Abstract.givenPlace (given-is zs x (s .points p .holding) (P .like .holding) g) in
-      if-like notSynced (not (isSynced st (x .gave))) _ (reply b) _
-      (ap not (ap (λ (m : ℕ). leb m (placeOf zs (st .mark))) h ∙ synced-same plan c zs st s A (x .gave) (P .gave g)))
+      let h : Abstract.givenPlace (s .points p .holding) ≡ placeOf zs (x .giveEnd) = ap Abstract.givenPlace (given-is zs x (s .points p .holding) (P .like .holding) g) in
+      if-like notSynced refl _ (not (isSynced (st .mark) (x .giveEnd))) _ (reply b) _
+      (ap not (ap (λ (m : ℕ). leb m (placeOf zs (st .mark))) h ∙ synced-same plan c zs st s A (x .giveEnd) (P .gave g)))
       (λ k. Acts.told b (Abstract.image (Abstract.imageFor s c p)) (Made.image (imageFor st p) (Abstract.imageFor s c p) (image-is (imageFor st p) (image-good st p (A .sound) l .0)) (made-like p l g)))))

@@ -20,17 +20,17 @@ use Rattle.model.specs.declared.ImageEntry.{ImageEntry}
 use Rattle.model.specs.declared.Completion.{Completion}
 use Rattle.model.specs.declared.Packet.the-variants.{Noticed, Receipted}
 use Rattle.model.specs.declared.Receipt.{Receipt}
-use Rattle.model.specs.Choice.{refuse, reply, append, marks}
+use Rattle.model.specs.Choice.{refuse, reply, append, marks, unlessRefused}
 use Rattle.model.specs.Refusals.{malformed, notHeld, notSynced, clientsFull, logFull, wrongDestination, oldMove, alreadyHeld, numbersOut, unknown}
 use Rattle.model.specs.Limits.{lastPoint, lastServer, last32, clientCount, goneSize, giveSize, takeHead, releaseSize}
 use Rattle.model.specs.Tables.{every}
 use Rattle.model.specs.Plan.{entryAt}
-use Rattle.model.specs.Packets.{receiptBytes}
-use Rattle.model.specs.Images.{Image, floorOf, imageInRange, imageLength}
+use Rattle.model.specs.Packets.{receiptBytes, asReceipt, asNotice}
+use Rattle.model.specs.Images.{Image, floorOf, notKnown, imageInRange, imageLength}
 use Rattle.model.specs.Logs.{gone, gave, took, released}
 use Rattle.model.specs.States.{State, pointAt, isHeld, isGiven, isSynced, isId}
 use Rattle.model.specs.Apply.{mergeFloors, withMark}
-use Rattle.model.specs.Decisions.{onSync, decideNotice, onNotice, onGive, freeFor, decideTake, onReceipt, decideRelease, onRelease}
+use Rattle.model.specs.Decisions.{orMalformed, onSync, noticeRefusal, decideNotice, onNotice, placesBad, giveRefusal, onGive, freeFor, takeRefusal, takeTests, decideTake, receiptRefusal, onReceipt, releaseRefusal, decideRelease, onRelease}
 use Rattle.limits.proofs.Decided.{sync-passed, or-left-no}
 use Rattle.limits.proofs.Kept.{sync-sound}
 use Rattle.protocol.specs.Servers as Abstract
@@ -95,86 +95,86 @@ module _ (plan : List PlanEntry) (c : ℕ) (zs : List Pair) (st : State) (s : Ab
   -- ---- Notice
 
   pub notice-like : (n : Notice) (free : ℕ) → ActLike (onNotice st free (Noticed n)) (Abstract.onNotice s (not (ltb free goneSize)) (n .client) (n .time))
-  unfolding onNotice decideNotice Abstract.onNotice Abstract.tested
+  unfolding onNotice orMalformed asNotice decideNotice noticeRefusal unlessRefused Abstract.onNotice Abstract.tested
   notice-like n free =
-      if-like unknown (eqb (floorOf (n .client) (st .floors)) 0) _ _ _
-      (ap (λ (fs : List Floor). eqb (floorOf (n .client) fs) 0) (A .traced .floors))
-      (λ e. if-like logFull (ltb free goneSize) _ (append (gone n)) _ (room-same (ltb free goneSize)) (λ f. Acts.wrote (gone n) _ (Likeness.gone n)))
+      if-like unknown refl _ (notKnown (floorOf (n .client) (st .floors))) _ _ _
+      (ap (λ (fs : List Floor). notKnown (floorOf (n .client) fs)) (A .traced .floors))
+      (λ e. if-like logFull refl _ (ltb free goneSize) _ (append (gone n)) _ (room-same (ltb free goneSize)) (λ f. Acts.wrote (gone n) _ (Likeness.gone n)))
 
   -- ---- Give
 
   pub give-like : (p d free : ℕ) → ActLike (onGive st free p d) (Abstract.onGive s c (not (ltb free giveSize)) p d)
-  unfolding onGive Abstract.onGive Abstract.tested
+  unfolding onGive placesBad giveRefusal unlessRefused Abstract.onGive Abstract.tested
   give-like p d free =
       let x = pointAt st p in
-      let g : Give = record { point = p; destination = d; number = suc (x .number) } in
-      if-like malformed (ltb lastPoint p || ltb lastServer d) _ _ _ refl
+      let g : Give = record { point = p; destination = d; moveNumber = suc (x .moveNumber) } in
+      if-like malformed refl _ (ltb lastPoint p || ltb lastServer d) _ _ _ refl
       (λ e.
       let P = A .traced .points p (ltb-false lastPoint p (or-left-no (ltb lastPoint p) (ltb lastServer d) e)) .like in
-      if-like notHeld (not (isHeld x)) _ _ _ (ap not (held-same zs x (s .points p .holding) (P .holding)))
-      (λ f. if-like wrongDestination (eqb d (st .server)) _ _ _ (ap (eqb d) (sym (A .server)))
-      (λ k. if-like numbersOut (leb last32 (x .number)) _ _ _ (ap (leb last32) (P .move))
-      (λ h. if-like logFull (ltb free giveSize) _ (append (gave g)) _ (room-same (ltb free giveSize))
+      if-like notHeld refl _ (not (isHeld x)) _ _ _ (ap not (held-same zs x (s .points p .holding) (P .holding)))
+      (λ f. if-like wrongDestination refl _ (eqb d (st .server)) _ _ _ (ap (eqb d) (sym (A .server)))
+      (λ k. if-like numbersOut refl _ (leb last32 (x .moveNumber)) _ _ _ (ap (leb last32) (P .move))
+      (λ h. if-like logFull refl _ (ltb free giveSize) _ (append (gave g)) _ (room-same (ltb free giveSize))
       (λ o. subst (λ (m : ℕ). ActLike (append (gave g)) (Abstract.write (Abstract.gave p d (suc m)))) (sym (P .move)) (Acts.wrote (gave g) _ (Likeness.gave g)))))))
 
   -- ---- Receipt
 
   pub receipt-like : (p : ℕ) → ActLike (onReceipt st p) (Abstract.onReceipt s (placeOf zs (st .mark)) c p)
-  unfolding onReceipt Abstract.onReceipt Abstract.tested
+  unfolding onReceipt receiptRefusal unlessRefused Abstract.onReceipt Abstract.tested
   receipt-like p =
       let x = pointAt st p in
-      let b = receiptBytes (record { point = p; server = st .server; number = x .taken }) in
-      if-like malformed (ltb lastPoint p) _ _ _ refl
+      let b = receiptBytes (record { point = p; server = st .server; moveNumber = x .takenMove }) in
+      if-like malformed refl _ (ltb lastPoint p) _ _ _ refl
       (λ e.
       let l : p ≤ lastPoint = ltb-false lastPoint p e in
       let P = A .traced .points p l in
       let G = A .sound .point p l in
-      if-like notHeld (eqb (x .taken) 0) _ _ _ (ap (λ (m : ℕ). eqb m 0) (P .like .taken))
-      (λ f. if-like notSynced (not (isSynced st (x .took))) _ (reply b) _
-      (ap not (ap (λ (m : ℕ). leb m (placeOf zs (st .mark))) (P .like .takenPlace) ∙ synced-same plan c zs st s A (x .took) (P .took (eqb-false (x .taken) 0 f))))
-      (λ k. rw (P .like .taken, ← A .server) (Acts.told b _ (Packed.receipt-like p (st .server) (x .taken) l (A .sound .server) (omega (arith, G .taken, G .number)))))))
+      if-like notHeld refl _ (eqb (x .takenMove) 0) _ _ _ (ap (λ (m : ℕ). eqb m 0) (P .like .taken))
+      (λ f. if-like notSynced refl _ (not (isSynced (st .mark) (x .takeEnd))) _ (reply b) _
+      (ap not (ap (λ (m : ℕ). leb m (placeOf zs (st .mark))) (P .like .takenPlace) ∙ synced-same plan c zs st s A (x .takeEnd) (P .took (eqb-false (x .takenMove) 0 f))))
+      (λ k. rw (P .like .taken, ← A .server) (Acts.told b _ (Packed.receipt-like p (st .server) (x .takenMove) l (A .sound .server) (omega (arith, G .takenMove, G .moveNumber)))))))
 
   -- ---- Release
 
   pub release-like : (r : Receipt) (free : ℕ) → r .point ≤ lastPoint
-      → ActLike (onRelease st free (Receipted r)) (Abstract.onRelease s (not (ltb free releaseSize)) (r .point) (r .number))
-  unfolding onRelease decideRelease Abstract.onRelease Abstract.tested
+      → ActLike (onRelease st free (Receipted r)) (Abstract.onRelease s (not (ltb free releaseSize)) (r .point) (r .moveNumber))
+  unfolding onRelease orMalformed asReceipt decideRelease releaseRefusal unlessRefused Abstract.onRelease Abstract.tested
   release-like r free l =
       let p = r .point in
       let x = pointAt st p in
       let P = A .traced .points p l .like in
-      let y : Release = record { point = p; number = x .number } in
-      if-like notHeld (not (isGiven x)) _ _ _ (ap not (given-same zs x (s .points p .holding) (P .holding)))
-      (λ f. if-like oldMove (ltb (r .number) (x .number)) _ _ _ (ap (ltb (r .number)) (P .move))
-      (λ k. if-like logFull (ltb free releaseSize) _ (append (released y)) _ (room-same (ltb free releaseSize))
+      let y : Release = record { point = p; moveNumber = x .moveNumber } in
+      if-like notHeld refl _ (not (isGiven x)) _ _ _ (ap not (given-same zs x (s .points p .holding) (P .holding)))
+      (λ f. if-like oldMove refl _ (ltb (r .moveNumber) (x .moveNumber)) _ _ _ (ap (ltb (r .moveNumber)) (P .move))
+      (λ k. if-like logFull refl _ (ltb free releaseSize) _ (append (released y)) _ (room-same (ltb free releaseSize))
       (λ o. rw (P .move) (Acts.wrote (released y) _ (Likeness.released y)))))
 
   -- ---- Take
 
   -- an image with a value out of range is malformed
   pub take-refused : (i : Image) (free : ℕ) → imageInRange (entryAt plan (i .point)) i ≡ false → decideTake st free i ≡ refuse malformed
-  unfolding decideTake
+  unfolding decideTake takeTests takeRefusal unlessRefused
   take-refused i free e = rw (A .planned, e)
 
   pub take-like : (i : Image) (a : Abstract.Image) (free : ℕ) → i .point ≤ lastPoint → ImageLike i a → imageInRange (entryAt plan (i .point)) i ≡ true
       → ActLike (decideTake st free i) (Abstract.onTake s c (not (ltb free (takeHead + imageLength i))) a)
-  unfolding decideTake Abstract.onTake Abstract.tested
+  unfolding decideTake takeTests takeRefusal unlessRefused Abstract.onTake Abstract.tested
   take-like i a free l L r =
       let x = pointAt st (i .point) in
       let r2 : imageInRange (entryAt (st .plan) (i .point)) i ≡ true = subst (λ (es : List PlanEntry). imageInRange (entryAt es (i .point)) i ≡ true) (sym (A .planned)) r in
       let P : PointLike zs x (s .points (a .point)) = subst (λ (p : ℕ). PointLike zs x (s .points p)) (sym (L .point)) (A .traced .points (i .point) l .like) in
       let here : eqb (a .destination) c ≡ eqb (i .destination) (st .server) = ap₂ eqb (L .destination) (sym (A .server)) in
-      let old : leb (a .move) (s .points (a .point) .move) ≡ leb (i .number) (x .number) = ap₂ leb (L .move) (P .move) in
+      let old : leb (a .move) (s .points (a .point) .move) ≡ leb (i .moveNumber) (x .moveNumber) = ap₂ leb (L .move) (P .move) in
       let free·ids : every (Abstract.freeFor (a .point) (s .records)) (a .records) ≡ every (freeFor (i .point) (st .records)) (i .entries)
       = ap₂ (λ (p : ℕ) (rs : List Abstract.Completion). every (Abstract.freeFor p rs) (a .records)) (L .point) (A .traced .records)
       ∙ free-same zs (i .point) (st .records) (i .entries) (a .records) (L .records) in
       let full : ltb clientCount (length (mergeFloors (a .floors) (s .floors))) ≡ ltb clientCount (length (mergeFloors (i .floors) (st .floors)))
       = ap₂ (λ (fs gs : List Floor). ltb clientCount (length (mergeFloors fs gs))) (L .floors) (A .traced .floors) in
       rw r2
-      (if-like wrongDestination (not (eqb (i .destination) (st .server))) _ _ _ (ap not here)
-      (λ e. if-like oldMove (leb (i .number) (x .number)) _ _ _ old
-      (λ f. if-like alreadyHeld (isHeld x || not (every (freeFor (i .point) (st .records)) (i .entries))) _ _ _
+      (if-like wrongDestination refl _ (not (eqb (i .destination) (st .server))) _ _ _ (ap not here)
+      (λ e. if-like oldMove refl _ (leb (i .moveNumber) (x .moveNumber)) _ _ _ old
+      (λ f. if-like alreadyHeld refl _ (isHeld x || not (every (freeFor (i .point) (st .records)) (i .entries))) _ _ _
       (ap₂ _||_ (held-same zs x (s .points (a .point) .holding) (P .holding)) (ap not free·ids))
-      (λ k. if-like clientsFull (ltb clientCount (length (mergeFloors (i .floors) (st .floors)))) _ _ _ full
-      (λ h. if-like logFull (ltb free (takeHead + imageLength i)) _ (append (took i)) _ (room-same (ltb free (takeHead + imageLength i)))
+      (λ k. if-like clientsFull refl _ (ltb clientCount (length (mergeFloors (i .floors) (st .floors)))) _ _ _ full
+      (λ h. if-like logFull refl _ (ltb free (takeHead + imageLength i)) _ (append (took i)) _ (room-same (ltb free (takeHead + imageLength i)))
       (λ o. Acts.wrote (took i) _ (Likeness.took i a L)))))))

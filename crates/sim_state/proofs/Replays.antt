@@ -127,16 +127,16 @@ traced-founded plan c n =
 -- ---- a log grown by one entry
 
 module _ (z : Pair) (zs : List Pair) where
-  point-grow : (x : Point) (y : Abstract.Point) → x .gave < z .entry .end → x .took < z .entry .end → PointTraced zs x y → PointTraced (z ∷ zs) x y
+  point-grow : (x : Point) (y : Abstract.Point) → x .giveEnd < z .entry .end → x .takeEnd < z .entry .end → PointTraced zs x y → PointTraced (z ∷ zs) x y
   unfolding holdingOf
   point-grow x y g k P =
       record {
         like =
             record {
-              holding = rw (place-old z zs (x .gave) g) (P .like .holding);
+              holding = rw (place-old z zs (x .giveEnd) g) (P .like .holding);
               move = P .like .move;
               taken = P .like .taken;
-              takenPlace = rw (place-old z zs (x .took) k) (P .like .takenPlace);
+              takenPlace = rw (place-old z zs (x .takeEnd) k) (P .like .takenPlace);
               value = P .like .value;
             };
         gave = λ e. older (P .gave e);
@@ -153,7 +153,7 @@ module _ (z : Pair) (zs : List Pair) where
         points =
             λ (p : ℕ) (l : p ≤ lastPoint).
             let P = S .point p l in
-            point-grow (pointAt st p) (s .points p) (omega (arith, P .gave .within)) (omega (arith, P .took .within)) (T .points p l);
+            point-grow (pointAt st p) (s .points p) (omega (arith, P .giveEnd .within)) (omega (arith, P .takeEnd .within)) (T .points p l);
         floors = T .floors;
         records =
             T .records
@@ -167,7 +167,7 @@ module _ (z : Pair) (zs : List Pair) where
 
 count-next : (s : Abstract.State) (a : Abstract.LogRecord) (t : ℕ) → Abstract.applyRecord s a t .count ≡ suc (s .count)
 unfolding Abstract.applyRecord
-count-next s (Abstract.executed k d r) t = refl
+count-next s (Abstract.executed v k d r) t = refl
 count-next s (Abstract.gone x y) t = refl
 count-next s (Abstract.gave p d m) t = refl
 count-next s (Abstract.took i) t = refl

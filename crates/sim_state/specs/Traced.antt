@@ -39,8 +39,8 @@ cutAt zs k = drop (lost zs k) zs
 -- a point, with the ends of its give and of its take in the log where they are used
 pub record PointTraced (zs : List Pair) (x : Point) (y : Abstract.Point) : Type 0 where
   pub like : PointLike zs x y
-  pub gave : x .status ≡ given → EndIn (x .gave) zs
-  pub took : x .taken ≢ 0 → EndIn (x .took) zs
+  pub gave : x .status ≡ given → EndIn (x .giveEnd) zs
+  pub took : x .takenMove ≢ 0 → EndIn (x .takeEnd) zs
 
 -- all but the count of records
 pub record Traced (zs : List Pair) (st : State) (s : Abstract.State) : Type 0 where

@@ -5,6 +5,7 @@ use mathlib.Core.Path.{_≡_}
 use mathlib.Core.List.{List, [], _∷_, _++_, map}
 use lib.ListN.{length}
 use lib.Dec.{eqb, leb}
+use Rattle.model.specs.Versions.{Version}
 use Rattle.model.specs.declared.Command.{Command}
 use Rattle.model.specs.declared.CommandResult.{CommandResult}
 use Rattle.model.specs.declared.Reading.{Reading}
@@ -24,13 +25,7 @@ use Rattle.model.specs.Logs as Logs
 use Rattle.model.specs.States.{State, pointAt}
 use Rattle.protocol.specs.Servers as Abstract
 
--- ---- commands and results
-
-unfoldable pub commandOfExecuted : Executed → Command
-commandOfExecuted x = record { client = x .client; call = x .call; op = x .op; point = x .point; argument = x .argument }
-
-unfoldable pub resultOfExecuted : Executed → ResultZ
-resultOfExecuted x = resultMeant (record { outcome = x .outcome; value = x .value; quality = x .quality })
+-- ---- values
 
 unfoldable pub readingOf : Point → ReadingZ
 readingOf x = readingMeant (record { value = x .value; quality = x .quality })
@@ -49,14 +44,14 @@ unfoldable pub doneOfEntry : ℕ → ImageEntry → Done
 doneOfEntry p e =
     record {
       cmd = record { client = e .client; call = e .call; op = e .op; point = p; argument = e .argument };
-      res = resultMeant (record { outcome = e .outcome; value = e .value; quality = e .quality });
+      res = resultMeant (e .result);
     }
 
 pub record ImageLike (i : Image) (a : Abstract.Image) : Type 0 where
   pub point : a .point ≡ i .point
   pub destination : a .destination ≡ i .destination
   pub source : a .source ≡ i .source
-  pub move : a .move ≡ i .number
+  pub move : a .move ≡ i .moveNumber
   pub heard : a .heard ≡ i .heard
   pub value : a .value ≡ readingMeant (record { value = i .value; quality = i .quality })
   pub floors : a .floors ≡ i .floors
@@ -65,11 +60,11 @@ pub record ImageLike (i : Image) (a : Abstract.Image) : Type 0 where
 -- ---- log records and logs
 
 pub data RecordLike : LogRecord → Abstract.LogRecord → Type 0 where
-  executed : (x : Executed) → RecordLike (Logs.executed x) (Abstract.executed (commandOfExecuted x) (x .done) (resultOfExecuted x))
+  executed : (v : Version) (x : Executed) → RecordLike (Logs.executed x) (Abstract.executed v (x .command) (x .done) (resultMeant (x .result)))
   gone : (n : Notice) → RecordLike (Logs.gone n) (Abstract.gone (n .client) (n .time))
-  gave : (g : Give) → RecordLike (Logs.gave g) (Abstract.gave (g .point) (g .destination) (g .number))
+  gave : (g : Give) → RecordLike (Logs.gave g) (Abstract.gave (g .point) (g .destination) (g .moveNumber))
   took : (i : Image) (a : Abstract.Image) → ImageLike i a → RecordLike (Logs.took i) (Abstract.took a)
-  released : (r : Release) → RecordLike (Logs.released r) (Abstract.freed (r .point) (r .number))
+  released : (r : Release) → RecordLike (Logs.released r) (Abstract.freed (r .point) (r .moveNumber))
 
 -- a log record of both worlds
 pub record Pair : Type 0 where
@@ -96,8 +91,8 @@ placeOf (z ∷ zs) k = pick (leb (z .entry .end) k) (suc (placeOf zs k)) (placeO
 unfoldable pub completionOf : List Pair → Completion → Abstract.Completion
 completionOf zs r =
     record {
-      cmd = record { client = r .client; call = r .call; op = r .op; point = r .point; argument = r .argument };
-      res = resultMeant (record { outcome = r .outcome; value = r .value; quality = r .quality });
+      cmd = r .command;
+      res = resultMeant (r .result);
       place = placeOf zs (r .end);
     }
 
@@ -105,14 +100,14 @@ completionOf zs r =
 unfoldable pub holdingOf : List Pair → Point → Abstract.Holding
 holdingOf zs x =
     pick (eqb (x .status) 1) Abstract.held
-    (pick (eqb (x .status) 2) (Abstract.given (x .destination) (placeOf zs (x .gave)))
+    (pick (eqb (x .status) 2) (Abstract.given (x .destination) (placeOf zs (x .giveEnd)))
     (pick (eqb (x .status) 3) Abstract.released Abstract.absent))
 
 pub record PointLike (zs : List Pair) (x : Point) (y : Abstract.Point) : Type 0 where
   pub holding : y .holding ≡ holdingOf zs x
-  pub move : y .move ≡ x .number
-  pub taken : y .taken ≡ x .taken
-  pub takenPlace : y .takenPlace ≡ placeOf zs (x .took)
+  pub move : y .move ≡ x .moveNumber
+  pub taken : y .taken ≡ x .takenMove
+  pub takenPlace : y .takenPlace ≡ placeOf zs (x .takeEnd)
   pub value : y .value ≡ readingOf x
 
 pub record StateLike (zs : List Pair) (st : State) (s : Abstract.State) : Type 0 where

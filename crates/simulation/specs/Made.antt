@@ -17,7 +17,6 @@ use Rattle.model.specs.Images.{Image}
 use Rattle.laws.specs.Fits.{IsPacket, IsImage}
 use Rattle.protocol.specs.Servers as Abstract
 use Rattle.protocol.specs.World.{askedIn}
-use Rattle.claim.specs.Claim.{resultIn}
 use Rattle.simulation.specs.Likeness.{ImageLike}
 
 -- a result packet says whose result it is: client, call and point
@@ -28,9 +27,9 @@ pub record ResultFor (r : ResultPacket) (k : Command) : Type 0 where
 
 pub data PacketLike (b : List ℕ) : Abstract.Packet → Type 0 where
   request : (q : Request) → IsPacket b (Requested q) → PacketLike b (Abstract.request (askedIn q))
-  answered : (r : ResultPacket) (k : Command) → IsPacket b (Resulted r) → ResultFor r k → PacketLike b (Abstract.answered k (resultMeant (resultIn r)))
-  refusal : (r : RefusalPacket) → IsPacket b (Refused r) → PacketLike b (Abstract.refusal (r .number) (r .point) (r .client) (r .call))
-  receipt : (r : Receipt) → IsPacket b (Receipted r) → PacketLike b (Abstract.receipt (r .point) (r .server) (r .number))
+  answered : (r : ResultPacket) (k : Command) → IsPacket b (Resulted r) → ResultFor r k → PacketLike b (Abstract.answered k (resultMeant (r .result)))
+  refusal : (r : RefusalPacket) → IsPacket b (Refused r) → PacketLike b (Abstract.refusal (r .refusal) (r .point) (r .client) (r .call))
+  receipt : (r : Receipt) → IsPacket b (Receipted r) → PacketLike b (Abstract.receipt (r .point) (r .server) (r .moveNumber))
   notice : (n : Notice) → IsPacket b (Noticed n) → PacketLike b (Abstract.notice (n .client) (n .time))
   grant : (g : Grant) → IsPacket b (Granted g) → PacketLike b (Abstract.grant (g .client) (g .lease))
   image : (i : Image) (a : Abstract.Image) → IsImage b i → ImageLike i a → PacketLike b (Abstract.image a)

@@ -4,15 +4,9 @@ use Prim.Native.Nat.{ℕ}
 use mathlib.Core.Bool.{Bool, _&&_}
 use mathlib.Core.List.{List}
 use lib.Dec.{eqb, leb}
-use Rattle.model.specs.declared.Point.{Point}
-use Rattle.model.specs.Choice.{pick}
 use Rattle.model.specs.Numbers.{byteAt, le32At, zeros3At}
 use Rattle.model.specs.States.{clientsIn, recordsIn}
 use Rattle.model.specs.Limits.{clientCount, recordCount}
-
--- the take's end is 0 exactly where the latest taken move is
-unfoldable pub tookOk : Point → Bool
-tookOk x = pick (eqb (x .taken) 0) (eqb (x .took) 0) (leb 1 (x .took))
 
 -- the magic, the zero bytes and the counts of the head
 unfoldable pub headFramed : List ℕ → Bool

@@ -1,44 +1,26 @@
 // Tests of the parts of a server's state buffer, each at its place: rows of zeros, the plan, the points, the clients.
-use image_rows::FLOOR_ROW;
 use model::PlanEntry;
 use model::Point;
-use state_rows::CLIENT_COUNT;
-use state_rows::FLOORS_START;
-use state_rows::POINT_COUNT;
-use state_rows::POINT_ROW;
-use state_rows::RECORD_COUNT;
-use state_rows::RECORD_ROW;
-use state_rows::RECORDS_START;
+use model::constants;
+use model::constants::CLIENT_COUNT;
+use model::constants::FLOOR_ROW;
+use model::constants::FLOORS_START;
+use model::constants::PLAN_ROW;
+use model::constants::POINT_COUNT;
+use model::constants::POINT_ROW;
+use model::constants::RECORD_COUNT;
+use model::constants::RECORD_ROW;
+use model::constants::RECORDS_START;
 ghost use mathlib.Core.Path.{_≡_};
-ghost use Prim.Native.Nat.{_+_, _*_, _≤_};
+ghost use Prim.Native.Nat.{suc, _+_, _*_, _≤_};
 ghost use lib.ListN.{length, drop};
+ghost use lib.Dec.{eqb};
 ghost use Rattle.model.specs.Tables.{rows, everyRow, every, zeros};
 ghost use Rattle.model.specs.Plan.{planEntryOf, planRowOk};
 ghost use Rattle.model.specs.Images.{floorOfBytes, floorOk, clientsAscend};
-ghost use Rattle.model.specs.States.{recordRow, pointRow, pointOf, endOk, giveFieldsOk, takeFieldsOk, pointOk, pointsOk, pointRowOk, stateFramed};
+ghost use Rattle.model.specs.States.{recordRow, pointRow, pointOf, endOk, notGiven, originOk, absentOk, heldOk, givenOk, statusOk, pointOk, pointsOk, keepsRecords, pointRowOk, stateFramed};
 ghost use Rattle.model.specs.Limits.{floorRow, planRow, pointCount};
-ghost use Rattle.sound_rows.specs.Parts.{tookOk, headFramed};
-
-// ---- limits
-
-// The four bytes that open a state's buffer: 57 53 54 31.
-const MAGIC: [u8; 4] = *b"WST1";
-
-// The most clients and completion records, as counts in the head.
-const LAST_CLIENTS: u32 = 32;
-
-const LAST_RECORDS: u32 = 512;
-
-// Bytes of an entry of the plan.
-pub const PLAN_ROW: usize = 16;
-
-// A point's greatest status, and the least that has a destination.
-const LAST_STATUS: u8 = 3;
-
-const GIVEN: u8 = 2;
-
-// Bytes of the log's head: no record ends there or before.
-pub const HEAD_SIZE: u64 = 8;
+ghost use Rattle.sound_rows.specs.Parts.{headFramed};
 
 // ---- rows of zeros
 
@@ -111,13 +93,14 @@ fn head_framed(s: &[u8]) -> bool
     let word = wire::read_u32(s, 20);
     let clients = state_rows::clients_in(s);
     let records = state_rows::records_in(s);
-    (s[0] == MAGIC[0])
-        & ((s[1] == MAGIC[1])
-            & ((s[2] == MAGIC[2])
-                & ((s[3] == MAGIC[3])
+    (s[0] == constants::STATE_MAGIC[0])
+        & ((s[1] == constants::STATE_MAGIC[1])
+            & ((s[2] == constants::STATE_MAGIC[2])
+                & ((s[3] == constants::STATE_MAGIC[3])
                     & (zeros
                         & ((word == 0)
-                            & ((clients <= LAST_CLIENTS) & (records <= LAST_RECORDS)))))))
+                            & ((clients <= constants::CLIENT_COUNT_U32)
+                                & (records <= constants::RECORD_COUNT_U32)))))))
 }
 
 // The head, and the rows past both counts.
@@ -182,37 +165,74 @@ pub fn point_rows_ok(s: &[u8], at: usize) -> bool
 fn end_ok(size: u64, end: u64) -> bool
     ensures { λ r. ⌜ r ≡ endOk size end ⌝ }
 {
-    (end == 0) | ((HEAD_SIZE < end) & (end <= size))
+    (end == 0) | ((constants::HEAD_SIZE_U64 < end) & (end <= size))
 }
 
-// A given or released point has a destination and the give's end; another has neither.
-fn give_fields_ok(server: u8, x: Point) -> bool
-    ensures { λ r. ⌜ r ≡ giveFieldsOk server x ⌝ }
+// Neither destination nor give.
+fn not_given(x: Point) -> bool
+    ensures { λ r. ⌜ r ≡ notGiven x ⌝ }
 {
-    if GIVEN <= x.status {
-        (1 <= x.number) & ((x.destination != server) & (1 <= x.gave))
+    (x.destination == 0) & (x.giveEnd == 0)
+}
+
+// Never taken: founded here; else the take has an end.
+fn origin_ok(server: u8, e: PlanEntry, x: Point) -> bool
+    ensures { λ r. ⌜ r ≡ originOk server e x ⌝ }
+{
+    if x.takenMove == 0 {
+        (x.takeEnd == 0) & (e.home == server)
     } else {
-        (x.destination == 0) & (x.gave == 0)
+        1 <= x.takeEnd
     }
 }
 
-// The take's end is 0 exactly where the latest taken move is.
-fn took_ok(x: Point) -> bool
-    ensures { λ r. ⌜ r ≡ tookOk x ⌝ }
+// Absent: as founding left it.
+fn absent_ok(server: u8, e: PlanEntry, x: Point) -> bool
+    ensures { λ r. ⌜ r ≡ absentOk server e x ⌝ }
 {
-    if x.taken == 0 {
-        x.took == 0
-    } else {
-        1 <= x.took
-    }
+    let none = not_given(x);
+    (e.home != server)
+        & ((x.value == e.fallback)
+            & ((x.quality == 1)
+                & ((x.moveNumber == 0) & ((x.takenMove == 0) & ((x.takeEnd == 0) & none)))))
 }
 
-// A point was taken or never was.
-fn take_fields_ok(x: Point) -> bool
-    ensures { λ r. ⌜ r ≡ takeFieldsOk x ⌝ }
+// Held: since founding, or taken with just this move.
+fn held_ok(server: u8, e: PlanEntry, x: Point) -> bool
+    ensures { λ r. ⌜ r ≡ heldOk server e x ⌝ }
 {
-    let took = took_ok(x);
-    (x.taken <= x.number) & took
+    let none = not_given(x);
+    let origin = origin_ok(server, e, x);
+    (x.moveNumber == x.takenMove) & (none & origin)
+}
+
+// Number is the one after n.
+fn is_next(number: u32, n: u32) -> bool
+    ensures { λ r. ⌜ r ≡ eqb number (suc n) ⌝ }
+{
+    number as u64 == n as u64 + 1
+}
+
+// Given or released: to another server, by the move and the log record after those of being held.
+fn given_ok(server: u8, e: PlanEntry, x: Point) -> bool
+    ensures { λ r. ⌜ r ≡ givenOk server e x ⌝ }
+{
+    let next = is_next(x.moveNumber, x.takenMove);
+    let origin = origin_ok(server, e, x);
+    next & ((x.destination != server) & ((x.takeEnd < x.giveEnd) & origin))
+}
+
+// What a point's status says of its other fields.
+fn status_ok(server: u8, e: PlanEntry, x: Point) -> bool
+    ensures { λ r. ⌜ r ≡ statusOk server e x ⌝ }
+{
+    if x.status == constants::ABSENT {
+        return absent_ok(server, e, x);
+    }
+    if x.status == constants::HELD {
+        return held_ok(server, e, x);
+    }
+    given_ok(server, e, x)
 }
 
 // A point against its entry of the plan.
@@ -220,13 +240,12 @@ fn point_ok(server: u8, size: u64, e: PlanEntry, x: Point) -> bool
     ensures { λ r. ⌜ r ≡ pointOk server size e x ⌝ }
 {
     let value = command::in_range(e, x.value);
-    let gave = end_ok(size, x.gave);
-    let took = end_ok(size, x.took);
-    let gives = give_fields_ok(server, x);
-    let takes = take_fields_ok(x);
-    (x.status <= LAST_STATUS)
-        & ((x.quality <= wire::LAST_QUALITY)
-            & ((x.destination <= wire::LAST_SERVER) & (value & (gave & (took & (gives & takes))))))
+    let gave = end_ok(size, x.giveEnd);
+    let took = end_ok(size, x.takeEnd);
+    let status = status_ok(server, e, x);
+    (x.status <= constants::LAST_STATUS)
+        & ((x.quality <= constants::LAST_QUALITY)
+            & ((x.destination <= constants::LAST_SERVER) & (value & (gave & (took & status)))))
 }
 
 // The point from k against its entry of the plan from j.
@@ -252,6 +271,14 @@ pub fn points_ok(s: &[u8], plan: usize, at: usize, server: u8, size: u64) -> boo
         i += 1;
     }
     true
+}
+
+// The point from k is held, or given and not released: its completion records stay.
+pub fn keeps_records(s: &[u8], k: usize) -> bool
+    requires { ⌜ k + 32 ≤ length (now s) ⌝ }
+    ensures { λ r. ⌜ r ≡ keepsRecords (pointOf (drop k (now (s .entry)))) ⌝ }
+{
+    (s[k] == constants::HELD) | (s[k] == constants::GIVEN)
 }
 
 // ---- the clients

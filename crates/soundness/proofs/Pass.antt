@@ -1,47 +1,60 @@
 -- The pass over the completion records. The loop keeps `Pass`: the records from i on and the marks decide the answer x.
---     pass-start, pass-next, pass-bad, pass-seen, pass-end     the loop starts, goes on, stops at a record that fails or that has an id of
---                                                              an earlier one, ends
+--     pass-start, pass-next, pass-fell, pass-bad, pass-seen, pass-end     the loop starts, goes on, stops at a record whose end fell, that
+--                                                              fails or that has an id of an earlier one, ends
 -- Assumes nothing.
 use Prim.Native.Nat.{ℕ, _+_, _-_, _*_, _≤_, _<_}
-use mathlib.Core.Path.{_≡_, refl, sym, _∙_}
+use mathlib.Core.Path.{_≡_, refl, sym, ap, _∙_}
 use mathlib.Core.Bool.{Bool, true, false, _&&_}
-use mathlib.Core.List.{List}
+use mathlib.Core.List.{List, _∷_}
 use native.Mathlib.Omega.{arith}
 use native.Mathlib.Nat.{sub-zero}
 use lib.ListN.{length, getD, set, drop, replicate, length-set, length-replicate}
 use lib.Dec.{eqb}
-use borrow.Author.Tests.{eq-eqb, ne-eqb}
+use borrow.Author.Tests.{eq-eqb, ne-eqb, lt-leb, le-leb}
 use Rattle.model.specs.declared.Completion.{Completion}
 use Rattle.model.specs.Choice.{pick}
 use Rattle.model.specs.Tables.{rows, every}
 use Rattle.model.specs.Images.{floorOfBytes, clientsAscend}
-use Rattle.model.specs.States.{State, clientsIn, recordsIn, completionOf, load, completionOk, idsDiffer}
+use Rattle.model.specs.States.{State, clientsIn, recordsIn, completionOf, load, completionOk, idsDiffer, endsFrom}
 use Rattle.laws.proofs.Tables.{length-rows, rows-cons}
 use Rattle.limits.specs.Sound.{Ascending}
 use Rattle.limits.proofs.Tests.{ascends}
-use Rattle.soundness.specs.Slots.{slotIn, testedSlot, isFree, slotsPass}
-use Rattle.soundness.proofs.Slots.{slot-few, slots-start}
+use Rattle.soundness.specs.Slots.{slotIn, testedSlot, isFree, recordsPass, recordsOk}
+use Rattle.soundness.proofs.Slots.{slot-few, slots-start, pass-order}
 
-abbrev pub recordsAnswer : List ℕ → Bool
-recordsAnswer s = every (completionOk (load s)) (load s .records) && idsDiffer (load s .records)
-
-pub record Pass (s : List ℕ) (m : ℕ) (x : Bool) (marks : List ℕ) (i : ℕ) : Type 0 where
+-- last is the latest end
+pub record Pass (s : List ℕ) (m : ℕ) (x : Bool) (marks : List ℕ) (last i : ℕ) : Type 0 where
   pub below : i ≤ m
   pub long : length marks ≡ 512
-  pub rest : x ≡ slotsPass (load s) marks (rows completionOf 28 (m - i) (drop (3368 + 28 * i) s))
+  pub rest : x ≡ recordsPass (load s) last marks (rows completionOf 28 (m - i) (drop (3368 + 28 * i) s))
 
 few : (s : List ℕ) {n : ℕ} → n ≡ clientsIn s → n ≤ 32 → length (load s .floors) ≤ 32
 unfolding load
 few s a h = rw (length-rows floorOfBytes 8 (clientsIn s) (drop 3112 s), ← a) h
 
-pub pass-start : (s : List ℕ) {m n : ℕ} → m ≡ recordsIn s → n ≡ clientsIn s → n ≤ 32 → clientsAscend (rows floorOfBytes 8 n (drop 3112 s)) ≡ true → Pass s m (recordsAnswer s) (replicate 512 0) 0
-unfolding load
+reordered : (a b c : Bool) → (a && (b && c)) ≡ (c && (a && b))
+reordered true true true = refl
+reordered true true false = refl
+reordered true false true = refl
+reordered true false false = refl
+reordered false b true = refl
+reordered false b false = refl
+
+pub pass-start : (s : List ℕ) {m n : ℕ} → m ≡ recordsIn s → n ≡ clientsIn s → n ≤ 32 → clientsAscend (rows floorOfBytes 8 n (drop 3112 s)) ≡ true
+    → Pass s m (recordsOk (load s)) (replicate 512 0) 8 0
+unfolding load recordsOk
 pass-start s {m} b a h c =
-    let order : Ascending (load s .floors) = ascends (load s .floors) (rw (← a) c) in
+    let st = load s in
+    let rs : List Completion = st .records in
+    let order : Ascending (st .floors) = ascends (st .floors) (rw (← a) c) in
+    let all : recordsPass st 8 (replicate 512 0) rs ≡ (every (completionOk st) rs && (idsDiffer rs && endsFrom 8 rs)) =
+    pass-order st 8 (replicate 512 0) rs
+    ∙ ap (_&&_ (endsFrom 8 rs)) (slots-start st order (few s a h) rs)
+    ∙ sym (reordered (every (completionOk st) rs) (idsDiffer rs) (endsFrom 8 rs)) in
     record {
       below = omega arith;
       long = length-replicate {A = ℕ} 512 0;
-      rest = rw (sub-zero, b) (sym (slots-start (load s) order (few s a h) (load s .records)));
+      rest = rw (sub-zero, b) (sym all);
     }
 
 -- a tested slot, taken apart
@@ -61,31 +74,54 @@ tested-bad st f r {slot} e h = step (completionOk st r) refl e
     step true p q = absurd (omega (arith, slot-few st f r p))
     step false p q = refl
 
-module _ {s : List ℕ} {m : ℕ} {x : Bool} {marks : List ℕ} {i : ℕ} (o : Pass s m x marks i) where
+-- one record of the pass
+module _ (st : State) {last end : ℕ} (marks : List ℕ) (r : Completion) (rs : List Completion) (u : end ≡ r .end) where
+  fell-step : end < last → recordsPass st last marks (r ∷ rs) ≡ false
+  unfolding recordsPass
+  fell-step l = let k : r .end < last = omega arith in rw (lt-leb last (r .end) k)
+
+  bad-step : completionOk st r ≡ false → last ≤ end → recordsPass st last marks (r ∷ rs) ≡ false
+  unfolding recordsPass
+  bad-step e l = let k : last ≤ r .end = omega arith in rw (le-leb last (r .end) k, e)
+
+  good-step : {slot : ℕ} → completionOk st r ≡ true → slot ≡ slotIn st r → last ≤ end
+      → recordsPass st last marks (r ∷ rs) ≡ (eqb (getD marks slot 0) 0 && recordsPass st end (set marks slot 1) rs)
+  unfolding recordsPass isFree
+  good-step e q l = let k : last ≤ r .end = omega arith in rw (u, q, le-leb last (r .end) k, e)
+
+module _ {s : List ℕ} {m : ℕ} {x : Bool} {marks : List ℕ} {last i : ℕ} (o : Pass s m x marks last i) where
   pub pass-end : m ≤ i → true ≡ x
-  unfolding slotsPass rows
+  unfolding recordsPass rows
   pass-end h = let e : m - i ≡ 0 = omega arith in sym (o .rest ∙ rw e)
 
-  module _ (h : i < m) {slot : ℕ} (p : slot ≡ testedSlot (load s) (completionOf (drop (3368 + 28 * i) s))) where
-    pub pass-bad : {n : ℕ} → n ≡ clientsIn s → n ≤ 32 → 512 ≤ slot → false ≡ x
-    unfolding slotsPass
-    pass-bad a f g =
-        sym (o .rest ∙ rw (rows-cons completionOf 28 s 3368 i m h, tested-bad (load s) (few s a f) (completionOf (drop (3368 + 28 * i) s)) p g))
+  module _ (h : i < m) {end : ℕ} (u : end ≡ completionOf (drop (3368 + 28 * i) s) .end) where
+    abbrev first : Completion
+    first = completionOf (drop (3368 + 28 * i) s)
 
-    module _ (g : slot < 512) where
-      stepped : x ≡ (eqb (getD marks slot 0) 0 && slotsPass (load s) (set marks slot 1) (rows completionOf 28 (m - (i + 1)) (drop (3368 + 28 * (i + 1)) s)))
-      unfolding slotsPass isFree
-      stepped =
-          let t = tested-ok (load s) (completionOf (drop (3368 + 28 * i) s)) p g in
-          o .rest ∙ rw (rows-cons completionOf 28 s 3368 i m h, t .0, ← t .1)
+    abbrev more : List Completion
+    more = rows completionOf 28 (m - (i + 1)) (drop (3368 + 28 * (i + 1)) s)
 
-      pub pass-seen : (getD marks slot 0 ≡ 0 → ⊥) → false ≡ x
-      pass-seen q = sym (stepped ∙ rw (ne-eqb (getD marks slot 0) 0 q))
+    opened : x ≡ recordsPass (load s) last marks (first ∷ more)
+    opened = o .rest ∙ rw (rows-cons completionOf 28 s 3368 i m h)
 
-      pub pass-next : getD marks slot 0 ≡ 0 → Pass s m x (set marks slot 1) (i + 1)
-      pass-next q =
-          record {
-            below = omega arith;
-            long = length-set marks slot 1 ∙ o .long;
-            rest = stepped ∙ rw (eq-eqb (getD marks slot 0) 0 q);
-          }
+    pub pass-fell : end < last → false ≡ x
+    pass-fell l = sym (opened ∙ fell-step (load s) marks first more u l)
+
+    module _ (l : last ≤ end) {slot : ℕ} (p : slot ≡ testedSlot (load s) (completionOf (drop (3368 + 28 * i) s))) where
+      pub pass-bad : {n : ℕ} → n ≡ clientsIn s → n ≤ 32 → 512 ≤ slot → false ≡ x
+      pass-bad a f g = sym (opened ∙ bad-step (load s) marks first more u (tested-bad (load s) (few s a f) first p g) l)
+
+      module _ (g : slot < 512) where
+        stepped : x ≡ (eqb (getD marks slot 0) 0 && recordsPass (load s) end (set marks slot 1) more)
+        stepped = let t = tested-ok (load s) first p g in opened ∙ good-step (load s) marks first more u (t .0) (t .1) l
+
+        pub pass-seen : (getD marks slot 0 ≡ 0 → ⊥) → false ≡ x
+        pass-seen q = sym (stepped ∙ rw (ne-eqb (getD marks slot 0) 0 q))
+
+        pub pass-next : getD marks slot 0 ≡ 0 → Pass s m x (set marks slot 1) end (i + 1)
+        pass-next q =
+            record {
+              below = omega arith;
+              long = length-set marks slot 1 ∙ o .long;
+              rest = stepped ∙ rw (eq-eqb (getD marks slot 0) 0 q);
+            }

@@ -1,8 +1,9 @@
 -- One completion record, as `record_slot` walks its test.
 --     ok-parts     completionOk in the order of the code
---     slot-fields, slot-range, slot-window, slot-all     what each exit answers
+--     above-few    a call in its window is at most 15 above the floor
+--     slot-fields, slot-range, slot-point, slot-window, slot-all     what each exit answers
 -- Assumes nothing.
-use Prim.Native.Nat.{ℕ, _+_, _-_, _*_, _<_}
+use Prim.Native.Nat.{ℕ, _+_, _-_, _*_, _≤_, _<_}
 use mathlib.Core.Path.{_≡_, refl, sym, _∙_}
 use mathlib.Core.Bool.{Bool, true, false, _&&_, not, and-assoc}
 use mathlib.Core.List.{List, [], _∷_}
@@ -17,43 +18,54 @@ use Rattle.model.specs.Numbers.{le64At}
 use Rattle.model.specs.Limits.{headSize}
 use Rattle.model.specs.Tables.{rows}
 use Rattle.model.specs.Plan.{planEntryOf, noEntry, entryAt, inRange}
-use Rattle.model.specs.Rules.{argumentOk}
 use Rattle.model.specs.Packets.{idOk, commandOk, outcomeOk}
 use Rattle.model.specs.Images.{floorOfBytes, floorOf, inWindow}
-use Rattle.model.specs.States.{State, clientsIn, completionOf, load, completionOk}
+use Rattle.model.specs.States.{State, pointAt, noPoint, pointOf, clientsIn, completionOf, load, keepsRecords, completionOk}
 use Rattle.laws.proofs.Tests.{joined-all}
+use Rattle.laws.proofs.Commands.{command-parts}
 use Rattle.laws.proofs.Tables.{getD-rows}
+use Rattle.limits.proofs.Tests.{in-window}
 use Rattle.floors.specs.Places.{placeOf, noFloor}
 use Rattle.floors.proofs.Search.{floor-found, slot-found}
 use Rattle.soundness.specs.Slots.{fieldsOk, slotIn, testedSlot}
 
--- the fourth and the last of seven tests after the others
-moved : (a b c d e f g : Bool) → (a && (b && (c && (d && (e && (f && g)))))) ≡ ((a && (b && (c && (e && f)))) && (d && g))
-moved false b c d e f g = refl
-moved true false c d e f g = refl
-moved true true false d e f g = refl
-moved true true true true e f g = sym (and-assoc e f g)
-moved true true true false true true g = refl
-moved true true true false true false g = refl
-moved true true true false false f g = refl
+pub above-few : {w : Bool} (floor call : ℕ) → w ≡ inWindow floor call → not w ≡ false → call - floor ≤ 15
+above-few floor call e h = let i = in-window floor call (sym e ∙ not-false _ h) in omega (arith, i .high)
+
+-- the fourth, the fifth and the last of eight tests after the others
+moved : (a b c d e f g h : Bool) → (a && (b && (c && (d && (e && (f && (g && h))))))) ≡ ((a && (b && (c && (f && g)))) && (d && (e && h)))
+moved false b c d e f g h = refl
+moved true false c d e f g h = refl
+moved true true false d e f g h = refl
+moved true true true true true f g h = sym (and-assoc f g h)
+moved true true true true false true true h = refl
+moved true true true true false true false h = refl
+moved true true true true false false g h = refl
+moved true true true false e true true h = refl
+moved true true true false e true false h = refl
+moved true true true false e false g h = refl
 
 pub ok-parts : (st : State) (r : Completion)
-    → completionOk st r ≡ (fieldsOk (st .size) r && (inRange (entryAt (st .plan) (r .point)) (r .value) && inWindow (floorOf (r .client) (st .floors)) (r .call)))
+    → completionOk st r
+    ≡ (fieldsOk (st .size) r
+    && (inRange (entryAt (st .plan) (r .command .point)) (r .result .value) && (keepsRecords (pointAt st (r .command .point)) && inWindow (floorOf (r .command .client) (st .floors)) (r .command .call))))
 unfolding completionOk fieldsOk
 ok-parts st r =
-    moved (commandOk (r .op) (r .point) (r .argument)) (outcomeOk (r .outcome) (r .quality)) (idOk (r .client) (r .call)) (inRange (entryAt (st .plan) (r .point)) (r .value))
-    (ltb headSize (r .end)) (leb (r .end) (st .size)) (inWindow (floorOf (r .client) (st .floors)) (r .call))
+    moved (commandOk (r .command .op) (r .command .point) (r .command .argument)) (outcomeOk (r .result .outcome) (r .result .quality)) (idOk (r .command .client) (r .command .call)) (inRange (entryAt (st .plan) (r .command .point)) (r .result .value))
+    (keepsRecords (pointAt st (r .command .point))) (ltb headSize (r .end)) (leb (r .end) (st .size)) (inWindow (floorOf (r .command .client) (st .floors)) (r .command .call))
 
 -- a record whose fields pass names a point of the plan
-point-known : (size : ℕ) (r : Completion) → fieldsOk size r ≡ true → r .point < 64
-unfolding fieldsOk commandOk
+point-known : (size : ℕ) (r : Completion) → fieldsOk size r ≡ true → r .command .point < 64
+unfolding fieldsOk
 point-known size r e =
-    let command : commandOk (r .op) (r .point) (r .argument) ≡ true =
-    joined-all (commandOk (r .op) (r .point) (r .argument) ∷ outcomeOk (r .outcome) (r .quality) ∷ idOk (r .client) (r .call) ∷ ltb headSize (r .end) ∷ leb (r .end) size ∷ []) e .0 in
-    omega (arith, leb-true (r .point) 63 (joined-all (leb (r .op) 5 ∷ leb (r .point) 63 ∷ argumentOk (r .op) (r .argument) ∷ []) command .1 .0))
+    let command : commandOk (r .command .op) (r .command .point) (r .command .argument) ≡ true =
+    joined-all (commandOk (r .command .op) (r .command .point) (r .command .argument) ∷ outcomeOk (r .result .outcome) (r .result .quality) ∷ idOk (r .command .client) (r .command .call) ∷ ltb headSize (r .end) ∷ leb (r .end) size ∷ []) e .0 in
+    omega (arith, command-parts (r .command .op) (r .command .point) (r .command .argument) command .point)
 
 module _ (s : List ℕ) (k : ℕ) {n size : ℕ} (a : n ≡ clientsIn s) (b : size ≡ le64At s 24) {r : Completion} (p : r ≡ completionOf (drop k s)) {u : Bool} (f : u ≡ fieldsOk size r) where
-  parts : completionOk (load s) r ≡ (u && (inRange (entryAt (load s .plan) (r .point)) (r .value) && inWindow (floorOf (r .client) (rows floorOfBytes 8 n (drop 3112 s))) (r .call)))
+  parts : completionOk (load s) r
+      ≡ (u && (inRange (entryAt (load s .plan) (r .command .point)) (r .result .value)
+      && (keepsRecords (pointAt (load s) (r .command .point)) && inWindow (floorOf (r .command .client) (rows floorOfBytes 8 n (drop 3112 s))) (r .command .call))))
   unfolding load
   parts = ok-parts (load s) r ∙ rw (f, a, b)
 
@@ -65,27 +77,38 @@ module _ (s : List ℕ) (k : ℕ) {n size : ℕ} (a : n ≡ clientsIn s) (b : si
   slot-fields g = failed (parts ∙ rw (not-true u g))
 
   module _ (g : not u ≡ false) where
-    pub point-below : r .point < 64
+    pub point-below : r .command .point < 64
     point-below = point-known size r (sym f ∙ not-false u g)
 
-    module _ {e : PlanEntry} (q : e ≡ planEntryOf (drop (40 + 16 * r .point) s)) {v : Bool} (h : v ≡ inRange e (r .value)) where
-      entry-is : entryAt (load s .plan) (r .point) ≡ e
+    module _ {e : PlanEntry} (q : e ≡ planEntryOf (drop (40 + 16 * r .command .point) s)) {v : Bool} (h : v ≡ inRange e (r .result .value)) where
+      entry-is : entryAt (load s .plan) (r .command .point) ≡ e
       unfolding load entryAt
-      entry-is = rw (getD-rows planEntryOf 16 64 (drop 40 s) (r .point) noEntry point-below, drop-drop) (sym q)
+      entry-is = rw (getD-rows planEntryOf 16 64 (drop 40 s) (r .command .point) noEntry point-below, drop-drop) (sym q)
 
-      parts-2 : completionOk (load s) r ≡ (v && inWindow (floorOf (r .client) (rows floorOfBytes 8 n (drop 3112 s))) (r .call))
+      parts-2 : completionOk (load s) r ≡ (v && (keepsRecords (pointAt (load s) (r .command .point)) && inWindow (floorOf (r .command .client) (rows floorOfBytes 8 n (drop 3112 s))) (r .command .call)))
       parts-2 = parts ∙ rw (not-false u g, entry-is, ← h)
 
       pub slot-range : not v ≡ true → 512 ≡ testedSlot (load s) (completionOf (drop k s))
       slot-range m = failed (parts-2 ∙ rw (not-true v m))
 
-      module _ (m : not v ≡ false) {i y : ℕ} (x : i ≡ placeOf (r .client) (rows floorOfBytes 8 n (drop 3112 s))) (z : y ≡ getD (rows floorOfBytes 8 n (drop 3112 s)) i noFloor .floor) {t : Bool} (l : t ≡ inWindow y (r .call)) where
-        parts-3 : completionOk (load s) r ≡ t
-        parts-3 = parts-2 ∙ rw (not-false v m, ← floor-found (r .client) (rows floorOfBytes 8 n (drop 3112 s)) x z, ← l)
+      module _ (m : not v ≡ false) {w : Bool} (j : w ≡ keepsRecords (pointOf (drop (1064 + 32 * r .command .point) s))) where
+        point-is : pointAt (load s) (r .command .point) ≡ pointOf (drop (1064 + 32 * r .command .point) s)
+        unfolding load pointAt
+        point-is = rw (getD-rows pointOf 32 64 (drop 1064 s) (r .command .point) noPoint point-below, drop-drop)
 
-        pub slot-window : not t ≡ true → 512 ≡ testedSlot (load s) (completionOf (drop k s))
-        slot-window o = failed (parts-3 ∙ not-true t o)
+        parts-3 : completionOk (load s) r ≡ (w && inWindow (floorOf (r .command .client) (rows floorOfBytes 8 n (drop 3112 s))) (r .command .call))
+        parts-3 = parts-2 ∙ rw (not-false v m, point-is, ← j)
 
-        pub slot-all : not t ≡ false → {d : ℕ} → d ≡ r .call - y → 16 * i + d ≡ testedSlot (load s) (completionOf (drop k s))
-        unfolding testedSlot slotIn load
-        slot-all o c = slot-found (rows floorOfBytes 8 n (drop 3112 s)) (r .client) (r .call) x z c ∙ rw (← p, parts-3, not-false t o, a)
+        pub slot-point : not w ≡ true → 512 ≡ testedSlot (load s) (completionOf (drop k s))
+        slot-point o = failed (parts-3 ∙ rw (not-true w o))
+
+        module _ (o : not w ≡ false) {i y : ℕ} (x : i ≡ placeOf (r .command .client) (rows floorOfBytes 8 n (drop 3112 s))) (z : y ≡ getD (rows floorOfBytes 8 n (drop 3112 s)) i noFloor .floor) {t : Bool} (l : t ≡ inWindow y (r .command .call)) where
+          parts-4 : completionOk (load s) r ≡ t
+          parts-4 = parts-3 ∙ rw (not-false w o, ← floor-found (r .command .client) (rows floorOfBytes 8 n (drop 3112 s)) x z, ← l)
+
+          pub slot-window : not t ≡ true → 512 ≡ testedSlot (load s) (completionOf (drop k s))
+          slot-window d = failed (parts-4 ∙ not-true t d)
+
+          pub slot-all : not t ≡ false → {d : ℕ} → d ≡ r .command .call - y → 16 * i + d ≡ testedSlot (load s) (completionOf (drop k s))
+          unfolding testedSlot slotIn load
+          slot-all d c = slot-found (rows floorOfBytes 8 n (drop 3112 s)) (r .command .client) (r .command .call) x z c ∙ rw (← p, parts-4, not-false t d, a)

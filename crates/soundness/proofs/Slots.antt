@@ -2,6 +2,7 @@
 --     slot-few     a slot is one of 512
 --     slots-ids     the pass over the slots decides what the tests of all records, of their ids and of the marks decide
 --     slots-start     with no slot marked: what the tests of all records and of their ids decide
+--     pass-order     the pass with the order of arrival: both tests
 -- Assumes nothing.
 use Prim.Native.Nat.{ℕ, zero, suc, _≤_, _<_}
 use mathlib.Core.Path.{_≡_, refl, sym, ap, _∙_}
@@ -10,20 +11,20 @@ use mathlib.Core.List.{List, [], _∷_}
 use native.Mathlib.Omega.{arith}
 use lib.ListN.{length, getD, set, replicate, length-set, length-replicate}
 use lib.Seq.{getD-set-same, getD-set-other}
-use lib.Dec.{eqb}
+use lib.Dec.{eqb, leb}
 use borrow.Author.Tests.{eqb-true, eqb-false, eq-eqb}
 use Rattle.model.specs.declared.Completion.{Completion}
 use Rattle.model.specs.Tables.{every}
 use Rattle.model.specs.Plan.{entryAt, inRange}
 use Rattle.model.specs.Images.{floorOf, inWindow}
-use Rattle.model.specs.States.{State, completionOk, isId, idsDiffer}
+use Rattle.model.specs.States.{State, pointAt, keepsRecords, completionOk, isId, idsDiffer, endsFrom}
 use Rattle.laws.specs.Bytes.{All}
 use Rattle.laws.proofs.Tests.{joined-all}
 use Rattle.laws.proofs.Tables.{every-all, all-every, all-map}
 use Rattle.limits.specs.Sound.{Ascending, InWindow}
 use Rattle.limits.proofs.Tests.{in-window}
 use Rattle.floors.proofs.Slots.{slot-below, slot-id}
-use Rattle.soundness.specs.Slots.{fieldsOk, slotIn, isFree, slotsPass}
+use Rattle.soundness.specs.Slots.{fieldsOk, slotIn, isFree, slotsPass, recordsPass}
 use Rattle.soundness.proofs.Records.{ok-parts}
 
 and-true : (b : Bool) → (b && true) ≡ b
@@ -39,42 +40,44 @@ getD-zeros zero i = refl
 getD-zeros (suc n) zero = refl
 getD-zeros (suc n) (suc i) = getD-zeros n i
 
-windowed : (st : State) (r : Completion) → completionOk st r ≡ true → InWindow (floorOf (r .client) (st .floors)) (r .call)
+windowed : (st : State) (r : Completion) → completionOk st r ≡ true → InWindow (floorOf (r .command .client) (st .floors)) (r .command .call)
 windowed st r e =
-    in-window (floorOf (r .client) (st .floors)) (r .call)
-    (joined-all (fieldsOk (st .size) r ∷ inRange (entryAt (st .plan) (r .point)) (r .value) ∷ inWindow (floorOf (r .client) (st .floors)) (r .call) ∷ []) (sym (ok-parts st r) ∙ e) .1 .1 .0)
+    in-window (floorOf (r .command .client) (st .floors)) (r .command .call)
+    (joined-all
+    (fieldsOk (st .size) r ∷ inRange (entryAt (st .plan) (r .command .point)) (r .result .value) ∷ keepsRecords (pointAt st (r .command .point)) ∷ inWindow (floorOf (r .command .client) (st .floors)) (r .command .call) ∷ [])
+    (sym (ok-parts st r) ∙ e) .1 .1 .1 .0)
 
 pub slot-few : (st : State) → length (st .floors) ≤ 32 → (r : Completion) → completionOk st r ≡ true → slotIn st r < 512
 unfolding slotIn
-slot-few st h r e = omega (arith, slot-below (st .floors) (r .client) (r .call) (windowed st r e))
+slot-few st h r e = omega (arith, slot-below (st .floors) (r .command .client) (r .command .call) (windowed st r e))
 
 module _ (st : State) (order : Ascending (st .floors)) where
-  same-id : (r q : Completion) → completionOk st r ≡ true → completionOk st q ≡ true → slotIn st q ≡ slotIn st r → (q .client ≡ r .client) × (q .call ≡ r .call)
+  same-id : (r q : Completion) → completionOk st r ≡ true → completionOk st q ≡ true → slotIn st q ≡ slotIn st r → (q .command .client ≡ r .command .client) × (q .command .call ≡ r .command .call)
   unfolding slotIn
-  same-id r q e f h = slot-id (st .floors) order (q .client) (q .call) (r .client) (r .call) (windowed st q f) (windowed st r e) h
+  same-id r q e f h = slot-id (st .floors) order (q .command .client) (q .command .call) (r .command .client) (r .command .call) (windowed st q f) (windowed st r e) h
 
   -- records of two slots have two ids
-  other-id : (r q : Completion) → (slotIn st q ≡ slotIn st r → ⊥) → (eqb (q .client) (r .client) && eqb (q .call) (r .call)) ≡ false
+  other-id : (r q : Completion) → (slotIn st q ≡ slotIn st r → ⊥) → (eqb (q .command .client) (r .command .client) && eqb (q .command .call) (r .command .call)) ≡ false
   unfolding slotIn
-  other-id r q n = step (eqb (q .client) (r .client)) (eqb (q .call) (r .call)) refl refl
+  other-id r q n = step (eqb (q .command .client) (r .command .client)) (eqb (q .command .call) (r .command .call)) refl refl
     where
-      step : (b d : Bool) → eqb (q .client) (r .client) ≡ b → eqb (q .call) (r .call) ≡ d → (b && d) ≡ false
-      step true true e f = absurd (n (rw (eqb-true (q .client) (r .client) e, eqb-true (q .call) (r .call) f)))
+      step : (b d : Bool) → eqb (q .command .client) (r .command .client) ≡ b → eqb (q .command .call) (r .command .call) ≡ d → (b && d) ≡ false
+      step true true e f = absurd (n (rw (eqb-true (q .command .client) (r .command .client) e, eqb-true (q .command .call) (r .command .call) f)))
       step true false e f = refl
       step false d e f = refl
 
   -- a slot is free after another was marked: the id is another, and the slot was free
   marked-free : (marks : List ℕ) (r q : Completion) → slotIn st r < length marks → completionOk st r ≡ true → completionOk st q ≡ true
-      → isFree st (set marks (slotIn st r) 1) q ≡ (not (isId (r .client) (r .call) q) && isFree st marks q)
+      → isFree st (set marks (slotIn st r) 1) q ≡ (not (isId (r .command .client) (r .command .call) q) && isFree st marks q)
   unfolding isFree isId
   marked-free marks r q h e f = step (eqb (slotIn st q) (slotIn st r)) refl
     where
       step : (b : Bool) → eqb (slotIn st q) (slotIn st r) ≡ b
-          → eqb (getD (set marks (slotIn st r) 1) (slotIn st q) 0) 0 ≡ (not (eqb (q .client) (r .client) && eqb (q .call) (r .call)) && eqb (getD marks (slotIn st q) 0) 0)
+          → eqb (getD (set marks (slotIn st r) 1) (slotIn st q) 0) 0 ≡ (not (eqb (q .command .client) (r .command .client) && eqb (q .command .call) (r .command .call)) && eqb (getD marks (slotIn st q) 0) 0)
       step true p =
           let s : slotIn st q ≡ slotIn st r = eqb-true (slotIn st q) (slotIn st r) p in
           let i = same-id r q e f s in
-          rw (s, getD-set-same marks (slotIn st r) 1 0 h, eq-eqb (q .client) (r .client) (i .0), eq-eqb (q .call) (r .call) (i .1))
+          rw (s, getD-set-same marks (slotIn st r) 1 0 h, eq-eqb (q .command .client) (r .command .client) (i .0), eq-eqb (q .command .call) (r .command .call) (i .1))
       step false p =
           let n : slotIn st q ≡ slotIn st r → ⊥ = eqb-false (slotIn st q) (slotIn st r) p in
           rw (getD-set-other marks (slotIn st r) (slotIn st q) 1 0 n, other-id r q n)
@@ -94,10 +97,10 @@ module _ {A : Type 0} (t a b : A → Bool) where
 
 module _ (st : State) (order : Ascending (st .floors)) (few : length (st .floors) ≤ 32) where
   free-after : (marks : List ℕ) (r : Completion) (rs : List Completion) → 512 ≤ length marks → completionOk st r ≡ true → every (completionOk st) rs ≡ true
-      → every (isFree st (set marks (slotIn st r) 1)) rs ≡ (every (λ q. not (isId (r .client) (r .call) q)) rs && every (isFree st marks) rs)
+      → every (isFree st (set marks (slotIn st r) 1)) rs ≡ (every (λ q. not (isId (r .command .client) (r .command .call) q)) rs && every (isFree st marks) rs)
   free-after marks r rs h e f =
-      every-both (isFree st (set marks (slotIn st r) 1)) (λ q. not (isId (r .client) (r .call) q)) (isFree st marks) rs
-      (all-map (λ q. completionOk st q ≡ true) (λ q. isFree st (set marks (slotIn st r) 1) q ≡ (not (isId (r .client) (r .call) q) && isFree st marks q))
+      every-both (isFree st (set marks (slotIn st r) 1)) (λ q. not (isId (r .command .client) (r .command .call) q)) (isFree st marks) rs
+      (all-map (λ q. completionOk st q ≡ true) (λ q. isFree st (set marks (slotIn st r) 1) q ≡ (not (isId (r .command .client) (r .command .call) q) && isFree st marks q))
       (λ q g. marked-free st order marks r q (omega (arith, slot-few st few r e)) e g) rs (every-all (completionOk st) rs f))
 
   pub slots-ids : (marks : List ℕ) (rs : List Completion) → 512 ≤ length marks
@@ -112,7 +115,7 @@ module _ (st : State) (order : Ascending (st .floors)) (few : length (st .floors
       x = every (isFree st (set marks (slotIn st r) 1)) rs
 
       n : Bool
-      n = every (λ q. not (isId (r .client) (r .call) q)) rs
+      n = every (λ q. not (isId (r .command .client) (r .command .call) q)) rs
 
       y : Bool
       y = every (isFree st marks) rs
@@ -142,3 +145,19 @@ module _ (st : State) (order : Ascending (st .floors)) (few : length (st .floors
       all-free : (qs : List Completion) → All (λ q. isFree st (replicate 512 0) q ≡ true) qs
       all-free [] = tt
       all-free (q ∷ qs) = (ap (λ (i : ℕ). eqb i 0) (getD-zeros 512 (slotIn st q)), all-free qs)
+
+-- ---- with the order of arrival
+
+-- the first and the rest of one chain before the rest of another
+sorted : (l e c f p : Bool) → (l && (c && (f && (e && p)))) ≡ ((l && e) && (c && (f && p)))
+sorted false e c f p = refl
+sorted true true c f p = refl
+sorted true false c f p = rw (and-false f, and-false c)
+
+pub pass-order : (st : State) (last : ℕ) (marks : List ℕ) (rs : List Completion) → recordsPass st last marks rs ≡ (endsFrom last rs && slotsPass st marks rs)
+unfolding recordsPass endsFrom slotsPass
+pass-order st last marks [] = refl
+pass-order st last marks (r ∷ rs) =
+    let next : List ℕ = set marks (slotIn st r) 1 in
+    rw (pass-order st (r .end) next rs)
+    (sorted (leb last (r .end)) (endsFrom (r .end) rs) (completionOk st r) (isFree st marks r) (slotsPass st next rs))

@@ -15,20 +15,19 @@ use Rattle.model.specs.Tables.{rows, everyRow, every}
 use Rattle.model.specs.Plan.{planEntryOf, planRowOk}
 use Rattle.model.specs.Images.{floorOfBytes, floorOk, clientsAscend}
 use Rattle.model.specs.States.{clientsIn, pointOf, load, pointsOk, stateFramed, pointRowOk, stateOk, sound}
-use Rattle.soundness.specs.Slots.{tablesOk}
-use Rattle.soundness.proofs.Pass.{recordsAnswer}
+use Rattle.soundness.specs.Slots.{recordsOk, tablesOk}
 
 -- ---- the tables
 
 tables-are : (s : List ℕ)
     → tablesOk (load s)
     ≡ (pointsOk (byteAt s 4) (le64At s 24) (rows planEntryOf 16 64 (drop 40 s)) (rows pointOf 32 64 (drop 1064 s))
-    && (every floorOk (rows floorOfBytes 8 (clientsIn s) (drop 3112 s)) && (clientsAscend (rows floorOfBytes 8 (clientsIn s) (drop 3112 s)) && recordsAnswer s)))
+    && (every floorOk (rows floorOfBytes 8 (clientsIn s) (drop 3112 s)) && (clientsAscend (rows floorOfBytes 8 (clientsIn s) (drop 3112 s)) && recordsOk (load s))))
 unfolding tablesOk load
 tables-are s = refl
 
 module _ (s : List ℕ) {server size n : ℕ} (v : server ≡ byteAt s 4) (z : size ≡ le64At s 24) (a : n ≡ clientsIn s) {t : Bool} (p : t ≡ pointsOk server size (rows planEntryOf 16 64 (drop 40 s)) (rows pointOf 32 64 (drop 1064 s))) where
-  points-are : tablesOk (load s) ≡ (t && (every floorOk (rows floorOfBytes 8 n (drop 3112 s)) && (clientsAscend (rows floorOfBytes 8 n (drop 3112 s)) && recordsAnswer s)))
+  points-are : tablesOk (load s) ≡ (t && (every floorOk (rows floorOfBytes 8 n (drop 3112 s)) && (clientsAscend (rows floorOfBytes 8 n (drop 3112 s)) && recordsOk (load s))))
   points-are = tables-are s ∙ rw (← v, ← z, ← a, ← p)
 
   pub tables-1 : not t ≡ true → false ≡ tablesOk (load s)
@@ -42,13 +41,13 @@ module _ (s : List ℕ) {server size n : ℕ} (v : server ≡ byteAt s 4) (z : s
       pub tables-3 : not b ≡ true → false ≡ tablesOk (load s)
       tables-3 j = sym (points-are ∙ rw (not-false t q, ← g, not-false f h, ← i, not-true b j))
 
-      pub tables-4 : not b ≡ false → {x : Bool} → x ≡ recordsAnswer s → x ≡ tablesOk (load s)
+      pub tables-4 : not b ≡ false → {x : Bool} → x ≡ recordsOk (load s) → x ≡ tablesOk (load s)
       tables-4 j k = sym (points-are ∙ rw (not-false t q, ← g, not-false f h, ← i, not-false b j) (sym k))
 
 -- ---- the state
 
 state-is : (s : List ℕ) → stateOk (load s) ≡ (leb (byteAt s 4) 15 && (leb 8 (le64At s 32) && (leb (le64At s 32) (le64At s 24) && tablesOk (load s))))
-unfolding stateOk tablesOk load
+unfolding stateOk tablesOk recordsOk load
 state-is s = refl
 
 module _ (s : List ℕ) {server : ℕ} (v : server ≡ byteAt s 4) where

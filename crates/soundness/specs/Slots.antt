@@ -12,18 +12,18 @@ use Rattle.model.specs.Limits.{headSize, recordCount}
 use Rattle.model.specs.Tables.{every}
 use Rattle.model.specs.Packets.{idOk, commandOk, outcomeOk}
 use Rattle.model.specs.Images.{floorOk, clientsAscend}
-use Rattle.model.specs.States.{State, pointsOk, completionOk, idsDiffer}
+use Rattle.model.specs.States.{State, pointsOk, completionOk, idsDiffer, endsFrom}
 use Rattle.floors.specs.Places.{slotOf}
 
 -- the fields of a record that are tested without plan and clients
 unfoldable pub fieldsOk : ℕ → Completion → Bool
 fieldsOk size r =
-    commandOk (r .op) (r .point) (r .argument)
-    && (outcomeOk (r .outcome) (r .quality) && (idOk (r .client) (r .call) && (ltb headSize (r .end) && leb (r .end) size)))
+    commandOk (r .command .op) (r .command .point) (r .command .argument)
+    && (outcomeOk (r .result .outcome) (r .result .quality) && (idOk (r .command .client) (r .command .call) && (ltb headSize (r .end) && leb (r .end) size)))
 
 -- 16 slots for each client, one for each call of its window
 unfoldable pub slotIn : State → Completion → ℕ
-slotIn st r = slotOf (st .floors) (r .client) (r .call)
+slotIn st r = slotOf (st .floors) (r .command .client) (r .command .call)
 
 -- the slot of a record that passes its test, else the number of slots
 unfoldable pub testedSlot : State → Completion → ℕ
@@ -33,10 +33,20 @@ testedSlot st r = pick (completionOk st r) (slotIn st r) recordCount
 unfoldable pub isFree : State → List ℕ → Completion → Bool
 isFree st marks r = eqb (getD marks (slotIn st r) 0) 0
 
--- each record passes its test, its slot is free, and is then marked with 1
+-- each record passes its test, its slot is free, and is then marked with 1; the order of arrival apart
 unfoldable pub slotsPass : State → List ℕ → List Completion → Bool
 slotsPass st marks [] = true
 slotsPass st marks (r ∷ rs) = completionOk st r && (isFree st marks r && slotsPass st (set marks (slotIn st r) 1) rs)
+
+-- in order of arrival too: no end is below the one before, `last`
+unfoldable pub recordsPass : State → ℕ → List ℕ → List Completion → Bool
+recordsPass st last marks [] = true
+recordsPass st last marks (r ∷ rs) =
+    leb last (r .end) && (completionOk st r && (isFree st marks r && recordsPass st (r .end) (set marks (slotIn st r) 1) rs))
+
+-- the test of all records
+unfoldable pub recordsOk : State → Bool
+recordsOk st = every (completionOk st) (st .records) && (idsDiffer (st .records) && endsFrom headSize (st .records))
 
 -- hints, with the place of each client, from place i on, at its number modulo 256; a later client takes the entry of an earlier one
 unfoldable pub hintsFrom : ℕ → List ℕ → List Floor → List ℕ
@@ -48,4 +58,4 @@ unfoldable pub tablesOk : State → Bool
 tablesOk st =
     pointsOk (st .server) (st .size) (st .plan) (st .points)
     && (every floorOk (st .floors)
-    && (clientsAscend (st .floors) && (every (completionOk st) (st .records) && idsDiffer (st .records))))
+    && (clientsAscend (st .floors) && recordsOk st))

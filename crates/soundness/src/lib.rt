@@ -1,27 +1,28 @@
 // The soundness test of a server's state buffer: a call on a buffer that fails it answers 19. One pass over each table; that no id
 // stands twice is tested by the slots of the completion records.
-use image_rows::FLOOR_ROW;
 use model::Completion;
-use sound_rows::HEAD_SIZE;
-use sound_rows::PLAN_ROW;
-use state_rows::FLOORS_START;
-use state_rows::PLAN_START;
-use state_rows::POINTS_START;
-use state_rows::RECORD_COUNT;
-use state_rows::RECORD_ROW;
-use state_rows::RECORDS_START;
-use state_rows::STATE_END;
+use model::constants;
+use model::constants::FLOOR_ROW;
+use model::constants::FLOORS_START;
+use model::constants::PLAN_ROW;
+use model::constants::PLAN_START;
+use model::constants::POINT_ROW;
+use model::constants::POINTS_START;
+use model::constants::RECORD_COUNT;
+use model::constants::RECORD_ROW;
+use model::constants::RECORDS_START;
+use model::constants::STATE_END;
 ghost use mathlib.Core.Path.{_≡_};
-ghost use mathlib.Core.Bool.{true, _&&_};
+ghost use mathlib.Core.Bool.{true};
 ghost use Prim.Native.Nat.{_+_, _*_, _≤_};
 ghost use lib.ListN.{length, drop, replicate};
 ghost use Rattle.model.specs.Numbers.{le64At};
 ghost use Rattle.model.specs.Limits.{floorRow, clientCount, recordCount};
-ghost use Rattle.model.specs.Tables.{rows, every};
+ghost use Rattle.model.specs.Tables.{rows};
 ghost use Rattle.model.specs.Images.{floorOfBytes, clientsAscend};
-ghost use Rattle.model.specs.States.{clientsIn, recordsIn, floorsStart, completionOf, load, completionOk, idsDiffer, stateOk, sound};
+ghost use Rattle.model.specs.States.{clientsIn, recordsIn, floorsStart, completionOf, load, stateOk, sound};
 ghost use Rattle.floors.specs.Places.{placeOf};
-ghost use Rattle.soundness.specs.Slots.{fieldsOk, testedSlot, hintsFrom, tablesOk};
+ghost use Rattle.soundness.specs.Slots.{fieldsOk, testedSlot, recordsOk, hintsFrom, tablesOk};
 
 // ---- one completion record
 
@@ -29,10 +30,10 @@ ghost use Rattle.soundness.specs.Slots.{fieldsOk, testedSlot, hintsFrom,
 fn fields_ok(size: u64, r: Completion) -> bool
     ensures { λ x. ⌜ x ≡ fieldsOk size r ⌝ }
 {
-    let command = wire::command_ok(r.op, r.point, r.argument);
-    let outcome = wire::outcome_ok(r.outcome, r.quality);
-    let id = wire::id_ok(r.client, r.call);
-    command & (outcome & (id & ((HEAD_SIZE < r.end) & (r.end <= size))))
+    let command = wire::command_ok(r.command.op, r.command.point, r.command.argument);
+    let outcome = wire::outcome_ok(r.result.outcome, r.result.quality);
+    let id = wire::id_ok(r.command.client, r.command.call);
+    command & (outcome & (id & ((constants::HEAD_SIZE_U64 < r.end) & (r.end <= size))))
 }
 
 // The place of the client x among n ascending clients. A hint that is right saves the search.
@@ -58,16 +59,19 @@ fn record_slot(s: &[u8], n: usize, size: u64, hint: usize, k: usize) -> usize
     if !fields_ok(size, r) {
         return RECORD_COUNT;
     }
-    let e = command::plan_entry(s, PLAN_START + PLAN_ROW * (r.point as usize));
-    if !command::in_range(e, r.value) {
+    let e = command::plan_entry(s, PLAN_START + PLAN_ROW * (r.command.point as usize));
+    if !command::in_range(e, r.result.value) {
         return RECORD_COUNT;
     }
-    let i = place_by(s, n, r.client, hint);
+    if !sound_rows::keeps_records(s, POINTS_START + POINT_ROW * (r.command.point as usize)) {
+        return RECORD_COUNT;
+    }
+    let i = place_by(s, n, r.command.client, hint);
     let floor = floors::floor_at(s, FLOORS_START, n, i);
-    if !image_rows::in_window(floor, r.call) {
+    if !image_rows::in_window(floor, r.command.call) {
         return RECORD_COUNT;
     }
-    floors::CALL_WINDOW * i + floors::call_above(r.call, floor)
+    constants::CALL_WINDOW * i + floors::call_above(r.command.call, floor)
 }
 
 // ---- all completion records
@@ -89,16 +93,29 @@ fn hints_of(s: &[u8], n: usize) -> [u8; 256]
     hints
 }
 
-// Each of m records passes its test, and no id stands twice: each has a slot of its own.
+// The end of the record from k.
+fn end_in(s: &[u8], k: usize) -> u64
+    requires { ⌜ k + 28 ≤ length (now s) ⌝ }
+    ensures { λ r. ⌜ r ≡ completionOf (drop k (now (s .entry))) .end ⌝ }
+{
+    wire::read_u64(s, k + 20)
+}
+
+// Each of m records passes its test, in order of arrival, and no id stands twice: each has a slot of its own.
 fn records_ok(s: &[u8], n: usize, m: usize, size: u64) -> bool
     requires { ⌜ (17704 ≤ length (now s)) × (n ≤ clientCount) × (m ≤ recordCount) × (n ≡ clientsIn (now s)) × (m ≡ recordsIn (now s)) × (size ≡ le64At (now s) 24) × (clientsAscend (rows floorOfBytes floorRow n (drop floorsStart (now s))) ≡ true) ⌝ }
-    ensures { λ r. ⌜ r ≡ (every (completionOk (load (now (s .entry)))) (load (now (s .entry)) .records) && idsDiffer (load (now (s .entry)) .records)) ⌝ }
+    ensures { λ r. ⌜ r ≡ recordsOk (load (now (s .entry))) ⌝ }
 {
     let hints = hints_of(s, n);
     let mut marks = [0u8; 512];
+    let mut last = constants::HEAD_SIZE_U64;
     let mut i = 0;
     while i < m {
         let k = RECORDS_START + RECORD_ROW * i;
+        let end = end_in(s, k);
+        if end < last {
+            return false;
+        }
         let j = (wire::read_u32(s, k) % 256) as usize;
         let slot = record_slot(s, n, size, hints[j] as usize, k);
         if RECORD_COUNT <= slot {
@@ -108,6 +125,7 @@ fn records_ok(s: &[u8], n: usize, m: usize, size: u64) -> bool
             return false;
         }
         marks[slot] = 1;
+        last = end;
         i += 1;
     }
     true
@@ -141,10 +159,10 @@ fn body_ok(s: &[u8]) -> bool
     ensures { λ r. ⌜ r ≡ stateOk (load (now (s .entry))) ⌝ }
 {
     let mark = state_rows::mark_in(s);
-    if wire::LAST_SERVER < state_rows::server_in(s) {
+    if constants::LAST_SERVER < state_rows::server_in(s) {
         return false;
     }
-    if mark < HEAD_SIZE {
+    if mark < constants::HEAD_SIZE_U64 {
         return false;
     }
     if state_rows::size_in(s) < mark {

@@ -4,12 +4,13 @@ use model::Completion;
 use model::Floor;
 use model::PlanEntry;
 use model::Point;
-use state_rows::FLOORS_START;
-use state_rows::PLAN_START;
-use state_rows::POINT_ROW;
-use state_rows::POINTS_START;
-use state_rows::RECORD_ROW;
-use state_rows::RECORDS_START;
+use model::constants;
+use model::constants::FLOORS_START;
+use model::constants::PLAN_START;
+use model::constants::POINT_ROW;
+use model::constants::POINTS_START;
+use model::constants::RECORD_ROW;
+use model::constants::RECORDS_START;
 ghost use mathlib.Core.Path.{_≡_};
 ghost use Prim.Native.Nat.{_+_, _*_, _≤_, _<_};
 ghost use lib.ListN.{length, drop};
@@ -103,7 +104,7 @@ pub fn entry_at(s: &[u8], p: u8) -> PlanEntry
     requires { ⌜ (stateEnd ≤ length (now s)) × (p ≤ lastPoint) ⌝ }
     ensures { λ r. ⌜ r ≡ entryAt (load (now (s .entry)) .plan) p ⌝ }
 {
-    command::plan_entry(s, PLAN_START + 16 * (p as usize))
+    command::plan_entry(s, PLAN_START + constants::PLAN_ROW * (p as usize))
 }
 
 pub fn set_point(s: &mut [u8], p: u8, x: Point)
@@ -120,7 +121,7 @@ pub fn client_at(s: &[u8], i: usize) -> Floor
     requires { ⌜ (stateEnd ≤ length (now s)) × (i < clientCount) ⌝ }
     ensures { λ r. ⌜ r ≡ floorOfBytes (drop (floorsStart + floorRow * i) (now (s .entry))) ⌝ }
 {
-    image_rows::floor_from(s, FLOORS_START + 8 * i)
+    image_rows::floor_from(s, FLOORS_START + constants::FLOOR_ROW * i)
 }
 
 // The completion record of index i, in order of arrival.

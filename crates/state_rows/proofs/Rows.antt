@@ -10,63 +10,76 @@ use lib.ListN.{drop, getD}
 use lib.Seq.{getD-drop}
 use Rattle.model.specs.declared.Point.{Point}
 use Rattle.model.specs.declared.Completion.{Completion}
-use Rattle.model.specs.Numbers.{le32At, le64At, le32, le64, quad}
+use Rattle.model.specs.Numbers.{le32At, le64At, le32, le64, signedAt, signed32, quad}
 use Rattle.model.specs.Tables.{written}
 use Rattle.model.specs.States.{pointOf, pointBytes, completionOf, completionBytes}
-use Rattle.laws.proofs.Numbers.{le32-drop, le64-drop}
+use Rattle.laws.proofs.Numbers.{le32-drop, le64-drop, signed-drop}
 use Rattle.laws.proofs.Written.{run-behind}
 
 -- ---- reads
 
 abbrev pub pointAtPlace : List ℕ → ℕ → Point
 pointAtPlace s k =
-    record { status = getD s k 0; quality = getD s (k + 1) 0; destination = getD s (k + 2) 0; value = le32At s (k + 4); number = le32At s (k + 8); taken = le32At s (k + 12); gave = le64At s (k + 16); took = le64At s (k + 24) }
+    record {
+      status = getD s k 0;
+      quality = getD s (k + 1) 0;
+      destination = getD s (k + 2) 0;
+      value = signedAt s (k + 4);
+      moveNumber = le32At s (k + 8);
+      takenMove = le32At s (k + 12);
+      giveEnd = le64At s (k + 16);
+      takeEnd = le64At s (k + 24);
+    }
 
 pub point-drop : (s : List ℕ) (k : ℕ) → pointOf (drop k s) ≡ pointAtPlace s k
 unfolding pointOf
 point-drop s k =
-    rw (getD-drop k s 0 0, getD-drop k s 1 0, getD-drop k s 2 0, le32-drop k s 4, le32-drop k s 8, le32-drop k s 12, le64-drop k s 16, le64-drop k s 24, add-zero)
+    rw (getD-drop k s 0 0, getD-drop k s 1 0, getD-drop k s 2 0, signed-drop k s 4, le32-drop k s 8, le32-drop k s 12, le64-drop k s 16, le64-drop k s 24, add-zero)
 
 abbrev pub completionAtPlace : List ℕ → ℕ → Completion
 completionAtPlace s k =
-    record { client = le32At s k; call = le32At s (k + 4); argument = le32At s (k + 8); value = le32At s (k + 12); op = getD s (k + 16) 0; outcome = getD s (k + 17) 0; quality = getD s (k + 18) 0; point = getD s (k + 19) 0; end = le64At s (k + 20) }
+    record {
+      command = record { client = le32At s k; call = le32At s (k + 4); op = getD s (k + 16) 0; point = getD s (k + 19) 0; argument = signedAt s (k + 8) };
+      result = record { outcome = getD s (k + 17) 0; value = signedAt s (k + 12); quality = getD s (k + 18) 0 };
+      end = le64At s (k + 20);
+    }
 
 pub completion-drop : (s : List ℕ) (k : ℕ) → completionOf (drop k s) ≡ completionAtPlace s k
 unfolding completionOf
 completion-drop s k =
-    rw (le32-drop k s 0, le32-drop k s 4, le32-drop k s 8, le32-drop k s 12, getD-drop k s 16 0, getD-drop k s 17 0, getD-drop k s 18 0, getD-drop k s 19 0, le64-drop k s 20, add-zero)
+    rw (le32-drop k s 0, le32-drop k s 4, signed-drop k s 8, signed-drop k s 12, getD-drop k s 16 0, getD-drop k s 17 0, getD-drop k s 18 0, getD-drop k s 19 0, le64-drop k s 20, add-zero)
 
 -- ---- stores
 
 pub point-runs : (s : List ℕ) (k : ℕ) (x : Point)
-    → written (written (written (written (written (written s k (quad (x .status) (x .quality) (x .destination) 0)) (k + 4) (le32 (x .value))) (k + 8) (le32 (x .number))) (k + 12) (le32 (x .taken))) (k + 16) (le64 (x .gave))) (k + 24) (le64 (x .took))
+    → written (written (written (written (written (written s k (quad (x .status) (x .quality) (x .destination) 0)) (k + 4) (signed32 (x .value))) (k + 8) (le32 (x .moveNumber))) (k + 12) (le32 (x .takenMove))) (k + 16) (le64 (x .giveEnd))) (k + 24) (le64 (x .takeEnd))
     ≡ written s k (pointBytes x)
 unfolding pointBytes le64
 point-runs s k x =
     let a : List ℕ = quad (x .status) (x .quality) (x .destination) 0 in
-    let b : List ℕ = a ++ le32 (x .value) in
-    let c : List ℕ = b ++ le32 (x .number) in
-    let d : List ℕ = c ++ le32 (x .taken) in
-    let e : List ℕ = d ++ le64 (x .gave) in
-    ap (λ (z : List ℕ). written (written (written (written z (k + 8) (le32 (x .number))) (k + 12) (le32 (x .taken))) (k + 16) (le64 (x .gave))) (k + 24) (le64 (x .took))) (run-behind s k a (le32 (x .value)) refl refl)
-    ∙ ap (λ (z : List ℕ). written (written (written z (k + 12) (le32 (x .taken))) (k + 16) (le64 (x .gave))) (k + 24) (le64 (x .took))) (run-behind s k b (le32 (x .number)) refl refl)
-    ∙ ap (λ (z : List ℕ). written (written z (k + 16) (le64 (x .gave))) (k + 24) (le64 (x .took))) (run-behind s k c (le32 (x .taken)) refl refl)
-    ∙ ap (λ (z : List ℕ). written z (k + 24) (le64 (x .took))) (run-behind s k d (le64 (x .gave)) refl refl)
-    ∙ run-behind s k e (le64 (x .took)) refl refl
+    let b : List ℕ = a ++ signed32 (x .value) in
+    let c : List ℕ = b ++ le32 (x .moveNumber) in
+    let d : List ℕ = c ++ le32 (x .takenMove) in
+    let e : List ℕ = d ++ le64 (x .giveEnd) in
+    ap (λ (z : List ℕ). written (written (written (written z (k + 8) (le32 (x .moveNumber))) (k + 12) (le32 (x .takenMove))) (k + 16) (le64 (x .giveEnd))) (k + 24) (le64 (x .takeEnd))) (run-behind s k a (signed32 (x .value)) refl refl)
+    ∙ ap (λ (z : List ℕ). written (written (written z (k + 12) (le32 (x .takenMove))) (k + 16) (le64 (x .giveEnd))) (k + 24) (le64 (x .takeEnd))) (run-behind s k b (le32 (x .moveNumber)) refl refl)
+    ∙ ap (λ (z : List ℕ). written (written z (k + 16) (le64 (x .giveEnd))) (k + 24) (le64 (x .takeEnd))) (run-behind s k c (le32 (x .takenMove)) refl refl)
+    ∙ ap (λ (z : List ℕ). written z (k + 24) (le64 (x .takeEnd))) (run-behind s k d (le64 (x .giveEnd)) refl refl)
+    ∙ run-behind s k e (le64 (x .takeEnd)) refl refl
 
 pub completion-runs : (s : List ℕ) (k : ℕ) (r : Completion)
-    → written (written (written (written (written (written s k (le32 (r .client))) (k + 4) (le32 (r .call))) (k + 8) (le32 (r .argument))) (k + 12) (le32 (r .value))) (k + 16) (quad (r .op) (r .outcome) (r .quality) (r .point))) (k + 20) (le64 (r .end))
+    → written (written (written (written (written (written s k (le32 (r .command .client))) (k + 4) (le32 (r .command .call))) (k + 8) (signed32 (r .command .argument))) (k + 12) (signed32 (r .result .value))) (k + 16) (quad (r .command .op) (r .result .outcome) (r .result .quality) (r .command .point))) (k + 20) (le64 (r .end))
     ≡ written s k (completionBytes r)
 unfolding completionBytes le64
 completion-runs s k r =
-    let q : List ℕ = quad (r .op) (r .outcome) (r .quality) (r .point) in
-    let a : List ℕ = le32 (r .client) in
-    let b : List ℕ = a ++ le32 (r .call) in
-    let c : List ℕ = b ++ le32 (r .argument) in
-    let d : List ℕ = c ++ le32 (r .value) in
+    let q : List ℕ = quad (r .command .op) (r .result .outcome) (r .result .quality) (r .command .point) in
+    let a : List ℕ = le32 (r .command .client) in
+    let b : List ℕ = a ++ le32 (r .command .call) in
+    let c : List ℕ = b ++ signed32 (r .command .argument) in
+    let d : List ℕ = c ++ signed32 (r .result .value) in
     let e : List ℕ = d ++ q in
-    ap (λ (z : List ℕ). written (written (written (written z (k + 8) (le32 (r .argument))) (k + 12) (le32 (r .value))) (k + 16) q) (k + 20) (le64 (r .end))) (run-behind s k a (le32 (r .call)) refl refl)
-    ∙ ap (λ (z : List ℕ). written (written (written z (k + 12) (le32 (r .value))) (k + 16) q) (k + 20) (le64 (r .end))) (run-behind s k b (le32 (r .argument)) refl refl)
-    ∙ ap (λ (z : List ℕ). written (written z (k + 16) q) (k + 20) (le64 (r .end))) (run-behind s k c (le32 (r .value)) refl refl)
+    ap (λ (z : List ℕ). written (written (written (written z (k + 8) (signed32 (r .command .argument))) (k + 12) (signed32 (r .result .value))) (k + 16) q) (k + 20) (le64 (r .end))) (run-behind s k a (le32 (r .command .call)) refl refl)
+    ∙ ap (λ (z : List ℕ). written (written (written z (k + 12) (signed32 (r .result .value))) (k + 16) q) (k + 20) (le64 (r .end))) (run-behind s k b (signed32 (r .command .argument)) refl refl)
+    ∙ ap (λ (z : List ℕ). written (written z (k + 16) q) (k + 20) (le64 (r .end))) (run-behind s k c (signed32 (r .result .value)) refl refl)
     ∙ ap (λ (z : List ℕ). written z (k + 20) (le64 (r .end))) (run-behind s k d q refl refl)
     ∙ run-behind s k e (le64 (r .end)) refl refl

@@ -1,5 +1,7 @@
 // A server's state in its buffer: the fields of its head, and the rows of its tables, each at its place. The plan's entries are read by
 // `command`, the clients' rows (floors) by `image_rows`.
+use model::Command;
+use model::CommandResult;
 use model::Completion;
 use model::Point;
 ghost use mathlib.Core.Path.{_≡_};
@@ -8,34 +10,6 @@ ghost use lib.ListN.{length, drop};
 ghost use Rattle.model.specs.Numbers.{byteAt, le32At, le64At, le32, le64};
 ghost use Rattle.model.specs.Tables.{written};
 ghost use Rattle.model.specs.States.{clientsIn, recordsIn, pointOf, pointBytes, completionOf, completionBytes};
-
-// ---- limits and places
-
-// Bytes of a state's buffer, at least, and those that the state takes of it.
-pub const STATE_SIZE: usize = 32768;
-
-pub const STATE_END: usize = 17704;
-
-// Where the plan, the points, the clients and the completion records start.
-pub const PLAN_START: usize = 40;
-
-pub const POINTS_START: usize = 1064;
-
-pub const FLOORS_START: usize = 3112;
-
-pub const RECORDS_START: usize = 3368;
-
-// Bytes of a point and of a completion record.
-pub const POINT_ROW: usize = 32;
-
-pub const RECORD_ROW: usize = 28;
-
-// The most points, clients and completion records.
-pub const POINT_COUNT: usize = 64;
-
-pub const CLIENT_COUNT: usize = 32;
-
-pub const RECORD_COUNT: usize = 512;
 
 // ---- the head
 
@@ -133,11 +107,11 @@ pub fn point_from(s: &[u8], k: usize) -> Point
         status: s[k],
         quality: s[k + 1],
         destination: s[k + 2],
-        value: wire::read_u32(s, k + 4),
-        number: wire::read_u32(s, k + 8),
-        taken: wire::read_u32(s, k + 12),
-        gave: wire::read_u64(s, k + 16),
-        took: wire::read_u64(s, k + 24),
+        value: wire::read_signed(s, k + 4),
+        moveNumber: wire::read_u32(s, k + 8),
+        takenMove: wire::read_u32(s, k + 12),
+        giveEnd: wire::read_u64(s, k + 16),
+        takeEnd: wire::read_u64(s, k + 24),
     }
 }
 
@@ -147,11 +121,11 @@ pub fn put_point(s: &mut [u8], k: usize, x: Point)
     ensures { λ r. ⌜ now (s .exit) ≡ written (now (s .entry)) k (pointBytes x) ⌝ }
 {
     wire::write_4(s, k, x.status, x.quality, x.destination, 0);
-    wire::write_u32(s, k + 4, x.value);
-    wire::write_u32(s, k + 8, x.number);
-    wire::write_u32(s, k + 12, x.taken);
-    wire::write_u64(s, k + 16, x.gave);
-    wire::write_u64(s, k + 24, x.took);
+    wire::write_signed(s, k + 4, x.value);
+    wire::write_u32(s, k + 8, x.moveNumber);
+    wire::write_u32(s, k + 12, x.takenMove);
+    wire::write_u64(s, k + 16, x.giveEnd);
+    wire::write_u64(s, k + 24, x.takeEnd);
 }
 
 // The completion record in the 28 bytes from k.
@@ -159,15 +133,21 @@ pub fn completion_from(s: &[u8], k: usize) -> Completion
     requires { ⌜ k + 28 ≤ length (now s) ⌝ }
     ensures { λ r. ⌜ r ≡ completionOf (drop k (now (s .entry))) ⌝ }
 {
-    Completion {
+    let command = Command {
         client: wire::read_u32(s, k),
         call: wire::read_u32(s, k + 4),
-        argument: wire::read_u32(s, k + 8),
-        value: wire::read_u32(s, k + 12),
         op: s[k + 16],
-        outcome: s[k + 17],
-        quality: s[k + 18],
         point: s[k + 19],
+        argument: wire::read_signed(s, k + 8),
+    };
+    let result = CommandResult {
+        outcome: s[k + 17],
+        value: wire::read_signed(s, k + 12),
+        quality: s[k + 18],
+    };
+    Completion {
+        command,
+        result,
         end: wire::read_u64(s, k + 20),
     }
 }
@@ -177,10 +157,17 @@ pub fn put_completion(s: &mut [u8], k: usize, r: Completion)
     requires { ⌜ k + 28 ≤ length (now s) ⌝ }
     ensures { λ x. ⌜ now (s .exit) ≡ written (now (s .entry)) k (completionBytes r) ⌝ }
 {
-    wire::write_u32(s, k, r.client);
-    wire::write_u32(s, k + 4, r.call);
-    wire::write_u32(s, k + 8, r.argument);
-    wire::write_u32(s, k + 12, r.value);
-    wire::write_4(s, k + 16, r.op, r.outcome, r.quality, r.point);
+    wire::write_u32(s, k, r.command.client);
+    wire::write_u32(s, k + 4, r.command.call);
+    wire::write_signed(s, k + 8, r.command.argument);
+    wire::write_signed(s, k + 12, r.result.value);
+    wire::write_4(
+        s,
+        k + 16,
+        r.command.op,
+        r.result.outcome,
+        r.result.quality,
+        r.command.point,
+    );
     wire::write_u64(s, k + 20, r.end);
 }

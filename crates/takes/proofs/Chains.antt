@@ -13,7 +13,7 @@ use native.Mathlib.Omega.{arith}
 use lib.ListN.{length}
 use Rattle.model.specs.declared.Answer.{Answer}
 use Rattle.model.specs.declared.ImageHead.{ImageHead}
-use Rattle.model.specs.Choice.{append}
+use Rattle.model.specs.Choice.{append, unlessRefused}
 use Rattle.model.specs.Numbers.{word}
 use Rattle.model.specs.Limits.{clientCount, recordCount, takeHead}
 use Rattle.model.specs.Tables.{written, every}
@@ -22,35 +22,32 @@ use Rattle.model.specs.Images.{Image, imageHeadOf, imageAt, imageInRange, image
 use Rattle.model.specs.Logs.{took, recordBytes, recordSize}
 use Rattle.model.specs.States.{State, load, pointAt}
 use Rattle.model.specs.Apply.{applyRecord, applyTook}
-use Rattle.model.specs.Decisions.{freeFor, decideTake, onTake}
-use Rattle.model.specs.Operations.{answerOf, after, settle, stored, freeIn, takeOf}
+use Rattle.model.specs.Decisions.{orMalformed, takeTests, decideTake, onTake}
+use Rattle.model.specs.Operations.{answerOf, after, settle, stored, lentRefusal, lent, freeIn, takeOf}
 use Rattle.laws.specs.Bytes.{Bytes}
 use Rattle.laws.proofs.Tests.{and-left, and-right}
 use Rattle.laws.proofs.Images.{tested, placed}
 use Rattle.limits.specs.Sound.{Sound, GoodImage}
 use Rattle.limits.specs.History.{byTake}
-use Rattle.limits.proofs.Decided.{take-space}
+use Rattle.laws.proofs.Refused.{unless-passed}
+use Rattle.limits.proofs.Decided.{take-passed}
 use Rattle.limits.proofs.Kept.{decided-sound}
 use Rattle.limits.proofs.Loaded.{loaded-sound}
 use Rattle.limits.proofs.Formats.{parsed-image}
 use Rattle.state.proofs.Chains.{canonical-sound}
-use Rattle.decide.specs.Tests.{byNumber, takeRefusal}
-use Rattle.decide.proofs.Decided.{take-decided}
-use Rattle.lent.specs.Memory.{lentRefusal, Fit}
-use Rattle.lent.proofs.Settled.{lent-number}
+use Rattle.lent.specs.Memory.{Fit}
 use Rattle.images.specs.declared.ImageRead.the-variants.{Malformed, Head}
 use Rattle.images.specs.Answers.{readOf}
 use Rattle.images.proofs.Whole.{read-ok, read-none, floor-count, entry-count}
-use Rattle.moves.proofs.Chains.{first-by, pick-by, by-zero}
-use Rattle.takes.specs.Taking.{Taking, takeNumber}
+use Rattle.takes.specs.Taking.{Taking}
 
 module _ (s log b : List ℕ) where
-  pub take-is : takeOf s log b ≡ settle s log [] (byNumber (lentRefusal s log 0 0) (onTake (load s) (freeIn s log) (parseImage b)))
-  unfolding takeOf
-  take-is = ap (settle s log []) (lent-number s log [] 0 (onTake (load s) (freeIn s log) (parseImage b)))
+  pub take-is : takeOf s log b ≡ settle s log [] (unlessRefused (lentRefusal s log 0 0) (onTake (load s) (freeIn s log) (parseImage b)))
+  unfolding takeOf lent
+  take-is = refl
 
   pub take-malformed : Malformed ≡ readOf (parseImage b) → {r : Answer} → r ≡ answerOf 1 0 → after r s log [] ≡ settle s log [] (onTake (load s) (freeIn s log) (parseImage b))
-  unfolding parseImage onTake settle
+  unfolding parseImage onTake orMalformed settle
   take-malformed e q = rw (read-none b e, q)
 
   module _ (h : ImageHead) where
@@ -59,7 +56,7 @@ module _ (s log b : List ℕ) where
     parsed e = let k = read-ok b h e in rw (k .ok, k .head)
 
     pub take-read : Head h ≡ readOf (parseImage b) → onTake (load s) (freeIn s log) (parseImage b) ≡ decideTake (load s) (freeIn s log) (imageAt h b)
-    unfolding onTake
+    unfolding onTake orMalformed
     take-read e = rw (parsed e)
 
     ascending : (i : Image) → imageTablesOk i ≡ true → clientsAscend (i .floors) ≡ true
@@ -93,19 +90,13 @@ module _ (s log b : List ℕ) where
     abbrev brought : Image
     brought = imageAt h b
 
-    take-by : (st : State) (free : ℕ) → decideTake st free brought ≡ byNumber (takeNumber st free brought h) (append (took brought))
-    unfolding takeNumber imageAt
-    take-by st free =
-        take-decided st free brought h refl refl
-        ∙ ap (byNumber (takeRefusal (pointAt st (brought .point)) (st .server) (imageInRange (entryAt (st .plan) (brought .point)) brought) h))
-        (pick-by (not (every (freeFor (brought .point) (st .records)) (brought .entries))) 13 _ (append (took brought)) refl)
-        ∙ first-by _ _ (append (took brought))
+    pub take-chain : settle s log [] (decideTake (load s) (freeIn s log) brought) ≡ settle s log [] (unlessRefused (takeTests (load s) (freeIn s log) brought) (append (took brought)))
+    unfolding decideTake
+    take-chain = refl
 
-    pub take-chain : settle s log [] (decideTake (load s) (freeIn s log) brought) ≡ settle s log [] (byNumber (takeNumber (load s) (freeIn s log) brought h) (append (took brought)))
-    take-chain = ap (settle s log []) (take-by (load s) (freeIn s log))
-
-    pub take-ready : {n : ℕ} → n ≡ takeNumber (load s) (freeIn s log) brought h → n ≡ 0 → decideTake (load s) (freeIn s log) brought ≡ append (took brought)
-    take-ready q z = take-by (load s) (freeIn s log) ∙ by-zero _ (append (took brought)) (sym q ∙ z)
+    pub take-ready : {n : ℕ} → n ≡ takeTests (load s) (freeIn s log) brought → n ≡ 0 → decideTake (load s) (freeIn s log) brought ≡ append (took brought)
+    unfolding decideTake
+    take-ready q z = unless-passed _ (append (took brought)) (sym q ∙ z)
 
     -- ---- the record
 
@@ -117,7 +108,7 @@ module _ (s log b : List ℕ) where
       module _ (e : decideTake (load s) (freeIn s log) brought ≡ append (took brought)) where
         pub take-room : load s .size + 8 + length b ≤ length log
         unfolding freeIn
-        take-room = omega (arith, T .logged, take-sized, take-space (load s) (freeIn s log) brought (took brought) e)
+        take-room = omega (arith, T .logged, take-sized, take-passed (load s) (freeIn s log) brought (took brought) e .1)
 
         left : {k : ℕ} → k ≡ load s .size → k + 8 + length b < word * word → Sound (applyTook brought (k + 8 + length b) (load s))
         unfolding applyRecord recordSize

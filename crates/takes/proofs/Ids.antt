@@ -25,7 +25,7 @@ use Rattle.record_table.specs.Rules.{foundOf}
 -- what a search says of the point p
 unfoldable freeBy : ℕ → Option Completion → Bool
 freeBy p none = true
-freeBy p (some r) = eqb (r .point) p
+freeBy p (some r) = eqb (r .command .point) p
 
 and-true : (b : Bool) → (b && true) ≡ b
 and-true true = refl
@@ -33,7 +33,7 @@ and-true false = refl
 
 module _ (p : ℕ) (e : ImageEntry) where
   abbrev free : Completion → Bool
-  free r = not (isId (e .client) (e .call) r) || eqb (r .point) p
+  free r = not (isId (e .client) (e .call) r) || eqb (r .command .point) p
 
   -- a record with another id
   other-free : (r q : Completion) → isId (e .client) (e .call) r ≡ true → Other r q → isId (e .client) (e .call) q ≡ false
@@ -43,10 +43,10 @@ module _ (p : ℕ) (e : ImageEntry) where
       go : (t : Bool) → isId (e .client) (e .call) q ≡ t → t ≡ false
       go false k = refl
       go true k =
-          let a = eqb-true _ _ (and-left (eqb (r .client) (e .client)) (eqb (r .call) (e .call)) h) in
-          let b = eqb-true _ _ (and-right (eqb (r .client) (e .client)) (eqb (r .call) (e .call)) h) in
-          let c = eqb-true _ _ (and-left (eqb (q .client) (e .client)) (eqb (q .call) (e .call)) k) in
-          let d = eqb-true _ _ (and-right (eqb (q .client) (e .client)) (eqb (q .call) (e .call)) k) in
+          let a = eqb-true _ _ (and-left (eqb (r .command .client) (e .client)) (eqb (r .command .call) (e .call)) h) in
+          let b = eqb-true _ _ (and-right (eqb (r .command .client) (e .client)) (eqb (r .command .call) (e .call)) h) in
+          let c = eqb-true _ _ (and-left (eqb (q .command .client) (e .client)) (eqb (q .command .call) (e .call)) k) in
+          let d = eqb-true _ _ (and-right (eqb (q .command .client) (e .client)) (eqb (q .command .call) (e .call)) k) in
           absurd (o (a ∙ sym c) (b ∙ sym d))
 
   others-free : (r : Completion) (rs : List Completion) → isId (e .client) (e .call) r ≡ true → All (Other r) rs → every free rs ≡ true
@@ -60,8 +60,8 @@ module _ (p : ℕ) (e : ImageEntry) where
   free-by (r ∷ rs) d = go (isId (e .client) (e .call) r) refl (free-by rs (d .1))
     where
       go : (t : Bool) → isId (e .client) (e .call) r ≡ t → every free rs ≡ freeBy p (find (e .client) (e .call) rs)
-          → ((not t || eqb (r .point) p) && every free rs) ≡ freeBy p (pick t (some r) (find (e .client) (e .call) rs))
-      go true k ih = rw (others-free r rs k (d .0)) (and-true (eqb (r .point) p))
+          → ((not t || eqb (r .command .point) p) && every free rs) ≡ freeBy p (pick t (some r) (find (e .client) (e .call) rs))
+      go true k ih = rw (others-free r rs k (d .0)) (and-true (eqb (r .command .point) p))
       go false k ih = ih
 
   -- what the search found
@@ -77,10 +77,10 @@ module _ (p : ℕ) (e : ImageEntry) where
       go none k = refl
       go (some r) k = let z : _≡_ {A = ℕ} 0 1 = cc in absurd (omega arith)
 
-  pub free-at : (rs : List Completion) → Distinct rs → (r : Completion) → At r ≡ foundOf (find (e .client) (e .call) rs) → eqb (r .point) p ≡ freeFor p rs e
+  pub free-at : (rs : List Completion) → Distinct rs → (r : Completion) → At r ≡ foundOf (find (e .client) (e .call) rs) → eqb (r .command .point) p ≡ freeFor p rs e
   unfolding foundOf freeBy
-  free-at rs d r q = found-by rs q (eqb (r .point) p) go d
+  free-at rs d r q = found-by rs q (eqb (r .command .point) p) go d
     where
-      go : (o : Option Completion) → At r ≡ foundOf o → eqb (r .point) p ≡ freeBy p o
+      go : (o : Option Completion) → At r ≡ foundOf o → eqb (r .command .point) p ≡ freeBy p o
       go none k = let z : _≡_ {A = ℕ} 0 1 = cc in absurd (omega arith)
       go (some q) k = let z : r ≡ q = cc in rw z

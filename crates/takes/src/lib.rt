@@ -1,12 +1,13 @@
 // The call of a running server that takes a point: take. It answers and leaves its lent slices as its definition says, for all
 // arguments.
-use image_rows::ENTRY_ROW;
-use image_rows::FLOOR_ROW;
-use image_rows::LEAST_IMAGE;
 use images::ImageRead;
 use model::Answer;
 use model::ImageEntry;
 use model::ImageHead;
+use model::constants;
+use model::constants::ENTRY_ROW;
+use model::constants::FLOOR_ROW;
+use model::constants::LEAST_IMAGE;
 use record_table::Found;
 ghost use mathlib.Core.Path.{_≡_};
 ghost use Prim.Native.Nat.{_+_, _*_, _≤_};
@@ -18,13 +19,12 @@ ghost use Rattle.model.specs.Tables.{rows, every};
 ghost use Rattle.model.specs.Plan.{entryAt};
 ghost use Rattle.model.specs.Images.{imageEntryOf, imageAt, imageInRange};
 ghost use Rattle.model.specs.Logs.{took};
-ghost use Rattle.model.specs.States.{load, pointAt};
-ghost use Rattle.model.specs.Decisions.{freeFor, decideTake};
+ghost use Rattle.model.specs.States.{load};
+ghost use Rattle.model.specs.Decisions.{freeFor, takeTests, decideTake};
 ghost use Rattle.model.specs.Operations.{after, settle, freeIn, takeOf};
 ghost use Rattle.limits.specs.Sound.{Distinct};
 ghost use Rattle.state.specs.Canonical.{Canonical};
-ghost use Rattle.decide.specs.Tests.{takeRefusal};
-ghost use Rattle.takes.specs.Taking.{Taking, takeNumber};
+ghost use Rattle.takes.specs.Taking.{Taking};
 
 // ---- ids
 
@@ -36,7 +36,7 @@ fn is_free(s: &[u8], point: u8, e: ImageEntry) -> bool
     let f = record_table::find(s, e.client, e.call);
     match f {
         Found::Nothing => true,
-        Found::At(r) => r.point == point,
+        Found::At(r) => r.command.point == point,
     }
 }
 
@@ -58,35 +58,48 @@ fn entries_free(s: &[u8], image: &[u8], point: u8, at: usize, m: usize) -> bool
 
 // ---- the tests
 
-// 1 values not in the point's range; 11 other destination; 12 move <= own move number; 13 point held here.
-fn point_number(s: &[u8], log: &[u8], image: &[u8], h: ImageHead) -> u32
+// The values are in the point's range.
+fn is_ranged(s: &[u8], log: &[u8], image: &[u8], h: ImageHead) -> bool
     requires { ⌜ Taking (now s) (now log) (now image) h ⌝ }
-    ensures { λ r. ⌜ r ≡ takeRefusal (pointAt (load (now (s .entry))) (h .point)) (load (now (s .entry)) .server) (imageInRange (entryAt (load (now (s .entry)) .plan) (h .point)) (imageAt h (now (image .entry)))) h ⌝ }
+    ensures { λ r. ⌜ r ≡ imageInRange (entryAt (load (now (s .entry)) .plan) (h .point)) (imageAt h (now (image .entry))) ⌝ }
 {
     let e = state::entry_at(s, h.point);
-    let ranged = images::values_in_range(image, h, e);
-    let x = state::point_at(s, h.point);
-    let server = state::server_of(s);
-    decide::take_refusal(x, server, ranged, h)
+    images::values_in_range(image, h, e)
 }
 
-// Those; 13 an id held for another point; 8 more than 32 clients after merging; 9.
-fn take_number(s: &[u8], log: &[u8], image: &[u8], h: ImageHead) -> u32
+// No id is held for another point.
+fn ids_free(s: &[u8], log: &[u8], image: &[u8], h: ImageHead) -> bool
     requires { ⌜ Taking (now s) (now log) (now image) h ⌝ }
-    ensures { λ r. ⌜ r ≡ takeNumber (load (now (s .entry))) (freeIn (now (s .entry)) (now (log .entry))) (imageAt h (now (image .entry))) h ⌝ }
+    ensures { λ r. ⌜ r ≡ every (freeFor (h .point) (load (now (s .entry)) .records)) (imageAt h (now (image .entry)) .entries) ⌝ }
 {
-    let n = point_number(s, log, image, h);
-    if n != 0 {
-        return n;
-    }
     let m = h.entries as usize;
     let at = LEAST_IMAGE + FLOOR_ROW * (h.floors as usize);
-    if !entries_free(s, image, h.point, at, m) {
-        return 13;
-    }
+    entries_free(s, image, h.point, at, m)
+}
+
+// 1 values not in the point's range; 11 other destination; 12 move <= own move number; 13 point held here, or an id held for another
+// point; 8 more than 32 clients after merging; 9.
+fn take_number(s: &[u8], log: &[u8], image: &[u8], h: ImageHead) -> u32
+    requires { ⌜ Taking (now s) (now log) (now image) h ⌝ }
+    ensures { λ r. ⌜ r ≡ takeTests (load (now (s .entry))) (freeIn (now (s .entry)) (now (log .entry))) (imageAt h (now (image .entry))) ⌝ }
+{
+    let ranged = is_ranged(s, log, image, h);
+    let ids = ids_free(s, log, image, h);
     let merged = client_table::merged_count(s, image, h.floors as usize);
+    let x = state::point_at(s, h.point);
+    let server = state::server_of(s);
     let free = lent::free_in(s, log);
-    decide::space_refusal(merged, free, 8 + image.len())
+    decide::take_refusal(
+        x,
+        server,
+        h.destination,
+        h.moveNumber,
+        ranged,
+        ids,
+        merged,
+        free,
+        constants::TAKE_HEAD + image.len(),
+    )
 }
 
 // ---- take
@@ -98,7 +111,7 @@ fn take_done(s: &mut [u8], log: &mut [u8], image: &[u8], h: ImageHead) -> Answer
 {
     let size = state::size_of(s);
     appends::append_take(log, size as usize, image);
-    let end = size + 8 + image.len() as u64;
+    let end = size + constants::TAKE_HEAD_U64 + image.len() as u64;
     apply_took::apply_took(s, image, h, end);
     lent::made(0)
 }
@@ -126,7 +139,7 @@ pub fn take(s: &mut [u8], log: &mut [u8], image: &[u8]) -> Answer
     }
     let f = images::image_read(image);
     match f {
-        ImageRead::Malformed => lent::refused(1),
+        ImageRead::Malformed => lent::refused(constants::MALFORMED),
         ImageRead::Head(h) => take_by(s, log, image, h),
     }
 }

@@ -104,7 +104,7 @@ pub extern "C" fn mantelorris_test_append_executed(
     value: u32,
     quality: u8,
 ) -> u64
-    ensures { λ r. ⌜ Shown.after r (now (log .exit)) ≡ Shown.appending (now (log .entry)) at (executed (record { op = op; point = point; outcome = outcome; client = client; call = call; done = done; argument = flip argument; value = flip value; quality = quality })) ⌝ }
+    ensures { λ r. ⌜ Shown.after r (now (log .exit)) ≡ Shown.appending (now (log .entry)) at (executed (record { command = record { client = client; call = call; op = op; point = point; argument = flip argument }; done = done; result = record { outcome = outcome; value = flip value; quality = quality } })) ⌝ }
 {
     records_c::mantelorris_test_append_executed(
         log,
@@ -141,7 +141,7 @@ pub extern "C" fn mantelorris_test_append_give(
     destination: u8,
     number: u32,
 ) -> u64
-    ensures { λ r. ⌜ Shown.after r (now (log .exit)) ≡ Shown.appending (now (log .entry)) at (gave (record { point = point; destination = destination; number = number })) ⌝ }
+    ensures { λ r. ⌜ Shown.after r (now (log .exit)) ≡ Shown.appending (now (log .entry)) at (gave (record { point = point; destination = destination; moveNumber = number })) ⌝ }
 {
     records_c::mantelorris_test_append_give(log, at, point, destination, number)
 }
@@ -160,7 +160,7 @@ pub extern "C" fn mantelorris_test_append_release(
     point: u8,
     number: u32,
 ) -> u64
-    ensures { λ r. ⌜ Shown.after r (now (log .exit)) ≡ Shown.appending (now (log .entry)) at (released (record { point = point; number = number })) ⌝ }
+    ensures { λ r. ⌜ Shown.after r (now (log .exit)) ≡ Shown.appending (now (log .entry)) at (released (record { point = point; moveNumber = number })) ⌝ }
 {
     records_c::mantelorris_test_append_release(log, at, point, number)
 }

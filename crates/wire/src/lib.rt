@@ -1,50 +1,41 @@
 // Numbers in a slice of bytes, and the fields of packets: their places and ranges. Numbers are little-endian; a signed number
 // x of 32 bits is x + 2^31 inside and two's complement in a packet.
+use model::ArgumentRange;
+use model::Command;
+use model::CommandResult;
 use model::Grant;
 use model::Notice;
 use model::Receipt;
 use model::RefusalPacket;
 use model::Request;
 use model::ResultPacket;
+use model::constants::ARGUMENT_RANGES;
+use model::constants::FAULT_OP;
+use model::constants::FIRST_DENIED;
+use model::constants::GRANT_KIND;
+use model::constants::HALF;
+use model::constants::LAST_DENIED;
+use model::constants::LAST_IN_WINDOW;
+use model::constants::LAST_OUTCOME;
+use model::constants::LAST_POINT;
+use model::constants::LAST_QUALITY;
+use model::constants::LAST_SERVER;
+use model::constants::PACKET_LENGTHS;
+use model::constants::PART_OP;
+use model::constants::READ_OP;
+use model::constants::REPORT_OP;
+use model::constants::SET_OP;
+use model::constants::STEP_OP;
+use model::constants::WORD;
 ghost use mathlib.Core.Path.{_≡_};
 ghost use Prim.Native.Nat.{_+_, _*_, _≤_, _<_};
 ghost use lib.ListN.{length};
 ghost use Rattle.model.specs.Numbers.{join32, word, le32At, le32, le64At, le64, signedAt, signed32, flip, zeroAt, zeros3At, quad};
 ghost use Rattle.model.specs.Tables.{written};
-ghost use Rattle.model.specs.Rules.{leastArgument, greatestArgument, argumentOk};
+ghost use Rattle.model.specs.Rules.{inArguments, argumentOk};
 ghost use Rattle.model.specs.Packets.{packetLength, idOk, doneOk, commandOk, outcomeOk};
 ghost use Rattle.model.specs.Packets.{requestAt, resultAt, refusalAt, receiptAt, noticeAt, grantAt};
 ghost use Rattle.model.specs.Packets.{requestOk, resultOk, refusalOk, receiptOk, noticeOk, grantOk};
-
-// ---- limits
-
-// Bytes of a packet, by kind; there is no kind 0.
-pub const PACKET_LENGTHS: [usize; 7] = [0, 24, 16, 12, 8, 12, 12];
-
-// The least and the greatest argument by op: read and fault 0, part 0 to 1000, others any.
-pub const LEAST_ARGUMENTS: [u32; 6] = [2147483648, 0, 0, 0, 2147483648, 2147483648];
-
-pub const GREATEST_ARGUMENTS: [u32; 6] = [
-    2147483648,
-    4294967295,
-    4294967295,
-    4294967295,
-    2147483648,
-    2147484648,
-];
-
-pub const LAST_POINT: u8 = 63;
-
-pub const LAST_SERVER: u8 = 15;
-
-pub const LAST_OP: u8 = 5;
-
-pub const LAST_OUTCOME: u8 = 3;
-
-pub const LAST_QUALITY: u8 = 1;
-
-// A call is at most this far above its request's done, or above its client's floor.
-pub const LAST_IN_WINDOW: u64 = 15;
 
 // ---- numbers
 
@@ -59,7 +50,7 @@ fn join(a: u8, b: u8, c: u8, d: u8) -> u32
 fn join_words(low: u32, high: u32) -> u64
     ensures { λ r. ⌜ r ≡ low + word * high ⌝ }
 {
-    low as u64 + 4294967296 * (high as u64)
+    low as u64 + WORD * (high as u64)
 }
 
 // The number in the 4 bytes from at.
@@ -109,19 +100,15 @@ pub fn write_u64(s: &mut [u8], at: usize, v: u64)
     requires { ⌜ at + 8 ≤ length (now s) ⌝ }
     ensures { λ r. ⌜ now (s .exit) ≡ written (now (s .entry)) at (le64 v) ⌝ }
 {
-    write_u32(s, at, (v % 4294967296) as u32);
-    write_u32(s, at + 4, (v / 4294967296) as u32);
+    write_u32(s, at, (v % WORD) as u32);
+    write_u32(s, at + 4, (v / WORD) as u32);
 }
 
 // Two's complement to x + 2^31, and back.
 pub fn flipped(x: u32) -> u32
     ensures { λ r. ⌜ r ≡ flip x ⌝ }
 {
-    if x < 2147483648 {
-        x + 2147483648
-    } else {
-        x - 2147483648
-    }
+    if x < HALF { x + HALF } else { x - HALF }
 }
 
 // The signed number in the 4 bytes from at.
@@ -162,7 +149,7 @@ pub fn zeros3_at(s: &[u8], at: usize) -> bool
 pub fn packet_length(kind: u8) -> usize
     ensures { λ r. ⌜ r ≡ packetLength kind ⌝ }
 {
-    if kind <= 6 {
+    if kind <= GRANT_KIND {
         let i = kind as usize;
         PACKET_LENGTHS[i]
     } else {
@@ -170,53 +157,37 @@ pub fn packet_length(kind: u8) -> usize
     }
 }
 
-// The least argument of an op. With a literal index the table stays in memory; with another it is copied to the stack first.
-pub fn least_argument(op: u8) -> u32
-    ensures { λ r. ⌜ r ≡ leastArgument op ⌝ }
-{
-    match op {
-        0 => LEAST_ARGUMENTS[0],
-        1 => LEAST_ARGUMENTS[1],
-        2 => LEAST_ARGUMENTS[2],
-        3 => LEAST_ARGUMENTS[3],
-        4 => LEAST_ARGUMENTS[4],
-        5 => LEAST_ARGUMENTS[5],
-        6..=255 => 0,
-    }
-}
-
-// The greatest argument of an op.
-pub fn greatest_argument(op: u8) -> u32
-    ensures { λ r. ⌜ r ≡ greatestArgument op ⌝ }
-{
-    match op {
-        0 => GREATEST_ARGUMENTS[0],
-        1 => GREATEST_ARGUMENTS[1],
-        2 => GREATEST_ARGUMENTS[2],
-        3 => GREATEST_ARGUMENTS[3],
-        4 => GREATEST_ARGUMENTS[4],
-        5 => GREATEST_ARGUMENTS[5],
-        6..=255 => 0,
-    }
-}
-
 // ---- fields in their ranges
 
-// The argument lies in its op's range.
+// An argument in a range.
+fn in_arguments(r: ArgumentRange, a: u32) -> bool
+    ensures { λ b. ⌜ b ≡ inArguments r a ⌝ }
+{
+    (r.least <= a) & (a <= r.greatest)
+}
+
+// The argument lies in its op's range; an op past the last has none. With a literal index the table stays in memory; with another it
+// is copied to the stack first.
 pub fn argument_ok(op: u8, a: u32) -> bool
     ensures { λ r. ⌜ r ≡ argumentOk op a ⌝ }
 {
-    let least = least_argument(op);
-    let greatest = greatest_argument(op);
-    (least <= a) & (a <= greatest)
+    match op {
+        READ_OP => in_arguments(ARGUMENT_RANGES[0], a),
+        SET_OP => in_arguments(ARGUMENT_RANGES[1], a),
+        STEP_OP => in_arguments(ARGUMENT_RANGES[2], a),
+        REPORT_OP => in_arguments(ARGUMENT_RANGES[3], a),
+        FAULT_OP => in_arguments(ARGUMENT_RANGES[4], a),
+        PART_OP => in_arguments(ARGUMENT_RANGES[5], a),
+        6..=255 => false,
+    }
 }
 
-// Op, point and the op's argument.
+// Op with its argument, and point.
 pub fn command_ok(op: u8, point: u8, a: u32) -> bool
     ensures { λ r. ⌜ r ≡ commandOk op point a ⌝ }
 {
     let in_range = argument_ok(op, a);
-    (op <= LAST_OP) & ((point <= LAST_POINT) & in_range)
+    in_range & (point <= LAST_POINT)
 }
 
 // Client and call are from 1.
@@ -242,16 +213,16 @@ pub fn outcome_ok(outcome: u8, quality: u8) -> bool
 pub fn request_ok(q: Request) -> bool
     ensures { λ r. ⌜ r ≡ requestOk q ⌝ }
 {
-    let command = command_ok(q.op, q.point, q.argument);
-    let id = id_ok(q.client, q.call);
-    let done = done_ok(q.done, q.call);
+    let command = command_ok(q.command.op, q.command.point, q.command.argument);
+    let id = id_ok(q.command.client, q.command.call);
+    let done = done_ok(q.done, q.command.call);
     command & (id & done)
 }
 
 pub fn result_ok(r: ResultPacket) -> bool
     ensures { λ b. ⌜ b ≡ resultOk r ⌝ }
 {
-    let outcome = outcome_ok(r.outcome, r.quality);
+    let outcome = outcome_ok(r.result.outcome, r.result.quality);
     let id = id_ok(r.client, r.call);
     (r.point <= LAST_POINT) & (outcome & id)
 }
@@ -260,7 +231,7 @@ pub fn refusal_ok(r: RefusalPacket) -> bool
     ensures { λ b. ⌜ b ≡ refusalOk r ⌝ }
 {
     let id = id_ok(r.client, r.call);
-    (3 <= r.number) & ((r.number <= 9) & ((r.point <= LAST_POINT) & id))
+    (FIRST_DENIED <= r.refusal) & ((r.refusal <= LAST_DENIED) & ((r.point <= LAST_POINT) & id))
 }
 
 pub fn receipt_ok(r: Receipt) -> bool
@@ -287,14 +258,17 @@ pub fn request_at(p: &[u8]) -> Request
     requires { ⌜ 24 ≤ length (now p) ⌝ }
     ensures { λ r. ⌜ r ≡ requestAt (now (p .entry)) ⌝ }
 {
-    Request {
-        op: p[1],
-        point: p[2],
+    let command = Command {
         client: read_u32(p, 4),
         call: read_u32(p, 8),
+        op: p[1],
+        point: p[2],
+        argument: read_signed(p, 20),
+    };
+    Request {
+        command,
         done: read_u32(p, 12),
         lease: read_u32(p, 16),
-        argument: read_signed(p, 20),
     }
 }
 
@@ -302,13 +276,16 @@ pub fn result_at(p: &[u8]) -> ResultPacket
     requires { ⌜ 16 ≤ length (now p) ⌝ }
     ensures { λ r. ⌜ r ≡ resultAt (now (p .entry)) ⌝ }
 {
-    ResultPacket {
+    let result = CommandResult {
         outcome: p[1],
-        point: p[2],
+        value: read_signed(p, 12),
         quality: p[3],
+    };
+    ResultPacket {
         client: read_u32(p, 4),
         call: read_u32(p, 8),
-        value: read_signed(p, 12),
+        point: p[2],
+        result,
     }
 }
 
@@ -317,7 +294,7 @@ pub fn refusal_at(p: &[u8]) -> RefusalPacket
     ensures { λ r. ⌜ r ≡ refusalAt (now (p .entry)) ⌝ }
 {
     RefusalPacket {
-        number: p[1],
+        refusal: p[1],
         point: p[2],
         client: read_u32(p, 4),
         call: read_u32(p, 8),
@@ -331,7 +308,7 @@ pub fn receipt_at(p: &[u8]) -> Receipt
     Receipt {
         point: p[1],
         server: p[2],
-        number: read_u32(p, 4),
+        moveNumber: read_u32(p, 4),
     }
 }
 

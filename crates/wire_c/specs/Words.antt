@@ -13,8 +13,10 @@ use Rattle.model.specs.declared.Packet.{Packet}
 use Rattle.model.specs.declared.Packet.the-variants.{Malformed, Requested, Resulted, Refused, Receipted, Noticed, Granted}
 use Rattle.model.specs.Choice.{pick}
 use Rattle.model.specs.Numbers.{le32At, le32, flip}
+use Rattle.model.specs.Refusals.{noRefusal, malformed, tooShort}
 use Rattle.model.specs.Tables.{written}
-use Rattle.model.specs.Packets.{parsePacket, packetBytes}
+use Rattle.model.specs.Limits.{requestKind, resultKind, refusalKind, receiptKind, noticeKind, grantKind, requestSize}
+use Rattle.model.specs.Packets.{parsePacket, packetBytes, packetNumber}
 use Rattle.wire_c.specs.declared.Words.{Words}
 
 abbrev pub eight : ℕ → ℕ → ℕ → ℕ → ℕ → ℕ → ℕ → ℕ → Words
@@ -30,36 +32,46 @@ wordsBytes w =
 
 unfoldable pub wordsOf : Packet → Words
 wordsOf Malformed = eight 0 0 0 0 0 0 0 0
-wordsOf (Requested q) = eight 1 (q .op) (q .point) (q .client) (q .call) (q .done) (q .lease) (flip (q .argument))
-wordsOf (Resulted q) = eight 2 (q .outcome) (q .point) (q .quality) (q .client) (q .call) (flip (q .value)) 0
-wordsOf (Refused q) = eight 3 (q .number) (q .point) (q .client) (q .call) 0 0 0
-wordsOf (Receipted q) = eight 4 (q .point) (q .server) (q .number) 0 0 0 0
-wordsOf (Noticed q) = eight 5 (q .client) (q .time) 0 0 0 0 0
-wordsOf (Granted q) = eight 6 (q .client) (q .lease) 0 0 0 0 0
+wordsOf (Requested q) = eight requestKind (q .command .op) (q .command .point) (q .command .client) (q .command .call) (q .done) (q .lease) (flip (q .command .argument))
+wordsOf (Resulted q) = eight resultKind (q .result .outcome) (q .point) (q .result .quality) (q .client) (q .call) (flip (q .result .value)) 0
+wordsOf (Refused q) = eight refusalKind (q .refusal) (q .point) (q .client) (q .call) 0 0 0
+wordsOf (Receipted q) = eight receiptKind (q .point) (q .server) (q .moveNumber) 0 0 0 0
+wordsOf (Noticed q) = eight noticeKind (q .client) (q .time) 0 0 0 0 0
+wordsOf (Granted q) = eight grantKind (q .client) (q .lease) 0 0 0 0 0
 
 -- the packet of eight numbers; of a field of one byte the lowest byte counts
 unfoldable pub requestOf : Words → Request
 requestOf w =
-    record { op = w .first % 256; point = w .second % 256; client = w .third; call = w .fourth; done = w .fifth; lease = w .sixth; argument = flip (w .seventh) }
+    record {
+      command =
+          record { client = w .third; call = w .fourth; op = w .first % 256; point = w .second % 256; argument = flip (w .seventh) };
+      done = w .fifth;
+      lease = w .sixth;
+    }
 
 unfoldable pub resultOf : Words → ResultPacket
 resultOf w =
-    record { outcome = w .first % 256; point = w .second % 256; quality = w .third % 256; client = w .fourth; call = w .fifth; value = flip (w .sixth) }
+    record {
+      client = w .fourth;
+      call = w .fifth;
+      point = w .second % 256;
+      result = record { outcome = w .first % 256; value = flip (w .sixth); quality = w .third % 256 };
+    }
 
 unfoldable pub refusalOf : Words → RefusalPacket
-refusalOf w = record { number = w .first % 256; point = w .second % 256; client = w .third; call = w .fourth }
+refusalOf w = record { refusal = w .first % 256; point = w .second % 256; client = w .third; call = w .fourth }
 
 unfoldable pub receiptOf : Words → Receipt
-receiptOf w = record { point = w .first % 256; server = w .second % 256; number = w .third }
+receiptOf w = record { point = w .first % 256; server = w .second % 256; moveNumber = w .third }
 
 unfoldable pub packetOf : Words → Packet
 packetOf w =
-    pick (eqb (w .kind) 1) (Requested (requestOf w))
-    (pick (eqb (w .kind) 2) (Resulted (resultOf w))
-    (pick (eqb (w .kind) 3) (Refused (refusalOf w))
-    (pick (eqb (w .kind) 4) (Receipted (receiptOf w))
-    (pick (eqb (w .kind) 5) (Noticed (record { client = w .first; time = w .second }))
-    (pick (eqb (w .kind) 6) (Granted (record { client = w .first; lease = w .second })) Malformed)))))
+    pick (eqb (w .kind) requestKind) (Requested (requestOf w))
+    (pick (eqb (w .kind) resultKind) (Resulted (resultOf w))
+    (pick (eqb (w .kind) refusalKind) (Refused (refusalOf w))
+    (pick (eqb (w .kind) receiptKind) (Receipted (receiptOf w))
+    (pick (eqb (w .kind) noticeKind) (Noticed (record { client = w .first; time = w .second }))
+    (pick (eqb (w .kind) grantKind) (Granted (record { client = w .first; lease = w .second })) Malformed)))))
 
 -- an answer, and what the lent slice holds after the call
 pub record After : Type 0 where
@@ -69,14 +81,19 @@ pub record After : Type 0 where
 abbrev pub after : ℕ → List ℕ → After
 after n s = record { answer = n; slice = s }
 
+-- the paper's number, by the kind
+unfoldable pub kindNumber : ℕ → ℕ
+kindNumber k = pick (eqb k 0) malformed noRefusal
+
+-- the answer is the paper's number: 2 where the numbers lack space, 1 where the packet is malformed
 unfoldable pub parsing : List ℕ → List ℕ → After
 parsing p s =
-    pick (ltb (length s) 32) (after 0 s)
-    (after (wordsOf (parsePacket p) .kind) (written s 0 (wordsBytes (wordsOf (parsePacket p)))))
+    pick (ltb (length s) 32) (after tooShort s)
+    (after (packetNumber (parsePacket p)) (written s 0 (wordsBytes (wordsOf (parsePacket p)))))
 
 -- the packet of eight numbers, written to the front of out; the answer is its length
 unfoldable pub putting : Words → List ℕ → After
-putting w out = pick (ltb (length out) 24) (after 0 out) (after (length (packetBytes (packetOf w))) (written out 0 (packetBytes (packetOf w))))
+putting w out = pick (ltb (length out) requestSize) (after 0 out) (after (length (packetBytes (packetOf w))) (written out 0 (packetBytes (packetOf w))))
 
 unfoldable pub writing : List ℕ → List ℕ → After
 writing s out = pick (ltb (length s) 32) (after 0 out) (putting (wordsAt s) out)

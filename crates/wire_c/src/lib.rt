@@ -1,5 +1,7 @@
 // Packets as eight numbers, for a test program in C or Rust that compares them with another program's. The numbers have 32
 // bits, little-endian: the kind, the fields in the paper's order, 0 for the rest; signed fields are in two's complement.
+use model::Command;
+use model::CommandResult;
 use model::Grant;
 use model::Notice;
 use model::Packet;
@@ -7,11 +9,12 @@ use model::Receipt;
 use model::RefusalPacket;
 use model::Request;
 use model::ResultPacket;
+use model::constants;
 ghost use mathlib.Core.Path.{_≡_};
 ghost use Prim.Native.Nat.{_≤_, _%_};
 ghost use lib.ListN.{length};
 ghost use Rattle.model.specs.Tables.{written};
-ghost use Rattle.wire_c.specs.Words.{eight, wordsAt, wordsBytes, wordsOf, packetOf, requestOf, resultOf, refusalOf, receiptOf, after, parsing, putting, writing};
+ghost use Rattle.wire_c.specs.Words.{eight, wordsAt, wordsBytes, wordsOf, packetOf, requestOf, resultOf, refusalOf, receiptOf, after, kindNumber, parsing, putting, writing};
 
 pub struct Words {
     pub kind: u32,
@@ -89,27 +92,27 @@ fn words_of(p: Packet) -> Words
         Packet::Malformed => numbered(0, 0, 0, 0, 0, 0, 0, 0),
         Packet::Requested(q) => numbered(
             1,
-            q.op as u32,
-            q.point as u32,
-            q.client,
-            q.call,
+            q.command.op as u32,
+            q.command.point as u32,
+            q.command.client,
+            q.command.call,
             q.done,
             q.lease,
-            wire::flipped(q.argument),
+            wire::flipped(q.command.argument),
         ),
         Packet::Resulted(q) => numbered(
             2,
-            q.outcome as u32,
+            q.result.outcome as u32,
             q.point as u32,
-            q.quality as u32,
+            q.result.quality as u32,
             q.client,
             q.call,
-            wire::flipped(q.value),
+            wire::flipped(q.result.value),
             0,
         ),
         Packet::Refused(q) => numbered(
             3,
-            q.number as u32,
+            q.refusal as u32,
             q.point as u32,
             q.client,
             q.call,
@@ -117,7 +120,16 @@ fn words_of(p: Packet) -> Words
             0,
             0,
         ),
-        Packet::Receipted(q) => numbered(4, q.point as u32, q.server as u32, q.number, 0, 0, 0, 0),
+        Packet::Receipted(q) => numbered(
+            4,
+            q.point as u32,
+            q.server as u32,
+            q.moveNumber,
+            0,
+            0,
+            0,
+            0,
+        ),
         Packet::Noticed(q) => numbered(5, q.client, q.time, 0, 0, 0, 0, 0),
         Packet::Granted(q) => numbered(6, q.client, q.lease, 0, 0, 0, 0, 0),
     }
@@ -134,27 +146,33 @@ fn low(x: u32) -> u8
 fn request_of(w: Words) -> Request
     ensures { λ r. ⌜ r ≡ requestOf w ⌝ }
 {
-    Request {
-        op: low(w.first),
-        point: low(w.second),
+    let command = Command {
         client: w.third,
         call: w.fourth,
+        op: low(w.first),
+        point: low(w.second),
+        argument: wire::flipped(w.seventh),
+    };
+    Request {
+        command,
         done: w.fifth,
         lease: w.sixth,
-        argument: wire::flipped(w.seventh),
     }
 }
 
 fn result_of(w: Words) -> ResultPacket
     ensures { λ r. ⌜ r ≡ resultOf w ⌝ }
 {
-    ResultPacket {
+    let result = CommandResult {
         outcome: low(w.first),
-        point: low(w.second),
+        value: wire::flipped(w.sixth),
         quality: low(w.third),
+    };
+    ResultPacket {
         client: w.fourth,
         call: w.fifth,
-        value: wire::flipped(w.sixth),
+        point: low(w.second),
+        result,
     }
 }
 
@@ -162,7 +180,7 @@ fn refusal_of(w: Words) -> RefusalPacket
     ensures { λ r. ⌜ r ≡ refusalOf w ⌝ }
 {
     RefusalPacket {
-        number: low(w.first),
+        refusal: low(w.first),
         point: low(w.second),
         client: w.third,
         call: w.fourth,
@@ -175,7 +193,7 @@ fn receipt_of(w: Words) -> Receipt
     Receipt {
         point: low(w.first),
         server: low(w.second),
-        number: w.third,
+        moveNumber: w.third,
     }
 }
 
@@ -212,17 +230,28 @@ fn put(out: &mut [u8], w: Words) -> u32
 
 // ---- exported
 
-// Parses a packet into numbers of at least 32 bytes; the answer is the kind, 0 for a malformed packet or too short a slice.
+// The paper's number, by the kind.
+fn kind_number(kind: u32) -> u32
+    ensures { λ r. ⌜ r ≡ kindNumber kind ⌝ }
+{
+    if kind == 0 {
+        constants::MALFORMED
+    } else {
+        constants::NO_REFUSAL
+    }
+}
+
+// Parses a packet into numbers of at least 32 bytes; the answer is the paper's number: 2 for too short a slice, 1 for a malformed packet.
 #[no_mangle]
 pub extern "C" fn wire_parse(packet: &[u8], numbers: &mut [u8]) -> u32
     ensures { λ r. ⌜ after r (now (numbers .exit)) ≡ parsing (now (packet .entry)) (now (numbers .entry)) ⌝ }
 {
     if numbers.len() < 32 {
-        return 0;
+        return constants::TOO_SHORT;
     }
     let w = words_of(parser::parse_packet(packet));
     write_words(numbers, w);
-    w.kind
+    kind_number(w.kind)
 }
 
 // Writes the packet of 32 bytes of numbers to out, as put.

@@ -1,6 +1,9 @@
 -- `apply::apply_executed` meets its contract.
 -- Assumes nothing.
+use mathlib.Core.Path.{ap, _∙_}
 use native.Mathlib.Omega.{arith}
+use lib.ListN.{length}
+use Rattle.state.proofs.Chains.{length-stored}
 use Rattle.apply.proofs.Stages.{stage-canonical}
 use Rattle.apply.proofs.Executed.{widths, executed-floor, executed-kept, executed-room, executed-added, executed-stage, executed-done}
 use borrow.Author.Needs.{needs}
@@ -65,6 +68,9 @@ returns c =
     let start = c .before .before .before .before .before .before .before .before .before .before .before .before .before .before .before .before .before .before .before .before .before .before .before .before .before .before .before in
     executed-done (start .pre .0) (start .args .x) (start .args .end) (widths (start .args .x) (start .args .end) (omega (arith, start .good .1 .0 .1, start .fits)) (omega (arith, start .good .1 .0 .1, start .fits)) (omega (arith, start .good .1 .0 .1, start .fits)) (omega (arith, start .good .1 .0 .1, start .fits)) (omega (arith, start .good .1 .0 .1, start .fits)) (omega (arith, start .good .1 .0 .1, start .fits)) (omega (arith, start .good .1 .0 .1, start .fits)) (omega (arith, start .good .1 .0 .1, start .fits)) (omega (arith, start .good .1 .0 .1, start .fits)) (omega (arith, start .good .1 .0 .1, start .fits))) (start .pre .2) (executed-stage (start .pre .0) (start .args .x) (start .args .end) (widths (start .args .x) (start .args .end) (omega (arith, start .good .1 .0 .1, start .fits)) (omega (arith, start .good .1 .0 .1, start .fits)) (omega (arith, start .good .1 .0 .1, start .fits)) (omega (arith, start .good .1 .0 .1, start .fits)) (omega (arith, start .good .1 .0 .1, start .fits)) (omega (arith, start .good .1 .0 .1, start .fits)) (omega (arith, start .good .1 .0 .1, start .fits)) (omega (arith, start .good .1 .0 .1, start .fits)) (omega (arith, start .good .1 .0 .1, start .fits)) (omega (arith, start .good .1 .0 .1, start .fits))) (start .pre .2) (executed-added (start .pre .0) (start .args .x) (start .args .end) (widths (start .args .x) (start .args .end) (omega (arith, start .good .1 .0 .1, start .fits)) (omega (arith, start .good .1 .0 .1, start .fits)) (omega (arith, start .good .1 .0 .1, start .fits)) (omega (arith, start .good .1 .0 .1, start .fits)) (omega (arith, start .good .1 .0 .1, start .fits)) (omega (arith, start .good .1 .0 .1, start .fits)) (omega (arith, start .good .1 .0 .1, start .fits)) (omega (arith, start .good .1 .0 .1, start .fits)) (omega (arith, start .good .1 .0 .1, start .fits)) (omega (arith, start .good .1 .0 .1, start .fits))) (start .pre .2) (executed-kept (start .pre .0) (start .args .x) (start .args .end) (widths (start .args .x) (start .args .end) (omega (arith, start .good .1 .0 .1, start .fits)) (omega (arith, start .good .1 .0 .1, start .fits)) (omega (arith, start .good .1 .0 .1, start .fits)) (omega (arith, start .good .1 .0 .1, start .fits)) (omega (arith, start .good .1 .0 .1, start .fits)) (omega (arith, start .good .1 .0 .1, start .fits)) (omega (arith, start .good .1 .0 .1, start .fits)) (omega (arith, start .good .1 .0 .1, start .fits)) (omega (arith, start .good .1 .0 .1, start .fits)) (omega (arith, start .good .1 .0 .1, start .fits))) (start .pre .2) (executed-floor (start .pre .0) (start .args .x) (start .args .end) (widths (start .args .x) (start .args .end) (omega (arith, start .good .1 .0 .1, start .fits)) (omega (arith, start .good .1 .0 .1, start .fits)) (omega (arith, start .good .1 .0 .1, start .fits)) (omega (arith, start .good .1 .0 .1, start .fits)) (omega (arith, start .good .1 .0 .1, start .fits)) (omega (arith, start .good .1 .0 .1, start .fits)) (omega (arith, start .good .1 .0 .1, start .fits)) (omega (arith, start .good .1 .0 .1, start .fits)) (omega (arith, start .good .1 .0 .1, start .fits)) (omega (arith, start .good .1 .0 .1, start .fits))) (start .pre .2) (raised .raise .ensures)) (floor .floor-in .ensures) (keep .keep-records .ensures)) (new .completion .ensures) (add .append .ensures)) (at .point-at .ensures) (made .executed-point .ensures) (put .set-point .ensures)) (size .set-size .ensures)
 
+same-length : tie.Need-same-length
+same-length c = ap length (returns c) ∙ length-stored _ _
+
 pub apply-executed-spec : {M : Type 1} → statement M
 apply-executed-spec =
     tie.close
@@ -78,5 +84,5 @@ apply-executed-spec =
     (λ c κs. search needs)
     set-point-requires
     set-size-requires
-    (λ c. search needs)
+    same-length
     returns)

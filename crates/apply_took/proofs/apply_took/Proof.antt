@@ -8,7 +8,7 @@ use Rattle.apply_took.proofs.apply_took.Statement.{statement}
 use Rattle.apply_took.proofs.apply_took.Tie as tie
 
 fits : (c : tie.Start) → Widths (c .args .h) (c .args .end)
-fits c = record { point = omega arith; quality = omega arith; value = omega arith; number = omega arith; heard = omega arith; size = omega arith }
+fits c = record { point = omega arith; quality = omega arith; value = omega arith; moveNumber = omega arith; heard = omega arith; size = omega arith }
 
 take-point-requires : tie.Need-take-point-requires
 take-point-requires c κs =

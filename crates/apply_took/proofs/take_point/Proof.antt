@@ -10,7 +10,7 @@ use Rattle.apply_took.proofs.take_point.Statement.{statement}
 use Rattle.apply_took.proofs.take_point.Tie as tie
 
 fits : (c : tie.Start) → Widths (c .args .h) (c .args .end)
-fits c = record { point = omega arith; quality = omega arith; value = omega arith; number = omega arith; heard = omega arith; size = omega arith }
+fits c = record { point = omega arith; quality = omega arith; value = omega arith; moveNumber = omega arith; heard = omega arith; size = omega arith }
 
 -- the point is stored; heard time too
 pointed : (c : tie.After-set-point) → Stage (c .before .before .before .before .before .before .args .s .now) (c .set-point .last .0) (pointedBy (c .before .before .before .before .before .before .args .h) (c .before .before .before .before .before .before .args .end) (load (c .before .before .before .before .before .before .args .s .now)))

@@ -11,7 +11,7 @@ use Rattle.apply_took.proofs.take_tables.Statement.{statement}
 use Rattle.apply_took.proofs.take_tables.Tie as tie
 
 fits : (c : tie.Start) → Widths (c .args .h) (c .args .end)
-fits c = record { point = omega arith; quality = omega arith; value = omega arith; number = omega arith; heard = omega arith; size = omega arith }
+fits c = record { point = omega arith; quality = omega arith; value = omega arith; moveNumber = omega arith; heard = omega arith; size = omega arith }
 
 merge-requires : tie.Need-merge-requires
 merge-requires c κs =

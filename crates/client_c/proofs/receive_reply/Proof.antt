@@ -1,6 +1,8 @@
 -- `client_c::receive_reply` meets its contract.
 -- Assumes nothing.
 use mathlib.Core.Path.{refl}
+use Rattle.model.specs.Numbers.{flip}
+use Rattle.model.specs.Clients.{receiveNumber, brought}
 use Rattle.client_c.specs.Replies.{receiveReply}
 use borrow.Author.Needs.{needs}
 use Rattle.client_c.proofs.receive_reply.Statement.{statement}
@@ -22,19 +24,19 @@ enum-known-a-4 : tie.Need-enum-known-a-4
 enum-known-a-4 c = search needs
 
 returns : tie.Need-returns
-unfolding receiveReply
+unfolding receiveReply receiveNumber brought flip
 returns c = rw (c .before .a .given .1) refl
 
 returns-2 : tie.Need-returns-2
-unfolding receiveReply
+unfolding receiveReply receiveNumber brought
 returns-2 c = rw (c .before .before .a2 .given .1, c .flipped .ensures) refl
 
 returns-3 : tie.Need-returns-3
-unfolding receiveReply
+unfolding receiveReply receiveNumber brought flip
 returns-3 c = rw (c .before .a3 .given .1) refl
 
 returns-4 : tie.Need-returns-4
-unfolding receiveReply
+unfolding receiveReply receiveNumber brought flip
 returns-4 c = rw (c .before .a4 .given .1) refl
 
 pub receive-reply-spec : {M : Type 1} → statement M

@@ -2,7 +2,7 @@
 -- Assumes nothing.
 use mathlib.Core.Path.{refl, sym, _∙_}
 use native.Mathlib.Omega.{arith}
-use Rattle.model.specs.Rules.{ruleOf, leastArgument, greatestArgument}
+use Rattle.model.specs.Rules.{ruleOf, argumentRange}
 use Rattle.command.proofs.Checked.{inside, outside, other, any-argument}
 use borrow.Author.Needs.{needs}
 use Rattle.command.proofs.checked_rule.Statement.{statement}
@@ -21,19 +21,19 @@ returns-2 c =
     outside (c .before .before .before .before .args .e) (c .before .before .before .before .args .op) (c .before .before .before .before .args .argument) (c .before .before .before .before .args .r) (c .before .before .before .match .keys1) (c .before .before .argument-ok .ensures) (c .before .if1 .left) (c .unchanged2 .ensures)
 
 returns-3 : tie.Need-returns-3
-unfolding ruleOf leastArgument greatestArgument
+unfolding ruleOf argumentRange
 returns-3 c =
-    inside (c .before .before .args .e) (c .before .before .args .op) (c .before .before .args .argument) (c .before .before .args .r) (c .before .match .keys2) (sym (any-argument 1 (c .before .before .args .argument) refl refl (omega arith))) refl (c .set-rule .ensures)
+    inside (c .before .before .args .e) (c .before .before .args .op) (c .before .before .args .argument) (c .before .before .args .r) (c .before .match .keys2) (sym (any-argument 1 (c .before .before .args .argument) refl (omega arith))) refl (c .set-rule .ensures)
 
 returns-4 : tie.Need-returns-4
-unfolding ruleOf leastArgument greatestArgument
+unfolding ruleOf argumentRange
 returns-4 c =
-    inside (c .before .before .args .e) (c .before .before .args .op) (c .before .before .args .argument) (c .before .before .args .r) (c .before .match .keys3) (sym (any-argument 2 (c .before .before .args .argument) refl refl (omega arith))) refl (c .step-rule .ensures)
+    inside (c .before .before .args .e) (c .before .before .args .op) (c .before .before .args .argument) (c .before .before .args .r) (c .before .match .keys3) (sym (any-argument 2 (c .before .before .args .argument) refl (omega arith))) refl (c .step-rule .ensures)
 
 returns-5 : tie.Need-returns-5
-unfolding ruleOf leastArgument greatestArgument
+unfolding ruleOf argumentRange
 returns-5 c =
-    inside (c .before .before .args .e) (c .before .before .args .op) (c .before .before .args .argument) (c .before .before .args .r) (c .before .match .keys4) (sym (any-argument 3 (c .before .before .args .argument) refl refl (omega arith))) refl (c .report-rule .ensures)
+    inside (c .before .before .args .e) (c .before .before .args .op) (c .before .before .args .argument) (c .before .before .args .r) (c .before .match .keys4) (sym (any-argument 3 (c .before .before .args .argument) refl (omega arith))) refl (c .report-rule .ensures)
 
 returns-6 : tie.Need-returns-6
 unfolding ruleOf

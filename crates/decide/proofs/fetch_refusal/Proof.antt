@@ -2,7 +2,7 @@
 -- Assumes nothing.
 use Rattle.decide.proofs.Nots.{yes-not, no-not}
 use Rattle.wire.proofs.Picks.{picks}
-use Rattle.decide.specs.Tests.{fetchRefusal}
+use Rattle.model.specs.Decisions.{fetchRefusal}
 use borrow.Author.Needs.{needs}
 use Rattle.decide.proofs.fetch_refusal.Statement.{statement}
 use Rattle.decide.proofs.fetch_refusal.Tie as tie

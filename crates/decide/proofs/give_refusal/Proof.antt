@@ -2,7 +2,7 @@
 -- Assumes nothing.
 use Rattle.decide.proofs.Nots.{yes-not, no-not}
 use Rattle.wire.proofs.Picks.{picks}
-use Rattle.decide.specs.Tests.{giveRefusal}
+use Rattle.model.specs.Decisions.{giveRefusal}
 use borrow.Author.Needs.{needs}
 use Rattle.decide.proofs.give_refusal.Statement.{statement}
 use Rattle.decide.proofs.give_refusal.Tie as tie

@@ -1,12 +1,12 @@
 -- `decide::is_synced` meets its contract.
 -- Assumes nothing.
-use Rattle.decide.specs.Tests.{synced}
+use Rattle.model.specs.States.{isSynced}
 use borrow.Author.Needs.{needs}
 use Rattle.decide.proofs.is_synced.Statement.{statement}
 use Rattle.decide.proofs.is_synced.Tie as tie
 
 returns : tie.Need-returns
-unfolding synced
+unfolding isSynced
 returns c = search needs
 
 pub is-synced-spec : {M : Type 1} → statement M

@@ -1,9 +1,13 @@
 -- `decide::new_refusal` meets its contract.
 -- Assumes nothing.
 use Rattle.wire.proofs.Picks.{picks}
-use Rattle.decide.specs.Tests.{newRefusal}
+use Rattle.model.specs.Decisions.{newRefusal}
+use borrow.Author.Needs.{needs}
 use Rattle.decide.proofs.new_refusal.Statement.{statement}
 use Rattle.decide.proofs.new_refusal.Tie as tie
+
+no-place-requires : tie.Need-no-place-requires
+no-place-requires c κs = search needs
 
 returns : tie.Need-returns
 unfolding newRefusal
@@ -18,4 +22,4 @@ unfolding newRefusal
 returns-3 c = search picks depth 24
 
 pub new-refusal-spec : {M : Type 1} → statement M
-new-refusal-spec = tie.close (tie.spec returns returns-2 returns-3)
+new-refusal-spec = tie.close (tie.spec no-place-requires returns returns-2 returns-3)

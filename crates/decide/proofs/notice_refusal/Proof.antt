@@ -1,9 +1,13 @@
 -- `decide::notice_refusal` meets its contract.
 -- Assumes nothing.
 use Rattle.wire.proofs.Picks.{picks}
-use Rattle.decide.specs.Tests.{noticeRefusal}
+use Rattle.model.specs.Decisions.{noticeRefusal}
+use borrow.Author.Needs.{needs}
 use Rattle.decide.proofs.notice_refusal.Statement.{statement}
 use Rattle.decide.proofs.notice_refusal.Tie as tie
+
+not-known-requires : tie.Need-not-known-requires
+not-known-requires c κs = search needs
 
 returns : tie.Need-returns
 unfolding noticeRefusal
@@ -18,4 +22,4 @@ unfolding noticeRefusal
 returns-3 c = search picks depth 24
 
 pub notice-refusal-spec : {M : Type 1} → statement M
-notice-refusal-spec = tie.close (tie.spec returns returns-2 returns-3)
+notice-refusal-spec = tie.close (tie.spec not-known-requires returns returns-2 returns-3)

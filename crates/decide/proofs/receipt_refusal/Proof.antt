@@ -2,7 +2,7 @@
 -- Assumes nothing.
 use Rattle.decide.proofs.Nots.{yes-not, no-not}
 use Rattle.wire.proofs.Picks.{picks}
-use Rattle.decide.specs.Tests.{receiptRefusal}
+use Rattle.model.specs.Decisions.{receiptRefusal}
 use borrow.Author.Needs.{needs}
 use Rattle.decide.proofs.receipt_refusal.Statement.{statement}
 use Rattle.decide.proofs.receipt_refusal.Tie as tie

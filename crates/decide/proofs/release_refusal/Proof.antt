@@ -2,7 +2,7 @@
 -- Assumes nothing.
 use Rattle.decide.proofs.Nots.{yes-not, no-not}
 use Rattle.wire.proofs.Picks.{picks}
-use Rattle.decide.specs.Tests.{releaseRefusal}
+use Rattle.model.specs.Decisions.{releaseRefusal}
 use borrow.Author.Needs.{needs}
 use Rattle.decide.proofs.release_refusal.Statement.{statement}
 use Rattle.decide.proofs.release_refusal.Tie as tie

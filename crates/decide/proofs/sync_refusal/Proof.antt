@@ -1,7 +1,7 @@
 -- `decide::sync_refusal` meets its contract.
 -- Assumes nothing.
 use Rattle.wire.proofs.Picks.{picks}
-use Rattle.decide.specs.Tests.{syncRefusal}
+use Rattle.model.specs.Decisions.{syncRefusal}
 use Rattle.decide.proofs.sync_refusal.Statement.{statement}
 use Rattle.decide.proofs.sync_refusal.Tie as tie
 

@@ -1,8 +1,10 @@
 -- `decide::take_refusal` meets its contract.
 -- Assumes nothing.
-use Rattle.wire.proofs.Picks.{picks}
+use mathlib.Core.Path.{refl}
+use borrow.Author.Tests.{lt-leb, lt-ltb, le-ltb}
+use Rattle.wire.proofs.Picks.{yes, no, no-call, picks}
 use Rattle.decide.proofs.Nots.{yes-not, no-not}
-use Rattle.decide.specs.Tests.{takeRefusal}
+use Rattle.model.specs.Decisions.{takeRefusal}
 use borrow.Author.Needs.{needs}
 use Rattle.decide.proofs.take_refusal.Statement.{statement}
 use Rattle.decide.proofs.take_refusal.Tie as tie
@@ -25,8 +27,28 @@ returns-4 c = search (picks, yes-not, no-not) depth 24
 
 returns-5 : tie.Need-returns-5
 unfolding takeRefusal
-returns-5 c = search (picks, yes-not, no-not) depth 24
+returns-5 c =
+    no 1 (c .before .before .before .before .before .before .if1 .left)
+    (no 11 (c .before .before .before .before .before .if2 .left)
+    (no 12 (lt-leb _ _ (c .before .before .before .if3 .left))
+    (no-call 13 (c .before .before .is-kept .ensures) (c .before .if4 .left) (yes _ (lt-ltb _ _ (c .if5 .taken)) refl))))
+
+returns-6 : tie.Need-returns-6
+unfolding takeRefusal
+returns-6 c =
+    no 1 (c .before .before .before .before .before .before .before .if1 .left)
+    (no 11 (c .before .before .before .before .before .before .if2 .left)
+    (no 12 (lt-leb _ _ (c .before .before .before .before .if3 .left))
+    (no-call 13 (c .before .before .before .is-kept .ensures) (c .before .before .if4 .left) (no 8 (le-ltb _ _ (c .before .if5 .left)) (yes _ (lt-ltb _ _ (c .if6 .taken)) refl)))))
+
+returns-7 : tie.Need-returns-7
+unfolding takeRefusal
+returns-7 c =
+    no 1 (c .before .before .before .before .before .before .before .if1 .left)
+    (no 11 (c .before .before .before .before .before .before .if2 .left)
+    (no 12 (lt-leb _ _ (c .before .before .before .before .if3 .left))
+    (no-call 13 (c .before .before .before .is-kept .ensures) (c .before .before .if4 .left) (no 8 (le-ltb _ _ (c .before .if5 .left)) (no 9 (le-ltb _ _ (c .if6 .left)) refl)))))
 
 pub take-refusal-spec : {M : Type 1} → statement M
 take-refusal-spec =
-    tie.close (tie.spec returns returns-2 returns-3 (λ c κs. search needs) returns-4 returns-5)
+    tie.close (tie.spec returns returns-2 returns-3 (λ c κs. search needs) returns-4 returns-5 returns-6 returns-7)

@@ -7,14 +7,23 @@ use Rattle.found.proofs.put_head.Tie as tie
 
 returns : tie.Need-returns
 returns c =
-    let start = c .before .before .before .before .before .before .before .before .before .before .before .before .before .before .before .before .before .before .before .before .before .args in
-    rw (c .before .before .put-mark .ensures, c .before .before .before .before .before .before .put-size .ensures, c .before .before .before .before .before .before .before .before .before .before .put-zeros .ensures, c .before .before .before .before .before .before .before .before .before .before .before .before .before .before .write-42 .ensures, c .before .before .before .before .before .before .before .before .before .before .before .before .before .before .before .before .before .before .write-4 .ensures)
+    let mark = c .before .before in
+    let size = mark .before .before .before .before in
+    let zeros = size .before .before .before .before in
+    let server = zeros .before .before .before .before in
+    let magic = server .before .before .before .before in
+    let start = magic .before .before .before .args in
+    rw (mark .put-mark .ensures, size .put-size .ensures, zeros .put-zeros .ensures, server .write-42 .ensures, magic .write-4 .ensures)
     (head-runs (start .s .now) (start .n))
 
 pub put-head-spec : {M : Type 1} → statement M
 put-head-spec =
     tie.close
     (tie.spec
+    (λ c. search needs)
+    (λ c. search needs)
+    (λ c. search needs)
+    (λ c. search needs)
     (λ c κs. search needs)
     (λ c κs. search needs)
     (λ c κs. search needs)

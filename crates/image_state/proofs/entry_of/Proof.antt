@@ -8,7 +8,7 @@ use Rattle.image_state.proofs.entry_of.Tie as tie
 
 returns : tie.Need-returns
 unfolding entryOfRecord
-returns c = rw (c .completion-from .ensures) refl
+returns c = rw (c .before .completion-from .ensures) refl
 
 pub entry-of-spec : {M : Type 1} → statement M
 entry-of-spec =

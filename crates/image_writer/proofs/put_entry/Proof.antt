@@ -17,7 +17,7 @@ returns c =
     let c1 = c2 .before .before .before .before in
     let start = c1 .before .before .before .args in
     rw (c5 .write-4 .ensures, c4 .write-signed2 .ensures, c3 .write-signed .ensures, c2 .write-u322 .ensures, c1 .write-u32 .ensures)
-    (five-runs (start .out .now) (start .k) (start .e .client) (start .e .call) (flip (start .e .argument)) (flip (start .e .value)) (start .e .op) (start .e .outcome) (start .e .quality) 0)
+    (five-runs (start .out .now) (start .k) (start .e .client) (start .e .call) (flip (start .e .argument)) (flip (start .e .result .value)) (start .e .op) (start .e .result .outcome) (start .e .result .quality) 0)
 
 pub put-entry-spec : {M : Type 1} → statement M
 put-entry-spec =

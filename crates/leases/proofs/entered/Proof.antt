@@ -8,12 +8,12 @@ use Prim.Native.Nat.{_≤_, _-_}
 use native.Mathlib.Omega.{arith}
 use borrow.Author.Needs.{needs}
 use lib.ListN.{length, take, drop}
-use Rattle.model.specs.Leases.{entered}
+use Rattle.model.specs.Leases.{withNewLease}
 use Rattle.leases.proofs.entered.Statement.{statement}
 use Rattle.leases.proofs.entered.Tie as tie
 
 abbrev Inv-loop : tie.InvT-loop
-Inv-loop n ls out₀ i₀ out i = (i ≤ 32) × (length ls ≡ 32) × (out ≡ ls) × (entered n ls ≡ take i ls ++ entered n (drop i ls))
+Inv-loop n ls out₀ i₀ out i = (i ≤ 32) × (length ls ≡ 32) × (out ≡ ls) × (withNewLease n ls ≡ take i ls ++ withNewLease n (drop i ls))
 
 abbrev μ-loop : tie.MeasureT-loop
 μ-loop n ls out₀ i₀ out i = 32 - i

@@ -1,8 +1,7 @@
 -- `lent::lent_refusal` meets its contract.
 -- Assumes nothing.
-use Rattle.model.specs.Operations.{short}
+use Rattle.model.specs.Operations.{short, lentRefusal}
 use Rattle.wire.proofs.Picks.{picks}
-use Rattle.lent.specs.Memory.{lentRefusal}
 use Rattle.lent.proofs.Settled.{long-enough}
 use Rattle.lent.proofs.lent_refusal.Statement.{statement}
 use Rattle.lent.proofs.lent_refusal.Tie as tie

@@ -9,7 +9,7 @@ use Rattle.moves.proofs.give_done.Statement.{statement}
 use Rattle.moves.proofs.give_done.Tie as tie
 
 add-t12 : tie.Need-add-t12
-add-t12 c = omega (arith, ap (λ (x : Point). x .number) (c .before .point-at .ensures), c .before .before .before .before .before .before .before .pre .1 .number)
+add-t12 c = omega (arith, ap (λ (x : Point). x .moveNumber) (c .before .point-at .ensures), c .before .before .before .before .before .before .before .pre .1 .moveNumber)
 
 returns : tie.Need-returns
 returns c = let a = c .before .before .before .before .before .before .before .before .before .before .before .before .before .before .before .before .args in give-settled (a .s .now) (a .log .now) (a .point) (a .destination) (c .before .before .before .before .before .before .before .before .before .before .point-at .ensures) (c .before .before .before .before .before .before .before .before .before .before .before .before .size-of .ensures) (c .before .before .before .apply-gave .ensures) (c .before .before .before .before .before .before .before .append-give .ensures) (c .made .ensures)

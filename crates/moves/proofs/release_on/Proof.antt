@@ -1,8 +1,9 @@
 -- `moves::release_on` meets its contract.
 -- Assumes nothing.
 use mathlib.Core.Path.{subst}
+use Rattle.model.specs.Packets.{asReceipt}
 use Rattle.model.specs.Operations.{settle}
-use Rattle.model.specs.Decisions.{onRelease}
+use Rattle.model.specs.Decisions.{orMalformed, onRelease}
 use Rattle.moves.specs.Numbers.{Placed}
 use borrow.Author.Needs.{needs}
 use Rattle.moves.proofs.release_on.Statement.{statement}
@@ -12,31 +13,31 @@ release-by-requires : tie.Need-release-by-requires
 release-by-requires c κs = (c .before .before .before .before .before .before .before .pre .0, c .before .before .before .before .before .before .before .pre .1, subst Placed (c .before .before .before .p .given .1) (c .before .before .before .before .before .before .before .pre .2))
 
 returns : tie.Need-returns
-unfolding onRelease settle
+unfolding onRelease orMalformed asReceipt settle
 returns c = rw (c .before .enum-told .given .1, c .refused .ensures)
 
 returns-2 : tie.Need-returns-2
-unfolding onRelease settle
+unfolding onRelease orMalformed asReceipt settle
 returns-2 c = rw (c .before .enum-told2 .given .1, c .refused2 .ensures)
 
 returns-3 : tie.Need-returns-3
-unfolding onRelease settle
+unfolding onRelease orMalformed asReceipt settle
 returns-3 c = rw (c .before .enum-told3 .given .1, c .refused3 .ensures)
 
 returns-4 : tie.Need-returns-4
-unfolding onRelease settle
+unfolding onRelease orMalformed asReceipt settle
 returns-4 c = rw (c .before .enum-told4 .given .1, c .refused4 .ensures)
 
 returns-5 : tie.Need-returns-5
-unfolding onRelease
+unfolding onRelease orMalformed asReceipt
 returns-5 c = rw (c .before .before .before .before .before .before .before .before .p .given .1) (c .before .before .before .before .release-by .ensures)
 
 returns-6 : tie.Need-returns-6
-unfolding onRelease settle
+unfolding onRelease orMalformed asReceipt settle
 returns-6 c = rw (c .before .enum-told5 .given .1, c .refused5 .ensures)
 
 returns-7 : tie.Need-returns-7
-unfolding onRelease settle
+unfolding onRelease orMalformed asReceipt settle
 returns-7 c = rw (c .before .enum-told6 .given .1, c .refused6 .ensures)
 
 pub release-on-spec : {M : Type 1} → statement M

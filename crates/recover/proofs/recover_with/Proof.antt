@@ -1,57 +1,60 @@
 -- `recover::recover_with` meets its contract.
 -- Assumes nothing.
-use mathlib.Core.Path.{sym, _∙_}
 use native.Mathlib.Omega.{arith}
 use borrow.Author.Tests.{not-true, not-false}
-use Rattle.model.specs.Operations.{recoverOf}
-use Rattle.wire.proofs.Picks.{picks}
-use Rattle.decide.proofs.Nots.{yes-not, no-not}
-use Rattle.recover.proofs.Rebuilding.{long-passed, recover-no, recover-done}
+use Rattle.recover.proofs.Rebuilding.{recover-refused, long-passed, plan-passed, recover-no, recover-done}
 use borrow.Author.Needs.{needs}
 use Rattle.recover.proofs.recover_with.Statement.{statement}
 use Rattle.recover.proofs.recover_with.Tie as tie
 
-returns : tie.Need-returns
-unfolding recoverOf
-returns c = search picks depth 24
+plan-ok-requires : tie.Need-plan-ok-requires
+plan-ok-requires c κs = search needs
 
-returns-2 : tie.Need-returns-2
-unfolding recoverOf
-returns-2 c = search (picks, yes-not, no-not) depth 24
+recover-refusal-requires : tie.Need-recover-refusal-requires
+recover-refusal-requires c κs = search needs
+
+returns : tie.Need-returns
+returns c = let a = c .before .before .before .before .before .before .before .args in recover-refused (a .state .now) (a .log .now) (a .plan .now) (c .before .before .plan-ok .ensures) (c .before .recover-refusal .ensures) (c .if1 .taken)
 
 rebuild-requires : tie.Need-rebuild-requires
-rebuild-requires c κs = (c .before .before .before .before .before .before .before .before .before .before .pre, sym (c .before .before .plan-ok .ensures) ∙ not-false _ (c .before .if2 .left))
+rebuild-requires c κs = let a = c .before .before .before .before .before .before .before .before .args in (c .before .before .before .before .before .before .before .before .pre, plan-passed (a .state .now) (a .log .now) (a .plan .now) (c .before .before .before .plan-ok .ensures) (c .before .before .recover-refusal .ensures) (c .before .if1 .left))
 
-returns-3 : tie.Need-returns-3
-returns-3 c =
-    let start = c .before .before .before .before .before .before .before .before .before .before .before .before .before .before .args in
-    recover-no (start .state .now) (start .log .now) (start .plan .now) _ (c .before .before .before .before .before .before .before .before .is-short .ensures) (c .before .before .before .before .before .before .before .if1 .left) (c .before .before .before .before .before .before .plan-ok .ensures) (not-false _ (c .before .before .before .before .before .if2 .left)) (c .before .before .before .rebuild .ensures) (not-true _ (c .if3 .taken))
+same-length : tie.Need-same-length
+same-length c = search needs
+
+returns-2 : tie.Need-returns-2
+returns-2 c =
+    let a = c .before .before .before .before .before .before .before .before .before .before .before .before .args in
+    recover-no (a .state .now) (a .log .now) (a .plan .now) (c .before .before .before .before .before .before .before .plan-ok .ensures) (c .before .before .before .before .before .before .recover-refusal .ensures) (c .before .before .before .before .before .if1 .left) _ (c .before .before .before .rebuild .ensures) (not-true _ (c .if2 .taken))
 
 copy-bytes-requires : tie.Need-copy-bytes-requires
 copy-bytes-requires c κs =
-    let start = c .before .before .before .before .before .before .before .before .before .before .before .before .before .before .before .before in
-    omega (arith, start .pre, long-passed (start .args .state .now) (c .before .before .before .before .before .before .before .before .before .before .is-short .ensures) (c .before .before .before .before .before .before .before .before .before .if1 .left))
+    let start = c .before .before .before .before .before .before .before .before .before .before .before .before .before .before in
+    let a = start .args in
+    omega (arith, start .pre, long-passed (a .state .now) (a .log .now) (a .plan .now) (c .before .before .before .before .before .before .before .before .before .plan-ok .ensures) (c .before .before .before .before .before .before .before .before .recover-refusal .ensures) (c .before .before .before .before .before .before .before .if1 .left))
 
-returns-4 : tie.Need-returns-4
-returns-4 c =
-    let start = c .before .before .before .before .before .before .before .before .before .before .before .before .before .before .before .before .before .before .before .args in
-    recover-done (start .state .now) (start .log .now) (start .plan .now) _ (c .before .before .before .before .before .before .before .before .before .before .before .before .before .is-short .ensures) (c .before .before .before .before .before .before .before .before .before .before .before .before .if1 .left) (c .before .before .before .before .before .before .before .before .before .before .before .plan-ok .ensures) (not-false _ (c .before .before .before .before .before .before .before .before .before .before .if2 .left)) (c .before .before .before .before .before .before .before .before .rebuild .ensures) (not-false _ (c .before .before .before .before .before .if3 .left)) (c .before .before .copy-bytes .ensures)
+same-length-2 : tie.Need-same-length-2
+same-length-2 c = search needs
+
+same-length-3 : tie.Need-same-length-3
+same-length-3 c = search needs
+
+returns-3 : tie.Need-returns-3
+returns-3 c =
+    let a = c .before .before .before .before .before .before .before .before .before .before .before .before .before .before .before .before .before .args in
+    recover-done (a .state .now) (a .log .now) (a .plan .now) (c .before .before .before .before .before .before .before .before .before .before .before .before .plan-ok .ensures) (c .before .before .before .before .before .before .before .before .before .before .before .recover-refusal .ensures) (c .before .before .before .before .before .before .before .before .before .before .if1 .left) _ (c .before .before .before .before .before .before .before .before .rebuild .ensures) (not-false _ (c .before .before .before .before .before .if2 .left)) (c .before .before .copy-bytes .ensures)
 
 pub recover-with-spec : {M : Type 1} → statement M
 recover-with-spec =
     tie.close
     (tie.spec
-    (λ c κs. search needs)
-    (λ c. search needs)
+    plan-ok-requires
+    recover-refusal-requires
     returns
-    (λ c κs. search needs)
-    (λ c. search needs)
-    returns-2
     rebuild-requires
-    (λ c. search needs)
-    (λ c. search needs)
-    returns-3
+    same-length
+    returns-2
     copy-bytes-requires
-    (λ c. search needs)
-    (λ c. search needs)
-    returns-4)
+    same-length-2
+    same-length-3
+    returns-3)

@@ -1,13 +1,19 @@
 -- `replay::released_follows` meets its contract.
 -- Assumes nothing.
-use Rattle.model.specs.States.{load}
-use Rattle.follow.proofs.Follows.{released-follows}
+use Rattle.model.specs.Decisions.{follows}
 use borrow.Author.Needs.{needs}
 use Rattle.replay.proofs.released_follows.Statement.{statement}
 use Rattle.replay.proofs.released_follows.Tie as tie
 
+point-at-requires : tie.Need-point-at-requires
+point-at-requires c κs = search needs
+
+release-refusal-requires : tie.Need-release-refusal-requires
+release-refusal-requires c κs = search needs
+
 returns : tie.Need-returns
-returns c = rw (c .released-follows .ensures, c .before .point-at .ensures) (released-follows (load (c .before .before .before .args .s .now)) (c .before .before .before .args .x))
+unfolding follows
+returns c = rw (c .before .before .release-refusal .ensures, c .before .before .before .point-at .ensures)
 
 pub released-follows-spec : {M : Type 1} → statement M
-released-follows-spec = tie.close (tie.spec (λ c κs. search needs) (λ c κs. search needs) returns)
+released-follows-spec = tie.close (tie.spec point-at-requires release-refusal-requires returns)

@@ -1,54 +1,58 @@
 -- `replay_took::took_follows` meets its contract.
 -- Assumes nothing.
-use borrow.Author.Needs.{needs}
+use mathlib.Core.Path.{_∙_}
 use native.Mathlib.Omega.{arith}
-use borrow.Author.Tests.{not-true, not-false}
 use Rattle.model.specs.Images.{imageAt}
 use Rattle.model.specs.States.{load}
-use Rattle.replay_took.proofs.Taking.{took-no, took-other, took-last, imaged-size, imaged-ascend}
+use Rattle.replay_took.proofs.Taking.{took-follows, imaged-size, imaged-ascend}
+use borrow.Author.Needs.{needs}
 use Rattle.replay_took.proofs.took_follows.Statement.{statement}
 use Rattle.replay_took.proofs.took_follows.Tie as tie
 
-point-free-requires : tie.Need-point-free-requires
-point-free-requires c κs =
-    let start = c .before .before in
-    (start .pre .0 .canonical, start .pre .1, imaged-size (start .args .image .now) (start .args .h) (start .pre .2))
+point-at-requires : tie.Need-point-at-requires
+point-at-requires c κs = search needs
 
-returns : tie.Need-returns
-returns c =
-    let start = c .before .before .before .before in
-    took-no (load (start .args .s .now)) (start .args .h) (start .args .image .now) (c .before .point-free .ensures) (not-true _ (c .if1 .taken))
+entry-at-requires : tie.Need-entry-at-requires
+entry-at-requires c κs = search needs
+
+server-of-requires : tie.Need-server-of-requires
+server-of-requires c κs = search needs
+
+values-in-range-requires : tie.Need-values-in-range-requires
+values-in-range-requires c κs = let start = c .before .before .before .before .before in imaged-size (start .args .image .now) (start .args .h) (start .pre .2)
 
 entries-free-requires : tie.Need-entries-free-requires
-entries-free-requires c κs =
-    let start = c .before .before .before .before in
-    (start .pre .0, imaged-size (start .args .image .now) (start .args .h) (start .pre .2))
+entries-free-requires c κs = let start = c .before .before .before .before .before .before in (start .pre .0, imaged-size (start .args .image .now) (start .args .h) (start .pre .2))
 
-returns-2 : tie.Need-returns-2
-returns-2 c =
-    let start = c .before .before .before .before .before .before in
-    took-other (load (start .args .s .now)) (start .args .h) (start .args .image .now) (c .before .before .before .point-free .ensures) (not-false _ (c .before .before .if1 .left)) (c .before .entries-free .ensures) (not-true _ (c .if2 .taken))
+cast-merged-count : tie.Need-cast-merged-count
+cast-merged-count c = search needs
 
 merged-count-requires : tie.Need-merged-count-requires
 merged-count-requires c κs =
-    let start = c .before .before .before .before .before .before .before in
+    let start = c .before .before .before .before .before .before .before .before in
     let long = imaged-size (start .args .image .now) (start .args .h) (start .pre .2) in
     (start .pre .0 .canonical, omega (arith, long), imaged-ascend (start .args .image .now) (start .args .h) (start .pre .2))
 
-returns-3 : tie.Need-returns-3
+take-refusal-requires : tie.Need-take-refusal-requires
+take-refusal-requires c κs = search needs
+
+returns : tie.Need-returns
 unfolding imageAt
-returns-3 c =
-    let start = c .before .before .before .before .before .before .before .before in
-    took-last (load (start .args .s .now)) (start .args .h) (start .args .image .now) (c .before .before .before .before .before .point-free .ensures) (not-false _ (c .before .before .before .before .if1 .left)) (c .before .before .before .entries-free .ensures) (not-false _ (c .before .before .if2 .left)) (c .merged-count .ensures)
+returns c =
+    let start = c .before .before .before .before .before .before .before .before .before .before in
+    took-follows (load (start .args .s .now)) (start .args .h) (start .args .image .now)
+    (c .take-refusal .ensures ∙ rw (c .before .merged-count .ensures, c .before .before .before .entries-free .ensures, c .before .before .before .before .values-in-range .ensures, c .before .before .before .before .before .server-of .ensures, c .before .before .before .before .before .before .entry-at .ensures, c .before .before .before .before .before .before .before .point-at .ensures))
 
 pub took-follows-spec : {M : Type 1} → statement M
 took-follows-spec =
     tie.close
     (tie.spec
-    point-free-requires
-    returns
+    point-at-requires
+    entry-at-requires
+    server-of-requires
+    values-in-range-requires
     entries-free-requires
-    returns-2
-    (λ c. search needs)
+    cast-merged-count
     merged-count-requires
-    returns-3)
+    take-refusal-requires
+    returns)

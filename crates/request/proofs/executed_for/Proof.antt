@@ -16,8 +16,8 @@ point-at-requires c κs = (c .before .before .pre .0, request-point (c .before .
 returns : tie.Need-returns
 unfolding executedFor
 returns c =
-    let start = c .before .before .before .before in
-    rw (executed-is (start .args .q) (start .pre .1) (load (start .args .s .now)) (c .before .before .entry-at .ensures) (c .before .point-at .ensures) (c .checked-rule .ensures))
+    let start = c .before .before .before .before .before in
+    rw (executed-is (start .args .q) (start .pre .1) (load (start .args .s .now)) (c .before .before .before .entry-at .ensures) (c .before .before .point-at .ensures) (c .before .checked-rule .ensures))
 
 pub executed-for-spec : {M : Type 1} → statement M
 executed-for-spec =

@@ -2,11 +2,10 @@
 -- Assumes nothing.
 use Prim.Native.Nat.{ℕ}
 use mathlib.Core.Path.{refl, ap, _∙_}
-use Rattle.decide.specs.Tests.{heldRefusal}
+use Rattle.model.specs.Decisions.{heldRefusal}
 use Rattle.model.specs.States.{load}
-use Rattle.decide.proofs.Decided.{held-decided}
 use Rattle.request.specs.Decisions.{decided}
-use Rattle.request.proofs.Chains.{refused-by, passed-by}
+use Rattle.request.proofs.Chains.{held-decided, refused-by, passed-by}
 use borrow.Author.Needs.{needs}
 use Rattle.request.proofs.held_decision.Statement.{statement}
 use Rattle.request.proofs.held_decision.Tie as tie

@@ -14,7 +14,7 @@ returns c =
     let c2 = c3 .before .before .before .before in
     let c1 = c2 .before .before .before .before in
     let start = c1 .before .before .before .args in
-    rw (c6 .write-u64 .ensures, c5 .write-4 .ensures, c4 .write-u324 .ensures, c3 .write-u323 .ensures, c2 .write-u322 .ensures, c1 .write-u32 .ensures)
+    rw (c6 .write-u64 .ensures, c5 .write-4 .ensures, c4 .write-signed2 .ensures, c3 .write-signed .ensures, c2 .write-u322 .ensures, c1 .write-u32 .ensures)
     (completion-runs (start .s .now) (start .k) (start .r))
 
 pub put-completion-spec : {M : Type 1} → statement M

@@ -14,7 +14,7 @@ returns c =
     let c2 = c3 .before .before .before .before in
     let c1 = c2 .before .before .before .before in
     let start = c1 .before .before .before .args in
-    rw (c6 .write-u642 .ensures, c5 .write-u64 .ensures, c4 .write-u323 .ensures, c3 .write-u322 .ensures, c2 .write-u32 .ensures, c1 .write-4 .ensures)
+    rw (c6 .write-u642 .ensures, c5 .write-u64 .ensures, c4 .write-u322 .ensures, c3 .write-u32 .ensures, c2 .write-signed .ensures, c1 .write-4 .ensures)
     (point-runs (start .s .now) (start .k) (start .x))
 
 pub put-point-spec : {M : Type 1} → statement M

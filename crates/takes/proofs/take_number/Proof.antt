@@ -1,51 +1,61 @@
 -- `takes::take_number` meets its contract.
 -- Assumes nothing.
 use native.Mathlib.Omega.{arith}
-use mathlib.Core.Path.{refl, _∙_}
+use mathlib.Core.Path.{_∙_}
 use Rattle.model.specs.Images.{imageAt}
-use Rattle.decide.proofs.Nots.{yes-not, no-not}
-use Rattle.moves.proofs.Chains.{first-no, first-yes}
-use Rattle.takes.specs.Taking.{takeNumber}
+use Rattle.model.specs.Decisions.{takeTests}
 use Rattle.takes.proofs.Chains.{take-sized}
 use borrow.Author.Needs.{needs}
 use Rattle.takes.proofs.take_number.Statement.{statement}
 use Rattle.takes.proofs.take_number.Tie as tie
 
-returns : tie.Need-returns
-unfolding takeNumber imageAt
-returns c = first-no _ (c .before .point-number .ensures) (c .if1 .taken)
+is-ranged-requires : tie.Need-is-ranged-requires
+is-ranged-requires c κs = search needs
 
-returns-2 : tie.Need-returns-2
-unfolding takeNumber imageAt
-returns-2 c = first-yes (c .before .before .before .before .before .point-number .ensures) (c .before .before .before .before .if1 .left) (yes-not _ (c .before .entries-free .ensures) (c .if2 .taken) refl)
+ids-free-requires : tie.Need-ids-free-requires
+ids-free-requires c κs = search needs
+
+cast-merged-count : tie.Need-cast-merged-count
+cast-merged-count c = search needs
 
 merged-count-requires : tie.Need-merged-count-requires
 unfolding imageAt
-merged-count-requires c κs = (c .before .before .before .before .before .before .before .before .before .before .pre .canonical, omega (arith, c .before .before .before .before .before .before .before .before .before .before .pre .size), c .before .before .before .before .before .before .before .before .before .before .pre .ascending)
+merged-count-requires c κs = let start = c .before .before .before .before .before .before in (start .pre .canonical, omega (arith, start .pre .size), start .pre .ascending)
 
-returns-3 : tie.Need-returns-3
-unfolding takeNumber imageAt
-returns-3 c =
-    let a = c .before .before .before .before .before .before .before .before .before .before .before .before .before .args in
-    first-yes (c .before .before .before .before .before .before .before .before .before .point-number .ensures) (c .before .before .before .before .before .before .before .before .if1 .left)
-    (no-not _ (c .before .before .before .before .before .entries-free .ensures) (c .before .before .before .before .if2 .left)
-    (c .space-refusal .ensures ∙ rw (c .before .free-in .ensures, c .before .before .merged-count .ensures, ← take-sized (a .s .now) (a .log .now) (a .image .now) (a .h) (c .before .before .before .before .before .before .before .before .before .before .before .before .before .pre))))
+point-at-requires : tie.Need-point-at-requires
+point-at-requires c κs = search needs
+
+server-of-requires : tie.Need-server-of-requires
+server-of-requires c κs = search needs
+
+free-in-requires : tie.Need-free-in-requires
+free-in-requires c κs = search needs
+
+add-take-refusal : tie.Need-add-take-refusal
+add-take-refusal c = search needs
+
+take-refusal-requires : tie.Need-take-refusal-requires
+take-refusal-requires c κs = search needs
+
+returns : tie.Need-returns
+unfolding takeTests imageAt
+returns c =
+    let start = c .before .before .before .before .before .before .before .before .before .before .before in
+    let a = start .args in
+    c .take-refusal .ensures
+    ∙ rw (c .before .free-in .ensures, c .before .before .server-of .ensures, c .before .before .before .point-at .ensures, c .before .before .before .before .merged-count .ensures, c .before .before .before .before .before .before .ids-free .ensures, c .before .before .before .before .before .before .before .is-ranged .ensures, ← take-sized (a .s .now) (a .log .now) (a .image .now) (a .h) (start .pre))
 
 pub take-number-spec : {M : Type 1} → statement M
 take-number-spec =
     tie.close
     (tie.spec
-    (λ c κs. search needs)
-    returns
-    (λ c. search needs)
-    (λ c. search needs)
-    (λ c. search needs)
-    (λ c. search needs)
-    (λ c κs. search needs)
-    returns-2
-    (λ c. search needs)
+    is-ranged-requires
+    ids-free-requires
+    cast-merged-count
     merged-count-requires
-    (λ c κs. search needs)
-    (λ c. search needs)
-    (λ c κs. search needs)
-    returns-3)
+    point-at-requires
+    server-of-requires
+    free-in-requires
+    add-take-refusal
+    take-refusal-requires
+    returns)

@@ -1,2 +1,0 @@
--- What the contracts of `decide` cite beside `model`.
-pub mod Tests

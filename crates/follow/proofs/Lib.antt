@@ -1,2 +1,0 @@
--- Laws that recovery cites.
-pub mod Follows

@@ -1,2 +1,0 @@
--- What the contracts of `follow` cite beside `model`.
-pub mod Tests

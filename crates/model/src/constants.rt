@@ -1,0 +1,332 @@
+// Every number of paper 01 and of docs/STATE.md that the code names, each once; derived ones are computed. The definitions name
+// them in the same words and order: specs/Limits.antt, specs/Refusals.antt, specs/States.antt. A size or count is a usize, a
+// field's value has its field's type.
+
+use crate::ArgumentRange;
+
+// ---- numbers: 2^31, which stands for 0 in a signed field; the greatest of 8 and of 32 bits; 2^32
+
+pub const HALF: u32 = 2147483648;
+
+pub const LAST_8: u32 = 255;
+
+pub const LAST_32: u32 = 4294967295;
+
+pub const WORD: u64 = LAST_32 as u64 + 1;
+
+// ---- ops
+
+pub const READ_OP: u8 = 0;
+
+pub const SET_OP: u8 = 1;
+
+pub const STEP_OP: u8 = 2;
+
+pub const REPORT_OP: u8 = 3;
+
+pub const FAULT_OP: u8 = 4;
+
+pub const PART_OP: u8 = 5;
+
+// The argument of part that means the whole range.
+pub const WHOLE_PART: u32 = 1000;
+
+// The arguments by op: read 0; set, step and report any; fault 0; part 0 to 1000.
+pub const ARGUMENT_RANGES: [ArgumentRange; 6] = [
+    ArgumentRange {
+        least: HALF,
+        greatest: HALF,
+    },
+    ArgumentRange {
+        least: 0,
+        greatest: LAST_32,
+    },
+    ArgumentRange {
+        least: 0,
+        greatest: LAST_32,
+    },
+    ArgumentRange {
+        least: 0,
+        greatest: LAST_32,
+    },
+    ArgumentRange {
+        least: HALF,
+        greatest: HALF,
+    },
+    ArgumentRange {
+        least: HALF,
+        greatest: HALF + WHOLE_PART,
+    },
+];
+
+// ---- outcomes: carried out; the value would be out of range; the value is invalid; the fallback was put
+
+pub const CARRIED_OUT: u8 = 0;
+
+pub const OUT_OF_RANGE: u8 = 1;
+
+pub const ON_INVALID: u8 = 2;
+
+pub const FELL_BACK: u8 = 3;
+
+// ---- qualities
+
+pub const VALID: u8 = 0;
+
+pub const INVALID: u8 = 1;
+
+// ---- a point's status
+
+pub const ABSENT: u8 = 0;
+
+pub const HELD: u8 = 1;
+
+pub const GIVEN: u8 = 2;
+
+pub const RELEASED: u8 = 3;
+
+// ---- greatest values of the fields with a range
+
+pub const LAST_POINT: u8 = 63;
+
+pub const LAST_SERVER: u8 = 15;
+
+pub const LAST_OP: u8 = PART_OP;
+
+pub const LAST_OUTCOME: u8 = FELL_BACK;
+
+pub const LAST_QUALITY: u8 = INVALID;
+
+pub const LAST_STATUS: u8 = RELEASED;
+
+// ---- counts: points of a plan, clients of a server, completion records of one client and of a server
+
+pub const POINT_COUNT: usize = LAST_POINT as usize + 1;
+
+pub const CLIENT_COUNT: usize = 32;
+
+pub const CALL_WINDOW: usize = 16;
+
+pub const RECORD_COUNT: usize = CLIENT_COUNT * CALL_WINDOW;
+
+// A call is at most this far above its request's done, or above its client's floor.
+pub const LAST_IN_WINDOW: u64 = CALL_WINDOW as u64 - 1;
+
+// Leases of a lease manager, and the longest span in seconds.
+pub const LEASE_COUNT: usize = 32;
+
+pub const LONGEST_SPAN: u32 = 86400;
+
+// ---- packets: kinds, and bytes by kind
+
+pub const REQUEST_KIND: u8 = 1;
+
+pub const RESULT_KIND: u8 = 2;
+
+pub const REFUSAL_KIND: u8 = 3;
+
+pub const RECEIPT_KIND: u8 = 4;
+
+pub const NOTICE_KIND: u8 = 5;
+
+pub const GRANT_KIND: u8 = 6;
+
+pub const REQUEST_SIZE: usize = 24;
+
+pub const RESULT_SIZE: usize = 16;
+
+pub const REFUSAL_SIZE: usize = 12;
+
+pub const RECEIPT_SIZE: usize = 8;
+
+pub const NOTICE_SIZE: usize = 12;
+
+pub const GRANT_SIZE: usize = 12;
+
+// By kind; there is no kind 0.
+pub const PACKET_LENGTHS: [usize; 7] = [
+    0,
+    REQUEST_SIZE,
+    RESULT_SIZE,
+    REFUSAL_SIZE,
+    RECEIPT_SIZE,
+    NOTICE_SIZE,
+    GRANT_SIZE,
+];
+
+// The refusals that make a packet.
+pub const FIRST_DENIED: u8 = NOT_HELD as u8;
+
+pub const LAST_DENIED: u8 = LOG_FULL as u8;
+
+// ---- the plan
+
+pub const PLAN_ROW: usize = 16;
+
+pub const PLAN_SIZE: usize = PLAN_ROW * POINT_COUNT;
+
+// ---- the log: its magic, the bytes of its head, its records' kinds and bytes; a take has 8 and its image
+
+pub const LOG_MAGIC: [u8; 4] = *b"WLG1";
+
+pub const HEAD_SIZE: usize = 8;
+
+pub const EXECUTED_KIND: u8 = 1;
+
+pub const GONE_KIND: u8 = 2;
+
+pub const GIVE_KIND: u8 = 3;
+
+pub const TAKE_KIND: u8 = 4;
+
+pub const RELEASE_KIND: u8 = 5;
+
+pub const EXECUTED_SIZE: usize = 28;
+
+pub const GONE_SIZE: usize = 12;
+
+pub const GIVE_SIZE: usize = 8;
+
+pub const TAKE_HEAD: usize = 8;
+
+pub const RELEASE_SIZE: usize = 8;
+
+// ---- images: the magic, the part of the point, the rows of the two tables, the least and the greatest length
+
+pub const IMAGE_MAGIC: [u8; 4] = *b"MVI1";
+
+pub const PARTS_START: usize = 40;
+
+pub const POINT_PART: usize = 8;
+
+pub const FLOOR_ROW: usize = 8;
+
+pub const ENTRY_ROW: usize = 20;
+
+pub const LEAST_IMAGE: usize = PARTS_START + POINT_PART;
+
+pub const GREATEST_IMAGE: usize = LEAST_IMAGE + FLOOR_ROW * CLIENT_COUNT + ENTRY_ROW * RECORD_COUNT;
+
+// ---- a server's state: the buffer, the magic, the places of the tables and their rows
+
+pub const STATE_SIZE: usize = 32768;
+
+pub const STATE_MAGIC: [u8; 4] = *b"WST1";
+
+pub const STATE_HEAD: usize = 40;
+
+pub const POINT_ROW: usize = 32;
+
+pub const RECORD_ROW: usize = 28;
+
+pub const PLAN_START: usize = STATE_HEAD;
+
+pub const POINTS_START: usize = PLAN_START + PLAN_SIZE;
+
+pub const FLOORS_START: usize = POINTS_START + POINT_ROW * POINT_COUNT;
+
+pub const RECORDS_START: usize = FLOORS_START + FLOOR_ROW * CLIENT_COUNT;
+
+pub const STATE_END: usize = RECORDS_START + RECORD_ROW * RECORD_COUNT;
+
+// ---- refusals: 0 for none, or the number
+
+pub const NO_REFUSAL: u32 = 0;
+
+pub const MALFORMED: u32 = 1;
+
+pub const TOO_SHORT: u32 = 2;
+
+pub const NOT_HELD: u32 = 3;
+
+pub const LEASE_OVER: u32 = 4;
+
+pub const UNDER_FLOOR: u32 = 5;
+
+pub const OTHER_COMMAND: u32 = 6;
+
+pub const NOT_SYNCED: u32 = 7;
+
+pub const CLIENTS_FULL: u32 = 8;
+
+pub const LOG_FULL: u32 = 9;
+
+pub const BAD_MARK: u32 = 10;
+
+pub const WRONG_DESTINATION: u32 = 11;
+
+pub const OLD_MOVE: u32 = 12;
+
+pub const ALREADY_HELD: u32 = 13;
+
+pub const BAD_LOG: u32 = 14;
+
+pub const WINDOW_FULL: u32 = 15;
+
+pub const NUMBERS_OUT: u32 = 16;
+
+pub const UNKNOWN: u32 = 17;
+
+pub const LEASES_FULL: u32 = 18;
+
+pub const UNSOUND: u32 = 19;
+
+// ---- some of them in another width
+
+pub const HALF_U64: u64 = HALF as u64;
+
+pub const LAST_32_U64: u64 = LAST_32 as u64;
+
+pub const LAST_POINT_U32: u32 = LAST_POINT as u32;
+
+pub const LAST_SERVER_U32: u32 = LAST_SERVER as u32;
+
+pub const WHOLE_PART_U64: u64 = WHOLE_PART as u64;
+
+pub const CLIENT_COUNT_U32: u32 = CLIENT_COUNT as u32;
+
+pub const RECORD_COUNT_U32: u32 = RECORD_COUNT as u32;
+
+pub const CALL_WINDOW_U32: u32 = CALL_WINDOW as u32;
+
+pub const CALL_WINDOW_U64: u64 = CALL_WINDOW as u64;
+
+pub const RESULT_KIND_U32: u32 = RESULT_KIND as u32;
+
+pub const REFUSAL_KIND_U32: u32 = REFUSAL_KIND as u32;
+
+pub const GRANT_KIND_U32: u32 = GRANT_KIND as u32;
+
+pub const REQUEST_SIZE_U32: u32 = REQUEST_SIZE as u32;
+
+pub const RESULT_SIZE_U32: u32 = RESULT_SIZE as u32;
+
+pub const REFUSAL_SIZE_U32: u32 = REFUSAL_SIZE as u32;
+
+pub const RECEIPT_SIZE_U32: u32 = RECEIPT_SIZE as u32;
+
+pub const NOTICE_SIZE_U32: u32 = NOTICE_SIZE as u32;
+
+pub const GRANT_SIZE_U32: u32 = GRANT_SIZE as u32;
+
+pub const HEAD_SIZE_U64: u64 = HEAD_SIZE as u64;
+
+pub const EXECUTED_SIZE_U64: u64 = EXECUTED_SIZE as u64;
+
+pub const GONE_SIZE_U64: u64 = GONE_SIZE as u64;
+
+pub const GIVE_SIZE_U64: u64 = GIVE_SIZE as u64;
+
+pub const TAKE_HEAD_U64: u64 = TAKE_HEAD as u64;
+
+pub const RELEASE_SIZE_U64: u64 = RELEASE_SIZE as u64;
+
+pub const PARTS_START_U32: u32 = PARTS_START as u32;
+
+pub const POINT_PART_U32: u32 = POINT_PART as u32;
+
+pub const FLOOR_ROW_U32: u32 = FLOOR_ROW as u32;
+
+pub const ENTRY_ROW_U32: u32 = ENTRY_ROW as u32;
+
+pub const LEAST_IMAGE_U32: u32 = LEAST_IMAGE as u32;
