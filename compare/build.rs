@@ -3,8 +3,6 @@
 use std::env;
 use std::path::{Path, PathBuf};
 
-const LIBRARIES: [&str; 5] = ["test_c", "bench_c", "client_c", "image_state_c", "kernel"];
-
 fn main() {
     let package = env::var_os("CARGO_MANIFEST_DIR").expect("cargo names the package's folder");
     let folder = env::var_os("MANTELORRIS_STATICLIB").map_or_else(
@@ -13,10 +11,5 @@ fn main() {
     );
     println!("cargo:rerun-if-env-changed=MANTELORRIS_STATICLIB");
     println!("cargo:rustc-link-search=native={}", folder.display());
-    for name in LIBRARIES {
-        println!(
-            "cargo:rerun-if-changed={}",
-            folder.join(format!("lib{name}.a")).display()
-        );
-    }
+    println!("cargo:rerun-if-changed={}", folder.display());
 }

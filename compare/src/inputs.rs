@@ -3,7 +3,7 @@
 
 use second::bytes::get_u32;
 use second::image::{write_image, Floor, ImageHead, Moved, IMAGE_MAX};
-use second::packet::{Grant, Notice, Packet, Receipt, Refusal, Reply, Request};
+use second::packet::{Grant, Notice, Packet, Receipt, RefusalPacket, Reply, Request};
 use second::plan::{Entry, Plan};
 use second::random::Random;
 use second::record::{
@@ -51,24 +51,26 @@ pub fn window(random: &mut Random) -> (u32, u32) {
     (done, done.saturating_add(random.below(16)))
 }
 
+fn request(random: &mut Random, point: u8, client: u32) -> Request {
+    let (done, call) = window(random);
+    let (op, argument) = op_argument(random);
+    Request {
+        op,
+        point,
+        client,
+        call,
+        done,
+        lease_end: number(random),
+        argument,
+    }
+}
+
 pub fn packet_of_kind(random: &mut Random, kind: u32) -> Packet {
     let point = random.below(64) as u8;
     let client = at_least_1(random);
     let call = at_least_1(random);
     match kind {
-        1 => {
-            let (done, call) = window(random);
-            let (op, argument) = op_argument(random);
-            Packet::Request(Request {
-                op,
-                point,
-                client,
-                call,
-                done,
-                lease_end: number(random),
-                argument,
-            })
-        }
+        1 => Packet::Request(request(random, point, client)),
         2 => Packet::Result(Reply {
             outcome: random.below(4) as u8,
             point,
@@ -77,7 +79,7 @@ pub fn packet_of_kind(random: &mut Random, kind: u32) -> Packet {
             call,
             value: signed(random),
         }),
-        3 => Packet::Refusal(Refusal {
+        3 => Packet::Refusal(RefusalPacket {
             number: 3 + random.below(7) as u8,
             point,
             client,
@@ -277,26 +279,27 @@ pub fn disorder(random: &mut Random, bytes: &mut [u8]) {
 
 // ---- log records
 
+fn executed(random: &mut Random, point: u8) -> Executed {
+    let (op, argument) = op_argument(random);
+    let (done, call) = window(random);
+    Executed {
+        op,
+        point,
+        outcome: random.below(4) as u8,
+        client: at_least_1(random),
+        call,
+        done,
+        argument,
+        value: signed(random),
+        quality: random.below(2) as u8,
+    }
+}
+
 /// A well-formed record of a kind 1 to 5.
 pub fn record(random: &mut Random, kind: u32) -> Vec<u8> {
     let point = random.below(64) as u8;
     match kind {
-        1 => {
-            let (op, argument) = op_argument(random);
-            let (done, call) = window(random);
-            write_executed(&Executed {
-                op,
-                point,
-                outcome: random.below(4) as u8,
-                client: at_least_1(random),
-                call,
-                done,
-                argument,
-                value: signed(random),
-                quality: random.below(2) as u8,
-            })
-            .to_vec()
-        }
+        1 => write_executed(&executed(random, point)).to_vec(),
         2 => write_gone(&Gone {
             client: at_least_1(random),
             time: number(random),

@@ -2,7 +2,7 @@
 //! include/mantelorris.h, and one call on either program.
 
 use second::answer::Answer;
-use second::cabinet::Server;
+use second::server::Server;
 
 mod c {
     #[link(name = "kernel", kind = "static")]

@@ -1,13 +1,15 @@
-//! The proved code and the second program, side by side: the same functions
-//! over the same bytes and numbers.
+//! The proved code and the second program, side by side: the same calls on the
+//! same bytes and numbers.
 //!
-//! `proved` and `kernel` call the static libraries of the proved crates, `other`
-//! the second program. `inputs` makes random, damaged and well-formed bytes, `states`
-//! servers and their buffers, `tally` counts what a test met.
+//! `kernel` and `proved` call the static libraries of the proved code, `other` is
+//! the second program's client and lease manager in their terms. `pair` is a server of
+//! both, called in lockstep; `states` makes servers and their buffers, `inputs`
+//! random, damaged and well-formed bytes; `tally` counts what a test met.
 
 pub mod inputs;
 pub mod kernel;
 pub mod other;
+pub mod pair;
 pub mod proved;
 pub mod states;
 pub mod tally;

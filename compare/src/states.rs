@@ -3,9 +3,11 @@
 
 use crate::inputs::{self, Tables};
 use second::bytes::put_u32;
-use second::cabinet::{Completion, Hold, Point, Server, Taken, STATE_LEN};
-use second::plan::{write_plan, Entry, POINTS};
+use second::image::Floor;
+use second::plan::{write_plan, Entry, Plan, POINTS};
 use second::random::Random;
+use second::record::HEAD_LEN;
+use second::server::{Completion, Hold, Point, Server, Taken, STATE_LEN};
 
 pub const PLAN_AT: usize = 40;
 pub const POINTS_AT: usize = 1064;
@@ -16,31 +18,39 @@ pub const STATE_END: usize = 17_704;
 /// The log that a server's recorded length is of.
 pub const LOG_LEN: usize = 4096;
 
+/// What stands behind the layout's end: those bytes are the host's.
+pub const BEHIND: u8 = 0x5A;
+
 // ---- the buffer
 
-/// The 32,768 bytes of a server's state; behind the layout's end they are free.
+/// The 32,768 bytes of a server's state.
 pub fn buffer(server: &Server) -> Vec<u8> {
-    let mut b = vec![0x5A; STATE_LEN];
+    let mut b = vec![BEHIND; STATE_LEN];
+    put_buffer(server, &mut b);
+    b
+}
+
+/// The same up to the layout's end.
+pub fn put_buffer(server: &Server, b: &mut [u8]) {
     b[..STATE_END].fill(0);
     b[..4].copy_from_slice(&[0x57, 0x53, 0x54, 0x31]);
     b[4] = server.cabinet;
-    put_u32(&mut b, 8, server.heard);
-    put_u32(&mut b, 12, server.clients.len() as u32);
-    put_u32(&mut b, 16, server.records.len() as u32);
-    put_u64(&mut b, 24, server.length);
-    put_u64(&mut b, 32, server.mark);
+    put_u32(b, 8, server.heard);
+    put_u32(b, 12, server.clients.len() as u32);
+    put_u32(b, 16, server.records.len() as u32);
+    put_u64(b, 24, server.length);
+    put_u64(b, 32, server.mark);
     b[PLAN_AT..POINTS_AT].copy_from_slice(&write_plan(&server.plan));
     for (i, point) in server.points.iter().enumerate() {
         put_point(&mut b[POINTS_AT + 32 * i..][..32], point, server.cabinet);
     }
     for (i, f) in server.clients.iter().enumerate() {
-        put_u32(&mut b, CLIENTS_AT + 8 * i, f.client);
-        put_u32(&mut b, CLIENTS_AT + 8 * i + 4, f.floor);
+        put_u32(b, CLIENTS_AT + 8 * i, f.client);
+        put_u32(b, CLIENTS_AT + 8 * i + 4, f.floor);
     }
     for (i, r) in server.records.iter().enumerate() {
         put_record(&mut b[RECORDS_AT + 28 * i..][..28], r);
     }
-    b
 }
 
 fn put_u64(b: &mut [u8], at: usize, value: u64) {
@@ -81,6 +91,53 @@ fn put_record(b: &mut [u8], r: &Completion) {
     b[18] = r.quality;
     b[19] = r.point;
     put_u64(b, 20, r.end);
+}
+
+// ---- servers that a call suits
+
+/// Just founded, with this number.
+pub fn founded(plan: &Plan, number: u8) -> Server {
+    let mut server = Server::new();
+    let mut head = [0; HEAD_LEN];
+    let answer = server.found(STATE_LEN, &mut head, &write_plan(plan), u32::from(number));
+    assert_eq!(answer.number, 0, "a plan and a number");
+    server
+}
+
+/// The log has this length, all of it synced.
+pub fn grown(mut server: Server, length: u64) -> Server {
+    server.length = length;
+    server.mark = length;
+    server
+}
+
+/// Holds the point by this move; by none if that is 0, and the point is at home.
+pub fn holding(mut server: Server, point: u8, move_number: u32) -> Server {
+    let length = server.length;
+    let p = &mut server.points[usize::from(point)];
+    p.hold = Hold::Held;
+    p.move_number = move_number;
+    p.taken = (move_number > 0).then_some(Taken {
+        move_number,
+        end: length - 1,
+    });
+    server
+}
+
+/// Has given the point by this move, which is at least 1; at 1 the point is at home.
+pub fn giving(server: Server, point: u8, move_number: u32) -> Server {
+    let mut server = holding(server, point, move_number - 1);
+    let (destination, end) = ((server.cabinet + 1) % 16, server.length);
+    let p = &mut server.points[usize::from(point)];
+    p.hold = Hold::Given { destination, end };
+    p.move_number = move_number;
+    server
+}
+
+/// Knows the client, alone.
+pub fn knowing(mut server: Server, client: u32, floor: u32) -> Server {
+    server.clients = vec![Floor { client, floor }];
+    server
 }
 
 // ---- random servers
@@ -186,22 +243,37 @@ fn records(
                     true => point,
                     false => *random.pick(&others),
                 };
-                let range = server.plan.entry(p);
-                let m = inputs::moved(random, f.client, call, (range.low, range.high));
-                records.push(Completion {
-                    client: m.client,
-                    call: m.call,
-                    argument: m.argument,
-                    value: m.value,
-                    op: m.op,
-                    point: p,
-                    outcome: m.outcome,
-                    quality: m.quality,
-                    end: end(random, server),
-                });
+                records.push(completion(random, server, (f.client, call), p));
             }
         }
     }
+    arrive(random, &mut records);
+    records
+}
+
+fn completion(
+    random: &mut Random,
+    server: &Server,
+    (client, call): (u32, u32),
+    point: u8,
+) -> Completion {
+    let range = server.plan.entry(point);
+    let m = inputs::moved(random, client, call, (range.low, range.high));
+    Completion {
+        client: m.client,
+        call: m.call,
+        argument: m.argument,
+        value: m.value,
+        op: m.op,
+        point,
+        outcome: m.outcome,
+        quality: m.quality,
+        end: end(random, server),
+    }
+}
+
+/// Exchanged at random, with the ends in order.
+fn arrive(random: &mut Random, records: &mut [Completion]) {
     let mut ends: Vec<u64> = records.iter().map(|r| r.end).collect();
     ends.sort_unstable();
     for i in (1..records.len()).rev() {
@@ -210,5 +282,4 @@ fn records(
     for (r, end) in records.iter_mut().zip(ends) {
         r.end = end;
     }
-    records
 }

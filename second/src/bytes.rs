@@ -1,5 +1,4 @@
-//! Paper 01: "Numbers in layouts are little-endian; signed ones are two's
-//! complement."
+//! Numbers in layouts: the lowest byte first, signed ones in two's complement.
 
 pub fn get_u32(bytes: &[u8], at: usize) -> u32 {
     u32::from_le_bytes([bytes[at], bytes[at + 1], bytes[at + 2], bytes[at + 3]])

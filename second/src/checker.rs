@@ -29,9 +29,9 @@
 //! point state; what remains depends on nothing else. The commands are tried
 //! in the order of their execution first; this bears on speed alone.
 
-use crate::book::SequentialSpec;
 use crate::plan::{Plan, POINTS};
 use crate::rule::{Effect, Op};
+use crate::sequential::SequentialSpec;
 use std::collections::HashSet;
 
 /// Commands that one point may have in a schedule.

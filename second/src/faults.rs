@@ -1,38 +1,194 @@
-//! Planted faults, for tests of the checker only ("Where builders go astray").
+//! Servers with one planted fault ("Where builders go astray"), for tests of the
+//! checker only. A fault stands around the calls of a sound server, never in them.
 
-/// Each field switches one fault on; none is on by default.
-#[derive(Clone, Copy, PartialEq, Eq, Debug, Default)]
-pub struct Faults {
+use crate::answer::Answer;
+use crate::packet::{parse_request, WINDOW};
+use crate::record::{parse_record, Parsed, Record, HEAD_LEN};
+use crate::server::Server;
+use std::ops::{Deref, DerefMut};
+
+#[derive(Clone, Copy, PartialEq, Eq, Debug)]
+pub enum Fault {
     /// Request and fetch answer a result that is not synced.
-    pub reply_before_sync: bool,
+    ReplyBeforeSync,
     /// The image carries no completion records.
-    pub image_without_records: bool,
+    ImageWithoutRecords,
     /// The image carries only the lowest floors that its records admit.
-    pub image_without_floors: bool,
+    ImageWithoutFloors,
     /// The image carries heard time 0.
-    pub image_without_heard: bool,
+    ImageWithoutHeard,
     /// The image is made although the give is not synced.
-    pub image_before_sync: bool,
-    /// Gone does not raise the heard time.
-    pub gone_without_heard: bool,
+    ImageBeforeSync,
+    /// A notice does not raise the heard time; recovery does.
+    NoticeWithoutHeard,
     /// Request does not test the lease end.
-    pub lease_end_not_tested: bool,
-    /// Request does not test the floor.
-    pub floor_not_tested: bool,
+    LeaseEndNotTested,
+    /// Request does not test the floor, nor does recovery.
+    FloorNotTested,
     /// Recover tests the log, then gives the state of a server just founded.
-    pub recover_to_founding: bool,
+    RecoverToFounding,
 }
 
-impl Faults {
-    pub const NONE: Faults = Faults {
-        reply_before_sync: false,
-        image_without_records: false,
-        image_without_floors: false,
-        image_without_heard: false,
-        image_before_sync: false,
-        gone_without_heard: false,
-        lease_end_not_tested: false,
-        floor_not_tested: false,
-        recover_to_founding: false,
-    };
+/// A server, or one with a fault around the calls that stand here; the others are the
+/// server's own.
+#[derive(Clone, PartialEq, Eq, Debug)]
+pub struct Faulty {
+    server: Server,
+    fault: Option<Fault>,
+}
+
+impl Deref for Faulty {
+    type Target = Server;
+
+    fn deref(&self) -> &Server {
+        &self.server
+    }
+}
+
+impl DerefMut for Faulty {
+    fn deref_mut(&mut self) -> &mut Server {
+        &mut self.server
+    }
+}
+
+impl Faulty {
+    pub fn new(fault: Option<Fault>) -> Faulty {
+        Faulty {
+            server: Server::new(),
+            fault,
+        }
+    }
+
+    pub fn request(&mut self, len: usize, log: &mut [u8], packet: &[u8], out: &mut [u8]) -> Answer {
+        let server = &mut self.server;
+        match self.fault {
+            Some(Fault::ReplyBeforeSync) => {
+                with_mark_at_end(server, |s| s.request(len, log, packet, out))
+            }
+            Some(Fault::LeaseEndNotTested) => {
+                let heard = std::mem::take(&mut server.heard);
+                let answer = server.request(len, log, packet, out);
+                server.heard = heard;
+                answer
+            }
+            Some(Fault::FloorNotTested) => {
+                let id = parse_request(packet).map_or((0, 0), |r| (r.client, r.call));
+                without_floor(server, id, |s| s.request(len, log, packet, out))
+            }
+            _ => server.request(len, log, packet, out),
+        }
+    }
+
+    pub fn fetch(
+        &mut self,
+        len: usize,
+        log: &[u8],
+        client: u32,
+        call: u32,
+        out: &mut [u8],
+    ) -> Answer {
+        let mut fetch = |s: &mut Server| s.fetch(len, log, client, call, out);
+        match self.fault {
+            Some(Fault::ReplyBeforeSync) => with_mark_at_end(&mut self.server, fetch),
+            _ => fetch(&mut self.server),
+        }
+    }
+
+    pub fn notice(&mut self, len: usize, log: &mut [u8], packet: &[u8]) -> Answer {
+        let heard = self.server.heard;
+        let answer = self.server.notice(len, log, packet);
+        if self.fault == Some(Fault::NoticeWithoutHeard) {
+            self.server.heard = heard;
+        }
+        answer
+    }
+
+    pub fn image(&self, len: usize, log: &[u8], point: u32, out: &mut [u8]) -> Answer {
+        let mut view = self.server.clone();
+        match self.fault {
+            Some(Fault::ImageBeforeSync) => view.mark = view.length,
+            Some(Fault::ImageWithoutHeard) => view.heard = 0,
+            Some(Fault::ImageWithoutRecords) => view.records.clear(),
+            Some(Fault::ImageWithoutFloors) => {
+                view.records.retain(|r| u32::from(r.point) == point);
+                lower_floors(&mut view);
+            }
+            _ => {}
+        }
+        view.image(len, log, point, out)
+    }
+
+    /// The kept log is the whole slice.
+    pub fn recover(&mut self, len: usize, log: &[u8], plan: &[u8]) -> Answer {
+        let server = &mut self.server;
+        match self.fault {
+            Some(Fault::FloorNotTested) => recover_without_floors(server, len, log, plan),
+            Some(Fault::RecoverToFounding) => {
+                let answer = server.recover(len, log, plan);
+                if answer == Answer::DONE {
+                    server.reset(server.plan, server.cabinet);
+                }
+                answer
+            }
+            _ => server.recover(len, log, plan),
+        }
+    }
+}
+
+/// A call that finds the whole log synced.
+fn with_mark_at_end(server: &mut Server, call: impl FnOnce(&mut Server) -> Answer) -> Answer {
+    let mark = std::mem::replace(&mut server.mark, server.length);
+    let answer = call(server);
+    server.mark = mark;
+    answer
+}
+
+/// A step that does not find the client of this id, if the call is under its floor. The
+/// client's floor and records stay; a completion record under the floor is not kept.
+fn without_floor<T>(
+    server: &mut Server,
+    (client, call): (u32, u32),
+    step: impl FnOnce(&mut Server) -> T,
+) -> T {
+    let under = |s: &Server| (s.clients.iter()).any(|c| c.client == client && call < c.floor);
+    if !under(server) {
+        return step(server);
+    }
+    let (clients, records) = (server.clients.clone(), server.records.clone());
+    server.clients.retain(|c| c.client != client);
+    server.records.retain(|r| r.client != client);
+    let done = step(server);
+    (server.clients, server.records) = (clients, records);
+    done
+}
+
+/// As recover, but for the floors.
+fn recover_without_floors(server: &mut Server, len: usize, log: &[u8], plan: &[u8]) -> Answer {
+    let mut new = Server::new();
+    let answer = new.recover(len, log.get(..HEAD_LEN).unwrap_or(log), plan);
+    if answer != Answer::DONE {
+        return answer;
+    }
+    let mut at = HEAD_LEN;
+    while let Parsed::Whole(record, end) = parse_record(log, at) {
+        let id = match record {
+            Record::Executed(r) => (r.client, r.call),
+            _ => (0, 0),
+        };
+        let followed = without_floor(&mut new, id, |s| s.follow(&record, end as u64));
+        followed.expect("a kept log recovers");
+        at = end;
+    }
+    (new.length, new.mark) = (at as u64, at as u64);
+    *server = new;
+    Answer::DONE
+}
+
+/// For each client of the records, the lowest floor under which they are still sound.
+fn lower_floors(server: &mut Server) {
+    server.clients.clear();
+    for i in 0..server.records.len() {
+        let r = server.records[i];
+        server.raise_floor(r.client, r.call.saturating_sub(WINDOW - 1).max(1));
+    }
 }

@@ -5,19 +5,19 @@
 //! specification. Words of the formats are those of paper 01.
 
 pub mod answer;
-pub mod book;
 pub mod bytes;
-pub mod cabinet;
 pub mod checker;
-pub mod desk;
+pub mod client;
 pub mod faults;
 pub mod image;
-pub mod office;
+pub mod leases;
 pub mod packet;
 pub mod plan;
 pub mod random;
 pub mod record;
 pub mod rule;
 pub mod schedule;
+pub mod sequential;
+pub mod server;
+pub mod simulator;
 pub mod world;
-pub mod yard;

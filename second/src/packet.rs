@@ -54,7 +54,7 @@ pub struct Reply {
 }
 
 #[derive(Clone, Copy, PartialEq, Eq, Debug)]
-pub struct Refusal {
+pub struct RefusalPacket {
     pub number: u8,
     pub point: u8,
     pub client: u32,
@@ -84,7 +84,7 @@ pub struct Grant {
 pub enum Packet {
     Request(Request),
     Result(Reply),
-    Refusal(Refusal),
+    Refusal(RefusalPacket),
     Receipt(Receipt),
     Notice(Notice),
     Grant(Grant),
@@ -172,11 +172,11 @@ pub fn write_result(p: &Reply) -> [u8; RESULT_LEN] {
     b
 }
 
-pub fn parse_refusal(b: &[u8]) -> Option<Refusal> {
+pub fn parse_refusal(b: &[u8]) -> Option<RefusalPacket> {
     if !shaped(b, REFUSAL) || b[3] != 0 {
         return None;
     }
-    let refusal = Refusal {
+    let refusal = RefusalPacket {
         number: b[1],
         point: b[2],
         client: get_u32(b, 4),
@@ -189,7 +189,7 @@ pub fn parse_refusal(b: &[u8]) -> Option<Refusal> {
     ok.then_some(refusal)
 }
 
-pub fn write_refusal(p: &Refusal) -> [u8; REFUSAL_LEN] {
+pub fn write_refusal(p: &RefusalPacket) -> [u8; REFUSAL_LEN] {
     let mut b = [0; REFUSAL_LEN];
     b[0] = REFUSAL;
     b[1] = p.number;

@@ -4,9 +4,9 @@
 mod common;
 
 use common::*;
-use second::cabinet::Server;
 use second::record::{EXECUTED_LEN, HEAD_LEN};
 use second::schedule::{generate, Call, Flaw, Keep, Mark, Party, Schedule, Step, Which};
+use second::server::Server;
 use second::world::{run, Counts, Options, World};
 
 const AT: Party = Party::Number(0);

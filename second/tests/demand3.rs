@@ -3,12 +3,12 @@
 mod common;
 
 use common::*;
-use second::book::SequentialSpec;
 use second::checker::{check, Command, Finals, Violation};
 use second::plan::{Plan, POINTS};
 use second::random::Random;
 use second::rule::{Effect, Op};
 use second::schedule::generate;
+use second::sequential::SequentialSpec;
 use second::world::{run, Counts, Options};
 
 const FIRST_SEED: u64 = 1_000_000;

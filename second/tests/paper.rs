@@ -6,7 +6,7 @@ use common::*;
 use second::packet::{parse_request, write_request, Request};
 use second::random::Random;
 use second::rule::{apply, Effect, Op};
-use second::yard::run;
+use second::simulator::run;
 
 fn lines(lines: &[&str]) -> String {
     lines.iter().map(|line| format!("{line}\n")).collect()

@@ -4,10 +4,10 @@ mod common;
 
 use common::*;
 use second::bytes::{get_i32, get_u32};
-use second::cabinet::{Hold, Server, STATE_LEN};
 use second::plan::{write_plan, Plan};
 use second::random::Random;
 use second::schedule::generate;
+use second::server::{Hold, Server, STATE_LEN};
 use second::world::{Options, World};
 use std::collections::BTreeMap;
 

@@ -5,18 +5,35 @@
 mod common;
 
 use common::*;
-use second::answer::Answer;
+use second::answer::{Answer, Refusal};
 use second::bytes::put_u32;
-use second::cabinet::{Hold, Server, STATE_LEN};
-use second::desk::{Client, Received};
+use second::client::{Client, Received};
 use second::image::{Floor, ImageHead, Moved, IMAGE_MAX};
-use second::office::LeaseManager;
+use second::leases::LeaseManager;
 use second::packet::*;
 use second::plan::{write_plan, PLAN_LEN};
 use second::record::*;
 use second::rule::Op;
+use second::server::{Hold, Server, STATE_LEN};
 
 const SHORT: usize = STATE_LEN - 1;
+
+#[test]
+fn refusals_have_the_papers_numbers() {
+    for (refusal, number) in Refusal::ALL.into_iter().zip(1..) {
+        assert_eq!(refusal.number(), number);
+    }
+    let some = [
+        (Refusal::NotSynced, 7),
+        (Refusal::BadMark, 10),
+        (Refusal::HeldHere, 13),
+        (Refusal::WindowFull, 15),
+        (Refusal::NotSound, 19),
+    ];
+    for (refusal, number) in some {
+        assert_eq!(refusal.number(), number);
+    }
+}
 
 // Found.
 
@@ -26,11 +43,11 @@ fn found() {
     let mut server = Server::new();
     let before = server.clone();
     let mut log = [FILL; 8];
-    let refused = |server: &mut Server, len, log: &mut [u8], plan: &[u8], number, refusal| {
+    let refused = |server: &mut Server, len, log: &mut [u8], plan: &[u8], number, answer| {
         let kept = log.to_vec();
         assert_eq!(
             server.found(len, log, plan, number),
-            Answer::refused(refusal)
+            Answer::refused(refusal(answer))
         );
         assert_eq!(*server, before);
         assert_eq!(log, &kept[..]);
@@ -100,7 +117,7 @@ fn request_refusals() {
         rig.request(1, 0, &bad);
     }
     let refused = |number, point, client, call| {
-        let packet = Refusal {
+        let packet = RefusalPacket {
             number,
             point,
             client,
@@ -985,7 +1002,7 @@ fn start_refusals() {
         &[6, 0, 0, 0, 4, 0, 0, 0, 100, 0, 0],
         &set(4, 1, 5, 40),
     ] {
-        assert_eq!(Client::start(bad), Err(1));
+        assert_eq!(Client::start(bad), Err(refusal(1)));
     }
     let desk = desk();
     assert_eq!((desk.client, desk.lease_end, desk.next), (4, 100, 1));
@@ -1006,7 +1023,7 @@ fn issue_refusals() {
         (5, 5, 1001),
     ] {
         let before = desk.clone();
-        assert_eq!(desk.issue(op, point, argument), Err(1));
+        assert_eq!(desk.issue(op, point, argument), Err(refusal(1)));
         assert_eq!(desk, before);
     }
     for call in 1..=16 {
@@ -1018,9 +1035,9 @@ fn issue_refusals() {
         );
     }
     let before = desk.clone();
-    assert_eq!(desk.issue(1, 5, -7), Err(15));
+    assert_eq!(desk.issue(1, 5, -7), Err(refusal(15)));
     // 1 before 15.
-    assert_eq!(desk.issue(6, 5, -7), Err(1));
+    assert_eq!(desk.issue(6, 5, -7), Err(refusal(1)));
     assert_eq!(desk, before);
     // 15 before 16.
     let (first, next) = (u32::MAX - 16, u32::MAX);
@@ -1028,31 +1045,31 @@ fn issue_refusals() {
     desk.next = next;
     desk.open = [None; 16];
     desk.open[(first % 16) as usize] = before.open[0];
-    assert_eq!(desk.issue(1, 5, -7), Err(15));
+    assert_eq!(desk.issue(1, 5, -7), Err(refusal(15)));
     desk.receive(&reply(4, first, 5)).expect("an open call");
     assert_eq!(desk.first, next);
-    assert_eq!(desk.issue(1, 5, -7), Err(16));
-    assert_eq!(desk.issue(1, 64, -7), Err(1));
+    assert_eq!(desk.issue(1, 5, -7), Err(refusal(16)));
+    assert_eq!(desk.issue(1, 64, -7), Err(refusal(1)));
     // The last number that a desk issues.
     desk.first = next - 1;
     desk.next = next - 1;
     let packet = desk.issue(1, 5, -7).expect("the last number");
     assert_eq!(parse_request(&packet).map(|r| r.call), Some(u32::MAX - 1));
-    assert_eq!(desk.issue(1, 5, -7), Err(16));
+    assert_eq!(desk.issue(1, 5, -7), Err(refusal(16)));
 }
 
 #[test]
 fn resend_refusals() {
     let mut desk = desk();
-    assert_eq!(desk.resend(1), Err(17));
+    assert_eq!(desk.resend(1), Err(refusal(17)));
     let first = desk.issue(1, 5, 40).expect("a place");
     desk.issue(2, 6, 1).expect("a place");
-    assert_eq!(desk.resend(0), Err(17));
-    assert_eq!(desk.resend(3), Err(17));
-    assert_eq!(desk.resend(17), Err(17));
+    assert_eq!(desk.resend(0), Err(refusal(17)));
+    assert_eq!(desk.resend(3), Err(refusal(17)));
+    assert_eq!(desk.resend(17), Err(refusal(17)));
     assert_eq!(desk.resend(1), Ok(first));
     desk.receive(&reply(4, 1, 5)).expect("an open call");
-    assert_eq!(desk.resend(1), Err(17));
+    assert_eq!(desk.resend(1), Err(refusal(17)));
     // Today's done and lease end.
     let grant = Grant {
         client: 4,
@@ -1070,8 +1087,8 @@ fn receive_refusals() {
     desk.issue(1, 5, 40).expect("a place");
     desk.issue(1, 6, 40).expect("a place");
     desk.issue(1, 7, 40).expect("a place");
-    let refusal = |client, call, point| {
-        write_refusal(&Refusal {
+    let refusal_of = |client, call, point| {
+        write_refusal(&RefusalPacket {
             number: 7,
             point,
             client,
@@ -1080,7 +1097,7 @@ fn receive_refusals() {
         .to_vec()
     };
     let grant = |client, lease_end| write_grant(&Grant { client, lease_end }).to_vec();
-    let mut bad_number = refusal(4, 1, 5);
+    let mut bad_number = refusal_of(4, 1, 5);
     bad_number[1] = 10;
     let refused = [
         (1, vec![]),
@@ -1096,25 +1113,25 @@ fn receive_refusals() {
         (17, reply(4, 4, 5)),
         (17, reply(4, 17, 5)),
         (17, reply(4, 1, 6)),
-        (17, refusal(5, 1, 5)),
-        (17, refusal(4, 4, 5)),
-        (17, refusal(4, 1, 6)),
+        (17, refusal_of(5, 1, 5)),
+        (17, refusal_of(4, 4, 5)),
+        (17, refusal_of(4, 1, 6)),
         (17, grant(5, 200)),
         (17, grant(4, 99)),
     ];
     for (number, packet) in refused {
         let before = desk.clone();
-        assert_eq!(desk.receive(&packet), Err(number), "{packet:?}");
+        assert_eq!(desk.receive(&packet), Err(refusal(number)), "{packet:?}");
         assert_eq!(desk, before);
     }
     let before = desk.clone();
-    assert_eq!(desk.receive(&refusal(4, 1, 5)), Ok(Received::Refusal(7)));
+    assert_eq!(desk.receive(&refusal_of(4, 1, 5)), Ok(Received::Refusal(7)));
     assert_eq!(desk.receive(&grant(4, 100)), Ok(Received::Grant(100)));
     assert_eq!(desk, before);
     // Calls close out of turn; done is the first open one.
     assert!(desk.receive(&reply(4, 2, 6)).is_ok());
     assert_eq!(desk.first, 1);
-    assert_eq!(desk.receive(&reply(4, 2, 6)), Err(17));
+    assert_eq!(desk.receive(&reply(4, 2, 6)), Err(refusal(17)));
     assert!(desk.receive(&reply(4, 1, 5)).is_ok());
     assert_eq!(desk.first, 3);
     assert!(desk.receive(&reply(4, 3, 7)).is_ok());
@@ -1123,7 +1140,7 @@ fn receive_refusals() {
 
 // Office.
 
-fn grant_of(client: u32, lease_end: u32) -> Result<[u8; 12], u32> {
+fn grant_of(client: u32, lease_end: u32) -> Result<[u8; 12], Refusal> {
     Ok(write_grant(&Grant { client, lease_end }))
 }
 
@@ -1132,7 +1149,7 @@ fn open_refusals() {
     let mut office = LeaseManager::new();
     let refused = |office: &mut LeaseManager, time, span, number| {
         let before = office.clone();
-        assert_eq!(office.open(time, span), Err(number));
+        assert_eq!(office.open(time, span), Err(refusal(number)));
         assert_eq!(*office, before);
     };
     for span in [0, 86_401, u32::MAX] {
@@ -1177,7 +1194,7 @@ fn renew_refusals() {
     office.open(0, 10).expect("a place");
     let refused = |office: &mut LeaseManager, client, time, span, number| {
         let before = office.clone();
-        assert_eq!(office.renew(client, time, span), Err(number));
+        assert_eq!(office.renew(client, time, span), Err(refusal(number)));
         assert_eq!(*office, before);
     };
     refused(&mut office, 1, 0, 0, 1);
@@ -1204,7 +1221,7 @@ fn query_refusals() {
     office.open(3, 10).expect("a place");
     for client in [0, 2, u32::MAX] {
         let before = office.clone();
-        assert_eq!(office.query(client, 50), Err(17));
+        assert_eq!(office.query(client, 50), Err(refusal(17)));
         assert_eq!(office, before);
     }
     assert_eq!(office.query(1, 12), grant_of(1, 13));
@@ -1212,5 +1229,5 @@ fn query_refusals() {
     assert_eq!(office.query(1, 13), Ok(notice(1, 13)));
     assert_eq!(office.query(1, 4), Ok(notice(1, 13)));
     assert!(office.leases.is_empty());
-    assert_eq!(office.renew(1, 4, 5), Err(17));
+    assert_eq!(office.renew(1, 4, 5), Err(refusal(17)));
 }

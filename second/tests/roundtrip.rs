@@ -65,7 +65,7 @@ fn random_packet(random: &mut Random) -> Packet {
             call,
             value: number(random) as i32,
         }),
-        2 => Packet::Refusal(Refusal {
+        2 => Packet::Refusal(RefusalPacket {
             number: 3 + random.below(7) as u8,
             point,
             client,
@@ -318,8 +318,8 @@ fn longest_image() {
     let given = rig.image(0, IMAGE_MAX, 40);
     assert_eq!(given, image(&head(40, 1, 0, 2), &floors, &records));
     let kept = rig.server.length as usize;
-    let mut server = second::cabinet::Server::new();
-    let state_len = second::cabinet::STATE_LEN;
+    let mut server = second::server::Server::new();
+    let state_len = second::server::STATE_LEN;
     let answer = server.recover(state_len, &rig.log[..kept], &plan_bytes());
     assert_eq!(answer.number, 0);
     assert_eq!(server, rig.server);

@@ -1,30 +1,26 @@
 //! Nanoseconds per call of the proved code and of the second program, on the
 //! same inputs and outputs, in the same run. Each is the best of several
-//! rounds; the sides take turns, and neither is inlined into the loop. "Summed":
-//! each side adds up the fields of its own value, and stores no byte.
+//! rounds; the sides take turns, and neither is inlined into the loop.
 
-use compare::inputs::{self, Tables};
 use compare::kernel::Call;
 use compare::{other, proved, states};
-use second::bytes::get_u32;
-use second::cabinet::{Server, STATE_LEN};
-use second::desk::Client;
+use second::answer::Refusal;
+use second::client::{Client, Received};
 use second::image::IMAGE_MAX;
-use second::office::LeaseManager;
+use second::leases::LeaseManager;
 use second::packet::{
-    write_grant, write_packet, write_request, write_result, Grant, Packet, Reply, Request,
+    write_grant, write_notice, write_refusal, write_request, write_result, Grant, Notice,
+    RefusalPacket, Reply, Request,
 };
 use second::plan::{write_plan, Entry, Plan};
-use second::random::Random;
-use second::rule::{Op, ARGUMENTS};
+use second::rule::Op;
+use second::server::{Server, STATE_LEN};
 use std::hint::black_box;
 use std::time::{Duration, Instant};
 
 /// Many short rounds: one that another program disturbs is not the best.
 const ROUNDS: u32 = 100;
 const ROUND: Duration = Duration::from_micros(300);
-const INPUTS: usize = 256;
-
 /// Nanoseconds per item of one pass, over rounds of equal work on both sides.
 fn measure(items: u64, mut have: impl FnMut(), mut want: impl FnMut()) -> (f64, f64) {
     let passes = passes_of(&mut have).max(passes_of(&mut want));
@@ -60,435 +56,137 @@ fn row(name: &str, (have, want): (f64, f64)) {
     println!("{name:<34} {have:>9.2} {want:>9.2} {:>7.2}", have / want);
 }
 
-// ---- the second program behind calls, as the proved code is
+// ---- client and lease manager
 
-#[inline(never)]
-fn parse(packet: &[u8], numbers: &mut [u8]) -> u32 {
-    other::parse(packet, numbers)
+/// A client of both programs, started by the same grant.
+#[derive(Clone)]
+struct Clients {
+    have: proved::Client,
+    want: Client,
 }
 
-#[inline(never)]
-fn write(numbers: &[u8], out: &mut [u8]) -> u32 {
-    other::write(numbers, out)
-}
-
-#[inline(never)]
-fn sum(packet: &[u8]) -> u64 {
-    other::sum(packet)
-}
-
-#[inline(never)]
-#[allow(clippy::too_many_arguments)]
-fn put(out: &mut [u8], k: u32, a: u32, b: u32, c: u32, d: u32, e: u32, f: u32, g: u32) -> u32 {
-    other::write_numbers([k, a, b, c, d, e, f, g], out)
-}
-
-#[inline(never)]
-fn rule(entry: &Entry, op: u8, argument: i32, value: i32, quality: u8) -> u64 {
-    other::rule(entry, op, argument, value, quality)
-}
-
-#[inline(never)]
-fn plan_ok(plan: &[u8]) -> bool {
-    other::plan_ok(plan)
-}
-
-#[inline(never)]
-fn image(bytes: &[u8], plan: &Plan) -> u64 {
-    other::image(bytes, plan)
-}
-
-#[inline(never)]
-fn image_copy(bytes: &[u8], out: &mut [u8]) -> u64 {
-    other::image_copy(bytes, out)
-}
-
-// ---- rows
-
-const KINDS: [&str; 6] = ["request", "result", "refusal", "receipt", "notice", "grant"];
-const OPS: [&str; 6] = ["read", "set", "step", "report", "fault", "part"];
-
-/// To eight numbers as bytes, and to their sum.
-fn parses(name: &str, packets: &[Vec<u8>]) {
-    let (mut numbers, mut numbers2) = ([0; 32], [0; 32]);
-    let count = packets.len() as u64;
-    let times = measure(
-        count,
-        || {
-            for p in packets {
-                black_box(proved::parse(black_box(p), &mut numbers));
-                black_box(&numbers);
-            }
-        },
-        || {
-            for p in packets {
-                black_box(parse(black_box(p), &mut numbers2));
-                black_box(&numbers2);
-            }
-        },
-    );
-    row(&format!("parse {name}"), times);
-    let times = measure(
-        count,
-        || {
-            for p in packets {
-                black_box(proved::sum(black_box(p)));
-            }
-        },
-        || {
-            for p in packets {
-                black_box(sum(black_box(p)));
-            }
-        },
-    );
-    row(&format!("parse {name}, summed"), times);
-}
-
-/// From eight numbers as bytes, and from the numbers themselves.
-fn writes(name: &str, packets: &[Packet]) {
-    let bytes: Vec<[u8; 32]> = packets.iter().map(other::numbers_of).collect();
-    let numbers: Vec<[u32; 8]> = bytes
-        .iter()
-        .map(|b| std::array::from_fn(|i| get_u32(b, 4 * i)))
-        .collect();
-    let (mut out, mut out2) = ([0; 24], [0; 24]);
-    let count = packets.len() as u64;
-    let times = measure(
-        count,
-        || {
-            for n in &bytes {
-                black_box(proved::write(black_box(n), &mut out));
-                black_box(&out);
-            }
-        },
-        || {
-            for n in &bytes {
-                black_box(write(black_box(n), &mut out2));
-                black_box(&out2);
-            }
-        },
-    );
-    row(&format!("write {name}"), times);
-    let times = measure(
-        count,
-        || {
-            for n in &numbers {
-                black_box(proved::write_numbers(*black_box(n), &mut out));
-                black_box(&out);
-            }
-        },
-        || {
-            for n in &numbers {
-                let [k, a, b, c, d, e, f, g] = *black_box(n);
-                black_box(put(&mut out2, k, a, b, c, d, e, f, g));
-                black_box(&out2);
-            }
-        },
-    );
-    row(&format!("write {name}, from numbers"), times);
-}
-
-fn packets(random: &mut Random) {
-    let made: Vec<Vec<Packet>> = (1..=6)
-        .map(|kind| {
-            (0..INPUTS)
-                .map(|_| inputs::packet_of_kind(random, kind))
-                .collect()
-        })
-        .collect();
-    for (name, packets) in KINDS.iter().zip(&made) {
-        let bytes: Vec<Vec<u8>> = packets.iter().map(write_packet).collect();
-        parses(name, &bytes);
-    }
-    let damaged: Vec<Vec<u8>> = (0..INPUTS)
-        .map(|i| {
-            let mut bytes = write_packet(&made[i % 6][i]);
-            bytes[random.below(4) as usize] = 200;
-            bytes
-        })
-        .collect();
-    parses("a damaged packet", &damaged);
-    for (name, packets) in KINDS.iter().zip(&made) {
-        writes(name, packets);
-    }
-}
-
-/// Each side takes the range by reference, and signed numbers as it keeps them.
-fn rules(random: &mut Random) {
-    for (op, name) in (0..).zip(OPS) {
-        let commands: Vec<_> = (0..INPUTS)
-            .map(|_| {
-                let e = inputs::entry(random);
-                let (least, greatest) = ARGUMENTS[usize::from(op)];
-                let argument = inputs::signed(random).clamp(least, greatest);
-                let value = inputs::within(random, (e.low, e.high));
-                (e, argument, value, random.below(2) as u8)
-            })
-            .collect();
-        let kept: Vec<_> = commands
-            .iter()
-            .map(|(e, argument, value, quality)| {
-                let range = [e.low, e.high, e.fallback].map(proved::kept);
-                (
-                    range,
-                    proved::kept(*argument),
-                    proved::kept(*value),
-                    *quality,
-                )
-            })
-            .collect();
-        let times = measure(
-            INPUTS as u64,
-            || {
-                for (range, argument, value, quality) in &kept {
-                    let range = black_box(range);
-                    black_box(proved::rule(range, op, *argument, *value, *quality));
-                }
-            },
-            || {
-                for (entry, argument, value, quality) in &commands {
-                    let entry = black_box(entry);
-                    black_box(rule(entry, op, *argument, *value, *quality));
-                }
-            },
-        );
-        row(&format!("rule {name}"), times);
-    }
-}
-
-fn plans(random: &mut Random) {
-    let plan = write_plan(&inputs::plan(random));
-    let times = measure(
-        1,
-        || {
-            black_box(proved::plan_ok(black_box(&plan)));
-        },
-        || {
-            black_box(plan_ok(black_box(&plan)));
-        },
-    );
-    row("plan", times);
-}
-
-fn images(random: &mut Random) {
-    let range = (-100, 1000);
-    let plan = other::range_plan(range);
-    let full = inputs::image(random, Tables::Full, range);
-    let empty = loop {
-        let bytes = inputs::image(random, Tables::Small, range);
-        if bytes.len() == 48 {
-            break bytes;
-        }
-    };
-    for (name, bytes, entries) in [
-        ("image, empty", &empty, 1),
-        ("image, per entry of 512", &full, 512),
-    ] {
-        let times = measure(
-            entries,
-            || {
-                black_box(proved::image(black_box(bytes), range));
-            },
-            || {
-                black_box(image(black_box(bytes), &plan));
-            },
-        );
-        row(name, times);
-        let (mut out, mut out2) = (vec![0; bytes.len()], vec![0; bytes.len()]);
-        let times = measure(
-            entries,
-            || {
-                black_box(proved::image_copy(black_box(bytes), &mut out));
-                black_box(&out);
-            },
-            || {
-                black_box(image_copy(black_box(bytes), &mut out2));
-                black_box(&out2);
-            },
-        );
-        row(&format!("{name}, and written"), times);
-    }
-}
-
-#[inline(never)]
-fn sound(server: &Server) -> bool {
-    server.sound()
-}
-
-#[inline(never)]
-fn image_state(server: &Server, log: &[u8], point: u8, out: &mut [u8]) -> usize {
-    server.image(STATE_LEN, log, u32::from(point), out).written
-}
-
-/// The image of a point from a server's tables. Both sides test the state
-/// first; a point that is none shows what that costs the proved code.
-fn image_states(random: &mut Random) {
-    let log = [0; states::LOG_LEN];
-    let empty = loop {
-        let server = states::server(random, Tables::Small, 5, 100);
-        if server.clients.is_empty() {
-            break server;
-        }
-    };
-    let full = states::server(random, Tables::Full, 5, 100);
-    let tenth = states::server(random, Tables::Full, 5, 10);
-    for (name, server) in [
-        ("empty", &empty),
-        ("512 records", &full),
-        ("a tenth of 512", &tenth),
-    ] {
-        let state = states::buffer(server);
-        let (mut out, mut out2) = (vec![0; IMAGE_MAX], vec![0; IMAGE_MAX]);
-        let tested = measure(
-            1,
-            || {
-                black_box(proved::image_state(black_box(&state), 64, &mut out));
-            },
-            || {
-                black_box(sound(black_box(server)));
-            },
-        );
-        let all = measure(
-            1,
-            || {
-                black_box(proved::image_state(black_box(&state), 5, &mut out));
-                black_box(&out);
-            },
-            || {
-                black_box(image_state(black_box(server), &log, 5, &mut out2));
-                black_box(&out2);
-            },
-        );
-        row(&format!("state tested, {name}"), tested);
-        row(&format!("and its image, {name}"), all);
-        let written = (all.0 - tested.0, all.1 - tested.1);
-        row(&format!("image from tables, {name}"), written);
-    }
-}
-
-#[inline(never)]
-fn record(log: &[u8], at: u64, out: &mut [u8]) -> u64 {
-    other::record(log, at, out)
-}
-
-#[inline(never)]
-fn record_sum(log: &[u8], at: u64) -> u64 {
-    other::record_sum(log, at)
-}
-
-/// A log of many records of one kind, each read at its place.
-fn records(random: &mut Random) {
-    for (kind, name) in (1..).zip(["executed", "gone", "give", "take", "release"]) {
-        let (mut log, mut places) = (vec![0; 8], Vec::new());
-        for _ in 0..INPUTS {
-            places.push(log.len() as u64);
-            log.extend(inputs::record(random, kind));
-        }
-        let (mut out, mut out2) = ([0; 44], [0; 44]);
-        let times = measure(
-            INPUTS as u64,
-            || {
-                for &at in &places {
-                    black_box(proved::record(black_box(&log), at, &mut out));
-                    black_box(&out);
-                }
-            },
-            || {
-                for &at in &places {
-                    black_box(record(black_box(&log), at, &mut out2));
-                    black_box(&out2);
-                }
-            },
-        );
-        row(&format!("record {name}"), times);
-        let times = measure(
-            INPUTS as u64,
-            || {
-                for &at in &places {
-                    black_box(proved::record_sum(black_box(&log), at));
-                }
-            },
-            || {
-                for &at in &places {
-                    black_box(record_sum(black_box(&log), at));
-                }
-            },
-        );
-        row(&format!("record {name}, summed"), times);
-    }
-}
-
-/// Packets of the client: its answers by value on both sides.
+/// Its answers by value on both sides.
 fn clients() {
     let grant = write_grant(&Grant {
         client: 7,
         lease_end: 1000,
     });
-    let started = proved::Client::start(&grant).client;
-    let started2 = Client::start(&grant).expect("a grant");
-    let result = |call| {
-        write_result(&Reply {
-            outcome: 0,
-            point: 5,
-            quality: 0,
-            client: 7,
-            call,
-            value: 40,
-        })
+    starts(&grant);
+    let started = Clients {
+        have: proved::Client::start(&grant).client,
+        want: Client::start(&grant).expect("a grant"),
     };
-    let results: Vec<[u8; 16]> = (1..=16).map(result).collect();
-    let (mut client, mut client2) = (started, started2.clone());
+    let busy = issues(&started);
+    resends(&busy);
+    let (outcome, point, quality, client, value) = (0, 5, 0, 7, 40);
+    let result = |call| Reply {
+        outcome,
+        point,
+        quality,
+        client,
+        call,
+        value,
+    };
+    let refusal = |call| RefusalPacket {
+        number: 7,
+        point,
+        client,
+        call,
+    };
+    let results: Vec<Vec<u8>> = (1..=16)
+        .map(|c| write_result(&result(c)).to_vec())
+        .collect();
+    let refusals: Vec<Vec<u8>> = (1..=16)
+        .map(|c| write_refusal(&refusal(c)).to_vec())
+        .collect();
+    receives("a result", &busy, &results);
+    receives("a refusal", &busy, &refusals);
+    receives("a grant", &busy, &[grant.to_vec()]);
+    let mut damaged = results;
+    damaged.iter_mut().for_each(|packet| packet[3] = 200);
+    receives("a damaged result", &busy, &damaged);
+}
+
+fn starts(grant: &[u8]) {
+    let times = measure(
+        1,
+        || {
+            black_box(proved::Client::start(black_box(grant)));
+        },
+        || {
+            let _ = black_box(start(black_box(grant)));
+        },
+    );
+    row("client: start", times);
+}
+
+/// Sixteen calls; the client that has them open.
+fn issues(started: &Clients) -> Clients {
+    let mut busy = started.clone();
     let times = measure(
         16,
         || {
-            client = started;
+            busy.have = started.have;
             for _ in 0..16 {
-                black_box(client.issue(black_box(1), 5, 40));
+                black_box(busy.have.issue(black_box(1), 5, 40));
             }
-            black_box(&client);
+            black_box(&busy.have);
         },
         || {
-            client2.clone_from(&started2);
+            busy.want.clone_from(&started.want);
             for _ in 0..16 {
-                black_box(issue(&mut client2, black_box(1), 5, 40));
+                black_box(issue(&mut busy.want, black_box(1), 5, 40));
             }
-            black_box(&client2);
+            black_box(&busy.want);
         },
     );
     row("client: issue", times);
-    let (mut busy, mut busy2) = (client, client2.clone());
+    busy
+}
+
+fn resends(busy: &Clients) {
+    let mut have = busy.have;
     let times = measure(
         16,
         || {
             for call in 1..=16 {
-                black_box(client.resend(black_box(call)));
+                black_box(have.resend(black_box(call)));
             }
         },
         || {
             for call in 1..=16 {
-                black_box(resend(&client2, black_box(call)));
+                black_box(resend(&busy.want, black_box(call)));
             }
         },
     );
     row("client: resend", times);
+}
+
+fn receives(name: &str, busy: &Clients, packets: &[Vec<u8>]) {
+    let mut now = busy.clone();
     let times = measure(
-        16,
+        packets.len() as u64,
         || {
-            busy = client;
-            for r in &results {
-                black_box(busy.receive(black_box(r)));
+            now.have = busy.have;
+            for packet in packets {
+                black_box(now.have.receive(black_box(packet)));
             }
-            black_box(&busy);
+            black_box(&now.have);
         },
         || {
-            busy2.clone_from(&client2);
-            for r in &results {
-                let _ = black_box(receive(&mut busy2, black_box(r)));
+            now.want.clone_from(&busy.want);
+            for packet in packets {
+                let _ = black_box(receive(&mut now.want, black_box(packet)));
             }
-            black_box(&busy2);
+            black_box(&now.want);
         },
     );
-    row("client: receive a result", times);
+    row(&format!("client: receive {name}"), times);
+}
+
+#[inline(never)]
+fn start(grant: &[u8]) -> Result<Client, Refusal> {
+    Client::start(grant)
 }
 
 #[inline(never)]
@@ -502,60 +200,59 @@ fn resend(client: &Client, call: u32) -> proved::SendReply {
 }
 
 #[inline(never)]
-fn receive(client: &mut Client, packet: &[u8]) -> Result<second::desk::Received, u32> {
+fn receive(client: &mut Client, packet: &[u8]) -> Result<Received, Refusal> {
     client.receive(packet)
 }
 
 #[inline(never)]
-fn open(manager: &mut LeaseManager, time: u32, span: u32) -> (u32, u32, [u8; 12]) {
+fn open(manager: &mut LeaseManager, time: u32, span: u32) -> proved::LeaseReply {
     other::told(manager.open(time, span))
 }
 
 #[inline(never)]
-fn renew(manager: &mut LeaseManager, client: u32, time: u32, span: u32) -> (u32, u32, [u8; 12]) {
+fn renew(manager: &mut LeaseManager, client: u32, time: u32, span: u32) -> proved::LeaseReply {
     other::told(manager.renew(client, time, span))
 }
 
 #[inline(never)]
-fn query(manager: &mut LeaseManager, client: u32, time: u32) -> (u32, u32, [u8; 12]) {
+fn query(manager: &mut LeaseManager, client: u32, time: u32) -> proved::LeaseReply {
     other::told(manager.query(client, time))
 }
 
 /// 32 leases are opened, renewed and queried.
 fn leases() {
-    let new = proved::LeaseManager::new();
-    let new2 = LeaseManager::new();
-    let (mut manager, mut manager2) = (new, new2.clone());
+    let (new, new2) = (proved::LeaseManager::new(), LeaseManager::new());
+    let (mut have, mut want) = (new, new2.clone());
     let times = measure(
         32,
         || {
-            manager = new;
+            have = new;
             for time in 1..=32 {
-                let reply = manager.open(black_box(time), 1000);
-                manager = reply.manager;
-                black_box(reply.packet);
+                black_box(have.open(black_box(time), 1000));
             }
         },
         || {
-            manager2.clone_from(&new2);
+            want.clone_from(&new2);
             for time in 1..=32 {
-                black_box(open(&mut manager2, black_box(time), 1000));
+                black_box(open(&mut want, black_box(time), 1000));
             }
         },
     );
     row("lease manager: open", times);
+    leases_in_use(have, want);
+}
+
+fn leases_in_use(mut have: proved::LeaseManager, mut want: LeaseManager) {
     let times = measure(
         32,
         || {
             for client in 1..=32 {
-                let reply = manager.renew(black_box(client), 40, 1000);
-                manager = reply.manager;
-                black_box(reply.packet);
+                black_box(have.renew(black_box(client), 40, 1000));
             }
         },
         || {
             for client in 1..=32 {
-                black_box(renew(&mut manager2, black_box(client), 40, 1000));
+                black_box(renew(&mut want, black_box(client), 40, 1000));
             }
         },
     );
@@ -564,14 +261,12 @@ fn leases() {
         32,
         || {
             for client in 1..=32 {
-                let reply = manager.query(black_box(client), 40);
-                manager = reply.manager;
-                black_box(reply.packet);
+                black_box(have.query(black_box(client), 40));
             }
         },
         || {
             for client in 1..=32 {
-                black_box(query(&mut manager2, black_box(client), 40));
+                black_box(query(&mut want, black_box(client), 40));
             }
         },
     );
@@ -632,6 +327,18 @@ impl Both {
         self.call(&Call::Sync(self.server.length), 0);
     }
 
+    /// The calls have this number, on both sides alike.
+    fn tried(&self, calls: &[Call], number: u32) {
+        let mut tried = self.clone();
+        for call in calls {
+            tried.call(call, number);
+        }
+    }
+
+    fn plan(&self) -> Vec<u8> {
+        self.state[states::PLAN_AT..states::POINTS_AT].to_vec()
+    }
+
     /// Calls that leave the state as it is.
     fn times(&self, calls: &[Call], space: usize) -> (f64, f64) {
         self.measured(calls, space, false, calls.len())
@@ -675,14 +382,18 @@ impl Both {
 }
 
 fn set(point: u8, client: u32, call: u32, done: u32) -> Call {
+    request(1, point, client, call, done, 40)
+}
+
+fn request(op: u8, point: u8, client: u32, call: u32, done: u32, argument: i32) -> Call {
     let request = Request {
-        op: Op::from_byte(1).expect("set"),
+        op: Op::from_byte(op).expect("an op"),
         point,
         client,
         call,
         done,
         lease_end: 1000,
-        argument: 40,
+        argument,
     };
     Call::Request(write_request(&request).to_vec())
 }
@@ -701,6 +412,7 @@ fn row_tested(name: &str, (have, want): (f64, f64), tested: (f64, f64)) {
 /// A few clients with few calls, and full tables.
 fn calls() {
     println!("{:<62}   state tested", "");
+    founds();
     for (name, clients, calls) in [("8 records", 2, 4), ("512 records", 32, 16)] {
         let base = Both::new(0, clients, calls);
         let tested = base.times(&[Call::Sync(0)], SPACE);
@@ -708,25 +420,46 @@ fn calls() {
         calls_that_change(name, &base, clients, calls, tested);
         calls_that_read(name, &base, clients, calls, tested);
         moves(name, &base, tested);
-        let plan = base.state[states::PLAN_AT..states::POINTS_AT].to_vec();
-        let times = base.times(&[Call::Recover(plan)], base.server.length as usize);
-        let records = f64::from(clients * calls);
-        let times = (times.0 / records, times.1 / records);
-        row(&format!("recover, per record of {records}"), times);
+        recovers(&base, f64::from(clients * calls));
+    }
+    rules();
+}
+
+/// The plan is read, and the whole state written.
+fn founds() {
+    let base = Both::new(0, 0, 0);
+    row("found", base.times(&[Call::Found(base.plan(), 0)], SPACE));
+}
+
+/// A request of each op, with the floor at its call, so that one record stays.
+fn rules() {
+    let base = Both::new(0, 1, 1);
+    let tested = base.times(&[Call::Sync(0)], SPACE);
+    for (op, name) in (0..).zip(["read", "set", "step", "report", "fault", "part"]) {
+        let argument = if op == 0 || op == 4 { 0 } else { 40 };
+        let list: Vec<Call> = (2..18)
+            .map(|call| request(op, 5, 1, call, call, argument))
+            .collect();
+        base.tried(&list, 0);
+        let times = base.times_restored(&list);
+        row_tested(&format!("request executed, {name}"), times, tested);
     }
 }
 
-/// 512 requests, which raise floors, and a give of each point.
+/// 512 requests, which raise floors, a give of each point, and a notice of each client.
 fn calls_that_change(name: &str, base: &Both, clients: u32, calls: u32, tested: (f64, f64)) {
     let executed: Vec<Call> = (1..=512 / clients)
         .flat_map(|n| (1..=clients).map(move |client| set(5, client, calls + n, n + 1)))
         .collect();
     let given: Vec<Call> = (7..64).map(|point| Call::Give(point, 1)).collect();
-    for (call, list) in [("request executed", executed), ("give", given)] {
-        let mut tried = base.clone();
-        for c in &list {
-            assert!(tried.call(c, 0).is_empty(), "{call}");
-        }
+    let gone = |client| Call::Notice(write_notice(&Notice { client, time: 9 }).to_vec());
+    let gone: Vec<Call> = (1..=clients).map(gone).collect();
+    for (call, list) in [
+        ("request executed", executed),
+        ("give", given),
+        ("notice", gone),
+    ] {
+        base.tried(&list, 0);
         let times = base.times_restored(&list);
         row_tested(&format!("{call}, {name}"), times, tested);
     }
@@ -737,23 +470,22 @@ fn calls_that_read(name: &str, base: &Both, clients: u32, calls: u32, tested: (f
         .flat_map(|call| (1..=clients).map(move |client| (client, call)))
         .collect();
     let each = |call: fn(u32, u32) -> Call| ids.iter().map(|&(x, c)| call(x, c)).collect();
-    let rows: [(&str, u32, Vec<Call>); 4] = [
+    let rows: [(&str, u32, Vec<Call>); 5] = [
         ("request repeated", 0, each(|x, c| set(5, x, c, 1))),
         ("request refused", 3, each(|x, c| set(6, x, c, 1))),
+        ("request malformed", 1, each(|x, c| set(64, x, c, 1))),
         ("fetch", 0, each(Call::Fetch)),
         ("sync", 0, vec![Call::Sync(base.server.length)]),
     ];
     for (call, number, list) in rows {
-        let mut tried = base.clone();
-        for c in &list {
-            tried.call(c, number);
-        }
+        base.tried(&list, number);
         let times = base.times(&list, SPACE);
         row_tested(&format!("{call}, {name}"), times, tested);
     }
 }
 
-/// The image of the point that has all records, and its take by an empty server.
+/// The image of the point that has all records, its take by an empty server, and what
+/// another server does of a take: it reads the image and refuses it.
 fn moves(name: &str, base: &Both, tested: (f64, f64)) {
     let mut given = base.clone();
     given.call(&Call::Give(5, 1), 0);
@@ -761,23 +493,32 @@ fn moves(name: &str, base: &Both, tested: (f64, f64)) {
     let image = given.call(&Call::Image(5), 0);
     let times = given.times(&[Call::Image(5)], SPACE);
     row_tested(&format!("image, {name}"), times, tested);
-    let taker = Both::new(1, 0, 0);
+    let (taker, other) = (Both::new(1, 0, 0), Both::new(2, 0, 0));
     let empty = taker.times(&[Call::Sync(0)], SPACE);
-    taker.clone().call(&Call::Take(image.clone()), 0);
-    let times = taker.times_restored(&[Call::Take(image)]);
+    let take = [Call::Take(image)];
+    taker.tried(&take, 0);
+    let times = taker.times_restored(&take);
     row_tested(&format!("take, {name}"), times, empty);
+    other.tried(&take, 11);
+    let times = other.times(&take, SPACE);
+    row_tested(&format!("image read and refused, {name}"), times, empty);
+    let mut taken = taker.clone();
+    taken.call(&take[0], 0);
+    let length = taken.server.length as usize;
+    let times = taken.times(&[Call::Recover(taken.plan())], length);
+    row(&format!("recover a take, {name}"), times);
+}
+
+fn recovers(base: &Both, records: f64) {
+    let length = base.server.length as usize;
+    let (have, want) = base.times(&[Call::Recover(base.plan())], length);
+    let times = (have / records, want / records);
+    row(&format!("recover, per record of {records}"), times);
 }
 
 fn main() {
-    let mut random = Random::new(1);
     println!("nanoseconds per call, best of {ROUNDS} rounds");
     println!("{:<34} {:>9} {:>9} {:>7}", "", "proved", "second", "ratio");
-    packets(&mut random);
-    rules(&mut random);
-    plans(&mut random);
-    images(&mut random);
-    image_states(&mut random);
-    records(&mut random);
     clients();
     leases();
     calls();

@@ -7,5 +7,5 @@ fn main() -> io::Result<()> {
     io::stdin().lock().read_to_end(&mut input)?;
     io::stdout()
         .lock()
-        .write_all(second::yard::run(&input).as_bytes())
+        .write_all(second::simulator::run(&input).as_bytes())
 }

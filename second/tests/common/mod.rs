@@ -1,14 +1,14 @@
 //! A cabinet with its lent slices, and short ways to make packets.
 #![allow(dead_code)]
 
-use second::answer::Answer;
-use second::cabinet::{Server, STATE_LEN};
+use second::answer::{Answer, Refusal};
 use second::image::{write_image, Floor, ImageHead, Moved, IMAGE_MAX};
 use second::packet::{
     write_notice, write_receipt, write_request, Notice, Receipt, Request, REQUEST_LEN,
 };
 use second::plan::{write_plan, Entry, Plan, PLAN_LEN};
 use second::rule::Op;
+use second::server::{Server, STATE_LEN};
 
 pub const FILL: u8 = 0xA5;
 
@@ -31,6 +31,11 @@ pub fn plan() -> Plan {
 
 pub fn plan_bytes() -> [u8; PLAN_LEN] {
     write_plan(&plan())
+}
+
+/// By its number in the paper.
+pub fn refusal(number: u32) -> Refusal {
+    Refusal::ALL[number as usize - 1]
 }
 
 pub struct Rig {

@@ -4,8 +4,8 @@
 use compare::inputs;
 use compare::tally::{runs, seed, Tally};
 use compare::{other, proved};
-use second::answer::UNKNOWN;
-use second::desk::Client;
+use second::answer::Refusal;
+use second::client::Client;
 use second::packet::{parse_packet, write_grant, write_packet, Grant, Packet};
 use second::random::Random;
 
@@ -206,7 +206,7 @@ fn refusal_class(client: &Client, number: u32, packet: &Packet) -> &'static str 
         Packet::Grant(p) => (p.client, 1),
         _ => return "receive: 1, request, receipt or notice",
     };
-    assert_eq!(number, UNKNOWN);
+    assert_eq!(number, Refusal::Unknown.number());
     match client.open_call(call) {
         _ if to != client.client => "receive: 17, other client",
         Some(_) => "receive: 17, other point",

@@ -1,16 +1,20 @@
-//! Images: the same verdict of every string, in and out of the point's range,
-//! the same fields and the same bytes written.
+//! Images. A string is taken by a server that it suits: refused with 1 exactly if it
+//! is no image, or a value is out of the point's range; what is taken shows its fields in
+//! state and log.
 
 use compare::inputs::{self, Tables};
+use compare::kernel::Call;
+use compare::pair::{Outputs, Pair, MALFORMED};
+use compare::states;
 use compare::tally::{runs, seed, Tally};
-use compare::{other, proved};
 use second::bytes::{all_zero, get_i32, get_u32};
 use second::image::{IMAGE_MAGIC, IMAGE_MAX};
+use second::plan::{Entry, Plan};
 use second::random::Random;
+use second::server::Server;
 
-const FILL: u8 = 0xA5;
-
-const CLASSES: [&str; 33] = [
+const CLASSES: [&str; 34] = [
+    "taken",
     "image",
     "image: full",
     "image: no floors",
@@ -165,13 +169,27 @@ fn spoil(random: &mut Random, bytes: &mut Vec<u8>) {
     }
 }
 
+/// A server that the image may be taken by: its number is the image's destination, and
+/// no point is at home.
+fn taker(image: &[u8], (low, high): (i32, i32)) -> Server {
+    let number = image[5];
+    let plan = Plan::uniform(Entry {
+        low,
+        high,
+        fallback: low,
+        home: (number + 1) % 16,
+    });
+    states::founded(&plan, number)
+}
+
 #[test]
 fn images() {
     let mut random = Random::new(seed());
     let mut tally = Tally::new("images", &CLASSES);
+    let mut outputs = Outputs::new(0);
+    let mut pair = Pair::of(states::founded(&inputs::plan(&mut random), 0), 12_000);
     let (mut whole, mut bytes, mut range) = (Vec::new(), Vec::new(), (0, 0));
-    let (mut have_out, mut want_out) = (vec![FILL; IMAGE_MAX + 8], vec![FILL; IMAGE_MAX + 8]);
-    for run in 0..runs() {
+    for run in 0..runs() / 4 {
         if run % 8 == 0 {
             let e = inputs::entry(&mut random);
             range = (e.low, e.high);
@@ -185,32 +203,22 @@ fn images() {
             1 => tested.1 = tested.1.saturating_sub(1).max(tested.0),
             _ => {}
         }
-        let have = proved::image(&bytes, tested);
-        let want = other::image(&bytes, &other::range_plan(tested));
-        assert_eq!(have, want, "range {tested:?}, image {bytes:02x?}");
+        pair.set(taker(&whole, tested));
+        let answer = pair.run(&Call::Take(bytes.clone()), &mut outputs);
         let mut class = class(&bytes);
-        let faultless = class.starts_with("image");
-        assert_eq!(have & 1 == 0, faultless, "{class}: image {bytes:02x?}");
-        if faultless {
+        if class.starts_with("image") {
             class = range_class(&bytes, tested, class);
-            let in_range = class.starts_with("image");
-            assert_eq!(
-                have & 2 != 0,
-                in_range,
-                "{class}: {tested:?}, image {bytes:02x?}"
-            );
         }
+        let well_formed = class.starts_with("image");
+        assert_eq!(
+            answer.number != MALFORMED,
+            well_formed,
+            "{class}: {tested:?}, image {bytes:02x?}"
+        );
         tally.meet(class);
-
-        let room = match random.below(50) {
-            0 => random.below(bytes.len() as u32 + 1) as usize,
-            _ => bytes.len() + 8,
-        };
-        let room = room.min(have_out.len());
-        let have = proved::image_copy(&bytes, &mut have_out[..room]);
-        let want = other::image_copy(&bytes, &mut want_out[..room]);
-        assert_eq!(have, want, "copy to {room} bytes, image {bytes:02x?}");
-        assert!(have_out[..room] == want_out[..room], "copy of {bytes:02x?}");
+        if answer.number == 0 {
+            tally.meet("taken");
+        }
     }
     tally.finish();
 }

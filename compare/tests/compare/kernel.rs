@@ -5,14 +5,14 @@
 
 use compare::inputs::{self, Tables};
 use compare::kernel::Call;
-use compare::states::{self, POINTS_AT, RECORDS_AT};
+use compare::pair::{Lent, Outputs, Pair, FILL};
+use compare::states::{self, POINTS_AT, RECORDS_AT, STATE_END};
 use compare::tally::{runs, seed, Tally};
 use second::answer::Answer;
 use second::bytes::{get_u32, put_u32};
-use second::cabinet::{Hold, Server, STATE_LEN};
-use second::desk::Client;
+use second::client::Client;
 use second::image::IMAGE_MAX;
-use second::office::LeaseManager;
+use second::leases::LeaseManager;
 use second::packet::{
     write_notice, write_receipt, write_request, Notice, Receipt, Request, RECEIPT_LEN, RESULT_LEN,
 };
@@ -20,9 +20,10 @@ use second::plan::{write_plan, Entry, Plan};
 use second::random::Random;
 use second::record::{parse_head, parse_record, Parsed, HEAD_LEN};
 use second::rule::Op;
+use second::server::{Hold, Server, STATE_LEN};
 
-const FILL: u8 = 0xA5;
 const LOG_LEN: usize = 48_000;
+const OUT_LEN: usize = IMAGE_MAX + 8;
 
 /// A call and its number; a number that has several causes by its cause.
 const CLASSES: [&str; 78] = [
@@ -106,120 +107,21 @@ const CLASSES: [&str; 78] = [
     "damaged state: 19",
 ];
 
-/// How much of each slice a call is lent.
-struct Lent {
-    state: usize,
-    log: usize,
-    out: usize,
-}
-
-/// The outputs of both sides, longer than any answer.
-struct Outputs {
-    have: Vec<u8>,
-    want: Vec<u8>,
-}
-
-impl Outputs {
-    fn new() -> Outputs {
-        Outputs {
-            have: vec![FILL; IMAGE_MAX + 8],
-            want: vec![FILL; IMAGE_MAX + 8],
-        }
+/// The space for a log: soon full, or never.
+fn room(random: &mut Random) -> usize {
+    match random.below(8) {
+        0 => 8 + random.below(300) as usize,
+        1 | 2 => 2000,
+        3 => 14_000,
+        _ => LOG_LEN - 16,
     }
 }
 
-// ---- one server of both programs
-
-struct Pair {
-    /// The proved server's buffer, and what it held before this call.
-    state: Vec<u8>,
-    before: Vec<u8>,
-    log: Vec<u8>,
-    server: Server,
-    server_log: Vec<u8>,
-    /// The space for the log.
-    room: usize,
-}
-
-impl Pair {
-    /// Not founded; memory has any content.
-    fn new(random: &mut Random, room: usize) -> Pair {
-        let mut state = vec![0x5A; STATE_LEN];
-        state[..states::STATE_END].fill_with(|| inputs::byte(random));
-        Pair {
-            before: state.clone(),
-            state,
-            log: vec![FILL; LOG_LEN],
-            server: Server::new(),
-            server_log: vec![FILL; LOG_LEN],
-            room,
-        }
-    }
-
-    fn whole(&self) -> Lent {
-        Lent {
-            state: STATE_LEN,
-            log: self.room,
-            out: IMAGE_MAX,
-        }
-    }
-
-    fn length(&self) -> usize {
-        self.server.length as usize
-    }
-
-    /// The call on both sides, and all lent memory compared.
-    fn call(&mut self, call: &Call, lent: &Lent, outputs: &mut Outputs) -> Answer {
-        outputs.have.fill(FILL);
-        outputs.want.fill(FILL);
-        let have = call.proved(
-            &mut self.state[..lent.state],
-            &mut self.log[..lent.log],
-            &mut outputs.have[..lent.out],
-        );
-        let want = call.second(
-            &mut self.server,
-            lent.state,
-            &mut self.server_log[..lent.log],
-            &mut outputs.want[..lent.out],
-        );
-        assert_eq!(have, want, "{call:02x?}, {:?}", self.server);
-        assert!(outputs.have == outputs.want, "output: {call:02x?}");
-        let past = &outputs.have[want.written..];
-        assert!(past.iter().all(|&b| b == FILL), "past output: {call:02x?}");
-        assert!(self.log == self.server_log, "log: {call:02x?}");
-        self.compare_state(call, want);
-        want
-    }
-
-    /// A call refused, or one that only reads, leaves the buffer as it was.
-    fn compare_state(&mut self, call: &Call, want: Answer) {
-        if want.number != 0 || want.written != 0 {
-            assert!(self.state == self.before, "state changed: {call:02x?}");
-            return;
-        }
-        let wanted = self.wanted_state();
-        assert!(
-            self.state == wanted,
-            "state: {call:02x?}, {:?}",
-            self.server
-        );
-        self.before.copy_from_slice(&self.state);
-    }
-
-    /// The second program's state in its buffer. What it no longer knows of a
-    /// released point, the destination and the give's end, is copied.
-    fn wanted_state(&self) -> Vec<u8> {
-        let mut wanted = states::buffer(&self.server);
-        for (i, point) in self.server.points.iter().enumerate() {
-            if point.hold == Hold::Released {
-                let at = POINTS_AT + 32 * i;
-                wanted[at + 2] = self.state[at + 2];
-                wanted[at + 16..at + 24].copy_from_slice(&self.state[at + 16..at + 24]);
-            }
-        }
-        wanted
-    }
+/// Not founded; memory has any content.
+fn pair(random: &mut Random, room: usize) -> Pair {
+    let mut state = vec![states::BEHIND; STATE_LEN];
+    state[..STATE_END].fill_with(|| inputs::byte(random));
+    Pair::new(state, vec![FILL; LOG_LEN], room)
 }
 
 /// The class of an answer.
@@ -276,18 +178,13 @@ struct World {
     images: Vec<Vec<u8>>,
     receipts: Vec<Vec<u8>>,
     outputs: Outputs,
-    scratch: Vec<u8>,
+    scratch: Pair,
 }
 
 impl World {
     fn new(seed: u64, tally: &mut Tally) -> World {
         let mut random = Random::new(seed);
-        let room = match random.below(8) {
-            0 => 8 + random.below(300) as usize,
-            1 | 2 => 2000,
-            3 => 14_000,
-            _ => LOG_LEN - 16,
-        };
+        let room = room(&mut random);
         let points: Vec<u8> = (0..1 + random.below(6))
             .map(|_| random.below(64) as u8)
             .collect();
@@ -298,7 +195,7 @@ impl World {
         }
         let late = random.chance(10);
         let mut world = World {
-            pairs: (0..3).map(|_| Pair::new(&mut random, room)).collect(),
+            pairs: (0..3).map(|_| pair(&mut random, room)).collect(),
             plan_bytes: write_plan(&plan).to_vec(),
             plan,
             office: LeaseManager::new(),
@@ -309,8 +206,8 @@ impl World {
             notices: Vec::new(),
             images: Vec::new(),
             receipts: Vec::new(),
-            outputs: Outputs::new(),
-            scratch: vec![0x5A; STATE_LEN],
+            outputs: Outputs::new(OUT_LEN),
+            scratch: Pair::new(vec![states::BEHIND; STATE_LEN], Vec::new(), 0),
             random,
         };
         for i in 0..3 {
@@ -336,7 +233,7 @@ impl World {
     /// Founded, often after a refusal.
     fn found(&mut self, i: usize, number: u32, tally: &mut Tally) {
         while self.random.chance(30) {
-            let mut lent = self.pairs[i].whole();
+            let mut lent = self.pairs[i].whole(&self.outputs);
             let (mut plan, mut other) = (self.plan_bytes.clone(), number);
             match self.random.below(4) {
                 0 => lent.state = self.random.below(STATE_LEN as u32) as usize,
@@ -346,7 +243,7 @@ impl World {
             }
             self.run(i, &Call::Found(plan, other), &lent, tally);
         }
-        let lent = self.pairs[i].whole();
+        let lent = self.pairs[i].whole(&self.outputs);
         let call = Call::Found(self.plan_bytes.clone(), number);
         let answer = self.run(i, &call, &lent, tally);
         assert_eq!(answer.number, 0);
@@ -360,9 +257,9 @@ impl World {
 
     /// With whole slices: the output.
     fn run_whole(&mut self, i: usize, call: &Call, tally: &mut Tally) -> Vec<u8> {
-        let lent = self.pairs[i].whole();
+        let lent = self.pairs[i].whole(&self.outputs);
         let answer = self.run(i, call, &lent, tally);
-        self.outputs.want[..answer.written].to_vec()
+        self.outputs.written(answer).to_vec()
     }
 
     /// With whole slices, or now and then with one too short.
@@ -372,7 +269,7 @@ impl World {
     }
 
     fn lent(&mut self, i: usize, call: &Call) -> Lent {
-        let mut lent = self.pairs[i].whole();
+        let mut lent = self.pairs[i].whole(&self.outputs);
         let need = match call {
             Call::Request(_) | Call::Fetch(..) => RESULT_LEN,
             Call::Receipt(_) => RECEIPT_LEN,
@@ -519,7 +416,7 @@ impl World {
         if answer.written == 0 || self.random.chance(30) {
             return;
         }
-        let packet = &self.outputs.want[..answer.written];
+        let packet = self.outputs.written(answer);
         let number = get_u32(packet, 4);
         if let Some(client) = self.clients.iter_mut().find(|c| c.client == number) {
             let _ = client.receive(packet);
@@ -598,8 +495,7 @@ impl World {
         let i = self.with(point as u8, |hold| matches!(hold, Hold::Given { .. }));
         let answer = self.run_lent(i, &Call::Image(point), tally);
         if answer.written > 0 {
-            self.images
-                .push(self.outputs.want[..answer.written].to_vec());
+            self.images.push(self.outputs.written(answer).to_vec());
         }
     }
 
@@ -662,8 +558,7 @@ impl World {
         let (i, point) = (self.any(), self.point_number());
         let answer = self.run_lent(i, &Call::Receipt(point), tally);
         if answer.written > 0 {
-            self.receipts
-                .push(self.outputs.want[..answer.written].to_vec());
+            self.receipts.push(self.outputs.written(answer).to_vec());
         }
     }
 
@@ -718,7 +613,7 @@ impl World {
     /// and then. Behind them the log's space has any content.
     fn recover_at(&mut self, i: usize, kept: usize, tally: &mut Tally) {
         let plan = self.plan_bytes.clone();
-        let mut lent = self.pairs[i].whole();
+        let mut lent = self.pairs[i].whole(&self.outputs);
         lent.log = kept;
         if self.random.chance(30) {
             let mut bad = plan.clone();
@@ -731,7 +626,7 @@ impl World {
             lent.state = STATE_LEN;
         }
         let pair = &mut self.pairs[i];
-        pair.state[..states::STATE_END].fill(self.random.next_u32() as u8);
+        pair.state[..STATE_END].fill(self.random.next_u32() as u8);
         pair.before.copy_from_slice(&pair.state);
         let junk = inputs::byte(&mut self.random);
         pair.log[kept..].fill(junk);
@@ -749,23 +644,18 @@ impl World {
     /// Recovery of a log, on memory of its own.
     fn recovered(&mut self, log: &[u8], tally: &mut Tally) -> Answer {
         let junk = self.random.next_u32() as u8;
-        self.scratch[..states::STATE_END].fill(junk);
-        let mut pair = Pair {
-            state: std::mem::take(&mut self.scratch),
-            before: Vec::new(),
-            log: log.to_vec(),
-            server: Server::new(),
-            server_log: log.to_vec(),
-            room: log.len(),
-        };
-        pair.before.clone_from(&pair.state);
-        let lent = pair.whole();
+        let pair = &mut self.scratch;
+        pair.state[..STATE_END].fill(junk);
+        pair.before.copy_from_slice(&pair.state);
+        pair.server = Server::new();
+        pair.log = log.to_vec();
+        pair.server_log = log.to_vec();
+        pair.room = log.len();
         let call = Call::Recover(self.plan_bytes.clone());
-        let answer = pair.call(&call, &lent, &mut self.outputs);
-        self.scratch = pair.state;
+        let answer = pair.run(&call, &mut self.outputs);
         match answer.number {
             14 => tally.meet(broken(log)),
-            _ => tally.meet(&class(&call, answer, &pair.server)),
+            _ => tally.meet(&class(&call, answer, &self.scratch.server)),
         }
         answer
     }
@@ -783,11 +673,7 @@ impl World {
             2 => inputs::damage(&mut self.random, &mut log),
             3 | 8 | 9 if records >= 1 => {
                 let n = self.random.below(records) as usize;
-                let fields = (places[n + 1] - places[n]).min(28) as u32 / 4;
-                let at = places[n] + 4 * self.random.below(fields) as usize;
-                let four =
-                    get_u32(&log, at).wrapping_add(*self.random.pick(&[1, u32::MAX, 1 << 31]));
-                put_u32(&mut log, at, four);
+                self.change_field(&mut log[places[n]..places[n + 1]]);
             }
             4 if records >= 1 => {
                 let n = self.random.below(records) as usize;
@@ -815,6 +701,15 @@ impl World {
         }
     }
 
+    /// One of the first seven numbers of a record.
+    fn change_field(&mut self, record: &mut [u8]) {
+        let fields = record.len().min(28) as u32 / 4;
+        let at = 4 * self.random.below(fields) as usize;
+        let by = *self.random.pick(&[1, u32::MAX, 1 << 31]);
+        let four = get_u32(record, at).wrapping_add(by);
+        put_u32(record, at, four);
+    }
+
     /// A buffer that no call leaves: every call on it is refused, and changes
     /// nothing.
     fn damaged_state(&mut self, tally: &mut Tally) {
@@ -822,7 +717,6 @@ impl World {
         let pair = &mut self.pairs[i];
         let mut state = pair.state.clone();
         spoil(&mut self.random, &mut state);
-        let before = state.clone();
         let point = self.random.below(64);
         let call = match self.random.below(9) {
             0 => Call::Request(self.requests.last().cloned().unwrap_or_default()),
@@ -835,15 +729,7 @@ impl World {
             7 => Call::Receipt(point),
             _ => Call::Release(self.receipts.last().cloned().unwrap_or_default()),
         };
-        let out = &mut self.outputs.have;
-        out.fill(FILL);
-        let answer = call.proved(&mut state, &mut pair.log[..pair.room], out);
-        assert_eq!(answer, Answer::refused(19), "{call:02x?}");
-        assert!(
-            state == before && pair.log == pair.server_log,
-            "{call:02x?}"
-        );
-        assert!(out.iter().all(|&b| b == FILL), "{call:02x?}");
+        pair.refuses(&call, &mut state, &mut self.outputs);
         tally.meet("damaged state: 19");
     }
 
@@ -946,7 +832,7 @@ fn two_servers(tally: &mut Tally) -> World {
     });
     world.plan_bytes = write_plan(&world.plan).to_vec();
     world.pairs = (0..2)
-        .map(|_| Pair::new(&mut world.random, LOG_LEN - 16))
+        .map(|_| pair(&mut world.random, LOG_LEN - 16))
         .collect();
     for number in 0..2 {
         let call = Call::Found(world.plan_bytes.clone(), number);
@@ -968,24 +854,25 @@ fn set(client: u32, call: u32) -> Call {
     Call::Request(write_request(&request).to_vec())
 }
 
+const FULL: [&str; 12] = [
+    "found: 0",
+    "request: executed",
+    "request: 8",
+    "request: 7",
+    "sync: 0",
+    "give: 0",
+    "image: 0",
+    "take: 0",
+    "receipt: 0",
+    "release: 0",
+    "request: result",
+    "recover: 0",
+];
+
 /// 32 clients with 16 commands each, moved and recovered.
 #[test]
 fn full() {
-    const CLASSES: [&str; 12] = [
-        "found: 0",
-        "request: executed",
-        "request: 8",
-        "request: 7",
-        "sync: 0",
-        "give: 0",
-        "image: 0",
-        "take: 0",
-        "receipt: 0",
-        "release: 0",
-        "request: result",
-        "recover: 0",
-    ];
-    let mut tally = Tally::new("kernel, full tables", &CLASSES);
+    let mut tally = Tally::new("kernel, full tables", &FULL);
     let t = &mut tally;
     let mut world = two_servers(t);
     for call in (1..=16).rev() {
@@ -1010,7 +897,7 @@ fn full() {
         }
     }
     for (i, records) in [(0, 0), (1, 512)] {
-        let mut lent = world.pairs[i].whole();
+        let mut lent = world.pairs[i].whole(&world.outputs);
         lent.log = world.pairs[i].length();
         let call = Call::Recover(world.plan_bytes.clone());
         world.run(i, &call, &lent, t);

@@ -1,7 +1,7 @@
 //! Paper 01, "Operations and their numbers": the lease office (lease manager)
 //! with its open, renew and query.
 
-use crate::answer::*;
+use crate::answer::Refusal;
 use crate::packet::{write_grant, write_notice, Grant, Notice, GRANT_LEN};
 
 pub const LEASES_MAX: usize = 32;
@@ -37,25 +37,28 @@ impl LeaseManager {
         }
     }
 
-    pub fn open(&mut self, time: u32, span: u32) -> Result<[u8; GRANT_LEN], u32> {
+    pub fn open(&mut self, time: u32, span: u32) -> Result<[u8; GRANT_LEN], Refusal> {
         test_span(span)?;
         let time = self.time.max(time);
         if self.running(time) >= LEASES_MAX {
-            return Err(LEASES_FULL);
+            return Err(Refusal::LeasesFull);
         }
-        let client = u32::try_from(self.next).map_err(|_| NUMBER_SPENT)?;
-        let end = time.checked_add(span).ok_or(NUMBER_SPENT)?;
+        let client = u32::try_from(self.next).map_err(|_| Refusal::NumberSpent)?;
+        let end = time.checked_add(span).ok_or(Refusal::NumberSpent)?;
         self.advance(time);
         self.next += 1;
         self.leases.push(Lease { client, end });
         Ok(grant(client, end))
     }
 
-    pub fn renew(&mut self, client: u32, time: u32, span: u32) -> Result<[u8; GRANT_LEN], u32> {
+    pub fn renew(&mut self, client: u32, time: u32, span: u32) -> Result<[u8; GRANT_LEN], Refusal> {
         test_span(span)?;
         let time = self.time.max(time);
-        let lease = self.lease(client, time).ok_or(UNKNOWN)?;
-        let end = time.checked_add(span).ok_or(NUMBER_SPENT)?.max(lease.end);
+        let lease = self.lease(client, time).ok_or(Refusal::Unknown)?;
+        let end = time
+            .checked_add(span)
+            .ok_or(Refusal::NumberSpent)?
+            .max(lease.end);
         self.advance(time);
         for lease in self.leases.iter_mut().filter(|l| l.client == client) {
             lease.end = end;
@@ -64,9 +67,9 @@ impl LeaseManager {
     }
 
     /// A grant if the lease is running, else a notice; both have 12 bytes.
-    pub fn query(&mut self, client: u32, time: u32) -> Result<[u8; GRANT_LEN], u32> {
+    pub fn query(&mut self, client: u32, time: u32) -> Result<[u8; GRANT_LEN], Refusal> {
         if client == 0 || u64::from(client) >= self.next {
-            return Err(UNKNOWN);
+            return Err(Refusal::Unknown);
         }
         let time = self.time.max(time);
         self.advance(time);
@@ -91,10 +94,10 @@ impl LeaseManager {
     }
 }
 
-fn test_span(span: u32) -> Result<(), u32> {
+fn test_span(span: u32) -> Result<(), Refusal> {
     match span {
         1..=SPAN_MAX => Ok(()),
-        _ => Err(MALFORMED),
+        _ => Err(Refusal::Malformed),
     }
 }
 

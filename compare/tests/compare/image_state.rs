@@ -2,14 +2,13 @@
 //! second program writes of the same tables.
 
 use compare::inputs::{self, Tables};
-use compare::proved;
+use compare::kernel::Call;
+use compare::pair::{Outputs, Pair};
 use compare::states::{self, LOG_LEN};
 use compare::tally::{runs, seed, Tally};
-use second::cabinet::{Server, STATE_LEN};
 use second::image::IMAGE_MAX;
 use second::random::Random;
-
-const FILL: u8 = 0xA5;
+use second::server::{Server, STATE_LEN};
 
 const CLASSES: [&str; 9] = [
     "image",
@@ -50,54 +49,52 @@ fn base(random: &mut Random, point: u8) -> Server {
 fn image_state() {
     let mut random = Random::new(seed());
     let mut tally = Tally::new("image_state", &CLASSES);
-    let log = [0; LOG_LEN];
-    let (mut have_out, mut want_out) = (vec![FILL; IMAGE_MAX + 8], vec![FILL; IMAGE_MAX + 8]);
+    let mut outputs = Outputs::new(IMAGE_MAX + 8);
+    let mut pair = Pair::of(states::founded(&inputs::plan(&mut random), 0), LOG_LEN);
     for _ in 0..runs() / 20 {
         let point = random.below(64) as u8;
-        let server = base(&mut random, point);
-        let state = states::buffer(&server);
-        have_out.fill(FILL);
-        want_out.fill(FILL);
-        let want = server.image(STATE_LEN, &log, u32::from(point), &mut want_out);
-        assert_eq!(want.number, 0, "{server:?}");
-        let have = proved::image_state(&state, point, &mut have_out);
-        assert_eq!(have, want.written as u64, "point {point}, {server:?}");
-        assert!(have_out == want_out, "point {point}, {server:?}");
-        tally.meet(class(&server, point));
-
-        // what is refused leaves the output as it was
-        have_out.fill(FILL);
-        let mut damaged = state;
-        let (class, length, point, room) = match random.below(4) {
-            0 => (
-                "output too short",
-                STATE_LEN,
-                point,
-                random.below(IMAGE_MAX as u32) as usize,
-            ),
-            1 => (
-                "buffer too short",
-                random.below(states::STATE_END as u32) as usize,
-                point,
-                IMAGE_MAX,
-            ),
-            2 => {
-                spoil(&mut random, &mut damaged);
-                ("not sound", STATE_LEN, point, IMAGE_MAX)
-            }
-            _ => (
-                "no such point",
-                STATE_LEN,
-                64 + inputs::byte(&mut random) % 192,
-                IMAGE_MAX,
-            ),
-        };
-        let have = proved::image_state(&damaged[..length], point, &mut have_out[..room]);
-        assert_eq!(have, 0, "{class}: point {point}, {server:?}");
-        assert!(have_out.iter().all(|&b| b == FILL), "{class}: {server:?}");
-        tally.meet(class);
+        pair.set(base(&mut random, point));
+        let call = Call::Image(u32::from(point));
+        let answer = pair.run(&call, &mut outputs);
+        assert_eq!(answer.number, 0, "{:?}", pair.server);
+        tally.meet(class(&pair.server, point));
+        tally.meet(refused(&mut random, &mut pair, call, &mut outputs));
     }
     tally.finish();
+}
+
+/// What is refused leaves the output as it was.
+fn refused(
+    random: &mut Random,
+    pair: &mut Pair,
+    call: Call,
+    outputs: &mut Outputs,
+) -> &'static str {
+    let mut lent = pair.whole(outputs);
+    let (class, number, call) = match random.below(4) {
+        0 => {
+            lent.out = random.below(IMAGE_MAX as u32) as usize;
+            ("output too short", 2, call)
+        }
+        1 => {
+            lent.state = random.below(STATE_LEN as u32) as usize;
+            ("buffer too short", 2, call)
+        }
+        2 => {
+            let mut damaged = pair.state.clone();
+            spoil(random, &mut damaged);
+            pair.refuses(&call, &mut damaged, outputs);
+            return "not sound";
+        }
+        _ => (
+            "no such point",
+            1,
+            Call::Image(64 + inputs::number(random) / 2),
+        ),
+    };
+    let answer = pair.call(&call, &lent, outputs);
+    assert_eq!(answer.number, number, "{class}");
+    class
 }
 
 /// A byte that has one value in every sound buffer, or a field past its limit.

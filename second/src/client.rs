@@ -1,10 +1,10 @@
 //! Paper 01, "Operations and their numbers": the desk (client) with its start,
 //! issue, resend and receive.
 
-use crate::answer::*;
+use crate::answer::Refusal;
 use crate::packet::{
-    parse_grant, parse_packet, write_request, Grant, Packet, Refusal, Reply, Request, REQUEST_LEN,
-    WINDOW,
+    parse_grant, parse_packet, write_request, Grant, Packet, RefusalPacket, Reply, Request,
+    REQUEST_LEN, WINDOW,
 };
 use crate::plan::POINTS;
 use crate::rule::{Effect, Op};
@@ -42,8 +42,8 @@ pub enum Received {
 
 impl Client {
     /// Start.
-    pub fn start(packet: &[u8]) -> Result<Client, u32> {
-        let grant = parse_grant(packet).ok_or(MALFORMED)?;
+    pub fn start(packet: &[u8]) -> Result<Client, Refusal> {
+        let grant = parse_grant(packet).ok_or(Refusal::Malformed)?;
         Ok(Client {
             client: grant.client,
             lease_end: grant.lease_end,
@@ -60,13 +60,18 @@ impl Client {
         self.open[slot(call)]
     }
 
-    pub fn issue(&mut self, op: u32, point: u32, argument: i32) -> Result<[u8; REQUEST_LEN], u32> {
-        let command = command(op, point, argument).ok_or(MALFORMED)?;
+    pub fn issue(
+        &mut self,
+        op: u32,
+        point: u32,
+        argument: i32,
+    ) -> Result<[u8; REQUEST_LEN], Refusal> {
+        let command = command(op, point, argument).ok_or(Refusal::Malformed)?;
         if self.next - self.first >= WINDOW {
-            return Err(WINDOW_FULL);
+            return Err(Refusal::WindowFull);
         }
         if self.next == u32::MAX {
-            return Err(NUMBER_SPENT);
+            return Err(Refusal::NumberSpent);
         }
         let call = self.next;
         self.open[slot(call)] = Some(command);
@@ -74,17 +79,17 @@ impl Client {
         Ok(self.packet(call, &command))
     }
 
-    pub fn resend(&self, call: u32) -> Result<[u8; REQUEST_LEN], u32> {
-        let command = self.open_call(call).ok_or(UNKNOWN)?;
+    pub fn resend(&self, call: u32) -> Result<[u8; REQUEST_LEN], Refusal> {
+        let command = self.open_call(call).ok_or(Refusal::Unknown)?;
         Ok(self.packet(call, &command))
     }
 
-    pub fn receive(&mut self, packet: &[u8]) -> Result<Received, u32> {
+    pub fn receive(&mut self, packet: &[u8]) -> Result<Received, Refusal> {
         match parse_packet(packet) {
             Some(Packet::Result(reply)) => self.receive_result(&reply),
             Some(Packet::Refusal(refusal)) => self.receive_refusal(&refusal),
             Some(Packet::Grant(grant)) => self.receive_grant(&grant),
-            _ => Err(MALFORMED),
+            _ => Err(Refusal::Malformed),
         }
     }
 
@@ -100,14 +105,14 @@ impl Client {
         })
     }
 
-    fn test_open(&self, client: u32, call: u32, point: u8) -> Result<(), u32> {
+    fn test_open(&self, client: u32, call: u32, point: u8) -> Result<(), Refusal> {
         match self.open_call(call) {
             Some(command) if self.client == client && command.point == point => Ok(()),
-            _ => Err(UNKNOWN),
+            _ => Err(Refusal::Unknown),
         }
     }
 
-    fn receive_result(&mut self, reply: &Reply) -> Result<Received, u32> {
+    fn receive_result(&mut self, reply: &Reply) -> Result<Received, Refusal> {
         self.test_open(reply.client, reply.call, reply.point)?;
         self.close(reply.call);
         Ok(Received::Result {
@@ -120,14 +125,14 @@ impl Client {
         })
     }
 
-    fn receive_refusal(&self, refusal: &Refusal) -> Result<Received, u32> {
+    fn receive_refusal(&self, refusal: &RefusalPacket) -> Result<Received, Refusal> {
         self.test_open(refusal.client, refusal.call, refusal.point)?;
         Ok(Received::Refusal(refusal.number))
     }
 
-    fn receive_grant(&mut self, grant: &Grant) -> Result<Received, u32> {
+    fn receive_grant(&mut self, grant: &Grant) -> Result<Received, Refusal> {
         if grant.client != self.client || grant.lease_end < self.lease_end {
-            return Err(UNKNOWN);
+            return Err(Refusal::Unknown);
         }
         self.lease_end = grant.lease_end;
         Ok(Received::Grant(grant.lease_end))

@@ -4,7 +4,7 @@
 use compare::inputs;
 use compare::tally::{runs, seed, Tally};
 use compare::{other, proved};
-use second::office::LeaseManager;
+use second::leases::LeaseManager;
 use second::random::Random;
 
 const CLASSES: [&str; 17] = [
@@ -109,22 +109,20 @@ impl Pair {
         }
     }
 
-    /// The manager after a reply; a refused one has it as before.
-    fn take(&mut self, reply: proved::LeaseReply) {
+    /// A refused call leaves the manager as it was.
+    fn kept(&self, was: proved::LeaseManager, reply: proved::LeaseReply) {
         if reply.number != 0 {
-            assert_eq!(reply.manager, self.have, "refused with {}", reply.number);
+            assert_eq!(self.have, was, "refused with {}", reply.number);
         }
-        self.have = reply.manager;
     }
 
     fn open(&mut self, random: &mut Random) -> &'static str {
         let (time, span) = (self.time(random), self.span(random));
-        let before = self.want.clone();
+        let (before, was) = (self.want.clone(), self.have);
         let have = self.have.open(time, span);
         let want = other::told(self.want.open(time, span));
-        let got = (have.number, have.length, have.packet);
-        assert_eq!(got, want, "open {time} {span} at {before:?}");
-        self.take(have);
+        assert_eq!(have, want, "open {time} {span} at {before:?}");
+        self.kept(was, have);
         match have.number {
             0 if self.want.leases.len() <= before.leases.len() => "open: after a lease ended",
             0 => "open",
@@ -138,12 +136,11 @@ impl Pair {
     fn renew(&mut self, random: &mut Random) -> &'static str {
         let client = self.client(random);
         let (time, span) = (self.time(random), self.span(random));
-        let before = self.want.clone();
+        let (before, was) = (self.want.clone(), self.have);
         let have = self.have.renew(client, time, span);
         let want = other::told(self.want.renew(client, time, span));
-        let got = (have.number, have.length, have.packet);
-        assert_eq!(got, want, "renew {client} {time} {span} at {before:?}");
-        self.take(have);
+        assert_eq!(have, want, "renew {client} {time} {span} at {before:?}");
+        self.kept(was, have);
         let end = |m: &LeaseManager| m.leases.iter().find(|l| l.client == client).map(|l| l.end);
         match have.number {
             0 if end(&self.want) > end(&before) => "renew: later end",
@@ -157,13 +154,12 @@ impl Pair {
 
     fn query(&mut self, random: &mut Random) -> &'static str {
         let (client, time) = (self.client(random), self.time(random));
-        let before = self.want.clone();
+        let (before, was) = (self.want.clone(), self.have);
         let have = self.have.query(client, time);
         let want = other::told(self.want.query(client, time));
-        let got = (have.number, have.length, have.packet);
-        assert_eq!(got, want, "query {client} {time} at {before:?}");
-        self.take(have);
-        match (have.number, have.packet[0]) {
+        assert_eq!(have, want, "query {client} {time} at {before:?}");
+        self.kept(was, have);
+        match (have.number, have.kind) {
             (0, 6) => "query: grant",
             (0, _) => "query: notice",
             _ if client == 0 => "query: 17, client 0",

@@ -1,11 +1,11 @@
 //! Paper 01, "The yard": a program (simulator) that runs small schedules.
 
-use crate::answer::*;
-use crate::cabinet::{Server, STATE_LEN};
-use crate::desk::{Client, Received};
+use crate::answer::{Answer, Refusal};
+use crate::client::{Client, Received};
 use crate::image::{IMAGE_MAGIC, IMAGE_MAX};
 use crate::packet::{write_grant, Grant, RECEIPT, RECEIPT_LEN, REQUEST, RESULT_LEN};
 use crate::plan::{write_plan, Entry, Plan, PLAN_LEN};
+use crate::server::{Server, STATE_LEN};
 
 const LOG_LEN: usize = 16_384;
 const LINES_MAX: usize = 60;
@@ -33,9 +33,9 @@ pub struct LineAnswer {
 }
 
 impl LineAnswer {
-    fn refused(number: u32) -> LineAnswer {
+    fn refused(refusal: Refusal) -> LineAnswer {
         LineAnswer {
-            number,
+            number: refusal.number(),
             ..LineAnswer::default()
         }
     }
@@ -79,7 +79,7 @@ impl Simulator {
     pub fn run_line(&mut self, line: &[u8]) -> LineAnswer {
         match parse_line(line) {
             Some(line) => self.act(line),
-            None => LineAnswer::refused(MALFORMED),
+            None => LineAnswer::refused(Refusal::Malformed),
         }
     }
 
@@ -118,17 +118,17 @@ impl Simulator {
     fn with_desk<const N: usize>(
         &mut self,
         desk: u32,
-        call: impl FnOnce(&mut Client) -> Result<[u8; N], u32>,
+        call: impl FnOnce(&mut Client) -> Result<[u8; N], Refusal>,
     ) -> LineAnswer {
         let Some(desk) = self.desks.get_mut(desk as usize) else {
-            return LineAnswer::refused(MALFORMED);
+            return LineAnswer::refused(Refusal::Malformed);
         };
         match call(desk) {
             Ok(packet) => LineAnswer {
                 packet: self.keep(&packet),
                 ..LineAnswer::default()
             },
-            Err(number) => LineAnswer::refused(number),
+            Err(refusal) => LineAnswer::refused(refusal),
         }
     }
 
@@ -138,7 +138,7 @@ impl Simulator {
         call: impl FnOnce(&mut Cabinet, &mut [u8]) -> Answer,
     ) -> LineAnswer {
         let Some(cabinet) = self.cabinets.get_mut(cabinet as usize) else {
-            return LineAnswer::refused(MALFORMED);
+            return LineAnswer::refused(Refusal::Malformed);
         };
         let mut output = [0; IMAGE_MAX];
         let answer = call(cabinet, &mut output);
@@ -161,10 +161,10 @@ impl Simulator {
     /// Request, take or release by the packet's first byte.
     fn deliver(&mut self, packet: u32, cabinet: u32) -> LineAnswer {
         if cabinet as usize >= self.cabinets.len() {
-            return LineAnswer::refused(MALFORMED);
+            return LineAnswer::refused(Refusal::Malformed);
         }
         let Some(packet) = self.packet(packet) else {
-            return LineAnswer::refused(UNKNOWN);
+            return LineAnswer::refused(Refusal::Unknown);
         };
         self.with_cabinet(cabinet, |c, output| match packet[0] {
             REQUEST => {
@@ -173,16 +173,16 @@ impl Simulator {
             }
             RECEIPT => c.server.release(STATE_LEN, &mut c.log, &packet),
             first if first == IMAGE_MAGIC[0] => c.server.take(STATE_LEN, &mut c.log, &packet),
-            _ => Answer::refused(MALFORMED),
+            _ => Answer::refused(Refusal::Malformed),
         })
     }
 
     fn receive(&mut self, packet: u32, desk: u32) -> LineAnswer {
         if desk as usize >= self.desks.len() {
-            return LineAnswer::refused(MALFORMED);
+            return LineAnswer::refused(Refusal::Malformed);
         }
         let Some(packet) = self.packet(packet) else {
-            return LineAnswer::refused(UNKNOWN);
+            return LineAnswer::refused(Refusal::Unknown);
         };
         match self.desks[desk as usize].receive(&packet) {
             Ok(Received::Result { effect, .. }) => LineAnswer {
@@ -190,7 +190,7 @@ impl Simulator {
                 ..LineAnswer::default()
             },
             Ok(_) => LineAnswer::default(),
-            Err(number) => LineAnswer::refused(number),
+            Err(refusal) => LineAnswer::refused(refusal),
         }
     }
 }
@@ -223,7 +223,7 @@ fn sync_all(c: &mut Cabinet, _: &mut [u8]) -> Answer {
 fn cut(c: &mut Cabinet, bytes: u32, plan: &[u8]) -> Answer {
     let bytes = u64::from(bytes);
     if bytes < c.server.mark || bytes > c.server.length {
-        return Answer::refused(BAD_MARK);
+        return Answer::refused(Refusal::BadMark);
     }
     let kept = bytes as usize;
     c.log[kept..].fill(0);

@@ -1,0 +1,10 @@
+//! The proved code, through its calls in C, against the second program.
+
+mod client;
+mod command;
+mod image_state;
+mod images;
+mod kernel;
+mod leases;
+mod packets;
+mod records;

@@ -1,0 +1,82 @@
+//! What the checker is given, and what tests look at.
+
+use super::{Cabinet, Phase, World};
+use crate::checker::{Command, Finals};
+use crate::faults::Faulty;
+use crate::plan::POINTS;
+use crate::server::{Server, STATE_LEN};
+
+impl World<'_> {
+    /// The state of a running cabinet.
+    pub fn server(&self, cabinet: usize) -> Option<&Server> {
+        let c = &self.cabinets[cabinet];
+        (c.phase == Phase::Running).then_some(&*c.server)
+    }
+
+    pub fn log(&self, cabinet: usize) -> &[u8] {
+        &self.cabinets[cabinet].log
+    }
+
+    /// The bytes that the crashes of a cabinet not recovered have kept.
+    pub fn kept(&self, cabinet: usize) -> Option<&[u8]> {
+        let c = &self.cabinets[cabinet];
+        c.kept().map(|kept| &c.log[..kept as usize])
+    }
+
+    // What the checker is given.
+
+    /// The commands issued; one survives if an execution of it does.
+    pub fn commands(&self) -> Vec<Command> {
+        let mut commands = self.commands.clone();
+        for e in self.executions.iter().rev().filter(|e| e.survives) {
+            commands[e.command].survives = true;
+            commands[e.command].hint = e.place;
+        }
+        commands
+    }
+
+    /// Value and quality of each point at its holder. A crashed cabinet
+    /// counts with the state that recover gives.
+    pub fn finals(&self) -> Finals {
+        let servers: Vec<Server> = self
+            .cabinets
+            .iter()
+            .filter_map(|c| self.final_state(c))
+            .collect();
+        let mut finals = [None; POINTS];
+        for (point, entry) in self.schedule.plan.entries.iter().enumerate() {
+            let holder = holder(&servers, point, entry.home);
+            finals[point] = holder.map(|s| (s.points[point].value, s.points[point].quality));
+        }
+        finals
+    }
+
+    fn final_state(&self, c: &Cabinet) -> Option<Server> {
+        match c.phase {
+            Phase::New => None,
+            Phase::Running => Some(Server::clone(&c.server)),
+            Phase::Crashed { kept, .. } => {
+                let mut server = Faulty::new(self.options.fault);
+                let answer = server.recover(STATE_LEN, &c.log[..kept as usize], &self.plan);
+                assert_eq!(answer.number, 0, "a kept log recovers");
+                Some(Server::clone(&server))
+            }
+        }
+    }
+}
+
+/// The server where the point's move number is greatest, the taker before the
+/// giver; its home where that number is 0.
+fn holder(servers: &[Server], point: usize, home: u8) -> Option<&Server> {
+    let number = |s: &Server| s.points[point].move_number;
+    let greatest = servers.iter().map(number).max()?;
+    if greatest == 0 {
+        return servers.iter().find(|s| s.cabinet == home);
+    }
+    let taker = |s: &&Server| {
+        let taken = s.points[point].taken;
+        taken.is_some_and(|t| t.move_number == greatest)
+    };
+    let mut last = servers.iter().filter(|s| number(s) == greatest);
+    last.clone().find(taker).or_else(|| last.next())
+}

@@ -1,0 +1,282 @@
+//! Calls at cabinets.
+
+use super::{Cabinet, Execution, Phase, World, FILL, IMAGE};
+use crate::answer::{Answer, Refusal};
+use crate::bytes::get_u32;
+use crate::faults::Faulty;
+use crate::image::IMAGE_MAX;
+use crate::packet::{NOTICE, RECEIPT, RECEIPT_LEN, REQUEST, RESULT_LEN};
+use crate::record::HEAD_LEN;
+use crate::schedule::{Flaw, Mark, Party, Which};
+use crate::server::{Server, STATE_LEN};
+
+impl World<'_> {
+    /// Calls a cabinet with its slices, or with one of them too short.
+    pub(super) fn call(
+        &mut self,
+        cabinet: usize,
+        flaw: Flaw,
+        needed: usize,
+        call: impl FnOnce(&mut Faulty, usize, &mut [u8], &mut [u8]) -> Answer,
+    ) -> (Answer, [u8; IMAGE_MAX]) {
+        let c = &mut self.cabinets[cabinet];
+        let before = self
+            .options
+            .verify
+            .then(|| (Server::clone(&c.server), c.log.clone()));
+        let mut output = [FILL; IMAGE_MAX];
+        let (state_len, log_len, output_len) = lent(flaw, c, needed);
+        let answer = call(
+            &mut c.server,
+            state_len,
+            &mut c.log[..log_len],
+            &mut output[..output_len],
+        );
+        if let Some((server, log)) = before {
+            verify(c, &server, &log, answer, &output);
+        }
+        self.counts.steps += 1;
+        self.counts.refusals[answer.number as usize] += 1;
+        (answer, output)
+    }
+
+    pub(super) fn found(&mut self, at: Party, flaw: Flaw) {
+        let cabinet = self.party(at, self.last);
+        if self.cabinets[cabinet].phase != Phase::New {
+            return;
+        }
+        let plan = self.plan;
+        let (answer, _) = self.call(cabinet, flaw, 0, |s, len, log, _| {
+            s.found(len, log, &plan, cabinet as u32)
+        });
+        if answer.number == 0 {
+            self.cabinets[cabinet].phase = Phase::Running;
+        }
+        self.note(|| format!("found cabinet {cabinet} -> {}", answer.number));
+    }
+
+    pub(super) fn request(&mut self, at: Party, packet: Which, flaw: Flaw) {
+        let Some(number) = self.pick(packet, &[REQUEST]) else {
+            return;
+        };
+        let apt = match self.pool[number][0] {
+            REQUEST => self.holder(self.pool[number][2]),
+            _ => self.last,
+        };
+        let Some(cabinet) = self.running(at, apt) else {
+            return;
+        };
+        let packet = self.pool[number].clone();
+        let (answer, output) = self.call(cabinet, flaw, RESULT_LEN, |s, len, log, out| {
+            s.request(len, log, &packet, out)
+        });
+        if answer.number == 0 && answer.written == 0 {
+            self.executed(cabinet, &packet);
+        }
+        let made = self.made(answer, &output);
+        self.counts.repeats += u64::from(answer == Answer::wrote(RESULT_LEN));
+        self.note(|| {
+            format!(
+                "request packet {} at cabinet {cabinet} -> {} {made}",
+                number + 1,
+                answer.number
+            )
+        });
+    }
+
+    pub(super) fn executed(&mut self, cabinet: usize, packet: &[u8]) {
+        let id = (get_u32(packet, 4), get_u32(packet, 8));
+        let command = self.commands.iter().position(|c| (c.client, c.call) == id);
+        self.executions.push(Execution {
+            command: command.expect("a request is made by an issue"),
+            cabinet,
+            end: self.cabinets[cabinet].server.length,
+            place: self.place,
+            survives: true,
+        });
+        self.counts.executed += 1;
+    }
+
+    /// Keeps the packet written, if any; answers its number or 0.
+    pub(super) fn made(&mut self, answer: Answer, output: &[u8]) -> usize {
+        match answer.written {
+            0 => 0,
+            written => self.keep(&output[..written]),
+        }
+    }
+
+    pub(super) fn fetch(&mut self, at: Party, id: Which, flaw: Flaw) {
+        let Some(number) = self.pick(id, &[REQUEST]) else {
+            return;
+        };
+        let packet = &self.pool[number];
+        if packet[0] != REQUEST {
+            return;
+        }
+        let (client, call) = (get_u32(packet, 4), get_u32(packet, 8));
+        let Some(cabinet) = self.running(at, self.holder(packet[2])) else {
+            return;
+        };
+        let (answer, output) = self.call(cabinet, flaw, RESULT_LEN, |s, len, log, out| {
+            s.fetch(len, log, client, call, out)
+        });
+        let made = self.made(answer, &output);
+        self.note(|| {
+            let number = answer.number;
+            format!("fetch {client} {call} at cabinet {cabinet} -> {number} {made}")
+        });
+    }
+
+    pub(super) fn sync(&mut self, at: Party, mark: Mark, flaw: Flaw) {
+        let Some(cabinet) = self.running(at, self.last) else {
+            return;
+        };
+        let server = &self.cabinets[cabinet].server;
+        let (from, to) = (server.mark, server.length);
+        let mark = match mark {
+            Mark::All => to,
+            Mark::Between(n) => from + u64::from(n) % (to - from + 1),
+            Mark::Outside(true) => from - 1,
+            Mark::Outside(false) => to + 1,
+        };
+        let (answer, _) = self.call(cabinet, flaw, 0, |s, len, log, _| s.sync(len, log, mark));
+        self.note(|| format!("sync cabinet {cabinet} mark {mark} -> {}", answer.number));
+    }
+
+    pub(super) fn notice(&mut self, at: Party, packet: Which, flaw: Flaw) {
+        let Some(number) = self.pick(packet, &[NOTICE]) else {
+            return;
+        };
+        let Some(cabinet) = self.running(at, self.last) else {
+            return;
+        };
+        let packet = self.pool[number].clone();
+        let (answer, _) = self.call(cabinet, flaw, 0, |s, len, log, _| {
+            s.notice(len, log, &packet)
+        });
+        self.counts.gone += u64::from(answer.number == 0);
+        self.note(|| {
+            format!(
+                "notice packet {} at cabinet {cabinet} -> {}",
+                number + 1,
+                answer.number
+            )
+        });
+    }
+
+    pub(super) fn give(&mut self, at: Party, point: u8, destination: u8, flaw: Flaw) {
+        let Some(cabinet) = self.running(at, self.holder(point)) else {
+            return;
+        };
+        let (to, p) = (u32::from(destination), u32::from(point));
+        let (answer, _) = self.call(cabinet, flaw, 0, |s, len, log, _| s.give(len, log, p, to));
+        self.note(|| {
+            let number = answer.number;
+            format!("give point {point} at cabinet {cabinet} to {to} -> {number}")
+        });
+    }
+
+    pub(super) fn image(&mut self, at: Party, point: u8, flaw: Flaw) {
+        let Some(cabinet) = self.running(at, self.last_giver(point)) else {
+            return;
+        };
+        let p = u32::from(point);
+        let (answer, output) = self.call(cabinet, flaw, IMAGE_MAX, |s, len, log, out| {
+            s.image(len, log, p, out)
+        });
+        let made = self.made(answer, &output);
+        self.note(|| {
+            let number = answer.number;
+            format!("image point {point} at cabinet {cabinet} -> {number} {made}")
+        });
+    }
+
+    pub(super) fn take(&mut self, at: Party, image: Which, flaw: Flaw) {
+        let Some(number) = self.pick(image, &[IMAGE]) else {
+            return;
+        };
+        let apt = usize::from(self.pool[number][5]);
+        let Some(cabinet) = self.running(at, apt) else {
+            return;
+        };
+        let image = self.pool[number].clone();
+        let (answer, _) = self.call(cabinet, flaw, 0, |s, len, log, _| s.take(len, log, &image));
+        self.counts.takes += u64::from(answer.number == 0);
+        self.note(|| {
+            format!(
+                "take image {} at cabinet {cabinet} -> {}",
+                number + 1,
+                answer.number
+            )
+        });
+    }
+
+    pub(super) fn receipt(&mut self, at: Party, point: u8, flaw: Flaw) {
+        let Some(cabinet) = self.running(at, self.holder(point)) else {
+            return;
+        };
+        let p = u32::from(point);
+        let (answer, output) = self.call(cabinet, flaw, RECEIPT_LEN, |s, len, log, out| {
+            s.receipt(len, log, p, out)
+        });
+        let made = self.made(answer, &output);
+        self.note(|| {
+            let number = answer.number;
+            format!("receipt point {point} at cabinet {cabinet} -> {number} {made}")
+        });
+    }
+
+    pub(super) fn release(&mut self, at: Party, packet: Which, flaw: Flaw) {
+        let Some(number) = self.pick(packet, &[RECEIPT]) else {
+            return;
+        };
+        let apt = self.first_giver(self.pool[number][1]);
+        let Some(cabinet) = self.running(at, apt) else {
+            return;
+        };
+        let packet = self.pool[number].clone();
+        let (answer, _) = self.call(cabinet, flaw, 0, |s, len, log, _| {
+            s.release(len, log, &packet)
+        });
+        self.counts.releases += u64::from(answer.number == 0);
+        self.note(|| {
+            format!(
+                "release packet {} at cabinet {cabinet} -> {}",
+                number + 1,
+                answer.number
+            )
+        });
+    }
+}
+
+/// Lengths of state, log and output lent under a flaw.
+fn lent(flaw: Flaw, c: &Cabinet, needed: usize) -> (usize, usize, usize) {
+    let recorded = match c.phase {
+        Phase::New => HEAD_LEN,
+        _ => c.server.length as usize,
+    };
+    let whole = c.log.len();
+    match flaw {
+        Flaw::None => (STATE_LEN, whole, needed),
+        Flaw::State => (STATE_LEN - 1, whole, needed),
+        Flaw::Log => (STATE_LEN, recorded - 1, needed),
+        Flaw::Output => (STATE_LEN, whole, needed.saturating_sub(1)),
+    }
+}
+
+/// The state is sound, and only what the call may write has changed.
+fn verify(c: &Cabinet, server: &Server, log: &[u8], answer: Answer, output: &[u8]) {
+    assert!(
+        output[answer.written..].iter().all(|&b| b == FILL),
+        "bytes past what is written are kept"
+    );
+    if answer.number == 0 {
+        assert!(c.server.sound(), "a call not refused leaves a sound state");
+        let length = c.server.length as usize;
+        assert_eq!(c.log[length..], log[length..], "bytes past the log's end");
+        return;
+    }
+    assert!(Refusal::ALL.iter().any(|r| r.number() == answer.number));
+    assert!(*c.server == *server, "a refusal leaves the state");
+    assert!(c.log == log, "a refusal leaves the log");
+}

@@ -1,0 +1,44 @@
+//! What happened in a schedule or in many.
+
+#[derive(Clone, Copy, PartialEq, Eq, Debug, Default)]
+pub struct Counts {
+    pub steps: u64,
+    pub executed: u64,
+    pub lost: u64,
+    pub completed: u64,
+    pub repeats: u64,
+    pub crashes: u64,
+    /// Crashes of a server that was not recovered since its last one, and
+    /// the executions that they removed.
+    pub crashes_again: u64,
+    pub lost_again: u64,
+    /// Servers not recovered when the list ends.
+    pub left_crashed: u64,
+    /// Recoveries without a crash.
+    pub recovered_running: u64,
+    pub takes: u64,
+    pub releases: u64,
+    pub gone: u64,
+    pub refusals: [u64; 20],
+}
+
+impl Counts {
+    pub fn add(&mut self, other: &Counts) {
+        self.steps += other.steps;
+        self.executed += other.executed;
+        self.lost += other.lost;
+        self.completed += other.completed;
+        self.repeats += other.repeats;
+        self.crashes += other.crashes;
+        self.crashes_again += other.crashes_again;
+        self.lost_again += other.lost_again;
+        self.left_crashed += other.left_crashed;
+        self.recovered_running += other.recovered_running;
+        self.takes += other.takes;
+        self.releases += other.releases;
+        self.gone += other.gone;
+        for (sum, n) in self.refusals.iter_mut().zip(other.refusals) {
+            *sum += n;
+        }
+    }
+}
