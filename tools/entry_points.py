@@ -6,34 +6,39 @@ import glob, os, re, sys
 
 # the entry points, by crate: they refuse what they do not take
 ENTRY = {
-    'parser': 'parse_packet',
-    'packets': 'request_packet notice_packet grant_packet',
-    'command': 'plan_ok checked_rule',
-    'images': 'image_ok image_read',
-    'records': 'head_ok extent_at read_at',
-    'soundness': 'state_ok',
-    'lent': 'lent_refusal',
-    'serve': 'fetch sync notice',
-    'request': 'request',
-    'moves': 'give image receipt release',
-    'takes': 'take',
-    'found': 'found',
-    'recover': 'recover',
+    'format_packet_reader': 'parse_packet',
+    'format_packet_writer': 'request_packet notice_packet grant_packet',
+    'format_commands': 'plan_ok checked_rule',
+    'format_image_reader': 'image_ok image_read',
+    'format_log_ends': 'head_ok extent_at',
+    'state_soundness': 'state_ok',
+    'server_memory': 'lent_refusal',
+    'server_fetch': 'fetch sync notice',
+    'server_request': 'request',
+    'server_moves': 'give image receipt release',
+    'server_take': 'take',
+    'server_found': 'found',
+    'server_recover': 'recover',
     'client': 'start issue resend receive',
     'leases': 'open_lease renew query',
+    'simulator_text': 'line_of',
+    'simulator': 'simulate',
 }
 # crates of leaves: they read or write at a place that their callers have tested
-LEAF_CRATES = 'wire image_rows image_writer packets appends state_rows sound_rows floors'.split()
+LEAF_CRATES = 'format_numbers format_fields format_image_rows format_image_writer format_packet_writer format_log_writer state_rows state_sound_rows'.split()
 # crates of parts of a call, on a buffer that the call's first tests have passed
-LEAF_CRATES += 'state record_table client_rows client_table apply apply_took image_state replay replay_took'.split()
+LEAF_CRATES += 'state_records state_clients server_apply state_image server_replay'.split()
+# crates of parts of the simulator, on memory that `new_yard` has laid out
+LEAF_CRATES += 'simulator_store simulator_step simulator_state'.split()
 # leaves elsewhere: rows at a place, and what is read once an entry point has answered that it is there
 LEAVES = {
-    'command': 'plan_entry plan_row_ok',
-    'images': 'floor_at entry_at values_in_range image_in_range',
-    'records': 'head_server record_at',
-    'lent': 'free_in',
-    'serve': 'reply',
-    'found': 'found_state',
+    'format_commands': 'plan_entry plan_row_ok',
+    'format_image_reader': 'values_in_range',
+    'format_log_ends': 'head_server',
+    'format_log_reader': 'record_at',
+    'server_memory': 'free_in reply',
+    'server_found': 'found_state',
+    'simulator_text': 'put_reply',
 }
 
 os.chdir(os.path.join(os.path.dirname(os.path.abspath(__file__)), '..'))

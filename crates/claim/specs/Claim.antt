@@ -85,7 +85,7 @@ module _ {S : Type 0} (world : ℕ → WorldOf S) where
     pub its : commandAt state (received .call) ∷ [] ≡ ks
     pub result : one (resultMeant (received .result)) ≡ r
 
--- "It survives if, after one such Request, no crash left that log shorter than the Request left it": event n executes m. `Is j c b`: event
+-- an execution survives where every later crash of its server kept the log as long as it was then: event n executes m. `Is j c b`: event
 -- j is a crash of server c that keeps b bytes; `size n c`: the bytes of its log after n events
 pub record SurvivesAtBy (Executes : ℕ → ℕ → Marked → Type 0) (Is : ℕ → ℕ → ℕ → Type 0) (size : ℕ → ℕ → ℕ) (n : ℕ) (m : Marked) : Type 0 where
   pub server : ℕ
@@ -109,7 +109,7 @@ module _ (plan : List ℕ) (seen : Account) where
     pub at : ℕ
     pub survives : seen .SurvivesAt at part
 
-  -- "The holder of a point is the cabinet with the greatest move number; of giver and taker, the taker; at 0 its home."
+  -- the holder: the server where the point's move number is greatest, the taker before the giver, its home at move number 0.
   -- "A holder not founded is left out": there is none then
   pub record HolderBy (p c : ℕ) (st : State) : Type 0 where
     pub founded : seen .final c ≡ some st
@@ -152,7 +152,7 @@ module _ (plan : List ℕ) (es : List Event) where
   abbrev pub Completes : ℕ → List Command → EntryResult → Type 0
   Completes = CompletesBy (after es) (λ n x p. At plan es n (receive x p))
 
-  -- "A Request of it that gives neither number nor packet executes it": event n executes m at server c
+  -- a request that is answered 0 and makes no packet executes its command: event n executes m at server c
   pub record Executes (n c : ℕ) (m : Marked) : Type 0 where
     pub number : ℕ
     pub versions : Versions
@@ -172,7 +172,7 @@ module _ (plan : List ℕ) (es : List Event) where
   abbrev pub SurvivesAt : ℕ → Marked → Type 0
   SurvivesAt = SurvivesAtBy Executes (λ n c b. At plan es n (crash c b)) (λ n c. lengthOf (after es n .servers c))
 
-  -- "until it succeeds, or if the list ends first, the cabinet counts with the state that Recover gives from these"
+  -- as long as it is down, a crashed server counts with the state that recover would give
   unfoldable pub stateGiven : Server → Option State
   stateGiven nothing = none
   stateGiven (running state log) = some (load state)

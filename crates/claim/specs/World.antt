@@ -53,7 +53,7 @@ pub record Lent : Type 0 where
   pub tail : List ℕ
   pub out : List ℕ
 
--- the calls of the paper, with their arguments, and crashes. A packet or image is named by its number among those made, from 0
+-- the eighteen calls, with their arguments, and crashes. A packet or image is named by its number among those made, from 0
 pub data Event : Type 0 where
   found : ℕ → List ℕ → List ℕ → List ℕ → ℕ → Event  -- server, state and log buffers, plan, server number
   request : ℕ → ℕ → Versions → Lent → Event  -- server, packet, the versions its program executes by: any at any event and server

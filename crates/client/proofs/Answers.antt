@@ -18,32 +18,34 @@ use Rattle.model.specs.declared.Grant.{Grant}
 use Rattle.model.specs.declared.Received.the-variants.{Completed, Denied, Extended}
 use Rattle.model.specs.Packets.{commandOk}
 use Rattle.model.specs.Clients.{callAt, isOpen, firstOpen, newCall, withCall, notSent, sent, issueOf, resendOf, withLease, closed, isOwn, notReceived, receiveResult, receiveRefusal, receiveGrant}
+use Rattle.model.specs.Refusals.{unknown, malformed, windowFull, numbersOut}
+use Rattle.model.specs.Limits.{callWindow, last32}
 
 module _ (d : Client) (c : ℕ) {u : Bool} {r : SendAnswer} (found : u ≡ isOpen d c) where
   pub resend-open : u ≡ true → {k : OpenCall} → k ≡ callAt d c → r ≡ sent d k → r ≡ resendOf d c
   unfolding resendOf
   resend-open is at e = rw (← found, is, ← at) e
 
-  pub resend-unknown : u ≡ false → r ≡ notSent d 17 → r ≡ resendOf d c
+  pub resend-unknown : u ≡ false → r ≡ notSent d unknown → r ≡ resendOf d c
   unfolding resendOf
   resend-unknown is e = rw (← found, is) e
 
 module _ (d : Client) (op point a : ℕ) {u : Bool} {r : SendAnswer} (tested : u ≡ commandOk op point a) where
-  pub issue-bad : u ≡ false → r ≡ notSent d 1 → r ≡ issueOf d op point a
+  pub issue-bad : u ≡ false → r ≡ notSent d malformed → r ≡ issueOf d op point a
   unfolding issueOf
   issue-bad bad e = rw (← tested, bad) e
 
   module _ (good : u ≡ true) {first : ℕ} (least : first ≡ firstOpen d) where
-    pub issue-full : first + 16 ≤ d .next → r ≡ notSent d 15 → r ≡ issueOf d op point a
+    pub issue-full : first + callWindow ≤ d .next → r ≡ notSent d windowFull → r ≡ issueOf d op point a
     unfolding issueOf
     issue-full full e = rw (← tested, good, ← least, le-leb _ _ full) e
 
-    module _ (room : d .next < first + 16) where
-      pub issue-out : 4294967295 ≤ d .next → r ≡ notSent d 16 → r ≡ issueOf d op point a
+    module _ (room : d .next < first + callWindow) where
+      pub issue-out : last32 ≤ d .next → r ≡ notSent d numbersOut → r ≡ issueOf d op point a
       unfolding issueOf
       issue-out out e = rw (← tested, good, ← least, lt-leb _ _ room, le-leb _ _ out) e
 
-      pub issue-done : d .next < 4294967295 → {k : Client} → k ≡ withCall d (record { call = d .next; op = op; point = point; argument = a })
+      pub issue-done : d .next < last32 → {k : Client} → k ≡ withCall d (record { call = d .next; op = op; point = point; argument = a })
           → r ≡ sent k (record { call = d .next; op = op; point = point; argument = a })
           → r ≡ issueOf d op point a
       unfolding issueOf newCall
@@ -55,7 +57,7 @@ module _ (d : Client) {a : ReceiveAnswer} where
     unfolding receiveResult
     result-own is made e = rw (← tested, is, ← made) e
 
-    pub result-unknown : u ≡ false → a ≡ notReceived d 17 → a ≡ receiveResult d r
+    pub result-unknown : u ≡ false → a ≡ notReceived d unknown → a ≡ receiveResult d r
     unfolding receiveResult
     result-unknown is e = rw (← tested, is) e
 
@@ -64,7 +66,7 @@ module _ (d : Client) {a : ReceiveAnswer} where
     unfolding receiveRefusal
     refusal-own is made e = rw (← tested, is, ← made) e
 
-    pub refusal-unknown : u ≡ false → a ≡ notReceived d 17 → a ≡ receiveRefusal d r
+    pub refusal-unknown : u ≡ false → a ≡ notReceived d unknown → a ≡ receiveRefusal d r
     unfolding receiveRefusal
     refusal-unknown is e = rw (← tested, is) e
 
@@ -74,6 +76,6 @@ module _ (d : Client) {a : ReceiveAnswer} where
     unfolding receiveGrant
     grant-later is made e = rw (is, ← made) e
 
-    pub grant-unknown : (eqb (g .client) (d .client) && leb (d .lease) (g .lease)) ≡ false → a ≡ notReceived d 17 → a ≡ receiveGrant d g
+    pub grant-unknown : (eqb (g .client) (d .client) && leb (d .lease) (g .lease)) ≡ false → a ≡ notReceived d unknown → a ≡ receiveGrant d g
     unfolding receiveGrant
     grant-unknown is e = rw is e

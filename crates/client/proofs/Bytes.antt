@@ -11,11 +11,11 @@ use mathlib.Core.List.{List}
 use Prim.Native.Nat.{ℕ, zero, suc, _≤_, _<_}
 use native.Mathlib.Omega.{arith}
 use borrow.Author.Tests.{leb-true}
-use Rattle.laws.specs.Bytes.{Bytes}
-use Rattle.laws.specs.Fits.{RequestFits, packetFits, IsPacket}
-use Rattle.laws.proofs.Tests.{and-left}
-use Rattle.laws.proofs.Commands.{command-parts}
-use Rattle.laws.proofs.Packets.{packet-back, packet-found}
+use Rattle.model_laws.specs.Bytes.{Bytes}
+use Rattle.model_laws.specs.Fits.{RequestFits, packetFits, IsPacket}
+use Rattle.model_laws.proofs.Tests.{and-left}
+use Rattle.model_laws.proofs.Commands.{command-parts}
+use Rattle.model_laws.proofs.Packets.{packet-back, packet-found}
 use Rattle.model.specs.declared.OpenCall.{OpenCall}
 use Rattle.model.specs.declared.Client.{Client}
 use Rattle.model.specs.declared.Request.{Request}

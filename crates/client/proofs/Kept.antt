@@ -16,8 +16,8 @@ use lib.Dec.{eqb, leb}
 use lib.ListN.{length, getD, set, replicate, length-set, getD-replicate}
 use lib.Seq.{getD-set-same, getD-set-other}
 use borrow.Author.Tests.{eqb-true, eqb-false, le-leb}
-use Rattle.laws.specs.Fits.{GrantFits, packetFits}
-use Rattle.laws.proofs.Tests.{and-both}
+use Rattle.model_laws.specs.Fits.{GrantFits, packetFits}
+use Rattle.model_laws.proofs.Tests.{and-both}
 use Rattle.model.specs.declared.OpenCall.{OpenCall}
 use Rattle.model.specs.declared.Client.{Client}
 use Rattle.model.specs.declared.Request.{Request}
@@ -31,15 +31,18 @@ use Rattle.model.specs.declared.SendAnswer.{SendAnswer}
 use Rattle.model.specs.declared.ReceiveAnswer.{ReceiveAnswer}
 use Rattle.model.specs.Packets.{commandOk, idOk, doneOk, requestOk}
 use Rattle.model.specs.Clients.{noCall, placeOf, callAt, firstOpen, withCalls, withLease, closed, requestFor, startWith, newCall, withCall, notSent, sent, issueOf, resendOf, notReceived, receiveWith}
+use Rattle.model.specs.Limits.{callWindow, last32, lastInWindow}
+use Rattle.model.specs.Refusals.{unknown}
 use Rattle.client.specs.WellFormed.{WellFormed, callIn}
 use Rattle.client.proofs.Least.{least-over, least-each}
-use Rattle.client.proofs.Open.{Open, open-from, open-below, first-under, first-from, place-under, issued-at, issued-keeps, issued-next, issued-open, issued-only, closed-off, closed-keeps, closed-open, closed-only}
+use Rattle.client.proofs.Open.{Open, open-from, open-below, first-under, first-from, place-under, issued-at, issued-keeps, issued-next}
+use Rattle.client.proofs.Open.{issued-open, issued-only, closed-off, closed-keeps, closed-open, closed-only}
 use Rattle.client.proofs.Steps.{IssueCase, ResendCase, ReceiveCase, Own, issue-case, resend-case, receive-case}
 
 -- ---- start
 
-no-call-in : (i : ℕ) → i < 16 → getD (replicate 16 noCall) i noCall ≡ noCall
-no-call-in i h = getD-replicate 16 i noCall noCall h
+no-call-in : (i : ℕ) → i < callWindow → getD (replicate callWindow noCall) i noCall ≡ noCall
+no-call-in i h = getD-replicate callWindow i noCall noCall h
 
 pub start-well : (g : Grant) → 1 ≤ g .client → GrantFits g → WellFormed (startWith (Granted g) .client)
 unfolding startWith
@@ -56,8 +59,8 @@ start-well g p fits = record {
   window = omega arith;
 }
   where
-    empty : (i : ℕ) → i < 16 → 1 ≤ getD (replicate 16 noCall) i noCall .call → ⊥
-    empty i h q = let e : getD (replicate 16 noCall) i noCall .call ≡ 0 = ap (λ (k : OpenCall). k .call) (no-call-in i h) in omega arith
+    empty : (i : ℕ) → i < callWindow → 1 ≤ getD (replicate callWindow noCall) i noCall .call → ⊥
+    empty i h q = let e : getD (replicate callWindow noCall) i noCall .call ≡ 0 = ap (λ (k : OpenCall). k .call) (no-call-in i h) in omega arith
 
 -- ---- a place is stored to
 
@@ -82,8 +85,8 @@ pub data Stays (d : Client) (p : Packet) (c : ℕ) : Type 0 where
 -- what an issue that is not refused does
 pub record Issues (d : Client) (op point a : ℕ) (q : Request) : Type 0 where
   pub ok : commandOk op point a ≡ true
-  pub room : d .next < firstOpen d + 16
-  pub left : d .next < 4294967295
+  pub room : d .next < firstOpen d + callWindow
+  pub left : d .next < last32
   pub after : issueOf d op point a .client ≡ withCall d (newCall d op point a)
   pub asks : q ≡ requestFor (withCall d (newCall d op point a)) (newCall d op point a)
 
@@ -119,7 +122,7 @@ unfolding notSent sent
 resend-asked d c q s = go (resend-case d c)
   where
     go : ResendCase d c → Resends d c q
-    go (ResendCase.refused e) = let f : NotSent 17 ≡ Asked q = ap (λ (x : SendAnswer). x .answer) (sym e) ∙ s in let z : _≡_ {A = ℕ} 0 1 = cc in absurd (omega arith)
+    go (ResendCase.refused e) = let f : NotSent unknown ≡ Asked q = ap (λ (x : SendAnswer). x .answer) (sym e) ∙ s in let z : _≡_ {A = ℕ} 0 1 = cc in absurd (omega arith)
     go (ResendCase.resent o e) = let f : Asked (requestFor d (callAt d c)) ≡ Asked q = ap (λ (x : SendAnswer). x .answer) (sym e) ∙ s in record { open-call = o; asks = cc }
 
 pub resend-same : (d : Client) (c : ℕ) → resendOf d c .client ≡ d
@@ -159,25 +162,25 @@ receive-lease d p = go (receive-case d p)
     go (ReceiveCase.extended g q o l e) = rw e l
 
 module _ {d : Client} (w : WellFormed d) where
-  inside : (i : ℕ) → i < 16 → i < length (d .calls)
+  inside : (i : ℕ) → i < callWindow → i < length (d .calls)
   inside i h = omega (arith, w .places)
 
-  first-each : (i : ℕ) → i < 16 → 1 ≤ callIn d i .call → firstOpen d ≤ callIn d i .call
+  first-each : (i : ℕ) → i < callWindow → 1 ≤ callIn d i .call → firstOpen d ≤ callIn d i .call
   unfolding firstOpen
   first-each i h p = least-each (d .next) (d .calls) i (inside i h) p
 
   -- ---- a new call
 
-  module _ (k : OpenCall) (new : k .call ≡ d .next) (ok : commandOk (k .op) (k .point) (k .argument) ≡ true) (room : d .next < firstOpen d + 16) (left : d .next < 4294967295) where
-    new-over : suc (d .next) - 16 ≤ firstOpen (withCall d k)
+  module _ (k : OpenCall) (new : k .call ≡ d .next) (ok : commandOk (k .op) (k .point) (k .argument) ≡ true) (room : d .next < firstOpen d + callWindow) (left : d .next < last32) where
+    new-over : suc (d .next) - callWindow ≤ firstOpen (withCall d k)
     unfolding firstOpen withCall withCalls
     new-over =
-        least-over (suc (d .next) - 16) (suc (d .next)) (set (d .calls) (placeOf (k .call)) k) (omega arith)
+        least-over (suc (d .next) - callWindow) (suc (d .next)) (set (d .calls) (placeOf (k .call)) k) (omega arith)
         (λ i h p. each i (omega (arith, w .places, length-set (d .calls) (placeOf (k .call)) k)) p)
       where
-        each : (i : ℕ) → i < 16 → 1 ≤ getD (set (d .calls) (placeOf (k .call)) k) i noCall .call → suc (d .next) - 16 ≤ getD (set (d .calls) (placeOf (k .call)) k) i noCall .call
+        each : (i : ℕ) → i < callWindow → 1 ≤ getD (set (d .calls) (placeOf (k .call)) k) i noCall .call → suc (d .next) - callWindow ≤ getD (set (d .calls) (placeOf (k .call)) k) i noCall .call
         each i h =
-            set-each (λ (x : OpenCall). 1 ≤ x .call → suc (d .next) - 16 ≤ x .call) (d .calls) (placeOf (k .call)) k i (inside i h)
+            set-each (λ (x : OpenCall). 1 ≤ x .call → suc (d .next) - callWindow ≤ x .call) (d .calls) (placeOf (k .call)) k i (inside i h)
             (λ _ _. omega arith) (λ p. let f = first-each i h p in omega arith)
 
     pub with-call-well : WellFormed (withCall d k)
@@ -204,7 +207,7 @@ module _ {d : Client} (w : WellFormed d) where
         least-over (firstOpen d) (d .next) (set (d .calls) (placeOf c) noCall) (first-under w)
         (λ i h p. each i (omega (arith, w .places, length-set (d .calls) (placeOf c) noCall)) p)
       where
-        each : (i : ℕ) → i < 16 → 1 ≤ getD (set (d .calls) (placeOf c) noCall) i noCall .call → firstOpen d ≤ getD (set (d .calls) (placeOf c) noCall) i noCall .call
+        each : (i : ℕ) → i < callWindow → 1 ≤ getD (set (d .calls) (placeOf c) noCall) i noCall .call → firstOpen d ≤ getD (set (d .calls) (placeOf c) noCall) i noCall .call
         each i h =
             set-each (λ (x : OpenCall). 1 ≤ x .call → firstOpen d ≤ x .call) (d .calls) (placeOf c) noCall i (inside i h)
             (λ _ q. absurd (omega arith)) (first-each i h)
@@ -217,14 +220,16 @@ module _ {d : Client} (w : WellFormed d) where
       places = length-set (d .calls) (placeOf c) noCall ∙ w .places;
       placed = λ i h. set-each (λ (x : OpenCall). 1 ≤ x .call → placeOf (x .call) ≡ i) (d .calls) (placeOf c) noCall i (inside i h) (λ _ q. absurd (omega arith)) (w .placed i h);
       below = λ i h. set-each (λ (x : OpenCall). x .call < d .next) (d .calls) (placeOf c) noCall i (inside i h) (λ _. w .started) (w .below i h);
-      commands = λ i h. set-each (λ (x : OpenCall). 1 ≤ x .call → commandOk (x .op) (x .point) (x .argument) ≡ true) (d .calls) (placeOf c) noCall i (inside i h) (λ _ q. absurd (omega arith)) (w .commands i h);
+      commands =
+          λ i h. set-each (λ (x : OpenCall). 1 ≤ x .call → commandOk (x .op) (x .point) (x .argument) ≡ true) (d .calls) (placeOf c) noCall i (inside i h)
+          (λ _ q. absurd (omega arith)) (w .commands i h);
       client-within = w .client-within;
       lease-within = w .lease-within;
       next-within = w .next-within;
       window = omega (arith, closed-over, w .window);
     }
 
-  with-lease-well : (e : ℕ) → e ≤ 4294967295 → WellFormed (withLease d e)
+  with-lease-well : (e : ℕ) → e ≤ last32 → WellFormed (withLease d e)
   unfolding withLease
   with-lease-well e z = record {
     numbered = w .numbered;
@@ -239,7 +244,7 @@ module _ {d : Client} (w : WellFormed d) where
     window = with-lease-window;
   }
     where
-      with-lease-window : d .next ≤ firstOpen (withLease d e) + 16
+      with-lease-window : d .next ≤ firstOpen (withLease d e) + callWindow
       with-lease-window = unfold firstOpen in w .window
 
   -- ---- the operations
@@ -351,7 +356,7 @@ module _ {d : Client} (w : WellFormed d) where
       let at = o .at in
       let f = first-from w in
       let u : firstOpen d ≤ callAt d c .call = omega (arith, open-from w c o) in
-      let b : callAt d c .call ≤ firstOpen d + 15 = omega (arith, open-below w c o, w .window) in
+      let b : callAt d c .call ≤ firstOpen d + lastInWindow = omega (arith, open-below w c o, w .window) in
       let p : 1 ≤ callAt d c .call = omega (arith, o .from) in
       and-both (commandOk (callAt d c .op) (callAt d c .point) (callAt d c .argument)) _ (command c o)
       (and-both (leb 1 (d .client) && leb 1 (callAt d c .call)) _

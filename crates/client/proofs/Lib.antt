@@ -6,3 +6,4 @@ pub mod Open
 pub mod Steps
 pub mod Kept
 pub mod Bytes
+pub mod Others

@@ -18,10 +18,11 @@ use lib.Dec.{eqb, leb}
 use lib.ListN.{length, getD, set}
 use lib.Seq.{getD-set-same, getD-set-other}
 use borrow.Author.Tests.{leb-true, eqb-true, eqb-false, le-leb, eq-eqb}
-use Rattle.laws.proofs.Tests.{and-left, and-right, and-both}
+use Rattle.model_laws.proofs.Tests.{and-left, and-right, and-both}
 use Rattle.model.specs.declared.OpenCall.{OpenCall}
 use Rattle.model.specs.declared.Client.{Client}
 use Rattle.model.specs.Clients.{noCall, placeOf, callAt, isOpen, firstOpen, withCalls, withCall, closed}
+use Rattle.model.specs.Limits.{callWindow}
 use Rattle.client.specs.WellFormed.{WellFormed, callIn}
 use Rattle.client.proofs.Least.{least-under, least-each, least-over, least-found, Found}
 
@@ -47,7 +48,7 @@ not-open d c f = go (isOpen d c) refl
     go true e = absurd (f (open-is d c e))
     go false e = e
 
-pub place-under : (c : ℕ) → placeOf c < 16
+pub place-under : (c : ℕ) → placeOf c < callWindow
 unfolding placeOf
 place-under c = omega arith
 
@@ -57,7 +58,7 @@ module _ {d : Client} (w : WellFormed d) where
   place-in : (c : ℕ) → placeOf c < length (d .calls)
   place-in c = omega (arith, w .places, place-under c)
 
-  pub open-once : (i j : ℕ) → i < 16 → j < 16 → 1 ≤ callIn d i .call → callIn d i .call ≡ callIn d j .call → i ≡ j
+  pub open-once : (i j : ℕ) → i < callWindow → j < callWindow → 1 ≤ callIn d i .call → callIn d i .call ≡ callIn d j .call → i ≡ j
   open-once i j h k p e = sym (w .placed i h p) ∙ ap placeOf e ∙ w .placed j k (omega arith)
 
   pub open-from : (c : ℕ) → Open d c → firstOpen d ≤ c
@@ -72,7 +73,7 @@ module _ {d : Client} (w : WellFormed d) where
   unfolding callAt
   open-below c o = let f = o .at in let h = w .below (placeOf c) (place-under c) in omega arith
 
-  pub open-within : (c : ℕ) → Open d c → d .next ≤ c + 16
+  pub open-within : (c : ℕ) → Open d c → d .next ≤ c + callWindow
   open-within c o = let h = open-from c o in omega (arith, w .window)
 
   pub none-under : (c : ℕ) → c < firstOpen d → isOpen d c ≡ false
@@ -101,7 +102,7 @@ module _ {d : Client} (w : WellFormed d) where
 
   -- ---- a new call
 
-  module _ (room : d .next < firstOpen d + 16) (k : OpenCall) (new : k .call ≡ d .next) where
+  module _ (room : d .next < firstOpen d + callWindow) (k : OpenCall) (new : k .call ≡ d .next) where
     pub apart : (c : ℕ) → Open d c → placeOf c ≡ placeOf (k .call) → ⊥
     unfolding placeOf
     apart c o e = let f = open-from c o in let b = open-below c o in omega arith

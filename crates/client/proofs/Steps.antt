@@ -6,7 +6,7 @@ use mathlib.Core.Bool.{Bool, true, false, _&&_}
 use Prim.Native.Nat.{ℕ, _+_, _≤_, _<_}
 use lib.Dec.{eqb, leb}
 use borrow.Author.Tests.{leb-true, leb-false, eqb-true}
-use Rattle.laws.proofs.Tests.{and-left, and-right}
+use Rattle.model_laws.proofs.Tests.{and-left, and-right}
 use Rattle.model.specs.declared.Client.{Client}
 use Rattle.model.specs.declared.ResultPacket.{ResultPacket}
 use Rattle.model.specs.declared.RefusalPacket.{RefusalPacket}
@@ -15,29 +15,32 @@ use Rattle.model.specs.declared.Packet.{Packet}
 use Rattle.model.specs.declared.Packet.the-variants.{Malformed, Requested, Resulted, Refused, Receipted, Noticed, Granted}
 use Rattle.model.specs.declared.Received.the-variants.{Completed, Denied, Extended}
 use Rattle.model.specs.Packets.{commandOk}
-use Rattle.model.specs.Clients.{callAt, isOpen, firstOpen, withLease, closed, newCall, withCall, notSent, sent, issueOf, resendOf, isOwn, notReceived, receiveResult, receiveRefusal, receiveGrant, receiveWith}
+use Rattle.model.specs.Clients.{callAt, isOpen, firstOpen, withLease, closed, newCall, withCall, notSent, sent, issueOf, resendOf, isOwn, notReceived}
+use Rattle.model.specs.Clients.{receiveResult, receiveRefusal, receiveGrant, receiveWith}
+use Rattle.model.specs.Limits.{last32, callWindow}
+use Rattle.model.specs.Refusals.{malformed, windowFull, numbersOut, unknown}
 use Rattle.client.proofs.Open.{Open, open-is}
 
 -- ---- the exits
 
 pub data IssueCase (d : Client) (op point a : ℕ) : Type 0 where
   refused : (n : ℕ) → issueOf d op point a ≡ notSent d n → IssueCase d op point a
-  issued : commandOk op point a ≡ true → d .next < firstOpen d + 16 → d .next < 4294967295
+  issued : commandOk op point a ≡ true → d .next < firstOpen d + callWindow → d .next < last32
       → issueOf d op point a ≡ sent (withCall d (newCall d op point a)) (newCall d op point a)
       → IssueCase d op point a
 
 pub issue-case : (d : Client) (op point a : ℕ) → IssueCase d op point a
 unfolding issueOf
-issue-case d op point a = go (commandOk op point a) (leb (firstOpen d + 16) (d .next)) (leb 4294967295 (d .next)) refl refl refl
+issue-case d op point a = go (commandOk op point a) (leb (firstOpen d + callWindow) (d .next)) (leb last32 (d .next)) refl refl refl
   where
-    go : (u v w : Bool) → commandOk op point a ≡ u → leb (firstOpen d + 16) (d .next) ≡ v → leb 4294967295 (d .next) ≡ w → IssueCase d op point a
-    go false v w p q r = refused 1 (rw p refl)
-    go true true w p q r = refused 15 (rw (p, q) refl)
-    go true false true p q r = refused 16 (rw (p, q, r) refl)
+    go : (u v w : Bool) → commandOk op point a ≡ u → leb (firstOpen d + callWindow) (d .next) ≡ v → leb last32 (d .next) ≡ w → IssueCase d op point a
+    go false v w p q r = refused malformed (rw p refl)
+    go true true w p q r = refused windowFull (rw (p, q) refl)
+    go true false true p q r = refused numbersOut (rw (p, q, r) refl)
     go true false false p q r = issued p (leb-false _ _ q) (leb-false _ _ r) (rw (p, q, r) refl)
 
 pub data ResendCase (d : Client) (c : ℕ) : Type 0 where
-  refused : resendOf d c ≡ notSent d 17 → ResendCase d c
+  refused : resendOf d c ≡ notSent d unknown → ResendCase d c
   resent : Open d c → resendOf d c ≡ sent d (callAt d c) → ResendCase d c
 
 pub resend-case : (d : Client) (c : ℕ) → ResendCase d c
@@ -71,22 +74,22 @@ pub data ReceiveCase (d : Client) (p : Packet) : Type 0 where
 
 pub receive-case : (d : Client) (p : Packet) → ReceiveCase d p
 unfolding receiveWith receiveResult receiveRefusal receiveGrant
-receive-case d Malformed = refused 1 refl
-receive-case d (Requested q) = refused 1 refl
+receive-case d Malformed = refused malformed refl
+receive-case d (Requested q) = refused malformed refl
 receive-case d (Resulted r) = go (isOwn d (r .client) (r .call) (r .point)) refl
   where
     go : (u : Bool) → isOwn d (r .client) (r .call) (r .point) ≡ u → ReceiveCase d (Resulted r)
     go true e = completed r refl (own-is d _ _ _ e) (rw e refl)
-    go false e = refused 17 (rw e refl)
+    go false e = refused unknown (rw e refl)
 receive-case d (Refused r) = go (isOwn d (r .client) (r .call) (r .point)) refl
   where
     go : (u : Bool) → isOwn d (r .client) (r .call) (r .point) ≡ u → ReceiveCase d (Refused r)
     go true e = denied r refl (own-is d _ _ _ e) (rw e refl)
-    go false e = refused 17 (rw e refl)
-receive-case d (Receipted r) = refused 1 refl
-receive-case d (Noticed n) = refused 1 refl
+    go false e = refused unknown (rw e refl)
+receive-case d (Receipted r) = refused malformed refl
+receive-case d (Noticed n) = refused malformed refl
 receive-case d (Granted g) = go (eqb (g .client) (d .client) && leb (d .lease) (g .lease)) refl
   where
     go : (u : Bool) → (eqb (g .client) (d .client) && leb (d .lease) (g .lease)) ≡ u → ReceiveCase d (Granted g)
     go true e = extended g refl (eqb-true _ _ (and-left (eqb (g .client) (d .client)) _ e)) (leb-true _ _ (and-right (eqb (g .client) (d .client)) _ e)) (rw e refl)
-    go false e = refused 17 (rw e refl)
+    go false e = refused unknown (rw e refl)

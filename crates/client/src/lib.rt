@@ -7,7 +7,11 @@ ghost use Prim.Native.Nat.{_<_};
 ghost use lib.Dec.{leb, ltb};
 ghost use lib.ListN.{set, replicate};
 ghost use Rattle.model.specs.Choice.{pick};
-ghost use Rattle.model.specs.Clients.{noCall, noClient, placeOf, callAt, isOpen, leastOpen, firstOpen, withCalls, withLease, closed, requestFor, newCall, withCall, notSent, sent, startWith, startOf, issueOf, resendOf, isOwn, notReceived, receiveResult, receiveRefusal, receiveGrant, receiveWith, receiveOf};
+ghost use Rattle.model.specs.Limits.{last32, callWindow};
+ghost use Rattle.model.specs.Clients.{noCall, noClient, placeOf, callAt, isOpen, leastOpen, firstOpen};
+ghost use Rattle.model.specs.Clients.{withCalls, withLease, closed, requestFor, withCall, notStarted, started, startWith, startOf};
+ghost use Rattle.model.specs.Clients.{notSent, sent, issueOf, resendOf};
+ghost use Rattle.model.specs.Clients.{isOwn, notReceived, receiveResult, receiveRefusal, receiveGrant, receiveWith, receiveOf};
 use model::Client;
 use model::Command;
 use model::Grant;
@@ -37,7 +41,7 @@ fn no_call() -> OpenCall
 }
 
 fn place_of(c: u32) -> usize
-    ensures { λ r. ⌜ (r ≡ placeOf c) × (r < 16) ⌝ }
+    ensures { λ r. ⌜ (r ≡ placeOf c) × (r < callWindow) ⌝ }
 {
     (c % constants::CALL_WINDOW_U32) as usize
 }
@@ -79,7 +83,7 @@ fn least_open(n: u32, ks: [OpenCall; CALL_WINDOW]) -> u32
     least
 }
 
-pub fn first_open(d: Client) -> u32
+fn first_open(d: Client) -> u32
     ensures { λ r. ⌜ r ≡ firstOpen d ⌝ }
 {
     let ks = d.calls;
@@ -116,7 +120,7 @@ fn closed(d: Client, c: u32) -> Client
 }
 
 fn with_call(d: Client, k: OpenCall) -> Client
-    requires { ⌜ d .next < 4294967295 ⌝ }
+    requires { ⌜ d .next < last32 ⌝ }
     ensures { λ r. ⌜ r ≡ withCall d k ⌝ }
 {
     let ks = d.calls;
@@ -165,7 +169,7 @@ fn sent(d: Client, k: OpenCall) -> SendAnswer
 // ---- a packet
 
 fn no_calls() -> [OpenCall; CALL_WINDOW]
-    ensures { λ r. ⌜ r ≡ replicate 16 noCall ⌝ }
+    ensures { λ r. ⌜ r ≡ replicate callWindow noCall ⌝ }
 {
     let k = no_call();
     [k; CALL_WINDOW]
@@ -184,7 +188,7 @@ fn no_client() -> Client
 }
 
 fn not_started() -> StartAnswer
-    ensures { λ r. ⌜ r ≡ startWith Packet.Malformed ⌝ }
+    ensures { λ r. ⌜ r ≡ notStarted ⌝ }
 {
     let d = no_client();
     StartAnswer {
@@ -194,7 +198,7 @@ fn not_started() -> StartAnswer
 }
 
 fn started(g: Grant) -> StartAnswer
-    ensures { λ r. ⌜ r ≡ startWith (Packet.Granted g) ⌝ }
+    ensures { λ r. ⌜ r ≡ started g ⌝ }
 {
     let ks = no_calls();
     StartAnswer {
@@ -211,15 +215,10 @@ fn started(g: Grant) -> StartAnswer
 fn start_with(p: Packet) -> StartAnswer
     ensures { λ r. ⌜ r ≡ startWith p ⌝ }
 {
-    match p {
-        Packet::Malformed => not_started(),
-        Packet::Requested(_) => not_started(),
-        Packet::Resulted(_) => not_started(),
-        Packet::Refused(_) => not_started(),
-        Packet::Receipted(_) => not_started(),
-        Packet::Noticed(_) => not_started(),
-        Packet::Granted(g) => started(g),
-    }
+    let Packet::Granted(g) = p else {
+        return not_started();
+    };
+    started(g)
 }
 
 // The packet is of this client and of an open call on its point.
@@ -306,13 +305,10 @@ fn receive_with(d: Client, p: Packet) -> ReceiveAnswer
     ensures { λ r. ⌜ r ≡ receiveWith d p ⌝ }
 {
     match p {
-        Packet::Malformed => not_received(d, constants::MALFORMED),
-        Packet::Requested(_) => not_received(d, constants::MALFORMED),
         Packet::Resulted(r) => receive_result(d, r),
         Packet::Refused(r) => receive_refusal(d, r),
-        Packet::Receipted(_) => not_received(d, constants::MALFORMED),
-        Packet::Noticed(_) => not_received(d, constants::MALFORMED),
         Packet::Granted(g) => receive_grant(d, g),
+        _ => not_received(d, constants::MALFORMED),
     }
 }
 
@@ -322,15 +318,15 @@ fn receive_with(d: Client, p: Packet) -> ReceiveAnswer
 pub fn start(packet: &[u8]) -> StartAnswer
     ensures { λ r. ⌜ r ≡ startOf (now (packet .entry)) ⌝ }
 {
-    let p = parser::parse_packet(packet);
+    let p = format_packet_reader::parse_packet(packet);
     start_with(p)
 }
 
-// Issue: 1; 15 next − first open ≥ 16; 16 next is 4,294,967,295.
+// Issue: 1 no such command; 15 the window is full; 16 the last number is used.
 pub fn issue(d: Client, op: u8, point: u8, argument: u32) -> SendAnswer
     ensures { λ r. ⌜ r ≡ issueOf d op point argument ⌝ }
 {
-    if !wire::command_ok(op, point, argument) {
+    if !format_numbers::command_ok(op, point, argument) {
         return not_sent(d, constants::MALFORMED);
     }
     let first = first_open(d);
@@ -360,10 +356,10 @@ pub fn resend(d: Client, c: u32) -> SendAnswer
     not_sent(d, constants::UNKNOWN)
 }
 
-// Receive: 1 malformed, or not kind 2, 3 or 6; 17 other client, call not open, other point, or an earlier lease end.
+// Receive: 1 no well-formed result, refusal or grant; 17 not for this client and an open call of it on that point, or a lease end that falls.
 pub fn receive(d: Client, packet: &[u8]) -> ReceiveAnswer
     ensures { λ r. ⌜ r ≡ receiveOf d (now (packet .entry)) ⌝ }
 {
-    let p = parser::parse_packet(packet);
+    let p = format_packet_reader::parse_packet(packet);
     receive_with(d, p)
 }

@@ -16,51 +16,52 @@ use Rattle.model.specs.declared.Request.{Request}
 use Rattle.model.specs.declared.Grant.{Grant}
 use Rattle.model.specs.declared.Notice.{Notice}
 use Rattle.model.specs.declared.Client.{Client}
-use Rattle.model.specs.declared.LeaseAnswer.{LeaseAnswer}
 use Rattle.model.specs.declared.Sent.the-variants.{NotSent, Asked}
 use Rattle.model.specs.declared.Told.the-variants.{NotTold, ByGrant, ByNotice}
-use Rattle.model.specs.Limits.{noticeKind}
+use Rattle.model.specs.Limits.{noticeKind, grantKind, requestSize, grantSize, noticeSize}
 use Rattle.model.specs.Packets.{commandOk, requestBytes, grantBytes, noticeBytes}
 use Rattle.model.specs.Clients.{sendNumber, sentBytes, notSent, issueOf}
 use Rattle.model.specs.Leases.{toldNumber, toldBytes}
-use Rattle.laws.proofs.Commands.{CommandParts, command-parts}
-use Rattle.client_c.specs.Replies.{filled, sendReply, leaseReply}
+use Rattle.model.specs.Refusals.{noRefusal, malformed}
+use Rattle.model_laws.proofs.Commands.{CommandParts, command-parts}
+use Rattle.client_c.specs.Replies.{filled, sentCall, sendReply, toldKind, leaseReply}
 
 -- ---- issue and resend
 
-pub reply-none : (n : ℕ) → record { number = n; length = 0; packet = replicate 24 0 } ≡ sendReply (NotSent n)
-unfolding sendReply sendNumber sentBytes filled
+pub reply-none : (n : ℕ) → record { number = n; call = 0; length = 0; packet = replicate requestSize 0 } ≡ sendReply (NotSent n)
+unfolding sendReply sentCall sendNumber sentBytes filled
 reply-none n = refl
 
-pub reply-request : (q : Request) {p : List ℕ} → p ≡ requestBytes q → record { number = 0; length = 24; packet = p } ≡ sendReply (Asked q)
-unfolding sendReply sendNumber sentBytes filled requestBytes
+pub reply-request : (q : Request) {p : List ℕ} → p ≡ requestBytes q
+    → record { number = noRefusal; call = q .command .call; length = requestSize; packet = p } ≡ sendReply (Asked q)
+unfolding sendReply sentCall sendNumber sentBytes filled requestBytes
 reply-request q e = rw e refl
 
 -- ---- the lease manager
 
-module _ (a : LeaseAnswer) where
-  pub lease-none : (n : ℕ) → a .answer ≡ NotTold n → record { manager = a .manager; number = n; length = 0; packet = replicate 12 0 } ≡ leaseReply a
-  unfolding leaseReply toldNumber toldBytes filled
-  lease-none n q = rw q refl
+pub lease-none : (n : ℕ) → record { number = n; kind = 0; length = 0; packet = replicate grantSize 0 } ≡ leaseReply (NotTold n)
+unfolding leaseReply toldKind toldNumber toldBytes filled
+lease-none n = refl
 
-  pub lease-grant : (g : Grant) {p : List ℕ} → a .answer ≡ ByGrant g → p ≡ grantBytes g → record { manager = a .manager; number = 0; length = 12; packet = p } ≡ leaseReply a
-  unfolding leaseReply toldNumber toldBytes filled grantBytes
-  lease-grant g q e = rw (q, e) refl
+pub lease-grant : (g : Grant) {p : List ℕ} → p ≡ grantBytes g → record { number = noRefusal; kind = grantKind; length = grantSize; packet = p } ≡ leaseReply (ByGrant g)
+unfolding leaseReply toldKind toldNumber toldBytes filled grantBytes
+lease-grant g e = rw e refl
 
-  pub lease-notice : (n : Notice) {p : List ℕ} → a .answer ≡ ByNotice n → p ≡ noticeBytes noticeKind n → record { manager = a .manager; number = 0; length = 12; packet = p } ≡ leaseReply a
-  unfolding leaseReply toldNumber toldBytes filled noticeBytes
-  lease-notice n q e = rw (q, e) refl
+pub lease-notice : (n : Notice) {p : List ℕ} → p ≡ noticeBytes noticeKind n
+    → record { number = noRefusal; kind = noticeKind; length = noticeSize; packet = p } ≡ leaseReply (ByNotice n)
+unfolding leaseReply toldKind toldNumber toldBytes filled noticeBytes
+lease-notice n e = rw e refl
 
 -- ---- an op or a point past a byte
 
-pub past-byte : (d : Client) (op point a : ℕ) → (ltb 255 op || ltb 255 point) ≡ true → record { client = d; answer = NotSent 1 } ≡ issueOf d op point a
+pub past-byte : (d : Client) (op point a : ℕ) → (ltb 255 op || ltb 255 point) ≡ true → record { client = d; answer = NotSent malformed } ≡ issueOf d op point a
 unfolding issueOf notSent
 past-byte d op point a e = refused (commandOk op point a) refl
   where
     under : CommandParts op point a → (ltb 255 op || ltb 255 point) ≡ false
     under c = let o = c .op in let p = c .point in rw (le-ltb 255 op (omega arith), le-ltb 255 point (omega arith)) refl
 
-    refused : (b : Bool) → commandOk op point a ≡ b → record { client = d; answer = NotSent 1 } ≡ issueOf d op point a
+    refused : (b : Bool) → commandOk op point a ≡ b → record { client = d; answer = NotSent malformed } ≡ issueOf d op point a
     refused true f = absurd (false≢true (sym (under (command-parts op point a f)) ∙ e))
     refused false f = rw f refl
 

@@ -1,16 +1,19 @@
--- What the host program in C is given for each answer: the paper's number, and the values or the packet of its case.
+-- What the host program in C is given for each answer: the refusal's number, and the values or the packet of its case.
 -- Assumes nothing.
 use Prim.Native.Nat.{ℕ, _-_}
 use mathlib.Core.List.{List, _++_}
 use lib.ListN.{length, replicate}
 use Rattle.model.specs.declared.Sent.{Sent}
+use Rattle.model.specs.declared.Sent.the-variants.{NotSent, Asked}
+use Rattle.model.specs.declared.Told.{Told}
+use Rattle.model.specs.declared.Told.the-variants.{NotTold, ByGrant, ByNotice}
 use Rattle.model.specs.declared.Received.{Received}
 use Rattle.model.specs.declared.StartAnswer.{StartAnswer}
 use Rattle.model.specs.declared.SendAnswer.{SendAnswer}
 use Rattle.model.specs.declared.ReceiveAnswer.{ReceiveAnswer}
 use Rattle.model.specs.declared.LeaseAnswer.{LeaseAnswer}
 use Rattle.model.specs.Numbers.{flip}
-use Rattle.model.specs.Limits.{requestSize, grantSize}
+use Rattle.model.specs.Limits.{requestSize, grantSize, grantKind, noticeKind}
 use Rattle.model.specs.Clients.{startNumber, sendNumber, sentBytes, receiveNumber, brought}
 use Rattle.model.specs.Leases.{toldNumber, toldBytes}
 use Rattle.client_c.specs.declared.StartReply.{StartReply}
@@ -18,6 +21,7 @@ use Rattle.client_c.specs.declared.SendReply.{SendReply}
 use Rattle.client_c.specs.declared.ReceiveReply.{ReceiveReply}
 use Rattle.client_c.specs.declared.Sending.{Sending}
 use Rattle.client_c.specs.declared.Receiving.{Receiving}
+use Rattle.client_c.specs.declared.Leasing.{Leasing}
 use Rattle.client_c.specs.declared.LeaseReply.{LeaseReply}
 
 -- bytes, and zeros after them up to n
@@ -27,8 +31,13 @@ filled n bs = bs ++ replicate (n - length bs) 0
 unfoldable pub startReply : StartAnswer → StartReply
 startReply a = record { client = a .client; number = startNumber (a .answer) }
 
+-- the call that a request is of
+unfoldable pub sentCall : Sent → ℕ
+sentCall (NotSent n) = 0
+sentCall (Asked q) = q .command .call
+
 unfoldable pub sendReply : Sent → SendReply
-sendReply a = record { number = sendNumber a; length = length (sentBytes a); packet = filled requestSize (sentBytes a) }
+sendReply a = record { number = sendNumber a; call = sentCall a; length = length (sentBytes a); packet = filled requestSize (sentBytes a) }
 
 abbrev pub sending : SendAnswer → Sending
 sending a = record { client = a .client; reply = sendReply (a .answer) }
@@ -52,6 +61,14 @@ receiveReply a =
 abbrev pub receiving : ReceiveAnswer → Receiving
 receiving a = record { client = a .client; reply = receiveReply (a .answer) }
 
-unfoldable pub leaseReply : LeaseAnswer → LeaseReply
-leaseReply a =
-    record { manager = a .manager; number = toldNumber (a .answer); length = length (toldBytes (a .answer)); packet = filled grantSize (toldBytes (a .answer)) }
+-- the kind of what the lease manager gives
+unfoldable pub toldKind : Told → ℕ
+toldKind (NotTold n) = 0
+toldKind (ByGrant g) = grantKind
+toldKind (ByNotice n) = noticeKind
+
+unfoldable pub leaseReply : Told → LeaseReply
+leaseReply a = record { number = toldNumber a; kind = toldKind a; length = length (toldBytes a); packet = filled grantSize (toldBytes a) }
+
+abbrev pub leasing : LeaseAnswer → Leasing
+leasing a = record { manager = a .manager; reply = leaseReply (a .answer) }

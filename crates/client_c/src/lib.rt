@@ -5,7 +5,7 @@ ghost use mathlib.Core.Path.{_≡_};
 ghost use Rattle.model.specs.Numbers.{flip};
 ghost use Rattle.model.specs.Clients.{startOf, startNumber, issueOf, resendOf, receiveOf};
 ghost use Rattle.model.specs.Leases.{newManager, openOf, renewOf, queryOf};
-ghost use Rattle.client_c.specs.Replies.{startReply, sendReply, sending, receiveReply, receiving, leaseReply};
+ghost use Rattle.client_c.specs.Replies.{startReply, sendReply, sending, receiveReply, receiving, leaseReply, leasing};
 use model::Client;
 use model::Grant;
 use model::Lease;
@@ -32,10 +32,11 @@ pub struct StartReply {
     pub number: u32,
 }
 
-// number: 0 or the refusal's. length: of the request in packet, 0 where refused.
+// number: 0 or the refusal's. call: the request's. length: of the request in packet. Both are 0 where refused.
 #[repr(C)]
 pub struct SendReply {
     pub number: u32,
+    pub call: u32,
     pub length: u32,
     pub packet: [u8; constants::REQUEST_SIZE],
 }
@@ -54,11 +55,11 @@ pub struct ReceiveReply {
     pub refusal: u8,
 }
 
-// number: 0 or the refusal's. length: of the grant or the notice in packet, 0 where refused.
+// number: 0 or the refusal's. kind: 6 a grant, 5 a notice. length: of it in packet. Both are 0 where refused.
 #[repr(C)]
 pub struct LeaseReply {
-    pub manager: LeaseManager,
     pub number: u32,
+    pub kind: u32,
     pub length: u32,
     pub packet: [u8; constants::GRANT_SIZE],
 }
@@ -75,19 +76,26 @@ pub struct Receiving {
     pub reply: ReceiveReply,
 }
 
+pub struct Leasing {
+    pub manager: LeaseManager,
+    pub reply: LeaseReply,
+}
+
 fn send_reply(a: Sent) -> SendReply
     ensures { λ r. ⌜ r ≡ sendReply a ⌝ }
 {
     match a {
         Sent::NotSent(n) => SendReply {
             number: n,
+            call: 0,
             length: 0,
             packet: [0u8; constants::REQUEST_SIZE],
         },
         Sent::Asked(q) => {
-            let p = packets::request_packet(q);
+            let p = format_packet_writer::request_packet(q);
             SendReply {
                 number: constants::NO_REFUSAL,
+                call: q.command.call,
                 length: constants::REQUEST_SIZE_U32,
                 packet: p,
             }
@@ -126,7 +134,7 @@ fn receive_reply(a: Received) -> ReceiveReply
             number: constants::NO_REFUSAL,
             kind: constants::RESULT_KIND_U32,
             call: r.call,
-            value: wire::flipped(r.result.value),
+            value: format_numbers::flipped(r.result.value),
             lease: 0,
             point: r.point,
             outcome: r.result.outcome,
@@ -179,36 +187,46 @@ fn start_number(a: Started) -> u32
     }
 }
 
-fn lease_reply(a: LeaseAnswer) -> LeaseReply
+fn lease_reply(a: Told) -> LeaseReply
     ensures { λ r. ⌜ r ≡ leaseReply a ⌝ }
 {
-    let m = a.manager;
-    let s = a.answer;
-    match s {
+    match a {
         Told::NotTold(n) => LeaseReply {
-            manager: m,
             number: n,
+            kind: 0,
             length: 0,
             packet: [0u8; constants::GRANT_SIZE],
         },
         Told::ByGrant(g) => {
-            let p = packets::grant_packet(g);
+            let p = format_packet_writer::grant_packet(g);
             LeaseReply {
-                manager: m,
                 number: constants::NO_REFUSAL,
+                kind: constants::GRANT_KIND_U32,
                 length: constants::GRANT_SIZE_U32,
                 packet: p,
             }
         }
         Told::ByNotice(n) => {
-            let p = packets::notice_packet(n);
+            let p = format_packet_writer::notice_packet(n);
             LeaseReply {
-                manager: m,
                 number: constants::NO_REFUSAL,
+                kind: constants::NOTICE_KIND_U32,
                 length: constants::NOTICE_SIZE_U32,
                 packet: p,
             }
         }
+    }
+}
+
+fn with_lease_reply(a: LeaseAnswer) -> Leasing
+    ensures { λ r. ⌜ r ≡ leasing a ⌝ }
+{
+    let m = a.manager;
+    let s = a.answer;
+    let r = lease_reply(s);
+    Leasing {
+        manager: m,
+        reply: r,
     }
 }
 
@@ -225,7 +243,7 @@ fn issue_value(d: Client, op: u32, point: u32, argument: u32) -> Sending
         };
         return with_send_reply(q);
     }
-    let a = client::issue(d, op as u8, point as u8, wire::flipped(argument));
+    let a = client::issue(d, op as u8, point as u8, format_numbers::flipped(argument));
     with_send_reply(a)
 }
 
@@ -241,6 +259,29 @@ fn receive_value(d: Client, packet: &[u8]) -> Receiving
 {
     let a = client::receive(d, packet);
     with_receive_reply(a)
+}
+
+// ---- the lease manager's operations, by value
+
+fn open_value(m: LeaseManager, time: u32, span: u32) -> Leasing
+    ensures { λ r. ⌜ r ≡ leasing (openOf m time span) ⌝ }
+{
+    let a = leases::open_lease(m, time, span);
+    with_lease_reply(a)
+}
+
+fn renew_value(m: LeaseManager, client: u32, time: u32, span: u32) -> Leasing
+    ensures { λ r. ⌜ r ≡ leasing (renewOf m client time span) ⌝ }
+{
+    let a = leases::renew(m, client, time, span);
+    with_lease_reply(a)
+}
+
+fn query_value(m: LeaseManager, client: u32, time: u32) -> Leasing
+    ensures { λ r. ⌜ r ≡ leasing (queryOf m client time) ⌝ }
+{
+    let a = leases::query(m, client, time);
+    with_lease_reply(a)
 }
 
 // ---- for C: the client. Start makes one; the others are lent it.
@@ -288,7 +329,7 @@ pub extern "C" fn mantelorris_receive(d: &mut Client, packet: &[u8]) -> ReceiveR
     r.reply
 }
 
-// ---- for C: the lease manager, by value
+// ---- for C: the lease manager. It is made once and lent.
 
 #[no_mangle]
 pub extern "C" fn mantelorris_leases() -> LeaseManager
@@ -306,30 +347,36 @@ pub extern "C" fn mantelorris_leases() -> LeaseManager
 }
 
 #[no_mangle]
-pub extern "C" fn mantelorris_open(m: LeaseManager, time: u32, span: u32) -> LeaseReply
-    ensures { λ r. ⌜ r ≡ leaseReply (openOf m time span) ⌝ }
+pub extern "C" fn mantelorris_open(m: &mut LeaseManager, time: u32, span: u32) -> LeaseReply
+    ensures { λ r. ⌜ (r ≡ leaseReply (openOf (now (m .entry)) time span .answer))
+        × (now (m .exit) ≡ openOf (now (m .entry)) time span .manager) ⌝ }
 {
-    let a = leases::open_lease(m, time, span);
-    lease_reply(a)
+    let r = open_value(*m, time, span);
+    *m = r.manager;
+    r.reply
 }
 
 #[no_mangle]
 pub extern "C" fn mantelorris_renew(
-    m: LeaseManager,
+    m: &mut LeaseManager,
     client: u32,
     time: u32,
     span: u32,
 ) -> LeaseReply
-    ensures { λ r. ⌜ r ≡ leaseReply (renewOf m client time span) ⌝ }
+    ensures { λ r. ⌜ (r ≡ leaseReply (renewOf (now (m .entry)) client time span .answer))
+        × (now (m .exit) ≡ renewOf (now (m .entry)) client time span .manager) ⌝ }
 {
-    let a = leases::renew(m, client, time, span);
-    lease_reply(a)
+    let r = renew_value(*m, client, time, span);
+    *m = r.manager;
+    r.reply
 }
 
 #[no_mangle]
-pub extern "C" fn mantelorris_query(m: LeaseManager, client: u32, time: u32) -> LeaseReply
-    ensures { λ r. ⌜ r ≡ leaseReply (queryOf m client time) ⌝ }
+pub extern "C" fn mantelorris_query(m: &mut LeaseManager, client: u32, time: u32) -> LeaseReply
+    ensures { λ r. ⌜ (r ≡ leaseReply (queryOf (now (m .entry)) client time .answer))
+        × (now (m .exit) ≡ queryOf (now (m .entry)) client time .manager) ⌝ }
 {
-    let a = leases::query(m, client, time);
-    lease_reply(a)
+    let r = query_value(*m, client, time);
+    *m = r.manager;
+    r.reply
 }

@@ -6,6 +6,10 @@ use Rattle.model.specs.declared.Answer.{Answer}
 use Rattle.model.specs.Numbers.{word}
 use Rattle.model.specs.Operations.{After}
 
+-- the interface's version, major × 65,536 + minor: 1.0
+abbrev pub version : ℕ
+version = 65536
+
 -- the low 32 bits are 0 or the refusal's number, the high 32 bits the number of bytes written to the output
 unfoldable pub wordOf : Answer → ℕ
 wordOf a = a .refusal + word * a .wrote

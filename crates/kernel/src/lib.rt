@@ -6,7 +6,17 @@ ghost use mathlib.Core.Path.{_≡_};
 ghost use mathlib.Core.List.{[]};
 ghost use Rattle.model.specs.Versions.{today};
 ghost use Rattle.model.specs.Operations.{foundOf, requestOf, fetchOf, syncOf, noticeOf, giveOf, imageOf, takeOf, receiptOf, releaseOf, recoverOf};
-ghost use Rattle.kernel.specs.Interface.{wordOf, returned, inC};
+ghost use Rattle.kernel.specs.Interface.{version, wordOf, returned, inC};
+
+// The interface's version, major * 65,536 + minor.
+const VERSION: u32 = 65536;
+
+#[no_mangle]
+pub extern "C" fn mantelorris_version() -> u32
+    ensures { λ r. ⌜ r ≡ version ⌝ }
+{
+    VERSION
+}
 
 fn word_of(a: Answer) -> u64
     ensures { λ r. ⌜ r ≡ wordOf a ⌝ }
@@ -24,7 +34,7 @@ pub extern "C" fn mantelorris_found(
 ) -> u64
     ensures { λ r. ⌜ returned r (now (state .exit)) (now (log .exit)) [] ≡ inC (foundOf (now (state .entry)) (now (log .entry)) (now (plan .entry)) server) ⌝ }
 {
-    word_of(found::found(state, log, plan, server))
+    word_of(server_found::found(state, log, plan, server))
 }
 
 // A request packet: executed, answered from its completion record, or refused.
@@ -37,7 +47,7 @@ pub extern "C" fn mantelorris_request(
 ) -> u64
     ensures { λ r. ⌜ returned r (now (state .exit)) (now (log .exit)) (now (out .exit)) ≡ inC (requestOf today (now (state .entry)) (now (log .entry)) (now (packet .entry)) (now (out .entry))) ⌝ }
 {
-    word_of(request::request(state, log, packet, out))
+    word_of(server_request::request(state, log, packet, out))
 }
 
 // The result packet of a completion record.
@@ -51,7 +61,7 @@ pub extern "C" fn mantelorris_fetch(
 ) -> u64
     ensures { λ r. ⌜ returned r (now (state .entry)) (now (log .entry)) (now (out .exit)) ≡ inC (fetchOf (now (state .entry)) (now (log .entry)) client call (now (out .entry))) ⌝ }
 {
-    word_of(serve::fetch(state, log, client, call, out))
+    word_of(server_fetch::fetch(state, log, client, call, out))
 }
 
 // The log is synced up to the mark.
@@ -59,7 +69,7 @@ pub extern "C" fn mantelorris_fetch(
 pub extern "C" fn mantelorris_sync(state: &mut [u8], log: &[u8], mark: u64) -> u64
     ensures { λ r. ⌜ returned r (now (state .exit)) (now (log .entry)) [] ≡ inC (syncOf (now (state .entry)) (now (log .entry)) mark) ⌝ }
 {
-    word_of(serve::sync(state, log, mark))
+    word_of(server_fetch::sync(state, log, mark))
 }
 
 // A notice packet: a lease has ended.
@@ -67,7 +77,7 @@ pub extern "C" fn mantelorris_sync(state: &mut [u8], log: &[u8], mark: u64) -> u
 pub extern "C" fn mantelorris_notice(state: &mut [u8], log: &mut [u8], packet: &[u8]) -> u64
     ensures { λ r. ⌜ returned r (now (state .exit)) (now (log .exit)) [] ≡ inC (noticeOf (now (state .entry)) (now (log .entry)) (now (packet .entry))) ⌝ }
 {
-    word_of(serve::notice(state, log, packet))
+    word_of(server_fetch::notice(state, log, packet))
 }
 
 // Gives a point to another server.
@@ -80,7 +90,7 @@ pub extern "C" fn mantelorris_give(
 ) -> u64
     ensures { λ r. ⌜ returned r (now (state .exit)) (now (log .exit)) [] ≡ inC (giveOf (now (state .entry)) (now (log .entry)) point destination) ⌝ }
 {
-    word_of(moves::give(state, log, point, destination))
+    word_of(server_moves::give(state, log, point, destination))
 }
 
 // The image of a given point.
@@ -88,7 +98,7 @@ pub extern "C" fn mantelorris_give(
 pub extern "C" fn mantelorris_image(state: &[u8], log: &[u8], point: u32, out: &mut [u8]) -> u64
     ensures { λ r. ⌜ returned r (now (state .entry)) (now (log .entry)) (now (out .exit)) ≡ inC (imageOf (now (state .entry)) (now (log .entry)) point (now (out .entry))) ⌝ }
 {
-    word_of(moves::image(state, log, point, out))
+    word_of(server_moves::image(state, log, point, out))
 }
 
 // An image: the point is held here.
@@ -96,7 +106,7 @@ pub extern "C" fn mantelorris_image(state: &[u8], log: &[u8], point: u32, out: &
 pub extern "C" fn mantelorris_take(state: &mut [u8], log: &mut [u8], image: &[u8]) -> u64
     ensures { λ r. ⌜ returned r (now (state .exit)) (now (log .exit)) [] ≡ inC (takeOf (now (state .entry)) (now (log .entry)) (now (image .entry))) ⌝ }
 {
-    word_of(takes::take(state, log, image))
+    word_of(server_take::take(state, log, image))
 }
 
 // The receipt of the latest taken move.
@@ -104,7 +114,7 @@ pub extern "C" fn mantelorris_take(state: &mut [u8], log: &mut [u8], image: &[u8
 pub extern "C" fn mantelorris_receipt(state: &[u8], log: &[u8], point: u32, out: &mut [u8]) -> u64
     ensures { λ r. ⌜ returned r (now (state .entry)) (now (log .entry)) (now (out .exit)) ≡ inC (receiptOf (now (state .entry)) (now (log .entry)) point (now (out .entry))) ⌝ }
 {
-    word_of(moves::receipt(state, log, point, out))
+    word_of(server_moves::receipt(state, log, point, out))
 }
 
 // A receipt packet: the given point is released.
@@ -112,7 +122,7 @@ pub extern "C" fn mantelorris_receipt(state: &[u8], log: &[u8], point: u32, out:
 pub extern "C" fn mantelorris_release(state: &mut [u8], log: &mut [u8], packet: &[u8]) -> u64
     ensures { λ r. ⌜ returned r (now (state .exit)) (now (log .exit)) [] ≡ inC (releaseOf (now (state .entry)) (now (log .entry)) (now (packet .entry))) ⌝ }
 {
-    word_of(moves::release(state, log, packet))
+    word_of(server_moves::release(state, log, packet))
 }
 
 // The state of a kept log. The log slice is what was kept, no more.
@@ -120,5 +130,5 @@ pub extern "C" fn mantelorris_release(state: &mut [u8], log: &mut [u8], packet: 
 pub extern "C" fn mantelorris_recover(state: &mut [u8], log: &[u8], plan: &[u8]) -> u64
     ensures { λ r. ⌜ returned r (now (state .exit)) (now (log .entry)) [] ≡ inC (recoverOf (now (state .entry)) (now (log .entry)) (now (plan .entry))) ⌝ }
 {
-    word_of(recover::recover(state, log, plan))
+    word_of(server_recover::recover(state, log, plan))
 }

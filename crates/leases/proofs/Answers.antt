@@ -17,6 +17,8 @@ use Rattle.model.specs.declared.LeaseAnswer.{LeaseAnswer}
 use Rattle.model.specs.declared.Told.the-variants.{ByNotice}
 use Rattle.model.specs.Tables.{every}
 use Rattle.model.specs.Leases.{timeAt, runningAt, leaseEnd, isTaken, withNewLease, extended, spanOk, manager, notTold, granted, openOf, renewOf, queryOf}
+use Rattle.model.specs.Refusals.{malformed, leasesFull, numbersOut, unknown}
+use Rattle.model.specs.Limits.{last32}
 
 -- neither of two numbers is past k
 pub both-fit : (k a b : ℕ) → (ltb k a || ltb k b) ≡ false → (a ≤ k) × (b ≤ k)
@@ -31,25 +33,25 @@ both-fit k a b e = (ltb-false k a (or-left _ _ e), ltb-false k b (or-right (ltb 
     or-right false v q = q
 
 module _ (m : LeaseManager) (t span : ℕ) {u : Bool} {r : LeaseAnswer} (spanned : u ≡ spanOk span) where
-  pub open-span : u ≡ false → r ≡ notTold m 1 → r ≡ openOf m t span
+  pub open-span : u ≡ false → r ≡ notTold m malformed → r ≡ openOf m t span
   unfolding openOf
   open-span bad e = rw (← spanned, bad) e
 
-  pub renew-span : (x : ℕ) → u ≡ false → r ≡ notTold m 1 → r ≡ renewOf m x t span
+  pub renew-span : (x : ℕ) → u ≡ false → r ≡ notTold m malformed → r ≡ renewOf m x t span
   unfolding renewOf
   renew-span x bad e = rw (← spanned, bad) e
 
   module _ (good : u ≡ true) {now : ℕ} {ls : List Lease} (timed : now ≡ timeAt m t) (running : ls ≡ runningAt now (m .leases)) where
-    pub open-full : {v : Bool} → v ≡ every isTaken ls → v ≡ true → r ≡ notTold m 18 → r ≡ openOf m t span
+    pub open-full : {v : Bool} → v ≡ every isTaken ls → v ≡ true → r ≡ notTold m leasesFull → r ≡ openOf m t span
     unfolding openOf
     open-full all full e = rw (← spanned, good, ← timed, ← running, ← all, full) e
 
     module _ {v : Bool} (all : v ≡ every isTaken ls) (free : v ≡ false) where
-      pub open-out : (ltb 4294967295 (m .issued + 1) || ltb 4294967295 (now + span)) ≡ true → r ≡ notTold m 16 → r ≡ openOf m t span
+      pub open-out : (ltb last32 (m .issued + 1) || ltb last32 (now + span)) ≡ true → r ≡ notTold m numbersOut → r ≡ openOf m t span
       unfolding openOf
       open-out out e = rw (← add-one (m .issued), ← spanned, good, ← timed, ← running, ← all, free, out) e
 
-      pub open-done : (ltb 4294967295 (m .issued + 1) || ltb 4294967295 (now + span)) ≡ false
+      pub open-done : (ltb last32 (m .issued + 1) || ltb last32 (now + span)) ≡ false
           → {next : List Lease} → next ≡ withNewLease (record { client = m .issued + 1; lease = now + span }) ls
           → {k : LeaseManager} → k ≡ manager now (m .issued + 1) next
           → r ≡ granted k (m .issued + 1) (now + span)
@@ -58,15 +60,15 @@ module _ (m : LeaseManager) (t span : ℕ) {u : Bool} {r : LeaseAnswer} (spanned
       open-done out into made e = rw (← add-one (m .issued), ← spanned, good, ← timed, ← running, ← all, free, out, ← into, ← made) e
 
     module _ (x : ℕ) {old : ℕ} (ends : old ≡ leaseEnd x ls) where
-      pub renew-unknown : old ≡ 0 → r ≡ notTold m 17 → r ≡ renewOf m x t span
+      pub renew-unknown : old ≡ 0 → r ≡ notTold m unknown → r ≡ renewOf m x t span
       unfolding renewOf
       renew-unknown none e = rw (← spanned, good, ← timed, ← running, ← ends, eq-eqb _ _ none) e
 
-      pub renew-out : (old ≡ 0 → ⊥) → 4294967295 < now + span → r ≡ notTold m 16 → r ≡ renewOf m x t span
+      pub renew-out : (old ≡ 0 → ⊥) → last32 < now + span → r ≡ notTold m numbersOut → r ≡ renewOf m x t span
       unfolding renewOf
       renew-out some out e = rw (← spanned, good, ← timed, ← running, ← ends, ne-eqb _ _ some, lt-ltb _ _ out) e
 
-      pub renew-done : (old ≡ 0 → ⊥) → now + span ≤ 4294967295
+      pub renew-done : (old ≡ 0 → ⊥) → now + span ≤ last32
           → {end : ℕ} → end ≡ max old (now + span)
           → {next : List Lease} → next ≡ extended x end ls
           → {k : LeaseManager} → k ≡ manager now (m .issued) next
@@ -77,7 +79,7 @@ module _ (m : LeaseManager) (t span : ℕ) {u : Bool} {r : LeaseAnswer} (spanned
           rw (← spanned, good, ← timed, ← running, ← ends, ne-eqb _ _ some, le-ltb _ _ fits, ← greater, ← into, ← made) e
 
 module _ (m : LeaseManager) (x t : ℕ) {r : LeaseAnswer} where
-  pub query-unknown : (eqb x 0 || ltb (m .issued) x) ≡ true → r ≡ notTold m 17 → r ≡ queryOf m x t
+  pub query-unknown : (eqb x 0 || ltb (m .issued) x) ≡ true → r ≡ notTold m unknown → r ≡ queryOf m x t
   unfolding queryOf
   query-unknown never e = rw never e
 

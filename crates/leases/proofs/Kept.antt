@@ -21,7 +21,7 @@ use native.Mathlib.Omega.{arith}
 use lib.Dec.{eqb, ltb}
 use lib.ListN.{length, length-map, replicate}
 use borrow.Author.Tests.{eqb-true, eqb-false, ltb-false}
-use Rattle.laws.specs.Bytes.{All}
+use Rattle.model_laws.specs.Bytes.{All}
 use Rattle.model.specs.declared.Grant.{Grant}
 use Rattle.model.specs.declared.Notice.{Notice}
 use Rattle.model.specs.declared.Lease.{Lease}
@@ -31,9 +31,14 @@ use Rattle.model.specs.declared.Told.{Told}
 use Rattle.model.specs.declared.Told.the-variants.{ByGrant, ByNotice}
 use Rattle.model.specs.Tables.{every}
 use Rattle.model.specs.Leases.{noLease, newManager, timeAt, runningAt, leaseEnd, isTaken, withNewLease, extended, spanOk, manager, notTold, granted, openOf, renewOf, queryOf}
+use Rattle.model.specs.Limits.{last32, leaseCount}
+use Rattle.model.specs.Refusals.{malformed, leasesFull, numbersOut, unknown}
 use Rattle.leases.specs.WellFormed.{Fresh, Distinct, Placed, WellFormed, Lasts, Covers, Gone, LeaseCall, answerOf, givenTime}
 use Rattle.leases.proofs.Answers.{both-fit}
-use Rattle.leases.proofs.Lists.{pos-of, all-mono, all-entered, all-extended, length-entered, length-extended, running-placed, fresh-running, fresh-entered, fresh-extended, fresh-end, end-fresh, end-zero, end-within, end-known, distinct-running, distinct-entered, distinct-extended, lasts-not, lasts-running, lasts-entered, lasts-extended, entered-lasts, extended-lasts, end-lasts}
+use Rattle.leases.proofs.Lists.{pos-of, all-mono, all-entered, all-extended, length-entered, length-extended, running-placed, fresh-running}
+use Rattle.leases.proofs.Lists.{fresh-entered, fresh-extended, fresh-end, end-fresh, end-zero, end-within, end-known, distinct-running}
+use Rattle.leases.proofs.Lists.{distinct-entered, distinct-extended, lasts-not, lasts-running, lasts-entered, lasts-extended, entered-lasts}
+use Rattle.leases.proofs.Lists.{extended-lasts, end-lasts}
 
 -- ---- the exits: every call is refused, or leaves the manager at the time now with the leases that run then, one of them changed
 
@@ -43,10 +48,10 @@ runs m t = runningAt (timeAt m t) (m .leases)
 
 pub data Exit (m : LeaseManager) (t : ℕ) (a : LeaseAnswer) : Type 0 where
   refused : (n : ℕ) → a ≡ notTold m n → Exit m t a
-  opened : (e : ℕ) → every isTaken (runs m t) ≡ false → m .issued < 4294967295 → timeAt m t < e → e ≤ 4294967295
+  opened : (e : ℕ) → every isTaken (runs m t) ≡ false → m .issued < last32 → timeAt m t < e → e ≤ last32
       → a ≡ granted (manager (timeAt m t) (suc (m .issued)) (withNewLease (record { client = suc (m .issued); lease = e }) (runs m t))) (suc (m .issued)) e
       → Exit m t a
-  renewed : (x e : ℕ) → (leaseEnd x (runs m t) ≡ 0 → ⊥) → leaseEnd x (runs m t) ≤ e → timeAt m t < e → e ≤ max (leaseEnd x (runs m t)) 4294967295
+  renewed : (x e : ℕ) → (leaseEnd x (runs m t) ≡ 0 → ⊥) → leaseEnd x (runs m t) ≤ e → timeAt m t < e → e ≤ max (leaseEnd x (runs m t)) last32
       → a ≡ granted (manager (timeAt m t) (m .issued) (extended x e (runs m t))) x e
       → Exit m t a
   noticed : (x : ℕ) → 1 ≤ x → x ≤ m .issued → leaseEnd x (runs m t) ≡ 0
@@ -64,36 +69,36 @@ span-from (suc n) e = omega arith
 open-exit : (m : LeaseManager) (t span : ℕ) → Exit m t (openOf m t span)
 unfolding openOf
 open-exit m t span =
-    go (spanOk span) (every isTaken (runs m t)) (ltb 4294967295 (suc (m .issued)) || ltb 4294967295 (timeAt m t + span)) refl refl refl
+    go (spanOk span) (every isTaken (runs m t)) (ltb last32 (suc (m .issued)) || ltb last32 (timeAt m t + span)) refl refl refl
   where
-    go : (u v w : Bool) → spanOk span ≡ u → every isTaken (runs m t) ≡ v → (ltb 4294967295 (suc (m .issued)) || ltb 4294967295 (timeAt m t + span)) ≡ w → Exit m t (openOf m t span)
-    go false v w p q r = refused 1 (rw p refl)
-    go true true w p q r = refused 18 (rw (p, q) refl)
-    go true false true p q r = refused 16 (rw (p, q, r) refl)
+    go : (u v w : Bool) → spanOk span ≡ u → every isTaken (runs m t) ≡ v → (ltb last32 (suc (m .issued)) || ltb last32 (timeAt m t + span)) ≡ w → Exit m t (openOf m t span)
+    go false v w p q r = refused malformed (rw p refl)
+    go true true w p q r = refused leasesFull (rw (p, q) refl)
+    go true false true p q r = refused numbersOut (rw (p, q, r) refl)
     go true false false p q r =
-        let f = both-fit 4294967295 (suc (m .issued)) (timeAt m t + span) r in
+        let f = both-fit last32 (suc (m .issued)) (timeAt m t + span) r in
         let s = span-from span p in
         opened (timeAt m t + span) q (f .0) (omega arith) (f .1) (rw (p, q, r) refl)
 
 renew-exit : (m : LeaseManager) (x t span : ℕ) → Exit m t (renewOf m x t span)
 unfolding renewOf
-renew-exit m x t span = go (spanOk span) (eqb (leaseEnd x (runs m t)) 0) (ltb 4294967295 (timeAt m t + span)) refl refl refl
+renew-exit m x t span = go (spanOk span) (eqb (leaseEnd x (runs m t)) 0) (ltb last32 (timeAt m t + span)) refl refl refl
   where
-    go : (u v w : Bool) → spanOk span ≡ u → eqb (leaseEnd x (runs m t)) 0 ≡ v → ltb 4294967295 (timeAt m t + span) ≡ w → Exit m t (renewOf m x t span)
-    go false v w p q r = refused 1 (rw p refl)
-    go true true w p q r = refused 17 (rw (p, q) refl)
-    go true false true p q r = refused 16 (rw (p, q, r) refl)
+    go : (u v w : Bool) → spanOk span ≡ u → eqb (leaseEnd x (runs m t)) 0 ≡ v → ltb last32 (timeAt m t + span) ≡ w → Exit m t (renewOf m x t span)
+    go false v w p q r = refused malformed (rw p refl)
+    go true true w p q r = refused unknown (rw (p, q) refl)
+    go true false true p q r = refused numbersOut (rw (p, q, r) refl)
     go true false false p q r =
         let s = span-from span p in
-        renewed x (max (leaseEnd x (runs m t)) (timeAt m t + span)) (eqb-false _ _ q) (omega arith) (omega arith) (omega (arith, ltb-false 4294967295 (timeAt m t + span) r)) (rw (p, q, r) refl)
+        renewed x (max (leaseEnd x (runs m t)) (timeAt m t + span)) (eqb-false _ _ q) (omega arith) (omega arith) (omega (arith, ltb-false last32 (timeAt m t + span) r)) (rw (p, q, r) refl)
 
 query-exit : (m : LeaseManager) (x t : ℕ) → Exit m t (queryOf m x t)
 unfolding queryOf
 query-exit m x t = go (eqb x 0) (ltb (m .issued) x) (eqb (leaseEnd x (runs m t)) 0) refl refl refl
   where
     go : (u v w : Bool) → eqb x 0 ≡ u → ltb (m .issued) x ≡ v → eqb (leaseEnd x (runs m t)) 0 ≡ w → Exit m t (queryOf m x t)
-    go true v w p q r = refused 17 (rw p refl)
-    go false true w p q r = refused 17 (rw (p, q) refl)
+    go true v w p q r = refused unknown (rw p refl)
+    go false true w p q r = refused unknown (rw (p, q) refl)
     go false false true p q r = noticed x (pos-of x (eqb-false _ _ p)) (ltb-false _ _ q) (eqb-true _ _ r) (rw (p, q, r) refl)
     go false false false p q r = found x (pos-of x (eqb-false _ _ p)) (ltb-false _ _ q) (eqb-false _ _ r) (rw (p, q, r) refl)
 
@@ -106,7 +111,7 @@ call-exit m (LeaseCall.queries x t) = query-exit m x t
 -- ---- well formed
 
 pub new-well : WellFormed newManager
-new-well = record { timed = omega arith; numbered = omega arith; places = refl; each = all-free 32; distinct = all-apart 32 }
+new-well = record { timed = omega arith; numbered = omega arith; places = refl; each = all-free leaseCount; distinct = all-apart leaseCount }
   where
     all-free : (n : ℕ) → All (Placed 0 0) (replicate n noLease)
     all-free zero = tt
@@ -131,14 +136,14 @@ module _ {m : LeaseManager} (w : WellFormed m) where
   runs-new : (t : ℕ) → Fresh (suc (m .issued)) (runs m t)
   runs-new t = all-mono (Placed (timeAt m t) (m .issued)) (λ (l : Lease). l .client ≡ suc (m .issued) → ⊥) (λ l p e. omega (arith, p .known)) (runs m t) (runs-placed t)
 
-  time-within : (t : ℕ) → t ≤ 4294967295 → timeAt m t ≤ 4294967295
+  time-within : (t : ℕ) → t ≤ last32 → timeAt m t ≤ last32
   unfolding timeAt
   time-within t z = omega (arith, w .timed)
 
   renewed-from : (x t : ℕ) → (leaseEnd x (runs m t) ≡ 0 → ⊥) → 1 ≤ x
   renewed-from x t n = pos-of x (λ z. n (subst (λ (y : ℕ). leaseEnd y (runs m t) ≡ 0) (sym z) (end-zero (timeAt m t) (m .issued) (runs m t) (runs-placed t))))
 
-  exit-well : (t : ℕ) (a : LeaseAnswer) → Exit m t a → t ≤ 4294967295 → WellFormed (a .manager)
+  exit-well : (t : ℕ) (a : LeaseAnswer) → Exit m t a → t ≤ last32 → WellFormed (a .manager)
   unfolding notTold granted manager
   exit-well t a (refused n e) z = rw e w
   exit-well t a (opened f q i k l e) z =
@@ -149,7 +154,8 @@ module _ {m : LeaseManager} (w : WellFormed m) where
         numbered = i;
         places = length-entered n (runs m t) ∙ length-runs m t ∙ w .places;
         each = all-entered (Placed (timeAt m t) (suc (m .issued))) n (record { known = omega arith; running = λ _. k; within = l; free = λ z. absurd (omega arith) }) (runs m t)
-            (all-mono (Placed (timeAt m t) (m .issued)) (Placed (timeAt m t) (suc (m .issued))) (λ j p. record { known = omega (arith, p .known); running = p .running; within = p .within; free = p .free }) (runs m t) (runs-placed t));
+            (all-mono (Placed (timeAt m t) (m .issued)) (Placed (timeAt m t) (suc (m .issued)))
+            (λ j p. record { known = omega (arith, p .known); running = p .running; within = p .within; free = p .free }) (runs m t) (runs-placed t));
         distinct = distinct-entered n (runs m t) (runs-new t) (distinct-running (timeAt m t) (m .leases) (w .distinct));
       })
   exit-well t a (renewed x f n u k v e) z =
@@ -160,31 +166,35 @@ module _ {m : LeaseManager} (w : WellFormed m) where
         timed = time-within t z;
         numbered = w .numbered;
         places = length-extended x f (runs m t) ∙ length-runs m t ∙ w .places;
-        each = all-extended (Placed (timeAt m t) (m .issued)) x f (runs m t) (λ l q p. record { known = omega (arith, p .known); running = λ _. k; within = omega arith; free = λ z. absurd (omega arith) }) (runs-placed t);
+        each =
+            all-extended (Placed (timeAt m t) (m .issued)) x f (runs m t)
+            (λ l q p. record { known = omega (arith, p .known); running = λ _. k; within = omega arith; free = λ z. absurd (omega arith) }) (runs-placed t);
         distinct = distinct-extended x f (runs m t) (distinct-running (timeAt m t) (m .leases) (w .distinct));
       })
-  exit-well t a (noticed x h k n e) z = rw e (record { timed = time-within t z; numbered = w .numbered; places = length-runs m t ∙ w .places; each = runs-placed t; distinct = distinct-running (timeAt m t) (m .leases) (w .distinct) })
-  exit-well t a (found x h k n e) z = rw e (record { timed = time-within t z; numbered = w .numbered; places = length-runs m t ∙ w .places; each = runs-placed t; distinct = distinct-running (timeAt m t) (m .leases) (w .distinct) })
+  exit-well t a (noticed x h k n e) z =
+      rw e (record { timed = time-within t z; numbered = w .numbered; places = length-runs m t ∙ w .places; each = runs-placed t; distinct = distinct-running (timeAt m t) (m .leases) (w .distinct) })
+  exit-well t a (found x h k n e) z =
+      rw e (record { timed = time-within t z; numbered = w .numbered; places = length-runs m t ∙ w .places; each = runs-placed t; distinct = distinct-running (timeAt m t) (m .leases) (w .distinct) })
 
-  pub call-well : (c : LeaseCall) → givenTime c ≤ 4294967295 → WellFormed (answerOf m c .manager)
+  pub call-well : (c : LeaseCall) → givenTime c ≤ last32 → WellFormed (answerOf m c .manager)
   call-well c z = exit-well (givenTime c) (answerOf m c) (call-exit m c) z
 
 -- a grant: its client was issued, its end is within 32 bits
 pub grant-within : {m : LeaseManager} → WellFormed m → (c : LeaseCall) (g : Grant) → answerOf m c .answer ≡ ByGrant g
-    → (1 ≤ g .client) × (g .client ≤ 4294967295) × (g .lease ≤ 4294967295)
+    → (1 ≤ g .client) × (g .client ≤ last32) × (g .lease ≤ last32)
 unfolding notTold granted manager
 grant-within {m} w c g = go (givenTime c) (answerOf m c) (call-exit m c)
   where
     answer-of : {a : LeaseAnswer} {k : LeaseManager} {x e : ℕ} → a ≡ granted k x e → a .answer ≡ ByGrant (record { client = x; lease = e })
     answer-of q = ap (λ (v : LeaseAnswer). v .answer) q
 
-    out : (x e : ℕ) {r : Told} → r ≡ ByGrant (record { client = x; lease = e }) → r ≡ ByGrant g → (1 ≤ x) × (x ≤ 4294967295) × (e ≤ 4294967295)
-        → (1 ≤ g .client) × (g .client ≤ 4294967295) × (g .lease ≤ 4294967295)
+    out : (x e : ℕ) {r : Told} → r ≡ ByGrant (record { client = x; lease = e }) → r ≡ ByGrant g → (1 ≤ x) × (x ≤ last32) × (e ≤ last32)
+        → (1 ≤ g .client) × (g .client ≤ last32) × (g .lease ≤ last32)
     out x e q s b =
         let z : record { client = x; lease = e } ≡ g = cc in
-        subst (λ (v : Grant). (1 ≤ v .client) × (v .client ≤ 4294967295) × (v .lease ≤ 4294967295)) z b
+        subst (λ (v : Grant). (1 ≤ v .client) × (v .client ≤ last32) × (v .lease ≤ last32)) z b
 
-    go : (t : ℕ) (a : LeaseAnswer) → Exit m t a → a .answer ≡ ByGrant g → (1 ≤ g .client) × (g .client ≤ 4294967295) × (g .lease ≤ 4294967295)
+    go : (t : ℕ) (a : LeaseAnswer) → Exit m t a → a .answer ≡ ByGrant g → (1 ≤ g .client) × (g .client ≤ last32) × (g .lease ≤ last32)
     go t a (refused n q) s = let f = ap (λ (x : LeaseAnswer). x .answer) (sym q) ∙ s in let z : _≡_ {A = ℕ} 0 1 = cc in absurd (omega arith)
     go t a (opened f u i k l q) s = out (suc (m .issued)) f (answer-of q) s (omega arith, i, l)
     go t a (renewed y f n u k v q) s =
@@ -225,9 +235,9 @@ pub open-number : (m : LeaseManager) (t span : ℕ) (g : Grant) → openOf m t s
     → (g .client ≡ suc (m .issued)) × (openOf m t span .manager .issued ≡ suc (m .issued))
 unfolding openOf notTold granted manager
 open-number m t span g =
-    go (spanOk span) (every isTaken (runs m t)) (ltb 4294967295 (suc (m .issued)) || ltb 4294967295 (timeAt m t + span)) refl refl refl
+    go (spanOk span) (every isTaken (runs m t)) (ltb last32 (suc (m .issued)) || ltb last32 (timeAt m t + span)) refl refl refl
   where
-    go : (u v w : Bool) → spanOk span ≡ u → every isTaken (runs m t) ≡ v → (ltb 4294967295 (suc (m .issued)) || ltb 4294967295 (timeAt m t + span)) ≡ w
+    go : (u v w : Bool) → spanOk span ≡ u → every isTaken (runs m t) ≡ v → (ltb last32 (suc (m .issued)) || ltb last32 (timeAt m t + span)) ≡ w
         → openOf m t span .answer ≡ ByGrant g → (g .client ≡ suc (m .issued)) × (openOf m t span .manager .issued ≡ suc (m .issued))
     go false v w p q r = rw p (λ s. let z : _≡_ {A = ℕ} 0 1 = cc in absurd (omega arith))
     go true true w p q r = rw (p, q) (λ s. let z : _≡_ {A = ℕ} 0 1 = cc in absurd (omega arith))
@@ -292,7 +302,12 @@ call-gone m c x p = go (givenTime c) (answerOf m c) (call-exit m c)
     go : (t : ℕ) (a : LeaseAnswer) → Exit m t a → Gone (a .manager) x
     go t a (refused n q) = rw q p
     go t a (opened f u i k l q) =
-        rw q (record { from = p .from; issued = omega (arith, p .issued); fresh = fresh-entered x (record { client = suc (m .issued); lease = f }) (λ e. omega (arith, p .issued)) (runs m t) (runs-fresh t) })
+        rw q (record {
+          from = p .from;
+          issued = omega (arith, p .issued);
+          fresh = fresh-entered x (record { client = suc (m .issued); lease = f }) (λ e. omega (arith, p .issued))
+              (runs m t) (runs-fresh t);
+        })
     go t a (renewed y f n u k v q) = rw q (record { from = p .from; issued = p .issued; fresh = fresh-extended x y f (runs m t) (runs-fresh t) })
     go t a (noticed y g k n q) = rw q (record { from = p .from; issued = p .issued; fresh = runs-fresh t })
     go t a (found y g k n q) = rw q (record { from = p .from; issued = p .issued; fresh = runs-fresh t })

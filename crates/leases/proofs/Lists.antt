@@ -17,12 +17,13 @@ use native.Mathlib.Omega.{arith}
 use lib.Dec.{eqb, leb}
 use lib.ListN.{length}
 use borrow.Author.Tests.{eqb-true, eqb-false, leb-true, leb-false}
-use Rattle.laws.specs.Bytes.{All}
-use Rattle.laws.proofs.Tests.{choose}
+use Rattle.model_laws.specs.Bytes.{All}
+use Rattle.model_laws.proofs.Tests.{choose}
 use Rattle.model.specs.declared.Lease.{Lease}
 use Rattle.model.specs.Choice.{pick}
 use Rattle.model.specs.Tables.{every}
 use Rattle.model.specs.Leases.{noLease, endedAt, runningAt, leaseEnd, isTaken, withNewLease, extended}
+use Rattle.model.specs.Limits.{last32}
 use Rattle.leases.specs.WellFormed.{Fresh, Distinct, Placed, Lasts}
 
 -- ---- tests
@@ -102,7 +103,8 @@ running-placed now time issued =
 
 pub fresh-running : (now x : ℕ) → 1 ≤ x → (ls : List Lease) → Fresh x ls → Fresh x (runningAt now ls)
 unfolding runningAt
-fresh-running now x h = all-map (λ (k : Lease). k .client ≡ x → ⊥) (λ (k : Lease). k .client ≡ x → ⊥) (endedAt now) (λ l p. ended-each (λ (k : Lease). k .client ≡ x → ⊥) now l (λ _ e. omega arith) (λ _ _. p))
+fresh-running now x h =
+    all-map (λ (k : Lease). k .client ≡ x → ⊥) (λ (k : Lease). k .client ≡ x → ⊥) (endedAt now) (λ l p. ended-each (λ (k : Lease). k .client ≡ x → ⊥) now l (λ _ e. omega arith) (λ _ _. p))
 
 pub fresh-entered : (x : ℕ) (n : Lease) → (n .client ≡ x → ⊥) → (ls : List Lease) → Fresh x ls → Fresh x (withNewLease n ls)
 fresh-entered x n p = all-entered (λ (l : Lease). l .client ≡ x → ⊥) n p
@@ -131,11 +133,11 @@ end-zero time issued [] a = refl
 end-zero time issued (l ∷ ls) a =
     choose (λ (n : ℕ). n ≡ 0) (eqb (l .client) 0) (λ q. a .0 .free (eqb-true _ _ q)) (λ _. end-zero time issued ls (a .1))
 
-pub end-within : (time issued x : ℕ) (ls : List Lease) → All (Placed time issued) ls → leaseEnd x ls ≤ 4294967295
+pub end-within : (time issued x : ℕ) (ls : List Lease) → All (Placed time issued) ls → leaseEnd x ls ≤ last32
 unfolding leaseEnd
 end-within time issued x [] a = omega arith
 end-within time issued x (l ∷ ls) a =
-    choose (λ (n : ℕ). n ≤ 4294967295) (eqb (l .client) x) (λ _. a .0 .within) (λ _. end-within time issued x ls (a .1))
+    choose (λ (n : ℕ). n ≤ last32) (eqb (l .client) x) (λ _. a .0 .within) (λ _. end-within time issued x ls (a .1))
 
 pub end-known : (time issued x : ℕ) (ls : List Lease) → All (Placed time issued) ls → (leaseEnd x ls ≡ 0 → ⊥) → x ≤ issued
 unfolding leaseEnd
@@ -222,7 +224,8 @@ unfolding withNewLease every
 entered-lasts n [] q = absurd (false≢true (sym q))
 entered-lasts n (l ∷ ls) q = go (isTaken l) refl q (entered-lasts n ls)
   where
-    go : (b : Bool) → isTaken l ≡ b → (b && every isTaken ls) ≡ false → (every isTaken ls ≡ false → Lasts (n .client) (n .lease) (withNewLease n ls)) → Lasts (n .client) (n .lease) (pick b (l ∷ withNewLease n ls) (n ∷ ls))
+    go : (b : Bool) → isTaken l ≡ b → (b && every isTaken ls) ≡ false → (every isTaken ls ≡ false → Lasts (n .client) (n .lease) (withNewLease n ls))
+        → Lasts (n .client) (n .lease) (pick b (l ∷ withNewLease n ls) (n ∷ ls))
     go true t f ih = inr (ih f)
     go false t f ih = inl (refl, omega arith)
 
@@ -231,7 +234,8 @@ unfolding extended leaseEnd
 extended-lasts x e [] n = absurd (n refl)
 extended-lasts x e (l ∷ ls) n = go (eqb (l .client) x) refl n (extended-lasts x e ls)
   where
-    go : (b : Bool) → eqb (l .client) x ≡ b → (pick b (l .lease) (leaseEnd x ls) ≡ 0 → ⊥) → ((leaseEnd x ls ≡ 0 → ⊥) → Lasts x e (extended x e ls)) → Lasts x e (pick b (record { client = x; lease = e } ∷ ls) (l ∷ extended x e ls))
+    go : (b : Bool) → eqb (l .client) x ≡ b → (pick b (l .lease) (leaseEnd x ls) ≡ 0 → ⊥) → ((leaseEnd x ls ≡ 0 → ⊥) → Lasts x e (extended x e ls))
+        → Lasts x e (pick b (record { client = x; lease = e } ∷ ls) (l ∷ extended x e ls))
     go true q m ih = inl (refl, omega arith)
     go false q m ih = inr (ih m)
 
@@ -240,6 +244,7 @@ unfolding leaseEnd
 end-lasts x [] n = absurd (n refl)
 end-lasts x (l ∷ ls) n = go (eqb (l .client) x) refl n (end-lasts x ls)
   where
-    go : (b : Bool) → eqb (l .client) x ≡ b → (pick b (l .lease) (leaseEnd x ls) ≡ 0 → ⊥) → ((leaseEnd x ls ≡ 0 → ⊥) → Lasts x (leaseEnd x ls) ls) → Lasts x (pick b (l .lease) (leaseEnd x ls)) (l ∷ ls)
+    go : (b : Bool) → eqb (l .client) x ≡ b → (pick b (l .lease) (leaseEnd x ls) ≡ 0 → ⊥) → ((leaseEnd x ls ≡ 0 → ⊥) → Lasts x (leaseEnd x ls) ls)
+        → Lasts x (pick b (l .lease) (leaseEnd x ls)) (l ∷ ls)
     go true q m ih = inl (eqb-true _ _ q, omega arith)
     go false q m ih = inr (ih m)

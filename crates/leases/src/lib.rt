@@ -3,7 +3,6 @@ use model::constants;
 use model::constants::LEASE_COUNT;
 ghost use mathlib.Core.Path.{_≡_};
 ghost use mathlib.Core.Bool.{_||_};
-ghost use Prim.Native.Nat.{max};
 ghost use lib.Dec.{eqb, leb};
 ghost use Rattle.model.specs.Leases.{timeAt, endedAt, runningAt, leaseEnd, isTaken, withNewLease, extended, spanOk, manager, notTold, granted, openOf, renewOf, queryOf};
 ghost use Rattle.model.specs.Tables.{every};
@@ -85,7 +84,7 @@ fn all_taken(ls: [Lease; LEASE_COUNT]) -> bool
     true
 }
 
-fn entered(n: Lease, ls: [Lease; LEASE_COUNT]) -> [Lease; LEASE_COUNT]
+fn with_new_lease(n: Lease, ls: [Lease; LEASE_COUNT]) -> [Lease; LEASE_COUNT]
     ensures { λ r. ⌜ r ≡ withNewLease n ls ⌝ }
 {
     let mut out = ls;
@@ -122,19 +121,10 @@ fn extended(x: u32, e: u32, ls: [Lease; LEASE_COUNT]) -> [Lease; LEASE_COUNT]
 
 // ---- what the operations are made of
 
-fn greater(a: u32, b: u32) -> u32
-    ensures { λ r. ⌜ r ≡ max a b ⌝ }
-{
-    if a < b {
-        return b;
-    }
-    a
-}
-
 fn time_at(m: LeaseManager, t: u32) -> u32
     ensures { λ r. ⌜ r ≡ timeAt m t ⌝ }
 {
-    greater(m.time, t)
+    format_numbers::greater(m.time, t)
 }
 
 fn span_ok(span: u32) -> bool
@@ -176,7 +166,7 @@ fn granted(m: LeaseManager, x: u32, e: u32) -> LeaseAnswer
 
 // ---- the operations
 
-// Open (time, span): 1 span outside 1 to 86,400; 18 full; 16 client number or end past 32 bits.
+// Open: 1 a span outside 1 to 86,400; 18 no place for a lease; 16 a client number or an end past 32 bits.
 pub fn open_lease(m: LeaseManager, time: u32, span: u32) -> LeaseAnswer
     ensures { λ r. ⌜ r ≡ openOf m time span ⌝ }
 {
@@ -196,7 +186,7 @@ pub fn open_lease(m: LeaseManager, time: u32, span: u32) -> LeaseAnswer
     }
     let client = x as u32;
     let lease = end as u32;
-    let next = entered(Lease { client, lease }, ls);
+    let next = with_new_lease(Lease { client, lease }, ls);
     granted(manager(now, client, next), client, lease)
 }
 
@@ -218,12 +208,12 @@ pub fn renew(m: LeaseManager, x: u32, time: u32, span: u32) -> LeaseAnswer
     if constants::LAST_32_U64 < end {
         return not_told(m, constants::NUMBERS_OUT);
     }
-    let lease = greater(old, end as u32);
+    let lease = format_numbers::greater(old, end as u32);
     let next = extended(x, lease, ls);
     granted(manager(now, m.issued, next), x, lease)
 }
 
-// Query (client, time): 17 never issued; a grant if running, else a notice with the manager's time.
+// Query: 17 a number that was never given out; else a grant or, where no lease runs, a notice with the manager's time.
 pub fn query(m: LeaseManager, x: u32, time: u32) -> LeaseAnswer
     ensures { λ r. ⌜ r ≡ queryOf m x time ⌝ }
 {

@@ -1,15 +1,21 @@
--- Choice by a test, and what a call decides. The number of ordered refusals reads as in the paper:
+-- Choice by a test, and what a call decides. The number of ordered refusals reads as in docs/REFERENCE.md:
 --     3 if not-held else 4 if lease-over else .. else passed
 -- Assumes nothing.
 use Prim.Native.Nat.{ℕ}
 use mathlib.Core.Bool.{Bool, true, false}
 use mathlib.Core.List.{List}
+use mathlib.Core.Option.{Option, none, some}
 use lib.Dec.{eqb}
 
 -- a where t holds, else b
 abbrev pub pick : {A : Type 0} → Bool → A → A → A
 pick true a b = a
 pick false a b = b
+
+-- what is made of what was found, or b where nothing was
+abbrev pub orElse : {A B : Type 0} → Option A → B → (A → B) → B
+orElse none b f = b
+orElse (some x) b f = f x
 
 -- What a server's call decides; `R` is the type of log records.
 --     refuse n     the refusal's number, and nothing changes

@@ -11,7 +11,6 @@ use Rattle.model.specs.declared.ResultPacket.{ResultPacket}
 use Rattle.model.specs.declared.RefusalPacket.{RefusalPacket}
 use Rattle.model.specs.declared.Grant.{Grant}
 use Rattle.model.specs.declared.Packet.{Packet}
-use Rattle.model.specs.declared.Packet.the-variants.{Malformed, Requested, Resulted, Refused, Receipted, Noticed, Granted}
 use Rattle.model.specs.declared.OpenCall.{OpenCall}
 use Rattle.model.specs.declared.Client.{Client}
 use Rattle.model.specs.declared.Started.{Started}
@@ -25,11 +24,11 @@ use Rattle.model.specs.declared.SendAnswer.{SendAnswer}
 use Rattle.model.specs.declared.ReceiveAnswer.{ReceiveAnswer}
 use Rattle.model.specs.declared.Command.{Command}
 use Rattle.model.specs.declared.CommandResult.{CommandResult}
-use Rattle.model.specs.Choice.{pick}
+use Rattle.model.specs.Choice.{pick, orElse}
 use Rattle.model.specs.Numbers.{half}
 use Rattle.model.specs.Refusals.{noRefusal, malformed, windowFull, numbersOut, unknown}
 use Rattle.model.specs.Limits.{last32, callWindow, resultKind, refusalKind, grantKind}
-use Rattle.model.specs.Packets.{parsePacket, commandOk, requestBytes}
+use Rattle.model.specs.Packets.{parsePacket, commandOk, requestBytes, ClientPacket, result, refusal, grant, asGrant, asClientPacket}
 
 abbrev pub noCall : OpenCall
 noCall = record { call = 0; op = 0; point = 0; argument = 0 }
@@ -78,20 +77,20 @@ requestFor d k =
 
 -- ---- Start: 1 not a grant. The next number is 1
 
-unfoldable pub startWith : Packet → StartAnswer
-startWith Malformed = record { client = noClient; answer = NotStarted malformed }
-startWith (Requested q) = record { client = noClient; answer = NotStarted malformed }
-startWith (Resulted r) = record { client = noClient; answer = NotStarted malformed }
-startWith (Refused r) = record { client = noClient; answer = NotStarted malformed }
-startWith (Receipted r) = record { client = noClient; answer = NotStarted malformed }
-startWith (Noticed n) = record { client = noClient; answer = NotStarted malformed }
-startWith (Granted g) =
+abbrev pub notStarted : StartAnswer
+notStarted = record { client = noClient; answer = NotStarted malformed }
+
+abbrev pub started : Grant → StartAnswer
+started g =
     record { client = record { client = g .client; lease = g .lease; next = 1; calls = replicate callWindow noCall }; answer = Running }
+
+unfoldable pub startWith : Packet → StartAnswer
+startWith p = orElse (asGrant p) notStarted started
 
 unfoldable pub startOf : List ℕ → StartAnswer
 startOf packet = startWith (parsePacket packet)
 
--- ---- Issue: 1; 15 next − first open ≥ 16; 16 next is 4,294,967,295
+-- ---- Issue: 1 no such command; 15 next is 16 or more above the first open call; 16 next is the greatest number
 
 unfoldable pub newCall : Client → ℕ → ℕ → ℕ → OpenCall
 newCall d op point a = record { call = d .next; op = op; point = point; argument = a }
@@ -117,7 +116,8 @@ issueOf d op point a =
 unfoldable pub resendOf : Client → ℕ → SendAnswer
 resendOf d c = pick (isOpen d c) (sent d (callAt d c)) (notSent d unknown)
 
--- ---- Receive: 1 malformed, or not kind 2, 3 or 6; 17 other client, call not open, other point, or an earlier lease end
+-- ---- Receive: 1 no well-formed result, refusal or grant; 17 not for this client and an open call of it on that point, or a lease end
+-- that falls
 
 -- the packet is of this client and of an open call on its point
 unfoldable pub isOwn : Client → ℕ → ℕ → ℕ → Bool
@@ -140,19 +140,18 @@ receiveGrant d g =
     pick (eqb (g .client) (d .client) && leb (d .lease) (g .lease)) (record { client = withLease d (g .lease); answer = Extended g })
     (notReceived d unknown)
 
+abbrev pub receivePacket : Client → ClientPacket → ReceiveAnswer
+receivePacket d (result r) = receiveResult d r
+receivePacket d (refusal r) = receiveRefusal d r
+receivePacket d (grant g) = receiveGrant d g
+
 unfoldable pub receiveWith : Client → Packet → ReceiveAnswer
-receiveWith d Malformed = notReceived d malformed
-receiveWith d (Requested q) = notReceived d malformed
-receiveWith d (Resulted r) = receiveResult d r
-receiveWith d (Refused r) = receiveRefusal d r
-receiveWith d (Receipted r) = notReceived d malformed
-receiveWith d (Noticed n) = notReceived d malformed
-receiveWith d (Granted g) = receiveGrant d g
+receiveWith d p = orElse (asClientPacket p) (notReceived d malformed) (receivePacket d)
 
 unfoldable pub receiveOf : Client → List ℕ → ReceiveAnswer
 receiveOf d packet = receiveWith d (parsePacket packet)
 
--- ---- the paper's number for every answer, 0 where nothing is refused
+-- ---- the refusal's number of every answer, 0 where nothing is refused
 
 unfoldable pub startNumber : Started → ℕ
 startNumber (NotStarted n) = n

@@ -1,5 +1,5 @@
 -- What each call of a server decides on its state. Its tests are functions on values that give the refusal's number, in the order of
--- the paper's lines; then comes what it does. Recovery asks the same functions. `free` is the space left in the log. The tests of lent
+-- docs/REFERENCE.md; then comes what it does. Recovery asks the same functions. `free` is the space left in the log. The tests of lent
 -- memory (2, 19) stand before these, in Operations.
 -- Assumes nothing.
 use Prim.Native.Nat.{ℕ, zero, suc, _+_}
@@ -23,7 +23,7 @@ use Rattle.model.specs.declared.ImageEntry.{ImageEntry}
 use Rattle.model.specs.declared.Point.{Point}
 use Rattle.model.specs.declared.Completion.{Completion}
 use Rattle.model.specs.declared.Packet.{Packet}
-use Rattle.model.specs.Choice.{pick, Decision, refuse, deny, reply, append, marks, _if_else_, passed, isPassed, unlessRefused}
+use Rattle.model.specs.Choice.{pick, orElse, Decision, refuse, deny, reply, append, marks, _if_else_, passed, isPassed, unlessRefused}
 use Rattle.model.specs.Refusals.{malformed, notHeld, leaseOver, underFloor, otherCommand, notSynced, clientsFull, logFull, badMark, wrongDestination, oldMove, alreadyHeld, numbersOut, unknown}
 use Rattle.model.specs.Limits.{lastPoint, lastServer, last32, clientCount, executedSize, goneSize, giveSize, takeHead, releaseSize}
 use Rattle.model.specs.Tables.{every, keep}
@@ -41,15 +41,14 @@ Decided = Decision LogRecord
 
 -- what is decided on a packet of the kind asked for, or on an image; 1 where there is none
 unfoldable pub orMalformed : {A : Type 0} → Option A → (A → Decided) → Decided
-orMalformed none f = refuse malformed
-orMalformed (some x) f = f x
+orMalformed o f = orElse o (refuse malformed) f
 
 -- the completion record of an id
 unfoldable pub find : ℕ → ℕ → List Completion → Option Completion
 find x c [] = none
 find x c (r ∷ rs) = pick (isId x c r) (some r) (find x c rs)
 
--- ---- Request: 3 point not held; 4 lease end ≤ heard time; 5 call under the floor; then by whether the id is held
+-- ---- Request: 3 the point is not held; 4 the lease is over; 5 the call is under its floor; then by whether the id is held
 
 -- `over`: the lease is over
 unfoldable pub requestRefusal : Point → Bool → ℕ → ℕ → ℕ
@@ -90,7 +89,7 @@ resultFor v st q =
 unfoldable pub executedFor : Versions → State → Request → Executed
 executedFor v st q = record { command = q .command; done = q .done; result = resultFor v st q }
 
--- an id that is not held: 8 client not known and 32 known; 9 log lacks 28 bytes; else it is executed
+-- an id that is not held: 8 a new client without a place; 9 no space for the record; else the command is executed
 unfoldable pub newRefusal : ℕ → ℕ → ℕ → ℕ
 newRefusal floor clients free =
     clientsFull if (notKnown floor && leb clientCount clients)
@@ -124,7 +123,7 @@ denying q (marks m) = marks m
 unfoldable pub onRequest : Versions → State → ℕ → Packet → Decided
 onRequest v st free p = orMalformed (asRequest p) (λ q. denying q (decideRequest v st free q))
 
--- ---- Fetch (client, call): 17 none held; 7 not synced; else the result packet
+-- ---- Fetch, of an id: 17 it is not held; 7 its record is not synced; else its result packet
 
 unfoldable pub fetchRefusal : ℕ → Completion → ℕ
 fetchRefusal mark r = notSynced if not (isSynced mark (r .end)) else passed
@@ -136,7 +135,7 @@ onFetched st (some r) = unlessRefused (fetchRefusal (st .mark) r) (reply (result
 unfoldable pub onFetch : State → ℕ → ℕ → Decided
 onFetch st x c = onFetched st (find x c (st .records))
 
--- ---- Sync (mark): 10 below the present mark or above the log's length
+-- ---- Sync, to a mark: 10 if it falls, or passes the log's length
 
 unfoldable pub syncRefusal : ℕ → ℕ → ℕ → ℕ
 syncRefusal mark size m = badMark if (ltb m mark || ltb size m) else passed
@@ -176,7 +175,7 @@ onGive st free p d =
     unlessRefused (malformed if placesBad p d else giveRefusal (pointAt st p) (st .server) free d)
     (append (gave (record { point = p; destination = d; moveNumber = suc (pointAt st p .moveNumber) })))
 
--- ---- Image (point): 1; 3 not given, or released; 7 give not synced
+-- ---- Image, of a point: 1 no point; 3 it is not given, or no longer; 7 its give is not synced
 
 unfoldable pub isOnPoint : ℕ → Completion → Bool
 isOnPoint p r = eqb (r .command .point) p
@@ -221,8 +220,8 @@ unfoldable pub onImage : State → ℕ → Decided
 onImage st p =
     unlessRefused (malformed if ltb lastPoint p else imageRefusal (pointAt st p) (st .mark)) (reply (imageBytes (imageFor st p)))
 
--- ---- Take: 1; 11 other destination; 12 move ≤ own move number; 13 point held here, or an id held for another point; 8 more than 32
--- clients after merging; 9
+-- ---- Take: 1 malformed, or a value out of range; 11 for another server; 12 no later move; 13 held here, or an id that is here for another
+-- point; 8 too many clients once the floors are merged; 9 no space
 
 -- an id is not held for another point than p
 unfoldable pub freeFor : ℕ → List Completion → ImageEntry → Bool
@@ -252,7 +251,7 @@ decideTake st free i = unlessRefused (takeTests st free i) (append (took i))
 unfoldable pub onTake : State → ℕ → Option Image → Decided
 onTake st free o = orMalformed o (decideTake st free)
 
--- ---- Receipt (point): 1; 3 never taken; 7 latest take not synced; names the latest taken move
+-- ---- Receipt, of a point: 1 no point; 3 it was never taken; 7 its latest take is not synced; else that take's move
 
 unfoldable pub receiptRefusal : Point → ℕ → ℕ
 receiptRefusal x mark =
@@ -265,7 +264,7 @@ onReceipt st p =
     unlessRefused (malformed if ltb lastPoint p else receiptRefusal (pointAt st p) (st .mark))
     (reply (receiptBytes (record { point = p; server = st .server; moveNumber = pointAt st p .takenMove })))
 
--- ---- Release: 1; 3 not given, or released; 12 receipt's move below the given move; 9
+-- ---- Release: 1 no receipt; 3 the point is not given, or no longer; 12 a receipt of an earlier move; 9 no space
 
 unfoldable pub releaseRefusal : Point → ℕ → ℕ → ℕ
 releaseRefusal x free m =

@@ -17,7 +17,6 @@ use Rattle.model.specs.Choice.{pick}
 use Rattle.model.specs.Numbers.{byteAt, le32At, le32, signedAt, signed32, zeroAt, zeros3At, quad}
 use Rattle.model.specs.Tables.{rows, everyRow, bytesOf, every}
 use Rattle.model.specs.Plan.{inRange}
-use Rattle.model.specs.Refusals.{noRefusal, malformed}
 use Rattle.model.specs.Packets.{idOk, commandOk, outcomeOk}
 use Rattle.model.specs.Limits.{lastPoint, lastServer, lastQuality, lastInWindow, clientCount, greatestImage, leastImage, partsStart, pointPart, floorRow, entryRow}
 
@@ -172,11 +171,6 @@ imageOk s =
 
 unfoldable pub parseImage : List ℕ → Option Image
 parseImage s = pick (imageOk s) (some (imageAt (imageHeadOf s) s)) none
-
--- the paper's number for what the reader of images finds
-unfoldable pub imageNumber : Option Image → ℕ
-imageNumber none = malformed
-imageNumber (some i) = noRefusal
 
 -- the values lie in the point's range
 unfoldable pub entryInRange : PlanEntry → ImageEntry → Bool

@@ -67,7 +67,7 @@ notTold m n = record { manager = m; answer = NotTold n }
 unfoldable pub granted : LeaseManager → ℕ → ℕ → LeaseAnswer
 granted m x e = record { manager = m; answer = ByGrant (record { client = x; lease = e }) }
 
--- ---- Open (time, span): 1 span outside 1 to 86,400; 18 full; 16 client number or end past 32 bits
+-- ---- Open, with time and span: 1 the span is outside 1 to 86,400; 18 no place; 16 the client number or the end passes 32 bits
 
 unfoldable pub openOf : LeaseManager → ℕ → ℕ → LeaseAnswer
 openOf m t span =
@@ -79,7 +79,7 @@ openOf m t span =
     (pick (ltb last32 x || ltb last32 (now + span)) (notTold m numbersOut)
     (granted (manager now x (withNewLease (record { client = x; lease = now + span }) ls)) x (now + span))))
 
--- ---- Renew (client, time, span): 1; 17 no running lease; 16. The end becomes the time + span if that is greater
+-- ---- Renew, with client, time and span: 1 as Open; 17 its lease does not run; 16 the sum passes 32 bits. The later end holds
 
 unfoldable pub renewOf : LeaseManager → ℕ → ℕ → ℕ → LeaseAnswer
 renewOf m x t span =
@@ -91,7 +91,7 @@ renewOf m x t span =
     (pick (ltb last32 (now + span)) (notTold m numbersOut)
     (granted (manager now (m .issued) (extended x e ls)) x e)))
 
--- ---- Query (client, time): 17 never issued; a grant if running, else a notice with the manager's time
+-- ---- Query, with client and time: 17 a number not given out; else a grant, or a notice with the manager's time where no lease runs
 
 unfoldable pub queryOf : LeaseManager → ℕ → ℕ → LeaseAnswer
 queryOf m x t =
@@ -102,7 +102,7 @@ queryOf m x t =
     (record { manager = manager now (m .issued) ls; answer = ByNotice (record { client = x; time = now }) })
     (granted (manager now (m .issued) ls) x (leaseEnd x ls)))
 
--- ---- the paper's number for every answer, and its packet
+-- ---- the refusal's number of every answer, and its packet
 
 unfoldable pub toldNumber : Told → ℕ
 toldNumber (NotTold n) = n

@@ -1,4 +1,4 @@
--- What is promised: the definitions of paper 01, in its order. Other crates' contracts and theorems cite these.
+-- What is promised: the definitions behind docs/REFERENCE.md. Other crates' contracts and theorems cite these.
 pub mod Choice
 pub mod Numbers
 pub mod Tables

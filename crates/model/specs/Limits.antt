@@ -1,4 +1,4 @@
--- Every limit, size, kind and code of the paper, each once; derived ones are computed. A later change of a format changes it here.
+-- Every limit, size, kind and code of docs/REFERENCE.md, each once; derived ones are computed. A later change of a format changes it here.
 -- crates/model/src/constants.rt has the same numbers for the code.
 -- Assumes nothing.
 use Prim.Native.Nat.{ℕ, suc, _+_, _-_, _*_}

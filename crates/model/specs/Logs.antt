@@ -12,10 +12,11 @@ use Rattle.model.specs.declared.Give.{Give}
 use Rattle.model.specs.declared.Release.{Release}
 use Rattle.model.specs.Choice.{pick}
 use Rattle.model.specs.Numbers.{byteAt, le32At, le32, signedAt, signed32, zeroAt, zeros3At, quad}
-use Rattle.model.specs.Refusals.{noRefusal, badLog}
 use Rattle.model.specs.Packets.{idOk, doneOk, commandOk, outcomeOk, noticeAt, noticeOk, noticeBytes}
 use Rattle.model.specs.Images.{Image, parseImage, imageBytes, imageLength}
-use Rattle.model.specs.Limits.{lastPoint, lastServer, leastImage, greatestImage, headSize, executedKind, goneKind, giveKind, takeKind, releaseKind, executedSize, goneSize, giveSize, takeHead, releaseSize}
+use Rattle.model.specs.Limits.{lastPoint, lastServer, leastImage, greatestImage, headSize}
+use Rattle.model.specs.Limits.{executedKind, goneKind, giveKind, takeKind, releaseKind}
+use Rattle.model.specs.Limits.{executedSize, goneSize, giveSize, takeHead, releaseSize}
 
 -- ---- head: 57 4C 47 31, server number, three zeros
 
@@ -45,7 +46,7 @@ pub data LogRecord : Type 0 where
   took : Image → LogRecord
   released : Release → LogRecord
 
--- 1 executed: kind, op, point, outcome, client, call, done, argument, value, quality, three zeros
+-- 1 executed: kind, op, point, outcome; client; call; done; argument; value; then the quality, padded with zeros
 unfoldable pub executedAt : List ℕ → Executed
 executedAt s =
     record {
@@ -110,7 +111,7 @@ recordSize (released r) = releaseSize
 -- ---- what stands at the front of s, the rest of a log
 
 pub data Extent : Type 0 where
-  off : Extent  -- a kind outside 1 to 5, or an image length outside 48 to 10,544
+  off : Extent  -- no kind of record, or the length of an image that no image has
   cut : Extent  -- an incomplete record
   spans : ℕ → Extent  -- a record of that many bytes, all there
 
@@ -146,16 +147,6 @@ recordAt s =
     (pick (eqb (byteAt s 0) giveKind) (pick (zeroAt s 3 && giveOk (giveAt s)) (some (gave (giveAt s))) none)
     (pick (eqb (byteAt s 0) takeKind) (pick (zeros3At s 1) (takeParsed (parseImage (take (le32At s 4) (drop takeHead s)))) none)
     (pick (eqb (byteAt s 0) releaseKind) (pick (zeroAt s 2 && (zeroAt s 3 && releaseOk (releaseAt s))) (some (released (releaseAt s))) none) none))))
-
--- the paper's number for what stands at a place, where it is read: an incomplete last record is dropped
-unfoldable pub extentNumber : Extent → ℕ
-extentNumber off = badLog
-extentNumber cut = noRefusal
-extentNumber (spans n) = noRefusal
-
-unfoldable pub recordNumber : Option LogRecord → ℕ
-recordNumber none = badLog
-recordNumber (some r) = noRefusal
 
 -- ---- the walk over all records
 

@@ -20,8 +20,10 @@ use Rattle.model.specs.declared.Packet.the-variants.{Malformed, Requeste
 use Rattle.model.specs.Choice.{pick}
 use Rattle.model.specs.Numbers.{byteAt, le32At, le32, signedAt, signed32, zeroAt, zeros3At, quad}
 use Rattle.model.specs.Rules.{argumentOk}
-use Rattle.model.specs.Limits.{lastPoint, lastServer, lastOutcome, lastQuality, lastInWindow, requestKind, resultKind, refusalKind, receiptKind, noticeKind, grantKind, requestSize, resultSize, refusalSize, receiptSize, noticeSize, grantSize}
-use Rattle.model.specs.Refusals.{noRefusal, malformed, firstDenied, lastDenied}
+use Rattle.model.specs.Limits.{lastPoint, lastServer, lastOutcome, lastQuality, lastInWindow}
+use Rattle.model.specs.Limits.{requestKind, resultKind, refusalKind, receiptKind, noticeKind, grantKind}
+use Rattle.model.specs.Limits.{requestSize, resultSize, refusalSize, receiptSize, noticeSize, grantSize}
+use Rattle.model.specs.Refusals.{firstDenied, lastDenied}
 
 -- the lengths by kind; there is no kind 0
 abbrev pub packetLengths : List ℕ
@@ -203,12 +205,26 @@ asNotice (Receipted r) = none
 asNotice (Noticed n) = some n
 asNotice (Granted g) = none
 
--- the paper's number for what a parser finds: 1 malformed
-unfoldable pub packetNumber : Packet → ℕ
-packetNumber Malformed = malformed
-packetNumber (Requested q) = noRefusal
-packetNumber (Resulted r) = noRefusal
-packetNumber (Refused r) = noRefusal
-packetNumber (Receipted r) = noRefusal
-packetNumber (Noticed n) = noRefusal
-packetNumber (Granted g) = noRefusal
+abbrev pub asGrant : Packet → Option Grant
+asGrant Malformed = none
+asGrant (Requested q) = none
+asGrant (Resulted r) = none
+asGrant (Refused r) = none
+asGrant (Receipted r) = none
+asGrant (Noticed n) = none
+asGrant (Granted g) = some g
+
+-- the packets that a client receives: kinds 2, 3 and 6
+pub data ClientPacket : Type 0 where
+  result : ResultPacket → ClientPacket
+  refusal : RefusalPacket → ClientPacket
+  grant : Grant → ClientPacket
+
+abbrev pub asClientPacket : Packet → Option ClientPacket
+asClientPacket Malformed = none
+asClientPacket (Requested q) = none
+asClientPacket (Resulted r) = some (result r)
+asClientPacket (Refused r) = some (refusal r)
+asClientPacket (Receipted r) = none
+asClientPacket (Noticed n) = none
+asClientPacket (Granted g) = some (grant g)

@@ -1,4 +1,5 @@
--- The plan: 64 entries of 16 bytes: low, high, fallback (signed, 4 each), home server, three zeros; low ≤ fallback ≤ high.
+-- The plan: an entry of 16 bytes for each point: three signed numbers, low ≤ fallback ≤ high (in the order low, high, fallback), the home
+-- server, three zeros.
 -- Assumes nothing.
 use Prim.Native.Nat.{ℕ}
 use mathlib.Core.Bool.{Bool, _&&_}

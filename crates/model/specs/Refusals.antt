@@ -1,4 +1,4 @@
--- The numbered refusals of paper 01, each with its meaning.
+-- The nineteen numbered refusals, each with its meaning.
 -- Assumes nothing.
 use Prim.Native.Nat.{ℕ}
 

@@ -1,5 +1,5 @@
 -- The rule of each op on a point's value and quality, on numbers kept as x + 2 ^ 31.
--- The same over the integers, in the paper's words, is Sequential.
+-- The same over the integers is Sequential.
 -- Assumes nothing.
 use Prim.Native.Nat.{ℕ, _+_, _-_, _*_, _/_}
 use mathlib.Core.Bool.{Bool, _&&_}

@@ -68,17 +68,17 @@ quotientDown (negsuc m) n = negsuc (m / n)
 unfoldable pub readZ : ReadingZ → ResultZ
 readZ r = resultZ carriedOut (r .value) (r .quality)
 
--- 1 set: in range, value a, quality 0, outcome 0; else outcome 1, no change
+-- 1 set: a valid value a, outcome 0; where a is out of range nothing changes, outcome 1
 unfoldable pub setZ : EntryZ → ℤ → ReadingZ → ResultZ
 setZ e a r = pick (inRangeZ e a) (resultZ carriedOut a valid) (resultZ outOfRange (r .value) (r .quality))
 
--- 2 step: on quality 1, outcome 2; if value + a is out of range, outcome 1; both change nothing. Else add, outcome 0
+-- 2 step: adds a, outcome 0; nothing changes on an invalid value, outcome 2, or where the sum is out of range, outcome 1
 unfoldable pub stepZ : EntryZ → ℤ → ReadingZ → ResultZ
 stepZ e a r =
     pick (eqb (r .quality) invalid) (resultZ onInvalid (r .value) (r .quality))
     (pick (inRangeZ e (r .value +ℤ a)) (resultZ carriedOut (r .value +ℤ a) (r .quality)) (resultZ outOfRange (r .value) (r .quality)))
 
--- 3 report: in range, as set; else value = fallback, quality 1, outcome 3
+-- 3 report: in range as set; else the fallback, invalid, outcome 3
 unfoldable pub reportZ : EntryZ → ℤ → ResultZ
 reportZ e a = pick (inRangeZ e a) (resultZ carriedOut a valid) (resultZ fellBack (e .fallback) invalid)
 
@@ -86,7 +86,7 @@ reportZ e a = pick (inRangeZ e a) (resultZ carriedOut a valid) (resultZ fellBack
 unfoldable pub faultZ : EntryZ → ResultZ
 faultZ e = resultZ fellBack (e .fallback) invalid
 
--- 5 part: value = low + (high − low) × a / 1000, the quotient rounded down; quality 0, outcome 0
+-- 5 part: the value that lies a thousandths of the way from low to high, rounded down; valid, outcome 0
 unfoldable pub partZ : EntryZ → ℤ → ResultZ
 partZ e a = resultZ carriedOut (e .low +ℤ quotientDown ((e .high -ℤ e .low) *ℤ a) wholePart) valid
 

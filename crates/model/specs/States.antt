@@ -19,7 +19,7 @@ use Rattle.model.specs.Tables.{rows, everyRow, bytesOf, every, zeros}
 use Rattle.model.specs.Plan.{planEntryOf, planBytes, planRowOk, entryAt, inRange}
 use Rattle.model.specs.Packets.{idOk, commandOk, outcomeOk}
 use Rattle.model.specs.Images.{floorOfBytes, floorBytes, floorOf, floorOk, inWindow, clientsAscend}
-use Rattle.model.specs.Limits.{lastServer, lastQuality, pointCount, clientCount, recordCount, planSize, planRow, planSize, headSize, floorRow}
+use Rattle.model.specs.Limits.{invalid, lastServer, lastQuality, pointCount, clientCount, recordCount, planSize, planRow, headSize, floorRow}
 
 -- `size` is the recorded length of the log; `records` are in order of arrival, `floors` by client
 pub record State : Type 0 where
@@ -184,7 +184,7 @@ unfoldable pub absentOk : ℕ → PlanEntry → Point → Bool
 absentOk server e x =
     not (eqb (e .home) server)
     && (eqb (x .value) (e .fallback)
-    && (eqb (x .quality) 1 && (eqb (x .moveNumber) 0 && (eqb (x .takenMove) 0 && (eqb (x .takeEnd) 0 && notGiven x)))))
+    && (eqb (x .quality) invalid && (eqb (x .moveNumber) 0 && (eqb (x .takenMove) 0 && (eqb (x .takeEnd) 0 && notGiven x)))))
 
 -- held: since founding, or taken with just this move
 unfoldable pub heldOk : ℕ → PlanEntry → Point → Bool
@@ -245,10 +245,10 @@ endsFrom last (r ∷ rs) = leb last (r .end) && endsFrom (r .end) rs
 -- the magic, the zero bytes, the counts and the rows past them
 unfoldable pub stateFramed : List ℕ → Bool
 stateFramed s =
-    eqb (byteAt s 0) 87
-    && (eqb (byteAt s 1) 83
-    && (eqb (byteAt s 2) 84
-    && (eqb (byteAt s 3) 49
+    eqb (byteAt s 0) (byteAt stateMagic 0)
+    && (eqb (byteAt s 1) (byteAt stateMagic 1)
+    && (eqb (byteAt s 2) (byteAt stateMagic 2)
+    && (eqb (byteAt s 3) (byteAt stateMagic 3)
     && (zeros3At s 5
     && (eqb (le32At s 20) 0
     && (leb (clientsIn s) clientCount

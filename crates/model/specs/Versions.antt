@@ -2,7 +2,7 @@
 -- Assumes nothing.
 use Prim.Native.Nat.{ℕ}
 
--- the versions of a rule; the first is paper 01's
+-- the versions of a rule; the first is that of docs/REFERENCE.md
 pub data Version : Type 0 where
   first : Version
 

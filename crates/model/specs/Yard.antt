@@ -1,5 +1,5 @@
 -- The simulator (paper: the yard): servers 0 and 1, clients 1 and 2 at desks 0 and 1 with lease end 1000, each point −100 to 1000,
--- fallback 0, home 0, logs of 16,384 bytes. It runs up to 60 lines. Packets and images are numbered together from 1 as they are
+-- fallback 0, home 0, logs of 16,384 bytes. It runs up to 60 lines. One numbering from 1 for packets and images, in the order
 -- made.
 -- Assumes nothing.
 use Prim.Native.Nat.{ℕ, zero, suc, _+_, _-_, _*_, _/_, _%_}

@@ -1,4 +1,4 @@
-// Every number of paper 01 and of docs/STATE.md that the code names, each once; derived ones are computed. The definitions name
+// Every number of docs/REFERENCE.md and docs/STATE.md that the code names, each once; derived ones are computed. The definitions name
 // them in the same words and order: specs/Limits.antt, specs/Refusals.antt, specs/States.antt. A size or count is a usize, a
 // field's value has its field's type.
 
@@ -296,6 +296,8 @@ pub const RESULT_KIND_U32: u32 = RESULT_KIND as u32;
 pub const REFUSAL_KIND_U32: u32 = REFUSAL_KIND as u32;
 
 pub const GRANT_KIND_U32: u32 = GRANT_KIND as u32;
+
+pub const NOTICE_KIND_U32: u32 = NOTICE_KIND as u32;
 
 pub const REQUEST_SIZE_U32: u32 = REQUEST_SIZE as u32;
 

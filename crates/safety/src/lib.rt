@@ -1,1 +1,1 @@
-// Demand 3 over bytes, from demand 3 over the abstract world. No code.
+// Demand 3 over bytes: the layers joined. No code.

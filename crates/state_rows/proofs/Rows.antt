@@ -13,8 +13,8 @@ use Rattle.model.specs.declared.Completion.{Completion}
 use Rattle.model.specs.Numbers.{le32At, le64At, le32, le64, signedAt, signed32, quad}
 use Rattle.model.specs.Tables.{written}
 use Rattle.model.specs.States.{pointOf, pointBytes, completionOf, completionBytes}
-use Rattle.laws.proofs.Numbers.{le32-drop, le64-drop, signed-drop}
-use Rattle.laws.proofs.Written.{run-behind}
+use Rattle.model_laws.proofs.Numbers.{le32-drop, le64-drop, signed-drop}
+use Rattle.model_laws.proofs.Written.{run-behind}
 
 -- ---- reads
 
@@ -52,7 +52,8 @@ completion-drop s k =
 -- ---- stores
 
 pub point-runs : (s : List ℕ) (k : ℕ) (x : Point)
-    → written (written (written (written (written (written s k (quad (x .status) (x .quality) (x .destination) 0)) (k + 4) (signed32 (x .value))) (k + 8) (le32 (x .moveNumber))) (k + 12) (le32 (x .takenMove))) (k + 16) (le64 (x .giveEnd))) (k + 24) (le64 (x .takeEnd))
+    → written (written (written (written (written (written s k (quad (x .status) (x .quality) (x .destination) 0)) (k + 4) (signed32 (x .value))) (k + 8) (le32 (x .moveNumber))) (k + 12)
+    (le32 (x .takenMove))) (k + 16) (le64 (x .giveEnd))) (k + 24) (le64 (x .takeEnd))
     ≡ written s k (pointBytes x)
 unfolding pointBytes le64
 point-runs s k x =
@@ -61,14 +62,16 @@ point-runs s k x =
     let c : List ℕ = b ++ le32 (x .moveNumber) in
     let d : List ℕ = c ++ le32 (x .takenMove) in
     let e : List ℕ = d ++ le64 (x .giveEnd) in
-    ap (λ (z : List ℕ). written (written (written (written z (k + 8) (le32 (x .moveNumber))) (k + 12) (le32 (x .takenMove))) (k + 16) (le64 (x .giveEnd))) (k + 24) (le64 (x .takeEnd))) (run-behind s k a (signed32 (x .value)) refl refl)
+    ap (λ (z : List ℕ). written (written (written (written z (k + 8) (le32 (x .moveNumber))) (k + 12) (le32 (x .takenMove))) (k + 16) (le64 (x .giveEnd))) (k + 24) (le64 (x .takeEnd)))
+    (run-behind s k a (signed32 (x .value)) refl refl)
     ∙ ap (λ (z : List ℕ). written (written (written z (k + 12) (le32 (x .takenMove))) (k + 16) (le64 (x .giveEnd))) (k + 24) (le64 (x .takeEnd))) (run-behind s k b (le32 (x .moveNumber)) refl refl)
     ∙ ap (λ (z : List ℕ). written (written z (k + 16) (le64 (x .giveEnd))) (k + 24) (le64 (x .takeEnd))) (run-behind s k c (le32 (x .takenMove)) refl refl)
     ∙ ap (λ (z : List ℕ). written z (k + 24) (le64 (x .takeEnd))) (run-behind s k d (le64 (x .giveEnd)) refl refl)
     ∙ run-behind s k e (le64 (x .takeEnd)) refl refl
 
 pub completion-runs : (s : List ℕ) (k : ℕ) (r : Completion)
-    → written (written (written (written (written (written s k (le32 (r .command .client))) (k + 4) (le32 (r .command .call))) (k + 8) (signed32 (r .command .argument))) (k + 12) (signed32 (r .result .value))) (k + 16) (quad (r .command .op) (r .result .outcome) (r .result .quality) (r .command .point))) (k + 20) (le64 (r .end))
+    → written (written (written (written (written (written s k (le32 (r .command .client))) (k + 4) (le32 (r .command .call))) (k + 8) (signed32 (r .command .argument))) (k + 12)
+    (signed32 (r .result .value))) (k + 16) (quad (r .command .op) (r .result .outcome) (r .result .quality) (r .command .point))) (k + 20) (le64 (r .end))
     ≡ written s k (completionBytes r)
 unfolding completionBytes le64
 completion-runs s k r =
@@ -78,7 +81,8 @@ completion-runs s k r =
     let c : List ℕ = b ++ signed32 (r .command .argument) in
     let d : List ℕ = c ++ signed32 (r .result .value) in
     let e : List ℕ = d ++ q in
-    ap (λ (z : List ℕ). written (written (written (written z (k + 8) (signed32 (r .command .argument))) (k + 12) (signed32 (r .result .value))) (k + 16) q) (k + 20) (le64 (r .end))) (run-behind s k a (le32 (r .command .call)) refl refl)
+    ap (λ (z : List ℕ). written (written (written (written z (k + 8) (signed32 (r .command .argument))) (k + 12) (signed32 (r .result .value))) (k + 16) q) (k + 20) (le64 (r .end)))
+    (run-behind s k a (le32 (r .command .call)) refl refl)
     ∙ ap (λ (z : List ℕ). written (written (written z (k + 12) (signed32 (r .result .value))) (k + 16) q) (k + 20) (le64 (r .end))) (run-behind s k b (signed32 (r .command .argument)) refl refl)
     ∙ ap (λ (z : List ℕ). written (written z (k + 16) q) (k + 20) (le64 (r .end))) (run-behind s k c (signed32 (r .result .value)) refl refl)
     ∙ ap (λ (z : List ℕ). written z (k + 20) (le64 (r .end))) (run-behind s k d q refl refl)

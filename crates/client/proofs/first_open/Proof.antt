@@ -5,12 +5,9 @@ use borrow.Author.Needs.{needs}
 use Rattle.client.proofs.first_open.Statement.{statement}
 use Rattle.client.proofs.first_open.Tie as tie
 
-least-open-requires : tie.Need-least-open-requires
-least-open-requires c κs = search needs
-
 returns : tie.Need-returns
 unfolding firstOpen
 returns c = c .least-open .ensures
 
 pub first-open-spec : {M : Type 1} → statement M
-first-open-spec = tie.close (tie.spec least-open-requires returns)
+first-open-spec = tie.close (tie.spec (λ c κs. search needs) returns)

@@ -6,12 +6,9 @@ use borrow.Author.Needs.{needs}
 use Rattle.client.proofs.is_open.Statement.{statement}
 use Rattle.client.proofs.is_open.Tie as tie
 
-call-at-requires : tie.Need-call-at-requires
-call-at-requires c κs = search needs
-
 returns : tie.Need-returns
 unfolding isOpen
 returns c = rw (c .before .call-at .ensures) refl
 
 pub is-open-spec : {M : Type 1} → statement M
-is-open-spec = tie.close (tie.spec call-at-requires returns)
+is-open-spec = tie.close (tie.spec (λ c κs. search needs) returns)

@@ -6,36 +6,23 @@ use Prim.Native.Nat.{_≤_, _-_}
 use native.Mathlib.Omega.{arith}
 use lib.ListN.{length, drop}
 use Rattle.model.specs.Clients.{leastOpen}
+use Rattle.model.specs.Limits.{callWindow}
 use Rattle.client.proofs.Places.{least-step, least-end}
 use Rattle.client.proofs.least_open.Statement.{statement}
 use Rattle.client.proofs.least_open.Tie as tie
 
 abbrev Inv-loop : tie.InvT-loop
-Inv-loop n ks least₀ i₀ least i = (i ≤ 16) × (length ks ≡ 16) × (leastOpen n ks ≡ leastOpen least (drop i ks))
+Inv-loop n ks least₀ i₀ least i = (i ≤ callWindow) × (length ks ≡ callWindow) × (leastOpen n ks ≡ leastOpen least (drop i ks))
 
 abbrev μ-loop : tie.MeasureT-loop
-μ-loop n ks least₀ i₀ least i = 16 - i
+μ-loop n ks least₀ i₀ least i = callWindow - i
 
 loop-holds : tie.Need-loop-holds Inv-loop μ-loop
 loop-holds c = (omega arith, search needs, refl)
 
-mul-k : tie.Need-mul-k Inv-loop μ-loop
-mul-k c = search needs
-
-array-copy-out-k : tie.Need-array-copy-out-k Inv-loop μ-loop
-array-copy-out-k c = search needs
-
-lesser-requires : tie.Need-lesser-requires Inv-loop μ-loop
-lesser-requires c κs = search needs
-
-add-i : tie.Need-add-i Inv-loop μ-loop
-add-i c = search needs
-
-loop-less : tie.Need-loop-less Inv-loop μ-loop
-loop-less c = search needs
-
 loop-again : tie.Need-loop-again Inv-loop μ-loop
-loop-again c = let l = c .before .before .before .loop in (omega arith, omega arith, l .inv .2 ∙ least-step (l .least) (c .before .before .before .before .args .t2) (l .i) (omega arith) (c .lesser .ensures))
+loop-again c =
+    let l = c .before .before .before .loop in (omega arith, omega arith, l .inv .2 ∙ least-step (l .least) (c .before .before .before .before .args .t2) (l .i) (omega arith) (c .lesser .ensures))
 
 returns : tie.Need-returns Inv-loop μ-loop
 returns c = let l = c .before .loop in sym (l .inv .2 ∙ least-end (l .least) (c .before .before .args .t2) (l .i) (omega arith))
@@ -47,10 +34,10 @@ least-open-spec =
     Inv-loop
     μ-loop
     loop-holds
-    mul-k
-    array-copy-out-k
-    lesser-requires
-    add-i
-    loop-less
+    (λ c. search needs)
+    (λ c. search needs)
+    (λ c κs. search needs)
+    (λ c. search needs)
+    (λ c. search needs)
     loop-again
     returns)

@@ -5,11 +5,8 @@ use borrow.Author.Needs.{needs}
 use Rattle.client.proofs.no_calls.Statement.{statement}
 use Rattle.client.proofs.no_calls.Tie as tie
 
-no-call-requires : tie.Need-no-call-requires
-no-call-requires c κs = search needs
-
 returns : tie.Need-returns
 returns c = rw (c .no-call .ensures) refl
 
 pub no-calls-spec : {M : Type 1} → statement M
-no-calls-spec = tie.close (tie.spec no-call-requires returns)
+no-calls-spec = tie.close (tie.spec (λ c κs. search needs) returns)

@@ -5,11 +5,8 @@ use borrow.Author.Needs.{needs}
 use Rattle.client.proofs.no_client.Statement.{statement}
 use Rattle.client.proofs.no_client.Tie as tie
 
-no-calls-requires : tie.Need-no-calls-requires
-no-calls-requires c κs = search needs
-
 returns : tie.Need-returns
 returns c = rw (c .no-calls .ensures) refl
 
 pub no-client-spec : {M : Type 1} → statement M
-no-client-spec = tie.close (tie.spec no-calls-requires returns)
+no-client-spec = tie.close (tie.spec (λ c κs. search needs) returns)

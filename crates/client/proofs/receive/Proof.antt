@@ -6,15 +6,9 @@ use borrow.Author.Needs.{needs}
 use Rattle.client.proofs.receive.Statement.{statement}
 use Rattle.client.proofs.receive.Tie as tie
 
-parse-packet-requires : tie.Need-parse-packet-requires
-parse-packet-requires c κs = search needs
-
-receive-with-requires : tie.Need-receive-with-requires
-receive-with-requires c κs = search needs
-
 returns : tie.Need-returns
 unfolding receiveOf
 returns c = rw (c .receive-with .ensures, c .before .parse-packet .ensures) refl
 
 pub receive-spec : {M : Type 1} → statement M
-receive-spec = tie.close (tie.spec parse-packet-requires receive-with-requires returns)
+receive-spec = tie.close (tie.spec (λ c κs. search needs) (λ c κs. search needs) returns)

@@ -5,18 +5,12 @@ use borrow.Author.Needs.{needs}
 use Rattle.client.proofs.receive_grant.Statement.{statement}
 use Rattle.client.proofs.receive_grant.Tie as tie
 
-with-lease-requires : tie.Need-with-lease-requires
-with-lease-requires c κs = search needs
-
 returns : tie.Need-returns
 returns c = search grant-later depth 8
-
-not-received-requires : tie.Need-not-received-requires
-not-received-requires c κs = search needs
 
 returns-2 : tie.Need-returns-2
 returns-2 c = search grant-unknown depth 8
 
 pub receive-grant-spec : {M : Type 1} → statement M
 receive-grant-spec =
-    tie.close (tie.spec with-lease-requires returns not-received-requires returns-2)
+    tie.close (tie.spec (λ c κs. search needs) returns (λ c κs. search needs) returns-2)

@@ -5,21 +5,12 @@ use borrow.Author.Needs.{needs}
 use Rattle.client.proofs.receive_result.Statement.{statement}
 use Rattle.client.proofs.receive_result.Tie as tie
 
-is-own-requires : tie.Need-is-own-requires
-is-own-requires c κs = search needs
-
-after-requires : tie.Need-after-requires
-after-requires c κs = search needs
-
 returns : tie.Need-returns
 returns c = search result-own depth 8
-
-not-received-requires : tie.Need-not-received-requires
-not-received-requires c κs = search needs
 
 returns-2 : tie.Need-returns-2
 returns-2 c = search result-unknown depth 8
 
 pub receive-result-spec : {M : Type 1} → statement M
 receive-result-spec =
-    tie.close (tie.spec is-own-requires after-requires returns not-received-requires returns-2)
+    tie.close (tie.spec (λ c κs. search needs) (λ c κs. search needs) returns (λ c κs. search needs) returns-2)

@@ -6,12 +6,9 @@ use borrow.Author.Needs.{needs}
 use Rattle.client.proofs.request_for.Statement.{statement}
 use Rattle.client.proofs.request_for.Tie as tie
 
-first-open-requires : tie.Need-first-open-requires
-first-open-requires c κs = search needs
-
 returns : tie.Need-returns
 unfolding requestFor
 returns c = rw (c .first-open .ensures) refl
 
 pub request-for-spec : {M : Type 1} → statement M
-request-for-spec = tie.close (tie.spec first-open-requires returns)
+request-for-spec = tie.close (tie.spec (λ c κs. search needs) returns)

@@ -6,12 +6,9 @@ use borrow.Author.Needs.{needs}
 use Rattle.client.proofs.sent.Statement.{statement}
 use Rattle.client.proofs.sent.Tie as tie
 
-request-for-requires : tie.Need-request-for-requires
-request-for-requires c κs = search needs
-
 returns : tie.Need-returns
 unfolding sent
 returns c = rw (c .request-for .ensures) refl
 
 pub sent-spec : {M : Type 1} → statement M
-sent-spec = tie.close (tie.spec request-for-requires returns)
+sent-spec = tie.close (tie.spec (λ c κs. search needs) returns)

@@ -9,26 +9,16 @@ use borrow.Author.Needs.{needs}
 use Rattle.client_c.proofs.issue_value.Statement.{statement}
 use Rattle.client_c.proofs.issue_value.Tie as tie
 
-with-send-reply-requires : tie.Need-with-send-reply-requires
-with-send-reply-requires c κs = search needs
-
 returns : tie.Need-returns
-returns c = c .with-send-reply .ensures ∙ ap sending (past-byte (c .before .before .args .d) (c .before .before .args .op) (c .before .before .args .point) (flip (c .before .before .args .argument)) (c .before .if1 .taken))
+returns c =
+    c .with-send-reply .ensures
+    ∙ ap sending (past-byte (c .before .before .args .d) (c .before .before .args .op) (c .before .before .args .point) (flip (c .before .before .args .argument)) (c .before .if1 .taken))
 
 cast-issue : tie.Need-cast-issue
 cast-issue c = let f = both-under (c .before .args .op) (c .before .args .point) (c .if1 .left) in omega arith
 
 cast-issue-2 : tie.Need-cast-issue-2
 cast-issue-2 c = let f = both-under (c .before .args .op) (c .before .args .point) (c .if1 .left) in omega arith
-
-flipped-requires : tie.Need-flipped-requires
-flipped-requires c κs = search needs
-
-issue-requires : tie.Need-issue-requires
-issue-requires c κs = search needs
-
-with-send-reply-requires-2 : tie.Need-with-send-reply-requires-2
-with-send-reply-requires-2 c κs = search needs
 
 returns-2 : tie.Need-returns-2
 returns-2 c = rw (c .with-send-reply2 .ensures, c .before .issue .ensures, c .before .before .flipped .ensures) refl
@@ -37,11 +27,11 @@ pub issue-value-spec : {M : Type 1} → statement M
 issue-value-spec =
     tie.close
     (tie.spec
-    with-send-reply-requires
+    (λ c κs. search needs)
     returns
     cast-issue
     cast-issue-2
-    flipped-requires
-    issue-requires
-    with-send-reply-requires-2
+    (λ c κs. search needs)
+    (λ c κs. search needs)
+    (λ c κs. search needs)
     returns-2)

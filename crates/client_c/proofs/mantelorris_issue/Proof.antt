@@ -72,10 +72,12 @@ module _ {M : Type 1} (𝓤 : URA M) (H : Heap 𝓤) (A : Atoms 𝓤) (at-mem : 
   Value = tripleOf 𝓤 H A value.signature (value.spec 𝓤 H A at-mem run)
 
   -- of the callee's `ensured`, the clause alone
-  got-of : (h : Client) (n₁ n₂ n₃ : ℕ) (r : Sending) → ent 𝓤 (ensured 𝓤 H A value.ended (value.clauses 𝓤 H A at-mem run) tt (h, (n₁, (n₂, (n₃, tt)))) tt r) (fact 𝓤 (r ≡ sending (issueOf h n₁ n₂ (flip n₃))))
+  got-of : (h : Client) (n₁ n₂ n₃ : ℕ) (r : Sending)
+      → ent 𝓤 (ensured 𝓤 H A value.ended (value.clauses 𝓤 H A at-mem run) tt (h, (n₁, (n₂, (n₃, tt)))) tt r) (fact 𝓤 (r ≡ sending (issueOf h n₁ n₂ (flip n₃))))
   got-of h n₁ n₂ n₃ r = exE 𝓤 _ (λ ws. snd∗ 𝓤 (sem 𝓤 H A (lasts value.ended tt (h, (n₁, (n₂, (n₃, tt)))) ws)) (fact 𝓤 (r ≡ sending (issueOf h n₁ n₂ (flip n₃)))))
 
-module _ {M : Type 1} (𝓤 : URA M) (H : Heap 𝓤) (A : Atoms 𝓤) (W : Given 𝓤 H A) (at-mem : Memory → SProp 𝓤) (run : Routine → Fun 𝓤) (κ : Lft) (q : Share) (b o : ℕ) (γ : GName) (h : Client) (n₁ n₂ n₃ : ℕ) where
+module _ {M : Type 1} (𝓤 : URA M) (H : Heap 𝓤) (A : Atoms 𝓤) (W : Given 𝓤 H A) (at-mem : Memory → SProp 𝓤) (run : Routine → Fun 𝓤) (κ : Lft) (q : Share) (b o : ℕ) (γ : GName)
+    (h : Client) (n₁ n₂ n₃ : ℕ) where
   abbrev x : Arg
   x = (record { ptr = (b, o); name = γ; now = h }, (n₁, (n₂, (n₃, tt))))
 
@@ -99,11 +101,15 @@ module _ {M : Type 1} (𝓤 : URA M) (H : Heap 𝓤) (A : Atoms 𝓤) (W : Given
   abbrev Post : Val → SProp 𝓤
   Post = walkOf 𝓤 H A issue.ended stayed (issue.clauses 𝓤 H A at-mem run) .post (((κ, tt), (q, tt), tt, x, at), tt)
 
-  exits : (r : Sending) → r ≡ sending (issueOf h n₁ n₂ (flip n₃)) → Is E.the-row (r .reply) (reply-val (r .reply) ∷ []) → n₁ < 2 ^ 32 → n₂ < 2 ^ 32 → n₃ < 2 ^ 32 → ent 𝓤 (sep 𝓤 (A .obs γ (T.the-row .coded .code (r .client))) (sep 𝓤 (A .bor κ (Body (mem T.the-row) b o γ)) (A .lft κ q))) (Post (reply-val (r .reply)))
+  exits : (r : Sending) → r ≡ sending (issueOf h n₁ n₂ (flip n₃)) → Is E.the-row (r .reply) (reply-val (r .reply) ∷ []) → n₁ < 2 ^ 32 → n₂ < 2 ^ 32 → n₃ < 2 ^ 32
+      → ent 𝓤 (sep 𝓤 (A .obs γ (T.the-row .coded .code (r .client))) (sep 𝓤 (A .bor κ (Body (mem T.the-row) b o γ)) (A .lft κ q))) (Post (reply-val (r .reply)))
   exits r e is f₁ f₂ f₃ =
       qed W (‵ (fobs γ (T.the-row .coded .code (r .client))) ∷ ‵ (fbor κ (Body (mem T.the-row) b o γ)) ∷ ‵ (flft κ q) ∷ []) ∵
-      suffices ! _ (ends-at 𝓤 H A issue.ended stayed (issue.clauses 𝓤 H A at-mem run) W (((κ, tt), (q, tt), tt, x, at), tt) (reply-val (r .reply)) (r .reply) (r .client, (tt, (tt, (tt, tt)))) (tt, (tt, (tt, (tt, tt))))) $ says ! (ap (λ (i : Sending). i .reply) e, ap (λ (i : Sending). i .client) e) $ nothing ! $ move ! (3 ∷ 0 ∷ []) $ join ! $
-      frame ! $ feqI ! (List Val) (vptr b o ∷ []) (vptr b o ∷ []) refl $ fjoin3 ! $ nothing ! $ owned ! u32 (Is u32) (uint-makes 𝓤 H A W w32) n₃ _ (refl, f₃) $ fjoin ! $ owned ! u32 (Is u32) (uint-makes 𝓤 H A W w32) n₂ _ (refl, f₂) $ fjoin ! $ owned ! u32 (Is u32) (uint-makes 𝓤 H A W w32) n₁ _ (refl, f₁) $ fjoin ! $ move ! (1 ∷ 0 ∷ []) $ fjoin ! $
+      suffices ! _ (ends-at 𝓤 H A issue.ended stayed (issue.clauses 𝓤 H A at-mem run) W (((κ, tt), (q, tt), tt, x, at), tt) (reply-val (r .reply)) (r .reply)
+      (r .client, (tt, (tt, (tt, tt)))) (tt, (tt, (tt, (tt, tt))))) $ says ! (ap (λ (i : Sending). i .reply) e, ap (λ (i : Sending). i .client) e) $ nothing ! $ move ! (3 ∷ 0 ∷ []) $ join ! $
+      frame ! $ feqI ! (List Val) (vptr b o ∷ []) (vptr b o ∷ []) refl $ fjoin3 ! $ nothing ! $ owned ! u32 (Is u32) (uint-makes 𝓤 H A W w32) n₃ _
+      (refl, f₃) $ fjoin ! $ owned ! u32 (Is u32) (uint-makes 𝓤 H A W w32) n₂ _ (refl, f₂) $ fjoin ! $ owned ! u32 (Is u32) (uint-makes 𝓤 H A W w32) n₁ _
+      (refl, f₁) $ fjoin ! $ move ! (1 ∷ 0 ∷ []) $ fjoin ! $
       owned ! E.the-row (Is E.the-row) ((LL.makes E.the-type E′.the-plain) 𝓤 H A) (r .reply) _ is $ move ! (1 ∷ 0 ∷ []) $ done !
 
   -- what `issue_value`'s triple binds outside, and what it asks
@@ -112,7 +118,8 @@ module _ {M : Type 1} (𝓤 : URA M) (H : Heap 𝓤) (A : Atoms 𝓤) (W : Given
 
   goes-value : Is T.the-row h (client-val h ∷ []) → n₁ < 2 ^ 32 → n₂ < 2 ^ 32 → n₃ < 2 ^ 32 → ent 𝓤 (sem 𝓤 H A ftrue) (Value 𝓤 H A at-mem run .pre to-value)
   goes-value was f₁ f₂ f₃ =
-      qed W (‵ ftrue ∷ []) ∵ owned ! u32 (Is u32) (uint-makes 𝓤 H A W w32) n₃ _ (refl, f₃) $ fjoin ! $ owned ! u32 (Is u32) (uint-makes 𝓤 H A W w32) n₂ _ (refl, f₂) $ fjoin ! $ owned ! u32 (Is u32) (uint-makes 𝓤 H A W w32) n₁ _ (refl, f₁) $ fjoin ! $ owned ! T.the-row (Is T.the-row) ((LL.makes T.the-type T′.the-plain) 𝓤 H A) h _ was $ fjoin ! $
+      qed W (‵ ftrue ∷ []) ∵ owned ! u32 (Is u32) (uint-makes 𝓤 H A W w32) n₃ _ (refl, f₃) $ fjoin ! $ owned ! u32 (Is u32) (uint-makes 𝓤 H A W w32) n₂ _
+      (refl, f₂) $ fjoin ! $ owned ! u32 (Is u32) (uint-makes 𝓤 H A W w32) n₁ _ (refl, f₁) $ fjoin ! $ owned ! T.the-row (Is T.the-row) ((LL.makes T.the-type T′.the-plain) 𝓤 H A) h _ was $ fjoin ! $
       nothing ! $ join ! $ frame ! $ done !
 
   module _ (C : Calls 𝓤 H) (Λ : Loops 𝓤 H) (fm : FmC 𝓤 H (W .laws) C) (known : Triple 𝓤 (C #issue_value) (Value 𝓤 H A at-mem run)) where
@@ -126,37 +133,56 @@ module _ {M : Type 1} (𝓤 : URA M) (H : Heap 𝓤) (A : Atoms 𝓤) (W : Given
         enter ! C Λ code.function (vptr b o ∷ vint w32 n₁ ∷ vint w32 n₂ ∷ vint w32 n₃ ∷ []) _ $
         alloc1 ! (λ l₀. alloc1 ! (λ l₁. alloc1 ! (λ l₂. alloc1 ! (λ l₃. alloc1 ! (λ l₄. alloc1 ! (λ l₅. alloc1 ! (λ l₆. alloc0 ! $ params1 ! $ pass1 ! (init ! 10 refl (tt, tt)) $
         pass1 ! (init ! 8 refl (tt, record { fits = g₁ .1 })) $ pass1 ! (init ! 6 refl (tt, record { fits = g₂ .1 })) $ pass1 ! (init ! 4 refl (tt, record { fits = g₃ .1 })) $ pass0 ! $
-        move ! (14 ∷ 15 ∷ 16 ∷ []) $ opens ! tt T.the-row {h = h} b o (λ vs. spelt ! T.the-row (Is T.the-row) (shows 𝓤 H A T.the-row) (LL.vals T.the-type T′.the-laws) (LL.tells T.the-type T′.the-laws) fullShare h vs b o $
+        move ! (14 ∷ 15 ∷ 16 ∷ []) $ opens ! tt T.the-row {h = h} b o
+        (λ vs. spelt ! T.the-row (Is T.the-row) (shows 𝓤 H A T.the-row) (LL.vals T.the-type T′.the-laws) (LL.tells T.the-type T′.the-laws) fullShare h vs b o $
         move ! (1 ∷ []) $ peeks ! T.the-row (Is T.the-row) (shows 𝓤 H A T.the-row) h (LL.vals T.the-type T′.the-laws h) (λ was. move ! (1 ∷ 0 ∷ []) $
         -- [the struct's cell; what a Client owns; the open borrow; obs; auth; _6; …; _5; …; _4; …; _3; …; _2; …; _1; …; room for _0; …]
         assigns ! (of-opd ! (load ! (from ! (hop ! (look ! 15 refl) (stop !))) (look-raw ! 0 refl))) (from ! (stop !)) (init ! 5 refl (LL.lawful T.the-type T′.the-laws 𝓤 H A W .typed h _ was .0)) $
         -- the call
         nothing ! $ use1 W (raw (Value 𝓤 H A at-mem run .pre to-value)) (goes-value was (g₁ .1) (g₂ .1) (g₃ .1)) $
-        calls-at ! fm (Value 𝓤 H A at-mem run) known to-value (and-then ! (load ! (from ! (stop !)) (look ! 6 refl)) (and-then ! (load ! (from ! (stop !)) (look ! 14 refl)) (and-then ! (load ! (from ! (stop !)) (look ! 12 refl)) (and-then ! (load ! (from ! (stop !)) (look ! 10 refl)) (no-more !))))) (λ w.
-        use1 W (later (some (λ (r : Sending). (‵ ftrue ⊛ ‵ (S.the-row .own r (w ∷ []))) ⊛ raw (ensured 𝓤 H A value.ended (value.clauses 𝓤 H A at-mem run) tt (h, (n₁, (n₂, (n₃, tt)))) tt r)))) (id⊢ 𝓤 _) $ await ! tt $ pick ! (λ r.
-        split ! $ move ! (1 ∷ []) $ use1 W (raw (fact 𝓤 (r ≡ sending (issueOf h n₁ n₂ (flip n₃))))) (got-of 𝓤 H A at-mem run h n₁ n₂ n₃ r) $ heard ! (r ≡ sending (issueOf h n₁ n₂ (flip n₃))) (λ e. split ! $ drop ! $
+        calls-at ! fm (Value 𝓤 H A at-mem run) known to-value
+        (and-then ! (load ! (from ! (stop !)) (look ! 6 refl))
+        (and-then ! (load ! (from ! (stop !)) (look ! 14 refl)) (and-then ! (load ! (from ! (stop !)) (look ! 12 refl)) (and-then ! (load ! (from ! (stop !)) (look ! 10 refl)) (no-more !))))) (λ w.
+        use1 W (later (some (λ (r : Sending). (‵ ftrue ⊛ ‵ (S.the-row .own r (w ∷ []))) ⊛ raw
+        (ensured 𝓤 H A value.ended (value.clauses 𝓤 H A at-mem run) tt (h, (n₁, (n₂, (n₃, tt)))) tt r)))) (id⊢ 𝓤 _) $ await ! tt $ pick ! (λ r.
+        split ! $ move ! (1 ∷ []) $ use1 W (raw (fact 𝓤 (r ≡ sending (issueOf h n₁ n₂ (flip n₃))))) (got-of 𝓤 H A at-mem run h n₁ n₂ n₃ r) $ heard !
+        (r ≡ sending (issueOf h n₁ n₂ (flip n₃))) (λ e. split ! $ drop ! $
         peeks ! S.the-row (Is S.the-row) (shows 𝓤 H A S.the-row) r (w ∷ []) (λ is.
         land ! (from ! (stop !)) (init ! 8 refl (LL.lawful S.the-type S′.the-laws 𝓤 H A W .typed r _ is .0)) $
         rewrite ! 8 (λ (u : Val). ‵ (fat fullShare S′.mir l₅ 0 u)) (ap only (LL.tells S.the-type S′.the-laws r (w ∷ []) is)) refl $ drop ! $
         -- [the struct's cell; what a Client owns; the open borrow; obs; auth; _6; …; _5; …; _4; …; _3; …; _2; …; _1; …; room for _0; …]
-        assigns ! (of-opd ! (load ! (from ! (fld ! refl (stop !))) (look-in ! 7 (sub ! 0 refl (whole !))))) (from ! (hop ! (look ! 15 refl) (stop !))) (store-raw ! 0 refl (LL.lawful T.the-type T′.the-laws 𝓤 H A W .typed (r .client) _ (inner r w is) .0)) $
-        assigns ! (of-opd ! (load ! (from ! (fld ! refl (stop !))) (look-in ! 7 (sub ! 1 refl (whole !))))) (from ! (stop !)) (init ! 17 refl (LL.lawful E.the-type E′.the-laws 𝓤 H A W .typed (r .reply) _ (said r w is) .0)) $
-        move ! (1 ∷ []) $ drop ! $ owned ! T.the-row (Is T.the-row) ((LL.makes T.the-type T′.the-plain) 𝓤 H A) (r .client) _ (inner r w is) $ move ! (1 ∷ 0 ∷ []) $ closes ! tt T.the-row (r .client) (client-val (r .client) ∷ []) b o $
+        assigns ! (of-opd ! (load ! (from ! (fld ! refl (stop !))) (look-in ! 7 (sub ! 0 refl (whole !))))) (from ! (hop ! (look ! 15 refl) (stop !)))
+        (store-raw ! 0 refl (LL.lawful T.the-type T′.the-laws 𝓤 H A W .typed (r .client) _ (inner r w is) .0)) $
+        assigns ! (of-opd ! (load ! (from ! (fld ! refl (stop !))) (look-in ! 7 (sub ! 1 refl (whole !))))) (from ! (stop !))
+        (init ! 17 refl (LL.lawful E.the-type E′.the-laws 𝓤 H A W .typed (r .reply) _ (said r w is) .0)) $
+        move ! (1 ∷ []) $ drop ! $ owned ! T.the-row (Is T.the-row) ((LL.makes T.the-type T′.the-plain) 𝓤 H A) (r .client) _ (inner r w is) $ move !
+        (1 ∷ 0 ∷ []) $ closes ! tt T.the-row (r .client) (client-val (r .client) ∷ []) b o $
         returns ! (look ! 15 refl) $ forget ! 3 refl $ forget ! 5 refl $ forget ! 7 refl $ forget ! 9 refl $ forget ! 11 refl $ forget ! 13 refl $ forget ! 15 refl $
-        move ! (15 ∷ 16 ∷ []) $ free1 ! $ move ! (13 ∷ 14 ∷ []) $ free1 ! $ move ! (11 ∷ 12 ∷ []) $ free1 ! $ move ! (9 ∷ 10 ∷ []) $ free1 ! $ move ! (7 ∷ 8 ∷ []) $ free1 ! $ move ! (5 ∷ 6 ∷ []) $ free1 ! $ move ! (3 ∷ 4 ∷ []) $ free1 ! $ free0 ! $
+        move ! (15 ∷ 16 ∷ []) $ free1 ! $ move ! (13 ∷ 14 ∷ []) $ free1 ! $ move ! (11 ∷ 12 ∷ []) $ free1 ! $ move ! (9 ∷ 10 ∷ []) $ free1 ! $ move !
+        (7 ∷ 8 ∷ []) $ free1 ! $ move ! (5 ∷ 6 ∷ []) $ free1 ! $ move ! (3 ∷ 4 ∷ []) $ free1 ! $ free0 ! $
         keep ! (0 ∷ 1 ∷ 2 ∷ []) $ by ! (exits r e (said r w is) (g₁ .1) (g₂ .1) (g₃ .1))))))))))))))))))
 
 module _ {M : Type 1} (𝓤 : URA M) (H : Heap 𝓤) (A : Atoms 𝓤) (W : Given 𝓤 H A) (at-mem : Memory → SProp 𝓤) (run : Routine → Fun 𝓤) where
-  issue-walks : (C : Calls 𝓤 H) (Λ : Loops 𝓤 H) → FmC 𝓤 H (W .laws) C → Triple 𝓤 (C #issue_value) (Value 𝓤 H A at-mem run) → Walks 𝓤 H A issue.ended stayed (WpFn 𝓤 H C Λ code.function) (issue.clauses 𝓤 H A at-mem run)
-  issue-walks C Λ fm known = walked 𝓤 H A issue.ended stayed (issue.clauses 𝓤 H A at-mem run) (WpFn 𝓤 H C Λ code.function) (λ κs. (ptr-vals, (uint-vals w32, (uint-vals w32, (uint-vals w32, tt))))) (λ κs. (mut-tells (named 0) (κs .0) T.the-row, (uint-tells w32, (uint-tells w32, (uint-tells w32, tt)))))
-      (λ κs qs bounds a _ _. via 𝓤 _ (fst∗ 𝓤 _ (emp 𝓤)) (walk 𝓤 H A W at-mem run (κs .0) (qs .0) (a .0 .ptr .0) (a .0 .ptr .1) (a .0 .name) (a .0 .now) (a .1 .0) (a .1 .1 .0) (a .1 .1 .1 .0) C Λ fm known))
+  issue-walks : (C : Calls 𝓤 H) (Λ : Loops 𝓤 H) → FmC 𝓤 H (W .laws) C → Triple 𝓤 (C #issue_value) (Value 𝓤 H A at-mem run)
+      → Walks 𝓤 H A issue.ended stayed (WpFn 𝓤 H C Λ code.function) (issue.clauses 𝓤 H A at-mem run)
+  issue-walks C Λ fm known =
+      walked 𝓤 H A issue.ended stayed (issue.clauses 𝓤 H A at-mem run) (WpFn 𝓤 H C Λ code.function) (λ κs. (ptr-vals, (uint-vals w32, (uint-vals w32, (uint-vals w32, tt)))))
+      (λ κs. (mut-tells (named 0) (κs .0) T.the-row, (uint-tells w32, (uint-tells w32, (uint-tells w32, tt)))))
+      (λ κs qs bounds a _ _. via 𝓤 _ (fst∗ 𝓤 _ (emp 𝓤))
+      (walk 𝓤 H A W at-mem run (κs .0) (qs .0) (a .0 .ptr .0) (a .0 .ptr .1) (a .0 .name) (a .0 .now) (a .1 .0) (a .1 .1 .0) (a .1 .1 .1 .0) C Λ fm known))
 
   goes : AllGo 𝓤 H A W 1 (issue.signature .params) (issue.ended .kept) stayed
-  goes = (goes-ref 𝓤 H A W 1 0 tt (plain (λ _. T.the-row)), (goes-none 𝓤 H A W 1 (λ _. u32) yes (λ κs x f. refl), (goes-none 𝓤 H A W 1 (λ _. u32) yes (λ κs x f. refl), (goes-none 𝓤 H A W 1 (λ _. u32) yes (λ κs x f. refl), tt))))
+  goes = (
+    goes-ref 𝓤 H A W 1 0 tt (plain (λ _. T.the-row)),
+    (goes-none 𝓤 H A W 1 (λ _. u32) yes (λ κs x f. refl), (goes-none 𝓤 H A W 1 (λ _. u32) yes (λ κs x f. refl), (goes-none 𝓤 H A W 1 (λ _. u32) yes (λ κs x f. refl), tt))),
+  )
 
-issue-meets : {M : Type 1} (𝓤 : URA M) (H : Heap 𝓤) (A : Atoms 𝓤) → Given 𝓤 H A → (at-mem : Memory → SProp 𝓤) (run : Routine → Fun 𝓤) (𝓣 : Tables 𝓤 H) → Triple 𝓤 (𝓣 .C #issue_value) (Value 𝓤 H A at-mem run)
+issue-meets : {M : Type 1} (𝓤 : URA M) (H : Heap 𝓤) (A : Atoms 𝓤) → Given 𝓤 H A → (at-mem : Memory → SProp 𝓤) (run : Routine → Fun 𝓤) (𝓣 : Tables 𝓤 H)
+    → Triple 𝓤 (𝓣 .C #issue_value) (Value 𝓤 H A at-mem run)
     → Meets 𝓤 H A issue.signature (WpFn 𝓤 H (𝓣 .C) (𝓣 .Λ) code.function) (issue.spec 𝓤 H A at-mem run)
-issue-meets 𝓤 H A W at-mem run 𝓣 known = walk-meets 𝓤 H A issue.ended stayed W (goes 𝓤 H A W at-mem run) (issue.clauses 𝓤 H A at-mem run) (WpFn 𝓤 H (𝓣 .C) (𝓣 .Λ) code.function) (WpFn-mono 𝓤 H (W .laws) 𝓣 code.function) (issue-walks 𝓤 H A W at-mem run (𝓣 .C) (𝓣 .Λ) (fmOf 𝓤 H (W .laws) 𝓣) known)
+issue-meets 𝓤 H A W at-mem run 𝓣 known =
+    walk-meets 𝓤 H A issue.ended stayed W (goes 𝓤 H A W at-mem run) (issue.clauses 𝓤 H A at-mem run) (WpFn 𝓤 H (𝓣 .C) (𝓣 .Λ) code.function)
+    (WpFn-mono 𝓤 H (W .laws) 𝓣 code.function) (issue-walks 𝓤 H A W at-mem run (𝓣 .C) (𝓣 .Λ) (fmOf 𝓤 H (W .laws) 𝓣) known)
 
 pub mantelorris-issue-spec : {M : Type 1} → stated.statement M
 unfolding code.routine tablesOf

@@ -6,15 +6,9 @@ use borrow.Author.Needs.{needs}
 use Rattle.client_c.proofs.mantelorris_start.Statement.{statement}
 use Rattle.client_c.proofs.mantelorris_start.Tie as tie
 
-start-requires : tie.Need-start-requires
-start-requires c κs = search needs
-
-start-number-requires : tie.Need-start-number-requires
-start-number-requires c κs = search needs
-
 returns : tie.Need-returns
 unfolding startReply
 returns c = rw (c .start-number .ensures, c .before .before .start .ensures) refl
 
 pub mantelorris-start-spec : {M : Type 1} → statement M
-mantelorris-start-spec = tie.close (tie.spec start-requires start-number-requires returns)
+mantelorris-start-spec = tie.close (tie.spec (λ c κs. search needs) (λ c κs. search needs) returns)

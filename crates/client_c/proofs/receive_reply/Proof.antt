@@ -8,21 +8,6 @@ use borrow.Author.Needs.{needs}
 use Rattle.client_c.proofs.receive_reply.Statement.{statement}
 use Rattle.client_c.proofs.receive_reply.Tie as tie
 
-enum-known-a : tie.Need-enum-known-a
-enum-known-a c = search needs
-
-enum-known-a-2 : tie.Need-enum-known-a-2
-enum-known-a-2 c = search needs
-
-flipped-requires : tie.Need-flipped-requires
-flipped-requires c κs = search needs
-
-enum-known-a-3 : tie.Need-enum-known-a-3
-enum-known-a-3 c = search needs
-
-enum-known-a-4 : tie.Need-enum-known-a-4
-enum-known-a-4 c = search needs
-
 returns : tie.Need-returns
 unfolding receiveReply receiveNumber brought flip
 returns c = rw (c .before .a .given .1) refl
@@ -43,11 +28,11 @@ pub receive-reply-spec : {M : Type 1} → statement M
 receive-reply-spec =
     tie.close
     (tie.spec
-    enum-known-a
-    enum-known-a-2
-    flipped-requires
-    enum-known-a-3
-    enum-known-a-4
+    (λ c. search needs)
+    (λ c. search needs)
+    (λ c κs. search needs)
+    (λ c. search needs)
+    (λ c. search needs)
     returns
     returns-2
     returns-3

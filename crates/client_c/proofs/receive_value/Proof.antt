@@ -5,14 +5,8 @@ use borrow.Author.Needs.{needs}
 use Rattle.client_c.proofs.receive_value.Statement.{statement}
 use Rattle.client_c.proofs.receive_value.Tie as tie
 
-receive-requires : tie.Need-receive-requires
-receive-requires c κs = search needs
-
-with-receive-reply-requires : tie.Need-with-receive-reply-requires
-with-receive-reply-requires c κs = search needs
-
 returns : tie.Need-returns
 returns c = rw (c .with-receive-reply .ensures, c .before .receive .ensures) refl
 
 pub receive-value-spec : {M : Type 1} → statement M
-receive-value-spec = tie.close (tie.spec receive-requires with-receive-reply-requires returns)
+receive-value-spec = tie.close (tie.spec (λ c κs. search needs) (λ c κs. search needs) returns)

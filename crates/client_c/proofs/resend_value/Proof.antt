@@ -5,14 +5,8 @@ use borrow.Author.Needs.{needs}
 use Rattle.client_c.proofs.resend_value.Statement.{statement}
 use Rattle.client_c.proofs.resend_value.Tie as tie
 
-resend-requires : tie.Need-resend-requires
-resend-requires c κs = search needs
-
-with-send-reply-requires : tie.Need-with-send-reply-requires
-with-send-reply-requires c κs = search needs
-
 returns : tie.Need-returns
 returns c = rw (c .with-send-reply .ensures, c .before .resend .ensures) refl
 
 pub resend-value-spec : {M : Type 1} → statement M
-resend-value-spec = tie.close (tie.spec resend-requires with-send-reply-requires returns)
+resend-value-spec = tie.close (tie.spec (λ c κs. search needs) (λ c κs. search needs) returns)

@@ -5,15 +5,6 @@ use borrow.Author.Needs.{needs}
 use Rattle.client_c.proofs.send_reply.Statement.{statement}
 use Rattle.client_c.proofs.send_reply.Tie as tie
 
-enum-known-a : tie.Need-enum-known-a
-enum-known-a c = search needs
-
-enum-known-a-2 : tie.Need-enum-known-a-2
-enum-known-a-2 c = search needs
-
-request-packet-requires : tie.Need-request-packet-requires
-request-packet-requires c κs = search needs
-
 returns : tie.Need-returns
 returns c = rw (c .before .a .given .1) (reply-none _)
 
@@ -22,4 +13,4 @@ returns-2 c = rw (c .before .before .a2 .given .1) (reply-request _ (c .request-
 
 pub send-reply-spec : {M : Type 1} → statement M
 send-reply-spec =
-    tie.close (tie.spec enum-known-a enum-known-a-2 request-packet-requires returns returns-2)
+    tie.close (tie.spec (λ c. search needs) (λ c. search needs) (λ c κs. search needs) returns returns-2)

@@ -6,12 +6,6 @@ use borrow.Author.Needs.{needs}
 use Rattle.client_c.proofs.start_number.Statement.{statement}
 use Rattle.client_c.proofs.start_number.Tie as tie
 
-enum-known-a : tie.Need-enum-known-a
-enum-known-a c = search needs
-
-enum-told : tie.Need-enum-told
-enum-told c = search needs
-
 returns : tie.Need-returns
 unfolding startNumber
 returns c = rw (c .before .a .given .1) refl
@@ -21,4 +15,4 @@ unfolding startNumber
 returns-2 c = rw (c .enum-told .given .1) refl
 
 pub start-number-spec : {M : Type 1} → statement M
-start-number-spec = tie.close (tie.spec enum-known-a enum-told returns returns-2)
+start-number-spec = tie.close (tie.spec (λ c. search needs) (λ c. search needs) returns returns-2)

@@ -6,12 +6,9 @@ use borrow.Author.Needs.{needs}
 use Rattle.client_c.proofs.with_receive_reply.Statement.{statement}
 use Rattle.client_c.proofs.with_receive_reply.Tie as tie
 
-receive-reply-requires : tie.Need-receive-reply-requires
-receive-reply-requires c κs = search needs
-
 returns : tie.Need-returns
 unfolding receiving
 returns c = rw (c .receive-reply .ensures) refl
 
 pub with-receive-reply-spec : {M : Type 1} → statement M
-with-receive-reply-spec = tie.close (tie.spec receive-reply-requires returns)
+with-receive-reply-spec = tie.close (tie.spec (λ c κs. search needs) returns)

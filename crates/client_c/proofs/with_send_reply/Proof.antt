@@ -6,12 +6,9 @@ use borrow.Author.Needs.{needs}
 use Rattle.client_c.proofs.with_send_reply.Statement.{statement}
 use Rattle.client_c.proofs.with_send_reply.Tie as tie
 
-send-reply-requires : tie.Need-send-reply-requires
-send-reply-requires c κs = search needs
-
 returns : tie.Need-returns
 unfolding sending
 returns c = rw (c .send-reply .ensures) refl
 
 pub with-send-reply-spec : {M : Type 1} → statement M
-with-send-reply-spec = tie.close (tie.spec send-reply-requires returns)
+with-send-reply-spec = tie.close (tie.spec (λ c κs. search needs) returns)

@@ -9,38 +9,28 @@ use borrow.Author.Needs.{needs}
 use lib.ListN.{length, drop}
 use Rattle.model.specs.Leases.{isTaken}
 use Rattle.model.specs.Tables.{every}
+use Rattle.model.specs.Limits.{leaseCount}
 use Rattle.leases.proofs.all_taken.Statement.{statement}
 use Rattle.leases.proofs.all_taken.Tie as tie
 
 abbrev Inv-loop : tie.InvT-loop
-Inv-loop ls i₀ i = (i ≤ 32) × (length ls ≡ 32) × (every isTaken ls ≡ every isTaken (drop i ls))
+Inv-loop ls i₀ i = (i ≤ leaseCount) × (length ls ≡ leaseCount) × (every isTaken ls ≡ every isTaken (drop i ls))
 
 abbrev μ-loop : tie.MeasureT-loop
-μ-loop ls i₀ i = 32 - i
+μ-loop ls i₀ i = leaseCount - i
 
 loop-holds : tie.Need-loop-holds Inv-loop μ-loop
 loop-holds c = (omega arith, search needs, refl)
 
-mul-l : tie.Need-mul-l Inv-loop μ-loop
-mul-l c = search needs
-
-array-copy-out-l : tie.Need-array-copy-out-l Inv-loop μ-loop
-array-copy-out-l c = search needs
-
-is-taken-requires : tie.Need-is-taken-requires Inv-loop μ-loop
-is-taken-requires c κs = search needs
-
 returns : tie.Need-returns Inv-loop μ-loop
-returns c = let l = c .before .before .before .before .loop in sym (l .inv .2 ∙ taken-off (c .before .before .before .before .before .args .t1) (l .i) (omega arith) (sym (c .before .is-taken .ensures) ∙ not-true _ (c .if1 .taken)))
-
-add-i : tie.Need-add-i Inv-loop μ-loop
-add-i c = search needs
-
-loop-less : tie.Need-loop-less Inv-loop μ-loop
-loop-less c = search needs
+returns c =
+    let l = c .before .before .before .before .loop in sym
+    (l .inv .2 ∙ taken-off (c .before .before .before .before .before .args .t1) (l .i) (omega arith) (sym (c .before .is-taken .ensures) ∙ not-true _ (c .if1 .taken)))
 
 loop-again : tie.Need-loop-again Inv-loop μ-loop
-loop-again c = let l = c .before .before .before .before .loop in (omega arith, omega arith, l .inv .2 ∙ taken-on (c .before .before .before .before .before .args .t1) (l .i) (omega arith) (sym (c .before .is-taken .ensures) ∙ not-false _ (c .if1 .left)))
+loop-again c =
+    let l = c .before .before .before .before .loop in
+    (omega arith, omega arith, l .inv .2 ∙ taken-on (c .before .before .before .before .before .args .t1) (l .i) (omega arith) (sym (c .before .is-taken .ensures) ∙ not-false _ (c .if1 .left)))
 
 returns-2 : tie.Need-returns-2 Inv-loop μ-loop
 returns-2 c = let l = c .before .loop in sym (l .inv .2 ∙ taken-end (c .before .before .args .t1) (l .i) (omega arith))
@@ -52,11 +42,11 @@ all-taken-spec =
     Inv-loop
     μ-loop
     loop-holds
-    mul-l
-    array-copy-out-l
-    is-taken-requires
+    (λ c. search needs)
+    (λ c. search needs)
+    (λ c κs. search needs)
     returns
-    add-i
-    loop-less
+    (λ c. search needs)
+    (λ c. search needs)
     loop-again
     returns-2)

@@ -6,9 +6,6 @@ use borrow.Author.Needs.{needs}
 use Rattle.leases.proofs.ended_at.Statement.{statement}
 use Rattle.leases.proofs.ended_at.Tie as tie
 
-has-ended-requires : tie.Need-has-ended-requires
-has-ended-requires c κs = search needs
-
 returns : tie.Need-returns
 unfolding endedAt
 returns c = rw (← c .before .has-ended .ensures, c .if1 .taken) refl
@@ -18,4 +15,4 @@ unfolding endedAt
 returns-2 c = rw (← c .before .has-ended .ensures, c .if1 .left) refl
 
 pub ended-at-spec : {M : Type 1} → statement M
-ended-at-spec = tie.close (tie.spec has-ended-requires returns returns-2)
+ended-at-spec = tie.close (tie.spec (λ c κs. search needs) returns returns-2)

@@ -8,41 +8,26 @@ use native.Mathlib.Omega.{arith}
 use borrow.Author.Needs.{needs}
 use lib.ListN.{length, take, drop}
 use Rattle.model.specs.Leases.{extended}
+use Rattle.model.specs.Limits.{leaseCount}
 use Rattle.leases.proofs.extended.Statement.{statement}
 use Rattle.leases.proofs.extended.Tie as tie
 
 abbrev Inv-loop : tie.InvT-loop
-Inv-loop x e ls out₀ i₀ out i = (i ≤ 32) × (length ls ≡ 32) × (out ≡ ls) × (extended x e ls ≡ take i ls ++ extended x e (drop i ls))
+Inv-loop x e ls out₀ i₀ out i = (i ≤ leaseCount) × (length ls ≡ leaseCount) × (out ≡ ls) × (extended x e ls ≡ take i ls ++ extended x e (drop i ls))
 
 abbrev μ-loop : tie.MeasureT-loop
-μ-loop x e ls out₀ i₀ out i = 32 - i
+μ-loop x e ls out₀ i₀ out i = leaseCount - i
 
 loop-holds : tie.Need-loop-holds Inv-loop μ-loop
 loop-holds c = (omega arith, search needs, refl, refl)
 
-mul-l : tie.Need-mul-l Inv-loop μ-loop
-mul-l c = search needs
-
-array-copy-out-l : tie.Need-array-copy-out-l Inv-loop μ-loop
-array-copy-out-l c = search needs
-
-mul-out : tie.Need-mul-out Inv-loop μ-loop
-mul-out c = search needs
-
-array-set-from-out : tie.Need-array-set-from-out Inv-loop μ-loop
-array-set-from-out c = search needs
-
 returns : tie.Need-returns Inv-loop μ-loop
 returns c = let l = c .before .before .before .before .loop in rw (l .inv .2) (extend-off _ _ (c .before .before .before .before .before .args .t3) (l .i) (omega arith) (l .inv .3) (c .if1 .taken))
 
-add-i : tie.Need-add-i Inv-loop μ-loop
-add-i c = search needs
-
-loop-less : tie.Need-loop-less Inv-loop μ-loop
-loop-less c = search needs
-
 loop-again : tie.Need-loop-again Inv-loop μ-loop
-loop-again c = let l = c .before .before .before .before .loop in (omega arith, omega arith, l .inv .2, extend-on _ _ (c .before .before .before .before .before .args .t3) (l .i) (omega arith) (l .inv .3) (c .if1 .left))
+loop-again c =
+    let l = c .before .before .before .before .loop in
+    (omega arith, omega arith, l .inv .2, extend-on _ _ (c .before .before .before .before .before .args .t3) (l .i) (omega arith) (l .inv .3) (c .if1 .left))
 
 returns-2 : tie.Need-returns-2 Inv-loop μ-loop
 returns-2 c = let l = c .before .loop in l .inv .2 ∙ extend-end _ _ (c .before .before .args .t3) (l .i) (omega arith) (l .inv .3)
@@ -54,12 +39,12 @@ extended-spec =
     Inv-loop
     μ-loop
     loop-holds
-    mul-l
-    array-copy-out-l
-    mul-out
-    array-set-from-out
+    (λ c. search needs)
+    (λ c. search needs)
+    (λ c. search needs)
+    (λ c. search needs)
     returns
-    add-i
-    loop-less
+    (λ c. search needs)
+    (λ c. search needs)
     loop-again
     returns-2)

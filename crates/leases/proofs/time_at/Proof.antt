@@ -5,12 +5,9 @@ use borrow.Author.Needs.{needs}
 use Rattle.leases.proofs.time_at.Statement.{statement}
 use Rattle.leases.proofs.time_at.Tie as tie
 
-greater-requires : tie.Need-greater-requires
-greater-requires c κs = search needs
-
 returns : tie.Need-returns
 unfolding timeAt
 returns c = search needs
 
 pub time-at-spec : {M : Type 1} → statement M
-time-at-spec = tie.close (tie.spec greater-requires returns)
+time-at-spec = tie.close (tie.spec (λ c κs. search needs) returns)

@@ -1,7 +1,0 @@
--- Laws that the proofs of `apply` cite.
-pub mod Composed
-pub mod Stages
-pub mod Gave
-pub mod Released
-pub mod Gone
-pub mod Executed

@@ -1,3 +1,0 @@
--- What the laws of `apply` speak of.
-pub mod Stage
-pub mod Room

@@ -1,2 +1,0 @@
--- Laws that the proofs of `apply_took` cite.
-pub mod Taken

@@ -1,2 +1,0 @@
--- What the contracts of `bench_c` cite.
-pub mod Sums

@@ -1,1 +1,0 @@
-// Worked cases of paper 01, computed by the definitions of `model`. No code.

@@ -1,2 +1,0 @@
--- What the contracts of `client_table` cite beside `model` and `laws`.
-pub mod Places

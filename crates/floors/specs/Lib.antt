@@ -1,2 +1,0 @@
--- What the contracts of `floors` cite beside `model`.
-pub mod Places

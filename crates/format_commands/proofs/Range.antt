@@ -1,0 +1,66 @@
+-- A command on a value in range leaves one in range.
+--     rule-in-range     the result's value is in the plan's range, its outcome is 0 to 3, its quality 0 or 1
+-- Assumes nothing.
+use Prim.Native.Nat.{ℕ, _+_, _-_, _*_, _/_, _≤_}
+use mathlib.Core.Path.{_≡_, subst}
+use mathlib.Core.Bool.{true}
+use native.Mathlib.Omega.{arith}
+use borrow.Author.Tests.{le-leb, eqb-true}
+use lib.Dec.{eqb}
+use Rattle.model.specs.declared.PlanEntry.{PlanEntry}
+use Rattle.model.specs.declared.Reading.{Reading}
+use Rattle.model.specs.Numbers.{half}
+use Rattle.model.specs.Versions.{Version, first}
+use Rattle.model.specs.Limits.{lastOutcome, lastQuality, wholePart}
+use Rattle.model.specs.Plan.{inRange, planEntryOk}
+use Rattle.model.specs.Packets.{outcomeOk}
+use Rattle.model.specs.Rules.{result, same, sumInRange, setRule, stepRule, reportRule, faultRule, partRule, ruleOf, argumentOk}
+use Rattle.model_laws.proofs.Tests.{choose}
+use Rattle.format_commands.specs.Results.{ResultOk}
+use Rattle.format_commands.proofs.Bounds.{range-bounds, sum-bounds, part-bounds, part-between, entry-ordered}
+
+module _ (e : PlanEntry) where
+  result-ok : (n v q : ℕ) → n ≤ lastOutcome → q ≤ lastQuality → e .low ≤ v → v ≤ e .high → ResultOk e (result n v q)
+  unfolding inRange outcomeOk
+  result-ok n v q a b c d =
+      record {
+        range = rw (le-leb (e .low) v c, le-leb v (e .high) d);
+        fits = λ h. omega arith;
+        outcome = rw (le-leb n lastOutcome a, le-leb q lastQuality b);
+      }
+
+  module _ (op a : ℕ) (r : Reading) (ok : planEntryOk e ≡ true) (within : inRange e (r .value) ≡ true) (quality : r .quality ≤ lastQuality) (argument : argumentOk op a ≡ true) where
+    unchanged-ok : (n : ℕ) → n ≤ lastOutcome → ResultOk e (same n r)
+    unchanged-ok n h = let b = range-bounds e (r .value) within in result-ok n (r .value) (r .quality) h quality (b .0) (b .1)
+
+    fallback-ok : ResultOk e (result 3 (e .fallback) 1)
+    fallback-ok = let b = entry-ordered e ok in result-ok 3 (e .fallback) 1 (omega arith) (omega arith) (b .0) (b .1)
+
+    stored-ok : inRange e a ≡ true → ResultOk e (result 0 a 0)
+    stored-ok h = let b = range-bounds e a h in result-ok 0 a 0 (omega arith) (omega arith) (b .0) (b .1)
+
+    step-ok : ResultOk e (stepRule e a r)
+    unfolding stepRule
+    step-ok =
+        choose (ResultOk e) (eqb (r .quality) 1) (λ h. unchanged-ok 2 (omega arith))
+        (λ h. choose (ResultOk e) (sumInRange e (r .value) a)
+        (λ k. let b = sum-bounds e (r .value) a k in result-ok 0 (r .value + a - half) (r .quality) (omega arith) quality (omega arith) (omega arith))
+        (λ k. unchanged-ok 1 (omega arith)))
+
+    part-ok : eqb op 5 ≡ true → ResultOk e (partRule e a)
+    unfolding partRule
+    part-ok h =
+        let b = part-bounds a (subst (λ (n : ℕ). argumentOk n a ≡ true) (eqb-true op 5 h) argument) in
+        let o = entry-ordered e ok in
+        let p = part-between (e .low) (e .high) (a - half) (omega arith) in
+        result-ok 0 (e .low + (e .high - e .low) * (a - half) / wholePart) 0 (omega arith) (omega arith) (omega arith) (omega arith)
+
+    pub rule-in-range : (v : Version) → ResultOk e (ruleOf v e op a r)
+    unfolding ruleOf setRule reportRule faultRule
+    rule-in-range first =
+        choose (ResultOk e) (eqb op 0) (λ h. unchanged-ok 0 (omega arith))
+        (λ h. choose (ResultOk e) (eqb op 1) (λ h. choose (ResultOk e) (inRange e a) (λ k. stored-ok k) (λ k. unchanged-ok 1 (omega arith)))
+        (λ h. choose (ResultOk e) (eqb op 2) (λ h. step-ok)
+        (λ h. choose (ResultOk e) (eqb op 3) (λ h. choose (ResultOk e) (inRange e a) (λ k. stored-ok k) (λ k. fallback-ok))
+        (λ h. choose (ResultOk e) (eqb op 4) (λ h. fallback-ok)
+        (λ h. choose (ResultOk e) (eqb op 5) (λ h. part-ok h) (λ h. unchanged-ok 1 (omega arith)))))))

@@ -1,0 +1,35 @@
+-- `command::step_valid` meets its contract.
+-- Assumes nothing.
+use mathlib.Core.Path.{_≡_, ap, sym, _∙_}
+use Prim.Native.Nat.{ℕ, _+_, _-_}
+use Rattle.format_numbers.proofs.Picks.{picks, yes-call}
+use Rattle.model.specs.Numbers.{half}
+use Rattle.model.specs.Rules.{result}
+use borrow.Author.Needs.{needs}
+use Rattle.format_commands.proofs.step_valid.Statement.{statement}
+use Rattle.format_commands.proofs.step_valid.Tie as tie
+
+sum-requires : tie.Need-sum-requires
+sum-requires c κs = sym (c .before .sum-in-range .ensures) ∙ c .if1 .taken
+
+returns : tie.Need-returns
+returns c =
+    let start = c .before .before .before .before .args in
+    let q = start .r .quality in
+    let e : c .result-of .result ≡ result 0 (c .before .sum .result) q = c .result-of .ensures in
+    let v : c .before .sum .result ≡ start .r .value + start .a - half = c .before .sum .ensures in
+    yes-call _ (c .before .before .before .sum-in-range .ensures) (c .before .before .if1 .taken) (e ∙ ap (λ (n : ℕ). result 0 n q) v)
+
+returns-2 : tie.Need-returns-2
+returns-2 c = search picks depth 12
+
+pub step-valid-spec : {M : Type 1} → statement M
+step-valid-spec =
+    tie.close
+    (tie.spec
+    (λ c κs. search needs)
+    sum-requires
+    (λ c κs. search needs)
+    (λ c κs. search needs)
+    returns
+    returns-2)

@@ -1,0 +1,210 @@
+// The plan, and the rule of each op on a point's value and quality. A signed number x of 32 bits is kept as x + 2^31.
+use model::constants;
+ghost use mathlib.Core.Path.{_≡_};
+ghost use mathlib.Core.Bool.{true};
+ghost use Prim.Native.Nat.{_+_, _-_, _≤_};
+ghost use lib.ListN.{length, drop};
+ghost use Rattle.model.specs.Choice.{pick};
+ghost use Rattle.model.specs.Numbers.{half};
+ghost use Rattle.model.specs.Plan.{planEntryOf, planEntryOk, planRowOk, planOk};
+ghost use Rattle.model.specs.Rules.{same, result, sumInRange, setRule, stepRule, reportRule, faultRule, partRule, argumentOk};
+ghost use Rattle.model.specs.Limits.{planRow, partOp, carriedOut, outOfRange};
+ghost use Rattle.format_commands.specs.Results.{checkedRule};
+use model::CommandResult;
+use model::PlanEntry;
+use model::Reading;
+
+// ---- the plan
+
+// The entry in the 16 bytes from at.
+pub fn plan_entry(s: &[u8], at: usize) -> PlanEntry
+    requires { ⌜ at + planRow ≤ length (now s) ⌝ }
+    ensures { λ x. ⌜ x ≡ planEntryOf (drop at (now (s .entry))) ⌝ }
+{
+    PlanEntry {
+        low: format_numbers::read_signed(s, at),
+        high: format_numbers::read_signed(s, at + 4),
+        fallback: format_numbers::read_signed(s, at + 8),
+        home: s[at + 12],
+    }
+}
+
+// low <= fallback <= high, and the home is a server.
+fn plan_entry_ok(e: PlanEntry) -> bool
+    ensures { λ x. ⌜ x ≡ planEntryOk e ⌝ }
+{
+    (e.home <= constants::LAST_SERVER) & ((e.low <= e.fallback) & (e.fallback <= e.high))
+}
+
+// The 16 bytes from at are an entry.
+pub fn plan_row_ok(s: &[u8], at: usize) -> bool
+    requires { ⌜ at + planRow ≤ length (now s) ⌝ }
+    ensures { λ x. ⌜ x ≡ planRowOk (drop at (now (s .entry))) ⌝ }
+{
+    let zeros = format_numbers::zeros3_at(s, at + 13);
+    let entry = plan_entry_ok(plan_entry(s, at));
+    zeros & entry
+}
+
+// The bytes are a plan.
+pub fn plan_ok(s: &[u8]) -> bool
+    ensures { λ x. ⌜ x ≡ planOk (now (s .entry)) ⌝ }
+{
+    if s.len() != constants::POINT_COUNT * constants::PLAN_ROW {
+        return false;
+    }
+    let mut i = 0;
+    while i < constants::POINT_COUNT {
+        if !plan_row_ok(s, constants::PLAN_ROW * i) {
+            return false;
+        }
+        i += 1;
+    }
+    true
+}
+
+// ---- the rule of each op
+
+// a - b, or 0 where b is the greater.
+fn minus(a: u64, b: u64) -> u64
+    ensures { λ x. ⌜ x ≡ a - b ⌝ }
+{
+    if b <= a { a - b } else { 0 }
+}
+
+// Outcome n, value v, quality q.
+fn result_of(n: u8, v: u32, q: u8) -> CommandResult
+    ensures { λ x. ⌜ x ≡ result n v q ⌝ }
+{
+    CommandResult {
+        outcome: n,
+        value: v,
+        quality: q,
+    }
+}
+
+// Outcome n, no change.
+fn unchanged(n: u8, r: Reading) -> CommandResult
+    ensures { λ x. ⌜ x ≡ same n r ⌝ }
+{
+    CommandResult {
+        outcome: n,
+        value: r.value,
+        quality: r.quality,
+    }
+}
+
+// v + a is in range.
+fn sum_in_range(e: PlanEntry, v: u32, a: u32) -> bool
+    ensures { λ x. ⌜ x ≡ sumInRange e v a ⌝ }
+{
+    let low = e.low as u64;
+    let high = e.high as u64;
+    let sum = v as u64 + a as u64;
+    (low + constants::HALF_U64 <= sum) & (sum <= high + constants::HALF_U64)
+}
+
+// v + a, where it is in range.
+fn sum(e: PlanEntry, v: u32, a: u32) -> u32
+    requires { ⌜ sumInRange e v a ≡ true ⌝ }
+    ensures { λ x. ⌜ x ≡ v + a - half ⌝ }
+{
+    (v as u64 + a as u64 - constants::HALF_U64) as u32
+}
+
+fn set_rule(e: PlanEntry, a: u32, r: Reading) -> CommandResult
+    ensures { λ x. ⌜ x ≡ setRule e a r ⌝ }
+{
+    if format_numbers::in_range(e, a) {
+        result_of(constants::CARRIED_OUT, a, constants::VALID)
+    } else {
+        unchanged(constants::OUT_OF_RANGE, r)
+    }
+}
+
+// v + a, where it is in range; else outcome 1.
+fn step_valid(e: PlanEntry, a: u32, r: Reading) -> CommandResult
+    ensures { λ x. ⌜ x ≡ pick (sumInRange e (r .value) a) (result carriedOut (r .value + a - half) (r .quality)) (same outOfRange r) ⌝ }
+{
+    let v = r.value;
+    let q = r.quality;
+    if sum_in_range(e, v, a) {
+        result_of(constants::CARRIED_OUT, sum(e, v, a), q)
+    } else {
+        unchanged(constants::OUT_OF_RANGE, r)
+    }
+}
+
+// What a step of a valid value gives is found before the quality is looked at: a choice, and no jump that a processor guesses.
+fn step_rule(e: PlanEntry, a: u32, r: Reading) -> CommandResult
+    ensures { λ x. ⌜ x ≡ stepRule e a r ⌝ }
+{
+    let next = step_valid(e, a, r);
+    let q = r.quality;
+    if q == constants::INVALID {
+        unchanged(constants::ON_INVALID, r)
+    } else {
+        next
+    }
+}
+
+fn report_rule(e: PlanEntry, a: u32, r: Reading) -> CommandResult
+    ensures { λ x. ⌜ x ≡ reportRule e a r ⌝ }
+{
+    if format_numbers::in_range(e, a) {
+        result_of(constants::CARRIED_OUT, a, constants::VALID)
+    } else {
+        result_of(constants::FELL_BACK, e.fallback, constants::INVALID)
+    }
+}
+
+fn fault_rule(e: PlanEntry) -> CommandResult
+    ensures { λ x. ⌜ x ≡ faultRule e ⌝ }
+{
+    result_of(constants::FELL_BACK, e.fallback, constants::INVALID)
+}
+
+fn part_rule(e: PlanEntry, a: u32) -> CommandResult
+    requires { ⌜ argumentOk partOp a ≡ true ⌝ }
+    ensures { λ x. ⌜ x ≡ partRule e a ⌝ }
+{
+    let low = e.low as u64;
+    let span = minus(e.high as u64, low);
+    let parts = minus(a as u64, constants::HALF_U64);
+    let v = low + span * parts / constants::WHOLE_PART_U64;
+    result_of(constants::CARRIED_OUT, v as u32, constants::VALID)
+}
+
+// A command's result: outcome, and value and quality after it. An argument outside its op's range changes nothing, outcome 1;
+// set, step and report take any.
+pub fn checked_rule(e: PlanEntry, op: u8, argument: u32, r: Reading) -> CommandResult
+    ensures { λ x. ⌜ x ≡ checkedRule e op argument r ⌝ }
+{
+    match op {
+        constants::READ_OP => {
+            if format_numbers::argument_ok(constants::READ_OP, argument) {
+                unchanged(constants::CARRIED_OUT, r)
+            } else {
+                unchanged(constants::OUT_OF_RANGE, r)
+            }
+        }
+        constants::SET_OP => set_rule(e, argument, r),
+        constants::STEP_OP => step_rule(e, argument, r),
+        constants::REPORT_OP => report_rule(e, argument, r),
+        constants::FAULT_OP => {
+            if format_numbers::argument_ok(constants::FAULT_OP, argument) {
+                fault_rule(e)
+            } else {
+                unchanged(constants::OUT_OF_RANGE, r)
+            }
+        }
+        constants::PART_OP => {
+            if format_numbers::argument_ok(constants::PART_OP, argument) {
+                part_rule(e, argument)
+            } else {
+                unchanged(constants::OUT_OF_RANGE, r)
+            }
+        }
+        6..=255 => unchanged(constants::OUT_OF_RANGE, r),
+    }
+}

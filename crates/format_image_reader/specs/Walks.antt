@@ -1,0 +1,73 @@
+-- What the two walks of the reader answer, over the floors and over the completion records, and one step of each.
+-- Assumes nothing.
+use Prim.Native.Nat.{ℕ, suc, _+_, _*_}
+use mathlib.Core.Bool.{Bool, true, _&&_}
+use mathlib.Core.List.{List, [], _∷_}
+use lib.ListN.{drop}
+use lib.Dec.{eqb, ltb}
+use Rattle.model.specs.declared.Floor.{Floor}
+use Rattle.model.specs.declared.ImageEntry.{ImageEntry}
+use Rattle.model.specs.declared.ImageHead.{ImageHead}
+use Rattle.model.specs.Choice.{pick}
+use Rattle.model.specs.Tables.{rows, everyRow, every}
+use Rattle.model.specs.Limits.{leastImage, floorRow, entryRow}
+use Rattle.model.specs.Packets.{commandOk, outcomeOk, idOk}
+use Rattle.model.specs.Images.{floorOfBytes, imageEntryOf, imageAt, floorOk, inWindow, clientsAscend, idsAscend, entryRowOk, imageEntryOk, imageTablesOk}
+use Rattle.format_image_rows.specs.Order.{entryBefore}
+
+-- ---- floors
+
+-- the first n floors of an image
+abbrev pub floorsIn : List ℕ → ℕ → List Floor
+floorsIn s n = rows floorOfBytes floorRow n (drop leastImage s)
+
+-- a floor's client is below that of the first floor behind it
+unfoldable pub clientFollows : Floor → List Floor → Bool
+clientFollows f [] = true
+clientFollows f (g ∷ gs) = ltb (f .client) (g .client)
+
+-- the floor in front of t, with so many behind it
+unfoldable pub floorStep : ℕ → List ℕ → Bool
+floorStep left t =
+    clientFollows (floorOfBytes t) (rows floorOfBytes floorRow left (drop floorRow t)) && floorOk (floorOfBytes t)
+
+unfoldable pub floorsOk : List Floor → Bool
+floorsOk fs = every floorOk fs && clientsAscend fs
+
+-- how many floors in front have a client below x
+unfoldable pub leading : ℕ → List Floor → ℕ
+leading x [] = 0
+leading x (f ∷ fs) = pick (ltb (f .client) x) (suc (leading x fs)) 0
+
+-- the floor in front where it is of the client x, else 0
+unfoldable pub floorFirst : ℕ → List Floor → ℕ
+floorFirst x [] = 0
+floorFirst x (f ∷ fs) = pick (eqb (f .client) x) (f .floor) 0
+
+-- ---- completion records
+
+-- a record's id is before that of the first record behind it
+unfoldable pub idFollows : ImageEntry → List ImageEntry → Bool
+idFollows e [] = true
+idFollows e (f ∷ fs) = entryBefore e f
+
+-- a record of the point p whose client has the floor k: imageEntryOk, with the floor found
+unfoldable pub entryFieldsOk : ℕ → ℕ → ImageEntry → Bool
+entryFieldsOk p k e =
+    commandOk (e .op) p (e .argument) && (outcomeOk (e .result .outcome) (e .result .quality) && (idOk (e .client) (e .call) && inWindow k (e .call)))
+
+-- the record in front of t, with so many behind it
+unfoldable pub entryStep : ℕ → ℕ → ℕ → List ℕ → Bool
+entryStep p k left t =
+    idFollows (imageEntryOf t) (rows imageEntryOf entryRow left (drop entryRow t)) && (entryRowOk t && entryFieldsOk p k (imageEntryOf t))
+
+-- m records of the point p in front of t, among the floors fs
+unfoldable pub entriesOk : ℕ → List Floor → ℕ → List ℕ → Bool
+entriesOk p fs m t =
+    everyRow entryRowOk entryRow m t
+    && (every (imageEntryOk p fs) (rows imageEntryOf entryRow m t) && idsAscend (rows imageEntryOf entryRow m t))
+
+-- ---- both tables
+
+unfoldable pub rowsOk : ImageHead → List ℕ → Bool
+rowsOk h s = everyRow entryRowOk entryRow (h .entries) (drop (leastImage + floorRow * h .floors) s) && imageTablesOk (imageAt h s)

@@ -1,0 +1,37 @@
+-- `image_rows::parts_ok` meets its contract.
+-- Assumes nothing.
+use Rattle.model.specs.Images.{imageParts}
+use borrow.Author.Needs.{needs}
+use Rattle.format_image_rows.proofs.parts_ok.Statement.{statement}
+use Rattle.format_image_rows.proofs.parts_ok.Tie as tie
+
+returns : tie.Need-returns
+unfolding imageParts
+returns c =
+    let c5 = c .before in
+    let c4 = c5 .before in
+    let c3 = c4 .before in
+    let c2 = c3 .before in
+    let c1 = c2 .before in
+    rw (c .read-u326 .ensures, c5 .read-u325 .ensures, c4 .read-u324 .ensures, c3 .read-u323 .ensures, c2 .read-u322 .ensures, c1 .read-u32 .ensures)
+
+pub parts-ok-spec : {M : Type 1} → statement M
+parts-ok-spec =
+    tie.close
+    (tie.spec
+    (λ c. search needs)
+    (λ c. search needs)
+    (λ c. search needs)
+    (λ c. search needs)
+    (λ c. search needs)
+    (λ c κs. search needs)
+    (λ c κs. search needs)
+    (λ c κs. search needs)
+    (λ c κs. search needs)
+    (λ c. search needs)
+    (λ c κs. search needs)
+    (λ c. search needs)
+    (λ c κs. search needs)
+    (λ c. search needs)
+    (λ c. search needs)
+    returns)

@@ -1,0 +1,166 @@
+// Rows and head of a moving image at their places in a slice, and the tests of one row, of two neighbours and of the head.
+use model::CommandResult;
+use model::Floor;
+use model::ImageEntry;
+use model::ImageHead;
+use model::PlanEntry;
+use model::constants;
+ghost use mathlib.Core.Path.{_≡_};
+ghost use Prim.Native.Nat.{_+_, _*_, _≤_};
+ghost use lib.ListN.{length, drop};
+ghost use lib.Dec.{ltb};
+ghost use Rattle.model.specs.Limits.{floorRow, entryRow, leastImage};
+ghost use Rattle.model.specs.Images.{floorOfBytes, imageEntryOf, imageHeadOf};
+ghost use Rattle.model.specs.Images.{imageFramed, imageHeadOk, imageParts, floorOk, inWindow, entryRowOk, entryInRange};
+ghost use Rattle.format_image_rows.specs.Order.{entryBefore};
+
+// ---- rows and head, at their places
+
+// The floor in the 8 bytes from k.
+pub fn floor_from(s: &[u8], k: usize) -> Floor
+    requires { ⌜ k + floorRow ≤ length (now s) ⌝ }
+    ensures { λ r. ⌜ r ≡ floorOfBytes (drop k (now (s .entry))) ⌝ }
+{
+    Floor {
+        client: format_numbers::read_u32(s, k),
+        floor: format_numbers::read_u32(s, k + 4),
+    }
+}
+
+// The completion record in the 20 bytes from k.
+pub fn entry_from(s: &[u8], k: usize) -> ImageEntry
+    requires { ⌜ k + entryRow ≤ length (now s) ⌝ }
+    ensures { λ r. ⌜ r ≡ imageEntryOf (drop k (now (s .entry))) ⌝ }
+{
+    let result = CommandResult {
+        outcome: s[k + 17],
+        value: format_numbers::read_signed(s, k + 12),
+        quality: s[k + 18],
+    };
+    ImageEntry {
+        client: format_numbers::read_u32(s, k),
+        call: format_numbers::read_u32(s, k + 4),
+        op: s[k + 16],
+        argument: format_numbers::read_signed(s, k + 8),
+        result,
+    }
+}
+
+// The fields outside the two tables, with the numbers of their rows.
+pub fn head_from(s: &[u8]) -> ImageHead
+    requires { ⌜ leastImage ≤ length (now s) ⌝ }
+    ensures { λ r. ⌜ r ≡ imageHeadOf (now (s .entry)) ⌝ }
+{
+    ImageHead {
+        point: s[4],
+        destination: s[5],
+        source: s[6],
+        moveNumber: format_numbers::read_u32(s, 8),
+        heard: format_numbers::read_u32(s, 12),
+        value: format_numbers::read_signed(s, 40),
+        quality: s[44],
+        floors: format_numbers::read_u32(s, 28) / constants::FLOOR_ROW_U32,
+        entries: format_numbers::read_u32(s, 36) / constants::ENTRY_ROW_U32,
+    }
+}
+
+// ---- tests of the head
+
+// The four bytes, and the zero bytes.
+pub fn framed(s: &[u8]) -> bool
+    requires { ⌜ leastImage ≤ length (now s) ⌝ }
+    ensures { λ r. ⌜ r ≡ imageFramed (now (s .entry)) ⌝ }
+{
+    let zeros = format_numbers::zeros3_at(s, 45);
+    (s[0] == constants::IMAGE_MAGIC[0])
+        & ((s[1] == constants::IMAGE_MAGIC[1])
+            & ((s[2] == constants::IMAGE_MAGIC[2])
+                & ((s[3] == constants::IMAGE_MAGIC[3]) & ((s[7] == 0) & zeros))))
+}
+
+pub fn head_ok(h: ImageHead) -> bool
+    ensures { λ r. ⌜ r ≡ imageHeadOk h ⌝ }
+{
+    (h.point <= constants::LAST_POINT)
+        & ((h.destination <= constants::LAST_SERVER)
+            & ((h.source <= constants::LAST_SERVER)
+                & ((h.quality <= constants::LAST_QUALITY)
+                    & (h.floors <= constants::CLIENT_COUNT_U32))))
+}
+
+// Three parts without gaps from byte 40 to the slice's end.
+pub fn parts_ok(s: &[u8], h: ImageHead) -> bool
+    requires { ⌜ leastImage ≤ length (now s) ⌝ }
+    ensures { λ r. ⌜ r ≡ imageParts h (now (s .entry)) ⌝ }
+{
+    let floors = constants::FLOOR_ROW * (h.floors as usize);
+    let entries = constants::ENTRY_ROW * (h.entries as usize);
+    let records = constants::LEAST_IMAGE + floors;
+    let first = format_numbers::read_u32(s, 16);
+    let first_length = format_numbers::read_u32(s, 20);
+    let second = format_numbers::read_u32(s, 24);
+    let second_length = format_numbers::read_u32(s, 28) as usize;
+    let third = format_numbers::read_u32(s, 32) as usize;
+    let third_length = format_numbers::read_u32(s, 36) as usize;
+    (first == constants::PARTS_START_U32)
+        & ((first_length == constants::POINT_PART_U32)
+            & ((second == constants::LEAST_IMAGE_U32)
+                & ((second_length == floors)
+                    & ((third == records)
+                        & ((third_length == entries) & (s.len() == records + entries))))))
+}
+
+// ---- tests of a row
+
+// The call is from floor to floor + 15, and the client has a floor.
+pub fn in_window(floor: u32, call: u32) -> bool
+    ensures { λ r. ⌜ r ≡ inWindow floor call ⌝ }
+{
+    (1 <= floor) & ((floor <= call) & (call as u64 <= floor as u64 + constants::LAST_IN_WINDOW))
+}
+
+// The floor from k: client and floor are from 1.
+pub fn floor_ok(s: &[u8], k: usize) -> bool
+    requires { ⌜ k + floorRow ≤ length (now s) ⌝ }
+    ensures { λ r. ⌜ r ≡ floorOk (floorOfBytes (drop k (now (s .entry)))) ⌝ }
+{
+    let f = floor_from(s, k);
+    (1 <= f.client) & (1 <= f.floor)
+}
+
+// The client of the floor from k is below that of the next.
+pub fn client_before(s: &[u8], k: usize) -> bool
+    requires { ⌜ k + 2 * floorRow ≤ length (now s) ⌝ }
+    ensures { λ r. ⌜ r ≡ ltb (floorOfBytes (drop k (now (s .entry))) .client) (floorOfBytes (drop (k + floorRow) (now (s .entry))) .client) ⌝ }
+{
+    let f = floor_from(s, k);
+    let g = floor_from(s, k + constants::FLOOR_ROW);
+    f.client < g.client
+}
+
+// The zero byte of the row from k.
+pub fn entry_row_ok(s: &[u8], k: usize) -> bool
+    requires { ⌜ k + entryRow ≤ length (now s) ⌝ }
+    ensures { λ r. ⌜ r ≡ entryRowOk (drop k (now (s .entry))) ⌝ }
+{
+    format_numbers::zero_at(s, k + 19)
+}
+
+// The id of the record from k is before that of the next.
+pub fn id_before(s: &[u8], k: usize) -> bool
+    requires { ⌜ k + 2 * entryRow ≤ length (now s) ⌝ }
+    ensures { λ r. ⌜ r ≡ entryBefore (imageEntryOf (drop k (now (s .entry)))) (imageEntryOf (drop (k + entryRow) (now (s .entry)))) ⌝ }
+{
+    let e = entry_from(s, k);
+    let f = entry_from(s, k + constants::ENTRY_ROW);
+    (e.client < f.client) | ((e.client == f.client) & (e.call < f.call))
+}
+
+// The value of the record from k.
+pub fn entry_in_range(s: &[u8], e: PlanEntry, k: usize) -> bool
+    requires { ⌜ k + entryRow ≤ length (now s) ⌝ }
+    ensures { λ r. ⌜ r ≡ entryInRange e (imageEntryOf (drop k (now (s .entry)))) ⌝ }
+{
+    let x = entry_from(s, k);
+    format_numbers::in_range(e, x.result.value)
+}

@@ -1,0 +1,105 @@
+-- Runs of stores, one after the other, as one; and the whole image.
+--     two-runs, five-runs     of 4 bytes each
+--     head-parts              the bytes before the tables, in three parts
+--     head-image              and those of an image, by its head
+--     rows-next               a row stored behind rows
+--     Copied, copied-..       a loop that stores rows
+--     image-written           head, floors and records stored one after the other are the image; image-kept: bytes past it are kept
+-- Assumes nothing.
+use Prim.Native.Nat.{ℕ, _+_, _*_, _≤_, _<_}
+use mathlib.Core.Path.{_≡_, refl, sym, ap, _∙_}
+use mathlib.Core.List.{List, [], _∷_, _++_}
+use native.Mathlib.Omega.{arith}
+use lib.ListN.{length, drop}
+use Rattle.model.specs.declared.ImageHead.{ImageHead}
+use Rattle.model.specs.Numbers.{le32, quad}
+use Rattle.model.specs.Tables.{rows, bytesOf, written}
+use Rattle.model.specs.Limits.{leastImage, floorRow, entryRow}
+use Rattle.model.specs.Images.{Image, imageAt, imageHeadBytes, imageBytes, imageLength, floorOfBytes, floorBytes, imageEntryOf, imageEntryBytes}
+use Rattle.model_laws.specs.Codec.{Codec}
+use Rattle.model_laws.specs.Fits.{imageHead}
+use Rattle.model_laws.proofs.Written.{length-written, written-none, written-append, drop-written-past, run-behind}
+use Rattle.model_laws.proofs.Tables.{length-rows, rows-snoc, bytesOf-append, bytesOf-one, length-bytesOf}
+use Rattle.model_laws.proofs.Images.{floorCodec, image-length}
+use Rattle.format_image_writer.specs.Heads.{headBytes, frameBytes, pairBytes, pointBytes}
+
+pub two-runs : (s : List ℕ) (k v w : ℕ) → written (written s k (le32 v)) (k + 4) (le32 w) ≡ written s k (le32 v ++ le32 w)
+two-runs s k v w = run-behind s k (le32 v) (le32 w) refl refl
+
+pub five-runs : (s : List ℕ) (k v w x y a b c d : ℕ)
+    → written (written (written (written (written s k (le32 v)) (k + 4) (le32 w)) (k + 8) (le32 x)) (k + 12) (le32 y)) (k + 16) (quad a b c d)
+    ≡ written s k (le32 v ++ (le32 w ++ (le32 x ++ (le32 y ++ quad a b c d))))
+five-runs s k v w x y a b c d =
+    ap (λ (z : List ℕ). written (written (written z (k + 8) (le32 x)) (k + 12) (le32 y)) (k + 16) (quad a b c d)) (run-behind s k (le32 v) (le32 w) refl refl)
+    ∙ ap (λ (z : List ℕ). written (written z (k + 12) (le32 y)) (k + 16) (quad a b c d)) (run-behind s k (le32 v ++ le32 w) (le32 x) refl refl)
+    ∙ ap (λ (z : List ℕ). written z (k + 16) (quad a b c d)) (run-behind s k (le32 v ++ (le32 w ++ le32 x)) (le32 y) refl refl)
+    ∙ run-behind s k (le32 v ++ (le32 w ++ (le32 x ++ le32 y))) (quad a b c d) refl refl
+
+pub head-parts : (h : ImageHead) → headBytes h ≡ frameBytes h ++ (pairBytes (h .floors) (h .entries) ++ pointBytes (h .value) (h .quality))
+unfolding headBytes frameBytes pairBytes pointBytes imageHeadBytes imageAt
+head-parts h = rw (length-rows floorOfBytes floorRow (h .floors) [], length-rows imageEntryOf entryRow (h .entries) (drop (leastImage + floorRow * h .floors) []))
+
+pub head-written : (s : List ℕ) (h : ImageHead)
+    → written (written (written s 0 (frameBytes h)) 16 (pairBytes (h .floors) (h .entries))) 40 (pointBytes (h .value) (h .quality)) ≡ written s 0 (headBytes h)
+unfolding frameBytes pairBytes
+head-written s h =
+    let frame : List ℕ = frameBytes h in
+    let pairs : List ℕ = pairBytes (h .floors) (h .entries) in
+    let point : List ℕ = pointBytes (h .value) (h .quality) in
+    ap (λ (x : List ℕ). written x 40 point) (run-behind s 0 frame pairs refl refl)
+    ∙ run-behind s 0 (frame ++ pairs) point refl refl
+    ∙ ap (λ (x : List ℕ). written s 0 x) (sym (head-parts h))
+
+pub head-image : (i : Image) → headBytes (imageHead i) ≡ imageHeadBytes i
+unfolding headBytes imageHeadBytes imageHead imageAt
+head-image i =
+    rw (length-rows floorOfBytes floorRow (length (i .floors)) [], length-rows imageEntryOf entryRow (length (i .entries)) (drop (leastImage + floorRow * length (i .floors)) []))
+
+-- ---- rows
+
+module _ {A : Type 0} (C : Codec A) where
+  pub rows-next : (s : List ℕ) (k : ℕ) (rs : List A) (r : A) → written (written s k (bytesOf (C .enc) rs)) (k + C .width * length rs) (C .enc r) ≡ written s k (bytesOf (C .enc) (rs ++ (r ∷ [])))
+  rows-next s k rs r = rw (bytesOf-append, bytesOf-one, written-append, length-bytesOf)
+
+  -- i rows of a table t were stored from k on
+  pub record Copied (k : ℕ) (s₀ t s : List ℕ) (n i : ℕ) : Type 0 where
+    pub below : i ≤ n
+    pub same : length s ≡ length s₀
+    pub bytes : s ≡ written s₀ k (bytesOf (C .enc) (rows (C .dec) (C .width) i t))
+
+  pub copied-start : (k : ℕ) (s t : List ℕ) (n : ℕ) → Copied k s t s n 0
+  unfolding rows bytesOf
+  copied-start k s t n = record { below = omega arith; same = refl; bytes = sym (written-none s k) }
+
+  pub copied-next : {k : ℕ} {s₀ t s s' : List ℕ} {n i : ℕ} {r : A} → Copied k s₀ t s n i → i < n → r ≡ C .dec (drop (C .width * i) t) → s' ≡ written s (k + C .width * i) (C .enc r)
+      → Copied k s₀ t s' n (i + 1)
+  copied-next {k} {s₀} {t} {s} {s'} {n} {i} {r} o h p q =
+      record {
+        below = omega arith;
+        same = rw (q, length-written) (o .same);
+        bytes =
+            q
+            ∙ ap (λ (x : List ℕ). written x (k + C .width * i) (C .enc r)) (o .bytes)
+            ∙ ap (λ (m : ℕ). written (written s₀ k (bytesOf (C .enc) (rows (C .dec) (C .width) i t))) (k + C .width * m) (C .enc r)) (sym (length-rows (C .dec) (C .width) i t))
+            ∙ rows-next s₀ k (rows (C .dec) (C .width) i t) r
+            ∙ rw (rows-snoc (C .dec) (C .width) i t, p);
+      }
+
+  pub copied-end : {k : ℕ} {s₀ t s : List ℕ} {n i : ℕ} → Copied k s₀ t s n i → n ≤ i → s ≡ written s₀ k (bytesOf (C .enc) (rows (C .dec) (C .width) n t))
+  copied-end {k} {s₀} {t} {s} {n} {i} o h = let e : n ≡ i = omega arith in rw e (o .bytes)
+
+-- ---- the whole
+
+head-length : (i : Image) → length (imageHeadBytes i) ≡ leastImage
+unfolding imageHeadBytes
+head-length i = refl
+
+pub image-written : (s : List ℕ) (i : Image)
+    → written (written (written s 0 (headBytes (imageHead i))) leastImage (bytesOf floorBytes (i .floors))) (leastImage + floorRow * length (i .floors)) (bytesOf imageEntryBytes (i .entries))
+    ≡ written s 0 (imageBytes i)
+unfolding imageBytes
+image-written s i =
+    rw (head-image i, written-append s 0 (imageHeadBytes i), written-append, head-length i, length-bytesOf floorCodec (i .floors))
+
+pub image-kept : (s : List ℕ) (i : Image) → drop (imageLength i) (written s 0 (imageBytes i)) ≡ drop (imageLength i) s
+image-kept s i = drop-written-past (imageLength i) s 0 (imageBytes i) (omega (arith, image-length i))

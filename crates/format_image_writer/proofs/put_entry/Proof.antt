@@ -1,0 +1,37 @@
+-- `image_writer::put_entry` meets its contract.
+-- Assumes nothing.
+use Rattle.model.specs.Images.{imageEntryBytes}
+use Rattle.model.specs.Numbers.{flip}
+use Rattle.format_image_writer.proofs.Runs.{five-runs}
+use borrow.Author.Needs.{needs}
+use Rattle.format_image_writer.proofs.put_entry.Statement.{statement}
+use Rattle.format_image_writer.proofs.put_entry.Tie as tie
+
+returns : tie.Need-returns
+unfolding imageEntryBytes
+returns c =
+    let c5 = c .before .before in
+    let c4 = c5 .before .before .before .before in
+    let c3 = c4 .before .before .before .before in
+    let c2 = c3 .before .before .before .before in
+    let c1 = c2 .before .before .before .before in
+    let start = c1 .before .before .before .args in
+    rw (c5 .write-4 .ensures, c4 .write-signed2 .ensures, c3 .write-signed .ensures, c2 .write-u322 .ensures, c1 .write-u32 .ensures)
+    (five-runs (start .out .now) (start .k) (start .e .client) (start .e .call) (flip (start .e .argument)) (flip (start .e .result .value)) (start .e .op)
+    (start .e .result .outcome) (start .e .result .quality) 0)
+
+pub put-entry-spec : {M : Type 1} → statement M
+put-entry-spec =
+    tie.close
+    (tie.spec
+    (λ c κs. search needs)
+    (λ c. search needs)
+    (λ c κs. search needs)
+    (λ c. search needs)
+    (λ c κs. search needs)
+    (λ c. search needs)
+    (λ c κs. search needs)
+    (λ c. search needs)
+    (λ c κs. search needs)
+    (λ c. search needs)
+    returns)

@@ -1,0 +1,116 @@
+// The writer of moving images: head, floors and completion records, each at its place. Bytes past what is written are kept.
+use model::Floor;
+use model::ImageEntry;
+use model::ImageHead;
+use model::constants;
+use model::constants::ENTRY_ROW;
+use model::constants::FLOOR_ROW;
+use model::constants::IMAGE_MAGIC;
+use model::constants::LEAST_IMAGE;
+ghost use mathlib.Core.Path.{_≡_};
+ghost use Prim.Native.Nat.{_+_, _*_, _≤_};
+ghost use lib.ListN.{length};
+ghost use Rattle.model.specs.Limits.{leastImage, floorRow, entryRow, clientCount, recordCount};
+ghost use Rattle.model.specs.Tables.{rows, bytesOf, written};
+ghost use Rattle.model.specs.Images.{floorOfBytes, floorBytes, imageEntryBytes};
+ghost use Rattle.format_image_writer.specs.Heads.{headBytes, frameBytes, pairBytes, pointBytes};
+
+// ---- rows, from a place
+
+// Stores a floor in the 8 bytes from k.
+pub fn put_floor(out: &mut [u8], k: usize, f: Floor)
+    requires { ⌜ k + floorRow ≤ length (now out) ⌝ }
+    ensures { λ r. ⌜ now (out .exit) ≡ written (now (out .entry)) k (floorBytes f) ⌝ }
+{
+    format_numbers::write_u32(out, k, f.client);
+    format_numbers::write_u32(out, k + 4, f.floor);
+}
+
+// Stores a completion record in the 20 bytes from k.
+fn put_entry(out: &mut [u8], k: usize, e: ImageEntry)
+    requires { ⌜ k + entryRow ≤ length (now out) ⌝ }
+    ensures { λ r. ⌜ now (out .exit) ≡ written (now (out .entry)) k (imageEntryBytes e) ⌝ }
+{
+    format_numbers::write_u32(out, k, e.client);
+    format_numbers::write_u32(out, k + 4, e.call);
+    format_numbers::write_signed(out, k + 8, e.argument);
+    format_numbers::write_signed(out, k + 12, e.result.value);
+    format_numbers::write_4(out, k + 16, e.op, e.result.outcome, e.result.quality, 0);
+}
+
+// ---- the head
+
+fn write_frame(out: &mut [u8], h: ImageHead)
+    requires { ⌜ leastImage ≤ length (now out) ⌝ }
+    ensures { λ r. ⌜ now (out .exit) ≡ written (now (out .entry)) 0 (frameBytes h) ⌝ }
+{
+    format_numbers::write_4(
+        out,
+        0,
+        IMAGE_MAGIC[0],
+        IMAGE_MAGIC[1],
+        IMAGE_MAGIC[2],
+        IMAGE_MAGIC[3],
+    );
+    format_numbers::write_4(out, 4, h.point, h.destination, h.source, 0);
+    format_numbers::write_u32(out, 8, h.moveNumber);
+    format_numbers::write_u32(out, 12, h.heard);
+}
+
+// The three pairs of offset and length, for m floors and n records.
+fn write_pairs(out: &mut [u8], m: u32, n: u32)
+    requires { ⌜ (leastImage ≤ length (now out)) × (m ≤ clientCount) × (n ≤ recordCount) ⌝ }
+    ensures { λ r. ⌜ now (out .exit) ≡ written (now (out .entry)) 16 (pairBytes m n) ⌝ }
+{
+    format_numbers::write_u32(out, 16, constants::PARTS_START_U32);
+    format_numbers::write_u32(out, 20, constants::POINT_PART_U32);
+    format_numbers::write_u32(out, 24, constants::LEAST_IMAGE_U32);
+    format_numbers::write_u32(out, 28, constants::FLOOR_ROW_U32 * m);
+    format_numbers::write_u32(
+        out,
+        32,
+        constants::LEAST_IMAGE_U32 + constants::FLOOR_ROW_U32 * m,
+    );
+    format_numbers::write_u32(out, 36, constants::ENTRY_ROW_U32 * n);
+}
+
+fn write_point(out: &mut [u8], value: u32, quality: u8)
+    requires { ⌜ leastImage ≤ length (now out) ⌝ }
+    ensures { λ r. ⌜ now (out .exit) ≡ written (now (out .entry)) 40 (pointBytes value quality) ⌝ }
+{
+    format_numbers::write_signed(out, 40, value);
+    format_numbers::write_4(out, 44, quality, 0, 0, 0);
+}
+
+// All that stands before the tables.
+pub fn write_head(out: &mut [u8], h: ImageHead)
+    requires { ⌜ (leastImage ≤ length (now out)) × (h .floors ≤ clientCount) × (h .entries ≤ recordCount) ⌝ }
+    ensures { λ r. ⌜ now (out .exit) ≡ written (now (out .entry)) 0 (headBytes h) ⌝ }
+{
+    write_frame(out, h);
+    write_pairs(out, h.floors, h.entries);
+    write_point(out, h.value, h.quality);
+}
+
+// ---- the tables
+
+// The completion record of index i behind n floors.
+pub fn write_entry(out: &mut [u8], n: usize, i: usize, e: ImageEntry)
+    requires { ⌜ leastImage + floorRow * n + entryRow * (i + 1) ≤ length (now out) ⌝ }
+    ensures { λ r. ⌜ now (out .exit) ≡ written (now (out .entry)) (leastImage + floorRow * n + entryRow * i) (imageEntryBytes e) ⌝ }
+{
+    put_entry(out, LEAST_IMAGE + FLOOR_ROW * n + ENTRY_ROW * i, e);
+}
+
+// n floors, from a table of rows of the same layout.
+pub fn write_floors(out: &mut [u8], table: &[u8], n: usize)
+    requires { ⌜ (leastImage + floorRow * n ≤ length (now out)) × (floorRow * n ≤ length (now table)) ⌝ }
+    ensures { λ r. ⌜ now (out .exit) ≡ written (now (out .entry)) leastImage (bytesOf floorBytes (rows floorOfBytes floorRow n (now (table .entry)))) ⌝ }
+{
+    let mut i = 0;
+    while i < n {
+        let f = format_image_rows::floor_from(table, FLOOR_ROW * i);
+        put_floor(out, LEAST_IMAGE + FLOOR_ROW * i, f);
+        i += 1;
+    }
+}

@@ -1,0 +1,65 @@
+-- Laws of extents.
+--     spans-some, spans-whole       a whole record has a kind, and its bytes are there
+--     spans-take                    a whole take, by its image's length
+--     take-off, take-rest           a take's extent by its image's length
+--     from-spans, from-inside       the same of the record at a place of the log
+-- Assumes nothing.
+use Prim.Native.Nat.{ℕ, _+_, _≤_}
+use mathlib.Core.Path.{_≡_}
+use mathlib.Core.Bool.{Bool, true, false, _||_}
+use mathlib.Core.List.{List, [], _∷_}
+use native.Mathlib.Omega.{arith}
+use borrow.Author.Tests.{le-ltb}
+use lib.ListN.{length, drop, length-drop}
+use lib.Dec.{eqb, leb, ltb}
+use Rattle.model.specs.Numbers.{byteAt, le32At}
+use Rattle.model.specs.Limits.{leastImage, greatestImage, executedKind, goneKind, giveKind, takeKind, releaseKind}
+use Rattle.model.specs.Limits.{executedSize, goneSize, giveSize, takeHead, releaseSize}
+use Rattle.model.specs.Logs.{Extent, off, spans, within, takeExtent, extentOf}
+use Rattle.model_laws.proofs.Tests.{choose}
+use Rattle.model_laws.proofs.Logs.{within-spans, take-spans}
+use Rattle.format_log_ends.specs.Answers.{extentFrom}
+
+pub spans-some : (s : List ℕ) (n : ℕ) → extentOf s ≡ spans n → 1 ≤ length s
+unfolding extentOf
+spans-some [] n e = let z : _≡_ {A = ℕ} 0 1 = cc in absurd (omega arith)
+spans-some (b ∷ s) n e = omega arith
+
+pub spans-whole : (s : List ℕ) (n : ℕ) → extentOf s ≡ spans n → n ≤ length s
+unfolding extentOf
+spans-whole s n =
+    let P : Extent → Type 0 = λ x. x ≡ spans n → n ≤ length s in
+    choose P (eqb (byteAt s 0) executedKind) (λ k e. let w = within-spans s executedSize n e in omega arith)
+    (λ k1. choose P (eqb (byteAt s 0) goneKind) (λ k e. let w = within-spans s goneSize n e in omega arith)
+    (λ k2. choose P (eqb (byteAt s 0) giveKind) (λ k e. let w = within-spans s giveSize n e in omega arith)
+    (λ k3. choose P (eqb (byteAt s 0) takeKind) (λ k e. let w = take-spans s n e in omega arith)
+    (λ k4. choose P (eqb (byteAt s 0) releaseKind) (λ k e. let w = within-spans s releaseSize n e in omega arith)
+    (λ k5 e. let z : _≡_ {A = ℕ} 0 1 = cc in absurd (omega arith))))))
+
+-- a take's image has the length that stands in its 4 bytes
+pub spans-take : (s : List ℕ) (n : ℕ) → extentOf s ≡ spans n → byteAt s 0 ≡ takeKind → n ≡ takeHead + le32At s 4
+unfolding extentOf
+spans-take s n e k = take-spans s n (rw k at e) .0
+
+-- what take_extent answers behind the test of the length
+pub take-off : (s : List ℕ) {n : ℕ} → n ≡ le32At s 4 → takeHead ≤ length s → (ltb n leastImage || ltb greatestImage n) ≡ true → off ≡ takeExtent s
+unfolding takeExtent
+take-off s e h t = rw (le-ltb (length s) takeHead h, ← e, t)
+
+pub take-rest : (s : List ℕ) {n : ℕ} {x : Extent} → n ≡ le32At s 4 → takeHead ≤ length s → (ltb n leastImage || ltb greatestImage n) ≡ false
+    → x ≡ within s (takeHead + n) → x ≡ takeExtent s
+unfolding takeExtent
+take-rest s e h t q = rw (le-ltb (length s) takeHead h, ← e, t) q
+
+-- the record at a place of the log
+pub from-spans : (log : List ℕ) (at n : ℕ) → extentFrom log at ≡ spans n → extentOf (drop at log) ≡ spans n
+unfolding extentFrom
+from-spans log at n =
+    choose (λ x. x ≡ spans n → extentOf (drop at log) ≡ spans n) (leb (length log) at)
+    (λ t e. let z : _≡_ {A = ℕ} 0 1 = cc in absurd (omega arith)) (λ t e. e)
+
+pub from-inside : (log : List ℕ) (at n : ℕ) → extentFrom log at ≡ spans n → at + n ≤ length log
+from-inside log at n e =
+    let s : List ℕ = drop at log in
+    let f : extentOf s ≡ spans n = from-spans log at n e in
+    omega (arith, spans-some s n f, spans-whole s n f, length-drop at log)

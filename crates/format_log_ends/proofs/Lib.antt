@@ -1,0 +1,2 @@
+-- Laws that the proofs of `extents`, and of those who call it, cite.
+pub mod Ends

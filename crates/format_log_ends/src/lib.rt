@@ -1,0 +1,90 @@
+// The log's head, and where its records end.
+use model::constants;
+ghost use mathlib.Core.Path.{_≡_};
+ghost use Prim.Native.Nat.{_≤_};
+ghost use lib.ListN.{length};
+ghost use Rattle.model.specs.Limits.{headSize};
+ghost use Rattle.model.specs.Logs.{headServer, headOk, within, takeExtent, extentOf};
+ghost use Rattle.format_log_ends.specs.Answers.{extentMeans, extentFrom};
+
+// Where a record ends: its layout is broken, it is incomplete, or it spans that many bytes, all there.
+pub enum Extent {
+    Off,
+    Cut,
+    Spans(usize),
+}
+
+// ---- head
+
+// 57 4C 47 31, a server number, three zeros.
+pub fn head_ok(log: &[u8]) -> bool
+    ensures { λ r. ⌜ r ≡ headOk (now (log .entry)) ⌝ }
+{
+    if log.len() < constants::HEAD_SIZE {
+        return false;
+    }
+    let zeros = format_numbers::zeros3_at(log, 5);
+    (log[0] == constants::LOG_MAGIC[0])
+        & ((log[1] == constants::LOG_MAGIC[1])
+            & ((log[2] == constants::LOG_MAGIC[2])
+                & ((log[3] == constants::LOG_MAGIC[3])
+                    & ((log[4] <= constants::LAST_SERVER) & zeros))))
+}
+
+pub fn head_server(log: &[u8]) -> u8
+    requires { ⌜ headSize ≤ length (now log) ⌝ }
+    ensures { λ r. ⌜ r ≡ headServer (now (log .entry)) ⌝ }
+{
+    log[4]
+}
+
+// ---- extents
+
+// A record of n bytes, where they are all there.
+fn extent_within(s: &[u8], n: usize) -> Extent
+    ensures { λ r. ⌜ extentMeans r ≡ within (now (s .entry)) n ⌝ }
+{
+    if s.len() < n {
+        return Extent::Cut;
+    }
+    Extent::Spans(n)
+}
+
+// A take: its image's length is read once its 4 bytes are there.
+fn take_extent(s: &[u8]) -> Extent
+    ensures { λ r. ⌜ extentMeans r ≡ takeExtent (now (s .entry)) ⌝ }
+{
+    if s.len() < constants::TAKE_HEAD {
+        return Extent::Cut;
+    }
+    let n = format_numbers::read_u32(s, 4) as usize;
+    if (n < constants::LEAST_IMAGE) | (constants::GREATEST_IMAGE < n) {
+        return Extent::Off;
+    }
+    extent_within(s, constants::TAKE_HEAD + n)
+}
+
+// The record at the front of s.
+fn extent_of(s: &[u8]) -> Extent
+    requires { ⌜ 1 ≤ length (now s) ⌝ }
+    ensures { λ r. ⌜ extentMeans r ≡ extentOf (now (s .entry)) ⌝ }
+{
+    match s[0] {
+        constants::EXECUTED_KIND => extent_within(s, constants::EXECUTED_SIZE),
+        constants::GONE_KIND => extent_within(s, constants::GONE_SIZE),
+        constants::GIVE_KIND => extent_within(s, constants::GIVE_SIZE),
+        constants::TAKE_KIND => take_extent(s),
+        constants::RELEASE_KIND => extent_within(s, constants::RELEASE_SIZE),
+        0 | 6..=255 => Extent::Off,
+    }
+}
+
+// The record at a place of the log; where nothing stands, one of which all bytes are cut.
+pub fn extent_at(log: &[u8], at: usize) -> Extent
+    ensures { λ r. ⌜ extentMeans r ≡ extentFrom (now (log .entry)) at ⌝ }
+{
+    if log.len() <= at {
+        return Extent::Cut;
+    }
+    extent_of(&log[at..])
+}

@@ -1,0 +1,189 @@
+// What a whole record of the log says; `extents` tells where it ends.
+use model::Command;
+use model::CommandResult;
+use model::Executed;
+use model::Give;
+use model::Notice;
+use model::Release;
+use model::constants;
+ghost use mathlib.Core.Path.{_≡_};
+ghost use Prim.Native.Nat.{_+_, _*_, _≤_, _<_};
+ghost use lib.ListN.{length};
+ghost use Rattle.model.specs.Choice.{pick};
+ghost use Rattle.model.specs.Numbers.{word};
+ghost use Rattle.model.specs.Limits.{executedSize, goneSize, giveSize, takeHead, releaseSize};
+ghost use Rattle.model.specs.Logs.{extentOf, spans};
+ghost use Rattle.model.specs.Logs.{executedAt, executedOk, giveAt, giveOk, releaseAt, releaseOk};
+ghost use Rattle.format_log_reader.specs.declared.Record.the-variants.{Broken};
+ghost use Rattle.format_log_ends.specs.Answers.{extentFrom};
+ghost use Rattle.format_log_reader.specs.Answers.{Parsed};
+ghost use Rattle.format_log_reader.specs.Answers.{executedFrom, goneFrom, giveFrom, takeFrom, releaseFrom, recordFrom};
+
+// A part of the log: len bytes from a place.
+pub struct Span {
+    pub from: usize,
+    pub len: usize,
+}
+
+// What a whole record says; a take's image stays at its place in the log.
+pub enum Record {
+    Broken,
+    Executed(Executed),
+    Gone(Notice),
+    Gave(Give),
+    Took(Span),
+    Released(Release),
+}
+
+// ---- records, by kind
+
+fn executed_at(s: &[u8]) -> Executed
+    requires { ⌜ executedSize ≤ length (now s) ⌝ }
+    ensures { λ r. ⌜ r ≡ executedAt (now (s .entry)) ⌝ }
+{
+    let command = Command {
+        client: format_numbers::read_u32(s, 4),
+        call: format_numbers::read_u32(s, 8),
+        op: s[1],
+        point: s[2],
+        argument: format_numbers::read_signed(s, 16),
+    };
+    let result = CommandResult {
+        outcome: s[3],
+        value: format_numbers::read_signed(s, 20),
+        quality: s[24],
+    };
+    Executed {
+        command,
+        done: format_numbers::read_u32(s, 12),
+        result,
+    }
+}
+
+fn executed_ok(x: Executed) -> bool
+    ensures { λ r. ⌜ r ≡ executedOk x ⌝ }
+{
+    let command = format_numbers::command_ok(x.command.op, x.command.point, x.command.argument);
+    let outcome = format_numbers::outcome_ok(x.result.outcome, x.result.quality);
+    let id = format_numbers::id_ok(x.command.client, x.command.call);
+    let done = format_numbers::done_ok(x.done, x.command.call);
+    command & (outcome & (id & done))
+}
+
+fn give_at(s: &[u8]) -> Give
+    requires { ⌜ giveSize ≤ length (now s) ⌝ }
+    ensures { λ r. ⌜ r ≡ giveAt (now (s .entry)) ⌝ }
+{
+    Give {
+        point: s[1],
+        destination: s[2],
+        moveNumber: format_numbers::read_u32(s, 4),
+    }
+}
+
+fn give_ok(g: Give) -> bool
+    ensures { λ r. ⌜ r ≡ giveOk g ⌝ }
+{
+    (g.point <= constants::LAST_POINT) & (g.destination <= constants::LAST_SERVER)
+}
+
+fn release_at(s: &[u8]) -> Release
+    requires { ⌜ releaseSize ≤ length (now s) ⌝ }
+    ensures { λ r. ⌜ r ≡ releaseAt (now (s .entry)) ⌝ }
+{
+    Release {
+        point: s[1],
+        moveNumber: format_numbers::read_u32(s, 4),
+    }
+}
+
+fn release_ok(x: Release) -> bool
+    ensures { λ r. ⌜ r ≡ releaseOk x ⌝ }
+{
+    x.point <= constants::LAST_POINT
+}
+
+// What was found, if its zero bytes and fields are as they should be.
+fn checked(ok: bool, found: Record) -> Record
+    ensures { λ r. ⌜ r ≡ pick ok found Broken ⌝ }
+{
+    if ok { found } else { Record::Broken }
+}
+
+fn executed_from(s: &[u8]) -> Record
+    requires { ⌜ executedSize ≤ length (now s) ⌝ }
+    ensures { λ r. ⌜ r ≡ executedFrom (now (s .entry)) ⌝ }
+{
+    let x = executed_at(s);
+    checked(
+        format_numbers::zeros3_at(s, 25) & executed_ok(x),
+        Record::Executed(x),
+    )
+}
+
+fn gone_from(s: &[u8]) -> Record
+    requires { ⌜ goneSize ≤ length (now s) ⌝ }
+    ensures { λ r. ⌜ r ≡ goneFrom (now (s .entry)) ⌝ }
+{
+    let x = format_fields::notice_at(s);
+    checked(
+        format_numbers::zeros3_at(s, 1) & format_fields::notice_ok(x),
+        Record::Gone(x),
+    )
+}
+
+fn give_from(s: &[u8]) -> Record
+    requires { ⌜ giveSize ≤ length (now s) ⌝ }
+    ensures { λ r. ⌜ r ≡ giveFrom (now (s .entry)) ⌝ }
+{
+    let x = give_at(s);
+    checked(format_numbers::zero_at(s, 3) & give_ok(x), Record::Gave(x))
+}
+
+// A take of n bytes at a place of the log; s is the log's part from there, and the image is read in it.
+fn take_from(s: &[u8], at: usize, n: usize) -> Record
+    requires { ⌜ (takeHead ≤ n) × (n ≤ length (now s)) × (at + n < word * word) ⌝ }
+    ensures { λ r. ⌜ r ≡ takeFrom (now (s .entry)) at n ⌝ }
+{
+    let image = format_image_reader::image_ok(&s[constants::TAKE_HEAD..n]);
+    let place = Span {
+        from: at + constants::TAKE_HEAD,
+        len: n - constants::TAKE_HEAD,
+    };
+    checked(format_numbers::zeros3_at(s, 1) & image, Record::Took(place))
+}
+
+fn release_from(s: &[u8]) -> Record
+    requires { ⌜ releaseSize ≤ length (now s) ⌝ }
+    ensures { λ r. ⌜ r ≡ releaseFrom (now (s .entry)) ⌝ }
+{
+    let x = release_at(s);
+    let ok = release_ok(x);
+    checked(
+        format_numbers::zero_at(s, 2) & (format_numbers::zero_at(s, 3) & ok),
+        Record::Released(x),
+    )
+}
+
+// The whole record of n bytes at the front of s, the log's part from a place.
+fn record_from(s: &[u8], at: usize, n: usize) -> Record
+    requires { ⌜ (extentOf (now s) ≡ spans n) × (at + n < word * word) ⌝ }
+    ensures { λ r. ⌜ r ≡ recordFrom (now (s .entry)) at n ⌝ }
+{
+    match s[0] {
+        constants::EXECUTED_KIND => executed_from(s),
+        constants::GONE_KIND => gone_from(s),
+        constants::GIVE_KIND => give_from(s),
+        constants::TAKE_KIND => take_from(s, at, n),
+        constants::RELEASE_KIND => release_from(s),
+        0 | 6..=255 => Record::Broken,
+    }
+}
+
+// The whole record of n bytes at a place of the log.
+pub fn record_at(log: &[u8], at: usize, n: usize) -> Record
+    requires { ⌜ extentFrom (now log) at ≡ spans n ⌝ }
+    ensures { λ r. ⌜ Parsed (now (log .entry)) at n r ⌝ }
+{
+    record_from(&log[at..], at, n)
+}

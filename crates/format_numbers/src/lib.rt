@@ -1,0 +1,213 @@
+// Numbers in a slice of bytes, and fields in their ranges. Numbers are little-endian; a signed number x of 32 bits is x + 2^31
+// inside and two's complement in a slice.
+use model::ArgumentRange;
+use model::PlanEntry;
+use model::constants::ARGUMENT_RANGES;
+use model::constants::FAULT_OP;
+use model::constants::HALF;
+use model::constants::LAST_IN_WINDOW;
+use model::constants::LAST_OUTCOME;
+use model::constants::LAST_POINT;
+use model::constants::LAST_QUALITY;
+use model::constants::PART_OP;
+use model::constants::READ_OP;
+use model::constants::REPORT_OP;
+use model::constants::SET_OP;
+use model::constants::STEP_OP;
+use model::constants::WORD;
+ghost use mathlib.Core.Path.{_≡_};
+ghost use Prim.Native.Nat.{_+_, _*_, _≤_, _<_, max};
+ghost use lib.ListN.{length};
+ghost use Rattle.model.specs.Numbers.{join32, word, le32At, le32, le64At, le64, signedAt, signed32, flip, zeroAt, zeros3At, quad};
+ghost use Rattle.model.specs.Tables.{written};
+ghost use Rattle.model.specs.Plan.{inRange};
+ghost use Rattle.model.specs.Rules.{inArguments, argumentOk};
+ghost use Rattle.model.specs.Packets.{idOk, doneOk, commandOk, outcomeOk};
+
+// ---- numbers
+
+// The number of 4 bytes, the lowest first.
+fn join(a: u8, b: u8, c: u8, d: u8) -> u32
+    ensures { λ r. ⌜ r ≡ join32 a b c d ⌝ }
+{
+    a as u32 + 256 * (b as u32) + 65536 * (c as u32) + 16777216 * (d as u32)
+}
+
+// The number of two numbers of 32 bits, the lower first.
+fn join_words(low: u32, high: u32) -> u64
+    ensures { λ r. ⌜ r ≡ low + word * high ⌝ }
+{
+    low as u64 + WORD * (high as u64)
+}
+
+// The number in the 4 bytes from at.
+pub fn read_u32(s: &[u8], at: usize) -> u32
+    requires { ⌜ at + 4 ≤ length (now s) ⌝ }
+    ensures { λ r. ⌜ r ≡ le32At (now (s .entry)) at ⌝ }
+{
+    join(s[at], s[at + 1], s[at + 2], s[at + 3])
+}
+
+// The number in the 8 bytes from at.
+pub fn read_u64(s: &[u8], at: usize) -> u64
+    requires { ⌜ at + 8 ≤ length (now s) ⌝ }
+    ensures { λ r. ⌜ r ≡ le64At (now (s .entry)) at ⌝ }
+{
+    join_words(read_u32(s, at), read_u32(s, at + 4))
+}
+
+// Stores 4 bytes from at.
+pub fn write_4(s: &mut [u8], at: usize, a: u8, b: u8, c: u8, d: u8)
+    requires { ⌜ at + 4 ≤ length (now s) ⌝ }
+    ensures { λ r. ⌜ now (s .exit) ≡ written (now (s .entry)) at (quad a b c d) ⌝ }
+{
+    s[at] = a;
+    s[at + 1] = b;
+    s[at + 2] = c;
+    s[at + 3] = d;
+}
+
+// Stores v in the 4 bytes from at.
+pub fn write_u32(s: &mut [u8], at: usize, v: u32)
+    requires { ⌜ at + 4 ≤ length (now s) ⌝ }
+    ensures { λ r. ⌜ now (s .exit) ≡ written (now (s .entry)) at (le32 v) ⌝ }
+{
+    write_4(
+        s,
+        at,
+        (v % 256) as u8,
+        (v / 256 % 256) as u8,
+        (v / 65536 % 256) as u8,
+        (v / 16777216) as u8,
+    );
+}
+
+// Stores v in the 8 bytes from at.
+pub fn write_u64(s: &mut [u8], at: usize, v: u64)
+    requires { ⌜ at + 8 ≤ length (now s) ⌝ }
+    ensures { λ r. ⌜ now (s .exit) ≡ written (now (s .entry)) at (le64 v) ⌝ }
+{
+    write_u32(s, at, (v % WORD) as u32);
+    write_u32(s, at + 4, (v / WORD) as u32);
+}
+
+// Two's complement to x + 2^31, and back.
+pub fn flipped(x: u32) -> u32
+    ensures { λ r. ⌜ r ≡ flip x ⌝ }
+{
+    if x < HALF { x + HALF } else { x - HALF }
+}
+
+// The signed number in the 4 bytes from at.
+pub fn read_signed(s: &[u8], at: usize) -> u32
+    requires { ⌜ at + 4 ≤ length (now s) ⌝ }
+    ensures { λ r. ⌜ r ≡ signedAt (now (s .entry)) at ⌝ }
+{
+    flipped(read_u32(s, at))
+}
+
+// Stores the signed number v in the 4 bytes from at.
+pub fn write_signed(s: &mut [u8], at: usize, v: u32)
+    requires { ⌜ at + 4 ≤ length (now s) ⌝ }
+    ensures { λ r. ⌜ now (s .exit) ≡ written (now (s .entry)) at (signed32 v) ⌝ }
+{
+    write_u32(s, at, flipped(v));
+}
+
+// The byte at at is 0.
+pub fn zero_at(s: &[u8], at: usize) -> bool
+    requires { ⌜ at < length (now s) ⌝ }
+    ensures { λ r. ⌜ r ≡ zeroAt (now (s .entry)) at ⌝ }
+{
+    s[at] == 0
+}
+
+// The three bytes from at are 0.
+pub fn zeros3_at(s: &[u8], at: usize) -> bool
+    requires { ⌜ at + 3 ≤ length (now s) ⌝ }
+    ensures { λ r. ⌜ r ≡ zeros3At (now (s .entry)) at ⌝ }
+{
+    (s[at] == 0) & ((s[at + 1] == 0) & (s[at + 2] == 0))
+}
+
+// All bytes of src, from the front of out.
+pub fn copy_bytes(out: &mut [u8], src: &[u8])
+    requires { ⌜ length (now src) ≤ length (now out) ⌝ }
+    ensures { λ r. ⌜ now (out .exit) ≡ written (now (out .entry)) 0 (now (src .entry)) ⌝ }
+{
+    let mut i = 0;
+    while i < src.len() {
+        out[i] = src[i];
+        i += 1;
+    }
+}
+
+// The greater of two numbers.
+pub fn greater(a: u32, b: u32) -> u32
+    ensures { λ r. ⌜ r ≡ max a b ⌝ }
+{
+    if a < b {
+        return b;
+    }
+    a
+}
+
+// ---- fields in their ranges
+
+// An argument in a range.
+fn in_arguments(r: ArgumentRange, a: u32) -> bool
+    ensures { λ b. ⌜ b ≡ inArguments r a ⌝ }
+{
+    (r.least <= a) & (a <= r.greatest)
+}
+
+// The argument lies in its op's range; an op past the last has none. With a literal index the table stays in memory; with another it
+// is copied to the stack first.
+pub fn argument_ok(op: u8, a: u32) -> bool
+    ensures { λ r. ⌜ r ≡ argumentOk op a ⌝ }
+{
+    match op {
+        READ_OP => in_arguments(ARGUMENT_RANGES[0], a),
+        SET_OP => in_arguments(ARGUMENT_RANGES[1], a),
+        STEP_OP => in_arguments(ARGUMENT_RANGES[2], a),
+        REPORT_OP => in_arguments(ARGUMENT_RANGES[3], a),
+        FAULT_OP => in_arguments(ARGUMENT_RANGES[4], a),
+        PART_OP => in_arguments(ARGUMENT_RANGES[5], a),
+        6..=255 => false,
+    }
+}
+
+// Op with its argument, and point.
+pub fn command_ok(op: u8, point: u8, a: u32) -> bool
+    ensures { λ r. ⌜ r ≡ commandOk op point a ⌝ }
+{
+    let argument = argument_ok(op, a);
+    argument & (point <= LAST_POINT)
+}
+
+// Client and call are from 1.
+pub fn id_ok(client: u32, call: u32) -> bool
+    ensures { λ r. ⌜ r ≡ idOk client call ⌝ }
+{
+    (1 <= client) & (1 <= call)
+}
+
+// 1 <= done <= call, and call - done <= 15.
+pub fn done_ok(done: u32, call: u32) -> bool
+    ensures { λ r. ⌜ r ≡ doneOk done call ⌝ }
+{
+    (1 <= done) & ((done <= call) & (call as u64 <= done as u64 + LAST_IN_WINDOW))
+}
+
+pub fn outcome_ok(outcome: u8, quality: u8) -> bool
+    ensures { λ r. ⌜ r ≡ outcomeOk outcome quality ⌝ }
+{
+    (outcome <= LAST_OUTCOME) & (quality <= LAST_QUALITY)
+}
+
+// A value in a point's range.
+pub fn in_range(e: PlanEntry, a: u32) -> bool
+    ensures { λ r. ⌜ r ≡ inRange e a ⌝ }
+{
+    (e.low <= a) & (a <= e.high)
+}

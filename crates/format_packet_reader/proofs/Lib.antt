@@ -1,0 +1,2 @@
+-- Laws that the proofs of `parser` cite.
+pub mod Whole

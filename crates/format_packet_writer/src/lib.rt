@@ -1,0 +1,114 @@
+// The six packets as they are written, into the front of a lent slice and by value. Bytes past a packet are kept.
+use model::Grant;
+use model::Notice;
+use model::Receipt;
+use model::RefusalPacket;
+use model::Request;
+use model::ResultPacket;
+use model::constants;
+ghost use mathlib.Core.Path.{_≡_};
+ghost use Prim.Native.Nat.{_≤_};
+ghost use lib.ListN.{length};
+ghost use Rattle.model.specs.Tables.{written};
+ghost use Rattle.model.specs.Limits.{noticeKind, requestSize, resultSize, refusalSize, receiptSize, noticeSize, grantSize};
+ghost use Rattle.model.specs.Packets.{requestBytes, resultBytes, refusalBytes, receiptBytes, noticeBytes, grantBytes};
+
+// ---- into a lent slice
+
+fn write_request(out: &mut [u8], q: Request)
+    requires { ⌜ requestSize ≤ length (now out) ⌝ }
+    ensures { λ r. ⌜ now (out .exit) ≡ written (now (out .entry)) 0 (requestBytes q) ⌝ }
+{
+    format_numbers::write_4(
+        out,
+        0,
+        constants::REQUEST_KIND,
+        q.command.op,
+        q.command.point,
+        0,
+    );
+    format_numbers::write_u32(out, 4, q.command.client);
+    format_numbers::write_u32(out, 8, q.command.call);
+    format_numbers::write_u32(out, 12, q.done);
+    format_numbers::write_u32(out, 16, q.lease);
+    format_numbers::write_signed(out, 20, q.command.argument);
+}
+
+pub fn write_result(out: &mut [u8], q: ResultPacket)
+    requires { ⌜ resultSize ≤ length (now out) ⌝ }
+    ensures { λ r. ⌜ now (out .exit) ≡ written (now (out .entry)) 0 (resultBytes q) ⌝ }
+{
+    format_numbers::write_4(
+        out,
+        0,
+        constants::RESULT_KIND,
+        q.result.outcome,
+        q.point,
+        q.result.quality,
+    );
+    format_numbers::write_u32(out, 4, q.client);
+    format_numbers::write_u32(out, 8, q.call);
+    format_numbers::write_signed(out, 12, q.result.value);
+}
+
+pub fn write_refusal(out: &mut [u8], q: RefusalPacket)
+    requires { ⌜ refusalSize ≤ length (now out) ⌝ }
+    ensures { λ r. ⌜ now (out .exit) ≡ written (now (out .entry)) 0 (refusalBytes q) ⌝ }
+{
+    format_numbers::write_4(out, 0, constants::REFUSAL_KIND, q.refusal, q.point, 0);
+    format_numbers::write_u32(out, 4, q.client);
+    format_numbers::write_u32(out, 8, q.call);
+}
+
+pub fn write_receipt(out: &mut [u8], q: Receipt)
+    requires { ⌜ receiptSize ≤ length (now out) ⌝ }
+    ensures { λ r. ⌜ now (out .exit) ≡ written (now (out .entry)) 0 (receiptBytes q) ⌝ }
+{
+    format_numbers::write_4(out, 0, constants::RECEIPT_KIND, q.point, q.server, 0);
+    format_numbers::write_u32(out, 4, q.moveNumber);
+}
+
+// Kind 5; log record 2 is the same with its own kind.
+pub fn write_notice(out: &mut [u8], kind: u8, q: Notice)
+    requires { ⌜ noticeSize ≤ length (now out) ⌝ }
+    ensures { λ r. ⌜ now (out .exit) ≡ written (now (out .entry)) 0 (noticeBytes kind q) ⌝ }
+{
+    format_numbers::write_4(out, 0, kind, 0, 0, 0);
+    format_numbers::write_u32(out, 4, q.client);
+    format_numbers::write_u32(out, 8, q.time);
+}
+
+fn write_grant(out: &mut [u8], q: Grant)
+    requires { ⌜ grantSize ≤ length (now out) ⌝ }
+    ensures { λ r. ⌜ now (out .exit) ≡ written (now (out .entry)) 0 (grantBytes q) ⌝ }
+{
+    format_numbers::write_4(out, 0, constants::GRANT_KIND, 0, 0, 0);
+    format_numbers::write_u32(out, 4, q.client);
+    format_numbers::write_u32(out, 8, q.lease);
+}
+
+// ---- by value, for the client and the lease manager
+
+pub fn request_packet(q: Request) -> [u8; constants::REQUEST_SIZE]
+    ensures { λ r. ⌜ r ≡ requestBytes q ⌝ }
+{
+    let mut p = [0u8; constants::REQUEST_SIZE];
+    write_request(&mut p, q);
+    p
+}
+
+pub fn notice_packet(q: Notice) -> [u8; constants::NOTICE_SIZE]
+    ensures { λ r. ⌜ r ≡ noticeBytes noticeKind q ⌝ }
+{
+    let mut p = [0u8; constants::NOTICE_SIZE];
+    write_notice(&mut p, constants::NOTICE_KIND, q);
+    p
+}
+
+pub fn grant_packet(q: Grant) -> [u8; constants::GRANT_SIZE]
+    ensures { λ r. ⌜ r ≡ grantBytes q ⌝ }
+{
+    let mut p = [0u8; constants::GRANT_SIZE];
+    write_grant(&mut p, q);
+    p
+}

@@ -1,2 +1,0 @@
--- Laws that the proofs of `image_state_c` cite.
-pub mod Answers

@@ -1,2 +1,0 @@
--- What the contracts of `image_state_c` cite beside `model`.
-pub mod Imaged

@@ -1,3 +1,0 @@
--- Laws that the proofs of `images_c` cite.
-pub mod Copies
-pub mod Told

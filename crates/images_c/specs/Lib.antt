@@ -1,2 +1,0 @@
--- What the contracts of `images_c` cite beside `model`.
-pub mod Packed

@@ -1,0 +1,110 @@
+-- The paper's P cases, one table: range −100 to 1000, fallback 0.
+-- Assumes nothing.
+use Prim.Native.Nat.{ℕ, _+_, _-_}
+use mathlib.Core.Path.{_≡_}
+use mathlib.Core.List.{List, [], _∷_}
+use lib.ListN.{replicate}
+use lib.IntN.{ℤ, pos, negsuc}
+use Rattle.model.specs.declared.PlanEntry.{PlanEntry}
+use Rattle.model.specs.declared.Reading.{Reading}
+use Rattle.model.specs.declared.CommandResult.{CommandResult}
+use Rattle.model.specs.declared.Request.{Request}
+use Rattle.model.specs.Choice.{Decision, refuse, deny, reply, append, marks}
+use Rattle.model.specs.Numbers.{half}
+use Rattle.model.specs.Limits.{pointCount, executedSize}
+use Rattle.model.specs.Versions.{today}
+use Rattle.model.specs.Rules.{ruleOf}
+use Rattle.model.specs.Sequential.{EntryZ, ReadingZ, ResultZ, readingZ, resultZ, entryZ, readingMeant, resultMeant, ruleZ}
+use Rattle.model.specs.Packets.{parsePacket, requestBytes}
+use Rattle.model.specs.States.{State}
+use Rattle.model.specs.Apply.{founded}
+use Rattle.model.specs.Decisions.{Decided, onRequest}
+
+abbrev pub entry : PlanEntry
+entry = record { low = half - 100; high = half + 1000; fallback = half; home = 0 }
+
+-- a request of client 1 for a report in range on point 0
+abbrev pub asking : ℕ → ℕ → ℕ → Request
+asking call done lease =
+    record { command = record { client = 1; call = call; op = 3; point = 0; argument = half }; done = done; lease = lease }
+
+-- server 0 as founded, at a heard time
+unfoldable pub heardAt : ℕ → State
+heardAt t =
+    let st = founded (replicate pointCount entry) 0 in
+    record {
+      server = st .server;
+      heard = t;
+      size = st .size;
+      mark = st .mark;
+      plan = st .plan;
+      points = st .points;
+      floors = st .floors;
+      records = st .records;
+    }
+
+-- the refusal's number, 0 where the request passes
+unfoldable pub refusalOf : Decided → ℕ
+refusalOf (refuse n) = n
+refusalOf (deny n b) = n
+refusalOf (reply b) = 0
+refusalOf (append r) = 0
+refusalOf (marks m) = 0
+
+unfoldable pub asked : State → Request → ℕ
+asked st q = refusalOf (onRequest today st executedSize (parsePacket (requestBytes q)))
+
+pub data Case : Type 0 where
+  -- op, argument, before: a command and its result, in integers and in the kernel's numbers
+  command : ℕ → ℤ → ℕ → ReadingZ → Reading → ResultZ → CommandResult → Case
+  -- lease end, heard time: the refusal
+  lease : ℕ → ℕ → ℕ → Case
+  -- call, done: the refusal
+  window : ℕ → ℕ → ℕ → Case
+
+-- the rules over the integers and those of the kernel both give the result, and the two speak of the same numbers
+unfoldable pub Holds : Case → Type 0
+Holds (command op a n b r z k) =
+    (ruleZ (today op) (entryZ entry) op a b ≡ z) × (ruleOf (today op) entry op n r ≡ k) × (readingMeant r ≡ b) × (resultMeant k ≡ z)
+Holds (lease end heard n) = asked (heardAt heard) (asking 1 1 end) ≡ n
+Holds (window call done n) = asked (heardAt 0) (asking call done 1) ≡ n
+
+unfoldable pub AllHold : List Case → Type 0
+AllHold [] = Unit
+AllHold (c ∷ cs) = Holds c × AllHold cs
+
+-- a case of an argument, a value and a result that are not negative
+abbrev pub onUp : ℕ → ℕ → ℕ → ℕ → ℕ → ℕ → ℕ → Case
+onUp op a v q o w t =
+    command op (pos a) (half + a) (readingZ (pos v) q) (record { value = half + v; quality = q }) (resultZ o (pos w) t)
+    (record { outcome = o; value = half + w; quality = t })
+
+-- the same with a result of −1 − w, or with an argument of −1 − a
+abbrev pub toDown : ℕ → ℕ → ℕ → ℕ → ℕ → ℕ → ℕ → Case
+toDown op a v q o w t =
+    command op (pos a) (half + a) (readingZ (pos v) q) (record { value = half + v; quality = q }) (resultZ o (negsuc w) t)
+    (record { outcome = o; value = half - 1 - w; quality = t })
+
+abbrev pub byDown : ℕ → ℕ → ℕ → ℕ → ℕ → ℕ → ℕ → Case
+byDown op a v q o w t =
+    command op (negsuc a) (half - 1 - a) (readingZ (pos v) q) (record { value = half + v; quality = q }) (resultZ o (pos w) t)
+    (record { outcome = o; value = half + w; quality = t })
+
+-- op, argument, value and quality before; outcome, value and quality after
+unfoldable pub cases : List Case
+cases =
+    onUp 1 1000 0 1 0 1000 0  -- set 1000: 1000, outcome 0
+    ∷ onUp 1 1001 7 0 1 7 0  -- set 1001: outcome 1
+    ∷ onUp 2 1 1000 0 1 1000 0  -- at 1000, step 1: outcome 1
+    ∷ onUp 2 1 999 0 0 1000 0  -- at 999, step 1: 1000
+    ∷ onUp 2 0 0 1 2 0 1  -- at quality 1, step 0: outcome 2
+    ∷ byDown 3 100 7 0 3 0 1  -- report −101: 0, quality 1, outcome 3
+    ∷ onUp 4 0 7 0 3 0 1  -- fault: the same
+    ∷ toDown 5 0 0 1 0 99 0  -- part 0: −100
+    ∷ onUp 5 333 0 1 0 266 0  -- part 333: 266
+    ∷ toDown 5 5 0 1 0 94 0  -- part 5: −95
+    ∷ lease 50 50 4  -- lease end 50, heard 50: 4
+    ∷ lease 50 49 0  -- heard 49: passes
+    ∷ window 16 1 0  -- call 16 done 1: passes
+    ∷ window 17 1 1  -- call 17 done 1: 1
+    ∷ []

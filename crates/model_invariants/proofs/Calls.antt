@@ -1,0 +1,354 @@
+-- Every call not refused leaves the state sound.
+--     lent-elim, found-elim, recover-elim     what a call comes to, case by case
+--     operated-is         a call of an operation carries out what it decides
+--     decision-allowed    it appends only what some operation decides, and sets only a mark within the log
+--     call-sound          number 0: the buffer passes the test of soundness
+--     call-bytes          state and log stay bytes
+--     call-kept           a call on a sound buffer, refused or not, leaves a sound buffer
+-- Assumes nothing.
+use Prim.Native.Nat.{ℕ, _+_, _-_, _*_, _≤_, _<_}
+use mathlib.Core.Path.{_≡_, refl, sym, subst}
+use mathlib.Core.Bool.{Bool, true, false, _||_, not}
+use mathlib.Core.List.{List, []}
+use mathlib.Core.Option.{Option, none, some}
+use mathlib.Core.Logic.{_⊎_, inl, inr}
+use native.Mathlib.Omega.{arith}
+use lib.ListN.{length}
+use lib.Dec.{ltb}
+use borrow.Author.Tests.{ltb-false, not-false}
+use Rattle.model.specs.Versions.{Versions}
+use Rattle.model.specs.declared.Completion.{Completion}
+use Rattle.model.specs.declared.Request.{Request}
+use Rattle.model.specs.declared.Packet.{Packet}
+use Rattle.model.specs.Choice.{refuse, deny, reply, append, marks, unlessRefused}
+use Rattle.model.specs.Refusals
+use Rattle.model.specs.Numbers.{word}
+use Rattle.model.specs.Limits.{lastServer, stateSize, headSize}
+use Rattle.model.specs.Plan.{planOk, planOf}
+use Rattle.model.specs.Packets.{parsePacket, asRequest, asReceipt, asNotice}
+use Rattle.model.specs.Images.{Image, parseImage}
+use Rattle.model.specs.Tables.{written}
+use Rattle.model.specs.Logs.{LogRecord, recordSize, recordBytes, headBytes}
+use Rattle.model.specs.States.{State, load, sound, stateBytes}
+use Rattle.model.specs.Apply.{applyRecord, founded, withMark}
+use Rattle.model.specs.Decisions.{Decided, orMalformed, find, onHeld, onNew, onId, decideRequest, denying, onRequest, onFetched, onFetch, onSync, decideNotice, onNotice, onGive, onImage, decideTake, onTake, onReceipt, decideRelease, onRelease}
+use Rattle.model.specs.Operations.{After, answerOf, after, short, unfit, freeIn, stored, settle, lentRefusal, lent, leftUnless, foundRefusal, foundOf, requestOf, fetchOf, syncOf, noticeOf, giveOf, imageOf, takeOf, receiptOf, releaseOf, recoverRefusal, recoverOf, settleRecovered, recoveredState}
+use Rattle.model_laws.specs.Bytes.{Bytes}
+use Rattle.model_invariants.specs.History.{GoodPlan, Decides, byGive}
+use Rattle.model_invariants.specs.Calls.{Only, refuses, denies, replies, appends, sets, Allowed, Operation, request, fetch, sync, notice, give, image, takeIn, receipt, release, decision, output, outputSize, decidedOn, operated, LentBytes, Call, found, operate, recover, left, CallBytes}
+use Rattle.model_laws.proofs.Tests.{choose}
+use Rattle.model_laws.proofs.Refused.{unless}
+use Rattle.model_laws.proofs.Written.{bytes-written}
+use Rattle.model_laws.proofs.Logs.{head-bytes, record-bytes}
+use Rattle.model_laws.proofs.States.{state-bytes}
+use Rattle.model_invariants.proofs.Tests.{fits-of}
+use Rattle.model_invariants.proofs.Decided.{or-left-no, or-right-no, sync-passed}
+use Rattle.model_invariants.proofs.Steps.{sound-mark}
+use Rattle.model_invariants.proofs.Kept.{founded-sound, decided-good, decided-sound, decided-space}
+use Rattle.model_invariants.proofs.Formats.{record-good, on-request, on-notice, on-take, on-release}
+use Rattle.model_invariants.proofs.Crash.{recovered-bytes}
+use Rattle.model_invariants.proofs.Loaded.{plan-good, loaded-sound, stored-sound}
+
+-- ---- what an operation may decide
+
+AnyRecord : LogRecord → Type 0
+AnyRecord r = Unit
+
+NoRecord : LogRecord → Type 0
+NoRecord r = ⊥
+
+AnyMark : ℕ → Type 0
+AnyMark m = Unit
+
+NoMark : ℕ → Type 0
+NoMark m = ⊥
+
+module _ {A : LogRecord → Type 0} {M : ℕ → Type 0} where
+  only-unless : (n : ℕ) {d : Decided} → Only A M d → Only A M (unlessRefused n d)
+  only-unless n h = unless (Only A M) n (λ k. refuses) h
+
+  only-kind : {B : Type 0} (o : Option B) {f : B → Decided} → ((x : B) → Only A M (f x)) → Only A M (orMalformed o f)
+  unfolding orMalformed
+  only-kind none h = refuses
+  only-kind (some x) h = h x
+
+  with-packet : (q : Request) {d : Decided} → Only A M d → Only A M (denying q d)
+  unfolding denying
+  with-packet q refuses = denies
+  with-packet q denies = denies
+  with-packet q replies = replies
+  with-packet q (appends h) = appends h
+  with-packet q (sets h) = sets h
+
+any : (r : LogRecord) → AnyRecord r
+unfolding AnyRecord
+any r = tt
+
+any-mark : (m : ℕ) → AnyMark m
+unfolding AnyMark
+any-mark m = tt
+
+only-id : (v : Versions) (st : State) (free : ℕ) (q : Request) (o : Option Completion) → Only AnyRecord NoMark (onId v st free q o)
+unfolding onId onNew onHeld
+only-id v st free q none = only-unless _ (appends (any _))
+only-id v st free q (some r) = only-unless _ replies
+
+only-request : (v : Versions) (st : State) (free : ℕ) (p : Packet) → Only AnyRecord NoMark (onRequest v st free p)
+unfolding onRequest decideRequest
+only-request v st free p = only-kind (asRequest p) (λ q. with-packet q (only-unless _ (only-id v st free q (find (q .command .client) (q .command .call) (st .records)))))
+
+only-notice : (st : State) (free : ℕ) (p : Packet) → Only AnyRecord NoMark (onNotice st free p)
+unfolding onNotice decideNotice
+only-notice st free p = only-kind (asNotice p) (λ n. only-unless _ (appends (any _)))
+
+only-give : (st : State) (free p d : ℕ) → Only AnyRecord NoMark (onGive st free p d)
+unfolding onGive
+only-give st free p d = only-unless _ (appends (any _))
+
+only-take : (st : State) (free : ℕ) (o : Option Image) → Only AnyRecord NoMark (onTake st free o)
+unfolding onTake decideTake
+only-take st free o = only-kind o (λ i. only-unless _ (appends (any _)))
+
+only-release : (st : State) (free : ℕ) (p : Packet) → Only AnyRecord NoMark (onRelease st free p)
+unfolding onRelease decideRelease
+only-release st free p = only-kind (asReceipt p) (λ r. only-unless _ (appends (any _)))
+
+only-fetch : (st : State) (o : Option Completion) → Only NoRecord NoMark (onFetched st o)
+unfolding onFetched
+only-fetch st none = refuses
+only-fetch st (some r) = only-unless _ replies
+
+fetch-only : (st : State) (x c : ℕ) → Only NoRecord NoMark (onFetch st x c)
+unfolding onFetch
+fetch-only st x c = only-fetch st (find x c (st .records))
+
+only-image : (st : State) (p : ℕ) → Only NoRecord NoMark (onImage st p)
+unfolding onImage
+only-image st p = only-unless _ replies
+
+only-receipt : (st : State) (p : ℕ) → Only NoRecord NoMark (onReceipt st p)
+unfolding onReceipt
+only-receipt st p = only-unless _ replies
+
+-- ---- a decision carried out
+
+settled : (state log out : List ℕ) (d : Decided) → Bytes state → stateSize ≤ length state → sound state ≡ true → load state .size ≤ length log
+    → length log < word * word → Allowed state log d → sound (settle state log out d .state) ≡ true
+unfolding settle Allowed freeIn
+settled state log out (refuse n) b l s f z k = s
+settled state log out (deny n x) b l s f z k = s
+settled state log out (reply x) b l s f z k = s
+settled state log out (append r) b l s f z (appends D) =
+    let st = load state in
+    let S = loaded-sound state b s in
+    let room : recordSize r ≤ length log - st .size = decided-space st (length log - st .size) r D in
+    stored-sound state (applyRecord r (st .size + recordSize r) st) (decided-sound st (length log - st .size) r S D (omega arith)) (omega arith)
+settled state log out (marks m) b l s f z (sets k) =
+    stored-sound state (withMark m (load state)) (sound-mark (load state) m (loaded-sound state b s) (k .0) (k .1)) (omega arith)
+
+only-kept : (state log : List ℕ) (d : Decided) → Only AnyRecord NoMark d → ((r : LogRecord) → d ≡ append r → Decides (load state) (freeIn state log) r) → Allowed state log d
+unfolding Allowed NoMark
+only-kept state log d refuses h = refuses
+only-kept state log d denies h = denies
+only-kept state log d replies h = replies
+only-kept state log d (appends {r = r} k) h = appends (h r refl)
+only-kept state log d (sets k) h = absurd k
+
+quiet-kept : (state log : List ℕ) (d : Decided) → Only NoRecord NoMark d → Allowed state log d
+unfolding Allowed NoRecord NoMark
+quiet-kept state log d refuses = refuses
+quiet-kept state log d denies = denies
+quiet-kept state log d replies = replies
+quiet-kept state log d (appends k) = absurd k
+quiet-kept state log d (sets k) = absurd k
+
+only-sync : (st : State) (m : ℕ) → Only NoRecord AnyMark (onSync st m)
+unfolding onSync
+only-sync st m = only-unless _ (sets (any-mark m))
+
+sync-kept : (state log : List ℕ) (m : ℕ) → Allowed state log (onSync (load state) m)
+unfolding Allowed NoRecord
+sync-kept state log m = go (onSync (load state) m) refl (only-sync (load state) m)
+  where
+    go : (d : Decided) → onSync (load state) m ≡ d → Only NoRecord AnyMark d
+        → Only (Decides (load state) (freeIn state log)) (λ (k : ℕ). (load state .mark ≤ k) × (k ≤ load state .size)) d
+    go d e refuses = refuses
+    go d e denies = denies
+    go d e replies = replies
+    go d e (appends k) = absurd k
+    go d e (sets {m = k} h) =
+        let p = sync-passed (load state) m k e in
+        sets {m = k} (rw (p .0) (p .1, p .2))
+
+-- ---- what a call comes to
+
+fit-parts : (state log : List ℕ) → unfit state log ≡ false → (sound state ≡ true) × (load state .size ≤ length log)
+unfolding unfit
+fit-parts state log e = (
+  not-false _ (or-left-no (not (sound state)) (ltb (length log) (load state .size)) e),
+  ltb-false _ _ (or-right-no (not (sound state)) (ltb (length log) (load state .size)) e),
+)
+
+-- 2, 19, or what the operation decides on a sound state with its log
+pub lent-elim : (P : Decided → Type 0) (state log out : List ℕ) (need : ℕ) (d : Decided) → P (refuse Refusals.tooShort) → P (refuse Refusals.unsound)
+    → (stateSize ≤ length state → sound state ≡ true → load state .size ≤ length log → P d) → P (lent state log out need d)
+unfolding lent lentRefusal short unlessRefused
+lent-elim P state log out need d two nineteen k =
+    choose (λ (n : ℕ). P (unlessRefused n d)) (ltb (length state) stateSize || ltb (length out) need) (λ e. two)
+    (λ e.
+    choose (λ (n : ℕ). P (unlessRefused n d)) (unfit state log) (λ f. nineteen)
+    (λ f.
+    let g = fit-parts state log f in
+    k (ltb-false _ _ (or-left-no (ltb (length state) stateSize) (ltb (length out) need) e)) (g .0) (g .1)))
+
+-- 2, 1, or the founding state
+pub found-elim : (P : After → Type 0) (state log plan : List ℕ) (n : ℕ) → Bytes plan → P (after (answerOf Refusals.tooShort 0) state log [])
+    → P (after (answerOf Refusals.malformed 0) state log [])
+    → (stateSize ≤ length state → headSize ≤ length log → GoodPlan (planOf plan) → planOk plan ≡ true → n ≤ lastServer
+    → P (after (answerOf 0 0) (stored state (founded (planOf plan) n)) (written log 0 (headBytes n)) []))
+    → P (foundOf state log plan n)
+unfolding foundOf foundRefusal leftUnless settle
+found-elim P state log plan n b two one k =
+    let a : After = after (answerOf 0 0) (stored state (founded (planOf plan) n)) (written log 0 (headBytes n)) [] in
+    let s : Bool = ltb (length state) stateSize in
+    let l : Bool = ltb (length log) headSize in
+    choose (λ (m : ℕ). P (leftUnless m state log a)) (s || l) (λ e. two)
+    (λ e.
+    choose (λ (m : ℕ). P (leftUnless m state log a)) (not (planOk plan) || ltb lastServer n) (λ f. one)
+    (λ f.
+    let p : planOk plan ≡ true = not-false _ (or-left-no (not (planOk plan)) (ltb lastServer n) f) in
+    k (ltb-false _ _ (or-left-no s l e)) (ltb-false _ _ (or-right-no s l e)) (plan-good plan b p) p (ltb-false _ _ (or-right-no (not (planOk plan)) (ltb lastServer n) f))))
+
+-- 2, 1, 14, or the state that the log gives
+pub recover-elim : (P : After → Type 0) (state log plan : List ℕ) → P (after (answerOf Refusals.tooShort 0) state log [])
+    → P (after (answerOf Refusals.malformed 0) state log []) → P (after (answerOf Refusals.badLog 0) state log [])
+    → ((st : State) → stateSize ≤ length state → planOk plan ≡ true → recoveredState (planOf plan) log ≡ some st
+    → P (after (answerOf 0 0) (stored state (withMark (st .size) st)) log []))
+    → P (recoverOf state log plan)
+unfolding recoverOf recoverRefusal leftUnless settle settleRecovered
+recover-elim P state log plan two one fourteen k =
+    let a : After = settleRecovered state log (recoveredState (planOf plan) log) in
+    choose (λ (m : ℕ). P (leftUnless m state log a)) (ltb (length state) stateSize) (λ e. two)
+    (λ e.
+    choose (λ (m : ℕ). P (leftUnless m state log a)) (not (planOk plan)) (λ f. one)
+    (λ f. go (recoveredState (planOf plan) log) refl (ltb-false _ _ e) (not-false _ f)))
+  where
+    go : (o : Option State) → recoveredState (planOf plan) log ≡ o → stateSize ≤ length state → planOk plan ≡ true → P (settleRecovered state log o)
+    go none r l g = fourteen
+    go (some st) r l g = k st l g r
+
+-- a call of an operation carries out what it decides
+pub operated-is : (o : Operation) (state log out : List ℕ) → operated o state log out ≡ settle state log (output o out) (decidedOn o state log out)
+unfolding operated decidedOn decision output outputSize requestOf fetchOf syncOf noticeOf giveOf imageOf takeOf receiptOf releaseOf
+operated-is (request v packet) state log out = refl
+operated-is (fetch client call) state log out = refl
+operated-is (sync mark) state log out = refl
+operated-is (notice packet) state log out = refl
+operated-is (give point destination) state log out = refl
+operated-is (image point) state log out = refl
+operated-is (takeIn img) state log out = refl
+operated-is (receipt point) state log out = refl
+operated-is (release packet) state log out = refl
+
+-- it appends what some operation decides, and sets a mark from the present one to the log's length
+pub decision-allowed : (o : Operation) (state log : List ℕ) → LentBytes o → Allowed state log (decision o (load state) (freeIn state log))
+unfolding decision
+decision-allowed (request v packet) state log h =
+    only-kept state log (onRequest v (load state) (freeIn state log) (parsePacket packet)) (only-request v (load state) (freeIn state log) (parsePacket packet))
+    (λ r. on-request (load state) (freeIn state log) packet h r v)
+decision-allowed (fetch client call) state log h = quiet-kept state log (onFetch (load state) client call) (fetch-only (load state) client call)
+decision-allowed (sync mark) state log h = sync-kept state log mark
+decision-allowed (notice packet) state log h =
+    only-kept state log (onNotice (load state) (freeIn state log) (parsePacket packet)) (only-notice (load state) (freeIn state log) (parsePacket packet))
+    (on-notice (load state) (freeIn state log) packet h)
+decision-allowed (give point destination) state log h =
+    only-kept state log (onGive (load state) (freeIn state log) point destination) (only-give (load state) (freeIn state log) point destination)
+    (λ (r : LogRecord) (e : onGive (load state) (freeIn state log) point destination ≡ append r). byGive point destination e)
+decision-allowed (image point) state log h = quiet-kept state log (onImage (load state) point) (only-image (load state) point)
+decision-allowed (takeIn img) state log h =
+    only-kept state log (onTake (load state) (freeIn state log) (parseImage img)) (only-take (load state) (freeIn state log) (parseImage img))
+    (on-take (load state) (freeIn state log) img h)
+decision-allowed (receipt point) state log h = quiet-kept state log (onReceipt (load state) point) (only-receipt (load state) point)
+decision-allowed (release packet) state log h =
+    only-kept state log (onRelease (load state) (freeIn state log) (parsePacket packet)) (only-release (load state) (freeIn state log) (parsePacket packet))
+    (on-release (load state) (freeIn state log) packet h)
+
+-- ---- every call leaves a sound state
+
+-- a call was not refused, or the buffer was sound before it
+abbrev Begun : After → List ℕ → Type 0
+Begun a state = (a .answer .refusal ≡ 0) ⊎ (sound state ≡ true)
+
+refused : (state : List ℕ) (n : ℕ) → (n ≡ 0 → ⊥) → (n ≡ 0) ⊎ (sound state ≡ true) → sound state ≡ true
+refused state n h (inl e) = absurd (h e)
+refused state n h (inr e) = e
+
+begun-sound : (c : Call) (state log out : List ℕ) → Bytes state → Bytes log → length log < word * word → CallBytes c → Begun (left c state log out) state
+    → sound (left c state log out .state) ≡ true
+unfolding left decidedOn settle
+begun-sound (found plan n) state log out b c z h =
+    found-elim (λ a. Begun a state → sound (a .state) ≡ true) state log plan n h (refused state 2 (λ e. omega arith)) (refused state 1 (λ e. omega arith))
+    (λ l k g p m e. stored-sound state (founded (planOf plan) n) (founded-sound (planOf plan) n g m) (omega arith))
+begun-sound (operate o) state log out b c z h =
+    subst (λ (a : After). Begun a state → sound (a .state) ≡ true) (sym (operated-is o state log out))
+    (lent-elim (λ d. Begun (settle state log (output o out) d) state → sound (settle state log (output o out) d .state) ≡ true) state log (output o out) (outputSize o)
+    (decision o (load state) (freeIn state log)) (refused state 2 (λ e. omega arith)) (refused state 19 (λ e. omega arith))
+    (λ l s f e. settled state log (output o out) (decision o (load state) (freeIn state log)) b l s f z (decision-allowed o state log h)))
+begun-sound (recover plan) state log out b c z h =
+    recover-elim (λ a. Begun a state → sound (a .state) ≡ true) state log plan (refused state 2 (λ e. omega arith)) (refused state 1 (λ e. omega arith))
+    (refused state 14 (λ e. omega arith))
+    (λ st l g r e. stored-sound state (withMark (st .size) st) (recovered-bytes (planOf plan) log st (plan-good plan h g) c z r .marked) (omega arith))
+
+-- every call not refused leaves it sound
+pub call-sound : (c : Call) (state log out : List ℕ) → Bytes state → Bytes log → length log < word * word → CallBytes c
+    → left c state log out .answer .refusal ≡ 0 → sound (left c state log out .state) ≡ true
+call-sound c state log out b k z h e = begun-sound c state log out b k z h (inl e)
+
+-- a call on a sound buffer leaves a sound buffer, refused or not
+pub call-kept : (c : Call) (state log out : List ℕ) → Bytes state → Bytes log → length log < word * word → CallBytes c
+    → sound state ≡ true → sound (left c state log out .state) ≡ true
+call-kept c state log out b k z h e = begun-sound c state log out b k z h (inr e)
+
+-- ---- bytes stay bytes
+
+settled-bytes : (state log out : List ℕ) (d : Decided) → Bytes state → Bytes log → sound state ≡ true → load state .size ≤ length log
+    → length log < word * word → Allowed state log d → Bytes (settle state log out d .state) × Bytes (settle state log out d .log)
+unfolding settle Allowed freeIn stored
+settled-bytes state log out d b c s f z refuses = (b, c)
+settled-bytes state log out d b c s f z denies = (b, c)
+settled-bytes state log out d b c s f z replies = (b, c)
+settled-bytes state log out d b c s f z (appends {r = r} D) =
+    let st = load state in
+    let S = loaded-sound state b s in
+    let room : recordSize r ≤ length log - st .size = decided-space st (length log - st .size) r D in
+    let G = record-good r (decided-good st (length log - st .size) r S D) in
+    let new = applyRecord r (st .size + recordSize r) st in
+    let N = decided-sound st (length log - st .size) r S D (omega arith) in (
+      bytes-written state 0 (stateBytes new) b (state-bytes new (fits-of new N)),
+      bytes-written log (st .size) (recordBytes r) c (record-bytes r (G .0) (G .1)),
+    )
+settled-bytes state log out d b c s f z (sets {m = m} k) =
+    let new = withMark m (load state) in
+    let N = sound-mark (load state) m (loaded-sound state b s) (k .0) (k .1) in
+    (bytes-written state 0 (stateBytes new) b (state-bytes new (fits-of new N)), c)
+
+pub call-bytes : (c : Call) (state log out : List ℕ) → Bytes state → Bytes log → length log < word * word → CallBytes c
+    → Bytes (left c state log out .state) × Bytes (left c state log out .log)
+unfolding left decidedOn settle stored
+call-bytes (found plan n) state log out b c z h =
+    found-elim (λ a. Bytes (a .state) × Bytes (a .log)) state log plan n h (b, c) (b, c)
+    (λ l k g p m.
+    let st = founded (planOf plan) n in (
+      bytes-written state 0 (stateBytes st) b (state-bytes st (fits-of st (founded-sound (planOf plan) n g m))),
+      bytes-written log 0 (headBytes n) c (head-bytes n (omega arith)),
+    ))
+call-bytes (operate o) state log out b c z h =
+    subst (λ (a : After). Bytes (a .state) × Bytes (a .log)) (sym (operated-is o state log out))
+    (lent-elim (λ d. Bytes (settle state log (output o out) d .state) × Bytes (settle state log (output o out) d .log)) state log (output o out) (outputSize o)
+    (decision o (load state) (freeIn state log)) (b, c) (b, c)
+    (λ l s f. settled-bytes state log (output o out) (decision o (load state) (freeIn state log)) b c s f z (decision-allowed o state log h)))
+call-bytes (recover plan) state log out b c z h =
+    recover-elim (λ a. Bytes (a .state) × Bytes (a .log)) state log plan (b, c) (b, c) (b, c)
+    (λ st l g r.
+    let new = withMark (st .size) st in
+    (bytes-written state 0 (stateBytes new) b (state-bytes new (fits-of new (recovered-bytes (planOf plan) log st (plan-good plan h g) c z r .marked))), c))

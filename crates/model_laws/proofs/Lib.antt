@@ -1,0 +1,16 @@
+pub mod Tests
+pub mod Book
+pub mod Refused
+pub mod Numbers
+pub mod Written
+pub mod Tables
+pub mod Packets
+pub mod Commands
+pub mod Images
+pub mod Windows
+pub mod Logs
+pub mod Plans
+pub mod States
+pub mod Stores
+pub mod Loops
+pub mod Ands

@@ -1,0 +1,676 @@
+-- Laws of the log.
+--     head-server, head-back, head-take, head-bytes, head-again, head-length     the head
+--     executed-at, give-at, release-at; executed-again, give-again, release-again, take-again     records by kind, both ways
+--     record-length, record-least, record-bytes     the length of a record's bytes, at least 8; they are bytes
+--     record-back, extent-back      a well-formed record that was written is read back, with its extent
+--     extent-take, extent-cut       of fewer bytes: an incomplete record
+--     within-spans, take-spans      what an extent tells of the length
+--     record-is                     a record that is read is well-formed, fits, and is written again: the same bytes
+--     walk-back, entries-back       a log that was written is read back
+--     entries-take                  the parse of a prefix of the bytes: the entries whose end is at or under the cut
+--     cut-entries, cut-server, cut-head     the same in a buffer whose first bytes are a log
+--     cut-split, cut-from, cut-end  they are the first ones, follow each other, and end at or under the cut
+--     records-from, records-bytes   records one after the other, as entries
+--     entries-length, log-length, entries-append, from-append, log-appended     lengths, and one more record
+--     walk-is, entries-are, log-again     what is read are entries that follow each other; their bytes are the log's
+-- Assumes nothing.
+use Prim.Native.Nat.{ℕ, zero, suc, _+_, _-_, _≤_, _<_}
+use mathlib.Core.Path.{_≡_, refl, sym, ap, _∙_, subst}
+use mathlib.Core.Bool.{Bool, true, false, _&&_, _||_}
+use mathlib.Core.List.{List, [], _∷_, _++_, append-nil, append-assoc}
+use mathlib.Core.Option.{Option, none, some}
+use native.Mathlib.Omega.{arith}
+use native.Mathlib.Nat.{add-zero}
+use lib.ListN.{length, take, drop, length-append, length-take, length-drop, take-append-drop}
+use lib.Seq.{take-all, take-take, getD-take, take-at, drop-at, take-append-add, length-take-le, take-nil}
+use lib.Dec.{eqb, leb, ltb, lit<, lit≤}
+use borrow.Author.Tests.{eqb-true, leb-true, le-leb, lt-leb, lt-ltb, le-ltb, ltb-true, ltb-false, leb-false}
+use Rattle.model.specs.declared.Executed.{Executed}
+use Rattle.model.specs.declared.Give.{Give}
+use Rattle.model.specs.declared.Release.{Release}
+use Rattle.model.specs.Choice.{pick}
+use Rattle.model.specs.Numbers.{byteAt, flip, le32At, le32, signedAt, signed32, zeroAt, zeros3At, quad}
+use Rattle.model.specs.Tables.{bytesOf, keep, written}
+use Rattle.model.specs.Packets.{noticeAt, noticeOk, noticeBytes}
+use Rattle.model.specs.Images.{Image, parseImage, imageBytes, imageLength}
+use Rattle.model.specs.Logs.{logMagic, headBytes, headServer, headOk, LogRecord, executed, gone, gave, took, released, executedAt, executedOk}
+use Rattle.model.specs.Logs.{executedBytes, giveAt, giveOk, giveBytes, takeBytes, releaseAt, releaseOk, releaseBytes, recordBytes, recordSize, Extent}
+use Rattle.model.specs.Logs.{off, cut, spans, within, takeExtent, extentOf, takeParsed, recordAt, Entry, walk, entriesOf, entriesBytes}
+use Rattle.model.specs.Limits.{lastServer, leastImage, greatestImage, headSize, executedSize, giveSize, takeHead, releaseSize}
+use Rattle.model.specs.Limits.{executedKind, giveKind, goneKind, goneSize, releaseKind, takeKind}
+use Rattle.model_laws.specs.Bytes.{Bytes, All}
+use Rattle.model_laws.specs.Fits.{ExecutedFits, IsImage, recordFits, recordOk, IsRecord, EntryFrom, EntriesFrom, entriesFrom, lastEnd, Incomplete, Walked}
+use Rattle.model_laws.proofs.Tests.{and-left, and-right, joined-all, all-joined, choose}
+use Rattle.model_laws.proofs.Numbers.{part-join, le32-digits, quad-again, le32-again, le32-is, signed-again, le32-below, signed-below, le32-take}
+use Rattle.model_laws.proofs.Numbers.{flip-flip, zero-at, zeros3-at, bytes-drop, bytes-take, bytes-quad, bytes-le32, bytes-signed32, bytes-run}
+use Rattle.model_laws.proofs.Written.{take-written-run}
+use Rattle.model_laws.proofs.Packets.{notice-at, notice-again, notice-bytes}
+use Rattle.model_laws.proofs.Images.{image-length, image-least, image-limit, image-bytes, image-back, image-is}
+
+-- ---- the head
+
+pub head-server : (n : ℕ) (rest : List ℕ) → headServer (headBytes n ++ rest) ≡ n
+unfolding headServer headBytes
+head-server n rest = refl
+
+pub head-back : (n : ℕ) (rest : List ℕ) → n ≤ lastServer → headOk (headBytes n ++ rest) ≡ true
+unfolding headOk headBytes headServer zeros3At
+head-back n rest h =
+    let s : List ℕ = headBytes n ++ rest in
+    all-joined
+    (leb headSize (length s) ∷ eqb (byteAt s 0) 87 ∷ eqb (byteAt s 1) 76 ∷ eqb (byteAt s 2) 71 ∷ eqb (byteAt s 3) 49 ∷ leb (headServer s) lastServer ∷ zeros3At s 5 ∷ [])
+    (le-leb 8 (length s) (omega arith), (refl, (refl, (refl, (refl, (le-leb n lastServer h, (refl, tt)))))))
+
+pub head-take : (n : ℕ) (t : List ℕ) (c : ℕ) → headSize ≤ c → take c (headBytes n ++ t) ≡ headBytes n ++ take (c - 8) t
+unfolding headBytes
+head-take n t c h =
+    let e : 8 + (c - 8) ≡ c = omega arith in
+    ap (λ (x : ℕ). take x (headBytes n ++ t)) (sym e) ∙ take-append-add (headBytes n) t (c - 8)
+
+pub head-bytes : (n : ℕ) → n < 256 → Bytes (headBytes n)
+unfolding headBytes
+head-bytes n h =
+    bytes-run (logMagic ∷ quad n 0 0 0 ∷ [])
+    (bytes-quad 87 76 71 49 (lit< tt) (lit< tt) (lit< tt) (lit< tt), (bytes-quad n 0 0 0 h (lit< tt) (lit< tt) (lit< tt), tt))
+
+pub head-again : (s : List ℕ) → headOk s ≡ true → headBytes (headServer s) ≡ take headSize s
+unfolding headOk headBytes headServer
+head-again s e =
+    let t = joined-all
+    (leb headSize (length s) ∷ eqb (byteAt s 0) 87 ∷ eqb (byteAt s 1) 76 ∷ eqb (byteAt s 2) 71 ∷ eqb (byteAt s 3) 49 ∷ leb (byteAt s 4) lastServer ∷ zeros3At s 5 ∷ []) e in
+    let l : 8 ≤ length s = leb-true 8 (length s) (t .0) in
+    let z = zeros3-at s 5 (t .1 .1 .1 .1 .1 .1 .0) in
+    part-join s 0 4 4
+    (quad-again s 0 (omega arith) (sym (eqb-true (byteAt s 0) 87 (t .1 .0))) (sym (eqb-true (byteAt s 1) 76 (t .1 .1 .0)))
+    (sym (eqb-true (byteAt s 2) 71 (t .1 .1 .1 .0))) (sym (eqb-true (byteAt s 3) 49 (t .1 .1 .1 .1 .0))))
+    (quad-again s 4 (omega arith) refl (sym (z .0)) (sym (z .1)) (sym (z .2)))
+
+pub head-length : (s : List ℕ) → headOk s ≡ true → headSize ≤ length s
+unfolding headOk headServer
+head-length s e =
+    leb-true 8 (length s)
+    (and-left (leb headSize (length s))
+    (eqb (byteAt s 0) 87 && (eqb (byteAt s 1) 76 && (eqb (byteAt s 2) 71 && (eqb (byteAt s 3) 49 && (leb (byteAt s 4) lastServer && zeros3At s 5))))) e)
+
+-- ---- records: what was written is read back
+
+pub executed-at : (x : Executed) (rest : List ℕ) → ExecutedFits x → executedAt (executedBytes x ++ rest) ≡ x
+unfolding executedAt executedBytes le32At signedAt
+executed-at x rest h =
+    let s : List ℕ = executedBytes x ++ rest in
+    let client : le32At s 4 ≡ x .command .client = le32-digits (x .command .client) in
+    let call : le32At s 8 ≡ x .command .call = le32-digits (x .command .call) in
+    let done : le32At s 12 ≡ x .done = le32-digits (x .done) in
+    let argument : flip (le32At s 16) ≡ x .command .argument = ap flip (le32-digits (flip (x .command .argument))) ∙ flip-flip (x .command .argument) (h .argument) in
+    let value : flip (le32At s 20) ≡ x .result .value = ap flip (le32-digits (flip (x .result .value))) ∙ flip-flip (x .result .value) (h .value) in
+    λ i.
+    record {
+      command = record { client = client i; call = call i; op = x .command .op; point = x .command .point; argument = argument i };
+      done = done i;
+      result = record { outcome = x .result .outcome; value = value i; quality = x .result .quality };
+    }
+
+pub give-at : (g : Give) (rest : List ℕ) → giveAt (giveBytes g ++ rest) ≡ g
+unfolding giveAt giveBytes le32At
+give-at g rest = let number : le32At (giveBytes g ++ rest) 4 ≡ g .moveNumber = le32-digits (g .moveNumber) in λ i. record { point = g .point; destination = g .destination; moveNumber = number i }
+
+pub release-at : (r : Release) (rest : List ℕ) → releaseAt (releaseBytes r ++ rest) ≡ r
+unfolding releaseAt releaseBytes le32At
+release-at r rest = let number : le32At (releaseBytes r ++ rest) 4 ≡ r .moveNumber = le32-digits (r .moveNumber) in λ i. record { point = r .point; moveNumber = number i }
+
+pub record-length : (r : LogRecord) → length (recordBytes r) ≡ recordSize r
+unfolding recordBytes recordSize executedBytes noticeBytes giveBytes takeBytes releaseBytes
+record-length (executed x) = refl
+record-length (gone n) = refl
+record-length (gave g) = refl
+record-length (took i) = omega (arith, image-length i)
+record-length (released r) = refl
+
+pub record-least : (r : LogRecord) → headSize ≤ recordSize r
+unfolding recordSize
+record-least (executed x) = lit≤ tt
+record-least (gone n) = lit≤ tt
+record-least (gave g) = lit≤ tt
+record-least (took i) = omega arith
+record-least (released r) = lit≤ tt
+
+pub record-bytes : (r : LogRecord) → recordOk r ≡ true → recordFits r → Bytes (recordBytes r)
+unfolding recordBytes executedBytes giveBytes takeBytes releaseBytes
+record-bytes (executed x) ok f =
+    bytes-run
+    (quad executedKind (x .command .op) (x .command .point) (x .result .outcome) ∷ le32 (x .command .client) ∷ le32 (x .command .call) ∷ le32 (x .done) ∷ signed32 (x .command .argument)
+    ∷ signed32 (x .result .value) ∷ quad (x .result .quality) 0 0 0 ∷ []) (
+      bytes-quad executedKind (x .command .op) (x .command .point) (x .result .outcome) (lit< tt) (f .op) (f .point) (f .outcome),
+      (
+        bytes-le32 (x .command .client) (f .client),
+        (
+          bytes-le32 (x .command .call) (f .call),
+          (
+            bytes-le32 (x .done) (f .done),
+            (bytes-signed32 (x .command .argument), (bytes-signed32 (x .result .value), (bytes-quad (x .result .quality) 0 0 0 (f .quality) (lit< tt) (lit< tt) (lit< tt), tt))),
+          ),
+        ),
+      ),
+    )
+record-bytes (gone n) ok f = notice-bytes 2 n (lit< tt) f
+record-bytes (gave g) ok f =
+    bytes-run (quad giveKind (g .point) (g .destination) 0 ∷ le32 (g .moveNumber) ∷ [])
+    (bytes-quad giveKind (g .point) (g .destination) 0 (lit< tt) (f .point) (f .destination) (lit< tt), (bytes-le32 (g .moveNumber) (f .moveNumber), tt))
+record-bytes (took i) ok f =
+    bytes-run (quad takeKind 0 0 0 ∷ le32 (imageLength i) ∷ imageBytes i ∷ [])
+    (bytes-quad takeKind 0 0 0 (lit< tt) (lit< tt) (lit< tt) (lit< tt), (bytes-le32 (imageLength i) (omega (arith, image-limit i ok)), (image-bytes i ok f, tt)))
+record-bytes (released r) ok f =
+    bytes-run (quad releaseKind (r .point) 0 0 ∷ le32 (r .moveNumber) ∷ [])
+    (bytes-quad releaseKind (r .point) 0 0 (lit< tt) (f .point) (lit< tt) (lit< tt), (bytes-le32 (r .moveNumber) (f .moveNumber), tt))
+
+take-length : (i : Image) (rest : List ℕ) → le32At (takeBytes i ++ rest) 4 ≡ imageLength i
+unfolding takeBytes le32At
+take-length i rest = le32-digits (imageLength i)
+
+pub record-back : (r : LogRecord) (rest : List ℕ) → recordOk r ≡ true → recordFits r → recordAt (recordBytes r ++ rest) ≡ some r
+unfolding recordAt recordBytes executedBytes noticeBytes giveBytes takeBytes releaseBytes zeros3At takeParsed
+record-back (executed x) rest ok f = rw (executed-at x rest f, ok)
+record-back (gone n) rest ok f = rw (notice-at 2 n rest, ok)
+record-back (gave g) rest ok f = rw (give-at g rest, ok)
+record-back (took i) rest ok f = rw (take-length i rest, take-at (imageBytes i) rest (imageLength i) (image-length i), image-back i f ok)
+record-back (released r) rest ok f = rw (release-at r rest, ok)
+
+-- ---- extents
+
+pub within-whole : (s : List ℕ) (n : ℕ) → n ≤ length s → within s n ≡ spans n
+unfolding within
+within-whole s n h = rw (le-ltb (length s) n h)
+
+pub within-cut : (s : List ℕ) (n : ℕ) → length s < n → within s n ≡ cut
+unfolding within
+within-cut s n h = rw (lt-ltb (length s) n h)
+
+take-within : (s : List ℕ) (n : ℕ) → leastImage ≤ n → n ≤ greatestImage → (takeHead ≤ length s → le32At s 4 ≡ n) → takeExtent s ≡ within s (takeHead + n)
+unfolding takeExtent
+take-within s n l g f = step (ltb (length s) takeHead) refl
+  where
+    step : (b : Bool) → ltb (length s) takeHead ≡ b
+        → pick b cut (pick (ltb (le32At s 4) leastImage || ltb greatestImage (le32At s 4)) off (within s (takeHead + le32At s 4))) ≡ within s (takeHead + n)
+    step true e = sym (within-cut s (8 + n) (omega (arith, ltb-true (length s) 8 e)))
+    step false e = rw (f (ltb-false (length s) 8 e), le-ltb n 48 l, le-ltb greatestImage n g)
+
+-- the extent of the first j bytes of what begins with a record: its size, or cut where they are fewer
+pub extent-take : (r : LogRecord) (rest : List ℕ) (j : ℕ) → recordOk r ≡ true → 1 ≤ j
+    → extentOf (take j (recordBytes r ++ rest)) ≡ within (take j (recordBytes r ++ rest)) (recordSize r)
+unfolding recordBytes recordSize extentOf
+extent-take (executed x) rest j ok h =
+    let k : byteAt (take j (executedBytes x ++ rest)) 0 ≡ 1 = getD-take j (executedBytes x ++ rest) 0 0 h ∙ unfold executedBytes in refl in
+    rw k
+extent-take (gone n) rest j ok h =
+    let k : byteAt (take j (noticeBytes 2 n ++ rest)) 0 ≡ 2 = getD-take j (noticeBytes 2 n ++ rest) 0 0 h ∙ unfold noticeBytes in refl in
+    rw k
+extent-take (gave g) rest j ok h =
+    let k : byteAt (take j (giveBytes g ++ rest)) 0 ≡ 3 = getD-take j (giveBytes g ++ rest) 0 0 h ∙ unfold giveBytes in refl in
+    rw k
+extent-take (took i) rest j ok h =
+    let s : List ℕ = takeBytes i ++ rest in
+    let k : byteAt (take j s) 0 ≡ 4 = getD-take j s 0 0 h ∙ unfold takeBytes in refl in
+    rw k
+    (take-within (take j s) (imageLength i) (image-least i) (image-limit i ok)
+    (λ l. le32-take j s 4 (omega (arith, length-take j s)) ∙ take-length i rest))
+extent-take (released r) rest j ok h =
+    let k : byteAt (take j (releaseBytes r ++ rest)) 0 ≡ 5 = getD-take j (releaseBytes r ++ rest) 0 0 h ∙ unfold releaseBytes in refl in
+    rw k
+
+-- a whole record, and a cut one
+pub extent-back : (r : LogRecord) (rest : List ℕ) → recordOk r ≡ true → extentOf (recordBytes r ++ rest) ≡ spans (recordSize r)
+extent-back r rest ok =
+    let s : List ℕ = recordBytes r ++ rest in
+    let n : length s ≡ recordSize r + length rest = length-append (recordBytes r) rest ∙ ap (λ (x : ℕ). x + length rest) (record-length r) in
+    let l : 1 ≤ length s = omega (arith, record-least r) in
+    let t : take (length s) s ≡ s = take-all (length s) s (omega arith) in
+    ap extentOf (sym t) ∙ extent-take r rest (length s) ok l ∙ ap (λ (x : List ℕ). within x (recordSize r)) t ∙ within-whole s (recordSize r) (omega arith)
+
+incomplete : (s : List ℕ) → extentOf s ≡ cut → Incomplete s
+incomplete [] e = tt
+incomplete (b ∷ s) e = e
+
+pub extent-cut : (r : LogRecord) (rest : List ℕ) (j : ℕ) → recordOk r ≡ true → j < recordSize r → Incomplete (take j (recordBytes r ++ rest))
+extent-cut r rest zero ok h = tt
+extent-cut r rest (suc j) ok h =
+    incomplete (take (suc j) (recordBytes r ++ rest))
+    (extent-take r rest (suc j) ok (omega arith) ∙ within-cut (take (suc j) (recordBytes r ++ rest)) (recordSize r) (omega (arith, length-take (suc j) (recordBytes r ++ rest))))
+
+-- ---- records: what was read is written again
+
+pub executed-again : (s : List ℕ) → Bytes s → executedSize ≤ length s → byteAt s 0 ≡ executedKind → zeros3At s 25 ≡ true → executedBytes (executedAt s) ≡ take executedSize s
+unfolding executedBytes executedAt
+executed-again s h b k z =
+    let o = zeros3-at s 25 z in
+    part-join s 0 4 24 (quad-again s 0 (omega arith) (sym k) refl refl refl)
+    (part-join s 4 4 20 (le32-again s 4 h (omega arith))
+    (part-join s 8 4 16 (le32-again s 8 h (omega arith))
+    (part-join s 12 4 12 (le32-again s 12 h (omega arith))
+    (part-join s 16 4 8 (signed-again s 16 h (omega arith))
+    (part-join s 20 4 4 (signed-again s 20 h (omega arith)) (quad-again s 24 (omega arith) refl (sym (o .0)) (sym (o .1)) (sym (o .2))))))))
+
+pub give-again : (s : List ℕ) → Bytes s → giveSize ≤ length s → byteAt s 0 ≡ giveKind → zeroAt s 3 ≡ true → giveBytes (giveAt s) ≡ take giveSize s
+unfolding giveBytes giveAt
+give-again s h b k z = part-join s 0 4 4 (quad-again s 0 (omega arith) (sym k) refl refl (sym (zero-at s 3 z))) (le32-again s 4 h (omega arith))
+
+pub release-again : (s : List ℕ) → Bytes s → releaseSize ≤ length s → byteAt s 0 ≡ releaseKind → zeroAt s 2 ≡ true → zeroAt s 3 ≡ true → releaseBytes (releaseAt s) ≡ take releaseSize s
+unfolding releaseBytes releaseAt
+release-again s h b k y z =
+    part-join s 0 4 4 (quad-again s 0 (omega arith) (sym k) refl (sym (zero-at s 2 y)) (sym (zero-at s 3 z))) (le32-again s 4 h (omega arith))
+
+pub take-again : (s : List ℕ) (i : Image) → Bytes s → takeHead + le32At s 4 ≤ length s → byteAt s 0 ≡ takeKind → zeros3At s 1 ≡ true
+    → imageBytes i ≡ take (le32At s 4) (drop takeHead s) → takeBytes i ≡ take (takeHead + le32At s 4) s
+unfolding takeBytes
+take-again s i h b k z e =
+    let o = zeros3-at s 1 z in
+    let n : imageLength i ≡ le32At s 4 = sym (image-length i) ∙ ap length e ∙ length-take-le (le32At s 4) (drop 8 s) (rw length-drop (omega arith)) in
+    part-join s 0 8 (le32At s 4)
+    (part-join s 0 4 4 (quad-again s 0 (omega arith) (sym k) (sym (o .0)) (sym (o .1)) (sym (o .2))) (le32-is s 4 h (omega arith) n)) e
+
+-- what an extent tells
+pub within-spans : (s : List ℕ) (n m : ℕ) → within s n ≡ spans m → (m ≡ n) × (n ≤ length s)
+unfolding within
+within-spans s n m = choose (λ x. x ≡ spans m → (m ≡ n) × (n ≤ length s)) (ltb (length s) n)
+    (λ t e. let z : _≡_ {A = ℕ} 0 1 = cc in absurd (omega arith))
+    (λ t e. let q : m ≡ n = cc in (q, ltb-false (length s) n t))
+
+pub take-spans : (s : List ℕ) (m : ℕ) → takeExtent s ≡ spans m → (m ≡ takeHead + le32At s 4) × (takeHead + le32At s 4 ≤ length s)
+unfolding takeExtent
+take-spans s m =
+    choose (λ x. x ≡ spans m → (m ≡ takeHead + le32At s 4) × (takeHead + le32At s 4 ≤ length s)) (ltb (length s) takeHead)
+    (λ t e. let z : _≡_ {A = ℕ} 0 1 = cc in absurd (omega arith))
+    (λ t. choose (λ x. x ≡ spans m → (m ≡ takeHead + le32At s 4) × (takeHead + le32At s 4 ≤ length s)) (ltb (le32At s 4) leastImage || ltb greatestImage (le32At s 4))
+    (λ u e. let z : _≡_ {A = ℕ} 0 1 = cc in absurd (omega arith))
+    (λ u. within-spans s (takeHead + le32At s 4) m))
+
+module _ (s : List ℕ) (h : Bytes s) (m : ℕ) (ext : extentOf s ≡ spans m) (r : LogRecord) where
+  found : (t : Bool) (x : LogRecord) → (t ≡ true → IsRecord s m x) → pick t (some x) none ≡ some r → IsRecord s m r
+  found t x f =
+      choose (λ o. o ≡ some r → IsRecord s m r) t (λ u e. let q : x ≡ r = cc in subst (IsRecord s m) q (f u))
+      (λ u e. let z : _≡_ {A = ℕ} 0 1 = cc in absurd (omega arith))
+
+  found-executed : byteAt s 0 ≡ executedKind → (zeros3At s 25 && executedOk (executedAt s)) ≡ true → IsRecord s m (executed (executedAt s))
+  unfolding recordBytes recordSize extentOf executedAt
+  found-executed k t =
+      let w : (m ≡ executedSize) × (executedSize ≤ length s) = within-spans s executedSize m (rw k at ext) in
+      record {
+        ok = and-right (zeros3At s 25) (executedOk (executedAt s)) t;
+        fits =
+            record {
+              op = h 1;
+              point = h 2;
+              outcome = h 3;
+              client = le32-below s 4 h;
+              call = le32-below s 8 h;
+              done = le32-below s 12 h;
+              argument = signed-below s 16;
+              value = signed-below s 20;
+              quality = h 24;
+            };
+        size = w .0;
+        whole = omega arith;
+        same = executed-again s h (w .1) k (and-left (zeros3At s 25) (executedOk (executedAt s)) t) ∙ ap (λ (n : ℕ). take n s) (sym (w .0));
+      }
+
+  found-gone : byteAt s 0 ≡ goneKind → (zeros3At s 1 && noticeOk (noticeAt s)) ≡ true → IsRecord s m (gone (noticeAt s))
+  unfolding recordBytes recordSize extentOf noticeAt
+  found-gone k t =
+      let w : (m ≡ goneSize) × (goneSize ≤ length s) = within-spans s goneSize m (rw k at ext) in
+      record {
+        ok = and-right (zeros3At s 1) (noticeOk (noticeAt s)) t;
+        fits = record { client = le32-below s 4 h; time = le32-below s 8 h };
+        size = w .0;
+        whole = omega arith;
+        same = notice-again 2 s h (w .1) k (and-left (zeros3At s 1) (noticeOk (noticeAt s)) t) ∙ ap (λ (n : ℕ). take n s) (sym (w .0));
+      }
+
+  found-gave : byteAt s 0 ≡ giveKind → (zeroAt s 3 && giveOk (giveAt s)) ≡ true → IsRecord s m (gave (giveAt s))
+  unfolding recordBytes recordSize extentOf giveAt
+  found-gave k t =
+      let w : (m ≡ giveSize) × (giveSize ≤ length s) = within-spans s giveSize m (rw k at ext) in
+      record {
+        ok = and-right (zeroAt s 3) (giveOk (giveAt s)) t;
+        fits = record { point = h 1; destination = h 2; moveNumber = le32-below s 4 h };
+        size = w .0;
+        whole = omega arith;
+        same = give-again s h (w .1) k (and-left (zeroAt s 3) (giveOk (giveAt s)) t) ∙ ap (λ (n : ℕ). take n s) (sym (w .0));
+      }
+
+  found-released : byteAt s 0 ≡ releaseKind → (zeroAt s 2 && (zeroAt s 3 && releaseOk (releaseAt s))) ≡ true → IsRecord s m (released (releaseAt s))
+  unfolding recordBytes recordSize extentOf releaseAt
+  found-released k t =
+      let w : (m ≡ releaseSize) × (releaseSize ≤ length s) = within-spans s releaseSize m (rw k at ext) in
+      let o = joined-all (zeroAt s 2 ∷ zeroAt s 3 ∷ releaseOk (releaseAt s) ∷ []) t in
+      record {
+        ok = o .1 .1 .0;
+        fits = record { point = h 1; moveNumber = le32-below s 4 h };
+        size = w .0;
+        whole = omega arith;
+        same = release-again s h (w .1) k (o .0) (o .1 .0) ∙ ap (λ (n : ℕ). take n s) (sym (w .0));
+      }
+
+  found-took : byteAt s 0 ≡ takeKind → zeros3At s 1 ≡ true → (i : Image) → parseImage (take (le32At s 4) (drop takeHead s)) ≡ some i → IsRecord s m (took i)
+  unfolding recordBytes recordSize extentOf
+  found-took k t i e =
+      let w : (m ≡ takeHead + le32At s 4) × (8 + le32At s 4 ≤ length s) = take-spans s m (rw k at ext) in
+      let g : IsImage (take (le32At s 4) (drop 8 s)) i =
+      image-is (take (le32At s 4) (drop 8 s)) (bytes-take (le32At s 4) (drop 8 s) (bytes-drop 8 s h)) i e in
+      let n : imageLength i ≡ le32At s 4 =
+      sym (image-length i) ∙ ap length (g .same) ∙ length-take-le (le32At s 4) (drop 8 s) (rw length-drop (omega arith)) in
+      record {
+        ok = g .ok;
+        fits = g .fits;
+        size = omega arith;
+        whole = omega arith;
+        same = take-again s i h (w .1) k t (g .same) ∙ ap (λ (n : ℕ). take n s) (sym (w .0));
+      }
+
+  found-image : byteAt s 0 ≡ takeKind → zeros3At s 1 ≡ true → (o : Option Image) → parseImage (take (le32At s 4) (drop takeHead s)) ≡ o → takeParsed o ≡ some r → IsRecord s m r
+  unfolding takeParsed
+  found-image k t none p e = let z : _≡_ {A = ℕ} 0 1 = cc in absurd (omega arith)
+  found-image k t (some i) p e = let q : took i ≡ r = cc in subst (IsRecord s m) q (found-took k t i p)
+
+  pub record-is : recordAt s ≡ some r → IsRecord s m r
+  unfolding recordAt
+  record-is =
+      let P : Option LogRecord → Type 0 = λ o. o ≡ some r → IsRecord s m r in
+      choose P (eqb (byteAt s 0) executedKind)
+      (λ k. found (zeros3At s 25 && executedOk (executedAt s)) (executed (executedAt s)) (found-executed (eqb-true (byteAt s 0) executedKind k)))
+      (λ k1. choose P (eqb (byteAt s 0) goneKind)
+      (λ k. found (zeros3At s 1 && noticeOk (noticeAt s)) (gone (noticeAt s)) (found-gone (eqb-true (byteAt s 0) goneKind k)))
+      (λ k2. choose P (eqb (byteAt s 0) giveKind)
+      (λ k. found (zeroAt s 3 && giveOk (giveAt s)) (gave (giveAt s)) (found-gave (eqb-true (byteAt s 0) giveKind k)))
+      (λ k3. choose P (eqb (byteAt s 0) takeKind)
+      (λ k. choose P (zeros3At s 1) (λ t. found-image (eqb-true (byteAt s 0) takeKind k) t (parseImage (take (le32At s 4) (drop takeHead s))) refl)
+      (λ t e. let z : _≡_ {A = ℕ} 0 1 = cc in absurd (omega arith)))
+      (λ k4. choose P (eqb (byteAt s 0) releaseKind)
+      (λ k. found (zeroAt s 2 && (zeroAt s 3 && releaseOk (releaseAt s))) (released (releaseAt s)) (found-released (eqb-true (byteAt s 0) releaseKind k)))
+      (λ k5 e. let z : _≡_ {A = ℕ} 0 1 = cc in absurd (omega arith))))))
+
+-- ---- the walk over entries that were written
+
+-- one step of the walk, by what it meets
+stepWalk : ℕ → LogRecord → Option (List Entry) → Option (List Entry)
+stepWalk end r w = elim w [ none ↦ none | some es ↦ some (record { item = r; end = end } ∷ es) ]
+
+stepRecord : ℕ → Option LogRecord → Option (List Entry) → Option (List Entry)
+stepRecord end o w = elim o [ none ↦ none | some r ↦ stepWalk end r w ]
+
+stepExtent : ℕ → ℕ → List ℕ → Extent → Option (List Entry)
+stepExtent n k s x = elim x [ off ↦ none | cut ↦ some [] | spans m ↦ stepRecord (k + m) (recordAt s) (walk n (k + m) (drop m s)) ]
+
+walk-cons : (n k b : ℕ) (s : List ℕ) → walk (suc n) k (b ∷ s) ≡ stepExtent n k (b ∷ s) (extentOf (b ∷ s))
+unfolding walk stepExtent stepRecord stepWalk
+walk-cons n k b s = refl
+
+walk-step : (n k : ℕ) (s : List ℕ) (m : ℕ) (r : LogRecord) (es : List Entry) → extentOf s ≡ spans m → recordAt s ≡ some r → 1 ≤ length s
+    → walk n (k + m) (drop m s) ≡ some es → walk (suc n) k s ≡ some (record { item = r; end = k + m } ∷ es)
+unfolding stepExtent stepRecord stepWalk
+walk-step n k [] m r es p q l e = absurd (omega arith)
+walk-step n k (b ∷ s) m r es p q l e =
+    walk-cons n k b s
+    ∙ ap (λ (x : Extent). stepExtent n k (b ∷ s) x) p
+    ∙ ap (λ (o : Option LogRecord). stepRecord (k + m) o (walk n (k + m) (drop m (b ∷ s)))) q
+    ∙ ap (λ (w : Option (List Entry)). stepWalk (k + m) r w) e
+
+walk-incomplete : (n k : ℕ) (s : List ℕ) → Incomplete s → walk n k s ≡ some []
+unfolding walk stepExtent
+walk-incomplete zero k s i = refl
+walk-incomplete (suc n) k [] i = refl
+walk-incomplete (suc n) k (b ∷ s) i = walk-cons n k b s ∙ ap (λ (x : Extent). stepExtent n k (b ∷ s) x) i
+
+-- one entry at the front
+walk-entry : (n k : ℕ) (e : Entry) (es : List Entry) (rest : List ℕ) → EntryFrom k e → walk n (e .end) rest ≡ some es
+    → walk (suc n) k (recordBytes (e .item) ++ rest) ≡ some (e ∷ es)
+walk-entry n k e es rest f w =
+    let r : LogRecord = e .item in
+    let m : ℕ = recordSize r in
+    let d : drop m (recordBytes r ++ rest) ≡ rest = drop-at (recordBytes r) rest m (record-length r) in
+    let l : 1 ≤ length (recordBytes r ++ rest) = omega (arith, length-append (recordBytes r) rest, record-length r, record-least r) in
+    let t : walk n (k + m) (drop m (recordBytes r ++ rest)) ≡ some es = rw (d, ← f .end) w in
+    let same : record { item = r; end = k + m } ≡ e = λ i. record { item = r; end = sym (f .end) i } in
+    walk-step n k (recordBytes r ++ rest) m r es (extent-back r rest (f .ok)) (record-back r rest (f .ok) (f .fits)) l t
+    ∙ ap (λ (x : Entry). some (x ∷ es)) same
+
+pub walk-back : (es : List Entry) (n k : ℕ) (rest : List ℕ) → EntriesFrom k es → Incomplete rest → length (entriesBytes es ++ rest) ≤ n
+    → walk n k (entriesBytes es ++ rest) ≡ some es
+unfolding entriesBytes
+walk-back [] n k rest f i h = walk-incomplete n k rest i
+walk-back (e ∷ es) zero k rest f i h =
+    absurd (omega (arith, length-append (recordBytes (e .item) ++ entriesBytes es) rest, length-append (recordBytes (e .item)) (entriesBytes es), record-length (e .item), record-least (e .item)))
+walk-back (e ∷ es) (suc n) k rest f i h =
+    rw append-assoc
+    (walk-entry n k e es (entriesBytes es ++ rest) (f .0)
+    (walk-back es n (e .end) rest (f .1) i
+    (omega (
+      arith,
+      ap length (append-assoc (recordBytes (e .item)) (entriesBytes es) rest),
+      length-append (recordBytes (e .item)) (entriesBytes es ++ rest),
+      record-length (e .item),
+      record-least (e .item),
+    ))))
+
+-- ends past a place
+keep-past : (c k : ℕ) (es : List Entry) → c < k → EntriesFrom k es → keep (λ e. leb (e .end) c) es ≡ []
+unfolding keep
+keep-past c k [] h f = refl
+keep-past c k (e ∷ es) h f = rw (lt-leb (e .end) c (omega (arith, f .0 .end))) (keep-past c (e .end) es (omega (arith, f .0 .end)) (f .1))
+
+take-entry : (r : LogRecord) (t : List ℕ) (j : ℕ) → recordSize r ≤ j → take j (recordBytes r ++ t) ≡ recordBytes r ++ take (j - recordSize r) t
+take-entry r t j h =
+    let e : j ≡ length (recordBytes r) + (j - recordSize r) = omega (arith, record-length r) in
+    ap (λ (n : ℕ). take n (recordBytes r ++ t)) e ∙ take-append-add (recordBytes r) t (j - recordSize r)
+
+-- ---- the walk over a prefix
+
+walk-take : (es : List Entry) (n k j : ℕ) → EntriesFrom k es → length (take j (entriesBytes es)) ≤ n
+    → walk n k (take j (entriesBytes es)) ≡ some (keep (λ e. leb (e .end) (k + j)) es)
+unfolding entriesBytes keep
+walk-take [] n k j f h = rw take-nil (walk-incomplete n k [] tt)
+walk-take (e ∷ es) n k j f h = step n h (ltb j (recordSize (e .item))) refl (λ m g. walk-take es m (e .end) (j - recordSize (e .item)) (f .1) g)
+  where
+    r : LogRecord
+    r = e .item
+
+    step : (n : ℕ) → length (take j (recordBytes r ++ entriesBytes es)) ≤ n → (b : Bool) → ltb j (recordSize r) ≡ b
+        → ((m : ℕ) → length (take (j - recordSize r) (entriesBytes es)) ≤ m
+        → walk m (e .end) (take (j - recordSize r) (entriesBytes es)) ≡ some (keep (λ q. leb (q .end) (e .end + (j - recordSize r))) es))
+        → walk n k (take j (recordBytes r ++ entriesBytes es)) ≡ some (pick (leb (e .end) (k + j)) (e ∷ keep (λ q. leb (q .end) (k + j)) es) (keep (λ q. leb (q .end) (k + j)) es))
+    step n h true b ih =
+        let l : j < recordSize r = ltb-true j (recordSize r) b in
+        walk-incomplete n k (take j (recordBytes r ++ entriesBytes es)) (extent-cut r (entriesBytes es) j (f .0 .ok) l)
+        ∙ sym (rw (lt-leb (e .end) (k + j) (omega (arith, f .0 .end)), keep-past (k + j) (e .end) es (omega (arith, f .0 .end)) (f .1)))
+    step zero h false b ih =
+        let l : recordSize r ≤ j = ltb-false j (recordSize r) b in
+        absurd (omega (arith, ap length (take-entry r (entriesBytes es) j l), length-append (recordBytes r) (take (j - recordSize r) (entriesBytes es)), record-length r, record-least r))
+    step (suc n) h false b ih =
+        let l : recordSize r ≤ j = ltb-false j (recordSize r) b in
+        let t : List ℕ = take (j - recordSize r) (entriesBytes es) in
+        let c : e .end + (j - recordSize r) ≡ k + j = omega (arith, f .0 .end) in
+        let g : length t ≤ n = omega (arith, ap length (take-entry r (entriesBytes es) j l), length-append (recordBytes r) t, record-length r, record-least r) in
+        ap (λ (x : List ℕ). walk (suc n) k x) (take-entry r (entriesBytes es) j l)
+        ∙ walk-entry n k e (keep (λ q. leb (q .end) (k + j)) es) t (f .0) (ih n g ∙ ap (λ (x : ℕ). some (keep (λ q. leb (q .end) x) es)) c)
+        ∙ sym (rw (le-leb (e .end) (k + j) (omega (arith, f .0 .end))))
+
+-- ---- logs
+
+pub entries-length : (k : ℕ) (es : List Entry) → EntriesFrom k es → k + length (entriesBytes es) ≡ lastEnd k es
+unfolding entriesBytes lastEnd
+entries-length k [] f = add-zero k
+entries-length k (e ∷ es) f =
+    omega (arith, f .0 .end, length-append (recordBytes (e .item)) (entriesBytes es), record-length (e .item), entries-length (e .end) es (f .1))
+
+pub log-length : (n : ℕ) (es : List Entry) → EntriesFrom headSize es → length (headBytes n ++ entriesBytes es) ≡ lastEnd headSize es
+unfolding headBytes
+log-length n es f = omega (arith, entries-length 8 es f)
+
+pub entries-append : (es fs : List Entry) → entriesBytes (es ++ fs) ≡ entriesBytes es ++ entriesBytes fs
+unfolding entriesBytes
+entries-append [] fs = refl
+entries-append (e ∷ es) fs = rw (entries-append es fs, append-assoc)
+
+pub from-append : (k : ℕ) (es fs : List Entry) → EntriesFrom k es → EntriesFrom (lastEnd k es) fs → EntriesFrom k (es ++ fs)
+unfolding lastEnd
+from-append k [] fs f g = g
+from-append k (e ∷ es) fs f g = (f .0, from-append (e .end) es fs (f .1) g)
+
+-- records as entries
+pub records-from : (k : ℕ) (rs : List LogRecord) → All (λ r. (recordOk r ≡ true) × recordFits r) rs → EntriesFrom k (entriesFrom k rs)
+unfolding entriesFrom
+records-from k [] f = tt
+records-from k (r ∷ rs) f = (record { ok = f .0 .0; fits = f .0 .1; end = refl }, records-from (k + recordSize r) rs (f .1))
+
+pub records-bytes : (k : ℕ) (rs : List LogRecord) → entriesBytes (entriesFrom k rs) ≡ bytesOf recordBytes rs
+unfolding entriesFrom entriesBytes bytesOf
+records-bytes k [] = refl
+records-bytes k (r ∷ rs) = ap (λ (x : List ℕ). recordBytes r ++ x) (records-bytes (k + recordSize r) rs)
+
+-- a log that was written is read back, with an incomplete record behind it or none
+pub entries-back : (n : ℕ) (es : List Entry) (rest : List ℕ) → EntriesFrom headSize es → Incomplete rest
+    → entriesOf (headBytes n ++ (entriesBytes es ++ rest)) ≡ some es
+unfolding entriesOf headBytes
+entries-back n es rest f i = walk-back es (length (headBytes n ++ (entriesBytes es ++ rest))) headSize rest f i (omega arith)
+
+-- the parse of a prefix of the bytes is a prefix of the entries: those whose end is at or under the cut
+pub entries-take : (n : ℕ) (es : List Entry) (c : ℕ) → EntriesFrom headSize es → headSize ≤ c
+    → entriesOf (take c (headBytes n ++ entriesBytes es)) ≡ some (keep (λ e. leb (e .end) c) es)
+unfolding entriesOf headBytes
+entries-take n es c f h =
+    let j : ℕ = c - 8 in
+    let e : 8 + j ≡ c = omega arith in
+    ap entriesOf (head-take n (entriesBytes es) c h)
+    ∙ walk-take es (length (headBytes n ++ take j (entriesBytes es))) headSize j f (omega arith)
+    ∙ ap (λ (x : ℕ). some (keep (λ q. leb (q .end) x) es)) e
+
+-- the same in a buffer whose first bytes are a log: cut at c, from its head's end to the last entry's
+module _ (log : List ℕ) (n : ℕ) (es : List Entry) (f : EntriesFrom headSize es) (e : take (lastEnd headSize es) log ≡ headBytes n ++ entriesBytes es)
+    (c : ℕ) (low : headSize ≤ c) (high : c ≤ lastEnd headSize es) where
+  cut-bytes : take c log ≡ take c (headBytes n ++ entriesBytes es)
+  cut-bytes = sym (take-take c (lastEnd headSize es) log high) ∙ ap (λ (x : List ℕ). take c x) e
+
+  pub cut-entries : entriesOf (take c log) ≡ some (keep (λ q. leb (q .end) c) es)
+  cut-entries = ap entriesOf cut-bytes ∙ entries-take n es c f low
+
+  pub cut-server : headServer (take c log) ≡ n
+  cut-server = ap headServer (cut-bytes ∙ head-take n (entriesBytes es) c low) ∙ head-server n (take (c - 8) (entriesBytes es))
+
+  pub cut-head : n ≤ lastServer → headOk (take c log) ≡ true
+  cut-head h = ap headOk (cut-bytes ∙ head-take n (entriesBytes es) c low) ∙ head-back n (take (c - 8) (entriesBytes es)) h
+
+-- those entries are the first ones, follow each other, and end at or under the cut
+pub cut-split : (c k : ℕ) (es : List Entry) → EntriesFrom k es → keep (λ e. leb (e .end) c) es ++ keep (λ e. ltb c (e .end)) es ≡ es
+unfolding keep
+cut-split c k [] f = refl
+cut-split c k (e ∷ es) f = step (leb (e .end) c) refl (cut-split c (e .end) es (f .1))
+  where
+    step : (b : Bool) → leb (e .end) c ≡ b → keep (λ q. leb (q .end) c) es ++ keep (λ q. ltb c (q .end)) es ≡ es
+        → pick b (e ∷ keep (λ q. leb (q .end) c) es) (keep (λ q. leb (q .end) c) es) ++ pick (ltb c (e .end)) (e ∷ keep (λ q. ltb c (q .end)) es) (keep (λ q. ltb c (q .end)) es)
+        ≡ e ∷ es
+    step true b h = rw (le-ltb c (e .end) (leb-true (e .end) c b)) (ap (λ (x : List Entry). e ∷ x) h)
+    step false b h =
+        let l : c < e .end = leb-false (e .end) c b in
+        let none : keep (λ q. leb (q .end) c) es ≡ [] = keep-past c (e .end) es l (f .1) in
+        rw (lt-ltb c (e .end) l, none) (ap (λ (x : List Entry). e ∷ x) (rw none at h))
+
+pub cut-from : (c k : ℕ) (es : List Entry) → EntriesFrom k es → EntriesFrom k (keep (λ e. leb (e .end) c) es)
+unfolding keep
+cut-from c k [] f = tt
+cut-from c k (e ∷ es) f = step (leb (e .end) c) refl (cut-from c (e .end) es (f .1))
+  where
+    step : (b : Bool) → leb (e .end) c ≡ b → EntriesFrom (e .end) (keep (λ q. leb (q .end) c) es)
+        → EntriesFrom k (pick b (e ∷ keep (λ q. leb (q .end) c) es) (keep (λ q. leb (q .end) c) es))
+    step true b h = (f .0, h)
+    step false b h = rw (keep-past c (e .end) es (leb-false (e .end) c b) (f .1)) tt
+
+pub cut-end : (c k : ℕ) (es : List Entry) → k ≤ c → EntriesFrom k es → lastEnd k (keep (λ e. leb (e .end) c) es) ≤ c
+unfolding keep lastEnd
+cut-end c k [] h f = h
+cut-end c k (e ∷ es) h f = step (leb (e .end) c) refl (λ g. cut-end c (e .end) es g (f .1))
+  where
+    step : (b : Bool) → leb (e .end) c ≡ b → (e .end ≤ c → lastEnd (e .end) (keep (λ q. leb (q .end) c) es) ≤ c)
+        → lastEnd k (pick b (e ∷ keep (λ q. leb (q .end) c) es) (keep (λ q. leb (q .end) c) es)) ≤ c
+    step true b g = g (leb-true (e .end) c b)
+    step false b g = rw (keep-past c (e .end) es (leb-false (e .end) c b) (f .1)) h
+
+-- ---- what the walk reads
+
+walked-none : (k : ℕ) (s : List ℕ) (es : List Entry) → Incomplete s → some [] ≡ some es → Walked k s es
+unfolding entriesBytes
+walked-none k s es i e =
+    let q : [] ≡ es = cc in
+    subst (Walked k s) q (record { entries = tt; rest = s; split = refl; incomplete = i })
+
+walked-entry : (k : ℕ) (s : List ℕ) (m : ℕ) (r : LogRecord) (es : List Entry) → IsRecord s m r → Walked (k + m) (drop m s) es
+    → Walked k s (record { item = r; end = k + m } ∷ es)
+unfolding entriesBytes
+walked-entry k s m r es i w =
+    record {
+      entries = (record { ok = i .ok; fits = i .fits; end = ap (λ (x : ℕ). k + x) (i .size) }, w .entries);
+      rest = w .rest;
+      split =
+          sym (take-append-drop m s) ∙ rw (← i .same, w .split, append-assoc);
+      incomplete = w .incomplete;
+    }
+
+module _ (n : ℕ) (below : (k : ℕ) (s : List ℕ) (es : List Entry) → Bytes s → length s ≤ n → walk n k s ≡ some es → Walked k s es) where
+  walked-walk : (k : ℕ) (s : List ℕ) (m : ℕ) (r : LogRecord) (es : List Entry) → Bytes s → length s ≤ suc n → IsRecord s m r
+      → (w : Option (List Entry)) → walk n (k + m) (drop m s) ≡ w → stepWalk (k + m) r w ≡ some es → Walked k s es
+  unfolding stepWalk
+  walked-walk k s m r es h l i none p e = let z : _≡_ {A = ℕ} 0 1 = cc in absurd (omega arith)
+  walked-walk k s m r es h l i (some fs) p e =
+      let q : record { item = r; end = k + m } ∷ fs ≡ es = cc in
+      subst (Walked k s) q
+      (walked-entry k s m r fs i (below (k + m) (drop m s) fs (bytes-drop m s h) (omega (arith, length-drop m s, i .size, record-least r)) p))
+
+  walked-record : (k : ℕ) (s : List ℕ) (m : ℕ) (es : List Entry) → Bytes s → length s ≤ suc n → extentOf s ≡ spans m
+      → (o : Option LogRecord) → recordAt s ≡ o → stepRecord (k + m) o (walk n (k + m) (drop m s)) ≡ some es → Walked k s es
+  unfolding stepRecord
+  walked-record k s m es h l x none p e = let z : _≡_ {A = ℕ} 0 1 = cc in absurd (omega arith)
+  walked-record k s m es h l x (some r) p e = walked-walk k s m r es h l (record-is s h m x r p) (walk n (k + m) (drop m s)) refl e
+
+  walked-extent : (k b : ℕ) (s : List ℕ) (es : List Entry) → Bytes (b ∷ s) → length (b ∷ s) ≤ suc n → (x : Extent) → extentOf (b ∷ s) ≡ x
+      → stepExtent n k (b ∷ s) x ≡ some es → Walked k (b ∷ s) es
+  unfolding stepExtent
+  walked-extent k b s es h l off x e = let z : _≡_ {A = ℕ} 0 1 = cc in absurd (omega arith)
+  walked-extent k b s es h l cut x e = walked-none k (b ∷ s) es x e
+  walked-extent k b s es h l (spans m) x e = walked-record k (b ∷ s) m es h l x (recordAt (b ∷ s)) refl e
+
+  walked-next : (k : ℕ) (s : List ℕ) (es : List Entry) → Bytes s → length s ≤ suc n → walk (suc n) k s ≡ some es → Walked k s es
+  unfolding walk
+  walked-next k [] es h l e = walked-none k [] es tt e
+  walked-next k (b ∷ s) es h l e = walked-extent k b s es h l (extentOf (b ∷ s)) refl (sym (walk-cons n k b s) ∙ e)
+
+walked-zero : (k : ℕ) (s : List ℕ) (es : List Entry) → length s ≤ 0 → walk 0 k s ≡ some es → Walked k s es
+unfolding walk
+walked-zero k [] es l e = walked-none k [] es tt e
+walked-zero k (b ∷ s) es l e = absurd (omega arith)
+
+-- what the walk gives are well-formed entries that follow each other; their bytes and an incomplete record are the bytes walked
+pub walk-is : (n k : ℕ) (s : List ℕ) (es : List Entry) → Bytes s → length s ≤ n → walk n k s ≡ some es → Walked k s es
+walk-is zero k s es h l e = walked-zero k s es l e
+walk-is (suc n) k s es h l e = walked-next n (walk-is n) k s es h l e
+
+pub entries-are : (s : List ℕ) (es : List Entry) → Bytes s → entriesOf s ≡ some es → Walked headSize (drop headSize s) es
+unfolding entriesOf
+entries-are s es h e = walk-is (length s) headSize (drop headSize s) es (bytes-drop 8 s h) (omega (arith, length-drop 8 s)) e
+
+pub log-again : (s : List ℕ) (es : List Entry) → Bytes s → headOk s ≡ true → entriesOf s ≡ some es
+    → take (lastEnd headSize es) s ≡ headBytes (headServer s) ++ entriesBytes es
+log-again s es h ok e =
+    let w : Walked headSize (drop headSize s) es = entries-are s es h e in
+    let log : List ℕ = headBytes (headServer s) ++ entriesBytes es in
+    let all : s ≡ log ++ w .rest = sym (take-append-drop headSize s) ∙ rw (← head-again s ok, w .split, append-assoc) in
+    ap (λ (x : List ℕ). take (lastEnd headSize es) x) all ∙ take-at log (w .rest) (lastEnd headSize es) (log-length (headServer s) es (w .entries))
+
+-- a record written behind the entries
+pub log-appended : (log : List ℕ) (n : ℕ) (es : List Entry) (r : LogRecord) → EntriesFrom headSize es
+    → take (lastEnd headSize es) log ≡ headBytes n ++ entriesBytes es → lastEnd headSize es + recordSize r ≤ length log
+    → take (lastEnd headSize es + recordSize r) (written log (lastEnd headSize es) (recordBytes r))
+    ≡ headBytes n ++ entriesBytes (es ++ (record { item = r; end = lastEnd headSize es + recordSize r } ∷ []))
+unfolding entriesBytes
+log-appended log n es r f e h =
+    let k : ℕ = lastEnd headSize es in
+    let l : k + recordSize r ≡ k + length (recordBytes r) = ap (λ (x : ℕ). k + x) (sym (record-length r)) in
+    ap (λ (x : ℕ). take x (written log k (recordBytes r))) l
+    ∙ take-written-run log k (recordBytes r) (omega arith)
+    ∙ rw (e, append-assoc, entries-append es (record { item = r; end = k + recordSize r } ∷ []), append-nil)

@@ -1,0 +1,34 @@
+-- Tests: those joined by && taken apart and put together, and what holds on both sides of a choice.
+-- Assumes nothing.
+use mathlib.Core.Path.{_≡_, refl}
+use mathlib.Core.Bool.{Bool, true, false, _&&_, false≢true}
+use mathlib.Core.List.{List, [], _∷_}
+use Rattle.model.specs.Choice.{pick}
+use Rattle.model_laws.specs.Bytes.{All, joined}
+
+pub and-left : (a b : Bool) → (a && b) ≡ true → a ≡ true
+and-left true b e = refl
+and-left false b e = e
+
+pub and-right : (a b : Bool) → (a && b) ≡ true → b ≡ true
+and-right true b e = e
+and-right false b e = absurd (false≢true e)
+
+pub and-both : (a b : Bool) → a ≡ true → b ≡ true → (a && b) ≡ true
+and-both true b p q = q
+and-both false b p q = p
+
+-- several at once
+pub joined-all : (ts : List Bool) → joined ts ≡ true → All (λ t. t ≡ true) ts
+joined-all [] e = tt
+joined-all (t ∷ []) e = (e, tt)
+joined-all (t ∷ u ∷ us) e = (and-left t (joined (u ∷ us)) e, joined-all (u ∷ us) (and-right t (joined (u ∷ us)) e))
+
+pub all-joined : (ts : List Bool) → All (λ t. t ≡ true) ts → joined ts ≡ true
+all-joined [] f = refl
+all-joined (t ∷ []) f = f .0
+all-joined (t ∷ u ∷ us) f = and-both t (joined (u ∷ us)) (f .0) (all-joined (u ∷ us) (f .1))
+
+pub choose : {A : Type 0} (P : A → Type 0) (t : Bool) {a b : A} → (t ≡ true → P a) → (t ≡ false → P b) → P (pick t a b)
+choose P true f g = f refl
+choose P false f g = g refl

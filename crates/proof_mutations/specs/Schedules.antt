@@ -1,0 +1,237 @@
+-- Schedules in which a late repeat, a crash or an old image comes; and what is counted at their end.
+-- Assumes nothing.
+use Prim.Native.Nat.{ℕ, _+_}
+use mathlib.Core.Bool.{Bool, true, false, not, _&&_}
+use mathlib.Core.List.{List, [], _∷_, _++_}
+use mathlib.Core.Option.{Option, none, some}
+use lib.Dec.{eqb}
+use lib.ListN.{length}
+use Rattle.model.specs.declared.Client.{Client}
+use Rattle.model.specs.Numbers.{half}
+use Rattle.model.specs.Tables.{keep}
+use Rattle.model.specs.Versions.{today}
+use Rattle.model.specs.Logs.{LogRecord, executed, gone, gave, took, released}
+use Rattle.model.specs.Yard.{yardPlan}
+use Rattle.claim_records.specs.World.{Event, found, request, fetch, sync, notice, give, image, take·image, receipt, release, recover, crash, open·lease, start, issue, receive, query, Log, keptBy}
+use Rattle.proof_mutations.specs.World.{run}
+
+-- servers 0 and 1; client 1 has a lease of this span, and sets point 5 to 40: call 1
+unfoldable pub begun : ℕ → List Event
+begun span =
+    found 0 yardPlan 0
+    ∷ found 1 yardPlan 1
+    ∷ open·lease 0 span
+    ∷ start 0
+    ∷ issue 1 1 5 (half + 40)
+    ∷ []
+
+-- the lease of client 1 ends, and server 0 hears of it; a late repeat is refused with 4
+unfoldable pub ended : List Event
+ended =
+    begun 10
+    ++ (request 0 1 today 999
+    ∷ query 1 20
+    ∷ notice 0 2 999
+    ∷ request 0 1 today 999
+    ∷ [])
+
+-- two leases end, and server 0 hears of the later end first; a late repeat is refused with 4
+unfoldable pub endedTwice : List Event
+endedTwice =
+    found 0 yardPlan 0
+    ∷ open·lease 0 18
+    ∷ open·lease 0 10
+    ∷ start 0
+    ∷ start 1
+    ∷ issue 1 1 5 (half + 40)
+    ∷ issue 2 1 6 (half + 40)
+    ∷ request 0 2 today 999
+    ∷ request 0 3 today 999
+    ∷ query 2 15
+    ∷ query 1 20
+    ∷ notice 0 5 999
+    ∷ notice 0 4 999
+    ∷ request 0 2 today 999
+    ∷ []
+
+-- the lease ends, server 0 hears of it, and the point moves to server 1; a late repeat there is refused with 4
+unfoldable pub endedMoved : List Event
+endedMoved =
+    begun 10
+    ++ (request 0 1 today 999
+    ∷ query 1 20
+    ∷ notice 0 2 999
+    ∷ give 0 5 1 999
+    ∷ sync 0 56 999
+    ∷ image 0 5 999
+    ∷ take·image 1 3 999
+    ∷ request 1 1 today 999
+    ∷ [])
+
+-- call 1 is finished at the client, call 2 on another point says so, and the point moves to server 1; a late repeat of call 1 there is
+-- refused with 5
+unfoldable pub finished : List Event
+finished =
+    begun 1000
+    ++ (request 0 1 today 999
+    ∷ sync 0 36 999
+    ∷ request 0 1 today 999
+    ∷ receive 1 2
+    ∷ issue 1 1 6 (half + 41)
+    ∷ request 0 3 today 999
+    ∷ give 0 5 1 999
+    ∷ sync 0 72 999
+    ∷ image 0 5 999
+    ∷ take·image 1 4 999
+    ∷ request 1 1 today 999
+    ∷ [])
+
+-- call 1 is finished, and call 2 says so to server 1 alone; then point 6 comes from server 0, which has not heard of it; a late repeat of
+-- call 1 at server 1 is refused with 5
+unfoldable pub finishedThere : List Event
+finishedThere =
+    begun 1000
+    ++ (request 0 1 today 999
+    ∷ sync 0 36 999
+    ∷ request 0 1 today 999
+    ∷ receive 1 2
+    ∷ give 0 5 1 999
+    ∷ sync 0 44 999
+    ∷ image 0 5 999
+    ∷ take·image 1 3 999
+    ∷ issue 1 1 5 (half + 41)
+    ∷ request 1 4 today 999
+    ∷ give 0 6 1 999
+    ∷ sync 0 52 999
+    ∷ image 0 6 999
+    ∷ take·image 1 5 999
+    ∷ request 1 1 today 999
+    ∷ [])
+
+-- the point moves to server 1 after the execution; a repeat there runs nothing again, and is told once the take is synced
+unfoldable pub moved : List Event
+moved =
+    begun 1000
+    ++ (request 0 1 today 999
+    ∷ give 0 5 1 999
+    ∷ sync 0 44 999
+    ∷ image 0 5 999
+    ∷ take·image 1 2 999
+    ∷ request 1 1 today 999
+    ∷ sync 1 92 999
+    ∷ request 1 1 today 999
+    ∷ receive 1 4
+    ∷ [])
+
+-- a result is asked for, by request and by fetch, before it is synced, and a crash removes the execution
+unfoldable pub unsynced : List Event
+unsynced =
+    begun 1000
+    ++ (request 0 1 today 999
+    ∷ request 0 1 today 999
+    ∷ fetch 0 1 1 999
+    ∷ receive 1 2
+    ∷ receive 1 3
+    ∷ crash 0 8
+    ∷ [])
+
+-- an image is asked for before its give is synced, and a crash removes the give: server 0 holds the point again, server 1 does not
+unfoldable pub unsyncedGive : List Event
+unsyncedGive =
+    begun 1000
+    ++ (give 0 5 1 999
+    ∷ image 0 5 999
+    ∷ take·image 1 2 999
+    ∷ crash 0 8
+    ∷ recover 0 yardPlan
+    ∷ request 0 1 today 999
+    ∷ request 1 1 today 999
+    ∷ [])
+
+-- the point goes to server 1 and back, and the command runs at server 0; the image of the first move comes to server 1 again
+unfoldable pub returned : List Event
+returned =
+    begun 1000
+    ++ (give 0 5 1 999
+    ∷ sync 0 16 999
+    ∷ image 0 5 999
+    ∷ take·image 1 2 999
+    ∷ give 1 5 0 999
+    ∷ sync 1 72 999
+    ∷ image 1 5 999
+    ∷ take·image 0 3 999
+    ∷ request 0 1 today 999
+    ∷ take·image 1 2 999
+    ∷ request 1 1 today 999
+    ∷ [])
+
+-- the point goes to server 1 and back and is given to it again; the receipt of the first move does not let it go before it has an image
+unfoldable pub givenAgain : List Event
+givenAgain =
+    found 0 yardPlan 0
+    ∷ found 1 yardPlan 1
+    ∷ give 0 5 1 999
+    ∷ sync 0 16 999
+    ∷ image 0 5 999
+    ∷ take·image 1 0 999
+    ∷ sync 1 64 999
+    ∷ receipt 1 5 999
+    ∷ release 0 1 999
+    ∷ give 1 5 0 999
+    ∷ sync 1 72 999
+    ∷ image 1 5 999
+    ∷ take·image 0 2 999
+    ∷ give 0 5 1 999
+    ∷ release 0 1 999
+    ∷ sync 0 88 999
+    ∷ image 0 5 999
+    ∷ take·image 1 3 999
+    ∷ []
+
+-- the execution is synced, and the server crashes and recovers; a repeat is told the result
+unfoldable pub regained : List Event
+regained =
+    begun 1000
+    ++ (request 0 1 today 999
+    ∷ sync 0 36 999
+    ∷ crash 0 36
+    ∷ recover 0 yardPlan
+    ∷ request 0 1 today 999
+    ∷ [])
+
+-- ---- what is counted
+
+-- an execution of call 1 of client 1
+unfoldable pub isRun : LogRecord → Bool
+isRun (executed x) = eqb (x .command .client) 1 && eqb (x .command .call) 1
+isRun (gone n) = false
+isRun (gave g) = false
+isRun (took i) = false
+isRun (released r) = false
+
+unfoldable pub isTake : LogRecord → Bool
+isTake (executed x) = false
+isTake (gone n) = false
+isTake (gave g) = false
+isTake (took i) = true
+isTake (released r) = false
+
+unfoldable pub count : (LogRecord → Bool) → Option Log → ℕ
+count t none = 0
+count t (some log) = length (keep (λ e. t (e .item)) (log .entries))
+
+-- in the logs of servers 0 and 1 at the end: the surviving executions of call 1 of client 1
+unfoldable pub runs : List Event → ℕ
+runs es = count isRun (keptBy (run es .servers 0)) + count isRun (keptBy (run es .servers 1))
+
+-- the takes of server 1
+unfoldable pub takesOf : List Event → ℕ
+takesOf es = count isTake (keptBy (run es .servers 1))
+
+-- the open calls of client 1: those that are not completed
+unfoldable pub openIn : Option Client → ℕ
+openIn none = 0
+openIn (some d) = length (keep (λ k. not (eqb (k .call) 0)) (d .calls))
+
+unfoldable pub open·calls : List Event → ℕ
+open·calls es = openIn (run es .clients 1)

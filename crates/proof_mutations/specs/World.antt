@@ -1,0 +1,74 @@
+-- The world of states and log records (`record_claim`) over the calls of Reads; found, sync, give, receipt, crash, clients and lease manager
+-- are that world's own.
+-- Assumes nothing.
+use Prim.Native.Nat.{ℕ, _+_, _-_}
+use mathlib.Core.List.{List, [], _∷_}
+use mathlib.Core.Option.{Option, none, some}
+use lib.Dec.{ltb}
+use Rattle.model.specs.Choice.{pick, refuse, deny, reply, append, marks}
+use Rattle.model.specs.Refusals.{unsound}
+use Rattle.model.specs.Packets.{parsePacket}
+use Rattle.model.specs.Images.{parseImage}
+use Rattle.model.specs.Logs.{Entry, recordSize}
+use Rattle.model.specs.States.{State}
+use Rattle.model.specs.Decisions.{Decided, onNotice}
+use Rattle.claim.specs.World.{withServer, making, packet}
+use Rattle.claim_records.specs.World.{Event, found, request, fetch, sync, notice, give, image, take·image, receipt, release, recover, crash, start, issue, resend, receive, open·lease, renew, query, Log, Server, nothing, running, crashed, World, Left, longer, keptBy, recoversTo, emptyWorld}
+use Rattle.claim_records.specs.World as Records
+use Rattle.proof_mutations.specs.Reads.{requests, fetches, images, takes, releases, applies, regains}
+
+-- a decision carried out: a record is applied as Reads has it
+unfoldable pub settle : State → Log → Decided → Left
+settle st log (refuse n) = Records.settle st log (refuse n)
+settle st log (deny n b) = Records.settle st log (deny n b)
+settle st log (reply b) = Records.settle st log (reply b)
+settle st log (append r) =
+    let e : Entry = record { item = r; end = st .size + recordSize r } in
+    record { number = 0; made = []; state = applies st e; log = longer log e }
+settle st log (marks m) = Records.settle st log (marks m)
+
+unfoldable pub callOf : State → Log → ℕ → (State → ℕ → Decided) → Left
+callOf st log room d = settle st log (pick (ltb room (st .size)) (refuse unsound) (d st (room - st .size)))
+
+unfoldable pub calls : ℕ → ℕ → (State → ℕ → Decided) → Server → World → World
+calls c room d nothing w = w
+calls c room d (running st log) w =
+    let a = callOf st log room d in
+    making (a .made) (withServer c (running (a .state) (a .log)) w)
+calls c room d (crashed log k mark) w = w
+
+unfoldable pub callsOn : ℕ → ℕ → (List ℕ → State → ℕ → Decided) → Option (List ℕ) → World → World
+callsOn c room d none w = w
+callsOn c room d (some b) w = calls c room (d b) (w .servers c) w
+
+unfoldable pub recoversFrom : ℕ → List ℕ → Option Log → World → World
+recoversFrom c plan none w = w
+recoversFrom c plan (some log) w = recoversTo c log (regains plan log) w
+
+unfoldable pub step : World → Event → World
+step w (found c plan n) = Records.step w (found c plan n)
+step w (request c p v room) = callsOn c room (λ b st free. requests v st free (parsePacket b)) (packet w p) w
+step w (fetch c x k room) = calls c room (λ st free. fetches st x k) (w .servers c) w
+step w (sync c m room) = Records.step w (sync c m room)
+step w (notice c p room) = callsOn c room (λ b st free. onNotice st free (parsePacket b)) (packet w p) w
+step w (give c p d room) = Records.step w (give c p d room)
+step w (image c p room) = calls c room (λ st free. images st p) (w .servers c) w
+step w (take·image c p room) = callsOn c room (λ b st free. takes st free (parseImage b)) (packet w p) w
+step w (receipt c p room) = Records.step w (receipt c p room)
+step w (release c p room) = callsOn c room (λ b st free. releases st free (parsePacket b)) (packet w p) w
+step w (recover c plan) = recoversFrom c plan (keptBy (w .servers c)) w
+step w (crash c k) = Records.step w (crash c k)
+step w (start p) = Records.step w (start p)
+step w (issue x op p a) = Records.step w (issue x op p a)
+step w (resend x c) = Records.step w (resend x c)
+step w (receive x p) = Records.step w (receive x p)
+step w (open·lease t span) = Records.step w (open·lease t span)
+step w (renew x t span) = Records.step w (renew x t span)
+step w (query x t) = Records.step w (query x t)
+
+unfoldable pub runFrom : World → List Event → World
+runFrom w [] = w
+runFrom w (e ∷ es) = runFrom (step w e) es
+
+unfoldable pub run : List Event → World
+run es = runFrom emptyWorld es

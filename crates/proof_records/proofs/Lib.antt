@@ -1,0 +1,14 @@
+pub mod Made
+pub mod Applied
+pub mod Replays
+pub mod Places
+pub mod Inverted
+pub mod Refined
+pub mod Worlds
+pub mod Calls
+pub mod Sizes
+pub mod Starts
+pub mod Parties
+pub mod Runs
+pub mod Clauses
+pub mod Demand3

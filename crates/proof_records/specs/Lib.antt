@@ -1,0 +1,5 @@
+pub mod Likeness
+pub mod Made
+pub mod Inverse
+pub mod Worlds
+pub mod Matched

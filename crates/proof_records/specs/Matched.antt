@@ -1,0 +1,158 @@
+-- The provisos at one event; what an event over records and the change that follows it have to do with each other, as demand 3 reads them; a
+-- schedule over records, followed event by event by a run of the protocol.
+-- Assumes nothing.
+use Prim.Native.Nat.{ℕ, _≤_, _+_, _*_, suc}
+use mathlib.Core.Path.{_≡_}
+use mathlib.Core.List.{List, [], _∷_}
+use mathlib.Core.Option.{none, some}
+use Rattle.model.specs.declared.Started.the-variants.{Running as Begun}
+use Rattle.model.specs.States.{State}
+use Rattle.model.specs.Clients.{startOf, issueOf, receiveOf}
+use Rattle.claim.specs.World.{packet}
+use Rattle.claim_records.specs.World.{World, Event, Log, nothing, foundOf, recoverOf, keptBy, callOf, step, runFrom}
+use Rattle.claim_records.specs.World as R
+use Rattle.claim_records.specs.Provisos.{Typed, markOf}
+use lib.ListN.{length, take, getElem?}
+use Rattle.model.specs.Versions.{Versions}
+use Rattle.model.specs.declared.PlanEntry.{PlanEntry}
+use Rattle.model.specs.declared.Client.{Client}
+use Rattle.model.specs.declared.Request.{Request}
+use Rattle.model.specs.declared.ResultPacket.{ResultPacket}
+use Rattle.model.specs.declared.Packet.the-variants.{Requested}
+use Rattle.model.specs.declared.Sent.the-variants.{Asked}
+use Rattle.model.specs.declared.Received.the-variants.{Completed}
+use Rattle.model.specs.Limits.{headSize, executedSize, goneSize, giveSize, takeHead, releaseSize, leastImage, floorRow, entryRow}
+use Rattle.model.specs.Sequential.{ResultZ, resultMeant}
+use Rattle.model.specs.Packets.{parsePacket}
+use Rattle.model_invariants.specs.Calls.{Operation, request, fetch, sync, notice, give, image, takeIn, receipt, release, decision}
+use Rattle.proof_protocol.specs.Servers as S
+use Rattle.proof_protocol.specs.World as W
+use Rattle.proof_protocol.specs.Allowed.{Allowed}
+use Rattle.proof_protocol.proofs.Logs.{Tail}
+use Rattle.proof_records.specs.Worlds.{Running, WorldLike}
+
+-- a found that succeeds: the one plan, the server's own number, and nothing founded there before
+pub record FoundOk (plan : List ℕ) (w : World) (c : ℕ) (p : List ℕ) (k : ℕ) : Type 0 where
+  pub one-plan : p ≡ plan
+  pub own-number : k ≡ c
+  pub once : w .servers c ≡ nothing
+
+pub record Provided (plan : List ℕ) (w : World) (e : Event) : Type 0 where
+  pub typed : Typed e
+  pub founds : (c : ℕ) (p : List ℕ) (k : ℕ) (st : State) → e ≡ R.found c p k → foundOf p k ≡ some st → FoundOk plan w c p k
+  pub recovers : (c : ℕ) (p : List ℕ) (log : Log) (st : State) → e ≡ R.recover c p → keptBy (w .servers c) ≡ some log → recoverOf p log ≡ some st → p ≡ plan
+  pub crashes : (c k : ℕ) → e ≡ R.crash c k → markOf (w .servers c) ≤ k
+  pub starts : (p : ℕ) (b : List ℕ) → e ≡ R.start p → packet w p ≡ some b → startOf b .answer ≡ Begun → w .clients (startOf b .client .client) ≡ none
+
+-- ---- the bytes of the protocol's log
+
+unfoldable pub sizeOf : S.LogRecord → ℕ
+sizeOf (S.executed v k d r) = executedSize
+sizeOf (S.gone x t) = goneSize
+sizeOf (S.gave p d m) = giveSize
+sizeOf (S.took a) = takeHead + (leastImage + floorRow * length (a .floors) + entryRow * length (a .records))
+sizeOf (S.freed p m) = releaseSize
+
+unfoldable pub bytesIn : List S.Entry → ℕ
+bytesIn [] = headSize
+bytesIn (e ∷ es) = bytesIn es + sizeOf (e .item)
+
+-- of the log before, what ends within the b bytes kept stays, and no more
+pub record Cut (v v′ : W.World) (c b : ℕ) : Type 0 where
+  pub stays : (t : List S.Entry) → Tail t (v .servers c .log) → bytesIn t ≤ b → Tail t (v′ .servers c .log)
+  pub most : bytesIn (v′ .servers c .log) ≤ b
+
+-- ---- what a call writes
+
+abbrev pub NoExecution : S.LogRecord → Type 0
+NoExecution (S.executed v k d r) = ⊥
+NoExecution (S.gone x t) = Unit {0}
+NoExecution (S.gave p d m) = Unit {0}
+NoExecution (S.took a) = Unit {0}
+NoExecution (S.freed p m) = Unit {0}
+
+-- a request writes the execution of its command by its program's version, and no other call writes an execution
+abbrev pub Source : Operation → S.LogRecord → Type 0
+Source (request v b) a = (q : Request) × (parsePacket b ≡ Requested q) × ((r : ResultZ) × (a ≡ S.executed (v (q .command .op)) (q .command) (q .done) r))
+Source (fetch x k) a = NoExecution a
+Source (sync m) a = NoExecution a
+Source (notice b) a = NoExecution a
+Source (give p d) a = NoExecution a
+Source (image p) a = NoExecution a
+Source (takeIn b) a = NoExecution a
+Source (receipt p) a = NoExecution a
+Source (release b) a = NoExecution a
+
+-- ---- events
+
+-- neither number nor packet
+pub record Executed (w : World) (c p : ℕ) (v : Versions) (room : ℕ) (q : Request) : Type 0 where
+  pub state : State
+  pub log : Log
+  pub up : Running (w .servers c) state log
+  pub bytes : List ℕ
+  pub delivered : packet w p ≡ some bytes
+  pub no-number : callOf state log room (decision (request v bytes)) .number ≡ 0
+  pub no-packet : callOf state log room (decision (request v bytes)) .made ≡ []
+  pub parsed : parsePacket bytes ≡ Requested q
+
+-- a change that demand 3 does not read
+abbrev pub Plain : W.Change → Type 0
+Plain W.same = Unit {0}
+Plain (W.server c W.founds) = Unit {0}
+Plain (W.server c (W.writes a)) = NoExecution a
+Plain (W.server c (W.syncs m)) = Unit {0}
+Plain (W.server c (W.crashes j)) = ⊥
+Plain (W.tells c p) = Unit {0}
+Plain (W.client x k) = Unit {0}
+Plain (W.leases m p) = Unit {0}
+
+-- an event that demand 3 does not read: a request that executes nothing, an issue or a receive refused, a crash of nothing
+unfoldable pub Quiet : World → Event → Type 0
+Quiet w (R.found c p k) = Unit
+Quiet w (R.request c p v room) = (q : Request) → Executed w c p v room q → ⊥
+Quiet w (R.fetch c x k room) = Unit
+Quiet w (R.sync c m room) = Unit
+Quiet w (R.notice c p room) = Unit
+Quiet w (R.give c p d room) = Unit
+Quiet w (R.image c p room) = Unit
+Quiet w (R.take·image c p room) = Unit
+Quiet w (R.receipt c p room) = Unit
+Quiet w (R.release c p room) = Unit
+Quiet w (R.recover c p) = Unit
+Quiet w (R.crash c k) = keptBy (w .servers c) ≡ none
+Quiet w (R.start p) = Unit
+Quiet w (R.issue x op p a) = (d : Client) (q : Request) → w .clients x ≡ some d → issueOf d op p a .answer ≡ Asked q → ⊥
+Quiet w (R.resend x c) = Unit
+Quiet w (R.receive x p) = (d : Client) (b : List ℕ) (r : ResultPacket) → w .clients x ≡ some d → packet w p ≡ some b → receiveOf d b .answer ≡ Completed r → ⊥
+Quiet w (R.open·lease t span) = Unit
+Quiet w (R.renew x t span) = Unit
+Quiet w (R.query x t) = Unit
+
+pub data Matched (w : World) (v v′ : W.World) : Event → W.Change → Type 0 where
+  executed : (c p : ℕ) (vs : Versions) (room : ℕ) (q : Request) (r : ResultZ) → Executed w c p vs room q
+      → Matched w v v′ (R.request c p vs room) (W.server c (W.writes (S.executed (vs (q .command .op)) (q .command) (q .done) r)))
+  cut : (c b j : ℕ) → Cut v v′ c b → Matched w v v′ (R.crash c b) (W.server c (W.crashes j))
+  issued : (x op p a : ℕ) (d : Client) → w .clients x ≡ some d → Matched w v v′ (R.issue x op p a) (W.client x (W.issues d op p a))
+  received : (x p : ℕ) (d : Client) (b : List ℕ) (r : ResultPacket) → w .clients x ≡ some d → packet w p ≡ some b → receiveOf d b .answer ≡ Completed r
+      → Matched w v v′ (R.receive x p) (W.client x (W.receives d (record { client = r .client; call = r .call }) (r .point) (resultMeant (r .result))))
+  other : (e : Event) (a : W.Change) → Quiet w e → Plain a → Matched w v v′ e a
+
+-- the event e, followed by a change that may happen
+pub record Stepped (plan : List PlanEntry) (w : World) (v : W.World) (e : Event) : Type 0 where
+  pub change : W.Change
+  pub allowed : Allowed plan v change
+  pub like : WorldLike plan (step w e) (W.step v change)
+  pub matched : Matched w v (W.step v change) e change
+
+-- the worlds before, the events left
+pub data Follows (plan : List PlanEntry) : World → W.World → List Event → List W.Change → Type 0 where
+  done : {w : World} {v : W.World} → WorldLike plan w v → Follows plan w v [] []
+  more : {w : World} {v : W.World} {e : Event} {a : W.Change} {es : List Event} {cs : List W.Change} → WorldLike plan w v → Allowed plan v a → Matched w v (W.step v a) e a
+      → Follows plan (step w e) (W.step v a) es cs → Follows plan w v (e ∷ es) (a ∷ cs)
+
+-- event n and change n
+pub record Pairing (w : World) (v : W.World) (es : List Event) (cs : List W.Change) (n : ℕ) (e : Event) (a : W.Change) : Type 0 where
+  pub here : getElem? es n ≡ some e
+  pub there : getElem? cs n ≡ some a
+  pub matched : Matched (runFrom w (take n es)) (W.runFrom v (take n cs)) (W.runFrom v (take (suc n) cs)) e a

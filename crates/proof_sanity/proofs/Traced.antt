@@ -1,0 +1,383 @@
+-- What the trace of a schedule says of it.
+--     provisos-kept            events that pass their tests keep the provisos
+--     call-at                  what is seen of event n
+--     end-at                   what is seen at the end
+--     kept-after               crashes past an event keep enough
+--     untouched                a server that no event names is not founded
+--     up-of, down-of           a server that is seen running, or crashed
+--     executes-seen            a request seen to answer 0 and no packet executes its command
+--     executes-only            where all requests that were answered had one packet, nothing else is executed
+-- Assumes nothing.
+use Prim.Native.Nat.{ℕ, zero, suc, _*_, _≤_, _<_}
+use mathlib.Core.Path.{_≡_, refl, sym, ap, _∙_, subst}
+use mathlib.Core.Bool.{Bool, true, false, _&&_, _||_, not}
+use mathlib.Core.List.{List, [], _∷_}
+use mathlib.Core.Option.{Option, none, some}
+use native.Mathlib.Omega.{arith}
+use lib.ListN.{length, take, drop, getElem?}
+use lib.Dec.{eqb, leb, ltb}
+use borrow.Author.Tests.{eqb-true, leb-true, ltb-true, eq-eqb, ne-eqb}
+use Rattle.model.specs.declared.Answer.{Answer}
+use Rattle.model.specs.declared.Client.{Client}
+use Rattle.model.specs.declared.Started.the-variants.{NotStarted, Running}
+use Rattle.model.specs.Numbers.{word}
+use Rattle.model.specs.Tables.{every}
+use Rattle.model.specs.Versions.{Versions}
+use Rattle.model.specs.Sequential.{Marked, markedBy}
+use Rattle.model.specs.declared.Request.{Request}
+use Rattle.model.specs.declared.Packet.the-variants.{Requested}
+use Rattle.model.specs.Packets.{parsePacket, requestBytes}
+use Rattle.claim.specs.Claim.{Executes}
+use Rattle.model.specs.Operations.{After, answerOf, requestOf}
+use Rattle.model.specs.Clients.{startOf}
+use Rattle.model.specs.declared.LeaseAnswer.{LeaseAnswer}
+use Rattle.model.specs.declared.Point.{Point}
+use Rattle.model.specs.declared.SendAnswer.{SendAnswer}
+use Rattle.model.specs.declared.StartAnswer.{StartAnswer}
+use Rattle.model.specs.declared.Started.{Started}
+use Rattle.model.specs.States.{load, pointAt}
+use Rattle.claim.specs.World.{withServer, withClient, withManager, making, calls, callsOn, foundAs, crashAt, startsAs, startsOn, sends, receives, told}
+use Rattle.claim.specs.World.{Event, found, request, fetch, sync, notice, give, image, take·image, receipt, release, recover, crash, start, issue, resend, receive, open·lease, renew, query, Lent, World, Server, nothing, running, crashed, lentState, lentLog, packet, step, emptyWorld, runFrom, run, after}
+use Rattle.claim.specs.Provisos.{Bytes, Counted, Typed, keptBy, markOf, lengthOf, At, Provisos}
+use Rattle.model_laws.proofs.Tests.{choose, and-left, and-right}
+use Rattle.model_laws.proofs.Numbers.{bytes-nil, bytes-cons}
+use Rattle.proof_sanity.specs.Trace.{asksOnly, bytesOk, countedOk, typedOk, sameBytes, isNothing, keptIs, notStarted, startsNew, keepsOk, Call, Seen, requestAnswer, callSeen, seenAt, Ended, endSeen, Trace, traceFrom, keepsMany, below, Answered, Stands, up, down, standsAt}
+
+impossible : {A B : Type 0} {a : B} → none ≡ some a → A
+impossible e = let z : _≡_ {A = ℕ} 0 1 = cc in absurd (omega arith)
+
+untrue : {A : Type 0} → false ≡ true → A
+untrue e = let z : _≡_ {A = ℕ} 0 1 = cc in absurd (omega arith)
+
+-- ---- what the interface's types say
+
+bytes-ok : (s : List ℕ) → bytesOk s ≡ true → Bytes s
+unfolding Bytes bytesOk every
+bytes-ok [] e = bytes-nil
+bytes-ok (b ∷ s) e =
+    bytes-cons b s (ltb-true _ _ (and-left (ltb b 256) (every (λ x. ltb x 256) s) e)) (bytes-ok s (and-right (ltb b 256) (every (λ x. ltb x 256) s) e))
+
+-- two and three tests
+both : {A B : Type 0} (s t : Bool) → (s ≡ true → A) → (t ≡ true → B) → (s && t) ≡ true → A × B
+both s t f g e = (f (and-left s t e), g (and-right s t e))
+
+three : {A B C : Type 0} (s t u : Bool) → (s ≡ true → A) → (t ≡ true → B) → (u ≡ true → C) → (s && (t && u)) ≡ true → A × B × C
+three s t u f g h e = let r = and-right s (t && u) e in (f (and-left s (t && u) e), g (and-left t u r), h (and-right t u r))
+
+counted-ok : (l : Lent) → countedOk l ≡ true → Counted l
+unfolding countedOk
+counted-ok l e = ltb-true _ _ e
+
+typed-ok : (e : Event) → typedOk e ≡ true → Typed e
+unfolding typedOk Typed
+typed-ok (found c state log plan n) h = both (bytesOk state) (bytesOk plan) (bytes-ok state) (bytes-ok plan) h
+typed-ok (request c p v l) h = counted-ok l h
+typed-ok (fetch c x k l) h = counted-ok l h
+typed-ok (sync c m l) h = counted-ok l h
+typed-ok (notice c p l) h = counted-ok l h
+typed-ok (give c p d l) h = counted-ok l h
+typed-ok (image c p l) h = counted-ok l h
+typed-ok (take·image c p l) h = counted-ok l h
+typed-ok (receipt c p l) h = counted-ok l h
+typed-ok (release c p l) h = counted-ok l h
+typed-ok (recover c state log plan) h = bytes-ok state h
+typed-ok (crash c k) h = tt
+typed-ok (start p) h = tt
+typed-ok (issue x op p a) h = tt
+typed-ok (resend x c) h = tt
+typed-ok (receive x p) h = tt
+typed-ok (open·lease t span) h = ltb-true _ _ h
+typed-ok (renew x t span) h = ltb-true _ _ h
+typed-ok (query x t) h = ltb-true _ _ h
+
+-- ---- the other provisos
+
+same-bytes : (s t : List ℕ) → sameBytes s t ≡ true → s ≡ t
+unfolding sameBytes
+same-bytes [] [] e = refl
+same-bytes [] (b ∷ t) e = untrue e
+same-bytes (a ∷ s) [] e = untrue e
+same-bytes (a ∷ s) (b ∷ t) e =
+    let x : a ≡ b = eqb-true a b (and-left (eqb a b) (sameBytes s t) e) in
+    let y : s ≡ t = same-bytes s t (and-right (eqb a b) (sameBytes s t) e) in
+    rw (x, y)
+
+is-nothing : (s : Server) → isNothing s ≡ true → s ≡ nothing
+unfolding isNothing
+is-nothing nothing e = refl
+is-nothing (running state log) e = untrue e
+is-nothing (crashed kept mark) e = untrue e
+
+kept-is : (log : List ℕ) (o : Option (List ℕ)) → keptIs log o ≡ true → o ≡ some log
+unfolding keptIs
+kept-is log none e = untrue e
+kept-is log (some s) e = ap some (same-bytes s log e)
+
+is-none : (o : Option Client) → notStarted o ≡ true → o ≡ none
+unfolding notStarted
+is-none none e = refl
+is-none (some d) e = untrue e
+
+starts-new : (w : World) (o : Option (List ℕ)) (b : List ℕ) → startsNew w o ≡ true → o ≡ some b → w .clients (startOf b .client .client) ≡ none
+unfolding startsNew
+starts-new w none b e q = impossible q
+starts-new w (some c) b e q =
+    let z : c ≡ b = cc in is-none (w .clients (startOf b .client .client)) (subst (λ (x : List ℕ). notStarted (w .clients (startOf x .client .client)) ≡ true) z e)
+
+-- ---- by number
+
+every-row : (t : Seen → Bool) (rs : List Seen) → every t rs ≡ true → (n : ℕ) (r : Seen) → getElem? rs n ≡ some r → t r ≡ true
+unfolding every
+every-row t [] h n r e = impossible e
+every-row t (x ∷ rs) h zero r e = let z : x ≡ r = cc in ap t (sym z) ∙ and-left (t x) (every t rs) h
+every-row t (x ∷ rs) h (suc n) r e = every-row t rs (and-right (t x) (every t rs) h) n r e
+
+module _ (plan : List ℕ) (p : ℕ) where
+  row-from : (w : World) (es : List Event) (n : ℕ) (e : Event) → getElem? es n ≡ some e
+      → getElem? (traceFrom plan p w es .rows) n ≡ some (seenAt plan (runFrom w (take n es)) e)
+  unfolding traceFrom runFrom
+  row-from w [] n e q = impossible q
+  row-from w (x ∷ es) zero e q = let z : x ≡ e = cc in ap (λ (y : Event). some (seenAt plan w y)) z
+  row-from w (x ∷ es) (suc n) e q = row-from (step w x) es n e q
+
+  end-from : (w : World) (es : List Event) → traceFrom plan p w es .end ≡ endSeen p (runFrom w es)
+  unfolding traceFrom runFrom
+  end-from w [] = refl
+  end-from w (x ∷ es) = end-from (step w x) es
+
+  module _ (es : List Event) (t : Trace) (e : traceFrom plan p emptyWorld es ≡ t) where
+    row-at : (n : ℕ) (x : Event) → getElem? es n ≡ some x → getElem? (t .rows) n ≡ some (seenAt plan (after es n) x)
+    unfolding after run
+    row-at n x q = ap (λ (y : Trace). getElem? (y .rows) n) (sym e) ∙ row-from emptyWorld es n x q
+
+    pub call-at : (n : ℕ) (x : Event) (r : Seen) → getElem? es n ≡ some x → getElem? (t .rows) n ≡ some r → callSeen (after es n) x ≡ r .call
+    unfolding seenAt
+    call-at n x r q k = let z : seenAt plan (after es n) x ≡ r = some-same (sym (row-at n x q) ∙ k) in ap (λ (y : Seen). y .call) z
+      where
+        some-same : {a b : Seen} → some a ≡ some b → a ≡ b
+        some-same h = cc
+
+    pub end-at : endSeen p (run es) ≡ t .end
+    unfolding run
+    end-at = sym (end-from emptyWorld es) ∙ ap (λ (y : Trace). y .end) e
+
+    -- ---- the provisos
+
+    module _ (h : every (λ r. r .ok) (t .rows) ≡ true) where
+      passed : (n : ℕ) (x : Event) → getElem? es n ≡ some x → (typedOk x && keepsOk plan (after es n) x) ≡ true
+      unfolding seenAt
+      passed n x q = every-row (λ r. r .ok) (t .rows) h n (seenAt plan (after es n) x) (row-at n x q)
+
+      keeps-at : (n : ℕ) (x : Event) → getElem? es n ≡ some x → keepsOk plan (after es n) x ≡ true
+      keeps-at n x q = and-right (typedOk x) (keepsOk plan (after es n) x) (passed n x q)
+
+      found-at : (n c : ℕ) (state log q : List ℕ) (k : ℕ) → getElem? es n ≡ some (found c state log q k) → (q ≡ plan) × (k ≡ c) × (after es n .servers c ≡ nothing)
+      unfolding keepsOk
+      found-at n c state log q k a =
+          three (sameBytes q plan) (eqb k c) (isNothing (after es n .servers c)) (same-bytes q plan) (eqb-true k c) (is-nothing (after es n .servers c)) (keeps-at n _ a)
+
+      recover-at : (n c : ℕ) (state log q : List ℕ) → getElem? es n ≡ some (recover c state log q) → (q ≡ plan) × (keptBy (after es n .servers c) ≡ some log)
+      unfolding keepsOk
+      recover-at n c state log q a =
+          both (sameBytes q plan) (keptIs log (keptBy (after es n .servers c))) (same-bytes q plan) (kept-is log (keptBy (after es n .servers c))) (keeps-at n _ a)
+
+      crash-at : (n c k : ℕ) → getElem? es n ≡ some (crash c k) → (markOf (after es n .servers c) ≤ k) × (k ≤ lengthOf (after es n .servers c))
+      unfolding keepsOk
+      crash-at n c k a =
+          both (leb (markOf (after es n .servers c)) k) (leb k (lengthOf (after es n .servers c))) (leb-true _ _) (leb-true _ _) (keeps-at n (crash c k) a)
+
+      start-at : (n k : ℕ) (b : List ℕ) → getElem? es n ≡ some (start k) → packet (after es n) k ≡ some b → after es n .clients (startOf b .client .client) ≡ none
+      unfolding keepsOk
+      start-at n k b a q = starts-new (after es n) (packet (after es n) k) b (keeps-at n (start k) a) q
+
+      pub provisos-kept : Provisos plan es
+      unfolding At
+      provisos-kept =
+          record {
+            typed = λ n x q. typed-ok x (and-left (typedOk x) (keepsOk plan (after es n) x) (passed n x q));
+            one-plan = λ n c state log q k a z. found-at n c state log q k a .0;
+            plan-again = λ n c state log q a z. recover-at n c state log q a .0;
+            own-number = λ n c state log q k a z. found-at n c state log q k a .1;
+            founded-once = λ n c state log q k a z. found-at n c state log q k a .2;
+            crash-keeps = λ n c k a. crash-at n c k a;
+            recovery-uses = λ n c state log q a z. recover-at n c state log q a .1;
+            started-once = λ n k b a q z. start-at n k b a q;
+          }
+
+-- ---- crashes
+
+pub kept-after : (c k n : ℕ) (es : List Event) → every (keepsMany c k) (drop (suc n) es) ≡ true → (m b : ℕ) → n < m → getElem? es m ≡ some (crash c b) → k ≤ b
+unfolding every keepsMany
+kept-after c k n [] h m b l e = impossible e
+kept-after c k n (x ∷ es) h zero b l e = absurd (omega arith)
+kept-after c k zero (x ∷ es) h (suc m) b l e = first es m h e
+  where
+    first : (xs : List Event) (i : ℕ) → every (keepsMany c k) xs ≡ true → getElem? xs i ≡ some (crash c b) → k ≤ b
+    first [] i g q = impossible q
+    first (y ∷ ys) zero g q =
+        let z : y ≡ crash c b = cc in
+        let t : keepsMany c k (crash c b) ≡ true = ap (keepsMany c k) (sym z) ∙ and-left (keepsMany c k y) (every (keepsMany c k) ys) g in
+        leb-true k b (own t)
+      where
+        own : (not (eqb c c) || leb k b) ≡ true → leb k b ≡ true
+        own r = simp (eq-eqb c c refl) at r
+    first (y ∷ ys) (suc i) g q = first ys i (and-right (keepsMany c k y) (every (keepsMany c k) ys) g) q
+kept-after c k (suc n) (x ∷ es) h (suc m) b l e = kept-after c k n es h m b (omega arith) e
+
+-- ---- servers that no event names
+
+making-servers : (b : List ℕ) (w : World) (d : ℕ) → making b w .servers d ≡ w .servers d
+unfolding making
+making-servers [] w d = refl
+making-servers (x ∷ b) w d = refl
+
+with-other : (c d : ℕ) (s : Server) (w : World) → eqb d c ≡ false → withServer c s w .servers d ≡ w .servers d
+unfolding withServer
+with-other c d s w h = rw h
+
+module _ (d : ℕ) where
+  calls-other : (c : ℕ) (l : Lent) (f : List ℕ → List ℕ → After) (s : Server) (w : World) → eqb d c ≡ false → calls c l f s w .servers d ≡ w .servers d
+  unfolding calls
+  calls-other c l f nothing w h = refl
+  calls-other c l f (running state log) w h = making-servers _ _ d ∙ with-other c d _ w h
+  calls-other c l f (crashed kept mark) w h = refl
+
+  on-other : (c : ℕ) (l : Lent) (f : List ℕ → List ℕ → List ℕ → After) (o : Option (List ℕ)) (w : World) → eqb d c ≡ false → callsOn c l f o w .servers d ≡ w .servers d
+  unfolding callsOn
+  on-other c l f none w h = refl
+  on-other c l f (some b) w h = calls-other c l _ (w .servers c) w h
+
+  found-other : (c : ℕ) (a : After) (w : World) → eqb d c ≡ false → foundAs c a w .servers d ≡ w .servers d
+  unfolding foundAs
+  found-other c a w h = choose (λ (x : World). x .servers d ≡ w .servers d) (eqb (a .answer .refusal) 0) (λ z. with-other c d _ w h) (λ z. refl)
+
+  crash-other : (c k : ℕ) (s : Server) (w : World) → eqb d c ≡ false → crashAt c k s w .servers d ≡ w .servers d
+  unfolding crashAt
+  crash-other c k nothing w h = refl
+  crash-other c k (running state log) w h = with-other c d _ w h
+  crash-other c k (crashed kept mark) w h = with-other c d _ w h
+
+  as-servers : (a : StartAnswer) (w : World) → startsAs a w .servers d ≡ w .servers d
+  unfolding startsAs withClient
+  as-servers a w = kinds (a .answer) refl
+    where
+      kinds : (k : Started) → a .answer ≡ k → startsAs a w .servers d ≡ w .servers d
+      kinds (NotStarted n) e = rw e
+      kinds Running e = rw e
+
+  starts-servers : (o : Option (List ℕ)) (w : World) → startsOn o w .servers d ≡ w .servers d
+  unfolding startsOn
+  starts-servers none w = refl
+  starts-servers (some b) w = as-servers (startOf b) w
+
+  sends-servers : (x : ℕ) (f : Client → SendAnswer) (o : Option Client) (w : World) → sends x f o w .servers d ≡ w .servers d
+  unfolding sends withClient
+  sends-servers x f none w = refl
+  sends-servers x f (some k) w = making-servers _ _ d
+
+  receives-servers : (x : ℕ) (o : Option Client) (p : Option (List ℕ)) (w : World) → receives x o p w .servers d ≡ w .servers d
+  unfolding receives withClient
+  receives-servers x none p w = refl
+  receives-servers x (some k) none w = refl
+  receives-servers x (some k) (some b) w = refl
+
+  told-servers : (a : LeaseAnswer) (w : World) → told a w .servers d ≡ w .servers d
+  unfolding told withManager
+  told-servers a w = making-servers _ _ d
+
+  module _ (k : ℕ) (l : k ≤ d) where
+    other : (c : ℕ) → ltb c k ≡ true → eqb d c ≡ false
+    other c h = let i = ltb-true c k h in ne-eqb d c (λ z. omega (arith, i, l, z))
+
+    step-other : (w : World) (e : Event) → below k e ≡ true → step w e .servers d ≡ w .servers d
+    unfolding step below
+    step-other w (found c state log p n) h = found-other c _ w (other c h)
+    step-other w (request c p v t) h = on-other c t _ (packet w p) w (other c h)
+    step-other w (fetch c x n t) h = calls-other c t _ (w .servers c) w (other c h)
+    step-other w (sync c m t) h = calls-other c t _ (w .servers c) w (other c h)
+    step-other w (notice c p t) h = on-other c t _ (packet w p) w (other c h)
+    step-other w (give c p n t) h = calls-other c t _ (w .servers c) w (other c h)
+    step-other w (image c p t) h = calls-other c t _ (w .servers c) w (other c h)
+    step-other w (take·image c p t) h = on-other c t _ (packet w p) w (other c h)
+    step-other w (receipt c p t) h = calls-other c t _ (w .servers c) w (other c h)
+    step-other w (release c p t) h = on-other c t _ (packet w p) w (other c h)
+    step-other w (recover c state log p) h = found-other c _ w (other c h)
+    step-other w (crash c b) h = crash-other c b (w .servers c) w (other c h)
+    step-other w (start p) h = starts-servers (packet w p) w
+    step-other w (issue x op p a) h = sends-servers x _ (w .clients x) w
+    step-other w (resend x c) h = sends-servers x _ (w .clients x) w
+    step-other w (receive x p) h = receives-servers x (w .clients x) (packet w p) w
+    step-other w (open·lease t span) h = told-servers _ w
+    step-other w (renew x t span) h = told-servers _ w
+    step-other w (query x t) h = told-servers _ w
+
+    from-other : (w : World) (es : List Event) → every (below k) es ≡ true → runFrom w es .servers d ≡ w .servers d
+    unfolding runFrom every
+    from-other w [] h = refl
+    from-other w (e ∷ es) h =
+        from-other (step w e) es (and-right (below k e) (every (below k) es) h) ∙ step-other w e (and-left (below k e) (every (below k) es) h)
+
+    pub untouched : (es : List Event) → every (below k) es ≡ true → run es .servers d ≡ nothing
+    unfolding run emptyWorld
+    untouched es h = from-other emptyWorld es h
+
+-- ---- at the end
+
+pub up-of : (p : ℕ) (s : Server) (x : Point) (h : ℕ) → standsAt p s ≡ up x h
+    → (state : List ℕ) × (log : List ℕ) × (s ≡ running state log) × (pointAt (load state) p ≡ x) × (load state .heard ≡ h)
+unfolding standsAt
+up-of p nothing x h e = let z : _≡_ {A = ℕ} 0 1 = cc in absurd (omega arith)
+up-of p (running state log) x h e = (state, log, refl, cc, cc)
+up-of p (crashed kept mark) x h e = let z : _≡_ {A = ℕ} 0 1 = cc in absurd (omega arith)
+
+pub down-of : (p : ℕ) (s : Server) (kept : List ℕ) (mark : ℕ) → standsAt p s ≡ down kept mark → s ≡ crashed kept mark
+unfolding standsAt
+down-of p nothing kept mark e = let z : _≡_ {A = ℕ} 0 1 = cc in absurd (omega arith)
+down-of p (running state log) kept mark e = let z : _≡_ {A = ℕ} 0 1 = cc in absurd (omega arith)
+down-of p (crashed b m) kept mark e = cc
+
+-- ---- requests
+
+answer-of : (v : Versions) (l : Lent) (s : Server) (o : Option (List ℕ)) (a : Answer) → requestAnswer v l s o ≡ some a → Answered v l s o a
+unfolding requestAnswer
+answer-of v l nothing o a e = impossible e
+answer-of v l (running state log) none a e = impossible e
+answer-of v l (running state log) (some b) a e = record { state = state; log = log; up = refl; bytes = b; packet = refl; answer = cc }
+answer-of v l (crashed kept mark) o a e = impossible e
+
+module _ (plan : List ℕ) (es : List Event) where
+  -- a request that is executed
+  pub executes-seen : (n c p size : ℕ) (v : Versions) (l : Lent) (q : Request) → At plan es n (request c p v l) → parsePacket (requestBytes q) ≡ Requested q
+      → callSeen (after es n) (request c p v l) ≡ record { client = none; packet = some (requestBytes q); size = size; answer = some (answerOf 0 0) }
+      → Executes plan es n c (markedBy v (q .command))
+  unfolding callSeen
+  executes-seen n c p size v l q e parsed s =
+      let b : packet (after es n) p ≡ some (requestBytes q) = ap (λ (x : Call). x .packet) s in
+      let A = answer-of v l (after es n .servers c) (packet (after es n) p) (answerOf 0 0) (ap (λ (x : Call). x .answer) s) in
+      let same : A .bytes ≡ requestBytes q = some-list (sym (A .packet) ∙ b) in
+      record {
+        number = p;
+        versions = v;
+        lent = l;
+        event = e;
+        state = A .state;
+        log = A .log;
+        up = A .up;
+        bytes = requestBytes q;
+        delivered = b;
+        answer = subst (λ (x : List ℕ). requestOf v (lentState l (A .state)) (lentLog l (A .log)) x (l .out) .answer ≡ answerOf 0 0) same (A .answer);
+        asked = q;
+        parsed = parsed;
+        its = refl;
+      }
+    where
+      some-list : {a b : List ℕ} → some a ≡ some b → a ≡ b
+      some-list h = cc
+
+  -- where every request that was answered had the packet b, nothing else is executed
+  pub executes-only : (p : ℕ) (t : Trace) → traceFrom plan p emptyWorld es ≡ t → (b : List ℕ) → every (asksOnly b) (t .rows) ≡ true
+      → (n c : ℕ) (k : Marked) (E : Executes plan es n c k) → E .bytes ≡ b
+  unfolding At seenAt callSeen asksOnly requestAnswer keptIs
+  executes-only p t e b h n c k E =
+      let r = every-row (asksOnly b) (t .rows) h n (seenAt plan (after es n) (request c (E .number) (E .versions) (E .lent))) (row-at plan p es t e n (request c (E .number) (E .versions) (E .lent)) (E .event)) in
+      same-bytes (E .bytes) b (rw (E .up, E .delivered) at r)

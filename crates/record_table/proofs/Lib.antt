@@ -1,8 +1,0 @@
--- Laws that the proofs of `record_table`, and of those who call it, cite.
-pub mod Search
-pub mod Kept
-pub mod Unmoved
-pub mod Gather
-pub mod Loops
-pub mod Whole
-pub mod Chained

@@ -1,2 +1,0 @@
--- Laws that the proofs of `records_c` cite.
-pub mod Answering

@@ -1,2 +1,0 @@
--- What the contracts of `records_c` cite.
-pub mod Shown

@@ -1,3 +1,0 @@
--- Laws that the proofs of `replay`, and of those who call it, cite.
-pub mod Replayed
-pub mod Rooms

@@ -1,1 +1,0 @@
-// Each event of the byte world is followed by an event of the abstract world. No code.

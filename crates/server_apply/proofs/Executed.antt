@@ -1,0 +1,123 @@
+-- The steps of an executed command: the client's floor, its records under the floor go, the new record, the point, the log's length.
+--     executed-floor, executed-kept, executed-room, executed-added, executed-stage, executed-done
+-- Assumes nothing.
+use Prim.Native.Nat.{ℕ, _*_, _<_, _≤_}
+use mathlib.Core.Path.{_≡_, refl, ap, _∙_}
+use mathlib.Core.Bool.{Bool, true, false, _||_, not}
+use mathlib.Core.List.{List, [], _∷_, _++_}
+use native.Mathlib.Omega.{arith}
+use lib.ListN.{length}
+use lib.Dec.{eqb, leb}
+use borrow.Author.Tests.{le-leb}
+use Rattle.model.specs.declared.Executed.{Executed}
+use Rattle.model.specs.declared.Point.{Point}
+use Rattle.model.specs.declared.Completion.{Completion}
+use Rattle.model.specs.Numbers.{word}
+use Rattle.model.specs.Tables.{keep}
+use Rattle.model.specs.Limits.{recordCount}
+use Rattle.model.specs.Images.{floorOf}
+use Rattle.model.specs.States.{State, load, pointAt}
+use Rattle.model.specs.Apply.{raise, staysOver, completion, executedPoint, applyExecuted}
+use Rattle.model.specs.Operations.{stored}
+use Rattle.model_laws.specs.Fits.{CompletionFits, PointFits}
+use Rattle.model_laws.specs.Layout.{withSize, withPoint, withFloors, withRecords}
+use Rattle.state_rows.specs.Canonical.{Canonical}
+use Rattle.state_rows.proofs.Chains.{fits-point, fits-size, fits-floors}
+use Rattle.state_records.specs.declared.Rule.the-variants.{OverFloor}
+use Rattle.state_records.specs.Rules.{staysBy, keptBy}
+use Rattle.state_records.proofs.Chained.{kept-fits, added-fits}
+use Rattle.state_clients.proofs.Raised.{raise-fits}
+use Rattle.server_apply.specs.Room.{floorsWith, floorWith, Room}
+use Rattle.server_apply.specs.Stage.{Stage}
+use Rattle.server_apply.proofs.Stages.{stage-start, stage-next, stage-load, point-fits}
+use Rattle.server_apply.proofs.Composed.{executed-composed}
+
+-- the fields of an executed record in their widths
+pub record Widths (x : Executed) (end : ℕ) : Type 0 where
+  pub op : x .command .op < 256
+  pub point : x .command .point < 256
+  pub outcome : x .result .outcome < 256
+  pub client : x .command .client < word
+  pub call : x .command .call < word
+  pub done : x .done < word
+  pub argument : x .command .argument < word
+  pub value : x .result .value < word
+  pub quality : x .result .quality < 256
+  pub ends : end < word * word
+
+or-right : (a b : Bool) → b ≡ true → (a || b) ≡ true
+or-right true b e = refl
+or-right false b e = e
+
+module _ {s : List ℕ} (w : Canonical s) (x : Executed) (end : ℕ) (f : Widths x end) (r : Room x (load s)) where
+  abbrev raised : State
+  raised = withFloors (floorsWith x (load s)) (load s)
+
+  abbrev kept : State
+  kept = withRecords (keep (staysOver (x .command .client) (floorWith x (load s))) (load s .records)) raised
+
+  abbrev added : State
+  added = withRecords (keep (staysOver (x .command .client) (floorWith x (load s))) (load s .records) ++ (completion x end ∷ [])) kept
+
+  abbrev pointed : State
+  pointed = withPoint (x .command .point) (executedPoint x (pointAt (load s) (x .command .point))) added
+
+  pub executed-floor : {s1 : List ℕ} → s1 ≡ stored s raised → Stage s s1 raised
+  executed-floor p =
+      stage-next (stage-start s w) (withFloors (floorsWith x (load s))) p
+      (fits-floors (load s) (w .fits) (floorsWith x (load s))
+      (raise-fits (record { client = x .command .client; floor = x .done }) (load s .floors) (record { client = f .client; floor = f .done }) (w .fits .floors)) (r .clients))
+
+  -- the floor read after it was raised
+  floor-with : {s1 : List ℕ} {n : ℕ} → Stage s s1 raised → n ≡ floorOf (x .command .client) (load s1 .floors) → n ≡ floorWith x (load s)
+  unfolding withFloors
+  floor-with t q = q ∙ ap (λ (st : State). floorOf (x .command .client) (st .floors)) (stage-load t)
+
+  pub executed-kept : {n : ℕ} {s1 s2 : List ℕ} → Stage s s1 raised → n ≡ floorOf (x .command .client) (load s1 .floors)
+      → s2 ≡ stored s1 (withRecords (keptBy (OverFloor (x .command .client) n) (load s1)) (load s1)) → Stage s s2 kept
+  unfolding staysBy withFloors
+  executed-kept {n} {s1} {s2} t q p =
+      let m : ℕ = floorWith x (load s) in
+      stage-next t (λ (st : State). withRecords (keptBy (OverFloor (x .command .client) m) st) st)
+      (p ∙ ap (λ (k : ℕ). stored s1 (withRecords (keptBy (OverFloor (x .command .client) k) (load s1)) (load s1))) (floor-with t q))
+      (kept-fits raised (t .fits) (OverFloor (x .command .client) m))
+
+  pub executed-room : {s2 : List ℕ} → Stage s s2 kept → length (load s2 .records) < recordCount
+  unfolding withRecords
+  executed-room t = rw (stage-load t) (r .records)
+
+  pub executed-added : {c : Completion} {s2 s3 : List ℕ} → Stage s s2 kept → c ≡ completion x end → s3 ≡ stored s2 (withRecords (load s2 .records ++ (c ∷ [])) (load s2)) → Stage s s3 added
+  unfolding withRecords completion
+  executed-added {c} {s2} t q p =
+      stage-next t (λ (st : State). withRecords (st .records ++ (completion x end ∷ [])) st)
+      (p ∙ ap (λ (d : Completion). stored s2 (withRecords (load s2 .records ++ (d ∷ [])) (load s2))) q)
+      (added-fits kept (t .fits) (completion x end)
+      (record { client = f .client; call = f .call; argument = f .argument; value = f .value; op = f .op; outcome = f .outcome; quality = f .quality; point = f .point; end = f .ends })
+      (r .records))
+
+  pub executed-stage : {q y : Point} {s3 s4 : List ℕ} → Stage s s3 added → q ≡ pointAt (load s) (x .command .point) → y ≡ executedPoint x q → s4 ≡ stored s3 (withPoint (x .command .point) y (load s3))
+      → Stage s s4 pointed
+  unfolding executedPoint
+  executed-stage {q} {y} {s3} t a b p =
+      let old : PointFits (pointAt (load s) (x .command .point)) = point-fits (load s) (x .command .point) (w .fits) in
+      stage-next t (withPoint (x .command .point) (executedPoint x (pointAt (load s) (x .command .point))))
+      (p ∙ ap (λ (u : Point). stored s3 (withPoint (x .command .point) u (load s3))) (b ∙ ap (executedPoint x) a))
+      (fits-point added (t .fits) (x .command .point) (executedPoint x (pointAt (load s) (x .command .point)))
+      (record {
+        status = old .status;
+        quality = f .quality;
+        destination = old .destination;
+        value = f .value;
+        moveNumber = old .moveNumber;
+        takenMove = old .takenMove;
+        giveEnd = old .giveEnd;
+        takeEnd = old .takeEnd;
+      }))
+
+  stays : staysOver (x .command .client) (floorWith x (load s)) (completion x end) ≡ true
+  unfolding staysOver completion
+  stays = or-right (not (eqb (x .command .client) (x .command .client))) (leb (floorWith x (load s)) (x .command .call)) (le-leb (floorWith x (load s)) (x .command .call) (r .call))
+
+  pub executed-done : {s4 s5 : List ℕ} → Stage s s4 pointed → s5 ≡ stored s4 (withSize end (load s4)) → s5 ≡ stored s (applyExecuted x end (load s))
+  unfolding withRecords
+  executed-done t p = stage-next t (withSize end) p (fits-size pointed (t .fits) end (f .ends)) .is ∙ ap (λ (u : State). stored s u) (executed-composed (load s) end x stays)

@@ -1,0 +1,8 @@
+-- Laws that the proofs of `apply` cite.
+pub mod Composed
+pub mod Stages
+pub mod Gave
+pub mod Released
+pub mod Gone
+pub mod Executed
+pub mod Taken

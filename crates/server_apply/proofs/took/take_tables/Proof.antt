@@ -1,0 +1,76 @@
+-- `apply::took::take_tables` meets its contract.
+-- Assumes nothing.
+use native.Mathlib.Omega.{arith}
+use Rattle.model.specs.States.{load}
+use Rattle.state_records.specs.declared.Rule.the-variants.{OnOther, OverFloors}
+use Rattle.server_apply.specs.Stage.{Stage}
+use Rattle.server_apply.proofs.Stages.{stage-canonical}
+use Rattle.server_apply.proofs.Taken.{Widths, mergedBy, keptIn, keptOf, kept-stage, taken-merge, taken-merged, taken-add, taken-done}
+use borrow.Author.Needs.{needs}
+use Rattle.server_apply.proofs.took.take_tables.Statement.{statement}
+use Rattle.server_apply.proofs.took.take_tables.Tie as tie
+
+fits : (c : tie.Start) → Widths (c .args .h) (c .args .end)
+fits c = record { point = omega arith; quality = omega arith; value = omega arith; moveNumber = omega arith; heard = omega arith; size = omega arith }
+
+merge-requires : tie.Need-merge-requires
+merge-requires c κs =
+    let at-shared-slice-known = c .before .before in
+    let start = at-shared-slice-known .before .before in
+    taken-merge (start .pre .0) (start .args .image .now) (λ i. at-shared-slice-known .shared-slice-known .given i .fits) (start .args .h) (start .args .end) (start .pre .2) (start .pre .1)
+
+first : (c : tie.After-merge) → Stage (c .before .before .before .before .before .args .s .now) (c .merge .last .0)
+    (mergedBy (c .before .before .before .before .before .args .h) (c .before .before .before .before .before .args .image .now) (load (c .before .before .before .before .before .args .s .now)))
+first c =
+    let known = c .before .before .before in
+    let start = known .before .before in
+    taken-merged (start .pre .0) (start .args .image .now) (λ i. known .shared-slice-known .given i .fits) (start .args .h) (start .args .end) (start .pre .2) (c .merge .ensures)
+
+second : (c : tie.After-keep-records) → Stage (c .before .before .before .before .before .before .before .before .before .args .s .now) (c .keep-records .last .0)
+    (keptIn (OnOther (c .before .before .before .before .before .before .before .before .before .args .h .point))
+    (mergedBy (c .before .before .before .before .before .before .before .before .before .args .h) (c .before .before .before .before .before .before .before .before .before .args .image .now)
+    (load (c .before .before .before .before .before .before .before .before .before .args .s .now))))
+second c =
+    let at4 = c .before .before .before .before in
+    let start = at4 .before .before .before .before .before in
+    kept-stage (first (at4)) (OnOther (start .args .h .point)) (c .keep-records .ensures)
+
+third : (c : tie.After-keep-records2) → Stage (c .before .before .before .before .before .before .before .before .before .before .before .before .before .args .s .now) (c .keep-records2 .last .0)
+    (keptOf (c .before .before .before .before .before .before .before .before .before .before .before .before .before .args .h)
+    (c .before .before .before .before .before .before .before .before .before .before .before .before .before .args .image .now)
+    (load (c .before .before .before .before .before .before .before .before .before .before .before .before .before .args .s .now)))
+third c = kept-stage (second (c .before .before .before .before)) OverFloors (c .keep-records2 .ensures)
+
+keep-records-requires : tie.Need-keep-records-requires
+keep-records-requires c κs = stage-canonical (first (c .before .before .before))
+
+keep-records-requires-2 : tie.Need-keep-records-requires-2
+keep-records-requires-2 c κs = stage-canonical (second (c .before .before .before))
+
+append-image-requires : tie.Need-append-image-requires
+append-image-requires c κs =
+    let kept = c .before .before .before in
+    let known = kept .before .before .before .before .before .before .before .before .before .before .before in
+    let start = known .before .before in
+    taken-add (start .pre .0) (start .args .image .now) (λ i. known .shared-slice-known .given i .fits) (start .args .h) (start .args .end) (start .pre .2) (start .pre .3) (third kept) (start .pre .1)
+
+returns : tie.Need-returns
+returns c =
+    let added = c .before .before in
+    let kept = added .before .before .before .before in
+    let known = kept .before .before .before .before .before .before .before .before .before .before .before in
+    let start = known .before .before in
+    taken-done (start .pre .0) (start .args .image .now) (λ i. known .shared-slice-known .given i .fits) (start .args .h) (start .args .end) (start .pre .2) (start .pre .3) (third kept) (fits start)
+    (added .append-image .ensures)
+
+pub take-tables-spec : {M : Type 1} → statement M
+take-tables-spec =
+    tie.close
+    (tie.spec
+    (λ c. search needs)
+    merge-requires
+    keep-records-requires
+    keep-records-requires-2
+    append-image-requires
+    (λ c. search needs)
+    returns)

@@ -1,0 +1,132 @@
+// One log record applied to a state's buffer: what replay does with it, for the operations and for recovery alike.
+pub mod took;
+
+use model::Completion;
+use model::Executed;
+use model::Give;
+use model::Notice;
+use model::Point;
+use model::Release;
+use model::constants;
+use state_records::Rule;
+use state_rows::state;
+ghost use mathlib.Core.Path.{_≡_};
+ghost use Prim.Native.Nat.{_≤_};
+ghost use Rattle.model.specs.Limits.{lastPoint};
+ghost use Rattle.model.specs.States.{load};
+ghost use Rattle.model.specs.Apply.{completion, executedPoint, applyExecuted, applyGone, gavePoint, applyGave, releasedPoint, applyReleased};
+ghost use Rattle.model.specs.Operations.{stored};
+ghost use Rattle.state_rows.specs.Canonical.{Canonical};
+ghost use Rattle.server_apply.specs.Room.{Room};
+
+// ---- executed
+
+fn completion(x: Executed, end: u64) -> Completion
+    ensures { λ r. ⌜ r ≡ completion x end ⌝ }
+{
+    let command = x.command;
+    let result = x.result;
+    Completion {
+        command,
+        result,
+        end,
+    }
+}
+
+fn executed_point(x: Executed, q: Point) -> Point
+    ensures { λ r. ⌜ r ≡ executedPoint x q ⌝ }
+{
+    Point {
+        status: q.status,
+        quality: x.result.quality,
+        destination: q.destination,
+        value: x.result.value,
+        moveNumber: q.moveNumber,
+        takenMove: q.takenMove,
+        giveEnd: q.giveEnd,
+        takeEnd: q.takeEnd,
+    }
+}
+
+// The point's value and quality, a completion record, the client's floor; its records under the floor go.
+pub fn apply_executed(s: &mut [u8], x: Executed, end: u64)
+    requires { ⌜ Canonical (now s) × (x .command .point ≤ lastPoint) × Room x (load (now s)) ⌝ }
+    ensures { λ r. ⌜ now (s .exit) ≡ stored (now (s .entry)) (applyExecuted x end (load (now (s .entry)))) ⌝ }
+{
+    let q = state::point_at(s, x.command.point);
+    state_clients::raise(s, x.command.client, x.done);
+    let floor = state_clients::floor_in(s, x.command.client);
+    state_records::keep_records(s, Rule::OverFloor(x.command.client, floor));
+    state_records::append(s, completion(x, end));
+    state::set_point(s, x.command.point, executed_point(x, q));
+    state::set_size(s, end);
+}
+
+// ---- gone
+
+// The client and its records go, heard time rises to the notice's time.
+pub fn apply_gone(s: &mut [u8], n: Notice, end: u64)
+    requires { ⌜ Canonical (now s) ⌝ }
+    ensures { λ r. ⌜ now (s .exit) ≡ stored (now (s .entry)) (applyGone n end (load (now (s .entry)))) ⌝ }
+{
+    let heard = state_clients::greater(state::heard_of(s), n.time);
+    state_clients::remove(s, n.client);
+    state_records::keep_records(s, Rule::OfOther(n.client));
+    state::set_heard(s, heard);
+    state::set_size(s, end);
+}
+
+// ---- give
+
+fn gave_point(g: Give, end: u64, x: Point) -> Point
+    ensures { λ r. ⌜ r ≡ gavePoint g end x ⌝ }
+{
+    Point {
+        status: constants::GIVEN,
+        quality: x.quality,
+        destination: g.destination,
+        value: x.value,
+        moveNumber: g.moveNumber,
+        takenMove: x.takenMove,
+        giveEnd: end,
+        takeEnd: x.takeEnd,
+    }
+}
+
+// The move number rises, the point is closed.
+pub fn apply_gave(s: &mut [u8], g: Give, end: u64)
+    requires { ⌜ Canonical (now s) × (g .point ≤ lastPoint) ⌝ }
+    ensures { λ r. ⌜ now (s .exit) ≡ stored (now (s .entry)) (applyGave g end (load (now (s .entry)))) ⌝ }
+{
+    let x = state::point_at(s, g.point);
+    state::set_point(s, g.point, gave_point(g, end, x));
+    state::set_size(s, end);
+}
+
+// ---- release
+
+fn released_point(x: Point) -> Point
+    ensures { λ r. ⌜ r ≡ releasedPoint x ⌝ }
+{
+    Point {
+        status: constants::RELEASED,
+        quality: x.quality,
+        destination: x.destination,
+        value: x.value,
+        moveNumber: x.moveNumber,
+        takenMove: x.takenMove,
+        giveEnd: x.giveEnd,
+        takeEnd: x.takeEnd,
+    }
+}
+
+// The point's records go, its move number stays.
+pub fn apply_released(s: &mut [u8], r: Release, end: u64)
+    requires { ⌜ Canonical (now s) × (r .point ≤ lastPoint) ⌝ }
+    ensures { λ x. ⌜ now (s .exit) ≡ stored (now (s .entry)) (applyReleased r end (load (now (s .entry)))) ⌝ }
+{
+    let x = state::point_at(s, r.point);
+    state_records::keep_records(s, Rule::OnOther(r.point));
+    state::set_point(s, r.point, released_point(x));
+    state::set_size(s, end);
+}

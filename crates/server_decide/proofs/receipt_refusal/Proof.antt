@@ -1,0 +1,23 @@
+-- `decide::receipt_refusal` meets its contract.
+-- Assumes nothing.
+use Rattle.server_decide.proofs.Nots.{yes-not, no-not}
+use Rattle.format_numbers.proofs.Picks.{picks}
+use Rattle.model.specs.Decisions.{receiptRefusal}
+use borrow.Author.Needs.{needs}
+use Rattle.server_decide.proofs.receipt_refusal.Statement.{statement}
+use Rattle.server_decide.proofs.receipt_refusal.Tie as tie
+
+returns : tie.Need-returns
+unfolding receiptRefusal
+returns c = search (picks, yes-not, no-not) depth 24
+
+returns-2 : tie.Need-returns-2
+unfolding receiptRefusal
+returns-2 c = search (picks, yes-not, no-not) depth 24
+
+returns-3 : tie.Need-returns-3
+unfolding receiptRefusal
+returns-3 c = search (picks, yes-not, no-not) depth 24
+
+pub receipt-refusal-spec : {M : Type 1} → statement M
+receipt-refusal-spec = tie.close (tie.spec returns (λ c κs. search needs) returns-2 returns-3)

@@ -1,0 +1,136 @@
+// Found: a server's first state, and the head of its log.
+use model::Answer;
+use model::PlanEntry;
+use model::Point;
+use model::constants;
+use model::constants::FLOORS_START;
+use model::constants::PLAN_START;
+use model::constants::POINT_COUNT;
+use model::constants::POINT_ROW;
+use model::constants::POINTS_START;
+use model::constants::RECORDS_START;
+ghost use mathlib.Core.Path.{_≡_};
+ghost use mathlib.Core.Bool.{true};
+ghost use mathlib.Core.List.{[], map};
+ghost use Prim.Native.Nat.{_+_, _*_, _≤_, _<_};
+ghost use lib.Dec.{eqb};
+ghost use lib.ListN.{length, drop};
+ghost use Rattle.model.specs.Choice.{pick};
+ghost use Rattle.model.specs.Limits.{pointCount, planSize, planRow};
+ghost use Rattle.model.specs.Tables.{written, bytesOf};
+ghost use Rattle.model.specs.Plan.{planOk, planOf, planEntryOf};
+ghost use Rattle.model.specs.States.{held, absent, stateEnd, pointsStart, pointRow, pointBytes, stateHeadBytes, stateHead};
+ghost use Rattle.model.specs.Apply.{founded, foundedPoint};
+ghost use Rattle.model.specs.Operations.{after, stored, foundOf};
+
+// ---- the parts of a founded state
+
+// The head: no client, no completion record, heard time 0, length and mark 8.
+fn put_head(s: &mut [u8], n: u8)
+    requires { ⌜ stateHead ≤ length (now s) ⌝ }
+    ensures { λ r. ⌜ now (s .exit) ≡ written (now (s .entry)) 0 (stateHeadBytes (founded [] n)) ⌝ }
+{
+    format_numbers::write_4(
+        s,
+        0,
+        constants::STATE_MAGIC[0],
+        constants::STATE_MAGIC[1],
+        constants::STATE_MAGIC[2],
+        constants::STATE_MAGIC[3],
+    );
+    format_numbers::write_4(s, 4, n, 0, 0, 0);
+    state_rows::clear(s, 8, 24);
+    state_rows::put_size(s, constants::HEAD_SIZE_U64);
+    state_rows::put_mark(s, constants::HEAD_SIZE_U64);
+}
+
+// A point at its home is held, elsewhere absent.
+fn first_status(home: u8, n: u8) -> u8
+    ensures { λ r. ⌜ r ≡ pick (eqb home n) held absent ⌝ }
+{
+    if home == n {
+        constants::HELD
+    } else {
+        constants::ABSENT
+    }
+}
+
+fn founded_point(e: PlanEntry, n: u8) -> Point
+    ensures { λ r. ⌜ r ≡ foundedPoint n e ⌝ }
+{
+    Point {
+        status: first_status(e.home, n),
+        quality: constants::INVALID,
+        destination: 0,
+        value: e.fallback,
+        moveNumber: 0,
+        takenMove: 0,
+        giveEnd: 0,
+        takeEnd: 0,
+    }
+}
+
+// The point of index i, by its entry of the plan.
+fn put_founded(s: &mut [u8], plan: &[u8], n: u8, i: usize)
+    requires { ⌜ (stateEnd ≤ length (now s)) × (planSize ≤ length (now plan)) × (i < pointCount) ⌝ }
+    ensures { λ r. ⌜ now (s .exit) ≡ written (now (s .entry)) (pointsStart + pointRow * i) (pointBytes (foundedPoint n (planEntryOf (drop (planRow * i) (now (plan .entry)))))) ⌝ }
+{
+    let e = format_commands::plan_entry(plan, constants::PLAN_ROW * i);
+    state_rows::put_point(s, POINTS_START + POINT_ROW * i, founded_point(e, n));
+}
+
+fn put_points(s: &mut [u8], plan: &[u8], n: u8)
+    requires { ⌜ (stateEnd ≤ length (now s)) × (planSize ≤ length (now plan)) ⌝ }
+    ensures { λ r. ⌜ now (s .exit) ≡ written (now (s .entry)) pointsStart (bytesOf pointBytes (map (foundedPoint n) (planOf (now (plan .entry))))) ⌝ }
+{
+    let mut i = 0;
+    while i < POINT_COUNT {
+        put_founded(s, plan, n, i);
+        i += 1;
+    }
+}
+
+// ---- the state
+
+// The plan's bytes as they are given.
+fn put_plan(s: &mut [u8], plan: &[u8])
+    requires { ⌜ stateHead + length (now plan) ≤ length (now s) ⌝ }
+    ensures { λ r. ⌜ now (s .exit) ≡ written (now (s .entry)) stateHead (now (plan .entry)) ⌝ }
+{
+    format_numbers::copy_bytes(&mut s[PLAN_START..], plan);
+}
+
+// The state that founding leaves.
+pub fn found_state(s: &mut [u8], plan: &[u8], n: u8)
+    requires { ⌜ (stateEnd ≤ length (now s)) × (planOk (now plan) ≡ true) ⌝ }
+    ensures { λ r. ⌜ now (s .exit) ≡ stored (now (s .entry)) (founded (planOf (now (plan .entry))) n) ⌝ }
+{
+    put_head(s, n);
+    put_plan(s, plan);
+    put_points(s, plan, n);
+    state_rows::clear(s, FLOORS_START, RECORDS_START);
+    state_rows::clear(s, RECORDS_START, constants::STATE_END);
+}
+
+// ---- the operation
+
+// 2 state or log too short; 1 bad plan or server number; else the state and the log's head.
+pub fn found(state: &mut [u8], log: &mut [u8], plan: &[u8], server: u32) -> Answer
+    ensures { λ r. ⌜ after r (now (state .exit)) (now (log .exit)) [] ≡ foundOf (now (state .entry)) (now (log .entry)) (now (plan .entry)) server ⌝ }
+{
+    let good = format_commands::plan_ok(plan);
+    let k = server_decide::found_refusal(state.len(), log.len(), good, server);
+    if k != 0 {
+        return Answer {
+            refusal: k,
+            wrote: 0,
+        };
+    }
+    let n = server as u8;
+    found_state(state, plan, n);
+    format_log_writer::write_head(log, n);
+    Answer {
+        refusal: constants::NO_REFUSAL,
+        wrote: 0,
+    }
+}

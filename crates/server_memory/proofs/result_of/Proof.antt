@@ -1,0 +1,13 @@
+-- `lent::result_of` meets its contract.
+-- Assumes nothing.
+use mathlib.Core.Path.{refl}
+use Rattle.model.specs.Decisions.{resultOfRecord}
+use Rattle.server_memory.proofs.result_of.Statement.{statement}
+use Rattle.server_memory.proofs.result_of.Tie as tie
+
+returns : tie.Need-returns
+unfolding resultOfRecord
+returns c = refl
+
+pub result-of-spec : {M : Type 1} → statement M
+result-of-spec = tie.close (tie.spec returns)

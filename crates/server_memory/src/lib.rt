@@ -1,0 +1,99 @@
+// What every call of a server has: the tests of lent memory, which come first, the space left in the log, and the answer.
+use model::Answer;
+use model::Completion;
+use model::ResultPacket;
+use model::constants::NO_REFUSAL;
+use model::constants::RESULT_SIZE_U32;
+use model::constants::STATE_SIZE;
+use model::constants::TOO_SHORT;
+use model::constants::UNSOUND;
+use state_rows::state;
+ghost use mathlib.Core.Path.{_≡_};
+ghost use Prim.Native.Nat.{_≤_};
+ghost use lib.ListN.{length};
+ghost use Rattle.model.specs.Limits.{resultSize};
+ghost use Rattle.model.specs.Tables.{written};
+ghost use Rattle.model.specs.Packets.{resultBytes};
+ghost use Rattle.model.specs.States.{load, stateEnd};
+ghost use Rattle.model.specs.Decisions.{resultOfRecord};
+ghost use Rattle.model.specs.Operations.{answerOf, unfit, lentRefusal, freeIn};
+
+// ---- lent memory
+
+// 19: the state is not sound, or the log slice is shorter than its recorded length.
+fn is_unfit(s: &[u8], log: &[u8]) -> bool
+    requires { ⌜ stateEnd ≤ length (now s) ⌝ }
+    ensures { λ r. ⌜ r ≡ unfit (now (s .entry)) (now (log .entry)) ⌝ }
+{
+    if !state_soundness::state_ok(s) {
+        return true;
+    }
+    let size = state::size_of(s);
+    (log.len() as u64) < size
+}
+
+// 2 state or output too short; 19; 0 if neither is given. The output has n bytes, of which need are asked.
+pub fn lent_refusal(s: &[u8], log: &[u8], n: usize, need: usize) -> u32
+    ensures { λ r. ⌜ r ≡ lentRefusal (now (s .entry)) (now (log .entry)) n need ⌝ }
+{
+    if (s.len() < STATE_SIZE) | (n < need) {
+        return TOO_SHORT;
+    }
+    if is_unfit(s, log) {
+        return UNSOUND;
+    }
+    NO_REFUSAL
+}
+
+// The space left in the log.
+pub fn free_in(s: &[u8], log: &[u8]) -> usize
+    requires { ⌜ (stateEnd ≤ length (now s)) × (load (now s) .size ≤ length (now log)) ⌝ }
+    ensures { λ r. ⌜ r ≡ freeIn (now (s .entry)) (now (log .entry)) ⌝ }
+{
+    let size = state::size_of(s);
+    log.len() - size as usize
+}
+
+// ---- answers
+
+// A refusal's number, and no packet.
+pub fn refused(n: u32) -> Answer
+    ensures { λ r. ⌜ r ≡ answerOf n 0 ⌝ }
+{
+    Answer {
+        refusal: n,
+        wrote: 0,
+    }
+}
+
+// Not refused, and n bytes written.
+pub fn made(n: u32) -> Answer
+    ensures { λ r. ⌜ r ≡ answerOf 0 n ⌝ }
+{
+    Answer {
+        refusal: NO_REFUSAL,
+        wrote: n,
+    }
+}
+
+// The result packet of a completion record.
+fn result_of(x: Completion) -> ResultPacket
+    ensures { λ r. ⌜ r ≡ resultOfRecord x ⌝ }
+{
+    let result = x.result;
+    ResultPacket {
+        client: x.command.client,
+        call: x.command.call,
+        point: x.command.point,
+        result,
+    }
+}
+
+// A held result: its packet, written to the output.
+pub fn reply(out: &mut [u8], x: Completion) -> Answer
+    requires { ⌜ resultSize ≤ length (now out) ⌝ }
+    ensures { λ r. ⌜ (r ≡ answerOf 0 resultSize) × (now (out .exit) ≡ written (now (out .entry)) 0 (resultBytes (resultOfRecord x))) ⌝ }
+{
+    format_packet_writer::write_result(out, result_of(x));
+    made(RESULT_SIZE_U32)
+}

@@ -1,0 +1,196 @@
+-- Each call as a chain of refusals, and what it does at the chain's end.
+--     first-by                numbers one behind the other
+--     first-no, first-yes     the first test in code; first-zero: both are passed
+--     places-good             a point and a server number in range
+--     give-is, give-ready, give-settled
+--     receipt-is, image-is, place-ready, receipt-done, image-done, image-most
+--     release-is, release-chain, release-room, release-settled, release-placed
+-- Assumes nothing.
+use Prim.Native.Nat.{ℕ, suc, _+_, _≤_}
+use mathlib.Core.Path.{_≡_, refl, sym, ap, _∙_}
+use mathlib.Core.Bool.{Bool, true, false, false≢true}
+use mathlib.Core.List.{List, []}
+use native.Mathlib.Omega.{arith}
+use lib.ListN.{length}
+use lib.Dec.{eqb, ltb}
+use borrow.Author.Tests.{ne-eqb, eqb-true, ltb-false}
+use Rattle.model.specs.declared.Answer.{Answer}
+use Rattle.model.specs.declared.Point.{Point}
+use Rattle.model.specs.declared.Packet.{Packet}
+use Rattle.model.specs.declared.Packet.the-variants.{Malformed, Requested, Resulted, Refused, Receipted, Noticed, Granted}
+use Rattle.model.specs.Choice.{pick, refuse, reply, append, unlessRefused}
+use Rattle.model.specs.Limits.{lastPoint, lastServer, giveSize, releaseSize, receiptSize, greatestImage}
+use Rattle.model.specs.Tables.{written}
+use Rattle.model.specs.Packets.{parsePacket, receiptBytes}
+use Rattle.model.specs.Images.{imageBytes, imageLength}
+use Rattle.model.specs.Logs.{LogRecord, gave, released, recordBytes, recordSize}
+use Rattle.model.specs.States.{load, sound, pointAt}
+use Rattle.model.specs.Apply.{applyRecord, applyGave, applyReleased}
+use Rattle.model.specs.Decisions.{Decided, placesBad, giveRefusal, onGive, imageFor, imageRefusal, onImage, receiptRefusal, onReceipt, releaseRefusal, decideRelease, onRelease}
+use Rattle.model.specs.Operations.{answerOf, after, settle, stored, lentRefusal, lent, freeIn, giveOf, receiptOf, imageOf, releaseOf}
+use Rattle.model_laws.specs.Bytes.{Bytes}
+use Rattle.model_laws.proofs.Images.{image-length}
+use Rattle.model_invariants.specs.Passed.{PassedGive}
+use Rattle.model_laws.proofs.Refused.{unless-passed}
+use Rattle.model_invariants.proofs.Decided.{or-left-no, or-right-no, give-passed, release-passed}
+use Rattle.model_invariants.proofs.Loaded.{loaded-sound}
+use Rattle.model_invariants.proofs.Images.{image-good, image-short}
+use Rattle.model_invariants.proofs.Formats.{parsed-receipt}
+use Rattle.server_memory.specs.Memory.{Fit}
+use Rattle.server_memory.proofs.Settled.{lent-fit}
+use Rattle.server_moves.specs.Numbers.{first, giveFor, giveNumber, placeNumber, releaseFor, Placed}
+
+-- ---- numbers one behind the other
+
+pub first-by : (n m : ℕ) (d : Decided) → unlessRefused n (unlessRefused m d) ≡ unlessRefused (first n m) d
+unfolding unlessRefused first
+first-by n m d = go (eqb n 0) refl
+  where
+    go : (t : Bool) → eqb n 0 ≡ t → pick t (pick (eqb m 0) d (refuse m)) (refuse n) ≡ pick (eqb (pick t m n) 0) d (refuse (pick t m n))
+    go true e = refl
+    go false e = rw e
+
+-- 1, then the others
+malformed-by : (t : Bool) (m : ℕ) (d : Decided) → unlessRefused (pick t 1 m) d ≡ unlessRefused (pick t 1 0) (unlessRefused m d)
+unfolding unlessRefused
+malformed-by true m d = refl
+malformed-by false m d = refl
+
+-- the first test in code
+pub first-no : {n k : ℕ} (m : ℕ) → n ≡ k → (n ≡ 0 → ⊥) → n ≡ first k m
+unfolding first
+first-no {n} {k} m p h = rw (← p, ne-eqb n 0 h)
+
+pub first-yes : {n k m : ℕ} {r : ℕ} → n ≡ k → n ≡ 0 → r ≡ m → r ≡ first k m
+unfolding first
+first-yes p h e = rw (← p, h, e)
+
+-- both tests are passed
+pub first-zero : (n m : ℕ) → first n m ≡ 0 → (n ≡ 0) × (m ≡ 0)
+unfolding first
+first-zero n m e = go (eqb n 0) refl e
+  where
+    go : (t : Bool) → eqb n 0 ≡ t → pick t m n ≡ 0 → (n ≡ 0) × (m ≡ 0)
+    go true q k = (eqb-true n 0 q, k)
+    go false q k = absurd (false≢true (sym q ∙ rw k))
+
+pub places-good : (p d : ℕ) {u : Bool} → u ≡ placesBad p d → u ≡ false → (p ≤ lastPoint) × (d ≤ lastServer)
+unfolding placesBad
+places-good p d q e =
+    let k = sym q ∙ e in
+    (ltb-false lastPoint p (or-left-no (ltb lastPoint p) (ltb lastServer d) k), ltb-false lastServer d (or-right-no (ltb lastPoint p) (ltb lastServer d) k))
+
+-- ---- give
+
+module _ (s log : List ℕ) where
+  module _ (p d : ℕ) where
+    abbrev given : LogRecord
+    given = gave (giveFor (load s) p d)
+
+    give-by : onGive (load s) (freeIn s log) p d ≡ unlessRefused (pick (placesBad p d) 1 (giveRefusal (pointAt (load s) p) (load s .server) (freeIn s log) d)) (append given)
+    unfolding giveFor onGive
+    give-by = refl
+
+    pub give-is : giveOf s log p d ≡ settle s log [] (unlessRefused (giveNumber s log p d) (append given))
+    unfolding giveOf giveNumber lent
+    give-is = ap (settle s log []) (ap (unlessRefused (lentRefusal s log 0 0)) give-by ∙ first-by _ _ (append given))
+
+    pub give-ready : giveNumber s log p d ≡ 0 → Fit s log 0 0 × PassedGive (load s) p d × (load s .size + giveSize ≤ length log)
+    unfolding giveNumber freeIn
+    give-ready e =
+        let k = first-zero _ _ e in
+        let a : onGive (load s) (freeIn s log) p d ≡ append given = give-by ∙ unless-passed _ (append given) (k .1) in
+        let F = lent-fit s log 0 0 (k .0) in
+        let P = give-passed (load s) (freeIn s log) p d given a in
+        (F, P .0, omega (arith, F .logged, P .1))
+
+  -- the point's number as it was read, and the log's length
+  pub give-settled : (p d : ℕ) {x : Point} {k : ℕ} {r : Answer} {t l : List ℕ} → x ≡ pointAt (load s) p → k ≡ load s .size
+      → t ≡ stored s (applyGave (record { point = p; destination = d; moveNumber = x .moveNumber + 1 }) (k + giveSize) (load s))
+      → l ≡ written log k (recordBytes (gave (record { point = p; destination = d; moveNumber = x .moveNumber + 1 }))) → r ≡ answerOf 0 0
+      → after r t l [] ≡ settle s log [] (append (gave (giveFor (load s) p d)))
+  unfolding settle recordSize applyRecord giveFor
+  give-settled p d {x} a b e f g = let n : x .moveNumber + 1 ≡ suc (x .moveNumber) = omega arith in rw (e, f, g, n, a, b)
+
+-- ---- receipt and image
+
+module _ (s log : List ℕ) (p : ℕ) where
+  module _ (out : List ℕ) where
+    place-by : (need m : ℕ) (d : Decided) → lent s log out need (unlessRefused (pick (ltb lastPoint p) 1 m) d) ≡ unlessRefused (placeNumber s log (length out) need p) (unlessRefused m d)
+    unfolding placeNumber lent
+    place-by need m d = ap (unlessRefused (lentRefusal s log (length out) need)) (malformed-by (ltb lastPoint p) m d) ∙ first-by _ _ (unlessRefused m d)
+
+    pub receipt-is : receiptOf s log p out
+        ≡ settle s log out (unlessRefused (placeNumber s log (length out) receiptSize p) (unlessRefused (receiptRefusal (pointAt (load s) p) (load s .mark))
+        (reply (receiptBytes (record { point = p; server = load s .server; moveNumber = pointAt (load s) p .takenMove })))))
+    unfolding receiptOf onReceipt
+    receipt-is = ap (settle s log out) (place-by receiptSize _ _)
+
+    pub image-is : imageOf s log p out
+        ≡ settle s log out (unlessRefused (placeNumber s log (length out) greatestImage p) (unlessRefused (imageRefusal (pointAt (load s) p) (load s .mark))
+        (reply (imageBytes (imageFor (load s) p)))))
+    unfolding imageOf onImage
+    image-is = ap (settle s log out) (place-by greatestImage _ _)
+
+    pub receipt-done : {x : Point} {v : ℕ} {r : Answer} {o : List ℕ} → x ≡ pointAt (load s) p → v ≡ load s .server
+        → o ≡ written out 0 (receiptBytes (record { point = p; server = v; moveNumber = x .takenMove })) → r ≡ answerOf 0 receiptSize
+        → after r s log o ≡ settle s log out (reply (receiptBytes (record { point = p; server = load s .server; moveNumber = pointAt (load s) p .takenMove })))
+    unfolding settle receiptBytes
+    receipt-done a b e f = rw (e, f, a, b)
+
+    pub image-done : {n : ℕ} {r : Answer} {o : List ℕ} → o ≡ written out 0 (imageBytes (imageFor (load s) p)) → n ≡ imageLength (imageFor (load s) p) → r ≡ answerOf 0 n
+        → after r s log o ≡ settle s log out (reply (imageBytes (imageFor (load s) p)))
+    unfolding settle
+    image-done a b e = rw (e, a, b, image-length (imageFor (load s) p))
+
+  pub place-ready : {n need m : ℕ} → m ≡ placeNumber s log n need p → m ≡ 0 → Fit s log n need × (p ≤ lastPoint)
+  unfolding placeNumber
+  place-ready {n} {need} q z = let k = first-zero _ _ (sym q ∙ z) in (lent-fit s log n need (k .0), within (ltb lastPoint p) refl (k .1))
+    where
+      within : (t : Bool) → ltb lastPoint p ≡ t → pick {A = ℕ} t 1 0 ≡ 0 → p ≤ lastPoint
+      within true e k = absurd (omega (arith, k))
+      within false e k = ltb-false lastPoint p e
+
+  pub image-most : Bytes s → sound s ≡ true → p ≤ lastPoint → {n : ℕ} → n ≡ imageLength (imageFor (load s) p) → n ≤ greatestImage
+  image-most h e l q = rw q (image-short (imageFor (load s) p) (image-good (load s) p (loaded-sound s h e) l .0))
+
+-- ---- release
+
+module _ (s log : List ℕ) where
+  pub release-is : (b : List ℕ) → releaseOf s log b ≡ settle s log [] (unlessRefused (lentRefusal s log 0 0) (onRelease (load s) (freeIn s log) (parsePacket b)))
+  unfolding releaseOf lent
+  release-is b = refl
+
+  module _ (p m : ℕ) where
+    release-by : decideRelease (load s) (freeIn s log) p m ≡ unlessRefused (releaseRefusal (pointAt (load s) p) (freeIn s log) m) (append (released (releaseFor (load s) p)))
+    unfolding releaseFor decideRelease
+    release-by = refl
+
+    pub release-chain : settle s log [] (decideRelease (load s) (freeIn s log) p m)
+        ≡ settle s log [] (unlessRefused (releaseRefusal (pointAt (load s) p) (freeIn s log) m) (append (released (releaseFor (load s) p))))
+    release-chain = ap (settle s log []) release-by
+
+    pub release-room : {n : ℕ} → n ≡ releaseRefusal (pointAt (load s) p) (freeIn s log) m → n ≡ 0 → load s .size ≤ length log → load s .size + releaseSize ≤ length log
+    unfolding freeIn
+    release-room q z l =
+        let a = release-by ∙ unless-passed _ (append (released (releaseFor (load s) p))) (sym q ∙ z) in
+        omega (arith, l, release-passed (load s) (freeIn s log) p m (released (releaseFor (load s) p)) a .1)
+
+  pub release-settled : (p : ℕ) {x : Point} {k : ℕ} {r : Answer} {t l : List ℕ} → x ≡ pointAt (load s) p → k ≡ load s .size
+      → t ≡ stored s (applyReleased (record { point = p; moveNumber = x .moveNumber }) (k + releaseSize) (load s))
+      → l ≡ written log k (recordBytes (released (record { point = p; moveNumber = x .moveNumber }))) → r ≡ answerOf 0 0
+      → after r t l [] ≡ settle s log [] (append (released (releaseFor (load s) p)))
+  unfolding settle recordSize applyRecord releaseFor
+  release-settled p a b e f g = rw (e, f, g, a, b)
+
+pub release-placed : (b : List ℕ) → Bytes b → {p : Packet} → p ≡ parsePacket b → Placed p
+release-placed b h {p} e = go p e
+  where
+    go : (q : Packet) → q ≡ parsePacket b → Placed q
+    go Malformed k = tt
+    go (Requested q) k = tt
+    go (Resulted q) k = tt
+    go (Refused q) k = tt
+    go (Receipted q) k = parsed-receipt b q h (sym k)
+    go (Noticed q) k = tt
+    go (Granted q) k = tt

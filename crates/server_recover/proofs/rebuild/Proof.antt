@@ -1,0 +1,61 @@
+-- `recover::rebuild` meets its contract.
+-- Assumes nothing.
+use mathlib.Core.Path.{sym, _∙_}
+use native.Mathlib.Omega.{arith}
+use borrow.Author.Tests.{not-true, not-false}
+use Rattle.server_recover.proofs.Rebuilding.{ended-standing, no-head, no-replay, rebuilt-done}
+use borrow.Author.Needs.{needs}
+use Rattle.server_recover.proofs.rebuild.Statement.{statement}
+use Rattle.server_recover.proofs.rebuild.Tie as tie
+
+returns : tie.Need-returns
+returns c =
+    let at-head-ok = c .before in
+    let begin = at-head-ok .before .before .before .before in
+    let start = begin .args in
+    no-head (start .log .now) (start .plan .now) (start .work .now) (sym (at-head-ok .head-ok .ensures) ∙ not-true _ (c .if1 .taken))
+
+begin-requires : tie.Need-begin-requires
+begin-requires c κs =
+    let at-if1 = c .before in
+    let at-head-ok = at-if1 .before in
+    let start = at-head-ok .before .before .before .before in
+    (start .pre .0, start .pre .1, sym (at-head-ok .head-ok .ensures) ∙ not-false _ (at-if1 .if1 .left))
+
+returns-2 : tie.Need-returns-2
+returns-2 c =
+    let at-replay-log = c .before .before .before in
+    let at-begin = at-replay-log .before .before .before .before in
+    no-replay (at-begin .begin .ensures) (at-replay-log .replay-log .ensures) _ (not-true _ (c .if2 .taken))
+
+set-mark-requires : tie.Need-set-mark-requires
+set-mark-requires c κs =
+    let at-if2 = c .before .before .before in
+    let at-replay-log = at-if2 .before .before .before in
+    ended-standing _ _ _ _ (at-replay-log .replay-log .ensures) (not-false _ (at-if2 .if2 .left)) .canonical
+
+returns-3 : tie.Need-returns-3
+returns-3 c =
+    let at-set-mark = c .before .before in
+    let at-size-of = at-set-mark .before .before in
+    let at-if2 = at-size-of .before .before in
+    let at-replay-log = at-if2 .before .before .before in
+    let at-begin = at-replay-log .before .before .before .before in
+    let start = at-begin .before .before .before .before .before .before .before in
+    rebuilt-done (at-begin .begin .ensures) (at-replay-log .replay-log .ensures) (not-false _ (at-if2 .if2 .left)) (omega (arith, start .pre .0)) (at-size-of .size-of .ensures)
+    (at-set-mark .set-mark .ensures)
+
+pub rebuild-spec : {M : Type 1} → statement M
+rebuild-spec =
+    tie.close
+    (tie.spec
+    (λ c κs. search needs)
+    returns
+    begin-requires
+    (λ c κs. search needs)
+    (λ c. search needs)
+    returns-2
+    (λ c κs. search needs)
+    set-mark-requires
+    (λ c. search needs)
+    returns-3)

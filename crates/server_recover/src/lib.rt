@@ -1,0 +1,163 @@
+// Recover: the state that a kept log gives.
+use format_log_ends::Extent;
+use format_log_reader::Record;
+use model::Answer;
+use model::constants;
+use model::constants::BAD_LOG;
+use state_rows::state;
+ghost use mathlib.Core.Path.{_≡_};
+ghost use mathlib.Core.Bool.{true};
+ghost use mathlib.Core.List.{[]};
+ghost use Prim.Native.Nat.{_+_, _-_, _≤_};
+ghost use lib.ListN.{length, drop};
+ghost use Rattle.model.specs.Plan.{planOk, planOf};
+ghost use Rattle.model.specs.Images.{imageOk};
+ghost use Rattle.model.specs.Logs.{headOk, took, spans, recordAt};
+ghost use Rattle.model.specs.States.{load, stateEnd};
+ghost use Rattle.model.specs.Operations.{after, recoveredState, recoverOf};
+ghost use Rattle.model.specs.Limits.{headSize};
+ghost use Rattle.model_laws.specs.Bytes.{part};
+ghost use Rattle.format_log_ends.specs.Answers.{extentFrom};
+ghost use Rattle.server_replay.specs.Standing.{Ready, ReplayedBy};
+ghost use Rattle.server_recover.specs.Remaining.{imageBetween, RecordReplayedBy, StandsAt, Stepped, Ended};
+ghost use Rattle.server_recover.specs.Rebuilt.{Begun, rebuilt, recoveredBytes};
+
+// What one step of a recovery finds: no further record, one that breaks its layout or cannot follow, or the next place.
+pub enum Step {
+    Done,
+    Off,
+    Next(usize),
+}
+
+// ---- one record
+
+// A take of the image between two places of the log.
+fn replay_image(s: &mut [u8], log: &[u8], from: usize, to: usize, end: u64) -> bool
+    requires { ⌜ (from ≤ to) × (to ≤ length (now log)) × Ready (now s) (took (imageBetween (now log) from to)) end × (imageOk (part from (to - from) (now log)) ≡ true) ⌝ }
+    ensures { λ r. ⌜ ReplayedBy (took (imageBetween (now (log .entry)) from to)) end (now (s .entry)) (now (s .exit)) r ⌝ }
+{
+    server_replay::took::replay_took(s, &log[from..to], end)
+}
+
+// The whole record of n bytes at a place of the log, if it follows.
+fn replay_record(s: &mut [u8], log: &[u8], at: usize, n: usize) -> bool
+    requires { ⌜ StandsAt (now s) at × (extentFrom (now log) at ≡ spans n) ⌝ }
+    ensures { λ r. ⌜ RecordReplayedBy (recordAt (drop at (now (log .entry)))) (at + n) (now (s .entry)) (now (s .exit)) r ⌝ }
+{
+    let found = format_log_reader::record_at(log, at, n);
+    let end = (at + n) as u64;
+    match found {
+        Record::Broken => false,
+        Record::Executed(x) => server_replay::replay_executed(s, x, end),
+        Record::Gone(x) => server_replay::replay_gone(s, x, end),
+        Record::Gave(x) => server_replay::replay_gave(s, x, end),
+        Record::Took(p) => replay_image(s, log, p.from, p.from + p.len, end),
+        Record::Released(x) => server_replay::replay_released(s, x, end),
+    }
+}
+
+// ---- the log
+
+// One step, from a place of the log.
+fn advance(s: &mut [u8], log: &[u8], at: usize) -> Step
+    requires { ⌜ StandsAt (now s) at ⌝ }
+    ensures { λ r. ⌜ Stepped (now (log .entry)) at (now (s .entry)) (now (s .exit)) r ⌝ }
+{
+    let extent = format_log_ends::extent_at(log, at);
+    match extent {
+        Extent::Off => Step::Off,
+        Extent::Cut => Step::Done,
+        Extent::Spans(n) => {
+            if !replay_record(s, log, at, n) {
+                return Step::Off;
+            }
+            Step::Next(at + n)
+        }
+    }
+}
+
+// Every record of the log, from its head's end on.
+fn replay_log(s: &mut [u8], log: &[u8]) -> bool
+    requires { ⌜ StandsAt (now s) headSize ⌝ }
+    ensures { λ r. ⌜ Ended (now (log .entry)) headSize (load (now (s .entry))) (now (s .exit)) r ⌝ }
+{
+    let mut at = constants::HEAD_SIZE;
+    loop {
+        let next = advance(s, log, at);
+        match next {
+            Step::Done => return true,
+            Step::Off => return false,
+            Step::Next(m) => at = m,
+        }
+    }
+}
+
+// ---- the operation
+
+// The state that founding leaves, for the server of the log's head.
+fn begin(work: &mut [u8], log: &[u8], plan: &[u8])
+    requires { ⌜ (length (now work) ≡ stateEnd) × (planOk (now plan) ≡ true) × (headOk (now log) ≡ true) ⌝ }
+    ensures { λ r. ⌜ Begun (now (log .entry)) (now (plan .entry)) (now (work .exit)) ⌝ }
+{
+    let server = format_log_ends::head_server(log);
+    server_found::found_state(work, plan, server);
+}
+
+// The state that the log gives, with the mark at the end of its records, in a buffer of the state's size.
+fn rebuild(work: &mut [u8], log: &[u8], plan: &[u8]) -> bool
+    requires { ⌜ (length (now work) ≡ stateEnd) × (planOk (now plan) ≡ true) ⌝ }
+    ensures { λ r. ⌜ rebuilt r (now (work .exit)) ≡ recoveredBytes (recoveredState (planOf (now (plan .entry))) (now (log .entry))) ⌝ }
+{
+    if !format_log_ends::head_ok(log) {
+        return false;
+    }
+    begin(work, log, plan);
+    if !replay_log(work, log) {
+        return false;
+    }
+    let size = state::size_of(work);
+    state::set_mark(work, size);
+    true
+}
+
+// A refusal leaves the lent state as it was, so the records are replayed in a buffer apart.
+fn recover_with(state: &mut [u8], work: &mut [u8], log: &[u8], plan: &[u8]) -> Answer
+    requires { ⌜ length (now work) ≡ stateEnd ⌝ }
+    ensures { λ r. ⌜ after r (now (state .exit)) (now (log .entry)) [] ≡ recoverOf (now (state .entry)) (now (log .entry)) (now (plan .entry)) ⌝ }
+{
+    let good = format_commands::plan_ok(plan);
+    let k = server_decide::recover_refusal(state.len(), good);
+    if k != 0 {
+        return Answer {
+            refusal: k,
+            wrote: 0,
+        };
+    }
+    if !rebuild(work, log, plan) {
+        return Answer {
+            refusal: BAD_LOG,
+            wrote: 0,
+        };
+    }
+    format_numbers::copy_bytes(state, work);
+    Answer {
+        refusal: constants::NO_REFUSAL,
+        wrote: 0,
+    }
+}
+
+// A buffer of the state's size.
+fn blank() -> [u8; constants::STATE_END]
+    ensures { λ r. ⌜ length r ≡ stateEnd ⌝ }
+{
+    [0; constants::STATE_END]
+}
+
+// 2 state too short; 1 bad plan; 14 the head or a whole record breaks its layout, or a record cannot follow the state; else the state that
+// the log's whole records give, and the mark is their end.
+pub fn recover(state: &mut [u8], log: &[u8], plan: &[u8]) -> Answer
+    ensures { λ r. ⌜ after r (now (state .exit)) (now (log .entry)) [] ≡ recoverOf (now (state .entry)) (now (log .entry)) (now (plan .entry)) ⌝ }
+{
+    let mut work = blank();
+    recover_with(state, &mut work, log, plan)
+}

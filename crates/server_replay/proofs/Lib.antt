@@ -1,0 +1,4 @@
+-- Laws that the proofs of `replay`, and of those who call it, cite.
+pub mod Replayed
+pub mod Rooms
+pub mod Taking

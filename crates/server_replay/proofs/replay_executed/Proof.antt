@@ -1,0 +1,51 @@
+-- `replay::replay_executed` meets its contract.
+-- Assumes nothing.
+use mathlib.Core.Path.{sym, _∙_}
+use native.Mathlib.Omega.{arith}
+use Rattle.server_replay.proofs.Rooms.{executed-place, executed-room}
+use borrow.Author.Tests.{not-true, not-false}
+use Rattle.model.specs.Logs.{executed}
+use Rattle.model.specs.Apply.{applyRecord}
+use Rattle.server_replay.proofs.Replayed.{replayed-no, replayed-yes}
+use borrow.Author.Needs.{needs}
+use Rattle.server_replay.proofs.replay_executed.Statement.{statement}
+use Rattle.server_replay.proofs.replay_executed.Tie as tie
+
+executed-follows-requires : tie.Need-executed-follows-requires
+executed-follows-requires c κs = (c .before .before .pre .standing .canonical, executed-place (c .before .before .args .x) (c .before .before .pre .good))
+
+returns : tie.Need-returns
+returns c =
+    let at-executed-follows = c .before in
+    let start = at-executed-follows .before .before .before in
+    let start = start .args in
+    replayed-no (start .s .now) (executed (start .x)) (at-executed-follows .executed-follows .ensures) (start .end) (not-true _ (c .if1 .taken))
+
+apply-executed-requires : tie.Need-apply-executed-requires
+apply-executed-requires c κs =
+    let start = c .before .before .before .before .before in (
+      start .pre .standing .canonical,
+      executed-place (start .args .x) (start .pre .good),
+      executed-room (start .args .s .now) (start .args .x) (start .args .end) (start .pre) (omega arith) (sym (not-false _ (c .before .if1 .left)) ∙ c .before .before .executed-follows .ensures),
+    )
+
+returns-2 : tie.Need-returns-2
+unfolding applyRecord
+returns-2 c =
+    let at-apply-executed = c .before .before in
+    let at-if1 = at-apply-executed .before .before in
+    let at-executed-follows = at-if1 .before in
+    let start = at-executed-follows .before .before .before in
+    let start = start .args in
+    replayed-yes (start .s .now) (executed (start .x)) (at-executed-follows .executed-follows .ensures) (start .end) (not-false _ (at-if1 .if1 .left)) (at-apply-executed .apply-executed .ensures)
+
+pub replay-executed-spec : {M : Type 1} → statement M
+replay-executed-spec =
+    tie.close
+    (tie.spec
+    executed-follows-requires
+    (λ c. search needs)
+    returns
+    apply-executed-requires
+    (λ c. search needs)
+    returns-2)

@@ -1,0 +1,3 @@
+-- What the contracts of `replay` cite beside `model`.
+pub mod Standing
+pub mod Imaged

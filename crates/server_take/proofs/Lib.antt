@@ -1,0 +1,2 @@
+-- Laws that the proofs of `takes` cite.
+pub mod Chains

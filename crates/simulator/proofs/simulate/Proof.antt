@@ -1,0 +1,31 @@
+-- `simulator::simulate` meets its contract.
+-- Assumes nothing.
+use Rattle.simulator.proofs.Runs.{simulate-is}
+use native.Mathlib.Omega.{arith}
+use borrow.Author.Needs.{needs}
+use Rattle.simulator.proofs.simulate.Statement.{statement}
+use Rattle.simulator.proofs.simulate.Tie as tie
+
+answers-requires : tie.Need-answers-requires
+answers-requires c κs = omega (arith, c .before .blank-page .ensures)
+
+hand-over-requires : tie.Need-hand-over-requires
+hand-over-requires c κs =
+    (c .before .before .before .answers .ensures .most, omega (arith, c .before .before .before .before .before .blank-page .ensures, c .before .before .before .answers .ensures .most, c .before .before .before .answers .kept .1 .0))
+
+returns : tie.Need-returns
+returns c = simulate-is _ _ _ _ (c .before .before .before .before .before .before .answers .ensures)
+    (omega (arith, c .before .before .before .before .before .before .before .before .blank-page .ensures, c .before .before .before .before .before .before .answers .ensures .most, c .before .before .before .before .before .before .answers .kept .1 .0))
+    (c .before .before .hand-over .ensures)
+
+pub simulate-spec : {M : Type 1} → statement M
+simulate-spec =
+    tie.close
+    (tie.spec
+    (λ c κs. search needs)
+    (λ c. search needs)
+    answers-requires
+    (λ c. search needs)
+    hand-over-requires
+    (λ c. search needs)
+    returns)

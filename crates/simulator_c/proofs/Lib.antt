@@ -1,0 +1,2 @@
+-- Laws that the proofs of `simulator_c` cite.
+pub mod Words

@@ -1,0 +1,2 @@
+-- What the contracts of `simulator_c` cite beside `simulator`.
+pub mod Interface

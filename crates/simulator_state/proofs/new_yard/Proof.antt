@@ -1,0 +1,27 @@
+-- `simulator_state::new_yard` meets its contract.
+-- Assumes nothing.
+use mathlib.Core.Path.{refl}
+use Rattle.model.specs.Yard.{newYard}
+use Rattle.simulator_store.specs.Store.{packetsIn}
+use borrow.Author.Needs.{needs}
+use Rattle.simulator_state.proofs.new_yard.Statement.{statement}
+use Rattle.simulator_state.proofs.new_yard.Tie as tie
+
+returns : tie.Need-returns
+unfolding newYard packetsIn
+returns c =
+    ((λ store. rw (c .before .before .before .before .before .before .before .before .before .before .before .before .before .new-server .ensures .0, c .before .before .before .before .before .before .before .before .before .before .before .before .before .new-server .ensures .1, c .before .before .before .before .before .before .new-server2 .ensures .0, c .before .before .before .before .before .before .new-server2 .ensures .1, c .before .new-client .ensures, c .new-client2 .ensures) refl), refl)
+
+pub new-yard-spec : {M : Type 1} → statement M
+new-yard-spec =
+    tie.close
+    (tie.spec
+    (λ c κs. search needs)
+    (λ c κs. search needs)
+    (λ c κs. search needs)
+    (λ c κs. search needs)
+    (λ c. search needs)
+    (λ c. search needs)
+    (λ c. search needs)
+    (λ c. search needs)
+    returns)

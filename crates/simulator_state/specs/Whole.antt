@@ -1,0 +1,65 @@
+-- The lent slices and the memory as the simulator of the definitions, and what a line's work at one party makes of it.
+-- Assumes nothing.
+use Prim.Native.Nat.{ℕ, _≤_}
+use mathlib.Core.List.{List}
+use lib.Dec.{eqb}
+use lib.ListN.{length}
+use Rattle.model.specs.Choice.{pick}
+use Rattle.model.specs.States.{stateEnd}
+use Rattle.model.specs.Yard.{Yard, Step, step}
+use Rattle.simulator_text.specs.Values.{replyIs}
+use Rattle.simulator_store.specs.Store.{packetsIn, Room}
+use Rattle.simulator_step.specs.Parties.{Served, Attended}
+use Rattle.simulator_state.specs.declared.Memory.{Memory}
+use Rattle.simulator_state.specs.declared.Stepped.{Stepped}
+use Rattle.simulator_store.specs.declared.Made.{Made}
+use Rattle.simulator_step.specs.declared.ClientMade.{ClientMade}
+
+unfoldable pub joinServer : Yard → ℕ → Served → Step
+joinServer y n v =
+    step (record {
+      server0 = pick (eqb n 0) (record { state = v .state; log = v .log }) (y .server0);
+      server1 = pick (eqb n 0) (y .server1) (record { state = v .state; log = v .log });
+      client0 = y .client0;
+      client1 = y .client1;
+      packets = v .outcome .packets;
+    }) (v .outcome .reply)
+
+unfoldable pub joinClient : Yard → ℕ → Attended → Step
+joinClient y n v =
+    step (record {
+      server0 = y .server0;
+      server1 = y .server1;
+      client0 = pick (eqb n 0) (v .client) (y .client0);
+      client1 = pick (eqb n 0) (y .client1) (v .client);
+      packets = v .outcome .packets;
+    }) (v .outcome .reply)
+
+abbrev pub yardIn : List ℕ → List ℕ → List ℕ → List ℕ → List ℕ → Memory → Yard
+yardIn s0 l0 s1 l1 store m =
+    record {
+      server0 = record { state = s0; log = l0 };
+      server1 = record { state = s1; log = l1 };
+      client0 = m .client0;
+      client1 = m .client1;
+      packets = packetsIn store (m .count);
+    }
+
+abbrev pub stepIs : Stepped → List ℕ → List ℕ → List ℕ → List ℕ → List ℕ → Step
+stepIs r s0 l0 s1 l1 store = step (yardIn s0 l0 s1 l1 store (r .memory)) (replyIs (r .reply))
+
+-- the memory after a line at a server, at client 0, at client 1
+abbrev pub serverStepped : Memory → Made → Stepped
+serverStepped m a = record { memory = record { client0 = m .client0; client1 = m .client1; count = a .count }; reply = a .reply }
+
+abbrev pub firstStepped : Memory → ClientMade → Stepped
+firstStepped m a = record { memory = record { client0 = a .client; client1 = m .client1; count = a .made .count }; reply = a .made .reply }
+
+abbrev pub secondStepped : Memory → ClientMade → Stepped
+secondStepped m a = record { memory = record { client0 = m .client0; client1 = a .client; count = a .made .count }; reply = a .made .reply }
+
+-- what a step asks of the lent memory: two whole states, and room for one packet more
+pub record Ready (s0 s1 store : List ℕ) (count : ℕ) : Type 0 where
+  pub first : stateEnd ≤ length s0
+  pub second : stateEnd ≤ length s1
+  pub room : Room store count

@@ -1,0 +1,46 @@
+-- `simulator_store::called` meets its contract.
+-- Assumes nothing.
+use lib.ListN.{length, take}
+use Rattle.simulator_store.proofs.Rows.{lesser-most, take-most, front-part}
+use Rattle.simulator_store.proofs.Outcomes.{told-by, made-by}
+use native.Mathlib.Omega.{arith}
+use Prim.Native.Nat.{_-_, _≤_}
+use borrow.Author.Needs.{needs}
+use Rattle.simulator_store.proofs.called.Statement.{statement}
+use Rattle.simulator_store.proofs.called.Tie as tie
+
+returns : tie.Need-returns
+returns c = told-by _ _ _ _ _ (c .told .ensures .0) (c .told .ensures .1) (c .before .if1 .taken)
+
+part-put-packet-end : tie.Need-part-put-packet-end
+part-put-packet-end c = let m : c .before .lesser .result ≤ length (c .before .before .before .before .before .before .before .args .out .now) = rw (c .before .lesser .ensures)
+    (lesser-most _ _) in omega arith
+
+put-packet-requires : tie.Need-put-packet-requires
+put-packet-requires c κs =
+    (c .before .before .before .before .before .before .before .before .pre .0 .rows, omega (arith, take-most (c .before .before .lesser .result - 0) (c .before .before .before .before .before .before .before .before .args .out .now), c .before .before .before .before .before .before .before .before .pre .1))
+
+returns-2 : tie.Need-returns-2
+returns-2 c = made-by _ _ _ _ _ _
+    (take (c .before .before .before .before .before .before .lesser .result - 0) (c .before .before .before .before .before .before .before .before .before .before .before .before .args .out .now))
+    (c .before .before .before .before .before .before .before .before .before .before .before .before .pre .0)
+    (omega (arith, take-most (c .before .before .before .before .before .before .lesser .result - 0) (c .before .before .before .before .before .before .before .before .before .before .before .before .args .out .now), c .before .before .before .before .before .before .before .before .before .before .before .before .pre .1))
+    (rw (c .before .before .before .before .before .before .lesser .ensures) (front-part (c .before .before .before .before .before .before .before .before .before .before .before .before .args .a .wrote) (c .before .before .before .before .before .before .before .before .before .before .before .before .args .out .now)))
+    (c .before .before .before .put-packet .ensures) (c .made-one .ensures .0)
+    (c .made-one .ensures .1) (c .before .before .before .before .before .before .before .before .if1 .left)
+
+pub called-spec : {M : Type 1} → statement M
+called-spec =
+    tie.close
+    (tie.spec
+    (λ c κs. search needs)
+    returns
+    (λ c. search needs)
+    (λ c κs. search needs)
+    (λ c. search needs)
+    (λ c. search needs)
+    part-put-packet-end
+    put-packet-requires
+    (λ c κs. search needs)
+    (λ c. search needs)
+    returns-2)

@@ -1,0 +1,91 @@
+-- Texts put one behind the other.
+--     put-then         two of them
+--     length-digits    a number's digits are at most as many as allowed
+--     length-signed, length-reply
+-- Assumes nothing.
+use Prim.Native.Nat.{ℕ, zero, suc, _+_, _-_, _*_, _/_, _%_, _≤_, _<_}
+use mathlib.Core.Path.{_≡_, refl, sym, ap, _∙_}
+use mathlib.Core.List.{List, [], _∷_, _++_, append-assoc}
+use native.Mathlib.Omega.{arith}
+use native.Mathlib.Nat.{add-assoc}
+use lib.Dec.{eqb, leb, ltb}
+use lib.ListN.{length, length-append}
+use borrow.Author.Tests.{lt-ltb, le-ltb}
+use Rattle.model.specs.Choice.{pick}
+use Rattle.model.specs.Numbers.{half}
+use Rattle.model.specs.Tables.{written}
+use Rattle.model.specs.Yard.{Reply, digitsOf, shown, shownSigned, replyText}
+use Rattle.model_laws.proofs.Tests.{choose}
+use Rattle.model_laws.proofs.Written.{written-append, length-written, written-none}
+use Rattle.simulator_text.specs.Values.{Put, replyRoom}
+
+pub put-then : {p q r us vs : List ℕ} {a b c : ℕ} → Put p a us q b → Put q b vs r c → Put p a (us ++ vs) r c
+put-then {p} {q} {r} {us} {vs} {a} {b} {c} x y =
+    record {
+      text = y .text ∙ rw (x .text, x .behind) (sym (written-append p a us vs));
+      behind = y .behind ∙ rw (x .behind, length-append us vs) (omega arith);
+    }
+
+pub put-length : {p q vs : List ℕ} {a b : ℕ} → Put p a vs q b → length q ≡ length p
+put-length {p} {q} {vs} {a} x = ap length (x .text) ∙ length-written p a vs
+
+pub length-digits : (k n : ℕ) → length (digitsOf k n) ≤ k
+unfolding digitsOf
+length-digits zero n = omega arith
+length-digits (suc k) n =
+    choose (λ l. length l ≤ suc k) (ltb n 10) {a = (48 + n) ∷ []} {b = digitsOf k (n / 10) ++ ((48 + n % 10) ∷ [])} (λ _. omega arith)
+    (λ _. omega (arith, length-append (digitsOf k (n / 10)) ((48 + n % 10) ∷ []), length-digits k (n / 10)))
+
+pub length-shown : (n : ℕ) → length (shown n) ≤ 10
+unfolding shown
+length-shown n = length-digits 10 n
+
+pub length-signed : (x : ℕ) → length (shownSigned x) ≤ 11
+unfolding shownSigned
+length-signed x =
+    choose (λ l. length l ≤ 11) (ltb x half) {a = 45 ∷ shown (half - x)} {b = shown (x - half)} (λ _. omega (arith, length-shown (half - x))) (λ _. omega (arith, length-shown (x - half)))
+
+pub put-as : {p q us vs : List ℕ} {a b : ℕ} → us ≡ vs → Put p a us q b → Put p a vs q b
+put-as e x = rw e at x
+
+pub length-field : (n : ℕ) → length (shown n ++ (32 ∷ [])) ≤ 11
+length-field n = omega (arith, length-append (shown n) (32 ∷ []), length-shown n)
+
+-- ---- digits: none more, the last, one more
+
+pub digits-none : (p : List ℕ) (a k v : ℕ) → k ≡ 0 → Put p a (digitsOf k v) p a
+unfolding digitsOf
+digits-none p a k v e = rw e (record { text = sym (written-none p a); behind = omega arith })
+
+pub digits-one : {p q : List ℕ} {a b : ℕ} (k v : ℕ) → (k ≡ 0 → ⊥) → v < 10 → Put p a ((48 + v) ∷ []) q b → Put p a (digitsOf k v) q b
+unfolding digitsOf
+digits-one zero v h l x = absurd (h refl)
+digits-one (suc k) v h l x = rw (lt-ltb v 10 l) x
+
+pub digits-more : {p q r : List ℕ} {a b c : ℕ} (k v : ℕ) → (k ≡ 0 → ⊥) → 10 ≤ v → Put p a (digitsOf (k - 1) (v / 10)) q b
+    → Put q b ((48 + v % 10) ∷ []) r c → Put p a (digitsOf k v) r c
+unfolding digitsOf
+digits-more zero v h l x y = absurd (h refl)
+digits-more (suc k) v h l x y =
+    let e : suc k - 1 ≡ k = omega arith in
+    rw (le-ltb v 10 l) (put-then (rw e at x) y)
+
+-- a signed number below 0
+pub signed-minus : {p q r : List ℕ} {a b c : ℕ} (x : ℕ) → x < half → Put p a (45 ∷ []) q b → Put q b (shown (half - x)) r c → Put p a (shownSigned x) r c
+unfolding shownSigned
+signed-minus x h y z = rw (lt-ltb x half h) (put-then y z)
+
+pub signed-plain : {p q : List ℕ} {a b : ℕ} (x : ℕ) → half ≤ x → Put p a (shown (x - half)) q b → Put p a (shownSigned x) q b
+unfolding shownSigned
+signed-plain x h y = rw (le-ltb x half h) y
+
+-- the text of an answer as its parts are put
+pub reply-parts : (k : ℕ) (r : Reply)
+    → (((shown k ++ (32 ∷ [])) ++ (shown (r .number) ++ (32 ∷ []))) ++ (shown (r .made) ++ (32 ∷ []))) ++ (shownSigned (r .value) ++ (10 ∷ [])) ≡ replyText k r
+unfolding replyText
+reply-parts k r = simp append-assoc
+
+pub length-reply : (k : ℕ) (r : Reply) → length (replyText k r) ≤ replyRoom
+unfolding replyText
+length-reply k r =
+    simp length-append (omega (arith, length-shown k, length-shown (r .number), length-shown (r .made), length-signed (r .value)))

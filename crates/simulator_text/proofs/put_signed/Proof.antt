@@ -1,0 +1,26 @@
+-- `simulator_text::put_signed` meets its contract.
+-- Assumes nothing.
+use Rattle.simulator_text.proofs.Texts.{signed-minus, signed-plain}
+use borrow.Author.Needs.{needs}
+use Rattle.simulator_text.proofs.put_signed.Statement.{statement}
+use Rattle.simulator_text.proofs.put_signed.Tie as tie
+
+returns : tie.Need-returns
+returns c = signed-minus _ (c .before .before .before .before .before .before .before .before .if1 .taken)
+    (c .before .before .before .before .before .before .put-byte .ensures) (c .before .before .put-number .ensures)
+
+returns-2 : tie.Need-returns-2
+returns-2 c = signed-plain _ (c .before .before .before .before .if1 .left) (c .before .before .put-number2 .ensures)
+
+pub put-signed-spec : {M : Type 1} → statement M
+put-signed-spec =
+    tie.close
+    (tie.spec
+    (λ c κs. search needs)
+    (λ c. search needs)
+    (λ c κs. search needs)
+    (λ c. search needs)
+    returns
+    (λ c κs. search needs)
+    (λ c. search needs)
+    returns-2)

@@ -1,0 +1,61 @@
+-- `simulator_text::with_4` meets its contract.
+-- Assumes nothing.
+use Rattle.simulator_text.proofs.Lines.{four-1, four-2, four-3, four-4, four-issue, four-other}
+use borrow.Author.Needs.{needs}
+use Rattle.simulator_text.proofs.with_4.Statement.{statement}
+use Rattle.simulator_text.proofs.with_4.Tie as tie
+
+returns : tie.Need-returns
+returns c = four-1 _ _ _ _ _ (c .before .before .number-in .ensures) (c .enum-told .given .1)
+
+returns-2 : tie.Need-returns-2
+returns-2 c = four-2 _ _ _ _ _ (c .before .before .before .before .before .before .number-in .ensures) (c .before .before .before .before .x .given .1)
+    (c .before .before .number-in2 .ensures) (c .enum-told2 .given .1)
+
+returns-3 : tie.Need-returns-3
+returns-3 c = four-3 _ _ _ _ _ (c .before .before .before .before .before .before .before .before .before .before .number-in .ensures)
+    (c .before .before .before .before .before .before .before .before .x .given .1) (c .before .before .before .before .before .before .number-in2 .ensures)
+    (c .before .before .before .before .y .given .1) (c .before .before .number-in3 .ensures) (c .enum-told3 .given .1)
+
+returns-4 : tie.Need-returns-4
+returns-4 c = four-4 _ _ _ _ _ (c .before .before .before .before .before .before .before .before .before .before .before .before .before .before .number-in .ensures)
+    (c .before .before .before .before .before .before .before .before .before .before .before .before .x .given .1)
+    (c .before .before .before .before .before .before .before .before .before .before .number-in2 .ensures)
+    (c .before .before .before .before .before .before .before .before .y .given .1) (c .before .before .before .before .before .before .number-in3 .ensures)
+    (c .before .before .before .before .z .given .1) (c .before .before .argument-in .ensures) (c .enum-told4 .given .1)
+
+returns-5 : tie.Need-returns-5
+returns-5 c = four-issue _ _ _ _ _
+    (c .before .before .before .before .before .before .before .before .before .before .before .before .before .before .before .before .before .number-in .ensures)
+    (c .before .before .before .before .before .before .before .before .before .before .before .before .before .before .before .x .given .1)
+    (c .before .before .before .before .before .before .before .before .before .before .before .before .before .number-in2 .ensures)
+    (c .before .before .before .before .before .before .before .before .before .before .before .y .given .1)
+    (c .before .before .before .before .before .before .before .before .before .number-in3 .ensures) (c .before .before .before .before .before .before .before .z .given .1)
+    (c .before .before .before .before .before .argument-in .ensures) (c .before .before .before .v .given .1) (c .before .letter-in .ensures) (c .if1 .taken)
+
+returns-6 : tie.Need-returns-6
+returns-6 c = four-other _ _ _ _ _ (c .before .letter-in .ensures) (c .if1 .left)
+
+pub with-4-spec : {M : Type 1} → statement M
+with-4-spec =
+    tie.close
+    (tie.spec
+    (λ c κs. search needs)
+    (λ c. search needs)
+    (λ c. search needs)
+    returns
+    (λ c κs. search needs)
+    (λ c. search needs)
+    (λ c. search needs)
+    returns-2
+    (λ c κs. search needs)
+    (λ c. search needs)
+    (λ c. search needs)
+    returns-3
+    (λ c κs. search needs)
+    (λ c. search needs)
+    (λ c. search needs)
+    returns-4
+    (λ c κs. search needs)
+    returns-5
+    returns-6)

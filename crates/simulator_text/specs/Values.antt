@@ -1,0 +1,69 @@
+-- The values of the code in the definitions' terms: numbers, lines, answers; and the place of a byte.
+-- Assumes nothing.
+use Prim.Native.Nat.{ℕ, suc, _+_}
+use mathlib.Core.Path.{_≡_}
+use mathlib.Core.List.{List, [], _∷_}
+use mathlib.Core.Option.{Option, none, some}
+use lib.Dec.{eqb}
+use lib.ListN.{length}
+use Rattle.model.specs.Choice.{pick}
+use Rattle.model.specs.Tables.{written}
+use Rattle.model.specs.Yard as yard
+use Rattle.simulator_text.specs.declared.Number.{Number}
+use Rattle.simulator_text.specs.declared.Number.the-variants.{Nothing, Is}
+use Rattle.simulator_text.specs.declared.ServerLine.{ServerLine}
+use Rattle.simulator_text.specs.declared.ServerLine.the-variants.{Deliver, Sync, Cut, Give, Image, Receipt}
+use Rattle.simulator_text.specs.declared.ClientLine.{ClientLine}
+use Rattle.simulator_text.specs.declared.ClientLine.the-variants.{Issue, Resend, Receive}
+use Rattle.simulator_text.specs.declared.Line.{Line}
+use Rattle.simulator_text.specs.declared.Line.the-variants.{Unreadable, AtServer, AtClient}
+use Rattle.simulator_text.specs.declared.Reply.{Reply}
+
+abbrev pub numberIs : Number → Option ℕ
+numberIs Nothing = none
+numberIs (Is n) = some n
+
+abbrev pub serverLine : ℕ → ServerLine → yard.Line
+serverLine n (Deliver k) = yard.deliver k n
+serverLine n Sync = yard.sync n
+serverLine n (Cut k) = yard.cut n k
+serverLine n (Give p d) = yard.give n p d
+serverLine n (Image p) = yard.image n p
+serverLine n (Receipt p) = yard.receipt n p
+
+abbrev pub clientLine : ℕ → ClientLine → yard.Line
+clientLine n (Issue op p a) = yard.issue n op p a
+clientLine n (Resend c) = yard.resend n c
+clientLine n (Receive k) = yard.receive k n
+
+abbrev pub lineIs : Line → yard.Line
+lineIs Unreadable = yard.unreadable
+lineIs (AtServer n l) = serverLine n l
+lineIs (AtClient n l) = clientLine n l
+
+abbrev pub replyIs : Reply → yard.Reply
+replyIs r = yard.answered (r .number) (r .made) (r .value)
+
+-- the place of the first byte x, the length where there is none
+unfoldable pub firstOf : ℕ → List ℕ → ℕ
+firstOf x [] = 0
+firstOf x (b ∷ s) = pick (eqb b x) 0 (suc (firstOf x s))
+
+-- a line of two numbers, by its letter
+unfoldable pub letterLine : ℕ → ℕ → ℕ → yard.Line
+letterLine c a b =
+    pick (eqb c 115) (yard.resend a b)
+    (pick (eqb c 100) (yard.deliver a b)
+    (pick (eqb c 114) (yard.receive a b)
+    (pick (eqb c 107) (yard.cut a b)
+    (pick (eqb c 120) (yard.image a b)
+    (pick (eqb c 102) (yard.receipt a b) yard.unreadable)))))
+
+-- the text vs was put into p from a place on, which leaves q and the place behind it
+pub record Put (p : List ℕ) (at : ℕ) (vs : List ℕ) (q : List ℕ) (next : ℕ) : Type 0 where
+  pub text : q ≡ written p at vs
+  pub behind : next ≡ at + length vs
+
+-- bytes that an answer's text has at the most: three numbers of 10 digits, a signed one of 11, four bytes between and behind them
+abbrev pub replyRoom : ℕ
+replyRoom = 45

@@ -1,3 +1,0 @@
--- Laws that the proofs of `state`, and of those who change a state, cite.
-pub mod Access
-pub mod Chains

@@ -1,2 +1,0 @@
--- What the contracts of `state` cite beside `model` and `laws`.
-pub mod Canonical

@@ -1,0 +1,71 @@
+-- `image_state::write_image` meets its contract.
+-- Assumes nothing.
+use native.Mathlib.Omega.{arith}
+use Rattle.state_image.proofs.Whole.{entries-most, headed, imaged, sized}
+use borrow.Author.Needs.{needs}
+use Rattle.state_image.proofs.write_image.Statement.{statement}
+use Rattle.state_image.proofs.write_image.Tie as tie
+
+cast-head-for : tie.Need-cast-head-for
+cast-head-for c =
+    let entries = c .before .before in
+    let start = entries .before .before .before .before .before .before .before .before .before .before in
+    omega (arith, entries-most (start .args .point) (start .args .s .now) (start .pre .0) (entries .write-entries .ensures .1))
+
+write-head-requires : tie.Need-write-head-requires
+write-head-requires c κs =
+    let start = c .before .before .before .before .before .before .before .before .before .before .before .before .before .before in
+    let made = headed (start .args .point) (start .args .s .now) (start .pre .0) (c .before .head-for .ensures) in
+    (search needs, made .0, made .1)
+
+mul-result-2 : tie.Need-mul-result-2
+mul-result-2 c =
+    let entries = c .before .before .before .before .before .before .before in
+    let start = entries .before .before .before .before .before .before .before .before .before .before in
+    omega (arith, entries-most (start .args .point) (start .args .s .now) (start .pre .0) (entries .write-entries .ensures .1))
+
+add-result-2 : tie.Need-add-result-2
+add-result-2 c =
+    let entries = c .before .before .before .before .before .before .before in
+    let start = entries .before .before .before .before .before .before .before .before .before .before in
+    omega (
+      arith,
+      start .pre .0 .few-clients,
+      entries .before .before .before .before .before .before .before .clients-in .ensures,
+      entries-most (start .args .point) (start .args .s .now)
+          (start .pre .0) (entries .write-entries .ensures .1),
+    )
+
+returns : tie.Need-returns
+returns c =
+    let head = c .before .before in
+    let made = head .before .before in
+    let entries = made .before .before .before in
+    let floors = entries .before .before .before .before in
+    let clients = floors .before .before .before in
+    let a = clients .before .before .before .args in (
+      imaged (a .point) (a .s .now) (clients .clients-in .ensures) (a .out .now) (floors .write-floors .ensures) (entries .write-entries .ensures .0) (made .head-for .ensures)
+          (head .write-head .ensures),
+      sized (a .point) (a .s .now) (clients .clients-in .ensures) (entries .write-entries .ensures .1),
+    )
+
+pub write-image-spec : {M : Type 1} → statement M
+write-image-spec =
+    tie.close
+    (tie.spec
+    (λ c κs. search needs)
+    (λ c. search needs)
+    (λ c. search needs)
+    (λ c. search needs)
+    (λ c. search needs)
+    (λ c κs. search needs)
+    (λ c κs. search needs)
+    cast-head-for
+    (λ c κs. search needs)
+    write-head-requires
+    (λ c. search needs)
+    (λ c. search needs)
+    mul-result-2
+    add-result-2
+    (λ c. search needs)
+    returns)

@@ -1,0 +1,60 @@
+-- A record that stays by a rule.
+--     stays-over, stays-of-other, stays-on-other, stays-over-floors     each rule is the model's
+--     clients-within, floor-stays      the rule by the state's own floors, as it is tested
+--     row-free                         a record that stays has a row
+-- Assumes nothing.
+use Prim.Native.Nat.{ℕ, _+_, _*_, _≤_, _<_}
+use mathlib.Core.Path.{_≡_, refl, sym, _∙_}
+use mathlib.Core.Bool.{Bool, false, not}
+use mathlib.Core.List.{List, [], _∷_}
+use native.Mathlib.Omega.{arith}
+use lib.ListN.{length, drop}
+use lib.Dec.{leb}
+use borrow.Author.Tests.{not-false}
+use Rattle.model.specs.declared.Floor.{Floor}
+use Rattle.model.specs.declared.Completion.{Completion}
+use Rattle.model.specs.Limits.{floorRow, clientCount, recordCount}
+use Rattle.model.specs.Tables.{rows, keep}
+use Rattle.model.specs.Images.{floorOf, floorOfBytes}
+use Rattle.model.specs.States.{load, stateEnd, clientsIn, floorsStart}
+use Rattle.model.specs.Apply.{staysOver, staysOverFloors, isOfOther, isOnOther}
+use Rattle.state_rows.proofs.Access.{floors-count}
+use Rattle.state_records.specs.declared.Rule.the-variants.{OverFloor, OfOther, OnOther, OverFloors}
+use Rattle.state_records.specs.Rules.{staysBy}
+
+-- ---- the rules
+
+module _ (fs : List Floor) where
+  pub stays-over : (x n : ℕ) → staysBy (OverFloor x n) fs ≡ staysOver x n
+  unfolding staysBy
+  stays-over x n = refl
+
+  pub stays-of-other : (x : ℕ) → staysBy (OfOther x) fs ≡ isOfOther x
+  unfolding staysBy
+  stays-of-other x = refl
+
+  pub stays-on-other : (p : ℕ) → staysBy (OnOther p) fs ≡ isOnOther p
+  unfolding staysBy
+  stays-on-other p = refl
+
+  pub stays-over-floors : staysBy OverFloors fs ≡ staysOverFloors fs
+  unfolding staysBy
+  stays-over-floors = refl
+
+-- ---- the state's own floors
+
+pub clients-within : (s : List ℕ) {n : ℕ} → stateEnd ≤ length s → clientsIn s ≤ clientCount → n ≡ length (load s .floors) → floorsStart + floorRow * n ≤ length s
+clients-within s l h e = omega (arith, floors-count s)
+
+pub floor-stays : (s : List ℕ) (r : Completion) {n f : ℕ} → n ≡ length (load s .floors) → f ≡ floorOf (r .command .client) (rows floorOfBytes floorRow n (drop floorsStart s))
+    → leb f (r .command .call) ≡ staysBy OverFloors (load s .floors) r
+unfolding staysBy staysOverFloors
+floor-stays s r {n} {f} e p = rw (p, e ∙ floors-count s) (unfold load in refl)
+
+-- ---- a row for a record that stays
+
+pub row-free : (t : Completion → Bool) (r : Completion) {u : Bool} {j : ℕ} → u ≡ t r → not u ≡ false → j + length (keep t (r ∷ [])) ≤ recordCount → j < recordCount
+unfolding keep
+row-free t r {u} {j} e n h =
+    let one : length (keep t (r ∷ [])) ≡ 1 = rw (sym e ∙ not-false u n) in
+    omega arith

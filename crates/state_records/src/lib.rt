@@ -1,0 +1,211 @@
+// The completion records' table of a server's state, in order of arrival: a record found by its id, records added, and those kept that a
+// rule lets stay. What a change leaves is the bytes of the changed state.
+use state_clients::floors;
+
+pub mod ids;
+
+use model::Command;
+use model::Completion;
+use model::ImageEntry;
+use model::ImageHead;
+use model::constants::ENTRY_ROW;
+use model::constants::FLOOR_ROW;
+use model::constants::FLOORS_START;
+use model::constants::LEAST_IMAGE;
+use model::constants::RECORD_ROW;
+use model::constants::RECORDS_START;
+use state_rows::state;
+ghost use mathlib.Core.Path.{_≡_};
+ghost use Prim.Native.Nat.{_+_, _*_, _≤_, _<_};
+ghost use mathlib.Core.List.{[], _∷_, _++_};
+ghost use lib.ListN.{length, drop};
+ghost use Rattle.model.specs.Limits.{leastImage, floorRow, entryRow, clientCount, recordCount};
+ghost use Rattle.model.specs.Tables.{bytesOf, keep, written};
+ghost use Rattle.model.specs.Choice.{pick};
+ghost use Rattle.model.specs.States.{load, stateEnd, clientsIn, recordsStart, recordRow, isId, completionOf, completionBytes};
+ghost use Rattle.model.specs.Apply.{takenRecord};
+ghost use Rattle.model.specs.Decisions.{find};
+ghost use Rattle.model.specs.Operations.{stored};
+ghost use Rattle.model_laws.specs.Layout.{withRecords};
+ghost use Rattle.state_rows.specs.Canonical.{Canonical};
+ghost use Rattle.state_records.specs.Rules.{foundOf, staysBy, front, keptBy, brought, lengthBy, PutKept, CompactedBy, PutEntries};
+
+// What a search finds.
+pub enum Found {
+    Nothing,
+    At(Completion),
+}
+
+// Which records stay.
+pub enum Rule {
+    // of a client only calls from a floor on
+    OverFloor(u32, u32),
+    // those of other clients
+    OfOther(u32),
+    // those on other points
+    OnOther(u8),
+    // calls from their client's floor on, by the clients' table of the state
+    OverFloors,
+}
+
+// ---- search
+
+// The record from k has the id.
+fn is_id(s: &[u8], k: usize, client: u32, call: u32) -> bool
+    requires { ⌜ k + recordRow ≤ length (now s) ⌝ }
+    ensures { λ r. ⌜ r ≡ isId client call (completionOf (drop k (now (s .entry)))) ⌝ }
+{
+    let x = format_numbers::read_u32(s, k);
+    let c = format_numbers::read_u32(s, k + 4);
+    (x == client) & (c == call)
+}
+
+// The completion record of an id.
+pub fn find(s: &[u8], client: u32, call: u32) -> Found
+    requires { ⌜ Canonical (now s) ⌝ }
+    ensures { λ r. ⌜ r ≡ foundOf (find client call (load (now (s .entry)) .records)) ⌝ }
+{
+    let n = state::records_of(s);
+    let mut i = 0;
+    while i < n {
+        if is_id(s, RECORDS_START + RECORD_ROW * i, client, call) {
+            return Found::At(state_rows::completion_from(s, RECORDS_START + RECORD_ROW * i));
+        }
+        i += 1;
+    }
+    Found::Nothing
+}
+
+// ---- what stays
+
+// A record stays by a rule.
+fn stays(s: &[u8], rule: Rule, r: Completion) -> bool
+    requires { ⌜ (stateEnd ≤ length (now s)) × (clientsIn (now s) ≤ clientCount) ⌝ }
+    ensures { λ b. ⌜ b ≡ staysBy rule (load (now (s .entry)) .floors) r ⌝ }
+{
+    match rule {
+        Rule::OverFloor(x, floor) => (r.command.client != x) | (floor <= r.command.call),
+        Rule::OfOther(x) => r.command.client != x,
+        Rule::OnOther(p) => r.command.point != p,
+        Rule::OverFloors => {
+            let floor = floors::floor_of(s, FLOORS_START, state::clients_of(s), r.command.client);
+            floor <= r.command.call
+        }
+    }
+}
+
+// Stores a record as the row of index j if it stays; the index behind it.
+fn put_kept(s: &mut [u8], rule: Rule, j: usize, r: Completion) -> usize
+    requires { ⌜ (stateEnd ≤ length (now s)) × (clientsIn (now s) ≤ clientCount) × (j + length (keep (staysBy rule (load (now s) .floors)) (r ∷ [])) ≤ recordCount) ⌝ }
+    ensures { λ n. ⌜ PutKept rule j r (now (s .entry)) (now (s .exit)) n ⌝ }
+{
+    if !stays(s, rule, r) {
+        return j;
+    }
+    state_rows::put_completion(s, RECORDS_START + RECORD_ROW * j, r);
+    j + 1
+}
+
+// How many of the n records in front stay, before the first that does not.
+fn front(s: &[u8], rule: Rule, n: usize) -> usize
+    requires { ⌜ Canonical (now s) × (n ≡ length (load (now s) .records)) ⌝ }
+    ensures { λ k. ⌜ k ≡ front (staysBy rule (load (now (s .entry)) .floors)) (load (now (s .entry)) .records) ⌝ }
+{
+    let mut i = 0;
+    while i < n {
+        let r = state_rows::completion_from(s, RECORDS_START + RECORD_ROW * i);
+        if !stays(s, rule, r) {
+            return i;
+        }
+        i += 1;
+    }
+    n
+}
+
+// Moves the rows that stay to the front, in their order; their number.
+fn compact(s: &mut [u8], rule: Rule, n: usize) -> usize
+    requires { ⌜ Canonical (now s) × (n ≡ length (load (now s) .records)) ⌝ }
+    ensures { λ j. ⌜ CompactedBy rule n (now (s .entry)) (now (s .exit)) j ⌝ }
+{
+    let first = front(s, rule, n);
+    let mut i = first;
+    let mut j = first;
+    while i < n {
+        let r = state_rows::completion_from(s, RECORDS_START + RECORD_ROW * i);
+        j = put_kept(s, rule, j, r);
+        i += 1;
+    }
+    j
+}
+
+// The records that stay by a rule.
+pub fn keep_records(s: &mut [u8], rule: Rule)
+    requires { ⌜ Canonical (now s) ⌝ }
+    ensures { λ r. ⌜ now (s .exit) ≡ stored (now (s .entry)) (withRecords (keptBy rule (load (now (s .entry)))) (load (now (s .entry)))) ⌝ }
+{
+    let n = state::records_of(s);
+    let j = compact(s, rule, n);
+    let end = RECORDS_START + RECORD_ROW * n;
+    state_rows::clear(s, RECORDS_START + RECORD_ROW * j, end);
+    state_rows::put_records(s, j as u32);
+}
+
+// ---- records added
+
+// A record behind the others.
+pub fn append(s: &mut [u8], r: Completion)
+    requires { ⌜ Canonical (now s) × (length (load (now s) .records) < recordCount) ⌝ }
+    ensures { λ x. ⌜ now (s .exit) ≡ stored (now (s .entry)) (withRecords (load (now (s .entry)) .records ++ (r ∷ [])) (load (now (s .entry)))) ⌝ }
+{
+    let n = state::records_of(s);
+    state_rows::put_completion(s, RECORDS_START + RECORD_ROW * n, r);
+    state_rows::put_records(s, n as u32 + 1);
+}
+
+// An image's completion record as one of its point, brought by a log record that ends at `end`.
+fn taken_record(point: u8, end: u64, e: ImageEntry) -> Completion
+    ensures { λ r. ⌜ r ≡ takenRecord point end e ⌝ }
+{
+    let command = Command {
+        client: e.client,
+        call: e.call,
+        op: e.op,
+        point: point,
+        argument: e.argument,
+    };
+    let result = e.result;
+    Completion {
+        command,
+        result,
+        end: end,
+    }
+}
+
+// Stores the records of an image that stay over the state's floors behind n rows; the number of rows then.
+fn put_entries(s: &mut [u8], n: usize, image: &[u8], h: ImageHead, end: u64) -> usize
+    requires { ⌜ Canonical (now s) × (lengthBy h ≤ length (now image)) × (n + length (brought (load (now s)) h end (now image)) ≤ recordCount) ⌝ }
+    ensures { λ j. ⌜ PutEntries h end (now (image .entry)) n (now (s .entry)) (now (s .exit)) j ⌝ }
+{
+    let m = h.entries as usize;
+    let at = LEAST_IMAGE + FLOOR_ROW * (h.floors as usize);
+    let mut i = 0;
+    let mut j = n;
+    while i < m {
+        let e = format_image_rows::entry_from(image, at + ENTRY_ROW * i);
+        let r = taken_record(h.point, end, e);
+        j = put_kept(s, Rule::OverFloors, j, r);
+        i += 1;
+    }
+    j
+}
+
+// The records of an image that stay over the state's floors, behind the others. Those under a floor are never stored: with them there
+// could be more than 512 until they go.
+pub fn append_image(s: &mut [u8], image: &[u8], h: ImageHead, end: u64)
+    requires { ⌜ Canonical (now s) × (lengthBy h ≤ length (now image)) × (length (load (now s) .records) + length (brought (load (now s)) h end (now image)) ≤ recordCount) ⌝ }
+    ensures { λ r. ⌜ now (s .exit) ≡ stored (now (s .entry)) (withRecords (load (now (s .entry)) .records ++ brought (load (now (s .entry))) h end (now (image .entry))) (load (now (s .entry)))) ⌝ }
+{
+    let n = state::records_of(s);
+    let j = put_entries(s, n, image, h, end);
+    state_rows::put_records(s, j as u32);
+}

@@ -1,0 +1,2 @@
+-- What the contracts of `state_rows` cite beside `model` and `laws`.
+pub mod Canonical

@@ -1,3 +1,0 @@
--- Laws that the proofs of `takes` cite.
-pub mod Ids
-pub mod Chains

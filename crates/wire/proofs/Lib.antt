@@ -1,3 +1,0 @@
--- Laws that the proofs of `wire` cite.
-pub mod Past
-pub mod Picks

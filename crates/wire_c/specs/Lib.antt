@@ -1,2 +1,0 @@
--- What the contracts of `wire_c` cite.
-pub mod Words
