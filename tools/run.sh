@@ -1,22 +1,33 @@
 #!/usr/bin/env bash
-# What the product does today: the simulator's whole case of paper 01, answered by the second program and compared; then a host program
-# in C over the proved server and client: two servers, two clients, a poor line, power cuts, a point that moves.
+# tools/run.sh: what the product does: the simulator's whole case of paper 01, answered by the proved program and compared; then a host
+# program in C over the proved server and client: two servers, two clients, a poor line, power cuts, a point that moves.
+# tools/run.sh SCHEDULE: a schedule of one's own, each line beside its answer.
 set -eu
+here=$PWD
 cd "$(dirname "$0")/.."
-schedule=tests/yard/paper.in
-cargo build --release --quiet --offline --manifest-path second/Cargo.toml --bin yard
-echo "schedule        answer (line, number, packet made, value received)"
-second/target/release/yard <"$schedule" >/tmp/mantelorris-yard.$$ || { rm -f /tmp/mantelorris-yard.$$; exit 1; }
-paste -d '|' "$schedule" /tmp/mantelorris-yard.$$ | awk -F '|' '{ printf "%-15s %s\n", $1, $2 }'
-if cmp -s /tmp/mantelorris-yard.$$ tests/yard/paper.out; then
-  echo "as in the paper"
-  rm -f /tmp/mantelorris-yard.$$
-else
+answers=$(mktemp)
+trap 'rm -f "$answers"' EXIT
+
+if [ -n "${1:-}" ]; then
+  schedule=$1
+  case $schedule in /*) ;; *) schedule=$here/$schedule ;; esac
+  tools/yard.sh "$schedule" "$answers"
+  echo "== $1: answers by the proved program yard; the words beside them by tools/schedule.py, which is not proved"
+  tools/schedule.py "$schedule" "$answers"
+  exit
+fi
+
+tools/yard.sh tests/yard/paper.in "$answers"
+echo "== the paper's case: answers by the proved program yard; the words beside them by tools/schedule.py, which is not proved"
+tools/schedule.py tests/yard/paper.in "$answers"
+if ! cmp -s "$answers" tests/yard/paper.out; then
   echo "NOT as in the paper; expected:"
   cat tests/yard/paper.out
-  rm -f /tmp/mantelorris-yard.$$
   exit 1
 fi
+echo "as in the paper"
 echo
-echo "host program over the proved server and client (tests/c/host.c); the first build proves them, which takes minutes"
+echo "== proving the C libraries of server, client and lease manager"
+tools/staticlib.sh client_c kernel
+echo "== a host in C (tests/c/host.c, not proved) over these libraries (proved): line, memory card and clock are the host's"
 tests/c/host.sh

@@ -1,6 +1,7 @@
 #!/usr/bin/env python3
-"""yard_cases.py [--check]: writes crates/cases/specs/Schedules.antt from tests/yard/NAME.in and NAME.out, so that the definitions are held to
-the same answers as the programs. With --check it only says whether that file is up to date."""
+"""yard_cases.py [--check]: writes crates/model_cases/specs/Schedules.antt from tests/yard/NAME.in and NAME.out, so that the definitions are held to
+the same answers as the programs. With --check it only says whether that file is up to date, and whether crates/model_cases/proofs/YardCases.antt has
+a theorem for each."""
 import glob, os, sys
 
 os.chdir(os.path.join(os.path.dirname(os.path.abspath(__file__)), '..'))
@@ -18,13 +19,16 @@ out = """-- Schedules of the simulator and their answers, as text: `paper` is th
 use Prim.Native.Nat.{ℕ}
 use mathlib.Core.List.{List, [], _∷_, _++_}
 """
-for path in sorted(glob.glob('tests/yard/*.in')):
-    name = os.path.basename(path)[:-3]
-    given, due = open(path, 'rb').read(), open(path[:-3] + '.out', 'rb').read()
+names = [os.path.basename(path)[:-3] for path in sorted(glob.glob('tests/yard/*.in'))]
+for name in names:
+    given, due = (open('tests/yard/%s.%s' % (name, end), 'rb').read() for end in ('in', 'out'))
     out += '\n' + listed(name + 'Schedule', 'tests/yard/%s.in' % name, given) + '\n' + listed(name + 'Answers', 'tests/yard/%s.out' % name, due)
-target = 'crates/cases/specs/Schedules.antt'
+target = 'crates/model_cases/specs/Schedules.antt'
 if '--check' in sys.argv:
     same = os.path.exists(target) and open(target).read() == out
     print(target, 'is up to date' if same else 'is not what tools/yard_cases.py writes: run it')
-    sys.exit(0 if same else 1)
+    proofs = open('crates/model_cases/proofs/YardCases.antt').read()
+    missing = [name for name in names if 'yardOf %sSchedule ≡ %sAnswers' % (name, name) not in proofs]
+    print('YardCases.antt has no theorem for: ' + ' '.join(missing) if missing else 'each of %d schedules has its theorem' % len(names))
+    sys.exit(0 if same and not missing else 1)
 open(target, 'w').write(out)

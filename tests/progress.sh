@@ -1,0 +1,73 @@
+#!/usr/bin/env bash
+# tools/progress.py on what rt prints, by a program of that name: crates with their number of how many, edits, errors only where something is not
+# proved, rt's exit status.
+set -eu
+cd "$(dirname "$0")/.."
+folder=$(mktemp -d)
+trap 'rm -rf "$folder"' EXIT
+mkdir -p "$folder/bin" "$folder/tools" "$folder/crates/b/must-fail"
+cp tools/progress.py tools/kit-id "$folder/tools"
+printf '# two crates\na:\nb: a io\nc: a\n' >"$folder/crates.txt"
+: >"$folder/crates/b/must-fail/one.edit"
+
+# says STATUS: what rt is to print comes from standard input
+says() {
+  cat >"$folder/said"
+  printf '#!/bin/sh\ncat %s\nexit %s\n' "$folder/said" "$1" >"$folder/bin/rt"
+  chmod +x "$folder/bin/rt"
+}
+
+# due STATUS WORDS..: progress.py of these words gives this status; its output is due on standard input, a line's seconds aside
+due() {
+  local status=$1 have=0
+  shift
+  PATH=$folder/bin:$PATH PROGRESS_LOG=$folder/log "$folder/tools/progress.py" rt "$@" >"$folder/have" || have=$?
+  sed -E 's/ +$//' >"$folder/due"
+  sed -i -E 's/(, )[0-9]+ s$/\1N s/' "$folder/have"
+  [ "$have" = "$status" ] || { echo "rt $*: status $have, not $status"; exit 1; }
+  diff "$folder/due" "$folder/have" || { echo "rt $*: not as due"; exit 1; }
+  cmp "$folder/said" "$folder/log"
+}
+
+says 0 <<'END'
+fn a::f: proved
+rt: a proved (12 s)
+rt: b proved (unchanged since it was last proved)
+rt: ok, 2 crates proved
+END
+due 0 check b <<'END'
+   1/2 a                  12 s
+   2/2 1 unchanged since it was proved
+   2 crates proved, N s
+END
+
+says 1 <<'END'
+fn a::f: proved
+rt: a proved (1 s)
+crates/b/src/lib.rt:3:1: error: it is not so
+rt: b NOT PROVED (exit 1, 4 s)
+rt: FAILED: b
+END
+due 1 check b <<'END'
+   1/2 a                   1 s
+   crates/b/src/lib.rt:3:1: error: it is not so
+   rt: b NOT PROVED (exit 1, 4 s)
+   rt: FAILED: b
+END
+
+says 0 <<'END'
+rt: a proved (1 s)
+rt: b proved (2 s)
+rt: c proved (3 s)
+rt: must-fail b/one: refused, as it must be (first at src/lib.rt:1:1; 5 s)
+rt: ok, 3 crates proved, 1 must-fail edits refused
+4 passed, 0 failed
+END
+due 0 ci <<'END'
+   1/3 a                   1 s
+   2/3 b                   2 s
+   3/3 c                   3 s
+   1/1 edit b/one                                refused, N s
+   3 crates proved, 1 edits refused, N s
+END
+echo "progress.py: 3 cases"
