@@ -1,13 +1,39 @@
-# make run: what the product does today. make test: the whole check. make bench: nanoseconds per call of the proved code and of
-# the second program.
-.PHONY: run test bench
+# make run: what the product does today; with SCHEDULE=path, that schedule of the simulator. make picture SCHEDULE=path: its picture, an SVG.
+# make check: every proof, without edits and tests. make test: the whole check. make bench: nanoseconds per call of the proved code and of the second
+# program. make bench-peer: a durable job on the kernel and on SQLite. make lib, install: the archive for C. make demo: the example programs.
+# make house: the picture of the crates.
+.PHONY: run picture check test bench bench-peer lib install demo house
 
 run:
-	@tools/run.sh
+	@tools/run.sh "$(SCHEDULE)"
+
+picture:
+	@tools/picture.sh "$(SCHEDULE)" "$(OUT)"
+
+check:
+	@tools/progress.py rt check
 
 test:
 	@tools/test.sh
 
 bench:
-	@tools/staticlib.sh test_c bench_c client_c image_state_c kernel >/dev/null
+	@tools/staticlib.sh >/dev/null
 	@cargo run --release --quiet --offline --manifest-path compare/Cargo.toml --bin bench
+
+# needs libsqlite3-dev; skipped without it
+bench-peer:
+	@tools/bench_peer.py
+
+# dist/: the archive, its headers and a pkg-config file
+lib:
+	@tools/lib.sh
+
+install:
+	@tools/lib.sh install "$(PREFIX)"
+
+demo: lib
+	@examples/demo.sh
+
+# docs/pictures/house.svg: the crates by layer, with their real imports
+house:
+	@tools/house.py

@@ -1,4 +1,4 @@
-/* The server (paper: cabinet), from libkernel.a. C11, and C++.
+/* The server (paper: cabinet), from libmantelorris.a. C11, and C++.
  *
  * Memory. A slice is a pointer and its length. Every slice is the host's; it is lent for one call, and the library keeps nothing of it.
  * The library allocates nothing and has no variables of its own. The slices of one call must not overlap (an image to take, for
@@ -43,6 +43,12 @@
 extern "C" {
 #endif
 
+/* The version of this header and, by mantelorris_version(), of the library: major * 65,536 + minor. The major number changes with a layout that
+ * an older program would misread (packets, images, log, state); the minor one with what is added. */
+#define MANTELORRIS_VERSION_MAJOR 1
+#define MANTELORRIS_VERSION_MINOR 0
+#define MANTELORRIS_VERSION ((uint32_t)MANTELORRIS_VERSION_MAJOR << 16 | MANTELORRIS_VERSION_MINOR)
+
 /* least lengths of slices; a plan has exactly its length */
 #define MANTELORRIS_STATE_SIZE 32768
 #define MANTELORRIS_PLAN_SIZE 1024
@@ -62,26 +68,81 @@ extern "C" {
 #define MANTELORRIS_POINTS 64
 #define MANTELORRIS_SERVERS 16
 
+/* ops of a command, with the argument that each takes */
+enum mantelorris_op {
+    MANTELORRIS_READ = 0,   /* 0: gives value and quality, changes nothing */
+    MANTELORRIS_SET = 1,    /* the new value */
+    MANTELORRIS_STEP = 2,   /* added to the value, where the quality is valid */
+    MANTELORRIS_REPORT = 3, /* a measured value; one outside the range makes the point invalid */
+    MANTELORRIS_FAULT = 4,  /* 0: the point gets its fallback and is invalid */
+    MANTELORRIS_PART = 5    /* 0 to 1000: thousandths of the way from low to high */
+};
+
+/* outcomes of a command that was carried out */
+enum mantelorris_outcome {
+    MANTELORRIS_OUTCOME_DONE = 0,         /* as asked */
+    MANTELORRIS_OUTCOME_OUT_OF_RANGE = 1, /* set or step out of the point's range: nothing changed */
+    MANTELORRIS_OUTCOME_INVALID = 2,      /* step on an invalid value: nothing changed */
+    MANTELORRIS_OUTCOME_FALLBACK = 3      /* report out of range, or fault: value = fallback, invalid */
+};
+
+enum mantelorris_quality { MANTELORRIS_VALID = 0, MANTELORRIS_INVALID = 1 };
+
+/* where a point stands at a server */
+enum mantelorris_status { MANTELORRIS_ABSENT = 0, MANTELORRIS_HELD = 1, MANTELORRIS_GIVEN = 2, MANTELORRIS_RELEASED = 3 };
+
+/* the first byte of a packet; an image's is 4D hexadecimal */
+enum mantelorris_kind {
+    MANTELORRIS_KIND_REQUEST = 1, /* 24 bytes, from a client */
+    MANTELORRIS_KIND_RESULT = 2,  /* 16 bytes, from a server */
+    MANTELORRIS_KIND_REFUSAL = 3, /* 12 bytes, from a server */
+    MANTELORRIS_KIND_RECEIPT = 4, /* 8 bytes, from a server that took a point */
+    MANTELORRIS_KIND_NOTICE = 5,  /* 12 bytes, from the lease manager: a lease has ended */
+    MANTELORRIS_KIND_GRANT = 6    /* 12 bytes, from the lease manager: a lease runs */
+};
+
+/* Refusals, by number, each with its line here and the answer of mantelorris_refusal_name. No refusal says that a command was not carried out. */
+#define MANTELORRIS_REFUSALS(X) \
+    X(MALFORMED, 1, "malformed")                 /* a packet, plan or number off its layout or range */ \
+    X(TOO_SHORT, 2, "too short")                 /* a lent slice is shorter than the call needs */ \
+    X(NOT_HELD, 3, "not held")                   /* the point is not held here; not given, or released; never taken */ \
+    X(LEASE_ENDED, 4, "lease ended")             /* the lease end is at or under heard time */ \
+    X(UNDER_FLOOR, 5, "under the floor")         /* the call is under its client's floor: finished long ago */ \
+    X(OTHER_COMMAND, 6, "other command")         /* this client and call stand for another op, point or argument */ \
+    X(NOT_SYNCED, 7, "not synced")               /* executed, given or taken, and not synced yet: ask again */ \
+    X(CLIENTS_FULL, 8, "clients full")           /* 32 clients are known, this one would be more */ \
+    X(LOG_FULL, 9, "log full")                   /* the log lacks space for the record */ \
+    X(BAD_MARK, 10, "bad mark")                  /* a mark below the present one or above the log's length */ \
+    X(BAD_DESTINATION, 11, "bad destination")    /* give to this server; an image for another one */ \
+    X(OLD_MOVE, 12, "old move")                  /* an image's move is not above the own one; a receipt's is below the given one */ \
+    X(HELD_HERE, 13, "held here")                /* take of a point that is held here, or of an id held for another point */ \
+    X(BAD_LOG, 14, "bad log")                    /* recover: the log breaks a layout, or a record cannot follow */ \
+    X(WINDOW_FULL, 15, "window full")            /* client: sixteen numbers from its first open call are used */ \
+    X(NUMBER_SPENT, 16, "number spent")          /* a move, call, client or time number is at its greatest */ \
+    X(UNKNOWN, 17, "unknown")                    /* no such call, client or lease */ \
+    X(LEASES_FULL, 18, "leases full")            /* lease manager: 32 leases run */ \
+    X(NOT_SOUND, 19, "not sound")                /* the state is not sound, or the log slice is shorter than its recorded length */
+
 enum mantelorris_refusal {
-    MANTELORRIS_DONE = 0,
-    MANTELORRIS_MALFORMED = 1,       /* malformed; a number outside its range; a bad plan or server number */
-    MANTELORRIS_TOO_SHORT = 2,       /* a lent slice is too short */
-    MANTELORRIS_NOT_HELD = 3,        /* point not held; not given, or released; never taken */
-    MANTELORRIS_LEASE_ENDED = 4,     /* lease end at or under heard time: the command may have been carried out */
-    MANTELORRIS_UNDER_FLOOR = 5,     /* call under the client's floor */
-    MANTELORRIS_OTHER_COMMAND = 6,   /* id held with another op, point or argument */
-    MANTELORRIS_NOT_SYNCED = 7,      /* held, or given, or taken, and not synced */
-    MANTELORRIS_CLIENTS_FULL = 8,    /* more than 32 clients */
-    MANTELORRIS_LOG_FULL = 9,        /* the log lacks space */
-    MANTELORRIS_BAD_MARK = 10,       /* mark below the present one or above the log's length */
-    MANTELORRIS_BAD_DESTINATION = 11, /* give: destination is this server; take: it is another one */
-    MANTELORRIS_OLD_MOVE = 12,       /* take: move number not above the own one; release: below the given one */
-    MANTELORRIS_HELD_HERE = 13,      /* point held here, or an id held for another point */
-    MANTELORRIS_BAD_LOG = 14,        /* recover: the log breaks a layout, or a record cannot follow the state */
-    MANTELORRIS_NUMBER_SPENT = 16,   /* move number at its greatest */
-    MANTELORRIS_UNKNOWN = 17,        /* none held; client not known */
-    MANTELORRIS_NOT_SOUND = 19       /* state not sound, or log slice shorter than its recorded length */
-}; /* 15 and 18 are answers of the client and the lease manager alone (mantelorris_client.h) */
+    MANTELORRIS_OK = 0,
+#define MANTELORRIS_NUMBERED(name, number, text) MANTELORRIS_##name = number,
+    MANTELORRIS_REFUSALS(MANTELORRIS_NUMBERED)
+#undef MANTELORRIS_NUMBERED
+};
+
+/* a refusal's name; "ok" for 0 */
+static inline const char *mantelorris_refusal_name(uint32_t number) {
+    switch (number) {
+    case MANTELORRIS_OK: return "ok";
+#define MANTELORRIS_NAMED(name, number, text) case number: return text;
+    MANTELORRIS_REFUSALS(MANTELORRIS_NAMED)
+#undef MANTELORRIS_NAMED
+    default: return "no refusal of this version";
+    }
+}
+
+/* the library's version, as MANTELORRIS_VERSION */
+uint32_t mantelorris_version(void);
 
 /* founds the server with this number: writes the log's head; the mark is 8, so write the head to the card first of all */
 uint64_t mantelorris_found(uint8_t *state, size_t state_length, uint8_t *log, size_t log_length, const uint8_t *plan, size_t plan_length,
@@ -138,6 +199,42 @@ static inline uint64_t mantelorris_length(const uint8_t *state) {
 
 static inline uint64_t mantelorris_mark(const uint8_t *state) {
     return mantelorris_word_at(state, 32);
+}
+
+/* ---- a point in the state (docs/STATE.md), after a call that answered 0. Drive a gate from its value, and only once the log is synced */
+
+static inline uint32_t mantelorris_number_at(const uint8_t *bytes, size_t at) {
+    return bytes[at] | (uint32_t)bytes[at + 1] << 8 | (uint32_t)bytes[at + 2] << 16 | (uint32_t)bytes[at + 3] << 24;
+}
+
+static inline size_t mantelorris_point_at(uint32_t point) {
+    return 1064 + 32 * (size_t)(point % MANTELORRIS_POINTS);
+}
+
+static inline uint32_t mantelorris_status(const uint8_t *state, uint32_t point) {
+    return state[mantelorris_point_at(point)];
+}
+
+static inline uint32_t mantelorris_quality(const uint8_t *state, uint32_t point) {
+    return state[mantelorris_point_at(point) + 1];
+}
+
+static inline int32_t mantelorris_value(const uint8_t *state, uint32_t point) {
+    return (int32_t)mantelorris_number_at(state, mantelorris_point_at(point) + 4);
+}
+
+static inline uint32_t mantelorris_move(const uint8_t *state, uint32_t point) {
+    return mantelorris_number_at(state, mantelorris_point_at(point) + 8);
+}
+
+/* ---- client and call of a request, result or refusal packet that a call has accepted or made */
+
+static inline uint32_t mantelorris_packet_client(const uint8_t *packet) {
+    return mantelorris_number_at(packet, 4);
+}
+
+static inline uint32_t mantelorris_packet_call(const uint8_t *packet) {
+    return mantelorris_number_at(packet, 8);
 }
 
 #ifdef __cplusplus

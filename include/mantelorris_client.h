@@ -1,14 +1,21 @@
-/* The client (paper: desk) and the lease manager (paper: lease office), from libclient_c.a.
+/* The client (paper: desk) and the lease manager (paper: lease office), from libmantelorris.a. C11, and C++.
  *
- * A client is made by mantelorris_start and lent to the other calls. A lease manager goes in and comes back by value. The fields
- * of both are the library's: keep them, do not change them.
- * number is 0 or the refusal's number of paper 01; a refused call leaves the client or the manager as it was.
- * A byte slice is a pointer and its length. It must not overlap the client that is lent. */
+ * A client is made by mantelorris_start, a lease manager by mantelorris_leases; both are lent to the other calls. Their fields are the
+ * library's: keep them, read them, do not change them.
+ * number is MANTELORRIS_OK or the refusal's number (mantelorris.h has their names); a refused call leaves the client or the manager as it was.
+ * A byte slice is a pointer and its length. It must not overlap what is lent beside it.
+ *
+ * Client. Start it once from the grant of a new client number; one client for each number, never a second. Issue a command and send the packet;
+ * send it again (mantelorris_resend) until its result comes. Only a result says what became of a command: a refusal packet does not say that it was
+ * not carried out, so never issue the command anew because of one.
+ *
+ * Lease manager. Open gives a new client number, renew a later end, query says whether a lease runs: a grant, or a notice that it has ended, which
+ * goes to the servers. Times are whole seconds and only rise. Keep its memory as long as there are clients: a second lease manager would
+ * give client numbers again. */
 #ifndef MANTELORRIS_CLIENT_H
 #define MANTELORRIS_CLIENT_H
 
-#include <stddef.h>
-#include <stdint.h>
+#include "mantelorris.h"
 
 #ifdef __cplusplus
 extern "C" {
@@ -33,9 +40,10 @@ struct mantelorris_start_reply {
     uint32_t number;
 };
 
-/* length: of the request in packet, 24, or 0 where refused */
+/* call: the command's number; length: of the request in packet, 24; both are 0 where refused */
 struct mantelorris_send_reply {
     uint32_t number;
+    uint32_t call;
     uint32_t length;
     uint8_t packet[24];
 };
@@ -69,19 +77,35 @@ struct mantelorris_lease_manager {
     struct mantelorris_lease leases[32];
 };
 
-/* length: of the grant or the notice in packet, 12, or 0 where refused */
+/* kind: MANTELORRIS_KIND_GRANT or MANTELORRIS_KIND_NOTICE; length: of it in packet, 12; both are 0 where refused */
 struct mantelorris_lease_reply {
-    struct mantelorris_lease_manager manager;
     uint32_t number;
+    uint32_t kind;
     uint32_t length;
     uint8_t packet[12];
 };
 
 /* time 0, no leases */
 struct mantelorris_lease_manager mantelorris_leases(void);
-struct mantelorris_lease_reply mantelorris_open(struct mantelorris_lease_manager manager, uint32_t time, uint32_t span);
-struct mantelorris_lease_reply mantelorris_renew(struct mantelorris_lease_manager manager, uint32_t client, uint32_t time, uint32_t span);
-struct mantelorris_lease_reply mantelorris_query(struct mantelorris_lease_manager manager, uint32_t client, uint32_t time);
+struct mantelorris_lease_reply mantelorris_open(struct mantelorris_lease_manager *manager, uint32_t time, uint32_t span);
+struct mantelorris_lease_reply mantelorris_renew(struct mantelorris_lease_manager *manager, uint32_t client, uint32_t time, uint32_t span);
+struct mantelorris_lease_reply mantelorris_query(struct mantelorris_lease_manager *manager, uint32_t client, uint32_t time);
+
+/* the layouts that the library has */
+#if defined(__cplusplus)
+#define MANTELORRIS_HAS_SIZE(type, size) static_assert(sizeof(type) == (size), #type)
+#else
+#define MANTELORRIS_HAS_SIZE(type, size) _Static_assert(sizeof(type) == (size), #type)
+#endif
+MANTELORRIS_HAS_SIZE(struct mantelorris_open_call, 12);
+MANTELORRIS_HAS_SIZE(struct mantelorris_client, 204);
+MANTELORRIS_HAS_SIZE(struct mantelorris_start_reply, 208);
+MANTELORRIS_HAS_SIZE(struct mantelorris_send_reply, 36);
+MANTELORRIS_HAS_SIZE(struct mantelorris_receive_reply, 24);
+MANTELORRIS_HAS_SIZE(struct mantelorris_lease, 8);
+MANTELORRIS_HAS_SIZE(struct mantelorris_lease_manager, 264);
+MANTELORRIS_HAS_SIZE(struct mantelorris_lease_reply, 24);
+#undef MANTELORRIS_HAS_SIZE
 
 #ifdef __cplusplus
 }

@@ -1,14 +1,15 @@
 #!/usr/bin/env bash
-# tools/staticlib.sh NAME..: the static libraries of these crates, target/staticlib/libNAME.a. `rt staticlib` checks its crate anew,
-# as a static library and not as an rlib; here one that was made of the crate as it is now is kept. One at a time: two runs of rt
-# in one repository disturb each other.
+# tools/staticlib.sh [NAME..]: the static libraries of these crates, target/staticlib/libNAME.a; without names, of all that have one.
+# `rt staticlib` checks its crate anew, as a static library and not as an rlib; here one that was made of the crate as it is now is
+# kept. One at a time: two runs of rt in one repository disturb each other.
 set -eu
+[ $# != 0 ] || set -- client_c kernel
 cd "$(dirname "$0")/.."
-rt check "$@"
+tools/progress.py rt check "$@"
 for name in "$@"; do
   made=target/staticlib/$name.stamp
   if [ -f "target/staticlib/lib$name.a" ] && cmp -s "target/stamp/$name" "$made"; then continue; fi
   rm -f "$made"
-  rt staticlib "$name"
+  tools/progress.py rt staticlib "$name"
   cp "target/stamp/$name" "$made"
 done

@@ -61,6 +61,7 @@ static void request(const char *what, struct mantelorris_send_reply r, uint8_t o
     expect(what, r.packet[2], point);
     expect(what, r.packet[3], 0);
     expect(what, at(r.packet + 4), client);
+    expect(what, r.call, call);
     expect(what, at(r.packet + 8), call);
     expect(what, at(r.packet + 12), done);
     expect(what, at(r.packet + 16), lease);
@@ -70,6 +71,7 @@ static void request(const char *what, struct mantelorris_send_reply r, uint8_t o
 static void send_refused(const char *what, struct mantelorris_send_reply r, uint32_t number) {
     uint8_t none[24] = {0};
     expect(what, r.number, number);
+    expect(what, r.call, 0);
     expect(what, r.length, 0);
     expect(what, memcmp(r.packet, none, 24), 0);
 }
@@ -161,55 +163,68 @@ static void clients(void) {
     send_refused("issue: no number left", mantelorris_issue(&d, 0, 0, 0), 16);
 }
 
-static struct mantelorris_lease_manager told(const char *what, struct mantelorris_lease_reply r, uint8_t kind, uint32_t client, uint32_t time) {
+static void told(const char *what, struct mantelorris_lease_reply r, uint8_t kind, uint32_t client, uint32_t time) {
     expect(what, r.number, 0);
+    expect(what, r.kind, kind);
     expect(what, r.length, 12);
     expect(what, at(r.packet), kind);
     expect(what, at(r.packet + 4), client);
     expect(what, at(r.packet + 8), time);
-    return r.manager;
 }
 
-static void lease_refused(const char *what, struct mantelorris_lease_manager before, struct mantelorris_lease_reply r, uint32_t number) {
+/* m is the manager that the call was lent, before what it was then */
+static void lease_refused(const char *what, const struct mantelorris_lease_manager *m, struct mantelorris_lease_manager before,
+                          struct mantelorris_lease_reply r, uint32_t number) {
     uint8_t none[12] = {0};
     expect(what, r.number, number);
+    expect(what, r.kind, 0);
     expect(what, r.length, 0);
     expect(what, memcmp(r.packet, none, 12), 0);
-    expect(what, memcmp(&before, &r.manager, sizeof before), 0);
+    expect(what, memcmp(&before, m, sizeof before), 0);
 }
 
 static void leases(void) {
-    struct mantelorris_lease_manager m = mantelorris_leases();
+    struct mantelorris_lease_manager m = mantelorris_leases(), before;
     expect("leases: time", m.time, 0);
     expect("leases: issued", m.issued, 0);
 
-    lease_refused("open: span 0", m, mantelorris_open(m, 5, 0), 1);
-    lease_refused("open: span 86401", m, mantelorris_open(m, 5, 86401), 1);
-    m = told("open 1", mantelorris_open(m, 10, 100), 6, 1, 110);
-    m = told("open 2: the office's time", mantelorris_open(m, 5, 86400), 6, 2, 86410);
+    before = m;
+    lease_refused("open: span 0", &m, before, mantelorris_open(&m, 5, 0), 1);
+    before = m;
+    lease_refused("open: span 86401", &m, before, mantelorris_open(&m, 5, 86401), 1);
+    told("open 1", mantelorris_open(&m, 10, 100), 6, 1, 110);
+    told("open 2: the office's time", mantelorris_open(&m, 5, 86400), 6, 2, 86410);
     expect("time", m.time, 10);
-    m = told("renew 1: not greater", mantelorris_renew(m, 1, 20, 1), 6, 1, 110);
-    m = told("renew 1", mantelorris_renew(m, 1, 109, 100), 6, 1, 209);
-    lease_refused("renew: never issued", m, mantelorris_renew(m, 3, 300, 1), 17);
-    lease_refused("renew: client 0", m, mantelorris_renew(m, 0, 300, 1), 17);
-    lease_refused("query: never issued", m, mantelorris_query(m, 3, 300), 17);
-    lease_refused("query: client 0", m, mantelorris_query(m, 0, 300), 17);
-    m = told("query 1: running", mantelorris_query(m, 1, 208), 6, 1, 209);
-    lease_refused("renew 1: ended, time as before", m, mantelorris_renew(m, 1, 209, 1), 17);
+    told("renew 1: not greater", mantelorris_renew(&m, 1, 20, 1), 6, 1, 110);
+    told("renew 1", mantelorris_renew(&m, 1, 109, 100), 6, 1, 209);
+    before = m;
+    lease_refused("renew: never issued", &m, before, mantelorris_renew(&m, 3, 300, 1), 17);
+    before = m;
+    lease_refused("renew: client 0", &m, before, mantelorris_renew(&m, 0, 300, 1), 17);
+    before = m;
+    lease_refused("query: never issued", &m, before, mantelorris_query(&m, 3, 300), 17);
+    before = m;
+    lease_refused("query: client 0", &m, before, mantelorris_query(&m, 0, 300), 17);
+    told("query 1: running", mantelorris_query(&m, 1, 208), 6, 1, 209);
+    before = m;
+    lease_refused("renew 1: ended, time as before", &m, before, mantelorris_renew(&m, 1, 209, 1), 17);
     expect("time", m.time, 208);
-    m = told("query 1: ended", mantelorris_query(m, 1, 209), 5, 1, 209);
-    m = told("query 1: still", mantelorris_query(m, 1, 0), 5, 1, 209);
-    lease_refused("open: end past 32 bits", m, mantelorris_open(m, 4294967295u, 1), 16);
-    m = told("open: the last end", mantelorris_open(m, 4294967294u, 1), 6, 3, 4294967295u);
+    told("query 1: ended", mantelorris_query(&m, 1, 209), 5, 1, 209);
+    told("query 1: still", mantelorris_query(&m, 1, 0), 5, 1, 209);
+    before = m;
+    lease_refused("open: end past 32 bits", &m, before, mantelorris_open(&m, 4294967295u, 1), 16);
+    told("open: the last end", mantelorris_open(&m, 4294967294u, 1), 6, 3, 4294967295u);
 
     m = mantelorris_leases();
     for (uint32_t x = 1; x <= 32; x++)
-        m = told("open 1 to 32", mantelorris_open(m, 0, x), 6, x, x);
-    lease_refused("open: full", m, mantelorris_open(m, 0, 1), 18);
-    m = told("open 33: a place is free", mantelorris_open(m, 1, 7), 6, 33, 8);
-    m = told("query 33", mantelorris_query(m, 33, 1), 6, 33, 8);
+        told("open 1 to 32", mantelorris_open(&m, 0, x), 6, x, x);
+    before = m;
+    lease_refused("open: full", &m, before, mantelorris_open(&m, 0, 1), 18);
+    told("open 33: a place is free", mantelorris_open(&m, 1, 7), 6, 33, 8);
+    told("query 33", mantelorris_query(&m, 33, 1), 6, 33, 8);
     m.issued = 4294967295u;
-    lease_refused("open: no number left", m, mantelorris_open(m, 40, 1), 16);
+    before = m;
+    lease_refused("open: no number left", &m, before, mantelorris_open(&m, 40, 1), 16);
 }
 
 int main(void) {

@@ -211,9 +211,8 @@ static struct mantelorris_lease_manager manager;
 static uint8_t counted[2 * STEPS + 1]; /* how often each value was a result */
 
 static void started(struct desk *d) {
-    struct mantelorris_lease_reply lease = mantelorris_open(manager, now, LEASE);
+    struct mantelorris_lease_reply lease = mantelorris_open(&manager, now, LEASE);
     expect("open", lease.number, 0);
-    manager = lease.manager;
     struct mantelorris_start_reply start = mantelorris_start(lease.packet, lease.length);
     expect("start", start.number, 0);
     d->client = start.client;
@@ -221,9 +220,8 @@ static void started(struct desk *d) {
 }
 
 static void renewed(struct desk *d) {
-    struct mantelorris_lease_reply lease = mantelorris_renew(manager, d->client.client, now, LEASE);
+    struct mantelorris_lease_reply lease = mantelorris_renew(&manager, d->client.client, now, LEASE);
     expect("renew", lease.number, 0);
-    manager = lease.manager;
     expect("receive: a grant", mantelorris_receive(&d->client, lease.packet, lease.length).number, 0);
 }
 
@@ -381,10 +379,9 @@ static void lease_end(void) {
     renewed(&desks[0]);
     now += LEASE / 2 + 1;
     renewed(&desks[0]);
-    struct mantelorris_lease_reply reply = mantelorris_query(manager, gone, now);
+    struct mantelorris_lease_reply reply = mantelorris_query(&manager, gone, now);
     expect("query", reply.number, 0);
-    expect("query: a notice", reply.packet[0], 5);
-    manager = reply.manager;
+    expect("query: a notice", reply.kind, MANTELORRIS_KIND_NOTICE);
     for (int i = 0; i < 200; i++) {
         post((int)below(2), reply.packet, reply.length);
         second();
@@ -483,6 +480,7 @@ static void refusals(void) {
 }
 
 int main(void) {
+    expect("version", mantelorris_version(), MANTELORRIS_VERSION);
     make_plan();
     found(&servers[0], 0);
     found(&servers[1], 1);

@@ -1,0 +1,29 @@
+#!/usr/bin/env bash
+# make demo: a host with a file as its card, a desk, and a line between them that loses, repeats and delays; the host is killed and started again
+# while commands are under way. Prints what was sent, lost, repeated and carried out.
+set -eu
+cd "$(dirname "$0")/.."
+commands=${COMMANDS:-600}
+port=${PORT:-$((21000 + $$ % 20000))}
+work=$(mktemp -d)
+bg=()
+trap 'kill -9 "${bg[@]}" 2>/dev/null || true; rm -rf "$work"' EXIT
+for p in host desk relay; do cc -std=gnu11 -O2 -Wall -Wextra -Idist examples/$p.c dist/libmantelorris.a -o "$work/$p"; done
+"$work/relay" "$port" $((port + 1)) >"$work/line" & relay=$!
+bg+=("$relay")
+"$work/desk" "$port" "$commands" >"$work/desk.out" & desk=$!
+bg+=("$desk")
+starts=0
+while kill -0 "$desk" 2>/dev/null; do
+  "$work/host" "$work/card" $((port + 1)) & host=$!
+  bg+=("$host")
+  starts=$((starts + 1))
+  sleep 0.3
+  kill -9 "$host" 2>/dev/null || { echo "the host has ended by itself"; exit 1; }
+  wait "$host" 2>/dev/null || true
+done
+wait "$desk"
+kill "$relay"
+wait "$relay" || true
+cat "$work/desk.out" "$work/line"
+echo "host: killed with SIGKILL $starts times; the card now: $("$work/host" "$work/card")"

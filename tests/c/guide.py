@@ -1,0 +1,113 @@
+#!/usr/bin/env python3
+"""guide.py: what docs/GUIDE.md and README.md state in numbers, bytes and code, held to the archive. The last line is 'N passed, M failed'.
+  - the stack of each call (tests/c/stack.c) against the guide's table
+  - the worked example of a card that is not cut (tests/c/stale.c): the bytes in the guide are those of the run
+  - the examples in bytes of docs/FORMATS.md (tests/c/bytes.c)
+  - the archive's code size and undefined symbols; the sizes of slices and structs; how many commands a log holds
+  - the example in README.md compiles, and prints what README.md says
+MANTELORRIS_DIST names a folder with archive and headers; without it `make lib` makes dist/."""
+import os, re, shutil, subprocess, sys, tempfile
+
+os.chdir(os.path.join(os.path.dirname(os.path.abspath(__file__)), '..', '..'))
+DIST = os.environ.get('MANTELORRIS_DIST') or 'dist'
+GUIDE, README = open('docs/GUIDE.md', encoding='utf-8').read(), open('README.md', encoding='utf-8').read()
+WORK = tempfile.mkdtemp(prefix='mantelorris-guide-')
+passed, failed = 0, 0
+
+
+def count(what, wrong):
+    global passed, failed
+    passed, failed = passed + (not wrong), failed + bool(wrong)
+    print('FAILED: %s: %s' % (what, wrong) if wrong else 'ok: ' + what)
+
+
+def table(head):
+    """the rows of the guide's table with this head"""
+    text = GUIDE[GUIDE.index('| %s |' % head):].split('\n\n')[0]
+    return [[c.strip() for c in line.strip('| ').split('|')] for line in text.split('\n')[2:] if line.startswith('|')]
+
+
+def built(source, name, more=()):
+    out = os.path.join(WORK, name)
+    subprocess.run(['cc', '-std=gnu11', '-O1', '-Wall', '-Wextra', '-Werror', *more, '-I' + DIST, source, DIST + '/libmantelorris.a', '-o', out], check=True)
+    return out
+
+
+def ran(program):
+    done = subprocess.run([program], capture_output=True, text=True)
+    return done.returncode, done.stdout
+
+
+def stack():
+    bounds = {name: int(n) for name, n in table('call | bytes')}
+    code, said = ran(built('tests/c/stack.c', 'stack', ['-DBOUND_%s=%d' % (k.upper(), v) for k, v in bounds.items()]))
+    print(said, end='')
+    count('the stack of %d calls is within the table' % len(bounds), 'exit %d' % code if code else '')
+
+
+def stale():
+    code, said = ran(built('tests/c/stale.c', 'stale'))
+    print(said, end='')
+    missing = [line for line in said.split('\n') if (', torn:' in line or ', not cut,' in line) and line not in GUIDE]
+    ends = re.findall(r'gate at (\d+)', said)
+    stated = re.findall(r'gate stands at (\d+)', GUIDE)
+    count('the worked example of the stale bytes', 'exit %d' % code if code else missing or (ends != stated and '%s and %s' % (ends, stated)))
+
+
+def examples():
+    code, said = ran(built('tests/c/bytes.c', 'bytes'))
+    formats = open('docs/FORMATS.md', encoding='utf-8').read()
+    lines = said.strip().split('\n')
+    count('%d examples in bytes' % len(lines), 'exit %d' % code if code else [line for line in lines if '    %s\n' % line not in formats])
+
+
+def sizes():
+    lines = subprocess.run(['size', DIST + '/libmantelorris.a'], capture_output=True, text=True, check=True).stdout.split('\n')[1:]
+    parts = [[int(n) for n in line.split()[:3]] for line in lines if line.strip()]
+    code, rest = sum(p[0] for p in parts), sum(p[1] + p[2] for p in parts)
+    most = int(re.search(r'at most ([\d,]+) bytes in the whole archive', GUIDE).group(1).replace(',', ''))
+    print('code %d bytes' % code)
+    count('code of at most %d bytes, no data' % most, code > most and code or rest)
+    nm = subprocess.run(['nm', DIST + '/libmantelorris.a'], capture_output=True, text=True, check=True).stdout
+    missing = sorted(set(re.findall(r'^ +U (\S+)', nm, flags=re.M)))
+    count('the archive needs memcpy and memset alone', missing != ['memcpy', 'memset'] and missing)
+
+
+def memory():
+    names = {'state, for each server': 'MANTELORRIS_STATE_SIZE', 'plan': 'MANTELORRIS_PLAN_SIZE', 'output of request and fetch': 'MANTELORRIS_REPLY_SIZE',
+             'output of receipt': 'MANTELORRIS_RECEIPT_SIZE', 'output of image': 'MANTELORRIS_IMAGE_SIZE', 'client struct': 'sizeof(struct mantelorris_client)',
+             'lease manager struct': 'sizeof(struct mantelorris_lease_manager)'}
+    rows = table('what | bytes')
+    lines = ['_Static_assert(%s == %s, "%s");' % (names[what], n, what) for what, n in rows]
+    lines += ['_Static_assert(_Alignof(struct mantelorris_client) == _Alignof(uint32_t) && _Alignof(struct mantelorris_lease_manager) == _Alignof(uint32_t), "");']
+    path = os.path.join(WORK, 'memory.c')
+    open(path, 'w').write('#include "mantelorris_client.h"\n' + '\n'.join(lines) + '\nint main(void) { return 0; }\n')
+    count('%d sizes of slices and structs' % len(rows), ran(built(path, 'memory'))[0] or len(rows) != len(names))
+    wrong = [row for row in table('log space | commands') if (int(row[0]) - 8) // 28 != int(row[1])]
+    count('how many commands a log holds', wrong)
+    reserve = int(re.search(r'with ([\d,]+) bytes left you can still give away', GUIDE).group(1).replace(',', ''))
+    header = open(DIST + '/mantelorris.h', encoding='utf-8').read()
+    give, release, points = [int(re.search(r'#define MANTELORRIS_%s (\d+)' % n, header).group(1)) for n in ('LOG_GIVE', 'LOG_RELEASE', 'POINTS')]
+    count('the reserve for giving all points away', reserve != points * (give + release) and reserve)
+
+
+def readme():
+    source = re.search(r'```c\n(.*?)```', README, flags=re.S).group(1)
+    path = os.path.join(WORK, 'readme.c')
+    open(path, 'w').write(source)
+    code, said = ran(built(path, 'readme'))
+    shown = re.search(r'```text\n(.*?)```', README, flags=re.S).group(1)
+    count('the example of README.md, %d lines, prints what it says' % source.count('\n'), code or (said != shown and said))
+
+
+def main():
+    if DIST == 'dist':
+        subprocess.run(['tools/lib.sh'], check=True, stdout=subprocess.DEVNULL)
+    for part in (stack, stale, examples, sizes, memory, readme):
+        part()
+    print('%d passed, %d failed' % (passed, failed))
+    shutil.rmtree(WORK)
+    sys.exit(1 if failed else 0)
+
+
+main()

@@ -1,0 +1,227 @@
+/* The stack that each call takes at the most: the call runs on a stack of its own that was painted before, and what lost its paint is counted, less what an empty
+ * call takes. Each call is run on small and on full tables, answered and refused. Prints a line for each and fails where one is over its bound, which is what
+ * docs/GUIDE.md states. */
+#define _GNU_SOURCE
+#include "mantelorris.h"
+#include "mantelorris_client.h"
+#include <stdio.h>
+#include <stdlib.h>
+#include <string.h>
+#include <ucontext.h>
+
+enum { STACK = 1 << 18, PAINT = 0xA5, LOG = 1 << 16, CLIENTS = 32, CALLS = 16 };
+
+static uint8_t stack[STACK], plan[MANTELORRIS_PLAN_SIZE];
+static uint8_t state[2][MANTELORRIS_STATE_SIZE], logs[2][LOG], out[MANTELORRIS_IMAGE_SIZE], image[MANTELORRIS_IMAGE_SIZE];
+static size_t image_length;
+static uint8_t packet[24];
+static size_t packet_length;
+static uint64_t answer;
+static uint32_t point, other, client_number, call_number, at_server;
+static uint64_t mark;
+static struct mantelorris_client client;
+static struct mantelorris_lease_manager manager;
+
+static ucontext_t here, there;
+
+/* ---- the calls, each without arguments */
+
+static uint8_t *st(void) { return state[at_server]; }
+static uint8_t *lg(void) { return logs[at_server]; }
+static void nothing(void) { answer = 0; }
+static void found(void) { answer = mantelorris_found(st(), sizeof state[0], lg(), LOG, plan, sizeof plan, at_server); }
+static void request(void) { answer = mantelorris_request(st(), sizeof state[0], lg(), LOG, packet, packet_length, out, sizeof out); }
+static void fetch(void) { answer = mantelorris_fetch(st(), sizeof state[0], lg(), LOG, client_number, call_number, out, sizeof out); }
+static void sync_log(void) { answer = mantelorris_sync(st(), sizeof state[0], lg(), LOG, mark); }
+static void notice(void) { answer = mantelorris_notice(st(), sizeof state[0], lg(), LOG, packet, packet_length); }
+static void give(void) { answer = mantelorris_give(st(), sizeof state[0], lg(), LOG, point, other); }
+static void make_image(void) { answer = mantelorris_image(st(), sizeof state[0], lg(), LOG, point, out, sizeof out); }
+static void take(void) { answer = mantelorris_take(st(), sizeof state[0], lg(), LOG, image, image_length); }
+static void receipt(void) { answer = mantelorris_receipt(st(), sizeof state[0], lg(), LOG, point, out, sizeof out); }
+static void release(void) { answer = mantelorris_release(st(), sizeof state[0], lg(), LOG, packet, packet_length); }
+static void recover(void) { answer = mantelorris_recover(st(), sizeof state[0], lg(), (size_t)mark, plan, sizeof plan); }
+static void start(void) {
+    struct mantelorris_start_reply r = mantelorris_start(packet, packet_length);
+    client = r.client;
+    answer = r.number;
+}
+static void keep(struct mantelorris_send_reply r) {
+    answer = r.number;
+    packet_length = r.length;
+    if (r.number == 0) memcpy(packet, r.packet, r.length);
+}
+static void issue(void) { keep(mantelorris_issue(&client, MANTELORRIS_SET, point, 7)); }
+static void resend(void) { keep(mantelorris_resend(&client, call_number)); }
+static void receive(void) { answer = mantelorris_receive(&client, packet, packet_length).number; }
+static void told(struct mantelorris_lease_reply r) {
+    answer = r.number;
+    packet_length = r.length;
+    if (r.number == 0) memcpy(packet, r.packet, r.length);
+}
+static void leases(void) { manager = mantelorris_leases(); answer = 0; }
+static void open_lease(void) { told(mantelorris_open(&manager, 1, 600)); }
+static void renew(void) { told(mantelorris_renew(&manager, client_number, 2, 600)); }
+static void query(void) { told(mantelorris_query(&manager, client_number, (uint32_t)mark)); }
+
+/* ---- measured */
+
+static struct row {
+    const char *name;
+    void (*call)(void);
+    size_t bound, most;
+    unsigned times;
+} rows[] = {
+#define ROW(name, call, bound) {name, call, bound, 0, 0}
+    ROW("found", found, BOUND_FOUND), ROW("request", request, BOUND_REQUEST), ROW("fetch", fetch, BOUND_FETCH), ROW("sync", sync_log, BOUND_SYNC),
+    ROW("notice", notice, BOUND_NOTICE), ROW("give", give, BOUND_GIVE), ROW("image", make_image, BOUND_IMAGE), ROW("take", take, BOUND_TAKE),
+    ROW("receipt", receipt, BOUND_RECEIPT), ROW("release", release, BOUND_RELEASE), ROW("recover", recover, BOUND_RECOVER),
+    ROW("start", start, BOUND_START), ROW("issue", issue, BOUND_ISSUE), ROW("resend", resend, BOUND_RESEND), ROW("receive", receive, BOUND_RECEIVE),
+    ROW("leases", leases, BOUND_LEASES), ROW("open", open_lease, BOUND_OPEN), ROW("renew", renew, BOUND_RENEW), ROW("query", query, BOUND_QUERY),
+};
+enum { ROWS = sizeof rows / sizeof *rows };
+
+static size_t run(void (*call)(void)) {
+    memset(stack, PAINT, STACK);
+    getcontext(&there);
+    there.uc_stack.ss_sp = stack;
+    there.uc_stack.ss_size = STACK;
+    there.uc_link = &here;
+    makecontext(&there, call, 0);
+    swapcontext(&here, &there);
+    size_t clean = 0;
+    while (clean < STACK && stack[clean] == PAINT) clean++;
+    return STACK - clean;
+}
+
+static void expect(void (*call)(void), uint32_t number) {
+    static size_t empty;
+    if (empty == 0) empty = run(nothing);
+    size_t took = run(call) - empty;
+    for (size_t i = 0; i < ROWS; i++) {
+        if (rows[i].call != call) continue;
+        rows[i].times++;
+        if (took > rows[i].most) rows[i].most = took;
+        if (mantelorris_number(answer) != number) {
+            printf("%s: number %u, and %u is due\n", rows[i].name, mantelorris_number(answer), number);
+            exit(1);
+        }
+    }
+}
+
+static void put32(uint8_t *p, uint32_t v) {
+    for (int i = 0; i < 4; i++) p[i] = (uint8_t)(v >> 8 * i);
+}
+
+static void save(void) {
+    mark = mantelorris_length(st());
+    expect(sync_log, 0);
+}
+
+/* 32 clients with 16 open calls each on point 5: 512 completion records at server 0 */
+static void fill(void) {
+    expect(leases, 0);
+    point = 5;
+    for (client_number = 1; client_number <= CLIENTS; client_number++) {
+        expect(open_lease, 0);
+        expect(start, 0);
+        for (call_number = 1; call_number <= CALLS; call_number++) {
+            expect(issue, 0);
+            expect(request, 0);
+            if (call_number == 1 && client_number == 1) expect(request, MANTELORRIS_NOT_SYNCED);
+        }
+        expect(issue, MANTELORRIS_WINDOW_FULL);
+    }
+    expect(open_lease, MANTELORRIS_LEASES_FULL);
+}
+
+static void serve(void) {
+    fill();
+    save();
+    client_number = CLIENTS;
+    call_number = CALLS;
+    expect(fetch, 0);
+    expect(resend, 0);
+    expect(request, 0); /* a repeat: answered */
+    packet[1] = MANTELORRIS_STEP;
+    expect(request, MANTELORRIS_OTHER_COMMAND);
+    expect(fetch, 0);
+    memcpy(packet, out, MANTELORRIS_REPLY_SIZE);
+    packet_length = MANTELORRIS_REPLY_SIZE;
+    expect(receive, 0);
+    expect(receive, MANTELORRIS_UNKNOWN);
+    expect(resend, MANTELORRIS_UNKNOWN);
+    expect(renew, 0);
+    expect(receive, 0);
+    expect(receive, 0);
+    call_number = 99;
+    expect(fetch, MANTELORRIS_UNKNOWN);
+}
+
+static void move(void) {
+    other = 1;
+    expect(make_image, MANTELORRIS_NOT_HELD);
+    expect(give, 0);
+    expect(make_image, MANTELORRIS_NOT_SYNCED);
+    save();
+    expect(make_image, 0);
+    image_length = mantelorris_written(answer);
+    memcpy(image, out, image_length);
+    if (image_length != MANTELORRIS_IMAGE_SIZE) exit(2);
+    at_server = 1;
+    expect(found, 0);
+    image[4] ^= 64;
+    expect(take, MANTELORRIS_MALFORMED);
+    image[4] ^= 64;
+    expect(take, 0);
+    expect(take, MANTELORRIS_OLD_MOVE);
+    expect(receipt, MANTELORRIS_NOT_SYNCED);
+    save();
+    expect(receipt, 0);
+    memcpy(packet, out, MANTELORRIS_RECEIPT_SIZE);
+    packet_length = MANTELORRIS_RECEIPT_SIZE;
+    mark = mantelorris_length(st());
+    expect(recover, 0);
+    at_server = 0;
+}
+
+static void finish(void) {
+    mark = mantelorris_length(st());
+    expect(recover, 0);
+    mark--;
+    expect(recover, 0);
+    lg()[8] = 9;
+    expect(recover, MANTELORRIS_BAD_LOG);
+    lg()[8] = 1;
+    mark++;
+    expect(recover, 0);
+    expect(release, 0);
+    expect(release, MANTELORRIS_NOT_HELD);
+    client_number = 7;
+    mark = 4000;
+    expect(query, 0);
+    expect(notice, 0);
+    expect(notice, MANTELORRIS_UNKNOWN);
+    packet[0] = 0;
+    expect(request, MANTELORRIS_MALFORMED);
+    expect(start, MANTELORRIS_MALFORMED);
+    expect(renew, MANTELORRIS_UNKNOWN);
+    state[0][0] ^= 1;
+    expect(request, MANTELORRIS_NOT_SOUND);
+}
+
+int main(void) {
+    for (int p = 0; p < MANTELORRIS_POINTS; p++) {
+        put32(plan + 16 * p, (uint32_t)-1000);
+        put32(plan + 16 * p + 4, 1000);
+    }
+    expect(found, 0);
+    serve();
+    move();
+    finish();
+    int bad = 0;
+    for (size_t i = 0; i < ROWS; i++) {
+        printf("%-8s %6zu bytes at the most in %u calls; the guide says %zu\n", rows[i].name, rows[i].most, rows[i].times, rows[i].bound);
+        if (rows[i].most > rows[i].bound || rows[i].times == 0) bad = 1;
+    }
+    return bad;
+}
