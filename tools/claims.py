@@ -1,28 +1,95 @@
 #!/usr/bin/env python3
-"""claims.py: every `Module.name` that docs/CLAIMS.md cites is declared in a module of that name below crates/*/specs or crates/*/proofs,
-and every row has a carrier. Prints what is missing and exits non-zero."""
+"""claims.py: docs/REFERENCE.md has numbered sentences (- **R1** ..), docs/CLAIMS.md a row for each (| R1 | .. | carriers |). Holds
+  - sentences and rows to the same numbers, from 1 on, each once, in order
+  - every row to at least one carrier, and every carrier to something that is there: `Module.name` declared in a module of that name below crates/*/specs or
+    crates/*/proofs, or a field of a type; fn `name` and const `NAME` in crates/*/src; must-fail edit `label` in crates/*/must-fail; crate NAME; paths
+  - every link of README.md and docs/*.md to a file, and to a heading where it names one.
+Prints what is missing and exits non-zero."""
 import glob, os, re, sys
 
 os.chdir(os.path.join(os.path.dirname(os.path.abspath(__file__)), '..'))
+read = lambda path: open(path, encoding='utf-8').read()
+bad = []
+
 declared = {}
 for path in glob.glob('crates/*/specs/*.antt') + glob.glob('crates/*/proofs/*.antt'):
-    module, text = os.path.basename(path)[:-5], open(path, encoding='utf-8').read()
+    module, text = os.path.basename(path)[:-5], read(path)
     names = set(re.findall(r'^\s*(?:(?:unfoldable|abbrev|pub|data|record|ruleset) )*(\S+)(?: \{[^}]*\})?(?: \([^)]*\))* :', text, flags=re.M))
     names |= set(re.findall(r'^\s*(?:pub )?(?:data|record) (\S+)', text, flags=re.M))
     declared.setdefault(module, set()).update(names)
-types = {}
-for path in glob.glob('crates/*/src/*.rt'):
-    text = open(path, encoding='utf-8').read()
+code = [read(path) for path in glob.glob('crates/*/src/*.rt')]
+functions, constants = set(), set()
+for text in code:
+    functions |= set(re.findall(r'\bfn (\w+)', text))
+    constants |= set(re.findall(r'\bconst (\w+)', text))
     for m in re.finditer(r'pub (?:struct|enum) (\w+) \{(.*?)\n\}', text, flags=re.S):
-        types.setdefault(m.group(1), set()).update(re.findall(r'(?:pub )?(\w+)[:(,]', m.group(2)))
-rows, bad = 0, []
-for number, line in enumerate(open('docs/CLAIMS.md', encoding='utf-8'), 1):
-    if re.match(r'\| \d+ \|', line):
-        rows += 1
-        if not line.rstrip().rstrip('|').split('|')[-1].strip():
-            bad.append('%d: a sentence without a carrier' % number)
-    for module, name in re.findall(r'`([A-Z]\w*)\.([^\s`(]+)`', line):
-        if name not in declared.get(module, ()) and name not in types.get(module, ()):
-            bad.append('%d: %s.%s is not declared' % (number, module, name))
-print('\n'.join(bad) if bad else '%d sentences, every name declared' % rows)
+        declared.setdefault(m.group(1), set()).update(re.findall(r'(?:pub )?(\w+)[:(,]', m.group(2)))
+edits = {os.path.basename(path)[:-5] for path in glob.glob('crates/*/must-fail/*.edit')}
+
+
+def carriers(part, where):
+    """the carriers that one part of a row names; what is not there goes to bad"""
+    n = 0
+    for name in re.findall(r'`([^`]+)`', part):
+        n += 1
+        if part.strip().startswith('must-fail edit'):
+            there = name in edits
+        elif re.search(r'\bfn `%s`' % re.escape(name), part):
+            there = name in functions
+        elif re.search(r'\bconst `%s`' % re.escape(name), part):
+            there = name in constants
+        else:
+            module, _, rest = name.partition('.')
+            there = bool(rest) and rest in declared.get(module, ())
+        if not there:
+            bad.append('%s: %s is not there' % (where, name))
+    for path in re.findall(r'(?<![\w/])((?:crates|docs|tests|tools|include|examples|second|compare)/[\w./*-]*)', part):
+        n += 1
+        if not glob.glob(path.rstrip('.')):
+            bad.append('%s: no file %s' % (where, path))
+    for name in re.findall(r'\bcrate (\w+)', part):
+        if not os.path.isdir('crates/' + name):
+            bad.append('%s: no crate %s' % (where, name))
+    return n
+
+
+def in_order(what, numbers):
+    if numbers != list(range(1, len(numbers) + 1)):
+        bad.append('%s: the numbers are not R1 to R%d, each once and in order' % (what, len(numbers)))
+
+
+def anchors(path):
+    heads = re.findall(r'^#+ (.*)$', read(path), flags=re.M)
+    return {re.sub(r'[^\w\- ]', '', h.lower()).strip().replace(' ', '-') for h in heads}
+
+
+sentences = [int(n) for n in re.findall(r'^- \*\*R(\d+)\*\* \S', read('docs/REFERENCE.md'), flags=re.M)]
+rows = re.findall(r'^\| R(\d+) \|([^|]*)\|([^|]*)\|$', read('docs/CLAIMS.md'), flags=re.M)
+in_order('docs/REFERENCE.md', sentences)
+in_order('docs/CLAIMS.md', [int(n) for n, _, _ in rows])
+if len(sentences) != len(rows):
+    bad.append('%d sentences and %d rows' % (len(sentences), len(rows)))
+for path in ['README.md'] + sorted(glob.glob('docs/*.md')):
+    for n in re.findall(r'\bR(\d+)\b', read(path)):
+        if int(n) not in sentences:
+            bad.append('%s: R%s is cited and not there' % (path, n))
+total = 0
+for n, paper, carried in rows:
+    found = sum(carriers(part, 'R' + n) for part in carried.split(';'))
+    total += found
+    if not found:
+        bad.append('R%s: a sentence without a carrier' % n)
+    if not paper.strip():
+        bad.append('R%s: no section is named' % n)
+for path in ['README.md'] + sorted(glob.glob('docs/*.md')):
+    for link in re.findall(r'\]\(([^)\s]+)\)', read(path)):
+        file, _, anchor = link.partition('#')
+        target = os.path.normpath(os.path.join(os.path.dirname(path), file)) if file else path
+        if ':' in link:
+            continue
+        if not os.path.exists(target):
+            bad.append('%s: a link to %s, which is not there' % (path, link))
+        elif anchor and anchor not in anchors(target):
+            bad.append('%s: no heading for %s' % (path, link))
+print('\n'.join(bad) if bad else '%d sentences, each with a row; %d carriers, each there' % (len(sentences), total))
 sys.exit(1 if bad else 0)

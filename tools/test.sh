@@ -1,6 +1,7 @@
 #!/usr/bin/env bash
 # The whole check: the kit's identity, the format, every proof and must-fail edit (rt ci), the tests of the second program,
-# the comparison of both, the C programs; that documents cite what is there, and that entry points have no `requires`.
+# the comparison of both, the simulator's too, the C programs, `make run`; that documents cite what is there, that stored pictures are what is
+# drawn, and that entry points have no `requires`.
 # Prints seconds per part and per crate; the last line is 'N passed, M failed'; any failure exits non-zero.
 set -u
 cd "$(dirname "$0")/.." || exit 2
@@ -36,15 +37,20 @@ same_kit() {
 part kit same_kit; count $?
 part format rt fmt --check; count $?
 part yard-cases tools/yard_cases.py --check; count $?
+part pictures tools/picture.py --check; count $?
+part guide-pictures tools/guide_pictures.py --check; count $?
+part progress tests/progress.sh; count $?
 part claims tools/claims.py; count $?
 part entry-points tools/entry_points.py; count $?
+part callers tools/callers.py; count $?
+part house tools/house.py --check; count $?
 
-# every proof and must-fail edit: the lines of each crate and edit are shown as they come
+# every proof and must-fail edit, each shown as it comes
 echo "== proofs"
 start=$SECONDS
-rt ci 2>&1 | tee "$logs/proofs" | grep --line-buffered -E '^rt: ' | sed -u 's/^/   /'
-proofs=${PIPESTATUS[0]}
-if [ "$proofs" = 0 ]; then echo "   ok, $((SECONDS - start)) s"; else grep -vE ': proved$' "$logs/proofs"; echo "   FAILED: proofs, $((SECONDS - start)) s"; fi
+PROGRESS_LOG=$logs/proofs tools/progress.py rt ci
+proofs=$?
+if [ "$proofs" = 0 ]; then echo "   ok, $((SECONDS - start)) s"; else echo "   FAILED: proofs, $((SECONDS - start)) s"; fi
 line=$(grep -E '^[0-9]+ passed, [0-9]+ failed$' "$logs/proofs" | tail -n 1)
 if [ -n "$line" ]; then
   passed=$((passed + ${line%% passed*}))
@@ -53,11 +59,11 @@ if [ -n "$line" ]; then
 fi
 [ "$proofs" = 0 ] || { [ -n "$line" ] && [ "${n%% failed*}" != 0 ]; } || failed=$((failed + 1))
 
-# tests PACKAGE WORDS..: the tests of a cargo package, each counted
+# tests PACKAGE WORDS..: the tests of a cargo package, each counted; one that hangs fails
 tests() {
   local package=$1 status ran bad
   shift
-  part "$package" cargo test --release --quiet --offline --manifest-path "$package/Cargo.toml" "$@"
+  part "$package" timeout 600 cargo test --release --quiet --offline --manifest-path "$package/Cargo.toml" "$@"
   status=$?
   ran=$(grep -oE '[0-9]+ passed' "$logs/$package" | awk '{ s += $1 } END { print s + 0 }')
   bad=$(grep -oE '[0-9]+ failed' "$logs/$package" | awk '{ s += $1 } END { print s + 0 }')
@@ -68,12 +74,19 @@ tests() {
 }
 
 tests second
-part static-libraries tools/staticlib.sh test_c bench_c client_c image_state_c kernel; count $?
+part static-libraries tools/staticlib.sh; count $?
 tests compare -- --nocapture
 sed -nE 's/^\.*(compare [^:]*: seed [0-9]+, [0-9]+ in [0-9.]+ s):.*/   \1/p' "$logs/compare"
 part client-in-c tests/c/client.sh; count $?
-part host-in-c tests/c/host.sh; count $?
+part link-in-c tests/c/link.sh; count $?
+part power-cuts tests/c/power.py; count $?
+grep -E '^(seed|[0-9]+ starts|line:)' "$logs/power-cuts" | sed 's/^/   /'
+part guide tests/c/guide.py; count $?
+part reference tests/reference/run.sh; count $?
 
+part schedules tests/schedules/run.sh; count $?
+grep -E '^(all schedules|random schedules|schedules of|[0-9]+ schedules|the programs)' "$logs/schedules" | sed -E 's/( s): .*/\1/; s/^/   /'
+# the simulator's case, and the host program in C
 part run tools/run.sh; count $?
 
 echo "== all: $((SECONDS - began)) s"

@@ -1,0 +1,172 @@
+#!/usr/bin/env python3
+"""guide_pictures.py [--check]: draws the four pictures of docs/GUIDE.md into docs/pictures; with --check, compares them with what is stored. Fails where a text
+overlaps another or leaves the picture."""
+import os, sys
+
+os.chdir(os.path.join(os.path.dirname(os.path.abspath(__file__)), '..'))
+INK, SOFT, BLUE, GREEN, RED, PAPER = '#1c2733', '#6b7785', '#dbe8f6', '#dff1e1', '#b3261e', '#ffffff'
+SIZE, WIDE = 13, 0.56
+
+
+class Picture:
+    def __init__(self, width, height):
+        self.width, self.height, self.shapes, self.texts = width, height, [], []
+
+    def box(self, x, y, w, h, title, lines=(), fill=BLUE, stroke=INK):
+        self.shapes.append('<rect x="%g" y="%g" width="%g" height="%g" rx="6" fill="%s" stroke="%s"/>' % (x, y, w, h, fill, stroke))
+        at = y + h / 2 - 8.5 * len(lines) + 4.5
+        if title:
+            self.text(x + w / 2, at, title, bold=True)
+        for i, line in enumerate(lines):
+            self.text(x + w / 2, at + 17 * (i + 1), line)
+
+    def text(self, x, y, words, anchor='middle', bold=False, color=INK, small=False):
+        size = SIZE - 1 if small else SIZE
+        w = len(words) * size * (WIDE + (0.03 if bold else 0))
+        left = x - w / 2 if anchor == 'middle' else x - w if anchor == 'end' else x
+        self.texts.append((left, y - size * 0.8, left + w, y + size * 0.25, words))
+        weight = ' font-weight="bold"' if bold else ''
+        words = words.replace('&', '&amp;').replace('<', '&lt;')
+        self.shapes.append('<text x="%g" y="%g" font-size="%d" text-anchor="%s" fill="%s"%s>%s</text>' % (x, y, size, anchor, color, weight, words))
+
+    def line(self, points, color=INK, dash=False, head=True):
+        path = ' '.join('%g,%g' % p for p in points)
+        more = (' stroke-dasharray="5 4"' if dash else '') + (' marker-end="url(#%s)"' % ('red' if color == RED else 'tip') if head else '')
+        self.shapes.append('<polyline points="%s" fill="none" stroke="%s" stroke-width="1.4"%s/>' % (path, color, more))
+
+    def svg(self, name):
+        for i, a in enumerate(self.texts):
+            if a[0] < 2 or a[2] > self.width - 2 or a[1] < 2 or a[3] > self.height - 2:
+                sys.exit('%s: "%s" leaves the picture' % (name, a[4]))
+            for b in self.texts[:i]:
+                if a[0] < b[2] and b[0] < a[2] and a[1] < b[3] and b[1] < a[3]:
+                    sys.exit('%s: "%s" and "%s" overlap' % (name, a[4], b[4]))
+        tip = '<marker id="%s" viewBox="0 0 10 10" refX="9" refY="5" markerWidth="7" markerHeight="7" orient="auto"><path d="M0 0L10 5L0 10z" fill="%s"/></marker>'
+        return ('<svg xmlns="http://www.w3.org/2000/svg" viewBox="0 0 %d %d" width="%d" height="%d" font-family="Helvetica, Arial, sans-serif">\n<defs>%s%s</defs>\n'
+                '<rect width="100%%" height="100%%" fill="%s"/>\n' % (self.width, self.height, self.width, self.height, tip % ('tip', INK), tip % ('red', RED), PAPER)
+                + '\n'.join(self.shapes) + '\n</svg>\n')
+
+
+def host():
+    p = Picture(820, 380)
+    p.box(230, 20, 370, 340, '', fill='#f4f6f8')
+    p.text(415, 44, 'your host program', bold=True)
+    p.box(300, 130, 230, 90, 'the kernel', ['eleven calls,', 'no memory of its own'], fill=GREEN)
+    p.box(250, 250, 150, 86, 'state', ['32,768 bytes', 'in memory'])
+    p.box(430, 250, 150, 86, 'log space', ['your choice', 'in memory'])
+    p.line([(345, 250), (345, 220)], head=False)
+    p.line([(485, 250), (485, 220)], head=False)
+    p.text(415, 240, 'lent for one call', small=True, color=SOFT)
+    p.box(20, 120, 120, 70, 'line', ['lossy, late'])
+    p.line([(140, 138), (300, 150)])
+    p.line([(300, 184), (140, 174)])
+    p.text(186, 130, 'packets', small=True)
+    p.text(186, 198, 'results', small=True)
+    p.box(680, 250, 120, 86, 'card', ['keeps', 'the log'])
+    p.line([(580, 280), (680, 280)])
+    p.line([(680, 312), (580, 312)])
+    p.text(639, 272, 'append', small=True)
+    p.text(639, 328, 'at boot', small=True)
+    p.box(680, 120, 120, 70, 'gate', ['actuator'])
+    p.line([(530, 155), (680, 155)])
+    p.text(639, 146, 'value', small=True)
+    p.text(639, 172, 'if synced', small=True)
+    p.box(300, 62, 230, 46, 'plan, clock, server number', fill=PAPER)
+    p.line([(415, 108), (415, 130)])
+    return p
+
+
+def sequence():
+    p = Picture(820, 500)
+    lanes = [('desk', 90), ('host', 330), ('kernel', 550), ('card', 740)]
+    for name, x in lanes:
+        p.box(x - 55, 14, 110, 34, name, fill=GREEN if name == 'kernel' else BLUE)
+        p.line([(x, 48), (x, 488)], color=SOFT, dash=True, head=False)
+    rows = [
+        (80, 0, 1, 'request', INK), (104, 1, 2, 'request', INK), (132, 2, 1, '0, no packet: executed', INK),
+        (164, 1, 3, 'write mark .. length', INK), (192, 1, 3, 'make it durable', INK), (220, 3, 1, 'the card has it for certain', INK),
+        (252, 1, 2, 'sync (length)', INK), (280, 2, 1, '0', INK), (324, 1, 2, 'fetch (client, call)', INK), (352, 2, 1, '0, the result', INK),
+        (380, 1, 0, 'result', INK), (424, 0, 1, 'request, repeated', INK), (448, 1, 2, 'request', INK), (476, 2, 1, '0, the result again', INK),
+    ]
+    for y, a, b, words, color in rows:
+        xa, xb = lanes[a][1], lanes[b][1]
+        d = 6 if xb > xa else -6
+        p.line([(xa + d, y), (xb - d, y)], color=color)
+        mid = {(1, 3): 440, (3, 1): 440}.get((a, b), (xa + xb) / 2)
+        p.text(mid, y - 5, words, small=True)
+    p.text(322, 306, 'now the gate may move', anchor='end', bold=True, small=True)
+    p.text(722, 132, 'a power cut before the sync', anchor='end', small=True, color=RED)
+    p.text(722, 148, 'may undo the command', anchor='end', small=True, color=RED)
+    return p
+
+
+def point():
+    p = Picture(820, 330)
+    p.box(20, 120, 120, 66, 'absent', ['not here yet'], fill='#f4f6f8')
+    p.box(250, 120, 140, 66, 'held', ['carries out'], fill=GREEN)
+    p.box(500, 120, 130, 66, 'given', ['closed here'])
+    p.box(690, 120, 110, 66, 'released', ['records gone'], fill='#f4f6f8')
+    p.line([(140, 153), (250, 153)])
+    p.text(195, 145, 'take', small=True)
+    p.line([(390, 153), (500, 153)])
+    p.text(445, 145, 'give', small=True)
+    p.text(445, 170, 'move + 1', small=True, color=SOFT)
+    p.line([(630, 153), (690, 153)])
+    p.text(660, 145, 'release', small=True)
+    p.line([(565, 186), (565, 236), (340, 236), (340, 186)])
+    p.text(452, 254, 'take (the point comes back before its release)', small=True)
+    p.line([(745, 186), (745, 284), (300, 284), (300, 186)])
+    p.text(520, 302, 'take (the point comes back after it)', small=True)
+    p.box(240, 20, 160, 46, 'found, at its home', fill=PAPER)
+    p.line([(320, 66), (320, 120)])
+    p.box(10, 20, 150, 46, 'found, elsewhere', fill=PAPER)
+    p.line([(80, 66), (80, 120)])
+    p.text(565, 96, 'image, as often as needed,', small=True)
+    p.text(565, 112, 'once the give is synced', small=True)
+    return p
+
+
+def boot():
+    p = Picture(820, 470)
+    p.box(300, 14, 220, 40, 'power on: read the card', fill=PAPER)
+    p.line([(410, 54), (410, 84)])
+    p.box(300, 84, 220, 46, 'was this server founded?', fill=PAPER)
+    p.line([(300, 107), (170, 107), (170, 150)])
+    p.text(235, 100, 'no, never', small=True)
+    p.line([(410, 130), (410, 150)])
+    p.text(436, 144, 'yes', small=True)
+    p.box(70, 150, 200, 46, 'found (plan, number)')
+    p.box(300, 150, 220, 46, 'recover (kept bytes, plan)')
+    p.line([(520, 173), (610, 173)], color=RED)
+    p.text(565, 166, '14', small=True, color=RED)
+    p.box(610, 140, 190, 66, 'stop', ['wrong plan or', 'damaged card'], stroke=RED, fill='#fdeceb')
+    p.line([(170, 196), (170, 240)])
+    p.line([(410, 196), (410, 240)])
+    p.text(422, 222, '0', anchor='start', small=True)
+    p.box(70, 240, 200, 62, 'write the head,', ['make it durable'])
+    p.box(300, 240, 220, 62, 'cut the card to length,', ['make it durable'])
+    p.line([(170, 302), (170, 370), (300, 370)])
+    p.line([(410, 302), (410, 346)])
+    p.box(300, 346, 220, 50, 'gates from the state', fill=PAPER)
+    p.line([(410, 396), (410, 420)])
+    p.box(300, 420, 220, 38, 'serve', fill=GREEN)
+    p.line([(520, 440), (670, 440), (670, 380)])
+    p.box(580, 330, 180, 50, '19 from a call', stroke=RED, fill='#fdeceb')
+    p.line([(596, 330), (596, 34), (520, 34)], color=RED, dash=True)
+    p.text(604, 290, 'as after a crash', anchor='start', small=True, color=RED)
+    return p
+
+
+def main():
+    for name, draw in (('host', host), ('sequence', sequence), ('point', point), ('boot', boot)):
+        path, text = 'docs/pictures/guide_%s.svg' % name, draw().svg(name)
+        if '--check' in sys.argv:
+            if not os.path.exists(path) or open(path, encoding='utf-8').read() != text:
+                sys.exit('%s is not what tools/guide_pictures.py draws' % path)
+        else:
+            open(path, 'w', encoding='utf-8').write(text)
+    print('four pictures')
+
+
+if __name__ == '__main__':
+    main()
