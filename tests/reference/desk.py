@@ -1,5 +1,5 @@
 #!/usr/bin/env python3
-"""desk.py HOST PORT CARD: a desk and a lease manager as another maker would write them, from docs/REFERENCE.md and docs/FORMATS.md alone: no library, no header. They talk to the
+"""desk.py HOST PORT CARD: a desk and a lease manager as another maker would write them, by docs/REFERENCE.md and docs/FORMATS.md: no library, no header. They talk to the
 example host (HOST, over UDP on 127.0.0.1:PORT, with the file CARD as its card), kill it and start it again, and read its card. Sections named are those of the reference.
 The last line is 'N passed, M failed'."""
 import os, random, signal, socket, struct, subprocess, sys, time
