@@ -30,8 +30,8 @@ static void cut_power(char where) {
     kill(getpid(), SIGKILL);
 }
 
-static int strikes(void) {
-    return chance && below(chance) == 0;
+static int strikes(unsigned one_in) {
+    return one_in && below(one_in) == 0;
 }
 
 __attribute__((constructor)) static void begin(void) {
@@ -45,7 +45,7 @@ __attribute__((constructor)) static void begin(void) {
 }
 
 ssize_t pwrite(int fd, const void *bytes, size_t count, off_t at) {
-    if (strikes()) {
+    if (strikes(chance)) {
         if (true_pwrite(fd, bytes, below((uint32_t)count + 1), at) < 0) _exit(3);
         cut_power('w');
     }
@@ -53,18 +53,19 @@ ssize_t pwrite(int fd, const void *bytes, size_t count, off_t at) {
 }
 
 int fdatasync(int fd) {
-    if (strikes()) cut_power('s');
+    if (strikes(chance)) cut_power('s');
     int done = true_fdatasync(fd);
     struct stat about;
     if (done == 0 && fstat(fd, &about) == 0) {
         uint64_t length = (uint64_t)about.st_size;
         if (true_pwrite(file, &length, 8, 0) != 8) _exit(3);
     }
-    if (strikes()) cut_power('a');
+    if (strikes(chance)) cut_power('a');
     return done;
 }
 
+/* once a start, so more often struck */
 int ftruncate(int fd, off_t length) {
-    if (strikes()) cut_power('c');
+    if (strikes((chance + 5) / 6)) cut_power('c');
     return true_ftruncate(fd, length);
 }

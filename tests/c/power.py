@@ -63,7 +63,7 @@ def started(host, card, port, hook, seed, chance):
     return subprocess.Popen([host, card.path, str(port)], env=env, stderr=subprocess.PIPE)
 
 
-def session(host, tools, name, port, seed, kills, commands, limit):
+def session(host, tools, name, port, seed, kills, commands, limit, chance=60):
     """desk, relay and a host that is killed again and again; returns what went wrong or '', and what was seen"""
     rng, card = random.Random(seed), Card(name)
     relay = subprocess.Popen([tools['relay'], str(port), str(port + 1), '15', '15', '15', str(seed)], stdout=subprocess.PIPE, text=True)
@@ -71,7 +71,7 @@ def session(host, tools, name, port, seed, kills, commands, limit):
     began, starts, outside, wrong = time.time(), 0, 0, ''
     while desk.poll() is None and not wrong:
         quiet = starts >= kills
-        server = started(host, card, port + 1, tools['hook'], seed + starts, 0 if quiet else 60)
+        server = started(host, card, port + 1, tools['hook'], seed + starts, 0 if quiet else chance)
         starts += 1
         until = time.time() + (limit if quiet else rng.uniform(0.004, 0.08))
         while server.poll() is None and desk.poll() is None and time.time() < until:
@@ -149,15 +149,16 @@ def main():
     if not wrong:
         bad, tried = cuts(host, open(seen['card'], 'rb').read())
         count('a card cut at each of %d bytes starts with its whole records%s' % (tried, ': ' + bad if bad else ''), not bad)
+    # each with one in how many calls on the card is struck
     faults = {
-        'mark_before_write': (['    card_append(mark, length);\n', '    waits = 0;\n}'], ['', '    waits = 0;\n    card_append(mark, length);\n}']),
-        'card_not_cut': (['    card_cut((size_t)mantelorris_length(state));\n'], ['']),
+        'mark_before_write': (60, ['    card_append(mark, length);\n', '    waits = 0;\n}'], ['', '    waits = 0;\n    card_append(mark, length);\n}']),
+        'card_not_cut': (6, ['    card_cut((size_t)mantelorris_length(state));\n'], ['']),
     }
-    for i, (name, (old, new)) in enumerate(faults.items()):
+    for i, (name, (chance, old, new)) in enumerate(faults.items()):
         found, tries = '', 0
         bad_host = faulty(name, old, new)
         while not found and tries < 4:
-            found, seen = session(bad_host, tools, name + str(tries), port + 10 + 4 * i, SEED + 1000 * tries, 400, 1500, 20)
+            found, seen = session(bad_host, tools, name + str(tries), port + 10 + 4 * i, SEED + 1000 * tries, 1000, 3000, 20, chance)
             tries += 1
         count('the host with the fault %s is found%s' % (name, ' after %d starts: %s' % (seen['starts'], found) if found else ''), found)
     print('%d passed, %d failed' % (passed, failed))
