@@ -1,5 +1,5 @@
 #!/usr/bin/env bash
-# tools/run.sh: what the product does: the simulator's whole case of paper 01, answered by the proved program and compared; then a host
+# tools/run.sh: what the product does: the simulator's whole case, answered by the proved program and compared; then a host
 # program in C over the proved server and client: two servers, two clients, a poor line, power cuts, a point that moves.
 # tools/run.sh SCHEDULE: a schedule of one's own, each line beside its answer.
 set -eu
