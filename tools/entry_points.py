@@ -29,8 +29,8 @@ LEAF_CRATES = 'format_numbers format_fields format_image_rows format_image_write
 # crates of parts of a call, on a buffer that the call's first tests have passed
 LEAF_CRATES += 'state_records state_clients server_apply state_image server_replay'.split()
 # crates of parts of the simulator, on memory that `new_yard` has laid out
-LEAF_CRATES += 'simulator_store simulator_step simulator_state'.split()
-# leaves elsewhere: rows at a place, and what is read once an entry point has answered that it is there
+LEAF_CRATES += 'simulator_store simulator_delivery simulator_client simulator_server simulator_state'.split()
+# leaves elsewhere: rows at a place, what is read once an entry point has answered that it is there, and what a client's call changes, of the open call at its place
 LEAVES = {
     'format_commands': 'plan_entry plan_row_ok',
     'format_image_reader': 'values_in_range',
@@ -38,6 +38,7 @@ LEAVES = {
     'format_log_reader': 'record_at',
     'server_memory': 'free_in reply',
     'server_found': 'found_state',
+    'client': 'issue_change resend_answer receive_change',
     'simulator_text': 'put_reply',
 }
 

@@ -124,7 +124,7 @@ def main():
     try:
         rt = subprocess.Popen(words, stdout=subprocess.PIPE, stderr=subprocess.STDOUT, text=True, errors='replace')
     except FileNotFoundError:
-        sys.exit('rt is not on the PATH: install the Rattle kit (%s)' % open('tools/kit-id').read().strip())
+        sys.exit('rt is not on the PATH: install the Rattle kit (%s)' % open('tools/kit-id').readline().strip())
     lines = queue.Queue()
 
     def read():

@@ -10,7 +10,7 @@ MOST_LINES = 60
 LOW, HIGH, FALLBACK = -100, 1000, 0
 HEAD, EXECUTED, MOVE, TAKE, IMAGE, FLOOR, ENTRY = 8, 28, 8, 8, 48, 8, 20  # bytes: log head, records, an image and its rows
 OPS = ['read', 'set', 'step', 'report', 'fault', 'part']
-OUTCOMES = ['', ', out of range', ', no step', ', fallback']
+OUTCOMES = ['', ', out of range', ', no step', ', fallback', ', stopped']
 REFUSALS = {
     1: 'malformed', 2: 'too short', 3: 'not held', 4: 'lease over', 5: 'under the floor', 6: 'other command', 7: 'not synced',
     8: 'clients full', 9: 'log full', 10: 'bad mark', 11: 'wrong destination', 12: 'old move', 13: 'already held', 14: 'bad log',
@@ -175,7 +175,8 @@ def ruled(op, argument, value, quality):
     if op == 2:
         if quality:
             return 2, value, quality
-        return (0, value + argument, 0) if LOW <= value + argument <= HIGH else (1, value, quality)
+        stopped = max(LOW, min(HIGH, value + argument))
+        return 0 if stopped == value + argument else 4, stopped, quality
     if op == 3 and inside:
         return 0, argument, 0
     if op == 5:

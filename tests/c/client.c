@@ -127,8 +127,8 @@ static void clients(void) {
     expect("receive: another client", mantelorris_receive(&d, p, 16).number, 17);
     result(p, 0, 5, 0, 9, 17, -40);
     expect("receive: not open", mantelorris_receive(&d, p, 16).number, 17);
-    result(p, 4, 5, 0, 9, 1, -40);
-    expect("receive: outcome 4", mantelorris_receive(&d, p, 16).number, 1);
+    result(p, 5, 5, 0, 9, 1, -40);
+    expect("receive: outcome 5", mantelorris_receive(&d, p, 16).number, 1);
     grant(p, 9, 99);
     expect("receive: an earlier end", mantelorris_receive(&d, p, 12).number, 17);
     expect("receive: no packet", mantelorris_receive(&d, NULL, 0).number, 1);

@@ -31,7 +31,7 @@ def read_packet(b):
     """a result or a refusal packet as a tuple, None for anything else"""
     if len(b) == 16 and b[0] == 2:
         _, outcome, point, quality, client, call, value = struct.unpack('<BBBBIIi', b)
-        return ('result', client, call, point, (outcome, value, quality)) if outcome <= 3 and quality <= 1 and point <= 63 and client and call else None
+        return ('result', client, call, point, (outcome, value, quality)) if outcome <= 4 and quality <= 1 and point <= 63 and client and call else None
     if len(b) == 12 and b[0] == 3:
         _, number, point, zero, client, call = struct.unpack('<BBBBII', b)
         return ('refusal', client, call, point, number) if 3 <= number <= 9 and point <= 63 and not zero and client and call else None
@@ -51,7 +51,8 @@ def rule(op, a, was):
     if op == STEP:
         if quality == 1:
             return (2, value, quality)
-        return (0, value + a, 0) if LOW <= value + a <= HIGH else (1, value, quality)
+        end = max(LOW, min(HIGH, value + a))
+        return (0 if end == value + a else 4, end, quality)
     if op == FAULT:
         return (3, FALLBACK, 1)
     return (0, LOW + (HIGH - LOW) * a // 1000, 0)

@@ -32,7 +32,7 @@ def parse(p):
     """The packet as a dict, or None where it is malformed. Only what a desk may receive."""
     if len(p) == 16 and p[0] == 2:
         _, out, pt, q, cl, ca, v = struct.unpack('<BBBBIIi', p)
-        if out <= 3 and pt <= 63 and q <= 1 and cl and ca:
+        if out <= 4 and pt <= 63 and q <= 1 and cl and ca:
             return dict(kind=2, outcome=out, point=pt, quality=q, client=cl, call=ca, value=v)
     elif len(p) == 12 and p[0] == 3:
         _, n, pt, z, cl, ca = struct.unpack('<BBBBII', p)

@@ -14,7 +14,7 @@ folder=$(mktemp -d)
 trap 'rm -rf "$folder"' EXIT
 tests/schedules/target/release/schedules write "$folder" "$random"
 tools/picture.py --try "$folder"
-cp tests/yard/*.in tests/yard/*.out "$folder"
+cp tests/yard/*.in tests/yard/*.out tests/schedules/longest.in tests/schedules/longest.out "$folder"
 : >"$folder/empty.in"
 printf 'y 0' >"$folder/no-line-feed.in"
 printf 'y 0\r\ny 0\r\n' >"$folder/carriage-returns.in"

@@ -275,6 +275,19 @@ fn leases_in_use(mut have: proved::LeaseManager, mut want: LeaseManager) {
 
 // ---- the calls of a server
 
+/// The plain pass in C, bench/pass.c.
+mod c {
+    #[link(name = "pass", kind = "static")]
+    extern "C" {
+        pub fn plain_pass(bytes: *const u8, words: usize) -> i32;
+    }
+}
+
+fn plain_pass(state: &[u8]) -> bool {
+    // Safe: it reads the slice's whole words and keeps nothing.
+    unsafe { c::plain_pass(state.as_ptr(), state.len() / 8) == 1 }
+}
+
 const SPACE: usize = 64_000;
 
 /// A server of both programs, with its log.
@@ -342,6 +355,22 @@ impl Both {
     /// Calls that leave the state as it is.
     fn times(&self, calls: &[Call], space: usize) -> (f64, f64) {
         self.measured(calls, space, false, calls.len())
+    }
+
+    /// The state's test, as a refused sync has it, and a plain pass in C over the same bytes.
+    fn passed(&self) -> (f64, f64) {
+        let (mut state, mut log) = (self.state.clone(), self.log.clone());
+        let bytes = self.state[..states::STATE_END].to_vec();
+        let call = Call::Sync(0);
+        measure(
+            1,
+            || {
+                black_box(call.proved(&mut state, &mut log, &mut []));
+            },
+            || {
+                black_box(plain_pass(black_box(&bytes)));
+            },
+        )
     }
 
     /// Calls that change it, each time from the same state; what restores it is
@@ -417,6 +446,7 @@ fn calls() {
         let base = Both::new(0, clients, calls);
         let tested = base.times(&[Call::Sync(0)], SPACE);
         row(&format!("state tested, {name}"), tested);
+        row(&format!("the same, to a C pass, {name}"), base.passed());
         calls_that_change(name, &base, clients, calls, tested);
         calls_that_read(name, &base, clients, calls, tested);
         moves(name, &base, tested);

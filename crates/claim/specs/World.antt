@@ -33,7 +33,7 @@ pub data Server : Type 0 where
   running : List ℕ → List ℕ → Server
   crashed : List ℕ → ℕ → Server
 
--- a world whose servers are of type S: here bytes, in `record_claim` states and log records
+-- a world whose servers are of type S: here bytes, in RecordWorld states and log records
 pub record WorldOf (S : Type 0) : Type 0 where
   pub servers : ℕ → S
   pub clients : ℕ → Option Client  -- by client number

@@ -3,17 +3,19 @@
 --     least-each      and at most every open call
 --     least-over      what is at most all of them is at most it
 --     least-found     it is the number that stands for none, or an open call
+--     least-opened    the number that stands for none, opened at a free place, leaves it as it is
 -- Assumes nothing.
-use mathlib.Core.Path.{_≡_, refl, _∙_}
+use mathlib.Core.Path.{_≡_, refl, sym, _∙_, ap, subst}
 use mathlib.Core.Bool.{Bool, true, false, _&&_}
 use mathlib.Core.List.{List, [], _∷_}
 use mathlib.Core.Logic.{_⊎_, inl, inr}
 use Prim.Native.Nat.{ℕ, zero, suc, _≤_, _<_}
 use native.Mathlib.Omega.{arith}
 use native.Mathlib.Nat.{le-of-suc-le-suc, not-suc-le-zero}
-use lib.Dec.{leb, ltb}
-use lib.ListN.{length, getD}
-use borrow.Author.Tests.{leb-true, leb-false, ltb-true, ltb-false}
+use lib.Dec.{leb, ltb, eqb}
+use lib.ListN.{length, getD, set, length-set}
+use lib.Seq.{getD-set-same, getD-set-other}
+use borrow.Author.Tests.{leb-true, leb-false, ltb-true, ltb-false, eqb-true, eqb-false}
 use Rattle.model.specs.declared.OpenCall.{OpenCall}
 use Rattle.model.specs.Choice.{pick}
 use Rattle.model.specs.Clients.{noCall, leastOpen}
@@ -74,3 +76,31 @@ least-found n (k ∷ ks) = go (lesser-is (k .call) n .found) (least-found (lesse
     go (inr e) (inl f) = inr (record { place = zero; inside = omega arith; is = f ∙ e .0; from = e .1 })
     go (inl e) (inr g) = inr (record { place = suc (g .place); inside = omega (arith, g .inside); is = g .is; from = g .from })
     go (inr e) (inr g) = inr (record { place = suc (g .place); inside = omega (arith, g .inside); is = g .is; from = g .from })
+
+pub least-opened : (n : ℕ) (ks : List OpenCall) (i : ℕ) (k : OpenCall) → i < length ks → getD ks i noCall .call ≡ 0 → k .call ≡ n → 1 ≤ n → leastOpen (suc n) (set ks i k) ≡ leastOpen n ks
+least-opened n ks i k h free is from = let a = least-over (leastOpen n ks) (suc n) (set ks i k) (omega (arith, least-under n ks)) over in let b = under (least-found n ks) in omega arith
+  where
+    here : getD (set ks i k) i noCall .call ≡ n
+    here = ap (λ (c : OpenCall). c .call) (getD-set-same ks i k noCall h) ∙ is
+
+    other : (j : ℕ) → (j ≡ i → ⊥) → getD (set ks i k) j noCall .call ≡ getD ks j noCall .call
+    other j ne = ap (λ (c : OpenCall). c .call) (getD-set-other ks i j k noCall ne)
+
+    over : (j : ℕ) → j < length (set ks i k) → 1 ≤ getD (set ks i k) j noCall .call → leastOpen n ks ≤ getD (set ks i k) j noCall .call
+    over j l p = go (eqb j i) refl
+      where
+        go : (u : Bool) → eqb j i ≡ u → leastOpen n ks ≤ getD (set ks i k) j noCall .call
+        go true e = let u = least-under n ks in let v = ap (λ (x : ℕ). getD (set ks i k) x noCall .call) (eqb-true j i e) ∙ here in omega arith
+        go false e =
+            let v = other j (eqb-false j i e) in
+            let u = least-each n ks j (subst (λ (m : ℕ). j < m) (length-set ks i k) l) (omega arith) in
+            omega arith
+
+    under : (leastOpen n ks ≡ n) ⊎ Found n ks → leastOpen (suc n) (set ks i k) ≤ leastOpen n ks
+    under (inl e) = let u = least-each (suc n) (set ks i k) i (subst (λ (m : ℕ). i < m) (sym (length-set ks i k)) h) (omega (arith, here)) in omega (arith, here)
+    under (inr f) =
+        let v = other (f .place) (λ e. let z = ap (λ (x : ℕ). getD ks x noCall .call) e in let g = f .from in omega arith) in
+        let g = f .from in
+        let u = least-each (suc n) (set ks i k) (f .place) (subst (λ (m : ℕ). f .place < m) (sym (length-set ks i k)) (f .inside)) (omega arith) in
+        let w = f .is in
+        omega arith

@@ -1,17 +1,18 @@
-// The client (paper: desk): start, issue, resend, receive. Values in and values out; every value of the struct is taken.
+// The client (paper: desk): start, issue, resend, receive. Values in and values out; every value of the struct is taken. Each operation is
+// made of what it changes (the next number or the lease end, and what stands at one place), so that one who is lent a client stores that alone.
 use model::constants;
 use model::constants::CALL_WINDOW;
 ghost use mathlib.Core.Path.{_≡_};
 ghost use mathlib.Core.Bool.{_&&_};
 ghost use Prim.Native.Nat.{_<_};
 ghost use lib.Dec.{leb, ltb};
-ghost use lib.ListN.{set, replicate};
+ghost use lib.ListN.{length, set};
 ghost use Rattle.model.specs.Choice.{pick};
 ghost use Rattle.model.specs.Limits.{last32, callWindow};
-ghost use Rattle.model.specs.Clients.{noCall, noClient, placeOf, callAt, isOpen, leastOpen, firstOpen};
-ghost use Rattle.model.specs.Clients.{withCalls, withLease, closed, requestFor, withCall, notStarted, started, startWith, startOf};
-ghost use Rattle.model.specs.Clients.{notSent, sent, issueOf, resendOf};
-ghost use Rattle.model.specs.Clients.{isOwn, notReceived, receiveResult, receiveRefusal, receiveGrant, receiveWith, receiveOf};
+ghost use Rattle.model.specs.Clients.{noCall, placeOf, callAt, leastOpen, firstOpen, notSent, notReceived};
+ghost use Rattle.model.specs.Clients.{withCalls, withCall, startWith, startOf, issueOf, resendOf};
+ghost use Rattle.model.specs.Clients.{isOwn, receiveResult, receiveRefusal, receiveGrant, receiveWith, receiveOf};
+ghost use Rattle.client.specs.Changes.{startFields, requestWith, packetCall, issued, received};
 use model::Client;
 use model::Command;
 use model::Grant;
@@ -24,8 +25,30 @@ use model::Request;
 use model::ResultPacket;
 use model::SendAnswer;
 use model::Sent;
-use model::StartAnswer;
-use model::Started;
+
+// ---- what an operation changes
+
+// A started client's numbers: it has no open calls. number: 0 or the refusal's.
+pub struct StartFields {
+    pub client: u32,
+    pub lease: u32,
+    pub next: u32,
+    pub number: u32,
+}
+
+// The next number, and what stands at the place of the one before.
+pub struct SendChange {
+    pub next: u32,
+    pub call: OpenCall,
+    pub answer: Sent,
+}
+
+// The lease end, and what stands at the place of the packet's call.
+pub struct ReceiveChange {
+    pub lease: u32,
+    pub call: OpenCall,
+    pub answer: Received,
+}
 
 // ---- open calls
 
@@ -40,7 +63,7 @@ fn no_call() -> OpenCall
     }
 }
 
-fn place_of(c: u32) -> usize
+pub fn place_of(c: u32) -> usize
     ensures { λ r. ⌜ (r ≡ placeOf c) × (r < callWindow) ⌝ }
 {
     (c % constants::CALL_WINDOW_U32) as usize
@@ -54,13 +77,6 @@ fn call_at(d: Client, c: u32) -> OpenCall
     ks[i]
 }
 
-fn is_open(d: Client, c: u32) -> bool
-    ensures { λ r. ⌜ r ≡ isOpen d c ⌝ }
-{
-    let k = call_at(d, c);
-    (1 <= c) & (k.call == c)
-}
-
 fn lesser(k: OpenCall, n: u32) -> u32
     ensures { λ r. ⌜ r ≡ pick (leb 1 (k .call) && ltb (k .call) n) (k .call) n ⌝ }
 {
@@ -71,7 +87,7 @@ fn lesser(k: OpenCall, n: u32) -> u32
 }
 
 fn least_open(n: u32, ks: [OpenCall; CALL_WINDOW]) -> u32
-    ensures { λ r. ⌜ r ≡ leastOpen n ks ⌝ }
+    ensures { λ r. ⌜ (r ≡ leastOpen n ks) × (length ks ≡ callWindow) ⌝ }
 {
     let mut least = n;
     let mut i: usize = 0;
@@ -84,7 +100,7 @@ fn least_open(n: u32, ks: [OpenCall; CALL_WINDOW]) -> u32
 }
 
 fn first_open(d: Client) -> u32
-    ensures { λ r. ⌜ r ≡ firstOpen d ⌝ }
+    ensures { λ r. ⌜ (r ≡ firstOpen d) × (length (d .calls) ≡ callWindow) ⌝ }
 {
     let ks = d.calls;
     least_open(d.next, ks)
@@ -111,25 +127,8 @@ fn placed(ks: [OpenCall; CALL_WINDOW], c: u32, k: OpenCall) -> [OpenCall; CALL_W
     out
 }
 
-fn closed(d: Client, c: u32) -> Client
-    ensures { λ r. ⌜ r ≡ closed d c ⌝ }
-{
-    let ks = d.calls;
-    let out = placed(ks, c, no_call());
-    with_calls(d, d.next, out)
-}
-
-fn with_call(d: Client, k: OpenCall) -> Client
-    requires { ⌜ d .next < last32 ⌝ }
-    ensures { λ r. ⌜ r ≡ withCall d k ⌝ }
-{
-    let ks = d.calls;
-    let out = placed(ks, k.call, k);
-    with_calls(d, d.next + 1, out)
-}
-
-fn request_for(d: Client, k: OpenCall) -> Request
-    ensures { λ r. ⌜ r ≡ requestFor d k ⌝ }
+fn request_with(d: Client, k: OpenCall, done: u32) -> Request
+    ensures { λ r. ⌜ r ≡ requestWith d k done ⌝ }
 {
     let command = Command {
         client: d.client,
@@ -140,226 +139,254 @@ fn request_for(d: Client, k: OpenCall) -> Request
     };
     Request {
         command,
-        done: first_open(d),
+        done,
         lease: d.lease,
     }
 }
 
-// ---- answers
+// ---- start
 
-fn not_sent(d: Client, n: u32) -> SendAnswer
-    ensures { λ r. ⌜ r ≡ notSent d n ⌝ }
+fn started(p: Packet) -> StartFields
+    ensures { λ r. ⌜ r ≡ startFields (startWith p) ⌝ }
 {
-    SendAnswer {
-        client: d,
+    let Packet::Granted(g) = p else {
+        return StartFields {
+            client: 0,
+            lease: 0,
+            next: 0,
+            number: constants::MALFORMED,
+        };
+    };
+    StartFields {
+        client: g.client,
+        lease: g.lease,
+        next: 1,
+        number: constants::NO_REFUSAL,
+    }
+}
+
+// Start: 1 not a grant. The next number is 1.
+pub fn start(packet: &[u8]) -> StartFields
+    ensures { λ r. ⌜ r ≡ startFields (startOf (now (packet .entry))) ⌝ }
+{
+    let p = format_packet_reader::parse_packet(packet);
+    started(p)
+}
+
+// ---- issue, resend: k is what stands at the call's place
+
+// The first open call once k is open. Where its place was free, the first is as before.
+fn first_with(d: Client, old: OpenCall, k: OpenCall, first: u32) -> u32
+    requires { ⌜ (old ≡ callAt d (d .next)) × (k .call ≡ d .next) × (first ≡ firstOpen d) × (length (d .calls) ≡ callWindow) × (d .next < last32) ⌝ }
+    ensures { λ r. ⌜ r ≡ firstOpen (withCall d k) ⌝ }
+{
+    if (old.call == 0) & (1 <= k.call) {
+        return first;
+    }
+    let ks = d.calls;
+    let out = placed(ks, k.call, k);
+    least_open(d.next + 1, out)
+}
+
+fn not_issued(d: Client, k: OpenCall, n: u32) -> SendChange
+    requires { ⌜ k ≡ callAt d (d .next) ⌝ }
+    ensures { λ r. ⌜ issued d r ≡ notSent d n ⌝ }
+{
+    SendChange {
+        next: d.next,
+        call: k,
         answer: Sent::NotSent(n),
     }
 }
 
-fn sent(d: Client, k: OpenCall) -> SendAnswer
-    ensures { λ r. ⌜ r ≡ sent d k ⌝ }
-{
-    let q = request_for(d, k);
-    SendAnswer {
-        client: d,
-        answer: Sent::Asked(q),
-    }
-}
-
-// ---- a packet
-
-fn no_calls() -> [OpenCall; CALL_WINDOW]
-    ensures { λ r. ⌜ r ≡ replicate callWindow noCall ⌝ }
-{
-    let k = no_call();
-    [k; CALL_WINDOW]
-}
-
-fn no_client() -> Client
-    ensures { λ r. ⌜ r ≡ noClient ⌝ }
-{
-    let ks = no_calls();
-    Client {
-        client: 0,
-        lease: 0,
-        next: 0,
-        calls: ks,
-    }
-}
-
-fn not_started() -> StartAnswer
-    ensures { λ r. ⌜ r ≡ notStarted ⌝ }
-{
-    let d = no_client();
-    StartAnswer {
-        client: d,
-        answer: Started::NotStarted(constants::MALFORMED),
-    }
-}
-
-fn started(g: Grant) -> StartAnswer
-    ensures { λ r. ⌜ r ≡ started g ⌝ }
-{
-    let ks = no_calls();
-    StartAnswer {
-        client: Client {
-            client: g.client,
-            lease: g.lease,
-            next: 1,
-            calls: ks,
-        },
-        answer: Started::Running,
-    }
-}
-
-fn start_with(p: Packet) -> StartAnswer
-    ensures { λ r. ⌜ r ≡ startWith p ⌝ }
-{
-    let Packet::Granted(g) = p else {
-        return not_started();
-    };
-    started(g)
-}
-
-// The packet is of this client and of an open call on its point.
-fn is_own(d: Client, client: u32, call: u32, point: u8) -> bool
-    ensures { λ r. ⌜ r ≡ isOwn d client call point ⌝ }
-{
-    let is = is_open(d, call);
-    let k = call_at(d, call);
-    (client == d.client) & (is & (k.point == point))
-}
-
-fn not_received(d: Client, n: u32) -> ReceiveAnswer
-    ensures { λ r. ⌜ r ≡ notReceived d n ⌝ }
-{
-    ReceiveAnswer {
-        client: d,
-        answer: Received::NotReceived(n),
-    }
-}
-
-fn with_lease(d: Client, lease: u32) -> Client
-    ensures { λ r. ⌜ r ≡ withLease d lease ⌝ }
-{
-    let ks = d.calls;
-    Client {
-        client: d.client,
-        lease,
-        next: d.next,
-        calls: ks,
-    }
-}
-
-// The client after a packet of its open call.
-fn after(d: Client, call: u32, closes: bool) -> Client
-    ensures { λ r. ⌜ r ≡ pick closes (closed d call) d ⌝ }
-{
-    if closes {
-        return closed(d, call);
-    }
-    d
-}
-
-// Only a result closes a call.
-fn receive_result(d: Client, r: ResultPacket) -> ReceiveAnswer
-    ensures { λ a. ⌜ a ≡ receiveResult d r ⌝ }
-{
-    if is_own(d, r.client, r.call, r.point) {
-        let k = after(d, r.call, true);
-        return ReceiveAnswer {
-            client: k,
-            answer: Received::Completed(r),
-        };
-    }
-    not_received(d, constants::UNKNOWN)
-}
-
-fn receive_refusal(d: Client, r: RefusalPacket) -> ReceiveAnswer
-    ensures { λ a. ⌜ a ≡ receiveRefusal d r ⌝ }
-{
-    if is_own(d, r.client, r.call, r.point) {
-        let k = after(d, r.call, false);
-        return ReceiveAnswer {
-            client: k,
-            answer: Received::Denied(r),
-        };
-    }
-    not_received(d, constants::UNKNOWN)
-}
-
-fn receive_grant(d: Client, g: Grant) -> ReceiveAnswer
-    ensures { λ a. ⌜ a ≡ receiveGrant d g ⌝ }
-{
-    if (g.client == d.client) & (d.lease <= g.lease) {
-        let k = with_lease(d, g.lease);
-        return ReceiveAnswer {
-            client: k,
-            answer: Received::Extended(g),
-        };
-    }
-    not_received(d, constants::UNKNOWN)
-}
-
-fn receive_with(d: Client, p: Packet) -> ReceiveAnswer
-    ensures { λ r. ⌜ r ≡ receiveWith d p ⌝ }
-{
-    match p {
-        Packet::Resulted(r) => receive_result(d, r),
-        Packet::Refused(r) => receive_refusal(d, r),
-        Packet::Granted(g) => receive_grant(d, g),
-        _ => not_received(d, constants::MALFORMED),
-    }
-}
-
-// ---- the operations
-
-// Start: 1 not a grant. The next number is 1.
-pub fn start(packet: &[u8]) -> StartAnswer
-    ensures { λ r. ⌜ r ≡ startOf (now (packet .entry)) ⌝ }
-{
-    let p = format_packet_reader::parse_packet(packet);
-    start_with(p)
-}
-
 // Issue: 1 no such command; 15 the window is full; 16 the last number is used.
-pub fn issue(d: Client, op: u8, point: u8, argument: u32) -> SendAnswer
-    ensures { λ r. ⌜ r ≡ issueOf d op point argument ⌝ }
+pub fn issue_change(d: Client, k: OpenCall, op: u8, point: u8, argument: u32) -> SendChange
+    requires { ⌜ k ≡ callAt d (d .next) ⌝ }
+    ensures { λ r. ⌜ issued d r ≡ issueOf d op point argument ⌝ }
 {
     if !format_numbers::command_ok(op, point, argument) {
-        return not_sent(d, constants::MALFORMED);
+        return not_issued(d, k, constants::MALFORMED);
     }
     let first = first_open(d);
     if first as u64 + constants::CALL_WINDOW_U64 <= d.next as u64 {
-        return not_sent(d, constants::WINDOW_FULL);
+        return not_issued(d, k, constants::WINDOW_FULL);
     }
     if constants::LAST_32 <= d.next {
-        return not_sent(d, constants::NUMBERS_OUT);
+        return not_issued(d, k, constants::NUMBERS_OUT);
     }
-    let k = OpenCall {
+    let call = OpenCall {
         call: d.next,
         op,
         point,
         argument,
     };
-    sent(with_call(d, k), k)
+    let done = first_with(d, k, call, first);
+    let q = request_with(d, call, done);
+    SendChange {
+        next: d.next + 1,
+        call,
+        answer: Sent::Asked(q),
+    }
 }
 
-// Resend: 17 call not open.
-pub fn resend(d: Client, c: u32) -> SendAnswer
-    ensures { λ r. ⌜ r ≡ resendOf d c ⌝ }
+// Resend: 17 call not open. Nothing changes.
+pub fn resend_answer(d: Client, k: OpenCall, c: u32) -> Sent
+    requires { ⌜ k ≡ callAt d c ⌝ }
+    ensures { λ r. ⌜ record { client = d; answer = r } ≡ resendOf d c ⌝ }
 {
-    if is_open(d, c) {
-        let k = call_at(d, c);
-        return sent(d, k);
+    if (1 <= c) & (k.call == c) {
+        let q = request_with(d, k, first_open(d));
+        return Sent::Asked(q);
     }
-    not_sent(d, constants::UNKNOWN)
+    Sent::NotSent(constants::UNKNOWN)
+}
+
+// ---- receive
+
+// The call that a packet to a client is of, 0 for none.
+pub fn packet_call(p: Packet) -> u32
+    ensures { λ r. ⌜ r ≡ packetCall p ⌝ }
+{
+    match p {
+        Packet::Resulted(r) => r.call,
+        Packet::Refused(r) => r.call,
+        _ => 0,
+    }
+}
+
+// The packet is of this client and of an open call on its point.
+fn is_own(d: Client, k: OpenCall, client: u32, call: u32, point: u8) -> bool
+    requires { ⌜ k ≡ callAt d call ⌝ }
+    ensures { λ r. ⌜ r ≡ isOwn d client call point ⌝ }
+{
+    (client == d.client) & (((1 <= call) & (k.call == call)) & (k.point == point))
+}
+
+fn not_received(d: Client, k: OpenCall, c: u32, n: u32) -> ReceiveChange
+    requires { ⌜ k ≡ callAt d c ⌝ }
+    ensures { λ r. ⌜ received d c r ≡ notReceived d n ⌝ }
+{
+    ReceiveChange {
+        lease: d.lease,
+        call: k,
+        answer: Received::NotReceived(n),
+    }
+}
+
+// Only a result closes its call.
+fn left_open(k: OpenCall, closes: bool) -> OpenCall
+    ensures { λ r. ⌜ r ≡ pick closes noCall k ⌝ }
+{
+    if closes {
+        return no_call();
+    }
+    k
+}
+
+fn result_change(d: Client, k: OpenCall, r: ResultPacket) -> ReceiveChange
+    requires { ⌜ k ≡ callAt d (r .call) ⌝ }
+    ensures { λ a. ⌜ received d (r .call) a ≡ receiveResult d r ⌝ }
+{
+    if is_own(d, k, r.client, r.call, r.point) {
+        let call = left_open(k, true);
+        return ReceiveChange {
+            lease: d.lease,
+            call,
+            answer: Received::Completed(r),
+        };
+    }
+    not_received(d, k, r.call, constants::UNKNOWN)
+}
+
+fn refusal_change(d: Client, k: OpenCall, r: RefusalPacket) -> ReceiveChange
+    requires { ⌜ k ≡ callAt d (r .call) ⌝ }
+    ensures { λ a. ⌜ received d (r .call) a ≡ receiveRefusal d r ⌝ }
+{
+    if is_own(d, k, r.client, r.call, r.point) {
+        let call = left_open(k, false);
+        return ReceiveChange {
+            lease: d.lease,
+            call,
+            answer: Received::Denied(r),
+        };
+    }
+    not_received(d, k, r.call, constants::UNKNOWN)
+}
+
+fn grant_change(d: Client, k: OpenCall, g: Grant) -> ReceiveChange
+    requires { ⌜ k ≡ callAt d 0 ⌝ }
+    ensures { λ a. ⌜ received d 0 a ≡ receiveGrant d g ⌝ }
+{
+    if (g.client == d.client) & (d.lease <= g.lease) {
+        return ReceiveChange {
+            lease: g.lease,
+            call: k,
+            answer: Received::Extended(g),
+        };
+    }
+    not_received(d, k, 0, constants::UNKNOWN)
 }
 
 // Receive: 1 no well-formed result, refusal or grant; 17 not for this client and an open call of it on that point, or a lease end that falls.
+pub fn receive_change(d: Client, k: OpenCall, p: Packet) -> ReceiveChange
+    requires { ⌜ k ≡ callAt d (packetCall p) ⌝ }
+    ensures { λ r. ⌜ received d (packetCall p) r ≡ receiveWith d p ⌝ }
+{
+    match p {
+        Packet::Resulted(r) => result_change(d, k, r),
+        Packet::Refused(r) => refusal_change(d, k, r),
+        Packet::Granted(g) => grant_change(d, k, g),
+        _ => not_received(d, k, packet_call(p), constants::MALFORMED),
+    }
+}
+
+// ---- the operations, by value
+
+pub fn issue(d: Client, op: u8, point: u8, argument: u32) -> SendAnswer
+    ensures { λ r. ⌜ r ≡ issueOf d op point argument ⌝ }
+{
+    let k = call_at(d, d.next);
+    let c = issue_change(d, k, op, point, argument);
+    let ks = d.calls;
+    let call = c.call;
+    let out = placed(ks, d.next, call);
+    let e = with_calls(d, c.next, out);
+    let a = c.answer;
+    SendAnswer {
+        client: e,
+        answer: a,
+    }
+}
+
+pub fn resend(d: Client, c: u32) -> SendAnswer
+    ensures { λ r. ⌜ r ≡ resendOf d c ⌝ }
+{
+    let k = call_at(d, c);
+    let a = resend_answer(d, k, c);
+    SendAnswer {
+        client: d,
+        answer: a,
+    }
+}
+
 pub fn receive(d: Client, packet: &[u8]) -> ReceiveAnswer
     ensures { λ r. ⌜ r ≡ receiveOf d (now (packet .entry)) ⌝ }
 {
     let p = format_packet_reader::parse_packet(packet);
-    receive_with(d, p)
+    let n = packet_call(p);
+    let k = call_at(d, n);
+    let c = receive_change(d, k, p);
+    let ks = d.calls;
+    let call = c.call;
+    let out = placed(ks, n, call);
+    let a = c.answer;
+    ReceiveAnswer {
+        client: Client {
+            client: d.client,
+            lease: c.lease,
+            next: d.next,
+            calls: out,
+        },
+        answer: a,
+    }
 }

@@ -3,28 +3,43 @@
 --     lease-none, lease-grant, lease-notice      what the lease manager gives
 --     past-byte      such a command is malformed, so issue refuses it with 1
 --     both-under     and the test for it
+--     sends-past, sends-change, receives-change      what is stored and replied makes the answer
+--     start-reply    what start gives is made of its numbers
 -- Assumes nothing.
-use mathlib.Core.Path.{_≡_, refl, sym, _∙_}
+use mathlib.Core.Path.{_≡_, refl, sym, ap, _∙_}
 use mathlib.Core.Bool.{Bool, true, false, _||_, false≢true}
 use mathlib.Core.List.{List}
 use Prim.Native.Nat.{ℕ, _<_}
 use native.Mathlib.Omega.{arith}
 use lib.Dec.{ltb}
-use lib.ListN.{length, replicate}
+use lib.ListN.{length, set, replicate}
 use borrow.Author.Tests.{ltb-false, le-ltb}
 use Rattle.model.specs.declared.Request.{Request}
 use Rattle.model.specs.declared.Grant.{Grant}
 use Rattle.model.specs.declared.Notice.{Notice}
 use Rattle.model.specs.declared.Client.{Client}
+use Rattle.model.specs.declared.OpenCall.{OpenCall}
+use Rattle.model.specs.declared.SendAnswer.{SendAnswer}
+use Rattle.model.specs.declared.ReceiveAnswer.{ReceiveAnswer}
+use Rattle.model.specs.declared.Packet.{Packet}
+use Rattle.model.specs.declared.Packet.the-variants.{Malformed, Requested, Resulted, Refused, Receipted, Noticed, Granted}
 use Rattle.model.specs.declared.Sent.the-variants.{NotSent, Asked}
 use Rattle.model.specs.declared.Told.the-variants.{NotTold, ByGrant, ByNotice}
-use Rattle.model.specs.Limits.{noticeKind, grantKind, requestSize, grantSize, noticeSize}
-use Rattle.model.specs.Packets.{commandOk, requestBytes, grantBytes, noticeBytes}
-use Rattle.model.specs.Clients.{sendNumber, sentBytes, notSent, issueOf}
+use Rattle.model.specs.Limits.{callWindow, noticeKind, grantKind, requestSize, grantSize, noticeSize}
+use Rattle.model.specs.Packets.{parsePacket, commandOk, requestBytes, grantBytes, noticeBytes}
+use Rattle.model.specs.Clients.{noCall, placeOf, receiveWith, receiveOf, callAt, withCalls, startNumber, startWith, sendNumber, sentBytes, notSent, issueOf}
 use Rattle.model.specs.Leases.{toldNumber, toldBytes}
 use Rattle.model.specs.Refusals.{noRefusal, malformed}
 use Rattle.model_laws.proofs.Commands.{CommandParts, command-parts}
-use Rattle.client_c.specs.Replies.{filled, sentCall, sendReply, toldKind, leaseReply}
+use Rattle.client.specs.declared.SendChange.{SendChange}
+use Rattle.client.specs.declared.ReceiveChange.{ReceiveChange}
+use Rattle.client.specs.declared.StartFields.{StartFields}
+use Rattle.client.specs.Changes.{startFields, packetCall, issued, received}
+use Rattle.client.proofs.Answers.{same-call}
+use Rattle.client_c.specs.declared.SendReply.{SendReply}
+use Rattle.client_c.specs.declared.ReceiveReply.{ReceiveReply}
+use Rattle.client_c.specs.declared.StartReply.{StartReply}
+use Rattle.client_c.specs.Replies.{filled, startReply, sentCall, sendReply, Sends, receiveReply, Receives, toldKind, leaseReply}
 
 -- ---- issue and resend
 
@@ -72,3 +87,41 @@ both-under op point e = go (ltb 255 op) (ltb 255 point) refl refl e
     go true v p q r = absurd (false≢true (sym r))
     go false true p q r = absurd (false≢true (sym r))
     go false false p q r = let h = ltb-false 255 op p in let k = ltb-false 255 point q in (omega arith, omega arith)
+
+-- ---- what is stored and replied
+
+pub sends-past : (d : Client) (op point a : ℕ) {k : OpenCall} {s : SendReply} → k ≡ callAt d (d .next) → (ltb 255 op || ltb 255 point) ≡ true
+    → s ≡ sendReply (NotSent malformed) → Sends d (record { next = d .next; call = k; reply = s }) (issueOf d op point a)
+unfolding withCalls
+sends-past d op point a at past e =
+    let i = past-byte d op point a past in
+    (e ∙ ap (λ (x : SendAnswer). sendReply (x .answer)) i, rw (same-call d (d .next) at) (ap (λ (x : SendAnswer). x .client) i))
+
+pub sends-change : (d : Client) {a : SendAnswer} (c : SendChange) {s : SendReply} → issued d c ≡ a → s ≡ sendReply (c .answer)
+    → Sends d (record { next = c .next; call = c .call; reply = s }) a
+unfolding issued
+sends-change d c i e = (e ∙ ap (λ (x : SendAnswer). sendReply (x .answer)) i, ap (λ (x : SendAnswer). x .client) i)
+
+pub receives-change : (d : Client) (b : List ℕ) {p : Packet} (c : ReceiveChange) {s : ReceiveReply} → p ≡ parsePacket b → received d (packetCall p) c ≡ receiveWith d p
+    → s ≡ receiveReply (c .answer) → Receives d b (record { lease = c .lease; call = c .call; reply = s })
+unfolding received receiveOf
+receives-change d b c {s} at i e =
+    let whole = i ∙ ap (receiveWith d) at in (
+      e ∙ ap (λ (x : ReceiveAnswer). receiveReply (x .answer)) whole,
+      ap (λ (x : Packet). record { client = d .client; lease = c .lease; next = d .next; calls = set (d .calls) (placeOf (packetCall x)) (c .call) }) (sym at)
+          ∙ ap (λ (x : ReceiveAnswer). x .client) whole,
+    )
+
+-- a client without open calls
+abbrev fresh : StartFields → StartReply
+fresh f = record { client = record { client = f .client; lease = f .lease; next = f .next; calls = replicate callWindow noCall }; number = f .number }
+
+pub start-reply : (p : Packet) → fresh (startFields (startWith p)) ≡ startReply (startWith p)
+unfolding startFields startReply startWith startNumber
+start-reply Malformed = refl
+start-reply (Requested q) = refl
+start-reply (Resulted r) = refl
+start-reply (Refused r) = refl
+start-reply (Receipted r) = refl
+start-reply (Noticed n) = refl
+start-reply (Granted g) = refl

@@ -1,2 +1,4 @@
 -- Laws that the proofs of `client_c` cite.
+pub mod Calls
 pub mod Cases
+pub mod Element

@@ -1,8 +1,9 @@
 -- What the host program in C is given for each answer: the refusal's number, and the values or the packet of its case.
 -- Assumes nothing.
-use Prim.Native.Nat.{ℕ, _-_}
+use Prim.Native.Nat.{ℕ, _-_, _<_}
+use mathlib.Core.Path.{_≡_}
 use mathlib.Core.List.{List, _++_}
-use lib.ListN.{length, replicate}
+use lib.ListN.{length, set, replicate}
 use Rattle.model.specs.declared.Sent.{Sent}
 use Rattle.model.specs.declared.Sent.the-variants.{NotSent, Asked}
 use Rattle.model.specs.declared.Told.{Told}
@@ -12,10 +13,13 @@ use Rattle.model.specs.declared.StartAnswer.{StartAnswer}
 use Rattle.model.specs.declared.SendAnswer.{SendAnswer}
 use Rattle.model.specs.declared.ReceiveAnswer.{ReceiveAnswer}
 use Rattle.model.specs.declared.LeaseAnswer.{LeaseAnswer}
+use Rattle.model.specs.declared.Client.{Client}
 use Rattle.model.specs.Numbers.{flip}
-use Rattle.model.specs.Limits.{requestSize, grantSize, grantKind, noticeKind}
-use Rattle.model.specs.Clients.{startNumber, sendNumber, sentBytes, receiveNumber, brought}
+use Rattle.model.specs.Limits.{callWindow, requestSize, grantSize, grantKind, noticeKind}
+use Rattle.model.specs.Packets.{parsePacket}
+use Rattle.model.specs.Clients.{placeOf, withCalls, receiveOf, startNumber, sendNumber, sentBytes, receiveNumber, brought}
 use Rattle.model.specs.Leases.{toldNumber, toldBytes}
+use Rattle.client.specs.Changes.{packetCall}
 use Rattle.client_c.specs.declared.StartReply.{StartReply}
 use Rattle.client_c.specs.declared.SendReply.{SendReply}
 use Rattle.client_c.specs.declared.ReceiveReply.{ReceiveReply}
@@ -39,8 +43,9 @@ sentCall (Asked q) = q .command .call
 unfoldable pub sendReply : Sent → SendReply
 sendReply a = record { number = sendNumber a; call = sentCall a; length = length (sentBytes a); packet = filled requestSize (sentBytes a) }
 
-abbrev pub sending : SendAnswer → Sending
-sending a = record { client = a .client; reply = sendReply (a .answer) }
+-- the reply is this answer's, and the client with what changes stored in it is the answer's client
+abbrev pub Sends : Client → Sending → SendAnswer → Type 0
+Sends d r a = (r .reply ≡ sendReply (a .answer)) × (withCalls d (r .next) (set (d .calls) (placeOf (d .next)) (r .call)) ≡ a .client)
 
 -- what it brings, a value in two's complement
 unfoldable pub receiveReply : Received → ReceiveReply
@@ -58,8 +63,19 @@ receiveReply a =
       refusal = b .refusal;
     }
 
-abbrev pub receiving : ReceiveAnswer → Receiving
-receiving a = record { client = a .client; reply = receiveReply (a .answer) }
+-- the call that a packet in bytes is of, 0 for none
+abbrev pub callIn : List ℕ → ℕ
+callIn b = packetCall (parsePacket b)
+
+-- i is its place
+abbrev pub Placed : List ℕ → ℕ → Type 0
+Placed b i = (i ≡ placeOf (callIn b)) × (i < callWindow)
+
+-- the reply is the answer's, and the client with what changes stored in it is the answer's client
+abbrev pub Receives : Client → List ℕ → Receiving → Type 0
+Receives d b r =
+    (r .reply ≡ receiveReply (receiveOf d b .answer))
+    × (record { client = d .client; lease = r .lease; next = d .next; calls = set (d .calls) (placeOf (callIn b)) (r .call) } ≡ receiveOf d b .client)
 
 -- the kind of what the lease manager gives
 unfoldable pub toldKind : Told → ℕ

@@ -3,24 +3,21 @@
 use model::constants;
 ghost use mathlib.Core.Path.{_≡_};
 ghost use Rattle.model.specs.Numbers.{flip};
-ghost use Rattle.model.specs.Clients.{startOf, startNumber, issueOf, resendOf, receiveOf};
+ghost use Rattle.model.specs.Clients.{callAt, startOf, issueOf, resendOf, receiveOf};
 ghost use Rattle.model.specs.Leases.{newManager, openOf, renewOf, queryOf};
-ghost use Rattle.client_c.specs.Replies.{startReply, sendReply, sending, receiveReply, receiving, leaseReply, leasing};
+ghost use Rattle.client_c.specs.Replies.{startReply, sendReply, Sends, receiveReply, callIn, Placed, Receives, leaseReply, leasing};
 use model::Client;
 use model::Grant;
 use model::Lease;
 use model::LeaseAnswer;
 use model::LeaseManager;
 use model::Notice;
-use model::ReceiveAnswer;
+use model::OpenCall;
 use model::Received;
 use model::RefusalPacket;
 use model::Request;
 use model::ResultPacket;
-use model::SendAnswer;
 use model::Sent;
-use model::StartAnswer;
-use model::Started;
 use model::Told;
 
 // ---- what C is given
@@ -64,15 +61,17 @@ pub struct LeaseReply {
     pub packet: [u8; constants::GRANT_SIZE],
 }
 
-// ---- replies, by value
+// ---- replies, by value, and what changes: in a client the next number or the lease end, and what stands at one place
 
 pub struct Sending {
-    pub client: Client,
+    pub next: u32,
+    pub call: OpenCall,
     pub reply: SendReply,
 }
 
 pub struct Receiving {
-    pub client: Client,
+    pub lease: u32,
+    pub call: OpenCall,
     pub reply: ReceiveReply,
 }
 
@@ -100,18 +99,6 @@ fn send_reply(a: Sent) -> SendReply
                 packet: p,
             }
         }
-    }
-}
-
-fn with_send_reply(a: SendAnswer) -> Sending
-    ensures { λ r. ⌜ r ≡ sending a ⌝ }
-{
-    let d = a.client;
-    let s = a.answer;
-    let r = send_reply(s);
-    Sending {
-        client: d,
-        reply: r,
     }
 }
 
@@ -166,27 +153,6 @@ fn receive_reply(a: Received) -> ReceiveReply
     }
 }
 
-fn with_receive_reply(a: ReceiveAnswer) -> Receiving
-    ensures { λ r. ⌜ r ≡ receiving a ⌝ }
-{
-    let d = a.client;
-    let s = a.answer;
-    let r = receive_reply(s);
-    Receiving {
-        client: d,
-        reply: r,
-    }
-}
-
-fn start_number(a: Started) -> u32
-    ensures { λ r. ⌜ r ≡ startNumber a ⌝ }
-{
-    match a {
-        Started::NotStarted(n) => n,
-        Started::Running => constants::NO_REFUSAL,
-    }
-}
-
 fn lease_reply(a: Told) -> LeaseReply
     ensures { λ r. ⌜ r ≡ leaseReply a ⌝ }
 {
@@ -230,35 +196,68 @@ fn with_lease_reply(a: LeaseAnswer) -> Leasing
     }
 }
 
-// ---- the client's operations, by value
+// ---- the client's operations, by value; k is what stands at the call's place
 
 // The argument in two's complement; an op or a point past a byte is malformed, as any past its range.
-fn issue_value(d: Client, op: u32, point: u32, argument: u32) -> Sending
-    ensures { λ r. ⌜ r ≡ sending (issueOf d op point (flip argument)) ⌝ }
+fn issue_value(d: Client, k: OpenCall, op: u32, point: u32, argument: u32) -> Sending
+    requires { ⌜ k ≡ callAt d (d .next) ⌝ }
+    ensures { λ r. ⌜ Sends d r (issueOf d op point (flip argument)) ⌝ }
 {
     if (constants::LAST_8 < op) | (constants::LAST_8 < point) {
-        let q = SendAnswer {
-            client: d,
-            answer: Sent::NotSent(constants::MALFORMED),
+        let reply = send_reply(Sent::NotSent(constants::MALFORMED));
+        return Sending {
+            next: d.next,
+            call: k,
+            reply,
         };
-        return with_send_reply(q);
     }
-    let a = client::issue(d, op as u8, point as u8, format_numbers::flipped(argument));
-    with_send_reply(a)
+    let c = client::issue_change(
+        d,
+        k,
+        op as u8,
+        point as u8,
+        format_numbers::flipped(argument),
+    );
+    let call = c.call;
+    let a = c.answer;
+    let reply = send_reply(a);
+    Sending {
+        next: c.next,
+        call,
+        reply,
+    }
 }
 
-fn resend_value(d: Client, call: u32) -> Sending
-    ensures { λ r. ⌜ r ≡ sending (resendOf d call) ⌝ }
+fn resend_value(d: Client, k: OpenCall, call: u32) -> SendReply
+    requires { ⌜ k ≡ callAt d call ⌝ }
+    ensures { λ r. ⌜ r ≡ sendReply (resendOf d call .answer) ⌝ }
 {
-    let a = client::resend(d, call);
-    with_send_reply(a)
+    let a = client::resend_answer(d, k, call);
+    send_reply(a)
 }
 
-fn receive_value(d: Client, packet: &[u8]) -> Receiving
-    ensures { λ r. ⌜ r ≡ receiving (receiveOf d (now (packet .entry))) ⌝ }
+// The place of the packet's call.
+fn packet_place(packet: &[u8]) -> usize
+    ensures { λ r. ⌜ Placed (now (packet .entry)) r ⌝ }
 {
-    let a = client::receive(d, packet);
-    with_receive_reply(a)
+    let p = format_packet_reader::parse_packet(packet);
+    client::place_of(client::packet_call(p))
+}
+
+fn receive_value(d: Client, k: OpenCall, packet: &[u8]) -> Receiving
+    requires { ⌜ k ≡ callAt d (callIn (now packet)) ⌝ }
+    ensures { λ r. ⌜ Receives d (now (packet .entry)) r ⌝ }
+{
+    let p = format_packet_reader::parse_packet(packet);
+    let c = client::receive_change(d, k, p);
+    let call = c.call;
+    let s = c.answer;
+    let reply = receive_reply(s);
+    Receiving {
+        lease: c.lease,
+        call,
+        reply,
+    }
 }
 
 // ---- the lease manager's operations, by value
@@ -284,19 +283,27 @@ fn query_value(m: LeaseManager, client: u32, time: u32) -> Leasing
     with_lease_reply(a)
 }
 
-// ---- for C: the client. Start makes one; the others are lent it.
+// ---- for C: the client. Start makes one; the others are lent it, and store what changes.
 
 #[no_mangle]
 pub extern "C" fn mantelorris_start(packet: &[u8]) -> StartReply
     ensures { λ r. ⌜ r ≡ startReply (startOf (now (packet .entry))) ⌝ }
 {
-    let a = client::start(packet);
-    let d = a.client;
-    let s = a.answer;
-    let n = start_number(s);
+    let s = client::start(packet);
+    let k = OpenCall {
+        call: 0,
+        op: 0,
+        point: 0,
+        argument: 0,
+    };
     StartReply {
-        client: d,
-        number: n,
+        client: Client {
+            client: s.client,
+            lease: s.lease,
+            next: s.next,
+            calls: [k; constants::CALL_WINDOW],
+        },
+        number: s.number,
     }
 }
 
@@ -305,8 +312,10 @@ pub extern "C" fn mantelorris_issue(d: &mut Client, op: u32, point: u32, argumen
     ensures { λ r. ⌜ (r ≡ sendReply (issueOf (now (d .entry)) op point (flip argument) .answer))
         × (now (d .exit) ≡ issueOf (now (d .entry)) op point (flip argument) .client) ⌝ }
 {
-    let r = issue_value(*d, op, point, argument);
-    *d = r.client;
+    let i = client::place_of(d.next);
+    let r = issue_value(*d, d.calls[i], op, point, argument);
+    d.next = r.next;
+    d.calls[i] = r.call;
     r.reply
 }
 
@@ -314,9 +323,8 @@ pub extern "C" fn mantelorris_issue(d: &mut Client, op: u32, point: u32, argumen
 pub extern "C" fn mantelorris_resend(d: &mut Client, call: u32) -> SendReply
     ensures { λ r. ⌜ (r ≡ sendReply (resendOf (now (d .entry)) call .answer)) × (now (d .exit) ≡ resendOf (now (d .entry)) call .client) ⌝ }
 {
-    let r = resend_value(*d, call);
-    *d = r.client;
-    r.reply
+    let i = client::place_of(call);
+    resend_value(*d, d.calls[i], call)
 }
 
 #[no_mangle]
@@ -324,8 +332,10 @@ pub extern "C" fn mantelorris_receive(d: &mut Client, packet: &[u8]) -> ReceiveR
     ensures { λ r. ⌜ (r ≡ receiveReply (receiveOf (now (d .entry)) (now (packet .entry)) .answer))
         × (now (d .exit) ≡ receiveOf (now (d .entry)) (now (packet .entry)) .client) ⌝ }
 {
-    let r = receive_value(*d, packet);
-    *d = r.client;
+    let i = packet_place(packet);
+    let r = receive_value(*d, d.calls[i], packet);
+    d.lease = r.lease;
+    d.calls[i] = r.call;
     r.reply
 }
 

@@ -105,7 +105,7 @@ crash-state plan n s h es c d l =
 
 -- ---- recovery of any bytes
 
-head-limit : (s : List ℕ) → headOk s ≡ true → headServer s ≤ lastServer
+pub head-limit : (s : List ℕ) → headOk s ≡ true → headServer s ≤ lastServer
 unfolding headOk
 head-limit s e =
     leb-true _ _

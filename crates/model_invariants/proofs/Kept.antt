@@ -9,7 +9,7 @@
 --     decides-mark, apply-mark     decisions and records do not depend on the mark
 -- Assumes nothing.
 use Prim.Native.Nat.{ℕ, zero, suc, _+_, _≤_, _<_}
-use mathlib.Core.Path.{_≡_, refl, sym, ap, _∙_}
+use mathlib.Core.Path.{_≡_, refl, _∙_}
 use mathlib.Core.Bool.{Bool, true, false, _&&_, not, false≢true}
 use mathlib.Core.List.{List, [], _∷_, map}
 use mathlib.Core.Option.{Option, none, some}
@@ -26,7 +26,7 @@ use Rattle.model.specs.declared.Give.{Give}
 use Rattle.model.specs.declared.Release.{Release}
 use Rattle.model.specs.declared.Completion.{Completion}
 use Rattle.model.specs.Choice.{pick, append, marks, isPassed}
-use Rattle.model.specs.Limits.{lastPoint, lastServer, headSize, executedSize, goneSize, giveSize, takeHead, releaseSize}
+use Rattle.model.specs.Limits.{lastPoint, lastServer, headSize, executedSize, giveSize, takeHead, releaseSize}
 use Rattle.model.specs.Plan.{entryAt, noEntry, inRange}
 use Rattle.model.specs.Rules.{argumentOk}
 use Rattle.model.specs.Packets.{commandOk, outcomeOk, idOk, doneOk, requestOk}
@@ -47,7 +47,7 @@ use Rattle.model_invariants.specs.History.{GoodPlan, StartBy, Start, Dec
 use Rattle.model_invariants.proofs.Floors.{eqb-same, eqb-no}
 use Rattle.model_invariants.proofs.Tests.{sound-entry, split, entry-good, in-range, range-in}
 use Rattle.model_invariants.proofs.Steps.{sound-executed, sound-gone, sound-gave, sound-took, sound-released, sound-mark}
-use Rattle.model_invariants.proofs.Decided.{find-fresh, fresh-find, request-tests, tests-request, new-tests, tests-new, notice-tests, tests-notice, give-tests, tests-give, take-tests, tests-take, release-tests, tests-release, request-passed, request-terms, request-appends, notice-passed, give-passed, take-passed, release-passed, sync-passed}
+use Rattle.model_invariants.proofs.Decided.{find-fresh, request-tests, new-tests, give-tests, take-tests, release-tests, request-again, new-again, notice-again, give-again, take-again, release-again, Requested, requested, requested-appends, request-passed, request-terms, notice-passed, give-passed, take-passed, release-passed, sync-passed}
 
 -- ---- founding
 
@@ -249,32 +249,20 @@ decided-good st free r S (byTake i G e) = rw (take-passed st free i r e .2) G
 decided-good st free r S (byRelease p m l e) =
     rw (release-passed st free p m r e .2) (record { point = l; moveNumber = S .point p l .moveNumber })
 
-request-follows : {P : ℕ → Type 0} (v : Versions) (st : State) (q : Request) → SoundBy P st → GoodRequest q → PassedRequest st (q .command .client) (q .command .call) (q .command .point)
+request-follows : {P : ℕ → Type 0} (v : Versions) (st : State) (free : ℕ) (q : Request) (r : LogRecord) → SoundBy P st → GoodRequest q → Requested v st free q r
     → follows st (executed (executedFor v st q)) ≡ true
 unfolding follows executedFor isNone
-request-follows v st q S G P =
-    let c = q .command in
-    let f : ℕ = floorOf (c .client) (st .floors) in
-    rw (tests-request (pointAt st (c .point)) false f (c .call) (P .held) refl (P .over), fresh-find (c .client) (c .call) (st .records) (P .fresh), tests-new f (length (st .floors)) executedSize (P .place) (omega arith))
-    (result-good v st q S G .range)
+request-follows v st free q r S G k = rw (request-again _ _ _ _ (k .first), k .fresh, new-again _ _ _ (k .second)) (result-good v st q S G .range)
 
 pub decided-follows : {P : ℕ → Type 0} (st : State) (free : ℕ) (r : LogRecord) → SoundBy P st → Decides st free r → follows st r ≡ true
 unfolding follows
-decided-follows st free r S (byRequest v q G e) = let k = request-passed v st free q r e in rw (k .1) (request-follows v st q S G (k .0))
-decided-follows st free r S (byNotice n G e) =
-    let k = notice-passed st free n r e in
-    rw (k .2, tests-notice (floorOf (n .client) (st .floors)) goneSize (k .0) (omega arith))
+decided-follows st free r S (byRequest v q G e) = let k = requested v st free q r e in rw (k .same) (request-follows v st free q r S G k)
+decided-follows st free r S (byNotice n G e) = rw (notice-passed st free n r e .2, notice-again st free n e)
 decided-follows st free r S (byGive p d e) =
-    let k = give-passed st free p d r e in
-    let a = tests-give st giveSize p d (k .0) (omega arith) in
-    rw (k .2, a .0, a .1, eqb-same (suc (pointAt st p .moveNumber)))
-decided-follows st free r S (byTake i G e) =
-    let k = take-passed st free i r e in
-    rw (k .2, tests-take st (takeHead + imageLength i) i (k .0) (omega arith))
-decided-follows st free r S (byRelease p m l e) =
-    let k = release-passed st free p m r e in
-    let n = pointAt st p .moveNumber in
-    rw (k .2, tests-release st releaseSize p n (record { given = k .0 .given; newer = omega arith }) (omega arith), eqb-same n)
+    let a = give-again st free p d e in
+    rw (give-passed st free p d r e .2, a .0, a .1, eqb-same (suc (pointAt st p .moveNumber)))
+decided-follows st free r S (byTake i G e) = rw (take-passed st free i r e .2, take-again st free i e)
+decided-follows st free r S (byRelease p m l e) = rw (release-passed st free p m r e .2, release-again st free p m e, eqb-same (pointAt st p .moveNumber))
 
 pub decided-sound : {P : ℕ → Type 0} (st : State) (free : ℕ) (r : LogRecord) → SoundBy P st → Decides st free r → P (st .size + recordSize r)
     → SoundBy P (applyRecord r (st .size + recordSize r) st)
@@ -298,12 +286,8 @@ request-mark : (v : Versions) (st : State) (m free : ℕ) (q : Request) (r : Log
     → decideRequest v st free q ≡ append r
 unfolding withMark pointAt executedFor resultFor
 request-mark v st m free q r e =
-    let k = request-passed v (withMark m st) free q r e in
-    let t = request-terms v (withMark m st) free q r e in
-    let x : r ≡ executed (executedFor v st q) = k .1 in
-    let P : PassedRequest st (q .command .client) (q .command .call) (q .command .point)
-    = record { held = k .0 .held; over = k .0 .over; fresh = k .0 .fresh; place = k .0 .place } in
-    request-appends v st free q P (t .0) (t .1) ∙ ap append (sym x)
+    let k = requested v (withMark m st) free q r e in
+    requested-appends v st free q r (record { first = k .first; fresh = k .fresh; second = k .second; same = k .same })
 
 -- what is decided does not depend on the mark
 pub decides-mark : (st : State) (free : ℕ) (m : ℕ) (r : LogRecord) → Decides (withMark m st) free r → Decides st free r

@@ -281,7 +281,8 @@ sound-executed st x S G P v z =
       points = length-set (st .points) (x .command .point) _ ∙ S .points;
       point =
           set-point (st .server) end (st .plan) (st .points) (x .command .point) _ (S .points) (points-grow st S end up)
-          (λ (l : x .command .point ≤ lastPoint). executed-point (st .server) end (entryAt (st .plan) (x .command .point)) x _ (points-grow st S end up (x .command .point) l) (P .held) (T .quality) v);
+          (λ (l : x .command .point ≤ lastPoint).
+          executed-point (st .server) end (entryAt (st .plan) (x .command .point)) x _ (points-grow st S end up (x .command .point) l) (P .held) (T .quality) v);
       clients = most;
       floors =
           raise-good (x .command .client) (x .done) (st .floors)

@@ -472,10 +472,11 @@ unfolding idsDiffer
 differ [] h = tt
 differ (r ∷ rs) h =
     let t : Completion → Bool = λ (q : Completion). not (isId (r .command .client) (r .command .call) q) in
-    let a = split (every t rs) (idsDiffer rs) h in (
-      all-to rs (λ (q : Completion) (k : t q ≡ true) (c : r .command .client ≡ q .command .client) (d : r .command .call ≡ q .command .call). not-id (r .command .client) (r .command .call) q (not-true _ k) (sym c) (sym d)) (every-all t rs (a .0)),
-      differ rs (a .1),
-    )
+    let a = split (every t rs) (idsDiffer rs) h in
+    (all-to rs other (every-all t rs (a .0)), differ rs (a .1))
+  where
+    other : (q : Completion) → not (isId (r .command .client) (r .command .call) q) ≡ true → Other r q
+    other q k c d = not-id (r .command .client) (r .command .call) q (not-true _ k) (sym c) (sym d)
 
 pub differ-test : (rs : List Completion) → Distinct rs → idsDiffer rs ≡ true
 unfolding idsDiffer
@@ -483,8 +484,10 @@ differ-test [] d = refl
 differ-test (r ∷ rs) d =
     let t : Completion → Bool = λ (q : Completion). not (isId (r .command .client) (r .command .call) q) in
     and-both (every t rs) (idsDiffer rs)
-    (all-every t rs (all-to rs (λ (q : Completion) (o : Other r q). not-of-false _ (id-not (r .command .client) (r .command .call) q (λ (c : q .command .client ≡ r .command .client) (e : q .command .call ≡ r .command .call). o (sym c) (sym e)))) (d .0)))
-    (differ-test rs (d .1))
+    (all-every t rs (all-to rs other (d .0))) (differ-test rs (d .1))
+  where
+    other : (q : Completion) → Other r q → not (isId (r .command .client) (r .command .call) q) ≡ true
+    other q o = not-of-false _ (id-not (r .command .client) (r .command .call) q (λ c e. o (sym c) (sym e)))
 
 -- ---- order of arrival
 

@@ -5,19 +5,33 @@ use mathlib.Core.Path.{_≡_}
 use mathlib.Core.List.{List}
 use mathlib.Core.Logic.{_≢_}
 use lib.ListN.{length}
+use lib.Dec.{leb}
+use Rattle.model.specs.declared.PlanEntry.{PlanEntry}
 use Rattle.model.specs.declared.Completion.{Completion}
+use Rattle.model.specs.declared.Request.{Request}
 use Rattle.model.specs.declared.ImageEntry.{ImageEntry}
 use Rattle.model.specs.Limits.{lastPoint, lastServer, last32, clientCount}
 use Rattle.model.specs.Plan.{entryAt}
 use Rattle.model.specs.Images.{Image, floorOf}
 use Rattle.model.specs.States.{State, pointAt, held, given}
 use Rattle.model.specs.Apply.{mergeFloors}
+use Rattle.model.specs.Decisions.{requestRefusal}
 use Rattle.model_laws.specs.Bytes.{All}
 use Rattle.model_invariants.specs.Sound.{GoodValues}
 
 -- no record has the id
 abbrev pub Fresh : ℕ → ℕ → List Completion → Type 0
 Fresh x c rs = All (λ (r : Completion). r .command .client ≡ x → r .command .call ≡ c → ⊥) rs
+
+-- the request q passes the tests that stand before its id is looked up
+abbrev pub Admits : State → Request → Type 0
+Admits st q =
+    requestRefusal (pointAt st (q .command .point)) (leb (q .lease) (st .heard)) (floorOf (q .command .client) (st .floors)) (q .command .call) ≡ 0
+
+-- a request that a server founded with this plan and number executes: the server is the point's home, the lease is not over from the start
+pub record FirstRequest (plan : List PlanEntry) (n : ℕ) (q : Request) : Type 0 where
+  pub home : entryAt plan (q .command .point) .home ≡ n
+  pub lease : 0 < q .lease
 
 -- a request of client x, call c, on point p; the lease apart
 pub record PassedRequest (st : State) (x c p : ℕ) : Type 0 where

@@ -162,14 +162,12 @@ pub packet-bytes : (p : Packet) → packetFits p → Bytes (packetBytes p)
 unfolding packetBytes requestBytes resultBytes refusalBytes receiptBytes noticeBytes grantBytes
 packet-bytes Malformed f = bytes-nil
 packet-bytes (Requested q) f =
-    bytes-run (quad requestKind (q .command .op) (q .command .point) 0 ∷ le32 (q .command .client) ∷ le32 (q .command .call) ∷ le32 (q .done) ∷ le32 (q .lease) ∷ signed32 (q .command .argument) ∷ []) (
-      bytes-quad requestKind (q .command .op) (q .command .point) 0 (lit< tt) (f .op) (f .point) (lit< tt),
+    let c = q .command in
+    bytes-run (quad requestKind (c .op) (c .point) 0 ∷ le32 (c .client) ∷ le32 (c .call) ∷ le32 (q .done) ∷ le32 (q .lease) ∷ signed32 (c .argument) ∷ []) (
+      bytes-quad requestKind (c .op) (c .point) 0 (lit< tt) (f .op) (f .point) (lit< tt),
       (
-        bytes-le32 (q .command .client) (f .client),
-        (
-          bytes-le32 (q .command .call) (f .call),
-          (bytes-le32 (q .done) (f .done), (bytes-le32 (q .lease) (f .lease), (bytes-signed32 (q .command .argument), tt))),
-        ),
+        bytes-le32 (c .client) (f .client),
+        (bytes-le32 (c .call) (f .call), (bytes-le32 (q .done) (f .done), (bytes-le32 (q .lease) (f .lease), (bytes-signed32 (c .argument), tt)))),
       ),
     )
 packet-bytes (Resulted r) f =

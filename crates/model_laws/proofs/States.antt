@@ -114,11 +114,11 @@ point-test x rest = refl
 pub point-again : (s : List ℕ) → Bytes s → pointRow ≤ length s → pointRowOk s ≡ true → pointBytes (pointOf s) ≡ take pointRow s
 unfolding pointOf pointBytes pointRowOk
 point-again s h b t =
-    part-join s 0 4 28 (quad-again s 0 (omega arith) refl refl refl (sym (zero-at s 3 t)))
-    (part-join s 4 4 24 (signed-again s 4 h (omega arith))
-    (part-join s 8 4 20 (le32-again s 8 h (omega arith))
-    (part-join s 12 4 16 (le32-again s 12 h (omega arith))
-    (part-join s 16 8 8 (le64-again s 16 h (omega arith)) (le64-again s 24 h (omega arith))))))
+    part-join s 0 4 (pointRow - 4) (quad-again s 0 (omega arith) refl refl refl (sym (zero-at s 3 t)))
+    (part-join s 4 4 (pointRow - 8) (signed-again s 4 h (omega arith))
+    (part-join s 8 4 (pointRow - 12) (le32-again s 8 h (omega arith))
+    (part-join s 12 4 (pointRow - 16) (le32-again s 12 h (omega arith))
+    (part-join s 16 8 (pointRow - 24) (le64-again s 16 h (omega arith)) (le64-again s 24 h (omega arith))))))
 
 pub point-fit : (s : List ℕ) → Bytes s → PointFits (pointOf s)
 unfolding pointOf
@@ -214,11 +214,11 @@ completion-at r rest h =
 pub completion-again : (s : List ℕ) → Bytes s → recordRow ≤ length s → completionBytes (completionOf s) ≡ take recordRow s
 unfolding completionOf completionBytes
 completion-again s h b =
-    part-join s 0 4 24 (le32-again s 0 h (omega arith))
-    (part-join s 4 4 20 (le32-again s 4 h (omega arith))
-    (part-join s 8 4 16 (signed-again s 8 h (omega arith))
-    (part-join s 12 4 12 (signed-again s 12 h (omega arith))
-    (part-join s 16 4 8 (quad-again s 16 (omega arith) refl refl refl refl) (le64-again s 20 h (omega arith))))))
+    part-join s 0 4 (recordRow - 4) (le32-again s 0 h (omega arith))
+    (part-join s 4 4 (recordRow - 8) (le32-again s 4 h (omega arith))
+    (part-join s 8 4 (recordRow - 12) (signed-again s 8 h (omega arith))
+    (part-join s 12 4 (recordRow - 16) (signed-again s 12 h (omega arith))
+    (part-join s 16 4 (recordRow - 20) (quad-again s 16 (omega arith) refl refl refl refl) (le64-again s 20 h (omega arith))))))
 
 pub completion-fit : (s : List ℕ) → Bytes s → CompletionFits (completionOf s)
 unfolding completionOf
@@ -300,13 +300,13 @@ module _ (st : State) where
   state-head-length = refl
 
   module _ (f : StateFits st) where
-    points-length : length (bytesOf pointBytes (st .points)) ≡ 2048
-    points-length = length-bytesOf pointCodec (st .points) ∙ ap (λ (x : ℕ). 32 * x) (f .points-count)
+    points-length : length (bytesOf pointBytes (st .points)) ≡ pointRow * pointCount
+    points-length = length-bytesOf pointCodec (st .points) ∙ ap (λ (x : ℕ). pointRow * x) (f .points-count)
 
-    floors-length : length (padded floorBytes floorRow clientCount (st .floors)) ≡ 256
+    floors-length : length (padded floorBytes floorRow clientCount (st .floors)) ≡ floorRow * clientCount
     floors-length = padded-length floorCodec clientCount (st .floors) (f .floors-count)
 
-    records-length : length (padded completionBytes recordRow recordCount (st .records)) ≡ 14336
+    records-length : length (padded completionBytes recordRow recordCount (st .records)) ≡ recordRow * recordCount
     records-length = padded-length completionCodec recordCount (st .records) (f .records-count)
 
     pub state-length : length (stateBytes st) ≡ stateEnd
@@ -360,7 +360,7 @@ module _ (st : State) where
       drop-plan : drop pointsStart (stateBytes st ++ rest)
           ≡ bytesOf pointBytes (st .points) ++ (padded floorBytes floorRow clientCount (st .floors) ++ (padded completionBytes recordRow recordCount (st .records) ++ rest))
       drop-plan =
-          sym (drop-drop planSize 40 (stateBytes st ++ rest))
+          sym (drop-drop planSize stateHead (stateBytes st ++ rest))
           ∙ ap (λ (x : List ℕ). drop planSize x) drop-head
           ∙ drop-at (planBytes (st .plan))
           (bytesOf pointBytes (st .points) ++ (padded floorBytes floorRow clientCount (st .floors) ++ (padded completionBytes recordRow recordCount (st .records) ++ rest)))
@@ -369,15 +369,16 @@ module _ (st : State) where
       drop-points : drop floorsStart (stateBytes st ++ rest)
           ≡ padded floorBytes floorRow clientCount (st .floors) ++ (padded completionBytes recordRow recordCount (st .records) ++ rest)
       drop-points =
-          sym (drop-drop 2048 pointsStart (stateBytes st ++ rest))
-          ∙ ap (λ (x : List ℕ). drop 2048 x) drop-plan
-          ∙ drop-at (bytesOf pointBytes (st .points)) (padded floorBytes floorRow clientCount (st .floors) ++ (padded completionBytes recordRow recordCount (st .records) ++ rest)) 2048 points-length
+          sym (drop-drop (pointRow * pointCount) pointsStart (stateBytes st ++ rest))
+          ∙ ap (λ (x : List ℕ). drop (pointRow * pointCount) x) drop-plan
+          ∙ drop-at (bytesOf pointBytes (st .points)) (padded floorBytes floorRow clientCount (st .floors) ++ (padded completionBytes recordRow recordCount (st .records) ++ rest))
+          (pointRow * pointCount) points-length
 
       drop-floors : drop recordsStart (stateBytes st ++ rest) ≡ padded completionBytes recordRow recordCount (st .records) ++ rest
       drop-floors =
-          sym (drop-drop 256 floorsStart (stateBytes st ++ rest))
-          ∙ ap (λ (x : List ℕ). drop 256 x) drop-points
-          ∙ drop-at (padded floorBytes floorRow clientCount (st .floors)) (padded completionBytes recordRow recordCount (st .records) ++ rest) 256 floors-length
+          sym (drop-drop (floorRow * clientCount) floorsStart (stateBytes st ++ rest))
+          ∙ ap (λ (x : List ℕ). drop (floorRow * clientCount) x) drop-points
+          ∙ drop-at (padded floorBytes floorRow clientCount (st .floors)) (padded completionBytes recordRow recordCount (st .records) ++ rest) (floorRow * clientCount) floors-length
 
       clients-at : clientsIn (stateBytes st ++ rest) ≡ length (st .floors)
       unfolding clientsIn stateBytes stateHeadBytes le32At
@@ -589,23 +590,24 @@ module _ (s : List ℕ) (h : Bytes s) (d : Sound s) where
   state-head-again =
       let z = zeros3-at s 5 (d .at5) in
       let l : stateEnd ≤ length s = d .long in
-      part-join s 0 4 36 (quad-again s 0 (omega arith) (sym (d .at0)) (sym (d .at1)) (sym (d .at2)) (sym (d .at3)))
-      (part-join s 4 4 32 (quad-again s 4 (omega arith) refl (sym (z .0)) (sym (z .1)) (sym (z .2)))
-      (part-join s 8 4 28 (le32-again s 8 h (omega arith))
-      (part-join s 12 4 24 (le32-is s 12 h (omega arith) (unfold clientsIn in loaded-floors))
-      (part-join s 16 4 20 (le32-is s 16 h (omega arith) (unfold recordsIn in loaded-records))
-      (part-join s 20 4 16 (le32-is s 20 h (omega arith) (sym (d .at20)))
-      (part-join s 24 8 8 (le64-again s 24 h (omega arith)) (le64-again s 32 h (omega arith))))))))
+      part-join s 0 4 (stateHead - 4) (quad-again s 0 (omega arith) (sym (d .at0)) (sym (d .at1)) (sym (d .at2)) (sym (d .at3)))
+      (part-join s 4 4 (stateHead - 8) (quad-again s 4 (omega arith) refl (sym (z .0)) (sym (z .1)) (sym (z .2)))
+      (part-join s 8 4 (stateHead - 12) (le32-again s 8 h (omega arith))
+      (part-join s 12 4 (stateHead - 16) (le32-is s 12 h (omega arith) (unfold clientsIn in loaded-floors))
+      (part-join s 16 4 (stateHead - 20) (le32-is s 16 h (omega arith) (unfold recordsIn in loaded-records))
+      (part-join s 20 4 (stateHead - 24) (le32-is s 20 h (omega arith) (sym (d .at20)))
+      (part-join s 24 8 (stateHead - 32) (le64-again s 24 h (omega arith)) (le64-again s 32 h (omega arith))))))))
 
   state-again : stateBytes (load s) ≡ part 0 stateEnd s
   unfolding stateBytes load planBytes
   state-again =
       let l : stateEnd ≤ length s = d .long in
-      part-join s 0 40 17664 state-head-again
-      (part-join s 40 planSize 16640 (rows-again planCodec pointCount (drop stateHead s) (bytes-drop stateHead s h) (omega (arith, length-drop stateHead s)) (d .plan-rows))
-      (part-join s pointsStart 2048 14592 (rows-again pointCodec pointCount (drop pointsStart s) (bytes-drop pointsStart s h) (omega (arith, length-drop pointsStart s)) (d .point-rows))
-      (part-join s floorsStart 256 14336
-      (padded-again floorCodec clientCount s floorsStart (clientsIn s) h (d .few-clients) (omega arith) (everyRow-true 8 (clientsIn s) (drop floorsStart s)) (d .past-clients))
+      part-join s 0 stateHead (stateEnd - stateHead) state-head-again
+      (part-join s stateHead planSize (stateEnd - pointsStart) (rows-again planCodec pointCount (drop stateHead s) (bytes-drop stateHead s h) (omega (arith, length-drop stateHead s)) (d .plan-rows))
+      (part-join s pointsStart (pointRow * pointCount) (stateEnd - floorsStart)
+      (rows-again pointCodec pointCount (drop pointsStart s) (bytes-drop pointsStart s h) (omega (arith, length-drop pointsStart s)) (d .point-rows))
+      (part-join s floorsStart (floorRow * clientCount) (stateEnd - recordsStart)
+      (padded-again floorCodec clientCount s floorsStart (clientsIn s) h (d .few-clients) (omega arith) (everyRow-true floorRow (clientsIn s) (drop floorsStart s)) (d .past-clients))
       (padded-again completionCodec recordCount s recordsStart (recordsIn s) h (d .few-records) (omega arith) (everyRow-true recordRow (recordsIn s) (drop recordsStart s)) (d .past-records)))))
 
   pub written-state : written s 0 (stateBytes (load s)) ≡ s
@@ -620,10 +622,10 @@ module _ (s : List ℕ) (h : Bytes s) (d : Sound s) where
         size = le64-below s 24 h;
         mark = le64-below s 32 h;
         plan = rows-fit planCodec pointCount (drop stateHead s) (bytes-drop stateHead s h) (d .plan-rows);
-        plan-count = length-rows planEntryOf planRow 64 (drop stateHead s);
+        plan-count = length-rows planEntryOf planRow pointCount (drop stateHead s);
         points = rows-fit pointCodec pointCount (drop pointsStart s) (bytes-drop pointsStart s h) (d .point-rows);
-        points-count = length-rows pointOf pointRow 64 (drop pointsStart s);
-        floors = rows-fit floorCodec (clientsIn s) (drop floorsStart s) (bytes-drop floorsStart s h) (everyRow-true 8 (clientsIn s) (drop floorsStart s));
+        points-count = length-rows pointOf pointRow pointCount (drop pointsStart s);
+        floors = rows-fit floorCodec (clientsIn s) (drop floorsStart s) (bytes-drop floorsStart s h) (everyRow-true floorRow (clientsIn s) (drop floorsStart s));
         floors-count = rw (length-rows floorOfBytes floorRow (clientsIn s) (drop floorsStart s)) (d .few-clients);
         records = rows-fit completionCodec (recordsIn s) (drop recordsStart s) (bytes-drop recordsStart s h) (everyRow-true recordRow (recordsIn s) (drop recordsStart s));
         records-count = rw (length-rows completionOf recordRow (recordsIn s) (drop recordsStart s)) (d .few-records);

@@ -22,7 +22,7 @@ use Rattle.model.specs.Numbers.{le32, le64}
 use Rattle.model.specs.Tables.{bytesOf, written}
 use Rattle.model.specs.Plan.{planBytes}
 use Rattle.model.specs.Images.{floorBytes}
-use Rattle.model.specs.States.{State, stateHeadBytes, stateBytes, padded, pointBytes, completionBytes, pointsStart, floorsStart, recordsStart, recordRow}
+use Rattle.model.specs.States.{State, stateHeadBytes, stateBytes, padded, pointBytes, completionBytes, stateHead, pointsStart, floorsStart, recordsStart, pointRow, recordRow}
 use Rattle.model.specs.Apply.{withMark}
 use Rattle.model.specs.Limits.{pointCount, clientCount, recordCount, floorRow, planSize}
 use Rattle.model_laws.specs.Codec.{Codec}
@@ -143,7 +143,7 @@ module _ (s : List ℕ) (st : State) (m n : ℕ) (fs rs : List ℕ) where
       nested-front s (layout st m n fs rs) 32 (le64 k) (omega arith)
       ∙ ap (λ (x : List ℕ). written s 0 (headWith (withMark k st) m n ++ x)) (written-none (planBytes (st .plan) ++ (bytesOf pointBytes (st .points) ++ (fs ++ rs))) 0)
 
-  head-length : length (headWith st m n) ≡ 40
+  head-length : length (headWith st m n) ≡ stateHead
   unfolding headWith le64
   head-length = refl
 
@@ -161,10 +161,10 @@ module _ (s : List ℕ) (st : State) (m n : ℕ) (fs rs : List ℕ) where
         → written (layout st m n fs rs) (pointsStart + i) vs ≡ headWith st m n ++ (planBytes (st .plan) ++ (written (bytesOf pointBytes (st .points)) i vs ++ (fs ++ rs)))
     unfolding layout
     in-points i vs h =
-        let e : pointsStart + i ≡ 40 + (planSize + i) = omega arith in
+        let e : pointsStart + i ≡ stateHead + (planSize + i) = omega arith in
         rw (
           e,
-          written-second (headWith st m n) (planBytes (st .plan) ++ (bytesOf pointBytes (st .points) ++ (fs ++ rs))) 40 (planSize + i) vs head-length,
+          written-second (headWith st m n) (planBytes (st .plan) ++ (bytesOf pointBytes (st .points) ++ (fs ++ rs))) stateHead (planSize + i) vs head-length,
           written-second (planBytes (st .plan)) (bytesOf pointBytes (st .points) ++ (fs ++ rs)) planSize i vs (plan-length (st .plan) p64),
           written-first (bytesOf pointBytes (st .points)) (fs ++ rs) i vs h,
         )
@@ -180,19 +180,19 @@ module _ (s : List ℕ) (st : State) (m n : ℕ) (fs rs : List ℕ) where
 
     -- bytes of the two tables
     module _ (x64 : length (st .points) ≡ pointCount) where
-      points-length : length (bytesOf pointBytes (st .points)) ≡ 2048
-      points-length = length-bytesOf pointCodec (st .points) ∙ ap (λ (k : ℕ). 32 * k) x64
+      points-length : length (bytesOf pointBytes (st .points)) ≡ pointRow * pointCount
+      points-length = length-bytesOf pointCodec (st .points) ∙ ap (λ (k : ℕ). pointRow * k) x64
 
       in-tables : (i : ℕ) (vs : List ℕ)
           → written (layout st m n fs rs) (floorsStart + i) vs ≡ headWith st m n ++ (planBytes (st .plan) ++ (bytesOf pointBytes (st .points) ++ written (fs ++ rs) i vs))
       unfolding layout
       in-tables i vs =
-          let e : floorsStart + i ≡ 40 + (planSize + (2048 + i)) = omega arith in
+          let e : floorsStart + i ≡ stateHead + (planSize + (pointRow * pointCount + i)) = omega arith in
           rw (
             e,
-            written-second (headWith st m n) (planBytes (st .plan) ++ (bytesOf pointBytes (st .points) ++ (fs ++ rs))) 40 (planSize + (2048 + i)) vs head-length,
-            written-second (planBytes (st .plan)) (bytesOf pointBytes (st .points) ++ (fs ++ rs)) planSize (2048 + i) vs (plan-length (st .plan) p64),
-            written-second (bytesOf pointBytes (st .points)) (fs ++ rs) 2048 i vs points-length,
+            written-second (headWith st m n) (planBytes (st .plan) ++ (bytesOf pointBytes (st .points) ++ (fs ++ rs))) stateHead (planSize + (pointRow * pointCount + i)) vs head-length,
+            written-second (planBytes (st .plan)) (bytesOf pointBytes (st .points) ++ (fs ++ rs)) planSize (pointRow * pointCount + i) vs (plan-length (st .plan) p64),
+            written-second (bytesOf pointBytes (st .points)) (fs ++ rs) (pointRow * pointCount) i vs points-length,
           )
 
       pub put-floors : (i : ℕ) (vs : List ℕ) → i + length vs ≤ length fs
@@ -202,14 +202,14 @@ module _ (s : List ℕ) (st : State) (m n : ℕ) (fs rs : List ℕ) where
           nested-front s (layout st m n fs rs) (floorsStart + i) vs (rw (layout-length, points-length) (omega arith))
           ∙ ap (λ (y : List ℕ). written s 0 y) (in-tables i vs ∙ rw (written-first fs rs i vs h))
 
-      pub put-records : (i : ℕ) (vs : List ℕ) → length fs ≡ 256 → i + length vs ≤ length rs
+      pub put-records : (i : ℕ) (vs : List ℕ) → length fs ≡ floorRow * clientCount → i + length vs ≤ length rs
           → written (written s 0 (layout st m n fs rs)) (recordsStart + i) vs ≡ written s 0 (layout st m n fs (written rs i vs))
       unfolding layout
-      put-records i vs f256 h =
-          let e : recordsStart + i ≡ floorsStart + (256 + i) = omega arith in
-          nested-front s (layout st m n fs rs) (recordsStart + i) vs (rw (layout-length, points-length, f256) (omega arith))
+      put-records i vs full h =
+          let e : recordsStart + i ≡ floorsStart + (floorRow * clientCount + i) = omega arith in
+          nested-front s (layout st m n fs rs) (recordsStart + i) vs (rw (layout-length, points-length, full) (omega arith))
           ∙ ap (λ (y : List ℕ). written s 0 y)
-          (ap (λ (k : ℕ). written (layout st m n fs rs) k vs) e ∙ in-tables (256 + i) vs ∙ rw (written-second fs rs 256 i vs f256))
+          (ap (λ (k : ℕ). written (layout st m n fs rs) k vs) e ∙ in-tables (floorRow * clientCount + i) vs ∙ rw (written-second fs rs (floorRow * clientCount) i vs full))
 
 -- ---- whole changes of a table: its rows, then its count
 
@@ -225,7 +225,7 @@ module _ (s : List ℕ) (st : State) (f : StateFits st) where
   with-floors fs k e = rw (← e)
 
   -- stores inside the completion records' table that leave the rows rs there, and their count
-  pub records-stored : (rs : List Completion) (i : ℕ) (vs : List ℕ) → i + length vs ≤ 14336
+  pub records-stored : (rs : List Completion) (i : ℕ) (vs : List ℕ) → i + length vs ≤ recordRow * recordCount
       → written (padded completionBytes recordRow recordCount (st .records)) i vs ≡ padded completionBytes recordRow recordCount rs
       → written (written (written s 0 (stateBytes st)) (recordsStart + i) vs) 16 (le32 (length rs)) ≡ written s 0 (stateBytes (withRecords rs st))
   records-stored rs i vs h e =
@@ -233,15 +233,15 @@ module _ (s : List ℕ) (st : State) (f : StateFits st) where
       let n : ℕ = length (st .records) in
       let F : List ℕ = padded floorBytes floorRow clientCount (st .floors) in
       let R : List ℕ = padded completionBytes recordRow recordCount (st .records) in
-      let lf : length F ≡ 256 = padded-length floorCodec 32 (st .floors) (f .floors-count) in
-      let lr : length R ≡ 14336 = padded-length completionCodec recordCount (st .records) (f .records-count) in
+      let lf : length F ≡ floorRow * clientCount = padded-length floorCodec clientCount (st .floors) (f .floors-count) in
+      let lr : length R ≡ recordRow * recordCount = padded-length completionCodec recordCount (st .records) (f .records-count) in
       ap (λ (x : List ℕ). written (written (written s 0 x) (recordsStart + i) vs) 16 (le32 (length rs))) (sym (layout-state st))
       ∙ ap (λ (x : List ℕ). written x 16 (le32 (length rs))) (put-records s st m n F R (f .plan-count) (f .points-count) i vs lf (omega arith) ∙ ap (λ (x : List ℕ). written s 0 (layout st m n F x)) e)
       ∙ put-count s st m n F (padded completionBytes recordRow recordCount rs) (length rs)
       ∙ ap (λ (x : List ℕ). written s 0 x) (with-records rs (length rs) refl)
 
   -- the same for the clients' table
-  pub floors-stored : (fs : List Floor) (i : ℕ) (vs : List ℕ) → i + length vs ≤ 256
+  pub floors-stored : (fs : List Floor) (i : ℕ) (vs : List ℕ) → i + length vs ≤ floorRow * clientCount
       → written (padded floorBytes floorRow clientCount (st .floors)) i vs ≡ padded floorBytes floorRow clientCount fs
       → written (written (written s 0 (stateBytes st)) (floorsStart + i) vs) 12 (le32 (length fs)) ≡ written s 0 (stateBytes (withFloors fs st))
   floors-stored fs i vs h e =
@@ -249,7 +249,7 @@ module _ (s : List ℕ) (st : State) (f : StateFits st) where
       let n : ℕ = length (st .records) in
       let F : List ℕ = padded floorBytes floorRow clientCount (st .floors) in
       let R : List ℕ = padded completionBytes recordRow recordCount (st .records) in
-      let lf : length F ≡ 256 = padded-length floorCodec 32 (st .floors) (f .floors-count) in
+      let lf : length F ≡ floorRow * clientCount = padded-length floorCodec clientCount (st .floors) (f .floors-count) in
       ap (λ (x : List ℕ). written (written (written s 0 x) (floorsStart + i) vs) 12 (le32 (length fs))) (sym (layout-state st))
       ∙ ap (λ (x : List ℕ). written x 12 (le32 (length fs))) (put-floors s st m n F R (f .plan-count) (f .points-count) i vs (omega arith) ∙ ap (λ (x : List ℕ). written s 0 (layout st m n x R)) e)
       ∙ put-clients s st m n (padded floorBytes floorRow clientCount fs) R (length fs)

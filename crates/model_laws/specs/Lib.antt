@@ -2,3 +2,4 @@ pub mod Bytes
 pub mod Codec
 pub mod Fits
 pub mod Layout
+pub mod Opened

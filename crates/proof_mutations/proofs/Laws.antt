@@ -27,7 +27,7 @@ use Rattle.model_invariants.specs.Calls.{Operation, decision, request, fetch, i
 use Rattle.model_invariants.specs.Passed.{Fresh}
 use Rattle.model_invariants.proofs.Decided.{find-fresh, take-tests, release-passed}
 use Rattle.model_invariants.proofs.Recovery.{recovered-replay}
-use Rattle.claim_records.specs.World.{Log, recoveredFrom}
+use Rattle.claim.specs.RecordWorld.{Log, recoveredFrom}
 use Rattle.proof_records.specs.Inverse.{Appends, Replies, Shows}
 use Rattle.proof_records.specs.Inverse as Inverse
 use Rattle.proof_records.proofs.Inverted.{shown, recover-shown}

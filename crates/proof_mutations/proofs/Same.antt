@@ -1,4 +1,4 @@
--- The world of this crate is that of `record_claim`, event by event.
+-- The world of this crate is that of `claim` over records, event by event.
 --     same-step, same-run
 -- Assumes nothing.
 use Prim.Native.Nat.{ℕ, _+_, _-_}
@@ -15,8 +15,8 @@ use Rattle.model.specs.States.{State}
 use Rattle.model.specs.Apply.{apply, applyRecord}
 use Rattle.model.specs.Decisions.{Decided, orMalformed, onTake, decideTake, onRelease}
 use Rattle.claim.specs.World.{withServer, making, packet}
-use Rattle.claim_records.specs.World.{Event, found, request, fetch, sync, notice, give, image, take·image, receipt, release, recover, crash, start, issue, resend, receive, open·lease, renew, query, Log, Server, nothing, running, crashed, World, Left, keptBy, emptyWorld}
-use Rattle.claim_records.specs.World as Records
+use Rattle.claim.specs.RecordWorld.{Event, found, request, fetch, sync, notice, give, image, take·image, receipt, release, recover, crash, start, issue, resend, receive, open·lease, renew, query, Log, Server, nothing, running, crashed, World, Left, keptBy, emptyWorld}
+use Rattle.claim.specs.RecordWorld as Records
 use Rattle.proof_mutations.specs.Reads.{reading, imaged, forRequest, forFetch, forImage, forGone, forTook, noticed, taken, requests, fetches, images, takes, releases, appliesRecord, applies, regains}
 use Rattle.proof_mutations.specs.World.{settle, callOf, calls, callsOn, recoversFrom, step, runFrom, run}
 

@@ -19,7 +19,7 @@ use Rattle.model.specs.Logs.{LogRecord, executed, gone, gave, took, released, E
 use Rattle.model.specs.States.{State, pointAt}
 use Rattle.model.specs.Apply.{apply, founded}
 use Rattle.model.specs.Decisions.{Decided, orMalformed, onRequest, onFetch, onImage, takeTests, decideRelease}
-use Rattle.claim_records.specs.World.{Log, recoverOf}
+use Rattle.claim.specs.RecordWorld.{Log, recoverOf}
 
 -- a state with this heard time, mark, floors and completion records
 unfoldable pub reading : State → ℕ → ℕ → List Floor → List Completion → State

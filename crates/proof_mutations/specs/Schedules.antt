@@ -12,7 +12,7 @@ use Rattle.model.specs.Tables.{keep}
 use Rattle.model.specs.Versions.{today}
 use Rattle.model.specs.Logs.{LogRecord, executed, gone, gave, took, released}
 use Rattle.model.specs.Yard.{yardPlan}
-use Rattle.claim_records.specs.World.{Event, found, request, fetch, sync, notice, give, image, take·image, receipt, release, recover, crash, open·lease, start, issue, receive, query, Log, keptBy}
+use Rattle.claim.specs.RecordWorld.{Event, found, request, fetch, sync, notice, give, image, take·image, receipt, release, recover, crash, open·lease, start, issue, receive, query, Log, keptBy}
 use Rattle.proof_mutations.specs.World.{run}
 
 -- servers 0 and 1; client 1 has a lease of this span, and sets point 5 to 40: call 1

@@ -1,4 +1,4 @@
--- The world of states and log records (`record_claim`) over the calls of Reads; found, sync, give, receipt, crash, clients and lease manager
+-- The world of states and log records (`claim`: RecordWorld) over the calls of Reads; found, sync, give, receipt, crash, clients and lease manager
 -- are that world's own.
 -- Assumes nothing.
 use Prim.Native.Nat.{ℕ, _+_, _-_}
@@ -13,8 +13,8 @@ use Rattle.model.specs.Logs.{Entry, recordSize}
 use Rattle.model.specs.States.{State}
 use Rattle.model.specs.Decisions.{Decided, onNotice}
 use Rattle.claim.specs.World.{withServer, making, packet}
-use Rattle.claim_records.specs.World.{Event, found, request, fetch, sync, notice, give, image, take·image, receipt, release, recover, crash, start, issue, resend, receive, open·lease, renew, query, Log, Server, nothing, running, crashed, World, Left, longer, keptBy, recoversTo, emptyWorld}
-use Rattle.claim_records.specs.World as Records
+use Rattle.claim.specs.RecordWorld.{Event, found, request, fetch, sync, notice, give, image, take·image, receipt, release, recover, crash, start, issue, resend, receive, open·lease, renew, query, Log, Server, nothing, running, crashed, World, Left, longer, keptBy, recoversTo, emptyWorld}
+use Rattle.claim.specs.RecordWorld as Records
 use Rattle.proof_mutations.specs.Reads.{requests, fetches, images, takes, releases, applies, regains}
 
 -- a decision carried out: a record is applied as Reads has it

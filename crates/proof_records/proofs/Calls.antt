@@ -28,8 +28,8 @@ use Rattle.proof_protocol.specs.World as W
 use Rattle.proof_protocol.specs.Allowed.{Made, Allowed}
 use Rattle.proof_protocol.specs.Allowed as P
 use Rattle.claim.specs.World.{withServer, making, packet}
-use Rattle.claim_records.specs.World.{World, Event, Log, running, longer, settle, callOf, calls, step, callsOn}
-use Rattle.claim_records.specs.Provisos.{lengthOf}
+use Rattle.claim.specs.RecordWorld.{World, Event, Log, running, longer, settle, callOf, calls, step, callsOn}
+use Rattle.claim.specs.RecordProvisos.{lengthOf}
 use Rattle.proof_records.specs.Likeness.{Pair, RecordLike, entriesIn, abstractIn, placeOf, Alike}
 use Rattle.proof_records.specs.Inverse.{Shows}
 use Rattle.proof_records.specs.Worlds.{Running, LogLike, WorldLike}
@@ -45,7 +45,7 @@ use mathlib.Core.Option.{Option, none, some}
 use lib.ListN.{length, getElem?}
 use Rattle.model.specs.Versions.{Versions}
 use Rattle.model.specs.declared.Request.{Request}
-use Rattle.claim_records.specs.World as R
+use Rattle.claim.specs.RecordWorld as R
 use Rattle.proof_records.specs.Made.{PacketLike}
 
 -- a decision of the operation o at server c, and the change that follows it

@@ -30,10 +30,10 @@ use Rattle.proof_protocol.specs.Explains as X
 use Rattle.proof_protocol.proofs.Trace.{at-is, Crashes, is-at, after-suc, inv-at, step-cut, stands-through}
 use Rattle.claim.specs.World.{packet, withServer, making}
 use Rattle.claim.specs.Claim.{commandAt}
-use Rattle.claim_records.specs.World.{World, Event, run, after, emptyWorld, keptBy, Server, Log, running, callOf, calls, callsOn, step, runFrom}
-use Rattle.claim_records.specs.World as R
-use Rattle.claim_records.specs.Provisos.{At, lengthOf}
-use Rattle.claim_records.specs.Claim.{Issues, Completes, Executes, SurvivesAt}
+use Rattle.claim.specs.RecordWorld.{World, Event, run, after, emptyWorld, keptBy, Server, Log, running, callOf, calls, callsOn, step, runFrom}
+use Rattle.claim.specs.RecordWorld as R
+use Rattle.claim.specs.RecordProvisos.{At, lengthOf}
+use Rattle.claim.specs.RecordClaim.{Issues, Completes, Executes, SurvivesAt}
 use Rattle.proof_records.specs.Worlds.{Running, WorldLike}
 use Rattle.proof_records.specs.Matched.{Executed, Cut, Quiet, Plain, Matched, Follows, bytesIn}
 use Rattle.proof_records.specs.Matched as M

@@ -25,9 +25,9 @@ use Rattle.proof_protocol.specs.World as W
 use Rattle.proof_protocol.specs.Explains as X
 use Rattle.proof_protocol.proofs.Basics.{impossible}
 use Rattle.proof_protocol.proofs.RealTime.{explained}
-use Rattle.claim_records.specs.World.{Event, Log, run, after, emptyWorld, keptBy, recoveredFrom}
-use Rattle.claim_records.specs.Provisos.{At}
-use Rattle.claim_records.specs.Claim.{stateGiven, finalState, Recovers, account, Explains, Demand3}
+use Rattle.claim.specs.RecordWorld.{Event, Log, run, after, emptyWorld, keptBy, recoveredFrom}
+use Rattle.claim.specs.RecordProvisos.{At}
+use Rattle.claim.specs.RecordClaim.{stateGiven, finalState, Recovers, account, Explains, Demand3}
 use Rattle.proof_records.specs.Likeness.{readingOf, StateLike, Pair, entriesIn}
 use Rattle.proof_records.specs.Worlds.{Running, WorldLike}
 use Rattle.proof_records.specs.Matched.{Follows}

@@ -1,4 +1,5 @@
--- Every decision of `model` inverted, once: what each call shows. No other module of this crate names a test or a refusal.
+-- What each call shows, from the inversion of its tests in `model_invariants` (Decided): no module of this crate names a test or a refusal
+-- of a call.
 --     passes                   a decision behind tests: refused, or all of them passed
 --     shown, call-shown        every call, on the free space and on the room of the log
 --     found-shown, recover-shown     Found and Recover
@@ -11,27 +12,26 @@ use mathlib.Core.Logic.{_≢_}
 use mathlib.Core.Option.{Option, none, some}
 use native.Mathlib.Omega.{arith}
 use lib.Dec.{eqb, leb, ltb}
-use borrow.Author.Tests.{eqb-true, eqb-false, ltb-false, leb-true, leb-false, not-false}
+use borrow.Author.Tests.{eqb-true, eqb-false, ltb-false, leb-false}
 use Rattle.model.specs.Versions.{Versions}
 use Rattle.model.specs.declared.Request.{Request}
 use Rattle.model.specs.declared.Completion.{Completion}
 use Rattle.model.specs.declared.Packet.the-variants.{Requested}
 use Rattle.model.specs.Choice.{pick, refuse, append, unlessRefused}
 use Rattle.model.specs.Refusals
-use Rattle.model.specs.Limits.{lastPoint, lastServer}
+use Rattle.model.specs.Limits.{lastServer}
 use Rattle.model.specs.Plan.{planOk, planOf}
 use Rattle.model.specs.Apply.{founded}
 use Rattle.model.specs.Packets.{parsePacket, asRequest, asReceipt, asNotice}
 use Rattle.model.specs.Images.{parseImage, floorOf}
-use Rattle.model.specs.States.{State, pointAt, isGiven, isSynced}
-use Rattle.model.specs.Decisions.{Decided, orMalformed, find, sameCommand, heldRefusal, onHeld, onNew, onId, decideRequest, denying, onRequest, fetchRefusal, onFetched, onFetch, syncRefusal, onSync, decideNotice, onNotice, placesBad, onGive, imageRefusal, onImage, decideTake, onTake, receiptRefusal, onReceipt, decideRelease, onRelease}
+use Rattle.model.specs.States.{State, pointAt}
+use Rattle.model.specs.Decisions.{Decided, orMalformed, find, onHeld, onNew, onId, decideRequest, denying, onRequest, onFetched, onFetch, onSync, decideNotice, onNotice, onGive, onImage, decideTake, onTake, onReceipt, decideRelease, onRelease}
 use Rattle.model_laws.proofs.Packets.{request-of, receipt-of, notice-of}
-use Rattle.model_laws.proofs.Refused.{unless-passed, if-passed}
+use Rattle.model_laws.proofs.Refused.{unless-passed}
 use Rattle.model_invariants.specs.Calls.{Operation, decision}
 use Rattle.model_invariants.specs.Calls as Calls
-use Rattle.model_invariants.proofs.Decided.{request-tests, give-tests, take-tests, release-tests}
-use Rattle.proof_protocol.proofs.Basics.{or-false}
-use Rattle.claim_records.specs.World.{Log, foundOf, recoveredFrom, recoverOf}
+use Rattle.model_invariants.proofs.Decided.{request-tests, held-tests, fetch-tests, sync-tests, place-tests, give-tests, point-tests, image-tests, take-tests, receipt-tests, release-tests}
+use Rattle.claim.specs.RecordWorld.{Log, foundOf, recoveredFrom, recoverOf}
 use Rattle.proof_records.specs.Inverse.{Shows}
 use Rattle.proof_records.specs.Inverse as Inverse
 
@@ -54,13 +54,9 @@ module _ (st : State) (free : ℕ) where
   -- what is told of a completion record
   held-shown : (v : Versions) (b : List ℕ) (q : Request) (x c : ℕ) (r : Completion) → find x c (st .records) ≡ some r
       → Shows st free (Calls.request v b) (denying q (onHeld st q r))
-  unfolding onHeld heldRefusal isSynced denying
+  unfolding onHeld denying
   held-shown v b q x c r f =
-      passes (λ d. Shows st free (Calls.request v b) (denying q d)) _ _ (λ k n. (n, (_, refl)))
-      (λ z.
-      let a = if-passed Refusals.otherCommand refl (not (sameCommand r q)) _ z in
-      let s = if-passed Refusals.notSynced refl (not (isSynced (st .mark) (r .end))) _ (a .1) in
-      Inverse.repeats v b x c r f (leb-true _ _ (not-false _ (s .0))))
+      passes (λ d. Shows st free (Calls.request v b) (denying q d)) _ _ (λ k n. (n, (_, refl))) (λ z. Inverse.repeats v b x c r f (held-tests (st .mark) q r z .1))
 
   request-shown : (v : Versions) (b : List ℕ) (q : Request) → parsePacket b ≡ Requested q → Shows st free (Calls.request v b) (denying q (decideRequest v st free q))
   unfolding decideRequest denying onId onNew
@@ -82,38 +78,34 @@ module _ (st : State) (free : ℕ) where
       id (some r) f t e = held-shown v b q _ _ r f
 
   fetch-shown : (x c : ℕ) → Shows st free (Calls.fetch x c) (onFetch st x c)
-  unfolding onFetch onFetched fetchRefusal isSynced
+  unfolding onFetch onFetched
   fetch-shown x c = go (find x c (st .records)) refl
     where
       go : (o : Option Completion) → find x c (st .records) ≡ o → Shows st free (Calls.fetch x c) (onFetched st o)
       go none f = λ e. omega arith
-      go (some r) f =
-          passes (Shows st free (Calls.fetch x c)) _ _ (λ k n. n)
-          (λ z. Inverse.fetches x c r f (leb-true _ _ (not-false _ (if-passed Refusals.notSynced refl (not (isSynced (st .mark) (r .end))) _ z .0))))
+      go (some r) f = passes (Shows st free (Calls.fetch x c)) _ _ (λ k n. n) (λ z. Inverse.fetches x c r f (fetch-tests (st .mark) r z))
 
   pub shown : (o : Operation) → Shows st free o (decision o st free)
-  unfolding decision onRequest onSync syncRefusal onNotice decideNotice onGive onImage imageRefusal isGiven isSynced onTake decideTake onReceipt receiptRefusal onRelease decideRelease
+  unfolding decision onRequest onSync onNotice decideNotice onGive onImage onTake decideTake onReceipt onRelease decideRelease
   shown (Calls.request v b) = handed (Shows st free (Calls.request v b)) (asRequest (parsePacket b)) _ (λ k n. n) (λ q e. request-shown v b q (request-of _ q e))
   shown (Calls.fetch x c) = fetch-shown x c
   shown (Calls.sync m) =
-      passes (Shows st free (Calls.sync m)) _ _ (λ k n. n)
-      (λ z. let a = or-false (if-passed Refusals.badMark refl (ltb m (st .mark) || ltb (st .size) m) _ z .0) in (refl, ltb-false _ _ (a .0), ltb-false _ _ (a .1)))
+      passes (Shows st free (Calls.sync m)) _ _ (λ k n. n) (λ z. let a = sync-tests (st .mark) (st .size) m z in (refl, a .0, a .1))
   shown (Calls.notice b) =
       handed (Shows st free (Calls.notice b)) (asNotice (parsePacket b)) _ (λ k n. n)
       (λ n e. passes (Shows st free (Calls.notice b)) _ _ (λ k n. n) (λ z. Inverse.goes b n (notice-of _ n e) (unless-passed _ _ z)))
   shown (Calls.give p d) =
       passes (Shows st free (Calls.give p d)) _ _ (λ k n. n)
       (λ z.
-      let a = if-passed Refusals.malformed refl (placesBad p d) _ z in
+      let a = place-tests p d _ z in
       let g = give-tests st free p d (a .0) (a .1) .0 in
       Inverse.gives p d (g .point) (g .held) (unless-passed _ _ z))
   shown (Calls.image p) =
       passes (Shows st free (Calls.image p)) _ _ (λ k n. n)
       (λ z.
-      let a = if-passed Refusals.malformed refl (ltb lastPoint p) _ z in
-      let b = if-passed Refusals.notHeld refl (not (isGiven (pointAt st p))) _ (a .1) in
-      let c = if-passed Refusals.notSynced refl (not (isSynced (st .mark) (pointAt st p .giveEnd))) _ (b .1) in
-      Inverse.images p (ltb-false _ _ (a .0)) (eqb-true _ _ (not-false _ (b .0))) (leb-true _ _ (not-false _ (c .0))))
+      let a = point-tests p _ z in
+      let b = image-tests (pointAt st p) (st .mark) (a .1) in
+      Inverse.images p (a .0) (b .0) (b .1))
   shown (Calls.takeIn b) =
       handed (Shows st free (Calls.takeIn b)) (parseImage b) _ (λ k n. n)
       (λ i e.
@@ -122,10 +114,9 @@ module _ (st : State) (free : ℕ) where
   shown (Calls.receipt p) =
       passes (Shows st free (Calls.receipt p)) _ _ (λ k n. n)
       (λ z.
-      let a = if-passed Refusals.malformed refl (ltb lastPoint p) _ z in
-      let b = if-passed Refusals.notHeld refl (eqb (pointAt st p .takenMove) 0) _ (a .1) in
-      let c = if-passed Refusals.notSynced refl (not (isSynced (st .mark) (pointAt st p .takeEnd))) _ (b .1) in
-      Inverse.receipts p (ltb-false _ _ (a .0)) (eqb-false _ _ (b .0)) (leb-true _ _ (not-false _ (c .0))))
+      let a = point-tests p _ z in
+      let b = receipt-tests (pointAt st p) (st .mark) (a .1) in
+      Inverse.receipts p (a .0) (b .0) (b .1))
   shown (Calls.release b) =
       handed (Shows st free (Calls.release b)) (asReceipt (parsePacket b)) _ (λ k n. n)
       (λ r e.

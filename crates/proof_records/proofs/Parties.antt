@@ -39,8 +39,8 @@ use Rattle.proof_protocol.specs.World as W
 use Rattle.proof_protocol.specs.Allowed.{Made, Leased, opens, renews, regrants, notices}
 use Rattle.proof_protocol.specs.Allowed as P
 use Rattle.claim.specs.World.{packet, making, sends, receives, startsOn, startsAs, told}
-use Rattle.claim_records.specs.World.{World, step, Event}
-use Rattle.claim_records.specs.World as R
+use Rattle.claim.specs.RecordWorld.{World, step, Event}
+use Rattle.claim.specs.RecordWorld as R
 use Rattle.proof_records.specs.Made.{Means, PacketLike}
 use Rattle.proof_records.specs.Worlds.{WorldLike}
 use Rattle.proof_records.specs.Matched.{Quiet, issued, received, other, Stepped}

@@ -18,11 +18,12 @@ use Rattle.model_invariants.specs.Calls.{decision}
 use Rattle.model_invariants.specs.Calls as Calls
 use Rattle.proof_protocol.specs.World as W
 use Rattle.proof_protocol.specs.Allowed.{Run, ended, then}
-use Rattle.claim_records.specs.World.{World, Event, step, runFrom, after, emptyWorld}
-use Rattle.claim_records.specs.World as R
-use Rattle.claim_records.specs.Provisos.{Typed, Provisos, At}
+use Rattle.claim.specs.RecordWorld.{World, Event, step, runFrom, after, emptyWorld}
+use Rattle.claim.specs.RecordWorld as R
+use Rattle.claim.specs.RecordProvisos.{Typed, Provisos, At}
 use Rattle.proof_records.specs.Worlds.{WorldLike}
-use Rattle.proof_records.specs.Matched.{Quiet, Provided, Matched, Stepped, Follows, done, more, Pairing}
+use Rattle.proof_records.specs.Provided.{Provided}
+use Rattle.proof_records.specs.Matched.{Quiet, Matched, Stepped, Follows, done, more, Pairing}
 use Rattle.proof_records.proofs.Worlds.{like-nothing}
 use Rattle.proof_records.proofs.Calls.{plain-call, plain-packet, request-step}
 use Rattle.proof_records.proofs.Starts.{found-step, recover-step, crash-step}
@@ -43,7 +44,7 @@ follows plan l (R.take·image c p r) a = plain-packet l c r (R.take·image c p r
 follows plan l (R.receipt c p r) a = plain-call l c r (R.receipt c p r) (Calls.receipt p) refl tt tt (λ b s. s)
 follows plan l (R.release c p r) a = plain-packet l c r (R.release c p r) Calls.release p refl (λ b k. k) tt (λ b x s. s)
 follows plan l (R.recover c p) a = recover-step plan l c p (λ log st q z. a .recovers c p log st refl q z)
-follows plan l (R.crash c k) a = crash-step l c k (a .crashes c k refl)
+follows plan l (R.crash c k) a = crash-step l c k (a .crashes c k refl .0)
 follows plan l (R.start p) a = start-step l p (λ b q z. a .starts p b refl q z)
 follows plan l (R.issue x op p b) a = issue-step l x op p b
 follows plan l (R.resend x c) a = resend-step l x c
@@ -62,8 +63,21 @@ provided plan es P n e a =
           let b = subst (At plan es n) q a in
           record { one-plan = P .one-plan n c p k st b z; own-number = P .own-number n c p k st b z; once = P .founded-once n c p k st b z };
       recovers = λ c p log st q k z. P .plan-again n c p log st (subst (At plan es n) q a) k z;
-      crashes = λ c k q. P .crash-keeps n c k (subst (At plan es n) q a) .0;
+      crashes = λ c k q. P .crash-keeps n c k (subst (At plan es n) q a);
       starts = λ p b q k z. P .started-once n p b (subst (At plan es n) q a) k z;
+    }
+
+-- and back
+pub provisos-of : (plan : List ℕ) (es : List Event) → ((n : ℕ) (e : Event) → At plan es n e → Provided plan (after es n) e) → Provisos plan es
+provisos-of plan es D =
+    record {
+      typed = λ n e a. D n e a .typed;
+      one-plan = λ n c p k st a z. D n (R.found c p k) a .founds c p k st refl z .one-plan;
+      plan-again = λ n c p log st a x z. D n (R.recover c p) a .recovers c p log st refl x z;
+      own-number = λ n c p k st a z. D n (R.found c p k) a .founds c p k st refl z .own-number;
+      founded-once = λ n c p k st a z. D n (R.found c p k) a .founds c p k st refl z .once;
+      crash-keeps = λ n c k a. D n (R.crash c k) a .crashes c k refl;
+      started-once = λ n p b a x z. D n (R.start p) a .starts p b refl x z;
     }
 
 -- ---- a schedule

@@ -25,12 +25,13 @@ use Rattle.proof_protocol.proofs.Basics.{eqb-same}
 use Rattle.proof_protocol.proofs.Logs.{Tail, Tail-drop, Tail-short}
 use Rattle.claim.specs.World.{withServer}
 use Rattle.claim.specs.Provisos.{Bytes}
-use Rattle.claim_records.specs.World.{World, Server, Log, nothing, running, crashed, keptBy, foundOf, founds, recoverOf, recoveredFrom, recoversTo, recoversFrom, step}
-use Rattle.claim_records.specs.World as R
-use Rattle.claim_records.specs.Provisos.{markOf, lengthOf}
+use Rattle.claim.specs.RecordWorld.{World, Server, Log, nothing, running, crashed, keptBy, foundOf, founds, recoverOf, recoveredFrom, recoversTo, recoversFrom, step}
+use Rattle.claim.specs.RecordWorld as R
+use Rattle.claim.specs.RecordProvisos.{markOf, lengthOf}
 use Rattle.proof_records.specs.Likeness.{Pair, entriesIn, abstractIn, placeOf, Chain, Rising, lost, cutAt}
 use Rattle.proof_records.specs.Worlds.{LogLike, WorldLike}
-use Rattle.proof_records.specs.Matched.{FoundOk, bytesIn, Cut, cut, other, Stepped, Quiet}
+use Rattle.proof_records.specs.Provided.{FoundOk}
+use Rattle.proof_records.specs.Matched.{bytesIn, Cut, cut, other, Stepped, Quiet}
 use Rattle.proof_records.proofs.Places.{place-all, place-most, abstract-length, cut-entries, cut-abstract, cut-place, cut-room, cut-length, cut-within}
 use Rattle.proof_records.proofs.Replays.{chain-alike, chain-recovers, chain-drop}
 use Rattle.proof_records.proofs.Inverted.{found-shown, recover-shown}
@@ -146,7 +147,7 @@ module _ (plan : List ℕ) {w : World} {v : W.World} (l : WorldLike (planOf plan
       })
       (record { is = refl })))
 
-  module _ (n : ℕ) (b : Bytes p) (F : (st : State) → foundOf p n ≡ some st → FoundOk plan w c p n) where
+  module _ (n : ℕ) (b : Bytes p) (F : (st : State) → foundOf p n ≡ some st → FoundOk plan nothing (w .servers c) c p n) where
     found-runs : (st : State) → foundOf p n ≡ some st → Stepped (planOf plan) w v (R.found c p n)
     unfolding step founds keptBy Quiet
     found-runs st e =

@@ -22,9 +22,9 @@ use Rattle.model.specs.States.{State}
 use Rattle.model.specs.Decisions.{Decided}
 use Rattle.proof_protocol.specs.World as W
 use Rattle.claim.specs.World.{withServer, making, withClient, withManager}
-use Rattle.claim_records.specs.World.{World, Event, Server, Log, nothing, running, crashed, keptBy, callOf, calls, cutAt, crashAt, recoveredFrom, step}
-use Rattle.claim_records.specs.Provisos.{markOf, lengthOf}
-use Rattle.claim_records.specs.Claim.{stateGiven}
+use Rattle.claim.specs.RecordWorld.{World, Event, Server, Log, nothing, running, crashed, keptBy, callOf, calls, cutAt, crashAt, recoveredFrom, step}
+use Rattle.claim.specs.RecordProvisos.{markOf, lengthOf}
+use Rattle.claim.specs.RecordClaim.{stateGiven}
 use Rattle.proof_records.specs.Likeness.{entriesIn, placeOf}
 use Rattle.proof_records.specs.Worlds.{Running, LogLike, Replayed, ServerLike, Started, WorldLike}
 use lib.Dec.{eqb}

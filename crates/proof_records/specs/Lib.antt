@@ -2,4 +2,5 @@ pub mod Likeness
 pub mod Made
 pub mod Inverse
 pub mod Worlds
+pub mod Provided
 pub mod Matched

@@ -7,11 +7,10 @@ use mathlib.Core.List.{List, [], _∷_}
 use mathlib.Core.Option.{none, some}
 use Rattle.model.specs.declared.Started.the-variants.{Running as Begun}
 use Rattle.model.specs.States.{State}
-use Rattle.model.specs.Clients.{startOf, issueOf, receiveOf}
+use Rattle.model.specs.Clients.{issueOf, receiveOf}
 use Rattle.claim.specs.World.{packet}
-use Rattle.claim_records.specs.World.{World, Event, Log, nothing, foundOf, recoverOf, keptBy, callOf, step, runFrom}
-use Rattle.claim_records.specs.World as R
-use Rattle.claim_records.specs.Provisos.{Typed, markOf}
+use Rattle.claim.specs.RecordWorld.{World, Event, Log, keptBy, callOf, step, runFrom}
+use Rattle.claim.specs.RecordWorld as R
 use lib.ListN.{length, take, getElem?}
 use Rattle.model.specs.Versions.{Versions}
 use Rattle.model.specs.declared.PlanEntry.{PlanEntry}
@@ -30,19 +29,6 @@ use Rattle.proof_protocol.specs.World as W
 use Rattle.proof_protocol.specs.Allowed.{Allowed}
 use Rattle.proof_protocol.proofs.Logs.{Tail}
 use Rattle.proof_records.specs.Worlds.{Running, WorldLike}
-
--- a found that succeeds: the one plan, the server's own number, and nothing founded there before
-pub record FoundOk (plan : List ℕ) (w : World) (c : ℕ) (p : List ℕ) (k : ℕ) : Type 0 where
-  pub one-plan : p ≡ plan
-  pub own-number : k ≡ c
-  pub once : w .servers c ≡ nothing
-
-pub record Provided (plan : List ℕ) (w : World) (e : Event) : Type 0 where
-  pub typed : Typed e
-  pub founds : (c : ℕ) (p : List ℕ) (k : ℕ) (st : State) → e ≡ R.found c p k → foundOf p k ≡ some st → FoundOk plan w c p k
-  pub recovers : (c : ℕ) (p : List ℕ) (log : Log) (st : State) → e ≡ R.recover c p → keptBy (w .servers c) ≡ some log → recoverOf p log ≡ some st → p ≡ plan
-  pub crashes : (c k : ℕ) → e ≡ R.crash c k → markOf (w .servers c) ≤ k
-  pub starts : (p : ℕ) (b : List ℕ) → e ≡ R.start p → packet w p ≡ some b → startOf b .answer ≡ Begun → w .clients (startOf b .client .client) ≡ none
 
 -- ---- the bytes of the protocol's log
 

@@ -15,8 +15,8 @@ use Rattle.leases.specs.WellFormed as Leases
 use Rattle.model_invariants.specs.History.{GoodPlan}
 use Rattle.proof_protocol.specs.World as W
 use Rattle.proof_protocol.specs.Allowed.{Made}
-use Rattle.claim_records.specs.World.{World, Server, Log, running, keptBy}
-use Rattle.claim_records.specs.Provisos.{markOf, lengthOf}
+use Rattle.claim.specs.RecordWorld.{World, Server, Log, running, keptBy}
+use Rattle.claim.specs.RecordProvisos.{markOf, lengthOf}
 use Rattle.proof_records.specs.Likeness.{Pair, entriesIn, abstractIn, placeOf, Chain}
 use Rattle.proof_records.specs.Made.{PacketLike}
 

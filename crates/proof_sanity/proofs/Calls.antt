@@ -1,5 +1,4 @@
 -- Requests and syncs on slices that are refused with neither 2 nor 19.
---     find-has                      a record found is held, and has the id
 --     result-length, result-front, packet-read     a result packet: its 16 bytes, at the front of the output, read back
 --     held-replies                  an id held with the same command, and synced, is answered
 --     request-point                 a request's point is one of the 64
@@ -8,50 +7,50 @@
 --     request-is                    a request carries out what is decided
 --     sync-all, ready-synced, synced-loads     a sync to the log's length
 --     request-held, request-replied     a request that answers with a packet
---     executed-decided, executed-passed, executed-terms, executed-result, executed-space, executed-sound, executed-loads,
---     executed-ready, executed-found, executed-point     a request that answers 0 and makes no packet
+--     executed-decided, executed-passed, executed-admits, executed-terms, executed-result, executed-space, executed-sound, executed-loads,
+--     executed-ready, executed-found, executed-point, executed-admitted     a request that answers 0 and makes no packet
 -- Assumes nothing.
 use Prim.Native.Nat.{ℕ, _+_, _*_, _≤_, _<_}
 use mathlib.Core.Path.{_≡_, refl, sym, ap, _∙_, subst}
-use mathlib.Core.Bool.{Bool, true, false, _&&_, not}
+use mathlib.Core.Bool.{Bool, true, _&&_}
 use mathlib.Core.List.{List, [], _∷_, _++_}
 use mathlib.Core.Option.{Option, none, some}
 use native.Mathlib.Omega.{arith}
 use lib.ListN.{length, take, drop}
 use lib.Seq.{getD-set-same, take-append-seam}
-use lib.Dec.{leb, ltb, lit≤}
-use borrow.Author.Tests.{leb-true, not-false, eq-eqb, le-leb, lt-leb, le-ltb}
+use lib.Dec.{leb, lit≤}
+use borrow.Author.Tests.{eqb-true, leb-true, le-leb, le-ltb}
 use Rattle.model.specs.Versions.{today}
 use Rattle.model.specs.declared.Answer.{Answer}
 use Rattle.model.specs.declared.Request.{Request}
 use Rattle.model.specs.declared.Executed.{Executed}
 use Rattle.model.specs.declared.Completion.{Completion}
+use Rattle.model.specs.declared.Point.{Point}
 use Rattle.model.specs.declared.Packet.the-variants.{Requested, Resulted}
-use Rattle.model.specs.Choice.{pick, refuse, reply, append, marks, unlessRefused}
-use Rattle.model.specs.Refusals
+use Rattle.model.specs.Choice.{refuse, reply, append, marks, isPassed, unlessRefused}
 use Rattle.model.specs.Numbers.{word}
 use Rattle.model.specs.Limits.{lastPoint, lastInWindow, stateSize, resultSize, executedSize}
 use Rattle.model.specs.Tables.{keep, written}
 use Rattle.model.specs.Packets.{parsePacket, asRequest, packetBytes, resultBytes, refusalBytes, resultOk, outcomeOk, idOk, doneOk, commandOk, requestOk}
 use Rattle.model.specs.Images.{floorOf}
 use Rattle.model.specs.Logs.{LogRecord, executed, recordSize, recordBytes}
-use Rattle.model.specs.States.{State, load, stateBytes, stateEnd, pointAt, noPoint, isHeld, isSynced, isId, held}
+use Rattle.model.specs.States.{State, load, stateBytes, stateEnd, pointAt, noPoint}
 use Rattle.model.specs.Apply.{raise, staysOver, completion, executedPoint, applyExecuted, applyRecord, withMark}
 use Rattle.model.specs.Decisions.{Decided, orMalformed, find, sameCommand, resultOfRecord, heldRefusal, onHeld, executedFor, newRefusal, onNew, onId, decideRequest, denying, onRequest, syncRefusal, onSync}
 use Rattle.model.specs.Operations.{After, answerOf, after, short, unfit, freeIn, stored, settle, lentRefusal, lent, requestOf, syncOf}
-use Rattle.model_laws.specs.Bytes.{Bytes, All}
-use Rattle.model_laws.proofs.Tests.{choose, and-both}
-use Rattle.model_laws.proofs.Refused.{unless, unless-passed, passed-if}
+use Rattle.model_laws.specs.Bytes.{Bytes}
+use Rattle.model_laws.proofs.Tests.{choose, and-both, joined-all}
+use Rattle.model_laws.proofs.Refused.{unless, unless-passed}
 use Rattle.model_laws.proofs.Tables.{keep-yes, all-keep}
 use Rattle.model_laws.proofs.Written.{length-written, bytes-written, written-front}
 use Rattle.model_laws.proofs.Packets.{packet-back}
 use Rattle.model_laws.proofs.States.{state-bytes}
-use Rattle.model_invariants.specs.Sound.{Sound, GoodRequest, GoodCompletion, Windowed}
-use Rattle.model_invariants.specs.Passed.{Fresh, PassedRequest}
+use Rattle.model_invariants.specs.Sound.{Sound, GoodRequest, GoodCompletion}
+use Rattle.model_invariants.specs.Passed.{Fresh, Admits, PassedRequest}
 use Rattle.model_invariants.specs.History.{byRequest}
 use Rattle.model_invariants.proofs.Floors.{eqb-same, raise-same}
-use Rattle.model_invariants.proofs.Tests.{split, not-of-true, is-id, id-is, id-not, command-fits, outcome-fits, sound-entry, fits-of}
-use Rattle.model_invariants.proofs.Decided.{tests-request, request-passed, request-terms}
+use Rattle.model_invariants.proofs.Tests.{split, id-is, id-not, command-fits, outcome-fits, sound-entry, fits-of}
+use Rattle.model_invariants.proofs.Decided.{tests-held, held-tests, request-still, requested, request-passed, request-terms}
 use Rattle.model_invariants.proofs.Steps.{sound-mark}
 use Rattle.model_invariants.proofs.Kept.{decided-sound}
 use Rattle.model_invariants.proofs.Formats.{parsed-request}
@@ -59,20 +58,6 @@ use Rattle.model_invariants.proofs.Loaded.{loaded-sound, stored-sound, stored-l
 use Rattle.proof_sanity.specs.Ready.{Ready, Asks}
 
 -- ---- records found
-
-pub find-has : (P : Completion → Type 0) (x c : ℕ) (rs : List Completion) (r : Completion) → find x c rs ≡ some r → All P rs
-    → P r × (r .command .client ≡ x) × (r .command .call ≡ c)
-unfolding find
-find-has P x c [] r e h = let z : _≡_ {A = ℕ} 0 1 = cc in absurd (omega arith)
-find-has P x c (s ∷ rs) r e h = go (isId x c s) refl e (find-has P x c rs r)
-  where
-    go : (b : Bool) → isId x c s ≡ b → pick b (some s) (find x c rs) ≡ some r → (find x c rs ≡ some r → All P rs → P r × (r .command .client ≡ x) × (r .command .call ≡ c))
-        → P r × (r .command .client ≡ x) × (r .command .call ≡ c)
-    go true i k ih =
-        let q : s ≡ r = cc in
-        let d = is-id x c s i in
-        subst (λ (y : Completion). P y × (y .command .client ≡ x) × (y .command .call ≡ c)) q (h .0, d .0, d .1)
-    go false i k ih = ih k (h .1)
 
 -- the last of records of which no other has the id
 find-last : (x c : ℕ) (rs : List Completion) (r : Completion) → Fresh x c rs → r .command .client ≡ x → r .command .call ≡ c → find x c (rs ++ (r ∷ [])) ≡ some r
@@ -111,33 +96,27 @@ packet-read st S r G =
 
 -- ---- an id that is held
 
-pub held-replies : (st : State) (free : ℕ) (q : Request) (r : Completion) → Sound st → find (q .command .client) (q .command .call) (st .records) ≡ some r → sameCommand r q ≡ true
-    → pointAt st (q .command .point) .status ≡ held → st .heard < q .lease → r .end ≤ st .mark → decideRequest today st free q ≡ reply (resultBytes (resultOfRecord r))
-unfolding decideRequest onId onHeld heldRefusal isSynced
-held-replies st free q r S f same h l m =
+pub held-replies : (st : State) (free : ℕ) (q : Request) (r : Completion) → Admits st q → find (q .command .client) (q .command .call) (st .records) ≡ some r → sameCommand r q ≡ true
+    → r .end ≤ st .mark → decideRequest today st free q ≡ reply (resultBytes (resultOfRecord r))
+unfolding decideRequest onId onHeld
+held-replies st free q r a f same m =
     let x : Decided = reply (resultBytes (resultOfRecord r)) in
-    let w = find-has (Windowed (st .floors)) (q .command .client) (q .command .call) (st .records) r f (S .windows) in
-    let over : floorOf (q .command .client) (st .floors) ≤ q .command .call
-    = subst (λ (y : ℕ). floorOf y (st .floors) ≤ q .command .call) (w .1) (subst (λ (y : ℕ). floorOf (r .command .client) (st .floors) ≤ y) (w .2) (w .0 .low)) in
-    unless-passed _ _ (tests-request (pointAt st (q .command .point)) (leb (q .lease) (st .heard)) (floorOf (q .command .client) (st .floors)) (q .command .call) h (lt-leb _ _ l) over)
-    ∙ rw f
-    (unless-passed _ x
-    (passed-if Refusals.otherCommand (not (sameCommand r q)) _ (not-of-true _ same)
-    (passed-if Refusals.notSynced (not (isSynced (st .mark) (r .end))) _ (not-of-true _ (le-leb _ _ m)) refl)))
+    unless-passed _ _ a ∙ rw f (unless-passed _ x (tests-held (st .mark) q r same m))
 
 -- the point of a request, and done ≤ call
 pub request-point : (q : Request) → requestOk q ≡ true → q .command .point ≤ lastPoint
 unfolding requestOk
 request-point q h =
-    command-fits (q .command .op) (q .command .point) (q .command .argument) (split (commandOk (q .command .op) (q .command .point) (q .command .argument)) (idOk (q .command .client) (q .command .call) && doneOk (q .done) (q .command .call)) h .0) .point
+    let c = q .command in
+    let k = split (commandOk (c .op) (c .point) (c .argument)) (idOk (c .client) (c .call) && doneOk (q .done) (c .call)) h in
+    command-fits (c .op) (c .point) (c .argument) (k .0) .point
 
 request-done : (q : Request) → requestOk q ≡ true → q .done ≤ q .command .call
 unfolding requestOk doneOk
 request-done q h =
-    let a = split (commandOk (q .command .op) (q .command .point) (q .command .argument)) (idOk (q .command .client) (q .command .call) && (leb 1 (q .done) && (leb (q .done) (q .command .call) && leb (q .command .call) (q .done + lastInWindow)))) h in
-    let b = split (idOk (q .command .client) (q .command .call)) (leb 1 (q .done) && (leb (q .done) (q .command .call) && leb (q .command .call) (q .done + lastInWindow))) (a .1) in
-    let c = split (leb 1 (q .done)) (leb (q .done) (q .command .call) && leb (q .command .call) (q .done + lastInWindow)) (b .1) in
-    leb-true _ _ (split (leb (q .done) (q .command .call)) (leb (q .command .call) (q .done + lastInWindow)) (c .1) .0)
+    let c = q .command in
+    let t = joined-all (commandOk (c .op) (c .point) (c .argument) ∷ idOk (c .client) (c .call) ∷ leb 1 (q .done) ∷ leb (q .done) (c .call) ∷ leb (c .call) (q .done + lastInWindow) ∷ []) h in
+    leb-true _ _ (t .1 .1 .1 .0)
 
 -- what holds of a refusal and of what follows it holds where the refusal's test decides
 sync-marks : (st : State) → Sound st → onSync st (st .size) ≡ marks (st .size)
@@ -208,12 +187,12 @@ module _ {state log out : List ℕ} (R : Ready state log out) where
   -- ---- an answer with a packet
 
   pub request-held : (b : List ℕ) (q : Request) → parsePacket b ≡ Requested q → (r : Completion) → find (q .command .client) (q .command .call) (st .records) ≡ some r
-      → sameCommand r q ≡ true → pointAt st (q .command .point) .status ≡ held → st .heard < q .lease → r .end ≤ st .mark
+      → sameCommand r q ≡ true → Admits st q → r .end ≤ st .mark
       → requestOf today state log b out ≡ after (answerOf 0 resultSize) state log (written out 0 (resultBytes (resultOfRecord r)))
   unfolding settle denying
-  request-held b q e r f same h l m =
+  request-held b q e r f same a m =
       request-is b q e
-      ∙ ap (λ (d : Decided). settle state log out (denying q d)) (held-replies st free q r ready-sound f same h l m)
+      ∙ ap (λ (d : Decided). settle state log out (denying q d)) (held-replies st free q r a f same m)
       ∙ ap (λ (n : ℕ). after (answerOf 0 n) state log (written out 0 (resultBytes (resultOfRecord r)))) (result-length r)
 
   abbrev IsReply : Request → Decided → Type 0
@@ -229,15 +208,12 @@ module _ {state log out : List ℕ} (R : Ready state log out) where
   no-reply q n e = absurd (other-size n _ (lit≤ tt) e)
 
   reply-id : (q : Request) (o : Option Completion) → find (q .command .client) (q .command .call) (st .records) ≡ o → IsReply q (onId today st free q o)
-  unfolding onId onNew onHeld heldRefusal unlessRefused settle denying
+  unfolding onId onNew onHeld unlessRefused settle denying
   reply-id q none f =
       unless (IsReply q) (newRefusal (floorOf (q .command .client) (st .floors)) (length (st .floors)) free) {d = append (executed (executedFor today st q))} (no-reply q)
       (λ e. absurd (other-size 0 0 (lit≤ tt) e))
   reply-id q (some r) f =
-      choose (λ (n : ℕ). IsReply q (unlessRefused n (reply (resultBytes (resultOfRecord r))))) (not (sameCommand r q)) (λ k. no-reply q Refusals.otherCommand)
-      (λ k.
-      unless (IsReply q) (pick (not (isSynced (st .mark) (r .end))) Refusals.notSynced 0) {d = reply (resultBytes (resultOfRecord r))} (no-reply q)
-      (λ e. (r, f, not-false _ k, refl)))
+      choose (IsReply q) (isPassed (heldRefusal (st .mark) q r)) (λ z e. (r, f, held-tests (st .mark) q r (eqb-true _ _ z) .0, refl)) (λ z. no-reply q _)
 
   is-reply : (q : Request) → IsReply q (decideRequest today st free q)
   unfolding decideRequest
@@ -300,6 +276,9 @@ module _ {state log out : List ℕ} (R : Ready state log out) where
     pub executed-passed : PassedRequest st (q .command .client) (q .command .call) (q .command .point)
     executed-passed = request-passed today st free q (executed x) executed-decided .0
 
+    pub executed-admits : Admits st q
+    executed-admits = requested today st free q (executed x) executed-decided .first
+
     pub executed-terms : (st .heard < q .lease) × (executedSize ≤ free)
     executed-terms = request-terms today st free q (executed x) executed-decided
 
@@ -328,25 +307,30 @@ module _ {state log out : List ℕ} (R : Ready state log out) where
         let n : length (written log (st .size) (recordBytes (executed x))) ≡ length log = length-written log (st .size) (recordBytes (executed x)) in
         ready-stored state out (R .bytes) (R .long) (R .output) new executed-sound (written log (st .size) (recordBytes (executed x))) (omega (arith, n, executed-space)) (omega (arith, n, R .counted))
 
+    executed-floor : floorOf (q .command .client) (raise (q .command .client) (q .done) (st .floors)) ≤ q .command .call
+    executed-floor =
+        omega (arith, raise-same (q .command .client) (q .done) (st .floors) (ready-sound .ascending), executed-passed .over, request-done q (good .ok))
+
     -- its completion record is found
     pub executed-found : find (q .command .client) (q .command .call) (new .records) ≡ some (completion x end)
     unfolding applyExecuted completion executedFor staysOver
     executed-found =
-        let S = ready-sound in
         let fs = raise (q .command .client) (q .done) (st .floors) in
         let t : Completion → Bool = staysOver (q .command .client) (floorOf (q .command .client) fs) in
         let c : Completion = completion x end in
-        let f : floorOf (q .command .client) fs ≤ q .command .call
-        = omega (arith, raise-same (q .command .client) (q .done) (st .floors) (S .ascending), executed-passed .over, done-low) in
-        let k : t c ≡ true = rw (eqb-same (q .command .client), le-leb (floorOf (q .command .client) fs) (q .command .call) f) in
+        let k : t c ≡ true = rw (eqb-same (q .command .client), le-leb (floorOf (q .command .client) fs) (q .command .call) executed-floor) in
         rw (keep-yes t (st .records) c k)
         (find-last (q .command .client) (q .command .call) (keep t (st .records)) c (all-keep _ t (st .records) (executed-passed .fresh)) refl refl)
-      where
-        done-low : q .done ≤ q .command .call
-        done-low = request-done q (good .ok)
 
     -- its point has what the rule gave
     pub executed-point : pointAt new (q .command .point) ≡ executedPoint x (pointAt st (q .command .point))
     unfolding applyExecuted pointAt executedFor
     executed-point =
         getD-set-same (st .points) (q .command .point) _ noPoint (omega (arith, request-point q (good .ok), ready-sound .points))
+
+    -- the same request passes its first tests again
+    pub executed-admitted : Admits new q
+    unfolding applyExecuted executedFor executedPoint
+    executed-admitted =
+        request-still (pointAt st (q .command .point)) (pointAt new (q .command .point)) (leb (q .lease) (st .heard)) (floorOf (q .command .client) (st .floors)) _ (q .command .call)
+        (ap (λ (y : Point). y .status) executed-point) executed-floor executed-admits

@@ -24,13 +24,13 @@ use Rattle.model.specs.Packets.{packetLength, idOk, doneOk, commandOk, requestA
 use Rattle.model.specs.Logs.{headBytes, headServer}
 use Rattle.model.specs.States.{State, pointAt}
 use Rattle.model.specs.Apply.{foundedPoint, founded}
-use Rattle.model.specs.Versions.{Version, first, today}
+use Rattle.model.specs.Versions.{Version, today}
 use Rattle.model.specs.Sequential.{OrderEntry, single, parts, bookWith, markedBy, Marked, ReadingZ, Book, readingMeant, opened, bookAfter, entered, answerZ, afterZ, ruleZ, setZ, inRangeZ, entryZ}
 use Rattle.model.specs.Yard.{yardPlan}
 use Rattle.claim.specs.World.{sync, nothing, crashed, run, after}
 use Rattle.claim.specs.Provisos.{lengthOf, At, Provisos}
 use Rattle.claim.specs.Claim.{readingAt, Executes, SurvivesAt, SurvivesBy, HolderBy, ExplainedBy}
-use Rattle.proof_sanity.specs.Trace.{Call, Seen, callSeen, asksOnly, keptIs, sameBytes, keepsMany, below, Ended, endSeen}
+use Rattle.proof_sanity.specs.Trace.{Call, callSeen, asksOnly, keptIs, sameBytes, keepsMany, below, Ended, endSeen, callWith, done}
 use Rattle.proof_sanity.specs.Moved.{setting, settingAsked, lentAll, asks}
 use Rattle.proof_sanity.specs.Forgetting.{foundingState, givenBy, finalForgetting, forgetting, setAndCrash, keptWhole, setAndCrashSeen}
 use Rattle.proof_sanity.proofs.Traced.{call-at, end-at, down-of, provisos-kept, kept-after, untouched, executes-seen, executes-only}
@@ -48,7 +48,7 @@ parsed = refl
 
 -- event 4 executes the command, and it survives
 set-survives : SurvivesAt yardPlan setAndCrash 4 (markedBy today setting)
-unfolding At setAndCrash setAndCrashSeen callSeen every keepsMany
+unfolding At setAndCrash setAndCrashSeen callSeen callWith done every keepsMany
 set-survives =
     record {
       server = 0;
@@ -77,7 +77,7 @@ isSet = readingMeant (record { value = half + 40; quality = 0 })
 
 entered-set : (b : Book) (v : Version) → entered (planOf yardPlan) b (record { version = v; command = setting }) 5 ≡ isSet
 unfolding yardPlan rows bytesOf flip le32At signedAt planEntryOf planEntryBytes planOf planBytes entryAt signed readingMeant entered answerZ afterZ ruleZ setZ inRangeZ entryZ
-entered-set b first = refl
+entered-set b v = refl
 
 entered-marked : (b : Book) (m : Marked) → m .command ≡ setting → entered (planOf yardPlan) b m 5 ≡ isSet
 entered-marked b m e =

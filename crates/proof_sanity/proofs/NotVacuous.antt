@@ -8,31 +8,28 @@ use mathlib.Core.Option.{none, some}
 use native.Mathlib.Omega.{arith}
 use lib.Dec.{lit≤, lit<}
 use lib.ListN.{getElem?}
-use Rattle.model.specs.declared.Client.{Client}
-use Rattle.model.specs.declared.Request.{Request}
 use Rattle.model.specs.declared.Point.{Point}
-use Rattle.model.specs.Choice.{unlessRefused}
 use Rattle.model.specs.declared.Packet.the-variants.{Requested}
 use Rattle.model.specs.declared.Received.the-variants.{Completed}
 use Rattle.model.specs.declared.Sent.the-variants.{Asked}
 use mathlib.Core.List.{[], _∷_}
 use Rattle.model.specs.Versions.{today}
 use Rattle.model.specs.Sequential.{markedBy, one, resultMeant}
-use Rattle.model.specs.Numbers.{half, flip, le32At, signedAt, zeros3At}
+use Rattle.model.specs.Numbers.{half}
 use Rattle.model.specs.Limits.{refusalSize}
 use Rattle.model.specs.Tables.{every}
-use Rattle.model.specs.Rules.{argumentRange, inArguments, argumentOk}
-use Rattle.model.specs.Packets.{packetLength, idOk, doneOk, commandOk, outcomeOk, requestAt, requestOk, requestBytes, resultAt, resultOk, resultBytes, whole, parseRequest, parseResult, parsePacket}
+use Rattle.model.specs.Packets.{requestBytes, resultBytes, parsePacket}
 use Rattle.model.specs.States.{State, load, pointAt}
-use Rattle.model.specs.Operations.{After, answerOf}
-use Rattle.model.specs.Clients.{placeOf, callAt, isOpen, leastOpen, firstOpen, withCalls, closed, requestFor, newCall, withCall, notSent, sent, issueOf, isOwn, notReceived, receiveResult, receiveWith, receiveOf}
+use Rattle.model.specs.Operations.{answerOf}
+use Rattle.model.specs.Clients.{placeOf, callAt, issueOf, receiveOf}
 use Rattle.model.specs.Yard.{yardPlan}
 use Rattle.claim.specs.World.{Event, request, sync, give, crash, issue, receive, nothing, packet, run, after}
 use Rattle.claim.specs.Provisos.{lengthOf, At, Provisos}
 use Rattle.claim.specs.Claim.{commandAt, Executes, SurvivesAt, Completes, Issues, stateGiven, finalState, Holder}
-use Rattle.proof_sanity.specs.Trace.{Call, Seen, requestAnswer, callSeen, up, standsAt, Ended, endSeen, Trace, keepsMany, below}
+use Rattle.proof_sanity.specs.Trace.{Call, Seen, requestAnswer, callSeen, up, standsAt, Ended, endSeen, keepsMany, below, callWith, done}
+use Rattle.model_laws.specs.Opened.{openNumbers, openRules, openPackets, openClients}
 use Rattle.proof_sanity.specs.Moved.{setting, stepping, settingResult, steppingResult, settingAsked, steppingAsked, settingAnswer, steppingAnswer, lentAll, asks, schedule, setter, stepper, newStepper, giverPoint, takerPoint, rowsSeen, traceSeen}
-use Rattle.proof_sanity.proofs.Traced.{call-at, end-at, provisos-kept, kept-after, untouched, up-of, executes-seen}
+use Rattle.proof_sanity.proofs.Traced.{call-at, end-at, provisos-kept, kept-after, untouched, up-of, executes-seen, done-answer}
 use Rattle.proof_sanity.proofs.Computed.{trace-is}
 
 some-same : {A : Type 0} {a b : A} → some a ≡ some b → a ≡ b
@@ -50,19 +47,19 @@ provisos = provisos-kept yardPlan 5 schedule traceSeen trace-is refl
 
 -- the packets and the clients, by themselves
 parsed : (parsePacket (requestBytes settingAsked) ≡ Requested settingAsked) × (parsePacket (requestBytes steppingAsked) ≡ Requested steppingAsked)
-unfolding flip le32At signedAt zeros3At packetLength argumentRange inArguments argumentOk idOk doneOk commandOk requestAt requestOk requestBytes whole parseRequest parsePacket
+unfolding openNumbers openRules openPackets
 parsed = (refl, refl)
 
 received : (receiveOf setter (resultBytes settingAnswer) .answer ≡ Completed settingAnswer) × (receiveOf stepper (resultBytes steppingAnswer) .answer ≡ Completed steppingAnswer)
-unfolding flip le32At signedAt zeros3At packetLength idOk outcomeOk resultAt resultOk resultBytes whole parseResult parsePacket placeOf callAt isOpen leastOpen firstOpen withCalls closed isOwn notReceived receiveResult receiveWith receiveOf
+unfolding openNumbers openPackets openClients
 received = (refl, refl)
 
 issued : issueOf newStepper 2 5 (half + 1) .answer ≡ Asked steppingAsked
-unfolding commandOk argumentRange inArguments argumentOk placeOf callAt isOpen leastOpen firstOpen withCalls requestFor newCall withCall notSent sent issueOf
+unfolding openRules openPackets openClients
 issued = refl
 
 set-survives : SurvivesAt yardPlan schedule 7 (markedBy today setting)
-unfolding At schedule rowsSeen callSeen every keepsMany
+unfolding At schedule rowsSeen callSeen callWith done every keepsMany
 set-survives =
     record {
       server = 0;
@@ -74,7 +71,7 @@ set-survives =
     }
 
 step-survives : SurvivesAt yardPlan schedule 15 (markedBy today stepping)
-unfolding At schedule rowsSeen callSeen every keepsMany
+unfolding At schedule rowsSeen callSeen callWith done every keepsMany
 step-survives =
     record {
       server = 0;
@@ -87,7 +84,7 @@ step-survives =
 
 -- its first execution is cut off by the crash
 step-cut : Executes yardPlan schedule 12 0 (markedBy today stepping) × (SurvivesAt yardPlan schedule 12 (markedBy today stepping) → ⊥)
-unfolding At schedule rowsSeen callSeen
+unfolding At schedule rowsSeen callSeen callWith done
 step-cut = (executes-seen yardPlan schedule 12 0 4 36 today lentAll steppingAsked refl (parsed .1) (row 12 (asks 0 4) _ refl refl), cut)
   where
     cut : SurvivesAt yardPlan schedule 12 (markedBy today stepping) → ⊥
@@ -100,11 +97,12 @@ step-cut = (executes-seen yardPlan schedule 12 0 4 36 today lentAll steppingAske
 
 -- server 1 refuses the late repeat of the first with 4
 late-repeat : requestAnswer today lentAll (after schedule 26 .servers 1) (packet (after schedule 26) 2) ≡ some (answerOf 4 refusalSize)
-unfolding schedule rowsSeen callSeen
-late-repeat = ap (λ (x : Call). x .answer) (row 26 (asks 1 2) _ refl refl)
+unfolding schedule rowsSeen callSeen callWith done
+late-repeat =
+    sym (done-answer 1 today lentAll (after schedule 26 .servers 1) (packet (after schedule 26) 2) (after schedule 26)) ∙ ap (λ (x : Call). x .answer) (row 26 (asks 1 2) _ refl refl)
 
 set-completed : Completes yardPlan schedule 10 (setting ∷ []) (one (resultMeant settingResult))
-unfolding At schedule rowsSeen callSeen commandAt callAt placeOf
+unfolding At schedule rowsSeen callSeen callWith done commandAt callAt placeOf
 set-completed =
     let s = row 10 (receive 1 3) _ refl refl in
     record {
@@ -122,7 +120,7 @@ set-completed =
     }
 
 step-completed : Completes yardPlan schedule 23 (stepping ∷ []) (one (resultMeant steppingResult))
-unfolding At schedule rowsSeen callSeen commandAt callAt placeOf
+unfolding At schedule rowsSeen callSeen callWith done commandAt callAt placeOf
 step-completed =
     let s = row 23 (receive 2 6) _ refl refl in
     record {
@@ -140,7 +138,7 @@ step-completed =
     }
 
 step-issued : Issues yardPlan schedule 11 (stepping ∷ [])
-unfolding At schedule rowsSeen callSeen
+unfolding At schedule rowsSeen callSeen callWith done
 step-issued =
     record {
       client = 2;

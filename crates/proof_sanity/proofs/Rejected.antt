@@ -9,17 +9,17 @@
 --     not-one-result        one fixed result; served-own, set-result: each execution's own result, of a set its value
 --     not-unchanging        one that changes nothing
 -- Assumes nothing.
-use Prim.Native.Nat.{ℕ, zero, suc, _+_, _-_, _*_, _≤_, _<_}
+use Prim.Native.Nat.{ℕ, _+_, _-_, _*_, _≤_, _<_}
 use mathlib.Core.Path.{_≡_, refl, sym, ap, _∙_, subst}
-use mathlib.Core.Bool.{Bool, true, false, _&&_, not, false≢true}
-use mathlib.Core.List.{List, [], _∷_, _++_, map, append-assoc}
+use mathlib.Core.Bool.{Bool, true, false, _&&_}
+use mathlib.Core.List.{List, [], _∷_, _++_, append-assoc}
 use mathlib.Core.Option.{Option, none, some}
 use mathlib.Core.Logic.{_≢_, _⊎_, inl, inr}
 use native.Mathlib.Omega.{arith}
-use lib.ListN.{length, take, getD}
+use lib.ListN.{length, take}
 use lib.Seq.{take-take}
 use lib.Dec.{eqb, leb, ltb, lit≤}
-use borrow.Author.Tests.{eqb-true, eq-eqb, ne-eqb, le-ltb, lt-leb, le-leb}
+use borrow.Author.Tests.{eqb-true, eqb-false, ne-eqb, le-ltb, lt-leb, le-leb}
 use Rattle.model.specs.Versions.{today}
 use Rattle.model.specs.declared.PlanEntry.{PlanEntry}
 use Rattle.model.specs.declared.Point.{Point}
@@ -29,19 +29,19 @@ use Rattle.model.specs.declared.ResultPacket.{ResultPacket}
 use Rattle.model.specs.declared.Completion.{Completion}
 use Rattle.model.specs.declared.Packet.{Packet}
 use Rattle.model.specs.declared.Packet.the-variants.{Malformed, Requested, Resulted, Refused, Receipted, Noticed, Granted}
-use Rattle.model.specs.Choice.{refuse, append, pick, unlessRefused}
+use Rattle.model.specs.Choice.{refuse, reply, append, isPassed, unlessRefused}
 use Rattle.model.specs.Refusals
 use Rattle.model.specs.Numbers.{word}
 use Rattle.model.specs.Limits.{lastServer, clientCount, stateSize, headSize, resultSize, executedSize}
 use Rattle.model.specs.Tables.{written, keep}
-use Rattle.model.specs.Plan.{planOk, planOf, entryAt, inRange, noEntry}
+use Rattle.model.specs.Plan.{planOk, planOf, entryAt, inRange}
 use Rattle.model.specs.Rules.{ruleOf, setRule}
 use Rattle.model.specs.Packets.{parsePacket, asRequest, resultBytes}
 use Rattle.model.specs.Images.{floorOf, notKnown}
 use Rattle.model.specs.Logs.{Entry, executed, recordSize, headBytes, recordBytes, entriesBytes}
-use Rattle.model.specs.States.{State, load, pointAt, noPoint, isHeld, isSynced, held}
-use Rattle.model.specs.Apply.{completion, executedPoint, applyExecuted, foundedPoint, founded, withMark, apply, replayFrom}
-use Rattle.model.specs.Decisions.{Decided, orMalformed, find, sameCommand, resultOfRecord, requestRefusal, heldRefusal, onHeld, resultFor, executedFor, newRefusal, onNew, onId, decideRequest, denying, onRequest}
+use Rattle.model.specs.States.{State, load, pointAt}
+use Rattle.model.specs.Apply.{completion, executedPoint, applyExecuted, founded, withMark, apply, replayFrom}
+use Rattle.model.specs.Decisions.{Decided, orMalformed, find, sameCommand, resultOfRecord, onHeld, resultFor, executedFor, onNew, onId, decideRequest, denying, onRequest}
 use Rattle.model.specs.Operations.{After, answerOf, after, freeIn, stored, settle, leftUnless, foundRefusal, foundOf, requestOf, syncOf, recoverRefusal, recoverOf, settleRecovered, recoveredState}
 use Rattle.model_laws.specs.Bytes.{Bytes}
 use Rattle.model_laws.specs.Fits.{Incomplete, EntriesFrom, lastEnd}
@@ -50,13 +50,13 @@ use Rattle.model_laws.proofs.Tables.{keep-append}
 use Rattle.model_laws.proofs.Written.{take-written-run, length-written}
 use Rattle.model_laws.proofs.Logs.{record-length}
 use Rattle.model_invariants.specs.Sound.{GoodCompletion}
-use Rattle.model_invariants.specs.Passed.{PassedRequest}
+use Rattle.model_invariants.specs.Passed.{Admits, FirstRequest}
 use Rattle.model_invariants.specs.History.{GoodPlan, Start}
 use Rattle.model_invariants.specs.Calls.{Holds, request, decidedOn, entriesAfter, operated}
 use Rattle.model_invariants.proofs.Floors.{eqb-same}
 use Rattle.model_invariants.proofs.Tests.{split}
 use Rattle.model_invariants.proofs.Steps.{sound-mark}
-use Rattle.model_invariants.proofs.Decided.{fresh-find, request-appends}
+use Rattle.model_invariants.proofs.Decided.{find-has, fresh-find, founded-executes, request-other, held-other, new-other}
 use Rattle.model_invariants.proofs.Kept.{founded-start, founded-sound, apply-mark}
 use Rattle.model_invariants.proofs.Recovery.{recovers}
 use Rattle.model_invariants.proofs.Crash.{replay-end, log-recovers, decided-from, decided-cut, head-recovers, crash-state}
@@ -65,7 +65,7 @@ use Rattle.model_invariants.proofs.Formats.{parsed-request}
 use Rattle.model_invariants.proofs.Running.{holds-size, operation-holds}
 use Rattle.model_invariants.proofs.Loaded.{plan-good, stored-load}
 use Rattle.proof_sanity.specs.Ready.{Ready, Asks, Changed, Own, answeredWith, Served, Regained, Begins}
-use Rattle.proof_sanity.proofs.Calls.{find-has, result-front, request-point, request-replied, packet-read, request-is, request-held, ready-sound, ready-stored, sync-all, ready-synced, synced-loads, executed-passed, executed-terms, executed-result, executed-space, executed-sound, executed-loads, executed-ready, executed-found, executed-point}
+use Rattle.proof_sanity.proofs.Calls.{result-front, request-point, request-replied, packet-read, request-is, request-held, ready-sound, ready-stored, sync-all, ready-synced, synced-loads, executed-passed, executed-result, executed-space, executed-sound, executed-loads, executed-ready, executed-found, executed-point, executed-admitted}
 
 and-no : (a : Bool) {b : Bool} → b ≡ false → (a && b) ≡ false
 and-no true e = e
@@ -73,15 +73,15 @@ and-no false e = refl
 
 -- ---- "a cabinet that stays at 7 after sync (demand 2)"
 
--- a sync to the log's length is not refused, and then an id that is held with the same command is answered with its result
+-- a sync to the log's length is not refused, and then an id that is held with the same command is answered with its result, if the request
+-- passes the tests that stand before its id is looked up
 pub served-after-sync : {state log out : List ℕ} → Ready state log out → (b : List ℕ) (q : Request) → Asks b q → (r : Completion)
-    → find (q .command .client) (q .command .call) (load state .records) ≡ some r → sameCommand r q ≡ true → pointAt (load state) (q .command .point) .status ≡ held
-    → load state .heard < q .lease
+    → find (q .command .client) (q .command .call) (load state .records) ≡ some r → sameCommand r q ≡ true → Admits (load state) q
     → (syncOf state log (load state .size) .answer ≡ answerOf 0 0)
     × (requestOf today (syncOf state log (load state .size) .state) (syncOf state log (load state .size) .log) b out
     ≡ after (answerOf 0 resultSize) (syncOf state log (load state .size) .state) log (written out 0 (resultBytes (resultOfRecord r))))
 unfolding withMark pointAt
-served-after-sync {state} {log} {out} R b q A r f same h l =
+served-after-sync {state} {log} {out} R b q A r f same a =
     let st = load state in
     let S = ready-sound R in
     let m = withMark (st .size) st in
@@ -90,8 +90,7 @@ served-after-sync {state} {log} {out} R b q A r f same h l =
       refl,
       request-held (ready-synced R) b q (A .parsed) r
           (subst (λ (x : State). find (q .command .client) (q .command .call) (x .records) ≡ some r) (sym (synced-loads R)) f) same
-          (subst (λ (x : State). pointAt x (q .command .point) .status ≡ held) (sym (synced-loads R)) h)
-          (subst (λ (x : State). x .heard < q .lease) (sym (synced-loads R)) l)
+          (subst (λ (x : State). Admits x q) (sym (synced-loads R)) a)
           (subst (λ (x : State). r .end ≤ x .mark) (sym (synced-loads R)) (g .within)),
     )
 
@@ -186,27 +185,24 @@ module _ (state log out b : List ℕ) (n : ℕ) (low : 8 ≤ n) (high : n ≤ 9)
     unfolding settle denying
     denies k h = h
 
-    by : (D : Decided) (k : ℕ) → eqb k 0 ≡ false → (t : Bool) (m : ℕ) → (t ≡ true → Denied (refuse k)) → Denied (unlessRefused m D)
-        → Denied (unlessRefused (pick t k m) D)
+    by : (m : ℕ) (d : Decided) → eqb m n ≡ false → Denied d → Denied (unlessRefused m d)
     unfolding unlessRefused
-    by D k z true m f g = rw z (f refl)
-    by D k z false m f g = g
+    by m d h g = choose Denied (isPassed m) (λ k. g) (λ k. denies m (eqb-false m n h))
 
     by-id : (o : Option Completion) → Denied (onId today st free q o)
-    unfolding onId onNew onHeld newRefusal heldRefusal unlessRefused settle denying
+    unfolding onId onNew onHeld settle denying
     by-id none =
-        by _ 8 refl (notKnown (floorOf (q .command .client) (st .floors)) && leb clientCount (length (st .floors))) _ (λ t. denies 8 (λ k. false≢true (sym (eight q e (sym k)) ∙ t)))
-        (by _ 9 refl (ltb free executedSize) 0 (λ u. denies 9 (λ k. false≢true (sym (nine (sym k)) ∙ u))) (λ k. omega arith))
-    by-id (some r) =
-        by _ 6 refl (not (sameCommand r q)) _ (λ t. denies 6 (λ k. omega arith))
-        (by _ 7 refl (not (isSynced (st .mark) (r .end))) 0 (λ t. denies 7 (λ k. omega arith)) (λ k. omega arith))
+        let c = q .command in
+        by _ (append (executed (executedFor today st q))) (new-other (floorOf (c .client) (st .floors)) (length (st .floors)) free n low high (eight q e) nine) (λ k. omega arith)
+    by-id (some r) = by _ (reply (resultBytes (resultOfRecord r))) (held-other (st .mark) q r n low high) (λ k. omega arith)
 
     by-tests : Denied (decideRequest today st free q)
-    unfolding decideRequest requestRefusal unlessRefused
+    unfolding decideRequest
     by-tests =
-        by _ 3 refl (not (isHeld (pointAt st (q .command .point)))) _ (λ t. denies 3 (λ k. omega arith))
-        (by _ 4 refl (leb (q .lease) (st .heard)) _ (λ t. denies 4 (λ k. omega arith))
-        (by _ 5 refl (ltb (q .command .call) (floorOf (q .command .client) (st .floors))) 0 (λ t. denies 5 (λ k. omega arith)) (by-id (find (q .command .client) (q .command .call) (st .records)))))
+        let c = q .command in
+        by _ (onId today st free q (find (c .client) (c .call) (st .records)))
+        (request-other (pointAt st (c .point)) (leb (q .lease) (st .heard)) (floorOf (c .client) (st .floors)) (c .call) n low high)
+        (by-id (find (c .client) (c .call) (st .records)))
 
   by-packet : (p : Packet) → parsePacket b ≡ p → Other (onRequest today st free p)
   unfolding onRequest orMalformed asRequest settle
@@ -228,7 +224,11 @@ places : (state log b out : List ℕ) (q : Request) → parsePacket b ≡ Reques
     → (floorOf (q .command .client) (load state .floors) ≢ 0) ⊎ (length (load state .floors) < clientCount)
     → requestOf today state log b out .answer .refusal ≢ Refusals.clientsFull
 places state log b out q e h =
-    other-number state log out b 8 (lit≤ tt) (lit≤ tt) (λ r k t. let same : q ≡ r = cc in subst (λ (y : Request). (notKnown (floorOf (y .command .client) (load state .floors)) && leb clientCount (length (load state .floors))) ≡ false) same (free h)) (λ t. absurd (omega arith))
+    other-number state log out b 8 (lit≤ tt) (lit≤ tt)
+    (λ r k t.
+    let same : q ≡ r = cc in
+    subst (λ (y : Request). (notKnown (floorOf (y .command .client) (load state .floors)) && leb clientCount (length (load state .floors))) ≡ false) same (free h))
+    (λ t. absurd (omega arith))
   where
     free : (floorOf (q .command .client) (load state .floors) ≢ 0) ⊎ (length (load state .floors) < clientCount)
         → (notKnown (floorOf (q .command .client) (load state .floors)) && leb clientCount (length (load state .floors))) ≡ false
@@ -260,12 +260,10 @@ served-own {state} {log} {out} R b q A z =
     let e = executed-loads R b q A z in
     let S = executed-sound R b q A z in
     let f : find (q .command .client) (q .command .call) (new .records) ≡ some r = executed-found R b q A z in
-    let p : pointAt new (q .command .point) .status ≡ held = ap (λ (y : Point). y .status) (executed-point R b q A z) ∙ executed-passed R b q A z .held in
     let same : sameCommand r q ≡ true = rw (eqb-same (q .command .op), eqb-same (q .command .point), eqb-same (q .command .argument)) in
     let g = find-has (GoodCompletion (new .plan) (new .size)) (q .command .client) (q .command .call) (new .records) r f (S .records) .0 in
     let k = served-after-sync (executed-ready R b q A z) b q A r (subst (λ (y : State). find (q .command .client) (q .command .call) (y .records) ≡ some r) (sym e) f) same
-    (subst (λ (y : State). pointAt y (q .command .point) .status ≡ held) (sym e) p)
-    (subst (λ (y : State). y .heard < q .lease) (sym e) (executed-terms R b q A z .0)) in
+    (subst (λ (y : State). Admits y q) (sym e) (executed-admitted R b q A z)) in
     rw (executed-result R b q A z)
     (record {
       synced = k .0;
@@ -409,19 +407,13 @@ module _ (plan : List PlanEntry) (n : ℕ) (g : GoodPlan plan) (h : n ≤ lastSe
 
 -- ---- "one that refuses all (2)"
 
-founded-held : (n : ℕ) (es : List PlanEntry) (p : ℕ) → p < length es → getD es p noEntry .home ≡ n → getD (map (foundedPoint n) es) p noPoint .status ≡ held
-unfolding foundedPoint
-founded-held n [] p l e = absurd (omega arith)
-founded-held n (x ∷ es) zero l e = rw (eq-eqb _ _ e)
-founded-held n (x ∷ es) (suc p) l e = founded-held n es p (omega arith) e
-
 -- any request of a lease that is not over from the start, on a point of that home: found, request, sync and the same request are
 -- not refused, and the last one gives the result
 pub not-refuses-all : (state log plan b out : List ℕ) (n : ℕ) (q : Request) → Bytes state → stateSize ≤ length state → Bytes plan → planOk plan ≡ true → n ≤ lastServer
-    → headSize + executedSize ≤ length log → length log < word * word → resultSize ≤ length out → Asks b q → 0 < q .lease
-    → entryAt (planOf plan) (q .command .point) .home ≡ n → Begins (foundOf state log plan n) b out q (resultFor today (founded (planOf plan) n) q)
+    → headSize + executedSize ≤ length log → length log < word * word → resultSize ≤ length out → Asks b q → FirstRequest (planOf plan) n q
+    → Begins (foundOf state log plan n) b out q (resultFor today (founded (planOf plan) n) q)
 unfolding foundOf foundRefusal leftUnless settle denying founded pointAt entryAt freeIn floorOf
-not-refuses-all state log plan b out n q sb sl pb ok hn gl gz o A lease home =
+not-refuses-all state log plan b out n q sb sl pb ok hn gl gz o A F =
     let fd = founded (planOf plan) n in
     let G = plan-good plan pb ok in
     let S = founded-sound (planOf plan) n G hn in
@@ -432,15 +424,9 @@ not-refuses-all state log plan b out n q sb sl pb ok hn gl gz o A lease home =
     let R : Ready (stored state fd) log₁ out = ready-stored state out sb sl o fd S log₁ (omega (arith, k, gl)) (omega (arith, k, gz)) in
     let ld : load (stored state fd) ≡ fd = stored-load state fd S (omega (arith, sl)) in
     let Q = parsed-request b q (A .bytes) (A .parsed) in
-    let P : PassedRequest fd (q .command .client) (q .command .call) (q .command .point)
-    = record {
-      held = founded-held n (planOf plan) (q .command .point) (omega (arith, request-point q (Q .ok), G .length)) home;
-      over = omega arith;
-      fresh = tt;
-      place = λ t. omega arith;
-    } in
     let d : decideRequest today (load (stored state fd)) (freeIn (stored state fd) log₁) q ≡ append (executed (executedFor today fd q))
-    = ap (λ (y : State). decideRequest today y (length log₁ - y .size) q) ld ∙ request-appends today fd (length log₁ - headSize) q P lease (omega (arith, k, gl)) in
+    = ap (λ (y : State). decideRequest today y (length log₁ - y .size) q) ld
+    ∙ founded-executes today (planOf plan) n (length log₁ - headSize) q (omega (arith, request-point q (Q .ok), G .length)) F (omega (arith, k, gl)) in
     let z : requestOf today (stored state fd) log₁ b out .answer ≡ answerOf 0 0
     = ap (λ (y : After). y .answer) (request-is R b q (A .parsed) ∙ ap (λ (y : Decided). settle (stored state fd) log₁ out (denying q y)) d) in
     rw e

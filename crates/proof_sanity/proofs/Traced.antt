@@ -8,19 +8,18 @@
 --     executes-seen            a request seen to answer 0 and no packet executes its command
 --     executes-only            where all requests that were answered had one packet, nothing else is executed
 -- Assumes nothing.
-use Prim.Native.Nat.{ℕ, zero, suc, _*_, _≤_, _<_}
+use Prim.Native.Nat.{ℕ, zero, suc, _≤_, _<_}
 use mathlib.Core.Path.{_≡_, refl, sym, ap, _∙_, subst}
 use mathlib.Core.Bool.{Bool, true, false, _&&_, _||_, not}
 use mathlib.Core.List.{List, [], _∷_}
 use mathlib.Core.Option.{Option, none, some}
 use native.Mathlib.Omega.{arith}
-use lib.ListN.{length, take, drop, getElem?}
+use lib.ListN.{take, drop, getElem?}
 use lib.Dec.{eqb, leb, ltb}
 use borrow.Author.Tests.{eqb-true, leb-true, ltb-true, eq-eqb, ne-eqb}
 use Rattle.model.specs.declared.Answer.{Answer}
 use Rattle.model.specs.declared.Client.{Client}
 use Rattle.model.specs.declared.Started.the-variants.{NotStarted, Running}
-use Rattle.model.specs.Numbers.{word}
 use Rattle.model.specs.Tables.{every}
 use Rattle.model.specs.Versions.{Versions}
 use Rattle.model.specs.Sequential.{Marked, markedBy}
@@ -36,12 +35,12 @@ use Rattle.model.specs.declared.SendAnswer.{SendAnswer}
 use Rattle.model.specs.declared.StartAnswer.{StartAnswer}
 use Rattle.model.specs.declared.Started.{Started}
 use Rattle.model.specs.States.{load, pointAt}
-use Rattle.claim.specs.World.{withServer, withClient, withManager, making, calls, callsOn, foundAs, crashAt, startsAs, startsOn, sends, receives, told}
+use Rattle.claim.specs.World.{withServer, withClient, withManager, making, calls, callsOn, foundAs, crashAt, startsAs, startsOn, sends, receives, told, step, packet}
 use Rattle.claim.specs.World.{Event, found, request, fetch, sync, notice, give, image, take·image, receipt, release, recover, crash, start, issue, resend, receive, open·lease, renew, query, Lent, World, Server, nothing, running, crashed, lentState, lentLog, packet, step, emptyWorld, runFrom, run, after}
 use Rattle.claim.specs.Provisos.{Bytes, Counted, Typed, keptBy, markOf, lengthOf, At, Provisos}
 use Rattle.model_laws.proofs.Tests.{choose, and-left, and-right}
 use Rattle.model_laws.proofs.Numbers.{bytes-nil, bytes-cons}
-use Rattle.proof_sanity.specs.Trace.{asksOnly, bytesOk, countedOk, typedOk, sameBytes, isNothing, keptIs, notStarted, startsNew, keepsOk, Call, Seen, requestAnswer, callSeen, seenAt, Ended, endSeen, Trace, traceFrom, keepsMany, below, Answered, Stands, up, down, standsAt}
+use Rattle.proof_sanity.specs.Trace.{asksOnly, bytesOk, countedOk, typedOk, sameBytes, isNothing, keptIs, notStarted, startsNew, keepsOk, Call, Seen, requestAnswer, callSeen, seenAt, endSeen, Trace, traceFrom, keepsMany, below, Answered, up, down, standsAt, requestDone, done, callWith, seenWith}
 
 impossible : {A B : Type 0} {a : B} → none ≡ some a → A
 impossible e = let z : _≡_ {A = ℕ} 0 1 = cc in absurd (omega arith)
@@ -132,18 +131,58 @@ every-row t [] h n r e = impossible e
 every-row t (x ∷ rs) h zero r e = let z : x ≡ r = cc in ap t (sym z) ∙ and-left (t x) (every t rs) h
 every-row t (x ∷ rs) h (suc n) r e = every-row t rs (and-right (t x) (every t rs) h) n r e
 
+-- a request is computed once for both
+pub done-answer : (c : ℕ) (v : Versions) (l : Lent) (s : Server) (o : Option (List ℕ)) (w : World) → requestDone c v l s o w .answer ≡ requestAnswer v l s o
+unfolding requestDone requestAnswer
+done-answer c v l nothing o w = refl
+done-answer c v l (running state log) none w = refl
+done-answer c v l (running state log) (some b) w = refl
+done-answer c v l (crashed kept mark) o w = refl
+
+request-world : (c : ℕ) (v : Versions) (l : Lent) (s : Server) (o : Option (List ℕ)) (w : World) → w .servers c ≡ s
+    → requestDone c v l s o w .world ≡ callsOn c l (λ t g b. requestOf v t g b (l .out)) o w
+unfolding requestDone callsOn calls
+request-world c v l nothing none w e = refl
+request-world c v l nothing (some b) w e = rw e
+request-world c v l (running state log) none w e = refl
+request-world c v l (running state log) (some b) w e = rw e
+request-world c v l (crashed kept mark) none w e = refl
+request-world c v l (crashed kept mark) (some b) w e = rw e
+
+done-world : (w : World) (e : Event) → done w e .world ≡ step w e
+unfolding done step
+done-world w (found c state log p n) = refl
+done-world w (request c p v l) = request-world c v l (w .servers c) (packet w p) w refl
+done-world w (fetch c x k l) = refl
+done-world w (sync c m l) = refl
+done-world w (notice c p l) = refl
+done-world w (give c p d l) = refl
+done-world w (image c p l) = refl
+done-world w (take·image c p l) = refl
+done-world w (receipt c p l) = refl
+done-world w (release c p l) = refl
+done-world w (recover c state log p) = refl
+done-world w (crash c k) = refl
+done-world w (start p) = refl
+done-world w (issue x op p a) = refl
+done-world w (resend x c) = refl
+done-world w (receive x p) = refl
+done-world w (open·lease t span) = refl
+done-world w (renew x t span) = refl
+done-world w (query x t) = refl
+
 module _ (plan : List ℕ) (p : ℕ) where
   row-from : (w : World) (es : List Event) (n : ℕ) (e : Event) → getElem? es n ≡ some e
       → getElem? (traceFrom plan p w es .rows) n ≡ some (seenAt plan (runFrom w (take n es)) e)
-  unfolding traceFrom runFrom
+  unfolding traceFrom runFrom seenAt
   row-from w [] n e q = impossible q
   row-from w (x ∷ es) zero e q = let z : x ≡ e = cc in ap (λ (y : Event). some (seenAt plan w y)) z
-  row-from w (x ∷ es) (suc n) e q = row-from (step w x) es n e q
+  row-from w (x ∷ es) (suc n) e q = rw (done-world w x) (row-from (step w x) es n e q)
 
   end-from : (w : World) (es : List Event) → traceFrom plan p w es .end ≡ endSeen p (runFrom w es)
   unfolding traceFrom runFrom
   end-from w [] = refl
-  end-from w (x ∷ es) = end-from (step w x) es
+  end-from w (x ∷ es) = subst (λ (v : World). traceFrom plan p v es .end ≡ endSeen p (runFrom (step w x) es)) (sym (done-world w x)) (end-from (step w x) es)
 
   module _ (es : List Event) (t : Trace) (e : traceFrom plan p emptyWorld es ≡ t) where
     row-at : (n : ℕ) (x : Event) → getElem? es n ≡ some x → getElem? (t .rows) n ≡ some (seenAt plan (after es n) x)
@@ -151,7 +190,7 @@ module _ (plan : List ℕ) (p : ℕ) where
     row-at n x q = ap (λ (y : Trace). getElem? (y .rows) n) (sym e) ∙ row-from emptyWorld es n x q
 
     pub call-at : (n : ℕ) (x : Event) (r : Seen) → getElem? es n ≡ some x → getElem? (t .rows) n ≡ some r → callSeen (after es n) x ≡ r .call
-    unfolding seenAt
+    unfolding seenAt seenWith callSeen
     call-at n x r q k = let z : seenAt plan (after es n) x ≡ r = some-same (sym (row-at n x q) ∙ k) in ap (λ (y : Seen). y .call) z
       where
         some-same : {a b : Seen} → some a ≡ some b → a ≡ b
@@ -165,7 +204,7 @@ module _ (plan : List ℕ) (p : ℕ) where
 
     module _ (h : every (λ r. r .ok) (t .rows) ≡ true) where
       passed : (n : ℕ) (x : Event) → getElem? es n ≡ some x → (typedOk x && keepsOk plan (after es n) x) ≡ true
-      unfolding seenAt
+      unfolding seenAt seenWith
       passed n x q = every-row (λ r. r .ok) (t .rows) h n (seenAt plan (after es n) x) (row-at n x q)
 
       keeps-at : (n : ℕ) (x : Event) → getElem? es n ≡ some x → keepsOk plan (after es n) x ≡ true
@@ -350,10 +389,11 @@ module _ (plan : List ℕ) (es : List Event) where
   pub executes-seen : (n c p size : ℕ) (v : Versions) (l : Lent) (q : Request) → At plan es n (request c p v l) → parsePacket (requestBytes q) ≡ Requested q
       → callSeen (after es n) (request c p v l) ≡ record { client = none; packet = some (requestBytes q); size = size; answer = some (answerOf 0 0) }
       → Executes plan es n c (markedBy v (q .command))
-  unfolding callSeen
+  unfolding callSeen callWith done
   executes-seen n c p size v l q e parsed s =
       let b : packet (after es n) p ≡ some (requestBytes q) = ap (λ (x : Call). x .packet) s in
-      let A = answer-of v l (after es n .servers c) (packet (after es n) p) (answerOf 0 0) (ap (λ (x : Call). x .answer) s) in
+      let A = answer-of v l (after es n .servers c) (packet (after es n) p) (answerOf 0 0)
+      (sym (done-answer c v l (after es n .servers c) (packet (after es n) p) (after es n)) ∙ ap (λ (x : Call). x .answer) s) in
       let same : A .bytes ≡ requestBytes q = some-list (sym (A .packet) ∙ b) in
       record {
         number = p;
@@ -377,7 +417,8 @@ module _ (plan : List ℕ) (es : List Event) where
   -- where every request that was answered had the packet b, nothing else is executed
   pub executes-only : (p : ℕ) (t : Trace) → traceFrom plan p emptyWorld es ≡ t → (b : List ℕ) → every (asksOnly b) (t .rows) ≡ true
       → (n c : ℕ) (k : Marked) (E : Executes plan es n c k) → E .bytes ≡ b
-  unfolding At seenAt callSeen asksOnly requestAnswer keptIs
+  unfolding At seenAt seenWith callWith done requestDone asksOnly keptIs
   executes-only p t e b h n c k E =
-      let r = every-row (asksOnly b) (t .rows) h n (seenAt plan (after es n) (request c (E .number) (E .versions) (E .lent))) (row-at plan p es t e n (request c (E .number) (E .versions) (E .lent)) (E .event)) in
+      let y : Event = request c (E .number) (E .versions) (E .lent) in
+      let r = every-row (asksOnly b) (t .rows) h n (seenAt plan (after es n) y) (row-at plan p es t e n y (E .event)) in
       same-bytes (E .bytes) b (rw (E .up, E .delivered) at r)

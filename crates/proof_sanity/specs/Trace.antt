@@ -6,19 +6,18 @@ use mathlib.Core.Path.{_≡_}
 use mathlib.Core.Bool.{Bool, true, false, _&&_, _||_, not}
 use mathlib.Core.List.{List, [], _∷_}
 use mathlib.Core.Option.{Option, none, some}
-use lib.ListN.{length}
+use lib.ListN.{take}
 use lib.Dec.{eqb, leb, ltb}
 use Rattle.model.specs.declared.Answer.{Answer}
 use Rattle.model.specs.declared.Client.{Client}
 use Rattle.model.specs.declared.Point.{Point}
-use Rattle.model.specs.declared.StartAnswer.{StartAnswer}
 use Rattle.model.specs.Versions.{Versions}
 use Rattle.model.specs.Numbers.{word}
 use Rattle.model.specs.Tables.{every}
 use Rattle.model.specs.States.{load, pointAt}
-use Rattle.model.specs.Operations.{After, requestOf}
+use Rattle.model.specs.Operations.{requestOf}
 use Rattle.model.specs.Clients.{startOf}
-use Rattle.claim.specs.World.{Event, found, request, fetch, sync, notice, give, image, take·image, receipt, release, recover, crash, start, issue, resend, receive, open·lease, renew, query, Lent, World, Server, nothing, running, crashed, lentState, lentLog, packet, step}
+use Rattle.claim.specs.World.{Event, found, request, fetch, sync, notice, give, image, take·image, receipt, release, recover, crash, start, issue, resend, receive, open·lease, renew, query, Lent, World, Server, nothing, running, crashed, withServer, making, lentState, lentLog, stateBack, logBack, packet, step}
 use Rattle.claim.specs.Provisos.{keptBy, markOf, lengthOf}
 
 -- ---- the provisos, as tests
@@ -111,40 +110,82 @@ requestAnswer v l (running state log) none = none
 requestAnswer v l (running state log) (some b) = some (requestOf v (lentState l state) (lentLog l log) b (l .out) .answer)
 requestAnswer v l (crashed kept mark) p = none
 
+-- the world after an event, and what a request answers
+pub record Done : Type 0 where
+  pub world : World
+  pub answer : Option Answer
+
+-- a request, computed once for both
+unfoldable pub requestDone : ℕ → Versions → Lent → Server → Option (List ℕ) → World → Done
+requestDone c v l nothing p w = record { world = w; answer = none }
+requestDone c v l (running state log) none w = record { world = w; answer = none }
+requestDone c v l (running state log) (some b) w =
+    let a = requestOf v (lentState l state) (lentLog l log) b (l .out) in
+    record { world = making (take (a .answer .wrote) (a .out)) (withServer c (running (stateBack l state a) (logBack l state log a)) w); answer = some (a .answer) }
+requestDone c v l (crashed kept mark) p w = record { world = w; answer = none }
+
+unfoldable pub done : World → Event → Done
+done w (found c state log p n) = record { world = step w (found c state log p n); answer = none }
+done w (request c p v l) = requestDone c v l (w .servers c) (packet w p) w
+done w (fetch c x k l) = record { world = step w (fetch c x k l); answer = none }
+done w (sync c m l) = record { world = step w (sync c m l); answer = none }
+done w (notice c p l) = record { world = step w (notice c p l); answer = none }
+done w (give c p d l) = record { world = step w (give c p d l); answer = none }
+done w (image c p l) = record { world = step w (image c p l); answer = none }
+done w (take·image c p l) = record { world = step w (take·image c p l); answer = none }
+done w (receipt c p l) = record { world = step w (receipt c p l); answer = none }
+done w (release c p l) = record { world = step w (release c p l); answer = none }
+done w (recover c state log p) = record { world = step w (recover c state log p); answer = none }
+done w (crash c k) = record { world = step w (crash c k); answer = none }
+done w (start p) = record { world = step w (start p); answer = none }
+done w (issue x op p a) = record { world = step w (issue x op p a); answer = none }
+done w (resend x c) = record { world = step w (resend x c); answer = none }
+done w (receive x p) = record { world = step w (receive x p); answer = none }
+done w (open·lease t span) = record { world = step w (open·lease t span); answer = none }
+done w (renew x t span) = record { world = step w (renew x t span); answer = none }
+done w (query x t) = record { world = step w (query x t); answer = none }
+
 abbrev pub atServer : Server → Option (List ℕ) → Option Answer → Call
 atServer s b a = record { client = none; packet = b; size = lengthOf s; answer = a }
 
 abbrev pub atClient : Option Client → Option (List ℕ) → Call
 atClient d b = record { client = d; packet = b; size = 0; answer = none }
 
+-- `a` is what a request answers
+unfoldable pub callWith : World → Event → Option Answer → Call
+callWith w (found c state log p n) a = atServer (w .servers c) none none
+callWith w (request c p v l) a = atServer (w .servers c) (packet w p) a
+callWith w (fetch c x k l) a = atServer (w .servers c) none none
+callWith w (sync c m l) a = atServer (w .servers c) none none
+callWith w (notice c p l) a = atServer (w .servers c) (packet w p) none
+callWith w (give c p d l) a = atServer (w .servers c) none none
+callWith w (image c p l) a = atServer (w .servers c) none none
+callWith w (take·image c p l) a = atServer (w .servers c) (packet w p) none
+callWith w (receipt c p l) a = atServer (w .servers c) none none
+callWith w (release c p l) a = atServer (w .servers c) (packet w p) none
+callWith w (recover c state log p) a = atServer (w .servers c) none none
+callWith w (crash c k) a = atServer (w .servers c) none none
+callWith w (start p) a = atClient none (packet w p)
+callWith w (issue x op p a) r = atClient (w .clients x) none
+callWith w (resend x c) a = atClient (w .clients x) none
+callWith w (receive x p) a = atClient (w .clients x) (packet w p)
+callWith w (open·lease t span) a = atClient none none
+callWith w (renew x t span) a = atClient none none
+callWith w (query x t) a = atClient none none
+
 unfoldable pub callSeen : World → Event → Call
-callSeen w (found c state log p n) = atServer (w .servers c) none none
-callSeen w (request c p v l) = atServer (w .servers c) (packet w p) (requestAnswer v l (w .servers c) (packet w p))
-callSeen w (fetch c x k l) = atServer (w .servers c) none none
-callSeen w (sync c m l) = atServer (w .servers c) none none
-callSeen w (notice c p l) = atServer (w .servers c) (packet w p) none
-callSeen w (give c p d l) = atServer (w .servers c) none none
-callSeen w (image c p l) = atServer (w .servers c) none none
-callSeen w (take·image c p l) = atServer (w .servers c) (packet w p) none
-callSeen w (receipt c p l) = atServer (w .servers c) none none
-callSeen w (release c p l) = atServer (w .servers c) (packet w p) none
-callSeen w (recover c state log p) = atServer (w .servers c) none none
-callSeen w (crash c k) = atServer (w .servers c) none none
-callSeen w (start p) = atClient none (packet w p)
-callSeen w (issue x op p a) = atClient (w .clients x) none
-callSeen w (resend x c) = atClient (w .clients x) none
-callSeen w (receive x p) = atClient (w .clients x) (packet w p)
-callSeen w (open·lease t span) = atClient none none
-callSeen w (renew x t span) = atClient none none
-callSeen w (query x t) = atClient none none
+callSeen w e = callWith w e (done w e .answer)
 
 -- `ok`: it keeps the provisos
 pub record Seen : Type 0 where
   pub ok : Bool
   pub call : Call
 
+unfoldable pub seenWith : List ℕ → World → Event → Option Answer → Seen
+seenWith plan w e a = record { ok = typedOk e && keepsOk plan w e; call = callWith w e a }
+
 unfoldable pub seenAt : List ℕ → World → Event → Seen
-seenAt plan w e = record { ok = typedOk e && keepsOk plan w e; call = callSeen w e }
+seenAt plan w e = seenWith plan w e (done w e .answer)
 
 -- a request that was answered: its server ran, and its packet was made
 pub record Answered (v : Versions) (l : Lent) (s : Server) (o : Option (List ℕ)) (a : Answer) : Type 0 where
@@ -189,8 +230,9 @@ pub record Trace : Type 0 where
 unfoldable pub traceFrom : List ℕ → ℕ → World → List Event → Trace
 traceFrom plan p w [] = record { rows = []; end = endSeen p w }
 traceFrom plan p w (e ∷ es) =
-    let t = traceFrom plan p (step w e) es in
-    record { rows = seenAt plan w e ∷ t .rows; end = t .end }
+    let d = done w e in
+    let t = traceFrom plan p (d .world) es in
+    record { rows = seenWith plan w e (d .answer) ∷ t .rows; end = t .end }
 
 -- ---- crashes
 

@@ -4,7 +4,7 @@
 -- Assumes nothing.
 use Rattle.claim.specs.Claim.{Demand3}
 use Rattle.proof_records.proofs.Demand3.{demand3-records}
-use Rattle.proof_bytes.proofs.FromRecords.{from-records}
+use Rattle.safety.proofs.FromRecords.{from-records}
 
 pub demand3 : Demand3
 demand3 = from-records demand3-records

@@ -1,1 +1,15 @@
+pub mod Facts
+pub mod Made
+pub mod Worlds
+pub mod Parties
+pub mod Calls
+pub mod Crashes
+pub mod Restarts
+pub mod Steps
+pub mod Decoding
+pub mod Runs
+pub mod Carried
+pub mod FromRecords
+pub mod Holders
+pub mod NotVacuous
 pub mod Demand3

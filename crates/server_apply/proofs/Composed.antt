@@ -1,22 +1,27 @@
 -- What each log record does to a state, as changes of one part after the other.
+--     executed-stays      the record of a call that is not under a floor stays
 --     executed-composed, gone-composed, gave-composed, released-composed, took-composed
 -- Assumes nothing.
-use Prim.Native.Nat.{ℕ, max}
-use mathlib.Core.Path.{_≡_, refl, sym, ap, _∙_}
+use Prim.Native.Nat.{ℕ, _≤_, max}
+use mathlib.Core.Path.{_≡_, refl}
 use mathlib.Core.Bool.{Bool, true}
-use mathlib.Core.List.{List, [], _∷_, _++_, map}
+use mathlib.Core.List.{[], _∷_, _++_, map}
+use borrow.Author.Tests.{eq-eqb, le-leb}
 use Rattle.model.specs.declared.Executed.{Executed}
 use Rattle.model.specs.declared.Notice.{Notice}
 use Rattle.model.specs.declared.Give.{Give}
 use Rattle.model.specs.declared.Release.{Release}
 use Rattle.model.specs.declared.Completion.{Completion}
-use Rattle.model.specs.Choice.{pick}
 use Rattle.model.specs.Tables.{keep}
 use Rattle.model.specs.Images.{Image, floorOf}
 use Rattle.model.specs.States.{State, pointAt}
 use Rattle.model.specs.Apply.{raise, mergeFloors, isNotClient, staysOver, staysOverFloors, isOfOther, isOnOther, executedPoint, completion, applyExecuted, applyGone, gavePoint, applyGave, tookPoint, takenRecord, applyTook, releasedPoint, applyReleased}
 use Rattle.model_laws.specs.Layout.{withHeard, withSize, withPoint, withFloors, withRecords}
 use Rattle.model_laws.proofs.Tables.{keep-append, keep-yes}
+
+pub executed-stays : (x : Executed) (end : ℕ) {n : ℕ} → n ≤ x .command .call → staysOver (x .command .client) n (completion x end) ≡ true
+unfolding staysOver completion
+executed-stays x end {n} h = rw (eq-eqb (x .command .client) (x .command .client) refl, le-leb n (x .command .call) h)
 
 module _ (st : State) (end : ℕ) where
   pub executed-composed : (x : Executed)

@@ -1,36 +1,33 @@
 -- The steps of an executed command: the client's floor, its records under the floor go, the new record, the point, the log's length.
---     executed-floor, executed-kept, executed-room, executed-added, executed-stage, executed-done
+--     executed-floor, executed-over, executed-kept, executed-room, executed-added, executed-stage, executed-done
 -- Assumes nothing.
-use Prim.Native.Nat.{ℕ, _*_, _<_, _≤_}
-use mathlib.Core.Path.{_≡_, refl, ap, _∙_}
-use mathlib.Core.Bool.{Bool, true, false, _||_, not}
+use Prim.Native.Nat.{ℕ, _*_, _<_, max}
+use mathlib.Core.Path.{_≡_, sym, ap, _∙_}
+use mathlib.Core.Bool.{true}
 use mathlib.Core.List.{List, [], _∷_, _++_}
-use native.Mathlib.Omega.{arith}
 use lib.ListN.{length}
-use lib.Dec.{eqb, leb}
-use borrow.Author.Tests.{le-leb}
 use Rattle.model.specs.declared.Executed.{Executed}
 use Rattle.model.specs.declared.Point.{Point}
 use Rattle.model.specs.declared.Completion.{Completion}
 use Rattle.model.specs.Numbers.{word}
-use Rattle.model.specs.Tables.{keep}
+use Rattle.model.specs.Tables.{keep, every}
 use Rattle.model.specs.Limits.{recordCount}
 use Rattle.model.specs.Images.{floorOf}
 use Rattle.model.specs.States.{State, load, pointAt}
-use Rattle.model.specs.Apply.{raise, staysOver, completion, executedPoint, applyExecuted}
+use Rattle.model.specs.Apply.{staysOver, completion, executedPoint, applyExecuted}
 use Rattle.model.specs.Operations.{stored}
-use Rattle.model_laws.specs.Fits.{CompletionFits, PointFits}
+use Rattle.model_laws.specs.Fits.{PointFits}
 use Rattle.model_laws.specs.Layout.{withSize, withPoint, withFloors, withRecords}
 use Rattle.state_rows.specs.Canonical.{Canonical}
 use Rattle.state_rows.proofs.Chains.{fits-point, fits-size, fits-floors}
 use Rattle.state_records.specs.declared.Rule.the-variants.{OverFloor}
-use Rattle.state_records.specs.Rules.{staysBy, keptBy}
+use Rattle.state_records.specs.Rules.{staysBy}
 use Rattle.state_records.proofs.Chained.{kept-fits, added-fits}
 use Rattle.state_clients.proofs.Raised.{raise-fits}
 use Rattle.server_apply.specs.Room.{floorsWith, floorWith, Room}
 use Rattle.server_apply.specs.Stage.{Stage}
 use Rattle.server_apply.proofs.Stages.{stage-start, stage-next, stage-load, point-fits}
-use Rattle.server_apply.proofs.Composed.{executed-composed}
+use Rattle.server_apply.proofs.Composed.{executed-stays, executed-composed}
 
 -- the fields of an executed record in their widths
 pub record Widths (x : Executed) (end : ℕ) : Type 0 where
@@ -45,21 +42,17 @@ pub record Widths (x : Executed) (end : ℕ) : Type 0 where
   pub quality : x .result .quality < 256
   pub ends : end < word * word
 
-or-right : (a b : Bool) → b ≡ true → (a || b) ≡ true
-or-right true b e = refl
-or-right false b e = e
-
 module _ {s : List ℕ} (w : Canonical s) (x : Executed) (end : ℕ) (f : Widths x end) (r : Room x (load s)) where
-  abbrev raised : State
+  abbrev pub raised : State
   raised = withFloors (floorsWith x (load s)) (load s)
 
-  abbrev kept : State
+  abbrev pub kept : State
   kept = withRecords (keep (staysOver (x .command .client) (floorWith x (load s))) (load s .records)) raised
 
-  abbrev added : State
+  abbrev pub added : State
   added = withRecords (keep (staysOver (x .command .client) (floorWith x (load s))) (load s .records) ++ (completion x end ∷ [])) kept
 
-  abbrev pointed : State
+  abbrev pub pointed : State
   pointed = withPoint (x .command .point) (executedPoint x (pointAt (load s) (x .command .point))) added
 
   pub executed-floor : {s1 : List ℕ} → s1 ≡ stored s raised → Stage s s1 raised
@@ -68,18 +61,19 @@ module _ {s : List ℕ} (w : Canonical s) (x : Executed) (end : ℕ) (f : Widths
       (fits-floors (load s) (w .fits) (floorsWith x (load s))
       (raise-fits (record { client = x .command .client; floor = x .done }) (load s .floors) (record { client = f .client; floor = f .done }) (w .fits .floors)) (r .clients))
 
-  -- the floor read after it was raised
-  floor-with : {s1 : List ℕ} {n : ℕ} → Stage s s1 raised → n ≡ floorOf (x .command .client) (load s1 .floors) → n ≡ floorWith x (load s)
+  -- no record of the client is under the floor that it had
+  pub executed-over : {old : ℕ} {s1 : List ℕ} → Stage s s1 raised → old ≡ floorOf (x .command .client) (load s .floors) → every (staysOver (x .command .client) old) (load s1 .records) ≡ true
   unfolding withFloors
-  floor-with t q = q ∙ ap (λ (st : State). floorOf (x .command .client) (st .floors)) (stage-load t)
+  executed-over t o = rw (stage-load t, o) (r .over)
 
-  pub executed-kept : {n : ℕ} {s1 s2 : List ℕ} → Stage s s1 raised → n ≡ floorOf (x .command .client) (load s1 .floors)
-      → s2 ≡ stored s1 (withRecords (keptBy (OverFloor (x .command .client) n) (load s1)) (load s1)) → Stage s s2 kept
+  pub executed-kept : {old n : ℕ} {s1 s2 : List ℕ} → Stage s s1 raised → old ≡ floorOf (x .command .client) (load s .floors) → n ≡ max old (x .done)
+      → s2 ≡ stored s1 (withRecords (keep (staysOver (x .command .client) n) (load s1 .records)) (load s1)) → Stage s s2 kept
   unfolding staysBy withFloors
-  executed-kept {n} {s1} {s2} t q p =
+  executed-kept {old} {n} {s1} {s2} t o q p =
       let m : ℕ = floorWith x (load s) in
-      stage-next t (λ (st : State). withRecords (keptBy (OverFloor (x .command .client) m) st) st)
-      (p ∙ ap (λ (k : ℕ). stored s1 (withRecords (keptBy (OverFloor (x .command .client) k) (load s1)) (load s1))) (floor-with t q))
+      let e : n ≡ m = q ∙ ap (λ (k : ℕ). max k (x .done)) o ∙ sym (r .floor) in
+      stage-next t (λ (st : State). withRecords (keep (staysOver (x .command .client) m) (st .records)) st)
+      (p ∙ ap (λ (k : ℕ). stored s1 (withRecords (keep (staysOver (x .command .client) k) (load s1 .records)) (load s1))) e)
       (kept-fits raised (t .fits) (OverFloor (x .command .client) m))
 
   pub executed-room : {s2 : List ℕ} → Stage s s2 kept → length (load s2 .records) < recordCount
@@ -114,10 +108,6 @@ module _ {s : List ℕ} (w : Canonical s) (x : Executed) (end : ℕ) (f : Widths
         takeEnd = old .takeEnd;
       }))
 
-  stays : staysOver (x .command .client) (floorWith x (load s)) (completion x end) ≡ true
-  unfolding staysOver completion
-  stays = or-right (not (eqb (x .command .client) (x .command .client))) (leb (floorWith x (load s)) (x .command .call)) (le-leb (floorWith x (load s)) (x .command .call) (r .call))
-
   pub executed-done : {s4 s5 : List ℕ} → Stage s s4 pointed → s5 ≡ stored s4 (withSize end (load s4)) → s5 ≡ stored s (applyExecuted x end (load s))
   unfolding withRecords
-  executed-done t p = stage-next t (withSize end) p (fits-size pointed (t .fits) end (f .ends)) .is ∙ ap (λ (u : State). stored s u) (executed-composed (load s) end x stays)
+  executed-done t p = stage-next t (withSize end) p (fits-size pointed (t .fits) end (f .ends)) .is ∙ ap (λ (u : State). stored s u) (executed-composed (load s) end x (executed-stays x end (r .call)))

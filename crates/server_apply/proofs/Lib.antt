@@ -6,3 +6,4 @@ pub mod Released
 pub mod Gone
 pub mod Executed
 pub mod Taken
+pub mod Rooms

@@ -54,9 +54,10 @@ pub fn apply_executed(s: &mut [u8], x: Executed, end: u64)
     ensures { λ r. ⌜ now (s .exit) ≡ stored (now (s .entry)) (applyExecuted x end (load (now (s .entry)))) ⌝ }
 {
     let q = state::point_at(s, x.command.point);
+    let old = state_clients::floor_in(s, x.command.client);
     state_clients::raise(s, x.command.client, x.done);
-    let floor = state_clients::floor_in(s, x.command.client);
-    state_records::keep_records(s, Rule::OverFloor(x.command.client, floor));
+    let floor = format_numbers::greater(old, x.done);
+    state_records::keep_over(s, x.command.client, old, floor);
     state_records::append(s, completion(x, end));
     state::set_point(s, x.command.point, executed_point(x, q));
     state::set_size(s, end);
@@ -69,7 +70,7 @@ pub fn apply_gone(s: &mut [u8], n: Notice, end: u64)
     requires { ⌜ Canonical (now s) ⌝ }
     ensures { λ r. ⌜ now (s .exit) ≡ stored (now (s .entry)) (applyGone n end (load (now (s .entry)))) ⌝ }
 {
-    let heard = state_clients::greater(state::heard_of(s), n.time);
+    let heard = format_numbers::greater(state::heard_of(s), n.time);
     state_clients::remove(s, n.client);
     state_records::keep_records(s, Rule::OfOther(n.client));
     state::set_heard(s, heard);

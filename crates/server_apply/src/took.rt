@@ -51,7 +51,7 @@ fn take_point(s: &mut [u8], h: ImageHead, end: u64)
     let heard = state::heard_of(s);
     let x = took_point(h, end);
     state::set_point(s, h.point, x);
-    state::set_heard(s, state_clients::greater(heard, h.heard));
+    state::set_heard(s, format_numbers::greater(heard, h.heard));
     state::set_size(s, end);
 }
 

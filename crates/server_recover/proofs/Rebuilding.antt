@@ -3,49 +3,37 @@
 --     no-head, no-replay, rebuilt-done     what rebuilding answers
 --     recover-refused, long-passed, plan-passed, recover-no, recover-done     the answers of the operation
 -- Assumes nothing.
-use Prim.Native.Nat.{ℕ, _+_, _*_, _≤_, _<_}
+use Prim.Native.Nat.{ℕ, _≤_}
 use mathlib.Core.Path.{_≡_, refl, sym, ap, _∙_}
 use mathlib.Core.Bool.{Bool, true, false, not}
-use mathlib.Core.List.{List, [], _∷_, _++_, append-nil}
+use mathlib.Core.List.{List, [], append-nil}
 use mathlib.Core.Option.{Option, none, some}
 use native.Mathlib.Omega.{arith}
-use lib.ListN.{length, drop, drop-of-length-le}
-use lib.Dec.{eqb, leb, ltb}
-use borrow.Author.Tests.{leb-true, ltb-false, ne-eqb, not-false}
-use Rattle.model.specs.Choice.{pick}
-use Rattle.model.specs.Limits.{lastServer, stateSize, headSize}
+use lib.ListN.{length, drop-of-length-le}
+use lib.Dec.{ltb}
+use borrow.Author.Tests.{ltb-false, ne-eqb, not-false}
+use Rattle.model.specs.Limits.{stateSize, headSize}
 use Rattle.model.specs.Refusals.{malformed, tooShort, badLog}
-use Rattle.model.specs.Numbers.{word, byteAt, zeros3At}
 use Rattle.model.specs.Tables.{written}
 use Rattle.model.specs.Plan.{planOk, planOf}
-use Rattle.model.specs.Logs.{logMagic, headOk, headServer, entriesOf}
+use Rattle.model.specs.Logs.{headOk, headServer, entriesOf}
 use Rattle.model.specs.States.{State, load, stateBytes, stateEnd}
 use Rattle.model.specs.Apply.{founded, withMark}
-use Rattle.model.specs.Operations.{After, after, answerOf, settle, stored, leftUnless, recoveredState, settleRecovered, recoverRefusal, recoverOf}
+use Rattle.model.specs.Operations.{after, answerOf, settle, stored, leftUnless, recoveredState, settleRecovered, recoverRefusal, recoverOf}
 use Rattle.model_laws.specs.Bytes.{Bytes}
 use Rattle.model_laws.specs.Fits.{StateFits}
-use Rattle.model_laws.proofs.Tests.{joined-all}
 use Rattle.model_laws.proofs.Refused.{if-passed}
 use Rattle.model_laws.proofs.Written.{written-front}
 use Rattle.model_laws.proofs.States.{state-length}
 use Rattle.model_invariants.specs.Sound.{Sound}
 use Rattle.model_invariants.proofs.Tests.{fits-of}
 use Rattle.model_invariants.proofs.Kept.{founded-sound}
+use Rattle.model_invariants.proofs.Crash.{head-limit}
 use Rattle.model_invariants.proofs.Loaded.{plan-good}
-use Rattle.state_rows.proofs.Chains.{canonical-stored, load-stored, length-stored, fits-mark}
+use Rattle.state_rows.proofs.Chains.{canonical-stored, load-stored, fits-mark}
 use Rattle.server_replay.specs.Standing.{Standing}
-use Rattle.server_recover.specs.Remaining.{remaining, StandsAt, Ended}
+use Rattle.server_recover.specs.Remaining.{remaining, Ended}
 use Rattle.server_recover.specs.Rebuilt.{Begun, rebuilt, recoveredBytes}
-
-head-limit : (s : List ℕ) → headOk s ≡ true → headServer s ≤ lastServer
-unfolding headOk
-head-limit s e =
-    leb-true _ _
-    (joined-all
-    (leb headSize (length s) ∷ eqb (byteAt s 0) (byteAt logMagic 0) ∷ eqb (byteAt s 1) (byteAt logMagic 1) ∷ eqb (byteAt s 2) (byteAt logMagic 2) ∷ eqb (byteAt s 3) (byteAt logMagic 3) ∷ leb
-    (headServer s) lastServer ∷ zeros3At s 5 ∷ [])
-    e
-    .1 .1 .1 .1 .1 .0)
 
 pub ended-standing : (log : List ℕ) (at : ℕ) (st : State) (s : List ℕ) {t : Bool} → Ended log at st s t → t ≡ true → Standing s
 ended-standing log at st s d f = let g : Standing s × (remaining log at st ≡ some (load s)) = rw f at (d .found) in g .0

@@ -3,17 +3,16 @@
 --     free-yes, free-no             what a search answers of a free id, and of another
 --     gave-tests                    a give in range
 -- Assumes nothing.
-use Prim.Native.Nat.{ℕ, suc, _+_, _≤_}
-use mathlib.Core.Path.{_≡_, refl, sym, ap, _∙_}
-use mathlib.Core.Bool.{Bool, true, false, _&&_}
+use Prim.Native.Nat.{ℕ, _+_, _≤_}
+use mathlib.Core.Path.{_≡_, sym, _∙_}
+use mathlib.Core.Bool.{Bool, true, false, _&&_, not}
 use mathlib.Core.List.{List}
 use mathlib.Core.Option.{Option}
 use native.Mathlib.Numerals.{add-one}
 use lib.Dec.{eqb}
-use borrow.Author.Tests.{le-ltb}
+use borrow.Author.Tests.{le-ltb, not-true, not-false}
 use Rattle.model.specs.declared.Give.{Give}
 use Rattle.model.specs.declared.Completion.{Completion}
-use Rattle.model.specs.Choice.{pick}
 use Rattle.model.specs.Limits.{lastPoint, lastServer, giveSize}
 use Rattle.model.specs.Logs.{LogRecord, gave}
 use Rattle.model.specs.States.{State, load, pointAt}
@@ -24,7 +23,7 @@ use Rattle.state_records.specs.declared.Found.{Found}
 use Rattle.state_records.specs.declared.Found.the-variants.{Nothing, At}
 use Rattle.state_records.specs.Rules.{foundOf}
 use Rattle.state_records.proofs.Search.{found-none, found-at}
-use Rattle.server_replay.specs.Standing.{replayed}
+use Rattle.server_replay.specs.Standing.{replayed, ReplayedBy}
 
 pub free-yes : (o : Option Completion) {f : Found} → f ≡ foundOf o → f ≡ Nothing → true ≡ isNone o
 unfolding isNone
@@ -40,11 +39,12 @@ pub gave-tests : (st : State) (g : Give) → g .point ≤ lastPoint → g .desti
 unfolding follows placesBad
 gave-tests st g p d = rw (le-ltb lastPoint (g .point) p, le-ltb lastServer (g .destination) d, add-one)
 
-module _ (s : List ℕ) (r : LogRecord) {t : Bool} (e : t ≡ follows (load s) r) where
-  pub replayed-no : (end : ℕ) → t ≡ false → (false ≡ follows (load s) r) × (s ≡ replayed r end s)
+-- a record of which a test t says whether it follows
+module _ (s : List ℕ) (r : LogRecord) (end : ℕ) {t : Bool} (e : t ≡ follows (load s) r) where
+  pub replayed-no : not t ≡ true → ReplayedBy r end s s false
   unfolding replayed
-  replayed-no end p = (sym p ∙ e, rw (sym e ∙ p))
+  replayed-no p = let no : t ≡ false = not-true t p in (sym no ∙ e, rw (sym e ∙ no))
 
-  pub replayed-yes : (end : ℕ) {s' : List ℕ} → t ≡ true → s' ≡ stored s (applyRecord r end (load s)) → (true ≡ follows (load s) r) × (s' ≡ replayed r end s)
+  pub replayed-yes : {s' : List ℕ} → not t ≡ false → s' ≡ stored s (applyRecord r end (load s)) → ReplayedBy r end s s' true
   unfolding replayed
-  replayed-yes end p q = (sym p ∙ e, rw (sym e ∙ p) q)
+  replayed-yes p q = let yes : t ≡ true = not-false t p in (sym yes ∙ e, rw (sym e ∙ yes) q)

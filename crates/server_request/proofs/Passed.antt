@@ -5,38 +5,34 @@
 --     request-place      its point is one of the plan's
 -- Assumes nothing.
 use Prim.Native.Nat.{ℕ, _+_, _*_, _≤_, _<_}
-use mathlib.Core.Path.{_≡_, refl, sym, _∙_}
-use mathlib.Core.Bool.{Bool, true, false, _&&_, _||_, not}
-use mathlib.Core.List.{[], _∷_, _++_}
+use mathlib.Core.Path.{_≡_, sym, _∙_}
+use mathlib.Core.Bool.{Bool, true, false, _&&_, not}
 use mathlib.Core.Option.{Option, none, some}
 use native.Mathlib.Omega.{arith}
-use lib.ListN.{length, length-append}
-use lib.Dec.{eqb, leb, ltb}
-use borrow.Author.Tests.{le-leb}
+use lib.ListN.{length}
+use lib.Dec.{leb, ltb}
 use Rattle.model.specs.declared.Request.{Request}
 use Rattle.model.specs.declared.Executed.{Executed}
 use Rattle.model.specs.declared.Completion.{Completion}
 use Rattle.model.specs.Choice.{pick, refuse, append, isPassed, unlessRefused}
 use Rattle.model.specs.Numbers.{word}
 use Rattle.model.specs.Versions.{today}
-use Rattle.model.specs.Limits.{lastPoint, clientCount, recordCount, executedSize}
-use Rattle.model.specs.Tables.{keep}
+use Rattle.model.specs.Limits.{lastPoint, clientCount, executedSize}
 use Rattle.model.specs.Images.{floorOf, notKnown}
 use Rattle.model.specs.Logs.{executed, recordSize}
 use Rattle.model.specs.States.{State, pointAt, isHeld, isSynced}
-use Rattle.model.specs.Apply.{staysOver, completion, applyRecord, applyExecuted}
+use Rattle.model.specs.Apply.{applyRecord}
 use Rattle.model.specs.Decisions.{Decided, find, sameCommand, executedFor, requestRefusal, heldRefusal, onHeld, newRefusal, onNew, onId, decideRequest}
 use Rattle.model.specs.Refusals.{lastDenied, logFull, clientsFull, otherCommand, notSynced, notHeld, leaseOver, underFloor}
 use Rattle.model_laws.proofs.Tests.{choose}
-use Rattle.model_laws.proofs.Tables.{keep-yes}
 use Rattle.model_invariants.specs.Sound.{Sound, GoodRequest, GoodExecuted, Tested}
 use Rattle.model_invariants.specs.History.{Decides, byRequest}
 use Rattle.model_invariants.proofs.Tests.{command-fits}
-use Rattle.model_invariants.proofs.Floors.{raise-same}
 use Rattle.model_invariants.proofs.Steps.{tested}
 use Rattle.model_invariants.proofs.Decided.{request-passed, request-terms}
 use Rattle.model_invariants.proofs.Kept.{decided-good, decided-sound}
-use Rattle.server_apply.specs.Room.{floorWith, Room}
+use Rattle.server_apply.specs.Room.{Room}
+use Rattle.server_apply.proofs.Rooms.{room-of}
 use Rattle.server_request.specs.declared.Decision.{Decision}
 use Rattle.server_request.specs.declared.Decision.the-variants.{Refuse, Execute}
 use Rattle.server_request.specs.Decisions.{decided}
@@ -120,31 +116,6 @@ module _ (st : State) (free : ℕ) (q : Request) {d : Decision} (p : decided d �
           one : {a b : Executed} → executed a ≡ executed b → a ≡ b
           one e = cc
 
-      call : floorWith x st ≤ x .command .call
-      call = rw (raise-same (x .command .client) (x .done) (st .floors) (S .ascending)) (omega (arith, over, tests .low))
-
-      stays : (end : ℕ) → staysOver (x .command .client) (floorWith x st) (completion x end) ≡ true
-      unfolding staysOver completion
-      stays end = or-right (not (eqb (x .command .client) (x .command .client))) (leb (floorWith x st) (x .command .call)) (le-leb _ _ call)
-        where
-          or-right : (a b : Bool) → b ≡ true → (a || b) ≡ true
-          or-right true b e = refl
-          or-right false b e = e
-
-      module _ (z : st .size + executedSize < word * word) where
-        after-it : Sound (applyExecuted x (st .size + executedSize) st)
-        unfolding applyRecord recordSize
-        after-it = decided-sound st free (executed x) S decides z
-
-        few : length (keep (staysOver (x .command .client) (floorWith x st)) (st .records)) < recordCount
-        unfolding applyExecuted
-        few =
-            let t : Completion → Bool = staysOver (x .command .client) (floorWith x st) in
-            let c : length (keep t (st .records ++ (completion x (st .size + executedSize) ∷ []))) ≤ recordCount = after-it .count in
-            let k : length (keep t (st .records) ++ (completion x (st .size + executedSize) ∷ [])) ≤ recordCount =
-            rw (keep-yes t (st .records) (completion x (st .size + executedSize)) (stays (st .size + executedSize))) at c in
-            omega (arith, k, length-append (keep t (st .records)) (completion x (st .size + executedSize) ∷ []))
-
-        pub request-room : Room x st
-        unfolding applyExecuted
-        request-room = record { clients = after-it .clients; call = call; records = few }
+      pub request-room : st .size + executedSize < word * word → Room x st
+      unfolding applyRecord recordSize
+      request-room z = room-of st x S tests over (st .size + executedSize) (decided-sound st free (executed x) S decides z)

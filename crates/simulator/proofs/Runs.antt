@@ -22,7 +22,8 @@ use Rattle.model.specs.Operations.{answerOf}
 use Rattle.model.specs.Yard.{Yard, Line, Reply, Step, step, newYard, mostLines, ran, runLines, lineOf, linesFrom, linesOf, replyText, repliesText, yardOf}
 use Rattle.model_laws.proofs.Written.{take-written-run, length-written, tail-part}
 use Rattle.model_laws.proofs.Tests.{and-left, and-right}
-use Rattle.simulator_text.specs.Values.{replyIs, firstOf, Put, replyRoom}
+use Rattle.simulator_text.specs.Letters.{lineFeed, replyRoom}
+use Rattle.simulator_text.specs.Values.{replyIs, firstOf, Put}
 use Rattle.simulator_text.proofs.Fields.{lines-next, lines-none}
 use Rattle.simulator_text.proofs.Texts.{length-reply}
 use Rattle.simulator_store.specs.Store.{rowSize, Next}
@@ -61,17 +62,18 @@ take-least (suc n) (x ∷ l) = omega (arith, take-least n l)
 pub length-yard : (s : List ℕ) → length (yardOf s) ≤ replyRoom * mostLines
 unfolding yardOf linesOf
 length-yard s =
-    let l : length (runLines newYard (take mostLines (linesFrom [] s))) ≤ mostLines = rw (length-run newYard (take mostLines (linesFrom [] s))) (take-least mostLines (linesFrom [] s)) in
-    omega (arith, length-replies 1 (runLines newYard (take mostLines (linesFrom [] s))))
+    let ls : List Line = take mostLines (linesFrom [] s) in
+    let l : length (runLines newYard ls) ≤ mostLines = rw (length-run newYard ls) (take-least mostLines (linesFrom [] s)) in
+    omega (arith, length-replies 1 (runLines newYard ls))
 
 -- ---- a run on its way: n bytes are printed, line k stands at a place of the text
 
 pub record Running (text : List ℕ) (y : Yard) (page : List ℕ) (z : Yard) (count at n k : ℕ) : Type 0 where
-  pub left : take n page ++ repliesText k (runLines z (take (61 - k) (linesFrom [] (drop at text)))) ≡ repliesText 1 (runLines y (linesOf text))
+  pub left : take n page ++ repliesText k (runLines z (take (suc mostLines - k) (linesFrom [] (drop at text)))) ≡ repliesText 1 (runLines y (linesOf text))
   pub wrote : n ≤ replyRoom * (k - 1)
   pub long : replyRoom * mostLines ≤ length page
   pub least : 1 ≤ k
-  pub most : k ≤ 61
+  pub most : k ≤ suc mostLines
   pub packets : count + 1 ≤ k
 
 pub running-start : (text : List ℕ) (y : Yard) (page : List ℕ) (count : ℕ) → replyRoom * mostLines ≤ length page → count ≡ 0 → Running text y page y count 0 0 1
@@ -89,25 +91,26 @@ place text at f = go (ltb (at + f) (length text)) refl
         drop-of-length-le text {i = length text} (omega arith) ∙ sym (drop-drop (suc f) at text ∙ drop-of-length-le text {i = at + suc f} (omega arith))
 
 -- one line more
-line-more : (z : Yard) (k : ℕ) (t : List ℕ) {x : Yard} {r : Reply} → k ≤ 60 → 0 < length t → step x r ≡ ran z (lineOf (take (firstOf 10 t) t))
-    → repliesText k (runLines z (take (61 - k) (linesFrom [] t))) ≡ replyText k r ++ repliesText (k + 1) (runLines x (take (61 - (k + 1)) (linesFrom [] (drop (suc (firstOf 10 t)) t))))
+line-more : (z : Yard) (k : ℕ) (t : List ℕ) {x : Yard} {r : Reply} → k ≤ mostLines → 0 < length t → step x r ≡ ran z (lineOf (take (firstOf lineFeed t) t))
+    → repliesText k (runLines z (take (suc mostLines - k) (linesFrom [] t)))
+    ≡ replyText k r ++ repliesText (k + 1) (runLines x (take (suc mostLines - (k + 1)) (linesFrom [] (drop (suc (firstOf lineFeed t)) t))))
 unfolding runLines repliesText
 line-more z k t {x} {r} h l e =
-    let q : 61 - k ≡ suc (61 - (k + 1)) = omega arith in
+    let q : suc mostLines - k ≡ suc (suc mostLines - (k + 1)) = omega arith in
     rw (lines-next t l, q, ← e, add-one) refl
 
 pub running-next : (text : List ℕ) (y : Yard) (page : List ℕ) (z : Yard) (count at n k : ℕ) {r : Turn} {x : Yard} {q : List ℕ}
-    → Running text y page z count at n k → k ≤ 60 → at < length text → Turned text at k n z page count r x q → Running text y q x (r .memory .count) (r .at) (r .n) (k + 1)
+    → Running text y page z count at n k → k ≤ mostLines → at < length text → Turned text at k n z page count r x q → Running text y q x (r .memory .count) (r .at) (r .n) (k + 1)
 running-next text y page z count at n k {r} {x} {q} u h l w =
     let t : List ℕ = drop at text in
-    let f : ℕ = firstOf 10 t in
+    let f : ℕ = firstOf lineFeed t in
     let vs : List ℕ = replyText k (replyIs (r .reply)) in
     let lt : length t ≡ length text - at = length-drop at text in
     let fits : n + length vs ≤ length page = omega (arith, u .wrote, u .long, u .least, length-reply k (replyIs (r .reply))) in
     let same : length q ≡ length page = ap length (w .put .text) ∙ length-written page n vs in
     let printed : take (r .n) q ≡ take n page ++ vs = rw (w .put .behind, w .put .text) (take-written-run page n vs fits) in
-    let rest : List ℕ = repliesText (k + 1) (runLines x (take (61 - (k + 1)) (linesFrom [] (drop (suc f) t)))) in
-    let more : repliesText k (runLines z (take (61 - k) (linesFrom [] t))) ≡ vs ++ rest = line-more z k t h (omega arith) (w .ran) in
+    let rest : List ℕ = repliesText (k + 1) (runLines x (take (suc mostLines - (k + 1)) (linesFrom [] (drop (suc f) t)))) in
+    let more : repliesText k (runLines z (take (suc mostLines - k) (linesFrom [] t))) ≡ vs ++ rest = line-more z k t h (omega arith) (w .ran) in
     let p : drop (r .at) text ≡ drop (suc f) t = rw (w .next) (place text at f) in
     record {
       left = rw (printed, p) (append-assoc (take n page) vs rest ∙ rw (← more) (u .left));
@@ -118,21 +121,21 @@ running-next text y page z count at n k {r} {x} {q} u h l w =
       packets = omega (arith, u .packets, w .packets .most);
     }
 
-pub running-end : (text : List ℕ) (y : Yard) (page : List ℕ) (z : Yard) (count at n k : ℕ) → Running text y page z count at n k → (leb k 60 && ltb at (length text)) ≡ false →
+pub running-end : (text : List ℕ) (y : Yard) (page : List ℕ) (z : Yard) (count at n k : ℕ) → Running text y page z count at n k → (leb k mostLines && ltb at (length text)) ≡ false →
     Printed text y page n
 unfolding runLines repliesText
 running-end text y page z count at n k u e =
     record {
-      same = go (leb k 60) refl e;
+      same = go (leb k mostLines) refl e;
       most = omega (arith, u .wrote, u .most, u .least);
     }
   where
-    over : take (61 - k) (linesFrom [] (drop at text)) ≡ [] → take n page ≡ repliesText 1 (runLines y (linesOf text))
+    over : take (suc mostLines - k) (linesFrom [] (drop at text)) ≡ [] → take n page ≡ repliesText 1 (runLines y (linesOf text))
     over q = sym (append-nil (take n page)) ∙ rw q at (u .left)
 
-    go : (t : Bool) → leb k 60 ≡ t → (t && ltb at (length text)) ≡ false → take n page ≡ repliesText 1 (runLines y (linesOf text))
-    go false q e' = let z : 61 - k ≡ 0 = omega (arith, leb-false k 60 q) in over (rw z refl)
-    go true q e' = over (rw (drop-of-length-le text {i = at} (ltb-false at (length text) e'), lines-none) (take-nil (61 - k)))
+    go : (t : Bool) → leb k mostLines ≡ t → (t && ltb at (length text)) ≡ false → take n page ≡ repliesText 1 (runLines y (linesOf text))
+    go false q e' = let z : suc mostLines - k ≡ 0 = omega (arith, leb-false k mostLines q) in over (rw z refl)
+    go true q e' = over (rw (drop-of-length-le text {i = at} (ltb-false at (length text) e'), lines-none) (take-nil (suc mostLines - k)))
 
 -- the page is what the definition says
 pub printed-yard : (text page : List ℕ) (n : ℕ) → Printed text newYard page n → n ≤ length page → (take n page ≡ yardOf text) × (n ≡ length (yardOf text))
@@ -158,11 +161,11 @@ kept-back out n t h = rw (lt-ltb (length out) n h) refl
 pub part-length : (t : List ℕ) (at : ℕ) → length (midOf at (length t - at) t) ≡ length t - at
 part-length t at = ap length (tail-part at t) ∙ length-drop at t
 
-pub turned : (text : List ℕ) (at k n : ℕ) (y : Yard) (page : List ℕ) (count : ℕ) (r : Turn) (z : Yard) (q : List ℕ) (f : ℕ) {l : Line} → f ≡ firstOf 10 (midOf at (length text - at) text)
+pub turned : (text : List ℕ) (at k n : ℕ) (y : Yard) (page : List ℕ) (count : ℕ) (r : Turn) (z : Yard) (q : List ℕ) (f : ℕ) {l : Line} → f ≡ firstOf lineFeed (midOf at (length text - at) text)
     → l ≡ lineOf (midOf at (at + f - at) text) → step z (replyIs (r .reply)) ≡ ran y l → r .at ≡ nextPlace (at + f) (length text)
     → Put page n (replyText k (replyIs (r .reply))) q (r .n) → Next count (r .memory .count) → Turned text at k n y page count r z q
 turned text at k n y page count r z q f {l} e g h i j c =
-    let w : f ≡ firstOf 10 (drop at text) = e ∙ ap (λ (t : List ℕ). firstOf 10 t) (tail-part at text) in
+    let w : f ≡ firstOf lineFeed (drop at text) = e ∙ ap (λ (t : List ℕ). firstOf lineFeed t) (tail-part at text) in
     let d : at + f - at ≡ f = omega arith in
     record {
       ran = h ∙ ap (ran y) (g ∙ rw (d, w) refl);
@@ -173,12 +176,12 @@ turned text at k n y page count r z q f {l} e g h i j c =
 
 pub ready : (s0 s1 store u0 u1 ustore : List ℕ) (count k : ℕ) → stateEnd ≤ length u0 → stateEnd ≤ length u1 → rowSize * mostLines ≤ length ustore → length s0 ≡ length u0 →
     length s1 ≡ length u1
-    → length store ≡ length ustore → count + 1 ≤ k → k ≤ 60 → Ready s0 s1 store count
+    → length store ≡ length ustore → count + 1 ≤ k → k ≤ mostLines → Ready s0 s1 store count
 ready s0 s1 store u0 u1 ustore count k a b c d e f g h =
     record { first = omega arith; second = omega arith; room = record { rows = omega arith; small = omega arith } }
 
-pub test-left : (k at n : ℕ) → (leb k 60 && ltb at n) ≡ true → k ≤ 60
-test-left k at n e = leb-true k 60 (and-left (leb k 60) (ltb at n) e)
+pub test-left : (k at n : ℕ) → (leb k mostLines && ltb at n) ≡ true → k ≤ mostLines
+test-left k at n e = leb-true k mostLines (and-left (leb k mostLines) (ltb at n) e)
 
-pub test-right : (k at n : ℕ) → (leb k 60 && ltb at n) ≡ true → at < n
-test-right k at n e = ltb-true at n (and-right (leb k 60) (ltb at n) e)
+pub test-right : (k at n : ℕ) → (leb k mostLines && ltb at n) ≡ true → at < n
+test-right k at n e = ltb-true at n (and-right (leb k mostLines) (ltb at n) e)

@@ -2,8 +2,9 @@
 -- Assumes nothing.
 use Prim.Native.Nat.{ℕ, zero, suc, _+_, _*_, _≤_, _<_}
 use mathlib.Core.Path.{_≡_}
+use mathlib.Core.Bool.{Bool}
 use mathlib.Core.List.{List}
-use lib.Dec.{ltb}
+use lib.Dec.{leb, ltb}
 use lib.ListN.{length, take, drop}
 use Rattle.model.specs.declared.Answer.{Answer}
 use Rattle.model.specs.Choice.{pick}
@@ -13,7 +14,8 @@ use Rattle.model.specs.States.{stateEnd}
 use Rattle.model.specs.Tables.{written}
 use Rattle.model.specs.Operations.{answerOf}
 use Rattle.model.specs.Yard.{Yard, step, mostLines, yardLog, ran, runLines, lineOf, linesOf, replyText, repliesText, yardOf}
-use Rattle.simulator_text.specs.Values.{replyIs, firstOf, Put, replyRoom}
+use Rattle.simulator_text.specs.Letters.{lineFeed, replyRoom}
+use Rattle.simulator_text.specs.Values.{replyIs, firstOf, lineFeeds, Put}
 use Rattle.simulator_store.specs.Store.{rowSize, Next}
 use Rattle.simulator.specs.declared.Turn.{Turn}
 
@@ -23,8 +25,8 @@ nextPlace e n = pick (ltb e n) (e + 1) n
 
 -- one line of a text was run: y, page and count before it, z and q after it
 pub record Turned (text : List ℕ) (at k n : ℕ) (y : Yard) (page : List ℕ) (count : ℕ) (r : Turn) (z : Yard) (q : List ℕ) : Type 0 where
-  pub ran : step z (replyIs (r .reply)) ≡ ran y (lineOf (take (firstOf 10 (drop at text)) (drop at text)))
-  pub next : r .at ≡ nextPlace (at + firstOf 10 (drop at text)) (length text)
+  pub ran : step z (replyIs (r .reply)) ≡ ran y (lineOf (take (firstOf lineFeed (drop at text)) (drop at text)))
+  pub next : r .at ≡ nextPlace (at + firstOf lineFeed (drop at text)) (length text)
   pub put : Put page n (replyText k (replyIs (r .reply))) q (r .n)
   pub packets : Next count (r .memory .count)
 
@@ -49,6 +51,10 @@ pub record Fresh (page s0 l0 s1 l1 store : List ℕ) : Type 0 where
 pub record Printed (text : List ℕ) (y : Yard) (page : List ℕ) (n : ℕ) : Type 0 where
   pub same : take n page ≡ repliesText 1 (runLines y (linesOf text))
   pub most : n ≤ replyRoom * mostLines
+
+-- the text has as many line feeds as lines are read
+unfoldable pub closed : List ℕ → Bool
+closed t = leb mostLines (lineFeeds t)
 
 pub record Simulated : Type 0 where
   pub answer : Answer

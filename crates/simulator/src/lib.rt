@@ -8,19 +8,19 @@ ghost use Prim.Native.Nat.{_+_, _*_, _≤_, _<_};
 ghost use lib.ListN.{length, take};
 ghost use Rattle.model.specs.Limits.{stateSize};
 ghost use Rattle.model.specs.Yard.{yardLog, mostLines, newYard};
-ghost use Rattle.simulator_text.specs.Values.{replyRoom};
+ghost use Rattle.simulator_text.specs.Letters.{replyRoom};
 ghost use Rattle.simulator_store.specs.Store.{rowSize};
 ghost use Rattle.simulator_state.specs.Whole.{yardIn, Ready};
-ghost use Rattle.simulator.specs.Run.{Turned, Space, Fresh, Printed, simulated, handed, simulateOf, nextPlace};
+ghost use Rattle.simulator.specs.Run.{Turned, Space, Fresh, Printed, simulated, handed, simulateOf, nextPlace, closed};
 
 // Lines read at the most.
 pub const MOST_LINES: u32 = 60;
 
 // The packets of a run: each line makes one at the most.
-pub const STORE: usize = simulator_store::ROW * 60;
+const STORE: usize = simulator_store::ROW * MOST_LINES as usize;
 
-// The longest text of answers.
-pub const PAGE: usize = 45 * 60;
+// The answers of a run: room for each line's.
+pub const PAGE: usize = simulator_text::REPLY_ROOM * MOST_LINES as usize;
 
 // What one line of the text leaves.
 pub struct Turn {
@@ -52,9 +52,11 @@ fn run_line(
     k: u32,
 ) -> Turn
     requires { ⌜ Ready (now s0) (now s1) (now store) (m .count) × (at < length (now text)) × (n + replyRoom ≤ length (now page)) ⌝ }
-    ensures { λ r. ⌜ Turned (now (text .entry)) at k n (yardIn (now (s0 .entry)) (now (log0 .entry)) (now (s1 .entry)) (now (log1 .entry)) (now (store .entry)) m) (now (page .entry)) (m .count) r (yardIn (now (s0 .exit)) (now (log0 .exit)) (now (s1 .exit)) (now (log1 .exit)) (now (store .exit)) (r .memory)) (now (page .exit)) ⌝ }
+    ensures { λ r. ⌜ Turned (now (text .entry)) at k n
+        (yardIn (now (s0 .entry)) (now (log0 .entry)) (now (s1 .entry)) (now (log1 .entry)) (now (store .entry)) m) (now (page .entry)) (m .count)
+        r (yardIn (now (s0 .exit)) (now (log0 .exit)) (now (s1 .exit)) (now (log1 .exit)) (now (store .exit)) (r .memory)) (now (page .exit)) ⌝ }
 {
-    let f = simulator_text::find(&text[at..], 10);
+    let f = simulator_text::find(&text[at..], b'\n');
     let e = at + f;
     let line = simulator_text::line_of(&text[at..e]);
     let a = simulator_state::step(s0, log0, s1, log1, store, m, line);
@@ -81,7 +83,8 @@ fn run(
     m: Memory,
 ) -> usize
     requires { ⌜ Space (now page) (now s0) (now s1) (now store) (m .count) ⌝ }
-    ensures { λ r. ⌜ Printed (now (text .entry)) (yardIn (now (s0 .entry)) (now (log0 .entry)) (now (s1 .entry)) (now (log1 .entry)) (now (store .entry)) m) (now (page .exit)) r ⌝ }
+    ensures { λ r. ⌜ Printed (now (text .entry))
+        (yardIn (now (s0 .entry)) (now (log0 .entry)) (now (s1 .entry)) (now (log1 .entry)) (now (store .entry)) m) (now (page .exit)) r ⌝ }
 {
     let mut w = m;
     let mut at = 0;
@@ -181,7 +184,14 @@ fn hand_over(out: &mut [u8], page: &[u8], n: usize) -> Answer
     }
 }
 
-// A schedule's text in, the answers' text out: 2 where the output is too short for them, and nothing is written. 2,700 bytes always
+// Whether a text has its 60 lines whole: what follows it changes no answer (law `rest-unread`).
+pub fn is_closed(text: &[u8]) -> bool
+    ensures { λ r. ⌜ r ≡ closed (now (text .entry)) ⌝ }
+{
+    MOST_LINES as usize <= simulator_text::line_feeds(text)
+}
+
+// A schedule's text in, the answers' text out: 2 where the output is too short for them, and nothing is written. PAGE bytes always
 // suffice.
 pub fn simulate(text: &[u8], out: &mut [u8]) -> Answer
     ensures { λ r. ⌜ simulated r (now (out .exit)) ≡ simulateOf (now (text .entry)) (now (out .entry)) ⌝ }

@@ -4,7 +4,7 @@
 -- Assumes nothing.
 use Prim.Native.Nat.{ℕ, zero, suc, _≤_, _<_}
 use mathlib.Core.Path.{_≡_, refl, sym, ap, _∙_, subst}
-use mathlib.Core.Bool.{Bool, true, false, _||_}
+use mathlib.Core.Bool.{Bool, true, false}
 use mathlib.Core.List.{List, [], _∷_, _++_}
 use mathlib.Core.Option.{Option, none, some}
 use native.Mathlib.Omega.{arith}
@@ -25,10 +25,12 @@ use Rattle.simulator_text.specs.declared.ServerLine.the-variants.{Deliver, Sync
 use Rattle.simulator_text.specs.declared.ClientLine.{ClientLine}
 use Rattle.simulator_text.specs.declared.ClientLine.the-variants.{Issue, Resend, Receive}
 use Rattle.simulator_text.specs.Values.{serverLine, clientLine, replyIs}
-use Rattle.simulator_store.specs.Store.{numbered, packetsIn, Outcome, outcome, outcomeIs, outcomeBy, sentOutcome, Next}
-use Rattle.simulator_step.specs.Parties.{Served, served, servedBy, deliverBy, delivering, Cutting, cutBy, cutting, serverRan, Attended, attended, sentBy, receivedBy, receiving, clientRan, attendedIs}
+use Rattle.simulator_store.specs.Store.{numbered, packetsIn, outside, Outcome, outcome, outcomeIs, outcomeBy, sentOutcome, Next}
+use Rattle.simulator_delivery.specs.Served.{Served, served, servedBy, deliverBy, delivering}
+use Rattle.simulator_server.specs.Server.{Cutting, cutBy, cutting, serverRan}
+use Rattle.simulator_client.specs.Attended.{Attended, attended, sentBy, receivedBy, receiving, clientRan, attendedIs}
 use Rattle.simulator_store.specs.declared.Made.{Made}
-use Rattle.simulator_step.specs.declared.ClientMade.{ClientMade}
+use Rattle.simulator_client.specs.declared.ClientMade.{ClientMade}
 use Rattle.simulator_state.specs.declared.Memory.{Memory}
 use Rattle.simulator_state.specs.Whole.{joinServer, joinClient, yardIn, stepIs, serverStepped, firstStepped, secondStepped}
 
@@ -73,17 +75,24 @@ deliver-join y n (some b) = go (delivered (serverOf y n) b)
     go none = same-server y n _ refl
     go (some a) = called-join y n a
 
+-- what is left of a server where the cut is refused, and after it
+abbrev notCut : Server → Cutting
+notCut s = record { state = s .state; reply = plain badMark }
+
+abbrev afterCut : Server → ℕ → Cutting
+afterCut s k = record { state = cutAt s k .state; reply = plain (cutAt s k .answer .refusal) }
+
 cut-join : (y : Yard) (n k : ℕ) → cutServer y n k ≡ joinServer y n (cutting (serverOf y n .state) (serverOf y n .log) (y .packets) k)
 unfolding cutServer cutting cutBy joinServer withServer
 cut-join y n k =
-    go (ltb k (load (serverOf y n .state) .mark) || ltb (load (serverOf y n .state) .size) k)
+    go (outside (load (serverOf y n .state) .mark) (load (serverOf y n .state) .size) k)
   where
+    left : Bool → Cutting
+    left t = pick t (notCut (serverOf y n)) (afterCut (serverOf y n) k)
+
     go : (t : Bool) → pick t (step y (plain badMark))
         (step (withServer y n (record { state = cutAt (serverOf y n) k .state; log = serverOf y n .log })) (plain (cutAt (serverOf y n) k .answer .refusal)))
-        ≡ joinServer y n
-        (served (pick {A = Cutting} t (record { state = serverOf y n .state; reply = plain badMark }) (record { state = cutAt (serverOf y n) k .state; reply = plain (cutAt (serverOf y n) k .answer .refusal) }) .state)
-        (serverOf y n .log)
-        (outcome (y .packets) (pick {A = Cutting} t (record { state = serverOf y n .state; reply = plain badMark }) (record { state = cutAt (serverOf y n) k .state; reply = plain (cutAt (serverOf y n) k .answer .refusal) }) .reply)))
+        ≡ joinServer y n (served (left t .state) (serverOf y n .log) (outcome (y .packets) (left t .reply)))
     go true = same-server y n (outcome (y .packets) (plain badMark)) refl
     go false = refl
 

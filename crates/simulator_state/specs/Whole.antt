@@ -1,19 +1,21 @@
 -- The lent slices and the memory as the simulator of the definitions, and what a line's work at one party makes of it.
 -- Assumes nothing.
 use Prim.Native.Nat.{ℕ, _≤_}
+use mathlib.Core.Path.{_≡_}
 use mathlib.Core.List.{List}
 use lib.Dec.{eqb}
 use lib.ListN.{length}
 use Rattle.model.specs.Choice.{pick}
 use Rattle.model.specs.States.{stateEnd}
-use Rattle.model.specs.Yard.{Yard, Step, step}
+use Rattle.model.specs.Yard.{Yard, Line, Step, step, ran}
 use Rattle.simulator_text.specs.Values.{replyIs}
-use Rattle.simulator_store.specs.Store.{packetsIn, Room}
-use Rattle.simulator_step.specs.Parties.{Served, Attended}
+use Rattle.simulator_store.specs.Store.{packetsIn, Room, Next}
+use Rattle.simulator_delivery.specs.Served.{Served}
+use Rattle.simulator_client.specs.Attended.{Attended}
 use Rattle.simulator_state.specs.declared.Memory.{Memory}
 use Rattle.simulator_state.specs.declared.Stepped.{Stepped}
 use Rattle.simulator_store.specs.declared.Made.{Made}
-use Rattle.simulator_step.specs.declared.ClientMade.{ClientMade}
+use Rattle.simulator_client.specs.declared.ClientMade.{ClientMade}
 
 unfoldable pub joinServer : Yard → ℕ → Served → Step
 joinServer y n v =
@@ -47,6 +49,11 @@ yardIn s0 l0 s1 l1 store m =
 
 abbrev pub stepIs : Stepped → List ℕ → List ℕ → List ℕ → List ℕ → List ℕ → Step
 stepIs r s0 l0 s1 l1 store = step (yardIn s0 l0 s1 l1 store (r .memory)) (replyIs (r .reply))
+
+-- the line l, run with the memory before it, leaves r and the memory after it, with one packet more at the most
+abbrev pub RanTo : List ℕ → List ℕ → List ℕ → List ℕ → List ℕ → Memory → Line → Stepped → List ℕ → List ℕ → List ℕ → List ℕ → List ℕ → Type 0
+RanTo s0 l0 s1 l1 store m l r t0 k0 t1 k1 after =
+    (stepIs r t0 k0 t1 k1 after ≡ ran (yardIn s0 l0 s1 l1 store m) l) × Next (m .count) (r .memory .count)
 
 -- the memory after a line at a server, at client 0, at client 1
 abbrev pub serverStepped : Memory → Made → Stepped

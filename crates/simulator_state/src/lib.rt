@@ -3,7 +3,7 @@
 use model::Client;
 use model::OpenCall;
 use model::constants;
-use simulator_step::ClientMade;
+use simulator_client::ClientMade;
 use simulator_store::Made;
 use simulator_text::ClientLine;
 use simulator_text::Line;
@@ -17,10 +17,15 @@ ghost use Rattle.model.specs.Limits.{stateSize};
 ghost use Rattle.model.specs.Yard.{yardLog, yardServer, yardClient, newYard, ran};
 ghost use Rattle.simulator_text.specs.Values.{lineIs, serverLine, clientLine};
 ghost use Rattle.simulator_store.specs.Store.{Room, Next};
-ghost use Rattle.simulator_state.specs.Whole.{yardIn, stepIs, serverStepped, firstStepped, secondStepped, Ready};
+ghost use Rattle.simulator_state.specs.Whole.{yardIn, stepIs, serverStepped, firstStepped, secondStepped, Ready, RanTo};
 
 // The bytes of a log.
 pub const YARD_LOG: usize = 16384;
+
+// When the clients' leases end, and the first call of each.
+const LEASE_END: u32 = 1000;
+
+const FIRST_CALL: u32 = 1;
 
 // The memory beside the lent slices: the clients, and the count of packets made.
 pub struct Memory {
@@ -92,12 +97,12 @@ fn client_line(store: &mut [u8], m: Memory, n: u32, l: ClientLine) -> Stepped
 {
     if n == 0 {
         let d = m.client0;
-        let a = simulator_step::client_step(store, d, m.count, l);
+        let a = simulator_client::client_step(store, d, m.count, l);
         return after_first(m, a);
     }
     if n == 1 {
         let d = m.client1;
-        let a = simulator_step::client_step(store, d, m.count, l);
+        let a = simulator_client::client_step(store, d, m.count, l);
         return after_second(m, a);
     }
     let a = simulator_store::told(m.count, constants::MALFORMED);
@@ -116,14 +121,15 @@ fn server_line(
     l: ServerLine,
 ) -> Stepped
     requires { ⌜ Ready (now s0) (now s1) (now store) (m .count) ⌝ }
-    ensures { λ r. ⌜ (stepIs r (now (s0 .exit)) (now (log0 .exit)) (now (s1 .exit)) (now (log1 .exit)) (now (store .exit)) ≡ ran (yardIn (now (s0 .entry)) (now (log0 .entry)) (now (s1 .entry)) (now (log1 .entry)) (now (store .entry)) m) (serverLine n l)) × Next (m .count) (r .memory .count) ⌝ }
+    ensures { λ r. ⌜ RanTo (now (s0 .entry)) (now (log0 .entry)) (now (s1 .entry)) (now (log1 .entry)) (now (store .entry)) m (serverLine n l)
+        r (now (s0 .exit)) (now (log0 .exit)) (now (s1 .exit)) (now (log1 .exit)) (now (store .exit)) ⌝ }
 {
     if n == 0 {
-        let a = simulator_step::server_step(s0, log0, store, m.count, l);
+        let a = simulator_server::server_step(s0, log0, store, m.count, l);
         return after_server(m, a);
     }
     if n == 1 {
-        let a = simulator_step::server_step(s1, log1, store, m.count, l);
+        let a = simulator_server::server_step(s1, log1, store, m.count, l);
         return after_server(m, a);
     }
     let a = simulator_store::told(m.count, constants::MALFORMED);
@@ -141,7 +147,8 @@ pub fn step(
     line: Line,
 ) -> Stepped
     requires { ⌜ Ready (now s0) (now s1) (now store) (m .count) ⌝ }
-    ensures { λ r. ⌜ (stepIs r (now (s0 .exit)) (now (log0 .exit)) (now (s1 .exit)) (now (log1 .exit)) (now (store .exit)) ≡ ran (yardIn (now (s0 .entry)) (now (log0 .entry)) (now (s1 .entry)) (now (log1 .entry)) (now (store .entry)) m) (lineIs line)) × Next (m .count) (r .memory .count) ⌝ }
+    ensures { λ r. ⌜ RanTo (now (s0 .entry)) (now (log0 .entry)) (now (s1 .entry)) (now (log1 .entry)) (now (store .entry)) m (lineIs line)
+        r (now (s0 .exit)) (now (log0 .exit)) (now (s1 .exit)) (now (log1 .exit)) (now (store .exit)) ⌝ }
 {
     match line {
         Line::Unreadable => after_server(m, simulator_store::told(m.count, constants::MALFORMED)),
@@ -168,7 +175,7 @@ fn new_server(s: &mut [u8], log: &mut [u8], n: u32)
 {
     clear(s);
     clear(log);
-    let p = simulator_step::plan();
+    let p = simulator_server::plan();
     server_found::found(s, log, &p, n);
 }
 
@@ -183,8 +190,8 @@ fn new_client(n: u32) -> Client
     };
     Client {
         client: n,
-        lease: 1000,
-        next: 1,
+        lease: LEASE_END,
+        next: FIRST_CALL,
         calls: [k; constants::CALL_WINDOW],
     }
 }

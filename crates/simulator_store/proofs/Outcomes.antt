@@ -25,23 +25,23 @@ use Rattle.model.specs.Yard.{plain, answered}
 use Rattle.model_laws.proofs.Written.{tail-back, written-append}
 use Rattle.simulator_text.specs.Values.{replyIs}
 use Rattle.simulator_store.specs.declared.Made.{Made}
-use Rattle.simulator_store.specs.Store.{rowSize, lesserOf, packetIn, putIn, packetsIn, Outcome, outcome, outcomeIs, outcomeBy, sentOutcome, Room, Sendable, Next}
+use Rattle.simulator_store.specs.Store.{rowHead, rowSize, lesserOf, packetIn, putIn, packetsIn, Outcome, outcome, outcomeIs, outcomeBy, sentOutcome, Room, Sendable, Next}
 use Rattle.simulator_store.proofs.Rows.{packets-put, length-packets}
 
 pub packet-part : (s : List ℕ) (k : ℕ) {n l : ℕ} → n ≡ le32At s (rowSize * k) → l ≡ lesserOf n greatestImage
-    → midOf (rowSize * k + 4) (rowSize * k + 4 + l - (rowSize * k + 4)) s ≡ packetIn s k
+    → midOf (rowSize * k + rowHead) (rowSize * k + rowHead + l - (rowSize * k + rowHead)) s ≡ packetIn s k
 unfolding packetIn
 packet-part s k {n} {l} p q =
-    let e : rowSize * k + 4 + l - (rowSize * k + 4) ≡ l = omega arith in
+    let e : rowSize * k + rowHead + l - (rowSize * k + rowHead) ≡ l = omega arith in
     rw (e, q, p) refl
 
 -- the length's word, then the bytes behind it
 pub put-part : (s : List ℕ) (k : ℕ) (b t u : List ℕ) → t ≡ written s (rowSize * k) (le32 (length b))
-    → u ≡ written (midOf (rowSize * k + 4) (length t - (rowSize * k + 4)) t) 0 b
-    → putMid (rowSize * k + 4) (length t - (rowSize * k + 4)) t u ≡ putIn s k b
+    → u ≡ written (midOf (rowSize * k + rowHead) (length t - (rowSize * k + rowHead)) t) 0 b
+    → putMid (rowSize * k + rowHead) (length t - (rowSize * k + rowHead)) t u ≡ putIn s k b
 unfolding putIn
 put-part s k b t u p q =
-    rw q (tail-back (rowSize * k + 4) t b ∙ rw p (sym (written-append s (rowSize * k) (le32 (length b)) b)))
+    rw q (tail-back (rowSize * k + rowHead) t b ∙ rw p (sym (written-append s (rowSize * k) (le32 (length b)) b)))
 
 pub told-by : (m : Made) (s : List ℕ) (n : ℕ) (a : Answer) (out : List ℕ) → m .count ≡ n → replyIs (m .reply) ≡ plain (a .refusal) → a .wrote ≡ 0
     → (outcomeIs m s ≡ outcomeBy (packetsIn s n) a out) × Next n (m .count)

@@ -2,6 +2,7 @@
 --     packet-other, packet-put       a row after a packet was put into one behind it, and into it
 --     packets-put, length-packets    the packets of the rows
 --     numbered-made, numbered-none   a packet by its number
+--     numbered-row, numbered-nowhere, filled-row      and by its place
 -- Assumes nothing.
 use Prim.Native.Nat.{ℕ, zero, suc, _+_, _-_, _*_, _≤_, _<_}
 use mathlib.Core.Path.{_≡_, refl, sym, ap, _∙_}
@@ -21,7 +22,9 @@ use Rattle.model.specs.Limits.{greatestImage}
 use Rattle.model.specs.Tables.{written}
 use Rattle.model_laws.proofs.Numbers.{le32-back, le32-drop}
 use Rattle.model_laws.proofs.Written.{drop-written, take-written, drop-written-at, le32-written-below}
-use Rattle.simulator_store.specs.Store.{rowSize, lesserOf, packetIn, putIn, packetsIn, numbered}
+use Rattle.simulator_store.specs.declared.Place.{Place}
+use Rattle.simulator_store.specs.declared.Place.the-variants.{Nowhere, Row}
+use Rattle.simulator_store.specs.Store.{rowHead, rowSize, lesserOf, packetIn, packetFor, Filled, putIn, packetsIn, numbered}
 
 lesser-full : (a b : ℕ) → a ≤ b → lesserOf a b ≡ a
 lesser-full a b h = go (ltb a b) refl
@@ -50,8 +53,8 @@ unfolding packetIn putIn
 packet-other s n b k h =
     let vs : List ℕ = le32 (length b) ++ b in
     let l : ℕ = lesserOf (le32At s (rowSize * k)) greatestImage in
-    ap (λ (v : ℕ). take (lesserOf v greatestImage) (drop (rowSize * k + 4) (written s (rowSize * n) vs))) (le32-written-below s (rowSize * n) vs (rowSize * k) (omega arith))
-    ∙ part-before s (rowSize * k + 4) l (rowSize * n) vs (omega (arith, lesser-most (le32At s (rowSize * k)) greatestImage))
+    ap (λ (v : ℕ). take (lesserOf v greatestImage) (drop (rowSize * k + rowHead) (written s (rowSize * n) vs))) (le32-written-below s (rowSize * n) vs (rowSize * k) (omega arith))
+    ∙ part-before s (rowSize * k + rowHead) l (rowSize * n) vs (omega (arith, lesser-most (le32At s (rowSize * k)) greatestImage))
 
 pub packet-put : (s : List ℕ) (n : ℕ) (b : List ℕ) → rowSize * (n + 1) ≤ length s → length b ≤ greatestImage → packetIn (putIn s n b) n ≡ b
 unfolding packetIn putIn
@@ -59,12 +62,12 @@ packet-put s n b h m =
     let vs : List ℕ = le32 (length b) ++ b in
     let i : ℕ = rowSize * n in
     let rest : List ℕ = drop (i + length vs) s in
-    let lv : length vs ≡ 4 + length b = length-append (le32 (length b)) b in
+    let lv : length vs ≡ rowHead + length b = length-append (le32 (length b)) b in
     let d : drop i (written s i vs) ≡ vs ++ rest = drop-written-at s i vs (omega arith) in
     let z : i + 0 ≡ i = add-zero i in
     let w : le32At (written s i vs) i ≡ length b =
     ap (λ (j : ℕ). le32At (written s i vs) j) (sym z) ∙ sym (le32-drop i (written s i vs) 0) ∙ ap (λ (l : List ℕ). le32At l 0) d ∙ le32-back (length b) (b ++ rest) in
-    let e : drop (i + 4) (written s i vs) ≡ b ++ rest = sym (drop-drop 4 i (written s i vs)) ∙ ap (λ (l : List ℕ). drop 4 l) d in
+    let e : drop (i + rowHead) (written s i vs) ≡ b ++ rest = sym (drop-drop rowHead i (written s i vs)) ∙ ap (λ (l : List ℕ). drop rowHead l) d in
     rw (w, lesser-full (length b) greatestImage m, e) (take-at b rest (length b) refl)
 
 packets-other : (s : List ℕ) (n : ℕ) (b : List ℕ) (k : ℕ) → k ≤ n → packetsIn (putIn s n b) k ≡ packetsIn s k
@@ -128,6 +131,16 @@ numbered-none s n (suc k) h = get-past (packetsIn s n) k (omega (arith, length-p
 pub numbered-zero : (s : List ℕ) (n k : ℕ) → k ≡ 0 → numbered (packetsIn s n) k ≡ none
 unfolding numbered
 numbered-zero s n k e = rw e refl
+
+-- packet k by its place
+pub numbered-nowhere : (s : List ℕ) (n k : ℕ) {p : Place} → packetFor s p ≡ numbered (packetsIn s n) k → p ≡ Nowhere → numbered (packetsIn s n) k ≡ none
+numbered-nowhere s n k e f = sym e ∙ ap (packetFor s) f
+
+pub numbered-row : (s : List ℕ) (n k : ℕ) {p : Place} {i : ℕ} → packetFor s p ≡ numbered (packetsIn s n) k → p ≡ Row i → numbered (packetsIn s n) k ≡ some (packetIn s i)
+numbered-row s n k e f = sym e ∙ ap (packetFor s) f
+
+pub filled-row : (n : ℕ) {p : Place} {i : ℕ} → Filled n p → p ≡ Row i → i + 1 ≤ n
+filled-row n {p} {i} h e = rw e at h
 
 -- the part that the code writes is what is taken
 pub front-part : (w : ℕ) (out : List ℕ) → midOf 0 (lesserOf w (length out) - 0) out ≡ take w out

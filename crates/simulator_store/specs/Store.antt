@@ -2,6 +2,7 @@
 -- Assumes nothing.
 use Prim.Native.Nat.{ℕ, zero, suc, _+_, _*_, _≤_, _<_}
 use mathlib.Core.Path.{_≡_}
+use mathlib.Core.Bool.{Bool, _||_}
 use mathlib.Core.List.{List, [], _∷_, _++_}
 use mathlib.Core.Option.{Option, none, some}
 use lib.Dec.{eqb, ltb}
@@ -17,18 +18,23 @@ use Rattle.model.specs.Clients.{sendNumber, sentBytes}
 use Rattle.model.specs.Yard as yard
 use Rattle.simulator_text.specs.Values.{replyIs}
 use Rattle.simulator_store.specs.declared.Made.{Made}
+use Rattle.simulator_store.specs.declared.Place.{Place}
+use Rattle.simulator_store.specs.declared.Place.the-variants.{Nowhere, Row}
 
--- ---- rows: a length of 4 bytes, and room for the longest image
+-- ---- rows: the bytes of a packet's length, and room for the longest image
+
+abbrev pub rowHead : ℕ
+rowHead = 4
 
 abbrev pub rowSize : ℕ
-rowSize = 10548
+rowSize = rowHead + greatestImage
 
 abbrev pub lesserOf : ℕ → ℕ → ℕ
 lesserOf a b = pick (ltb a b) a b
 
 -- the packet of row k
 unfoldable pub packetIn : List ℕ → ℕ → List ℕ
-packetIn s k = take (lesserOf (le32At s (rowSize * k)) greatestImage) (drop (rowSize * k + 4) s)
+packetIn s k = take (lesserOf (le32At s (rowSize * k)) greatestImage) (drop (rowSize * k + rowHead) s)
 
 -- the packet b put into row k
 unfoldable pub putIn : List ℕ → ℕ → List ℕ → List ℕ
@@ -44,6 +50,16 @@ unfoldable pub numbered : List (List ℕ) → ℕ → Option (List ℕ)
 numbered ps zero = none
 numbered ps (suc k) = getElem? ps k
 
+-- the packet at a place
+abbrev pub packetFor : List ℕ → Place → Option (List ℕ)
+packetFor s Nowhere = none
+packetFor s (Row k) = some (packetIn s k)
+
+-- a place among the rows filled
+abbrev pub Filled : ℕ → Place → Type 0
+Filled count Nowhere = Unit
+Filled count (Row k) = k + 1 ≤ count
+
 -- there is room for one packet more
 pub record Room (store : List ℕ) (count : ℕ) : Type 0 where
   pub rows : rowSize * (count + 1) ≤ length store
@@ -53,6 +69,11 @@ pub record Room (store : List ℕ) (count : ℕ) : Type 0 where
 pub record Next (count after : ℕ) : Type 0 where
   pub least : count ≤ after
   pub most : after ≤ count + 1
+
+-- ---- bytes of a log outside mark to length
+
+abbrev pub outside : ℕ → ℕ → ℕ → Bool
+outside mark size k = ltb k mark || ltb size k
 
 -- ---- what a call leaves: the packets, and the line's answer
 

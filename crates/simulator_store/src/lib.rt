@@ -1,19 +1,31 @@
 // The simulator's packet store: packets and images numbered from 1 as they are made, each in a row of one size; and what a call leaves
 // of it.
 use model::Answer;
+use model::Received;
 use model::Sent;
 use model::constants;
 use simulator_text::Reply;
 ghost use mathlib.Core.Path.{_≡_};
-ghost use Prim.Native.Nat.{_+_, _*_, _≤_};
+ghost use mathlib.Core.List.{List};
+ghost use Prim.Native.Nat.{ℕ, _+_, _*_, _≤_};
 ghost use lib.ListN.{length};
-ghost use Rattle.model.specs.Limits.{greatestImage};
+ghost use Rattle.model.specs.Numbers.{half};
+ghost use Rattle.model.specs.Limits.{greatestImage, last32};
+ghost use Rattle.model.specs.Clients.{receiveNumber, brought};
 ghost use Rattle.model.specs.Yard.{plain, answered};
 ghost use Rattle.simulator_text.specs.Values.{replyIs};
-ghost use Rattle.simulator_store.specs.Store.{rowSize, lesserOf, packetIn, putIn, packetsIn, outcomeBy, sentOutcome, outcomeIs, Room, Sendable, Next};
+ghost use Rattle.simulator_store.specs.Store.{rowSize, lesserOf, outside, packetIn, packetFor, Filled, numbered, putIn, packetsIn, outcomeBy, sentOutcome, outcomeIs, Room, Sendable, Next};
 
-// A row: a length of 4 bytes, and room for the longest image.
-pub const ROW: usize = 4 + constants::GREATEST_IMAGE;
+// A row: the bytes of a packet's length, and room for the longest image.
+const ROW_HEAD: usize = 4;
+
+pub const ROW: usize = ROW_HEAD + constants::GREATEST_IMAGE;
+
+// Where a packet stands.
+pub enum Place {
+    Nowhere,
+    Row(u32),
+}
 
 // What a call leaves: the count of packets made, and the line's answer.
 pub struct Made {
@@ -29,6 +41,19 @@ pub fn lesser(a: usize, b: usize) -> usize
     if a < b { a } else { b }
 }
 
+// The place of packet k, of as many as were made.
+pub fn place_of(count: u32, k: u32) -> Place
+    ensures { λ r. ⌜ ((store : List ℕ) → packetFor store r ≡ numbered (packetsIn store count) k) × Filled count r ⌝ }
+{
+    if k == 0 {
+        return Place::Nowhere;
+    }
+    if count < k {
+        return Place::Nowhere;
+    }
+    Place::Row(k - 1)
+}
+
 // The packet of a row.
 pub fn packet_at<'a>(store: &'a [u8], row: u32) -> &'a [u8]
     requires { ⌜ rowSize * (row + 1) ≤ length (now store) ⌝ }
@@ -36,7 +61,7 @@ pub fn packet_at<'a>(store: &'a [u8], row: u32) -> &'a [u8]
 {
     let at = ROW * (row as usize);
     let n = format_numbers::read_u32(store, at);
-    let from = at + 4;
+    let from = at + ROW_HEAD;
     let to = from + lesser(n as usize, constants::GREATEST_IMAGE);
     &store[from..to]
 }
@@ -48,28 +73,59 @@ fn put_packet(store: &mut [u8], row: u32, b: &[u8])
 {
     let at = ROW * (row as usize);
     format_numbers::write_u32(store, at, b.len() as u32);
-    let from = at + 4;
+    let from = at + ROW_HEAD;
     format_numbers::copy_bytes(&mut store[from..], b);
 }
 
 // ---- outcomes
 
 // A refusal, or 0 with nothing made.
+fn plain_reply(number: u32) -> Reply
+    ensures { λ r. ⌜ replyIs r ≡ plain number ⌝ }
+{
+    let value = constants::HALF;
+    Reply {
+        number,
+        made: 0,
+        value,
+    }
+}
+
 pub fn told(count: u32, number: u32) -> Made
     ensures { λ r. ⌜ (r .count ≡ count) × (replyIs (r .reply) ≡ plain number) ⌝ }
 {
-    let reply = Reply {
-        number,
-        made: 0,
-        value: constants::HALF,
-    };
+    let reply = plain_reply(number);
     Made { count, reply }
+}
+
+// What a client received: a result's value is shown.
+pub fn received_reply(a: Received) -> Reply
+    ensures { λ r. ⌜ replyIs r ≡ answered (receiveNumber a) 0 (brought a .result .value) ⌝ }
+{
+    match a {
+        Received::NotReceived(n) => plain_reply(n),
+        Received::Completed(r) => Reply {
+            number: constants::NO_REFUSAL,
+            made: 0,
+            value: r.result.value,
+        },
+        Received::Denied(_) => plain_reply(constants::NO_REFUSAL),
+        Received::Extended(_) => plain_reply(constants::NO_REFUSAL),
+    }
+}
+
+// Whether a log may not be cut to so many bytes: they lie outside mark to length.
+pub fn is_outside(mark: u64, size: u64, bytes: u32) -> bool
+    ensures { λ r. ⌜ r ≡ outside mark size bytes ⌝ }
+{
+    let k = bytes as u64;
+    (k < mark) | (size < k)
 }
 
 // A packet was made.
 fn made_one(count: u32, number: u32) -> Made
-    requires { ⌜ count + 1 ≤ 4294967295 ⌝ }
-    ensures { λ r. ⌜ (r .count ≡ count + 1) × (replyIs (r .reply) ≡ answered number (count + 1) 2147483648) ⌝ }
+    requires { ⌜ count + 1 ≤ last32 ⌝ }
+    ensures { λ r. ⌜ (r .count ≡ count + 1) × (replyIs (r .reply) ≡ answered number (count + 1) half) ⌝ }
 {
     let reply = Reply {
         number,

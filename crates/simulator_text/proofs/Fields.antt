@@ -1,5 +1,6 @@
 -- How a text falls apart, and the numbers in it.
 --     first-here, first-next, first-end     the place of a byte, from a place on
+--     counted-feed, counted-other, counted-end      the line feeds of a text, from a place on
 --     fields-more, fields-last              the fields of a line, by the place of its first space
 --     lines-next, lines-none                the lines of a text, by the place of its first line feed
 --     digits-next, digits-off, digits-big   a number, digit by digit
@@ -22,7 +23,8 @@ use Rattle.model.specs.Limits.{last32}
 use Rattle.model.specs.Yard.{Line, unreadable, lineOfFields, isDigit, digitsFrom, atMost, numberIn, fieldsFrom, lineOf, endLine, linesFrom}
 use Rattle.model_laws.proofs.Written.{tail-part}
 use Rattle.model_laws.proofs.Tests.{and-left, and-right, choose}
-use Rattle.simulator_text.specs.Values.{firstOf}
+use Rattle.simulator_text.specs.Letters.{space, lineFeed, firstDigit, lastDigit}
+use Rattle.simulator_text.specs.Values.{firstOf, lineFeeds}
 
 -- ---- the place of a byte
 
@@ -37,6 +39,29 @@ first-next x s i h e = rw (add-one, drop-cons s i 0 h, ne-eqb (getD s i 0) x e)
 pub first-end : (x : ℕ) (s : List ℕ) (i : ℕ) → length s ≤ i → firstOf x (drop i s) ≡ 0
 unfolding firstOf
 first-end x s i h = rw (drop-of-length-le s h)
+
+-- ---- line feeds, from a place on: those before it are n
+
+abbrev pub Counted : List ℕ → ℕ → ℕ → Type 0
+Counted s n i = (i ≤ length s) × (n ≤ i) × (n + lineFeeds (drop i s) ≡ lineFeeds s)
+
+pub counted-feed : (s : List ℕ) (n i : ℕ) → Counted s n i → i < length s → getD s i 0 ≡ lineFeed → Counted s (n + 1) (i + 1)
+unfolding lineFeeds
+counted-feed s n i c h e =
+    let f : lineFeeds (drop i s) ≡ suc (lineFeeds (drop (i + 1) s)) = rw (add-one, drop-cons s i 0 h, eq-eqb (getD s i 0) lineFeed e) in
+    (omega arith, omega arith, omega arith)
+
+pub counted-other : (s : List ℕ) (n i : ℕ) → Counted s n i → i < length s → (getD s i 0 ≡ lineFeed → ⊥) → Counted s n (i + 1)
+unfolding lineFeeds
+counted-other s n i c h e =
+    let f : lineFeeds (drop i s) ≡ lineFeeds (drop (i + 1) s) = rw (add-one, drop-cons s i 0 h, ne-eqb (getD s i 0) lineFeed e) in
+    (omega arith, omega arith, omega arith)
+
+pub counted-end : (s : List ℕ) (n i : ℕ) → Counted s n i → length s ≤ i → n ≡ lineFeeds s
+unfolding lineFeeds
+counted-end s n i c h =
+    let f : lineFeeds (drop i s) ≡ 0 = rw (drop-of-length-le s h) in
+    omega arith
 
 -- ---- a text cut at a byte x: F f s reads s with f before it
 
@@ -68,30 +93,30 @@ module _ {A : Type 0} (x : ℕ) (F : List ℕ → List ℕ → A) (E : List ℕ 
 
 -- ---- fields
 
-pub fields-more : (s : List ℕ) (e : ℕ) → e ≡ firstOf 32 s → e < length s → fieldsFrom [] s ≡ take e s ∷ fieldsFrom [] (drop (e + 1) s)
+pub fields-more : (s : List ℕ) (e : ℕ) → e ≡ firstOf space s → e < length s → fieldsFrom [] s ≡ take e s ∷ fieldsFrom [] (drop (e + 1) s)
 unfolding fieldsFrom
 fields-more s e p h =
-    rw (p, add-one) (cut-more 32 fieldsFrom (λ f. f ∷ []) (λ f r. f ∷ r) (λ f. refl) (λ f b s. refl) [] s (omega arith))
+    rw (p, add-one) (cut-more space fieldsFrom (λ f. f ∷ []) (λ f r. f ∷ r) (λ f. refl) (λ f b s. refl) [] s (omega arith))
 
-pub fields-last : (s : List ℕ) (e : ℕ) → e ≡ firstOf 32 s → length s ≤ e → fieldsFrom [] s ≡ s ∷ []
+pub fields-last : (s : List ℕ) (e : ℕ) → e ≡ firstOf space s → length s ≤ e → fieldsFrom [] s ≡ s ∷ []
 unfolding fieldsFrom
-fields-last s e p h = cut-last 32 fieldsFrom (λ f. f ∷ []) (λ f r. f ∷ r) (λ f. refl) (λ f b s. refl) [] s (omega arith)
+fields-last s e p h = cut-last space fieldsFrom (λ f. f ∷ []) (λ f r. f ∷ r) (λ f. refl) (λ f b s. refl) [] s (omega arith)
 
 fields-some : (f s : List ℕ) → 0 < length (fieldsFrom f s)
 unfolding fieldsFrom
 fields-some f [] = omega arith
 fields-some f (b ∷ s) =
-    choose (λ (l : List (List ℕ)). 0 < length l) (eqb b 32) {a = f ∷ fieldsFrom [] s} {b = fieldsFrom (f ++ (b ∷ [])) s} (λ _. omega arith) (λ _. fields-some (f ++ (b ∷ [])) s)
+    choose (λ (l : List (List ℕ)). 0 < length l) (eqb b space) {a = f ∷ fieldsFrom [] s} {b = fieldsFrom (f ++ (b ∷ [])) s} (λ _. omega arith) (λ _. fields-some (f ++ (b ∷ [])) s)
 
 -- ---- lines
 
-lines-more : (s : List ℕ) → firstOf 10 s < length s → linesFrom [] s ≡ lineOf (take (firstOf 10 s) s) ∷ linesFrom [] (drop (suc (firstOf 10 s)) s)
+lines-more : (s : List ℕ) → firstOf lineFeed s < length s → linesFrom [] s ≡ lineOf (take (firstOf lineFeed s) s) ∷ linesFrom [] (drop (suc (firstOf lineFeed s)) s)
 unfolding linesFrom
-lines-more s h = cut-more 10 linesFrom endLine (λ f r. lineOf f ∷ r) (λ f. refl) (λ f b s. refl) [] s h
+lines-more s h = cut-more lineFeed linesFrom endLine (λ f r. lineOf f ∷ r) (λ f. refl) (λ f b s. refl) [] s h
 
-lines-last : (s : List ℕ) → length s ≤ firstOf 10 s → linesFrom [] s ≡ endLine s
+lines-last : (s : List ℕ) → length s ≤ firstOf lineFeed s → linesFrom [] s ≡ endLine s
 unfolding linesFrom
-lines-last s h = cut-last 10 linesFrom endLine (λ f r. lineOf f ∷ r) (λ f. refl) (λ f b s. refl) [] s h
+lines-last s h = cut-last lineFeed linesFrom endLine (λ f r. lineOf f ∷ r) (λ f. refl) (λ f b s. refl) [] s h
 
 end-line : (s : List ℕ) → 0 < length s → endLine s ≡ lineOf s ∷ []
 unfolding endLine
@@ -103,19 +128,19 @@ unfolding linesFrom endLine
 lines-none = refl
 
 -- a text that is not empty: its first line, and those behind its first line feed
-pub lines-next : (s : List ℕ) → 0 < length s → linesFrom [] s ≡ lineOf (take (firstOf 10 s) s) ∷ linesFrom [] (drop (suc (firstOf 10 s)) s)
-lines-next s h = go (ltb (firstOf 10 s) (length s)) refl
+pub lines-next : (s : List ℕ) → 0 < length s → linesFrom [] s ≡ lineOf (take (firstOf lineFeed s) s) ∷ linesFrom [] (drop (suc (firstOf lineFeed s)) s)
+lines-next s h = go (ltb (firstOf lineFeed s) (length s)) refl
   where
-    go : (t : Bool) → ltb (firstOf 10 s) (length s) ≡ t → linesFrom [] s ≡ lineOf (take (firstOf 10 s) s) ∷ linesFrom [] (drop (suc (firstOf 10 s)) s)
+    go : (t : Bool) → ltb (firstOf lineFeed s) (length s) ≡ t → linesFrom [] s ≡ lineOf (take (firstOf lineFeed s) s) ∷ linesFrom [] (drop (suc (firstOf lineFeed s)) s)
     go true e = lines-more s (omega (arith, ltb-true, e))
     go false e =
-        let l : length s ≤ firstOf 10 s = omega (arith, ltb-false, e) in
-        lines-last s l ∙ end-line s h ∙ rw (take-all (firstOf 10 s) s l, drop-of-length-le s {i = suc (firstOf 10 s)} (omega arith), lines-none)
+        let l : length s ≤ firstOf lineFeed s = omega (arith, ltb-false, e) in
+        lines-last s l ∙ end-line s h ∙ rw (take-all (firstOf lineFeed s) s l, drop-of-length-le s {i = suc (firstOf lineFeed s)} (omega arith), lines-none)
 
 -- ---- numbers
 
 pub digits-next : (n : ℕ) (s : List ℕ) (i : ℕ) → i < length s → isDigit (getD s i 0) ≡ true
-    → digitsFrom n (drop i s) ≡ digitsFrom (10 * n + (getD s i 0 - 48)) (drop (i + 1) s)
+    → digitsFrom n (drop i s) ≡ digitsFrom (10 * n + (getD s i 0 - firstDigit)) (drop (i + 1) s)
 unfolding digitsFrom
 digits-next n s i h e = rw (add-one, drop-cons s i 0 h, e)
 
@@ -127,11 +152,14 @@ pub digits-big : (n : ℕ) (s : List ℕ) → last32 < n → atMost last32 (digi
 unfolding digitsFrom atMost
 digits-big n [] h = rw (lt-leb n last32 h)
 digits-big n (b ∷ s) h =
-    choose (λ o. atMost last32 o ≡ none) (isDigit b) (λ _. digits-big (10 * n + (b - 48)) s (omega arith)) (λ _. refl)
+    choose (λ o. atMost last32 o ≡ none) (isDigit b) (λ _. digits-big (10 * n + (b - firstDigit)) s (omega arith)) (λ _. refl)
 
-pub digit-range : (b : ℕ) → isDigit b ≡ true → (48 ≤ b) × (b ≤ 57)
+pub digit-range : (b : ℕ) → isDigit b ≡ true → (firstDigit ≤ b) × (b ≤ lastDigit)
 unfolding isDigit
-digit-range b e = (leb-true 48 b (and-left (leb 48 b) (leb b 57) e), leb-true b 57 (and-right (leb 48 b) (leb b 57) e))
+digit-range b e =
+    let low : Bool = leb firstDigit b in
+    let high : Bool = leb b lastDigit in
+    (leb-true firstDigit b (and-left low high e), leb-true b lastDigit (and-right low high e))
 
 -- ---- a number read digit by digit: what is left of it at a place
 
@@ -153,7 +181,7 @@ pub left-off : (s : List ℕ) (n i : ℕ) {t : Bool} → (length s ≡ 0 → ⊥
 unfolding atMost
 left-off s n i h l k p q = sym (number-is s h ∙ l ∙ rw (digits-off n s i k (sym p ∙ q)) refl)
 
-pub left-next : (s : List ℕ) (n i : ℕ) {t : Bool} {m : ℕ} → Left s n i → i < length s → t ≡ isDigit (getD s i 0) → t ≡ true → m ≡ 10 * n + (getD s i 0 - 48) → Left s m (i + 1)
+pub left-next : (s : List ℕ) (n i : ℕ) {t : Bool} {m : ℕ} → Left s n i → i < length s → t ≡ isDigit (getD s i 0) → t ≡ true → m ≡ 10 * n + (getD s i 0 - firstDigit) → Left s m (i + 1)
 left-next s n i l k p q e = l ∙ rw (digits-next n s i k (sym p ∙ q), e) refl
 
 pub left-big : (s : List ℕ) (n i : ℕ) → (length s ≡ 0 → ⊥) → Left s n i → last32 < n → none ≡ numberIn s
@@ -164,7 +192,7 @@ unfolding atMost digitsFrom
 left-end s n i h l k m = sym (number-is s h ∙ l ∙ rw (drop-of-length-le s {i = i} m, le-leb n last32 k) refl)
 
 -- the same by the two parts that the code lends
-pub fields-parts : (s : List ℕ) (e : ℕ) → e ≡ firstOf 32 s → e < length s → fieldsFrom [] s ≡ midOf 0 (e - 0) s ∷ fieldsFrom [] (midOf (e + 1) (length s - (e + 1)) s)
+pub fields-parts : (s : List ℕ) (e : ℕ) → e ≡ firstOf space s → e < length s → fieldsFrom [] s ≡ midOf 0 (e - 0) s ∷ fieldsFrom [] (midOf (e + 1) (length s - (e + 1)) s)
 fields-parts s e p h =
     let z : e - 0 ≡ e = omega arith in
     fields-more s e p h ∙ rw (z, tail-part (e + 1) s) refl

@@ -12,6 +12,7 @@ use borrow.Author.Tests.{eq-eqb, ne-eqb}
 use Rattle.model.specs.Choice.{pick}
 use Rattle.model.specs.Yard as yard
 use Rattle.model.specs.Yard.{numberIn, argumentIn, negative, positive, letterIn, line1, line2, line3, line4, with1, with2, with3, with4}
+use Rattle.simulator_text.specs.Letters.{minus, issueLetter, syncLetter, giveLetter}
 use Rattle.simulator_text.specs.declared.Number.{Number}
 use Rattle.simulator_text.specs.declared.Number.the-variants.{Nothing, Is}
 use Rattle.simulator_text.specs.Values.{numberIs, letterLine}
@@ -43,15 +44,15 @@ same false a = refl
 
 pub one-none : (k : ℕ) (s : List ℕ) {x : Number} → numberIs x ≡ numberIn s → x ≡ Nothing → yard.unreadable ≡ with1 k s
 unfolding with1 line1
-one-none k s p q = sym (rw (is-none p q) (same (eqb k 121) yard.unreadable))
+one-none k s p q = sym (rw (is-none p q) (same (eqb k syncLetter) yard.unreadable))
 
-pub one-sync : (k : ℕ) (s : List ℕ) {x : Number} {m j : ℕ} → numberIs x ≡ numberIn s → x ≡ Is m → j ≡ k → j ≡ 121 → yard.sync m ≡ with1 k s
+pub one-sync : (k : ℕ) (s : List ℕ) {x : Number} {m j : ℕ} → numberIs x ≡ numberIn s → x ≡ Is m → j ≡ k → j ≡ syncLetter → yard.sync m ≡ with1 k s
 unfolding with1 line1
-one-sync k s p q e h = rw (is-some p q, eq-eqb k 121 (sym e ∙ h)) refl
+one-sync k s p q e h = rw (is-some p q, eq-eqb k syncLetter (sym e ∙ h)) refl
 
-pub one-other : (k : ℕ) (s : List ℕ) {j : ℕ} → j ≡ k → (j ≡ 121 → ⊥) → yard.unreadable ≡ with1 k s
+pub one-other : (k : ℕ) (s : List ℕ) {j : ℕ} → j ≡ k → (j ≡ syncLetter → ⊥) → yard.unreadable ≡ with1 k s
 unfolding with1
-one-other k s e h = rw (ne-eqb k 121 (λ g. h (e ∙ g))) refl
+one-other k s e h = rw (ne-eqb k syncLetter (λ g. h (e ∙ g))) refl
 
 -- ---- two numbers
 
@@ -72,54 +73,54 @@ two-read k a b p q r t e h = h ∙ rw (e, is-some p q, is-some r t) refl
 
 pub three-1 : (k : ℕ) (a b d : List ℕ) {x : Number} → numberIs x ≡ numberIn a → x ≡ Nothing → yard.unreadable ≡ with3 k a b d
 unfolding with3 line3
-three-1 k a b d p q = sym (rw (is-none p q) (same (eqb k 103) yard.unreadable))
+three-1 k a b d p q = sym (rw (is-none p q) (same (eqb k giveLetter) yard.unreadable))
 
 pub three-2 : (k : ℕ) (a b d : List ℕ) {x y : Number} {m : ℕ} → numberIs x ≡ numberIn a → x ≡ Is m → numberIs y ≡ numberIn b → y ≡ Nothing → yard.unreadable ≡ with3 k a b d
 unfolding with3 line3 line2
-three-2 k a b d p q r t = sym (rw (is-some p q, is-none r t) (same (eqb k 103) yard.unreadable))
+three-2 k a b d p q r t = sym (rw (is-some p q, is-none r t) (same (eqb k giveLetter) yard.unreadable))
 
 pub three-3 : (k : ℕ) (a b d : List ℕ) {x y z : Number} {m n : ℕ} → numberIs x ≡ numberIn a → x ≡ Is m → numberIs y ≡ numberIn b → y ≡ Is n
     → numberIs z ≡ numberIn d → z ≡ Nothing → yard.unreadable ≡ with3 k a b d
 unfolding with3 line3 line2 line1
-three-3 k a b d p q r t u v = sym (rw (is-some p q, is-some r t, is-none u v) (same (eqb k 103) yard.unreadable))
+three-3 k a b d p q r t u v = sym (rw (is-some p q, is-some r t, is-none u v) (same (eqb k giveLetter) yard.unreadable))
 
 pub three-give : (k : ℕ) (a b d : List ℕ) {x y z : Number} {m n i j : ℕ} → numberIs x ≡ numberIn a → x ≡ Is m → numberIs y ≡ numberIn b → y ≡ Is n
-    → numberIs z ≡ numberIn d → z ≡ Is i → j ≡ k → j ≡ 103 → yard.give m n i ≡ with3 k a b d
+    → numberIs z ≡ numberIn d → z ≡ Is i → j ≡ k → j ≡ giveLetter → yard.give m n i ≡ with3 k a b d
 unfolding with3 line3 line2 line1
-three-give k a b d p q r t u v e h = rw (is-some p q, is-some r t, is-some u v, eq-eqb k 103 (sym e ∙ h)) refl
+three-give k a b d p q r t u v e h = rw (is-some p q, is-some r t, is-some u v, eq-eqb k giveLetter (sym e ∙ h)) refl
 
-pub three-other : (k : ℕ) (a b d : List ℕ) {j : ℕ} → j ≡ k → (j ≡ 103 → ⊥) → yard.unreadable ≡ with3 k a b d
+pub three-other : (k : ℕ) (a b d : List ℕ) {j : ℕ} → j ≡ k → (j ≡ giveLetter → ⊥) → yard.unreadable ≡ with3 k a b d
 unfolding with3
-three-other k a b d e h = rw (ne-eqb k 103 (λ g. h (e ∙ g))) refl
+three-other k a b d e h = rw (ne-eqb k giveLetter (λ g. h (e ∙ g))) refl
 
 -- ---- four numbers
 
 pub four-1 : (k : ℕ) (a b d f : List ℕ) {x : Number} → numberIs x ≡ numberIn a → x ≡ Nothing → yard.unreadable ≡ with4 k a b d f
 unfolding with4 line4
-four-1 k a b d f p q = sym (rw (is-none p q) (same (eqb k 105) yard.unreadable))
+four-1 k a b d f p q = sym (rw (is-none p q) (same (eqb k issueLetter) yard.unreadable))
 
 pub four-2 : (k : ℕ) (a b d f : List ℕ) {x y : Number} {m : ℕ} → numberIs x ≡ numberIn a → x ≡ Is m → numberIs y ≡ numberIn b → y ≡ Nothing → yard.unreadable ≡ with4 k a b d f
 unfolding with4 line4 line3
-four-2 k a b d f p q r t = sym (rw (is-some p q, is-none r t) (same (eqb k 105) yard.unreadable))
+four-2 k a b d f p q r t = sym (rw (is-some p q, is-none r t) (same (eqb k issueLetter) yard.unreadable))
 
 pub four-3 : (k : ℕ) (a b d f : List ℕ) {x y z : Number} {m n : ℕ} → numberIs x ≡ numberIn a → x ≡ Is m → numberIs y ≡ numberIn b → y ≡ Is n
     → numberIs z ≡ numberIn d → z ≡ Nothing → yard.unreadable ≡ with4 k a b d f
 unfolding with4 line4 line3 line2
-four-3 k a b d f p q r t u v = sym (rw (is-some p q, is-some r t, is-none u v) (same (eqb k 105) yard.unreadable))
+four-3 k a b d f p q r t u v = sym (rw (is-some p q, is-some r t, is-none u v) (same (eqb k issueLetter) yard.unreadable))
 
 pub four-4 : (k : ℕ) (a b d f : List ℕ) {x y z w : Number} {m n i : ℕ} → numberIs x ≡ numberIn a → x ≡ Is m → numberIs y ≡ numberIn b → y ≡ Is n
     → numberIs z ≡ numberIn d → z ≡ Is i → numberIs w ≡ argumentIn f → w ≡ Nothing → yard.unreadable ≡ with4 k a b d f
 unfolding with4 line4 line3 line2 line1
-four-4 k a b d f p q r t u v g h = sym (rw (is-some p q, is-some r t, is-some u v, is-none g h) (same (eqb k 105) yard.unreadable))
+four-4 k a b d f p q r t u v g h = sym (rw (is-some p q, is-some r t, is-some u v, is-none g h) (same (eqb k issueLetter) yard.unreadable))
 
 pub four-issue : (k : ℕ) (a b d f : List ℕ) {x y z w : Number} {m n i c j : ℕ} → numberIs x ≡ numberIn a → x ≡ Is m → numberIs y ≡ numberIn b → y ≡ Is n
-    → numberIs z ≡ numberIn d → z ≡ Is i → numberIs w ≡ argumentIn f → w ≡ Is c → j ≡ k → j ≡ 105 → yard.issue m n i c ≡ with4 k a b d f
+    → numberIs z ≡ numberIn d → z ≡ Is i → numberIs w ≡ argumentIn f → w ≡ Is c → j ≡ k → j ≡ issueLetter → yard.issue m n i c ≡ with4 k a b d f
 unfolding with4 line4 line3 line2 line1
-four-issue k a b d f p q r t u v g h e l = rw (is-some p q, is-some r t, is-some u v, is-some g h, eq-eqb k 105 (sym e ∙ l)) refl
+four-issue k a b d f p q r t u v g h e l = rw (is-some p q, is-some r t, is-some u v, is-some g h, eq-eqb k issueLetter (sym e ∙ l)) refl
 
-pub four-other : (k : ℕ) (a b d f : List ℕ) {j : ℕ} → j ≡ k → (j ≡ 105 → ⊥) → yard.unreadable ≡ with4 k a b d f
+pub four-other : (k : ℕ) (a b d f : List ℕ) {j : ℕ} → j ≡ k → (j ≡ issueLetter → ⊥) → yard.unreadable ≡ with4 k a b d f
 unfolding with4
-four-other k a b d f e h = rw (ne-eqb k 105 (λ g. h (e ∙ g))) refl
+four-other k a b d f e h = rw (ne-eqb k issueLetter (λ g. h (e ∙ g))) refl
 
 -- ---- a signed number
 
@@ -128,12 +129,12 @@ unfolding argumentIn
 argument-none [] h = refl
 argument-none (b ∷ s) h = absurd (omega arith)
 
-pub argument-minus : (s : List ℕ) {o y : Option ℕ} → (length s ≡ 0 → ⊥) → getD s 0 0 ≡ 45 → o ≡ numberIn (drop 1 s) → y ≡ negative o → y ≡ argumentIn s
+pub argument-minus : (s : List ℕ) {o y : Option ℕ} → (length s ≡ 0 → ⊥) → getD s 0 0 ≡ minus → o ≡ numberIn (drop 1 s) → y ≡ negative o → y ≡ argumentIn s
 unfolding argumentIn
 argument-minus [] h e p q = absurd (h refl)
-argument-minus (b ∷ s) h e p q = q ∙ rw (p, eq-eqb b 45 e) refl
+argument-minus (b ∷ s) h e p q = q ∙ rw (p, eq-eqb b minus e) refl
 
-pub argument-plain : (s : List ℕ) {o y : Option ℕ} → (length s ≡ 0 → ⊥) → (getD s 0 0 ≡ 45 → ⊥) → o ≡ numberIn s → y ≡ positive o → y ≡ argumentIn s
+pub argument-plain : (s : List ℕ) {o y : Option ℕ} → (length s ≡ 0 → ⊥) → (getD s 0 0 ≡ minus → ⊥) → o ≡ numberIn s → y ≡ positive o → y ≡ argumentIn s
 unfolding argumentIn
 argument-plain [] h e p q = absurd (h refl)
-argument-plain (b ∷ s) h e p q = q ∙ rw (p, ne-eqb b 45 e) refl
+argument-plain (b ∷ s) h e p q = q ∙ rw (p, ne-eqb b minus e) refl

@@ -5,7 +5,15 @@ ghost use mathlib.Core.List.{[], _∷_, _++_};
 ghost use Prim.Native.Nat.{_+_, _-_, _*_, _≤_, _<_};
 ghost use lib.ListN.{length};
 ghost use Rattle.model.specs.Yard.{isDigit, numberIn, argumentIn, negative, positive, letterIn, with1, with2, with3, with4, lineOfFields, fieldsFrom, lineOf, digitsOf, shown, shownSigned, replyText};
-ghost use Rattle.simulator_text.specs.Values.{numberIs, lineIs, replyIs, letterLine, firstOf, Put, replyRoom};
+ghost use Rattle.model.specs.Limits.{last32};
+ghost use Rattle.simulator_text.specs.Letters.{firstDigit, lastDigit, space, mostDigits, signedRoom, fieldRoom, replyRoom};
+ghost use Rattle.simulator_text.specs.Values.{numberIs, lineIs, replyIs, letterLine, firstOf, lineFeeds, Put};
+
+// The digits of a number of 32 bits, at the most.
+const DIGITS: u32 = 10;
+
+// The bytes of an answer, at the most: three numbers with a space each, a signed one, a line feed.
+pub const REPLY_ROOM: usize = 3 * (DIGITS as usize + 1) + (1 + DIGITS as usize) + 1;
 
 // ---- a line
 
@@ -60,15 +68,15 @@ pub enum Number {
 fn is_digit(b: u8) -> bool
     ensures { λ r. ⌜ r ≡ isDigit b ⌝ }
 {
-    (48 <= b) & (b <= 57)
+    (b'0' <= b) & (b <= b'9')
 }
 
 // The number n, with one digit more.
 fn with_digit(n: u64, b: u8) -> u64
-    requires { ⌜ (n ≤ 4294967295) × (48 ≤ b) × (b ≤ 57) ⌝ }
-    ensures { λ r. ⌜ r ≡ 10 * n + (b - 48) ⌝ }
+    requires { ⌜ (n ≤ last32) × (firstDigit ≤ b) × (b ≤ lastDigit) ⌝ }
+    ensures { λ r. ⌜ r ≡ 10 * n + (b - firstDigit) ⌝ }
 {
-    10 * n + (b as u64 - 48)
+    10 * n + (b - b'0') as u64
 }
 
 // Decimal digits, at least one, of a number of 32 bits.
@@ -125,7 +133,7 @@ fn argument_in(s: &[u8]) -> Number
     if s.len() == 0 {
         return Number::Nothing;
     }
-    if s[0] == 45 {
+    if s[0] == b'-' {
         let n = number_in(&s[1..]);
         return negative_of(n);
     }
@@ -149,6 +157,22 @@ pub fn find(s: &[u8], x: u8) -> usize
     i
 }
 
+// The line feeds of a text.
+pub fn line_feeds(s: &[u8]) -> usize
+    ensures { λ r. ⌜ r ≡ lineFeeds (now (s .entry)) ⌝ }
+{
+    let mut n = 0;
+    let mut i = 0;
+    while i < s.len() {
+        let b = s[i];
+        i += 1;
+        if b == b'\n' {
+            n += 1;
+        }
+    }
+    n
+}
+
 // The byte of a field of one byte, else 0.
 fn letter_in(c: &[u8]) -> u8
     ensures { λ r. ⌜ r ≡ letterIn (now (c .entry)) ⌝ }
@@ -166,7 +190,7 @@ fn with_1(c: &[u8], s: &[u8]) -> Line
     let Number::Is(a) = x else {
         return Line::Unreadable;
     };
-    if letter_in(c) == 121 {
+    if letter_in(c) == b'y' {
         return Line::AtServer(a, ServerLine::Sync);
     }
     Line::Unreadable
@@ -177,12 +201,12 @@ fn by_letter(c: u8, a: u32, b: u32) -> Line
     ensures { λ r. ⌜ lineIs r ≡ letterLine c a b ⌝ }
 {
     match c {
-        115 => Line::AtClient(a, ClientLine::Resend(b)),
-        100 => Line::AtServer(b, ServerLine::Deliver(a)),
-        114 => Line::AtClient(b, ClientLine::Receive(a)),
-        107 => Line::AtServer(a, ServerLine::Cut(b)),
-        120 => Line::AtServer(a, ServerLine::Image(b)),
-        102 => Line::AtServer(a, ServerLine::Receipt(b)),
+        b's' => Line::AtClient(a, ClientLine::Resend(b)),
+        b'd' => Line::AtServer(b, ServerLine::Deliver(a)),
+        b'r' => Line::AtClient(b, ClientLine::Receive(a)),
+        b'k' => Line::AtServer(a, ServerLine::Cut(b)),
+        b'x' => Line::AtServer(a, ServerLine::Image(b)),
+        b'f' => Line::AtServer(a, ServerLine::Receipt(b)),
         _ => Line::Unreadable,
     }
 }
@@ -216,7 +240,7 @@ fn with_3(c: &[u8], a: &[u8], b: &[u8], s: &[u8]) -> Line
     let Number::Is(k) = z else {
         return Line::Unreadable;
     };
-    if letter_in(c) == 103 {
+    if letter_in(c) == b'g' {
         return Line::AtServer(m, ServerLine::Give(n, k));
     }
     Line::Unreadable
@@ -241,7 +265,7 @@ fn with_4(c: &[u8], a: &[u8], b: &[u8], d: &[u8], s: &[u8]) -> Line
     let Number::Is(e) = v else {
         return Line::Unreadable;
     };
-    if letter_in(c) == 105 {
+    if letter_in(c) == b'i' {
         return Line::AtClient(m, ClientLine::Issue(n, k, e));
     }
     Line::Unreadable
@@ -251,7 +275,7 @@ fn with_4(c: &[u8], a: &[u8], b: &[u8], d: &[u8], s: &[u8]) -> Line
 fn line_5(c: &[u8], a: &[u8], b: &[u8], d: &[u8], s: &[u8]) -> Line
     ensures { λ r. ⌜ lineIs r ≡ lineOfFields (now (c .entry) ∷ (now (a .entry) ∷ (now (b .entry) ∷ (now (d .entry) ∷ fieldsFrom [] (now (s .entry)))))) ⌝ }
 {
-    let e = find(s, 32);
+    let e = find(s, b' ');
     if e < s.len() {
         return Line::Unreadable;
     }
@@ -261,7 +285,7 @@ fn line_5(c: &[u8], a: &[u8], b: &[u8], d: &[u8], s: &[u8]) -> Line
 fn line_4(c: &[u8], a: &[u8], b: &[u8], s: &[u8]) -> Line
     ensures { λ r. ⌜ lineIs r ≡ lineOfFields (now (c .entry) ∷ (now (a .entry) ∷ (now (b .entry) ∷ fieldsFrom [] (now (s .entry))))) ⌝ }
 {
-    let e = find(s, 32);
+    let e = find(s, b' ');
     if e < s.len() {
         return line_5(c, a, b, &s[0..e], &s[e + 1..]);
     }
@@ -271,7 +295,7 @@ fn line_4(c: &[u8], a: &[u8], b: &[u8], s: &[u8]) -> Line
 fn line_3(c: &[u8], a: &[u8], s: &[u8]) -> Line
     ensures { λ r. ⌜ lineIs r ≡ lineOfFields (now (c .entry) ∷ (now (a .entry) ∷ fieldsFrom [] (now (s .entry)))) ⌝ }
 {
-    let e = find(s, 32);
+    let e = find(s, b' ');
     if e < s.len() {
         return line_4(c, a, &s[0..e], &s[e + 1..]);
     }
@@ -281,7 +305,7 @@ fn line_3(c: &[u8], a: &[u8], s: &[u8]) -> Line
 fn line_2(c: &[u8], s: &[u8]) -> Line
     ensures { λ r. ⌜ lineIs r ≡ lineOfFields (now (c .entry) ∷ fieldsFrom [] (now (s .entry))) ⌝ }
 {
-    let e = find(s, 32);
+    let e = find(s, b' ');
     if e < s.len() {
         return line_3(c, &s[0..e], &s[e + 1..]);
     }
@@ -292,7 +316,7 @@ fn line_2(c: &[u8], s: &[u8]) -> Line
 pub fn line_of(s: &[u8]) -> Line
     ensures { λ r. ⌜ lineIs r ≡ lineOf (now (s .entry)) ⌝ }
 {
-    let e = find(s, 32);
+    let e = find(s, b' ');
     if e < s.len() {
         return line_2(&s[0..e], &s[e + 1..]);
     }
@@ -318,25 +342,25 @@ fn put_digits(page: &mut [u8], at: usize, k: u32, v: u32) -> usize
         return at;
     }
     if v < 10 {
-        return put_byte(page, at, 48 + v as u8);
+        return put_byte(page, at, b'0' + v as u8);
     }
     let m = put_digits(page, at, k - 1, v / 10);
-    put_byte(page, m, 48 + (v % 10) as u8)
+    put_byte(page, m, b'0' + (v % 10) as u8)
 }
 
 fn put_number(page: &mut [u8], at: usize, v: u32) -> usize
-    requires { ⌜ at + 10 ≤ length (now page) ⌝ }
+    requires { ⌜ at + mostDigits ≤ length (now page) ⌝ }
     ensures { λ r. ⌜ Put (now (page .entry)) at (shown v) (now (page .exit)) r ⌝ }
 {
-    put_digits(page, at, 10, v)
+    put_digits(page, at, DIGITS, v)
 }
 
 fn put_signed(page: &mut [u8], at: usize, x: u32) -> usize
-    requires { ⌜ at + 11 ≤ length (now page) ⌝ }
+    requires { ⌜ at + signedRoom ≤ length (now page) ⌝ }
     ensures { λ r. ⌜ Put (now (page .entry)) at (shownSigned x) (now (page .exit)) r ⌝ }
 {
     if x < constants::HALF {
-        let m = put_byte(page, at, 45);
+        let m = put_byte(page, at, b'-');
         return put_number(page, m, constants::HALF - x);
     }
     put_number(page, at, x - constants::HALF)
@@ -344,11 +368,11 @@ fn put_signed(page: &mut [u8], at: usize, x: u32) -> usize
 
 // A number and the space behind it.
 fn put_field(page: &mut [u8], at: usize, v: u32) -> usize
-    requires { ⌜ at + 11 ≤ length (now page) ⌝ }
-    ensures { λ r. ⌜ Put (now (page .entry)) at (shown v ++ (32 ∷ [])) (now (page .exit)) r ⌝ }
+    requires { ⌜ at + fieldRoom ≤ length (now page) ⌝ }
+    ensures { λ r. ⌜ Put (now (page .entry)) at (shown v ++ (space ∷ [])) (now (page .exit)) r ⌝ }
 {
     let m = put_number(page, at, v);
-    put_byte(page, m, 32)
+    put_byte(page, m, b' ')
 }
 
 // The answer of line k.
@@ -360,5 +384,5 @@ pub fn put_reply(page: &mut [u8], at: usize, k: u32, r: Reply) -> usize
     let b = put_field(page, a, r.number);
     let c = put_field(page, b, r.made);
     let d = put_signed(page, c, r.value);
-    put_byte(page, d, 10)
+    put_byte(page, d, b'\n')
 }

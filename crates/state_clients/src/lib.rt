@@ -10,7 +10,7 @@ use model::constants::LEAST_IMAGE;
 use state_rows::state;
 ghost use mathlib.Core.Path.{_≡_};
 ghost use mathlib.Core.Bool.{true};
-ghost use Prim.Native.Nat.{suc, _+_, _*_, _≤_, _<_, max};
+ghost use Prim.Native.Nat.{suc, _+_, _*_, _≤_, _<_};
 ghost use lib.ListN.{length, take, drop};
 ghost use Rattle.model.specs.Limits.{clientCount, leastImage, floorRow};
 ghost use Rattle.model.specs.Tables.{rows, keep};
@@ -65,23 +65,13 @@ pub fn is_known(s: &[u8], x: u32) -> bool
 
 // ---- a floor raised, a client entered
 
-// The greater of two numbers.
-pub fn greater(a: u32, b: u32) -> u32
-    ensures { λ r. ⌜ r ≡ max a b ⌝ }
-{
-    if a < b {
-        return b;
-    }
-    a
-}
-
 // Raises the floor of the client x, which has index i.
 fn raise_at(s: &mut [u8], i: usize, x: u32, floor: u32)
     requires { ⌜ Canonical (now s) × (i < length (load (now s) .floors)) ⌝ }
     ensures { λ r. ⌜ now (s .exit) ≡ stored (now (s .entry)) (withFloors (raisedAt i x floor (load (now (s .entry)) .floors)) (load (now (s .entry)))) ⌝ }
 {
     let f = rows::row(s, i);
-    let high = greater(f.floor, floor);
+    let high = format_numbers::greater(f.floor, floor);
     rows::set_row(
         s,
         i,

@@ -10,19 +10,17 @@ use mathlib.Core.Logic.{_≢_}
 use native.Mathlib.Omega.{arith}
 use native.Mathlib.Nat.{zero-add}
 use lib.ListN.{length, getD, take, drop}
-use lib.Seq.{drop-drop, getD-take, length-take-le}
+use lib.Seq.{getD-take, length-take-le}
 use Rattle.model.specs.declared.ImageEntry.{ImageEntry}
 use Rattle.model.specs.declared.ImageHead.{ImageHead}
 use Rattle.model.specs.declared.Point.{Point}
-use Rattle.model.specs.Numbers.{byteAt, le32At}
-use Rattle.model.specs.Limits.{recordCount, lastPoint, callWindow, entryRow, floorRow, pointCount}
-use Rattle.model.specs.Tables.{rows, bytesOf, written}
-use Rattle.model.specs.Images.{floorOfBytes, imageEntryBytes}
-use Rattle.model.specs.States.{load, clientsIn, recordsIn, pointOf, completionOf, pointAt, noPoint, floorsStart, pointRow, pointsStart, recordRow, recordsStart}
+use Rattle.model.specs.Limits.{recordCount, callWindow, entryRow}
+use Rattle.model.specs.Tables.{bytesOf, written}
+use Rattle.model.specs.Images.{imageEntryBytes}
+use Rattle.model.specs.States.{load, clientsIn, recordsIn, completionOf, pointAt, recordRow, recordsStart}
 use Rattle.model.specs.Decisions.{entryOfRecord, imageFor}
 use Rattle.model_laws.specs.Bytes.{Bytes}
 use Rattle.model_laws.specs.Fits.{Sound, imageHead}
-use Rattle.model_laws.proofs.Tables.{length-rows, getD-rows}
 use Rattle.model_invariants.specs.Sound.{Sound as StateSound}
 use Rattle.state_image.specs.Slots.{noRecord, pointSlots, entryIn, entriesIn}
 use Rattle.state_image.proofs.Order.{entries-take}
@@ -83,13 +81,10 @@ module _ (p : ℕ) (s : List ℕ) (S : Sound s) {n : ℕ} (q : n ≡ clientsIn s
 
 -- ---- the head
 
-pub head-of : (p : ℕ) (s : List ℕ) → p ≤ lastPoint → {x : Point} → x ≡ pointOf (drop (pointsStart + pointRow * p) s) → {server heard clients count : ℕ} → server ≡ byteAt s 4
-    → heard ≡ le32At s 8 → clients ≡ clientsIn s → count ≡ length (imageFor (load s) p .entries)
+pub head-of : (p : ℕ) (s : List ℕ) {x : Point} → x ≡ pointAt (load s) p → {server heard clients count : ℕ} → server ≡ load s .server → heard ≡ load s .heard → clients ≡ clientsIn s
+    → count ≡ length (imageFor (load s) p .entries)
     → _≡_ {A = ImageHead}
     (record { point = p; destination = x .destination; source = server; moveNumber = x .moveNumber; heard = heard; value = x .value; quality = x .quality; floors = clients; entries = count })
     (imageHead (imageFor (load s) p))
-unfolding imageHead imageFor pointAt load
-head-of p s l {x} q a b c d =
-    let e : getD (rows pointOf pointRow pointCount (drop pointsStart s)) p noPoint ≡ x
-    = getD-rows pointOf pointRow pointCount (drop pointsStart s) p noPoint (omega arith) ∙ ap pointOf (drop-drop (pointRow * p) pointsStart s) ∙ sym q in
-    rw (e, a, b, c, d, length-rows floorOfBytes floorRow (clientsIn s) (drop floorsStart s))
+unfolding imageHead imageFor
+head-of p s q a b c d = rw (q, a, b, c, d, length-floors s)

@@ -9,11 +9,10 @@ use model::constants::ENTRY_ROW;
 use model::constants::FLOOR_ROW;
 use model::constants::FLOORS_START;
 use model::constants::LEAST_IMAGE;
-use model::constants::POINT_ROW;
-use model::constants::POINTS_START;
 use model::constants::RECORD_ROW;
 use model::constants::RECORDS_START;
 use state_clients::floors;
+use state_rows::state;
 ghost use mathlib.Core.Path.{_≡_};
 ghost use Prim.Native.Nat.{_+_, _*_, _≤_};
 ghost use lib.ListN.{length, drop};
@@ -90,13 +89,13 @@ fn head_for(s: &[u8], point: u8, entries: u32) -> ImageHead
     requires { ⌜ (Sound (now s)) × (point ≤ lastPoint) × (entries ≡ length (imageFor (load (now s)) point .entries)) ⌝ }
     ensures { λ r. ⌜ r ≡ imageHead (imageFor (load (now (s .entry))) point) ⌝ }
 {
-    let x = state_rows::point_from(s, POINTS_START + POINT_ROW * (point as usize));
+    let x = state::point_at(s, point);
     ImageHead {
         point,
         destination: x.destination,
-        source: state_rows::server_in(s),
+        source: state::server_of(s),
         moveNumber: x.moveNumber,
-        heard: state_rows::heard_in(s),
+        heard: state::heard_of(s),
         value: x.value,
         quality: x.quality,
         floors: state_rows::clients_in(s),

@@ -2,23 +2,29 @@
 --     stays-over, stays-of-other, stays-on-other, stays-over-floors     each rule is the model's
 --     clients-within, floor-stays      the rule by the state's own floors, as it is tested
 --     row-free                         a record that stays has a row
+--     over-kept                        where all are over a floor, none goes for one that is not above it
 -- Assumes nothing.
 use Prim.Native.Nat.{ℕ, _+_, _*_, _≤_, _<_}
-use mathlib.Core.Path.{_≡_, refl, sym, _∙_}
-use mathlib.Core.Bool.{Bool, false, not}
+use mathlib.Core.Path.{_≡_, refl, sym, ap, _∙_}
+use mathlib.Core.Bool.{Bool, true, false, _||_, not}
 use mathlib.Core.List.{List, [], _∷_}
 use native.Mathlib.Omega.{arith}
 use lib.ListN.{length, drop}
-use lib.Dec.{leb}
-use borrow.Author.Tests.{not-false}
+use lib.Dec.{eqb, leb}
+use borrow.Author.Tests.{le-leb, leb-true, not-false}
 use Rattle.model.specs.declared.Floor.{Floor}
 use Rattle.model.specs.declared.Completion.{Completion}
 use Rattle.model.specs.Limits.{floorRow, clientCount, recordCount}
-use Rattle.model.specs.Tables.{rows, keep}
+use Rattle.model.specs.Tables.{rows, every, keep}
 use Rattle.model.specs.Images.{floorOf, floorOfBytes}
 use Rattle.model.specs.States.{load, stateEnd, clientsIn, floorsStart}
 use Rattle.model.specs.Apply.{staysOver, staysOverFloors, isOfOther, isOnOther}
+use Rattle.model.specs.Operations.{stored}
+use Rattle.model_laws.specs.Layout.{withRecords}
+use Rattle.model_laws.proofs.Tables.{keep-all, every-imp}
+use Rattle.state_rows.specs.Canonical.{Canonical}
 use Rattle.state_rows.proofs.Access.{floors-count}
+use Rattle.state_rows.proofs.Chains.{stored-same}
 use Rattle.state_records.specs.declared.Rule.the-variants.{OverFloor, OfOther, OnOther, OverFloors}
 use Rattle.state_records.specs.Rules.{staysBy}
 
@@ -58,3 +64,20 @@ unfolding keep
 row-free t r {u} {j} e n h =
     let one : length (keep t (r ∷ [])) ≡ 1 = rw (sym e ∙ not-false u n) in
     omega arith
+
+-- ---- a floor that does not rise
+
+over-less : (x old n : ℕ) → n ≤ old → (r : Completion) → staysOver x old r ≡ true → staysOver x n r ≡ true
+unfolding staysOver
+over-less x old n h r = go (not (eqb (r .command .client) x))
+  where
+    go : (b : Bool) → (b || leb old (r .command .call)) ≡ true → (b || leb n (r .command .call)) ≡ true
+    go true e = refl
+    go false e = le-leb n (r .command .call) (omega (arith, leb-true old (r .command .call) e))
+
+pub over-kept : {s : List ℕ} → Canonical s → (x : ℕ) {old n : ℕ} → every (staysOver x old) (load s .records) ≡ true → n ≤ old
+    → s ≡ stored s (withRecords (keep (staysOver x n) (load s .records)) (load s))
+unfolding withRecords
+over-kept {s} w x {old} {n} e h =
+    sym (ap (λ (rs : List Completion). stored s (withRecords rs (load s))) (keep-all (staysOver x n) (load s .records)
+    (every-imp (staysOver x old) (staysOver x n) (over-less x old n h) (load s .records) e)) ∙ stored-same s w)

@@ -14,20 +14,23 @@ use model::constants::FLOORS_START;
 use model::constants::LEAST_IMAGE;
 use model::constants::RECORD_ROW;
 use model::constants::RECORDS_START;
+use model::constants::WORD;
 use state_rows::state;
 ghost use mathlib.Core.Path.{_≡_};
+ghost use mathlib.Core.Bool.{true};
 ghost use Prim.Native.Nat.{_+_, _*_, _≤_, _<_};
 ghost use mathlib.Core.List.{[], _∷_, _++_};
 ghost use lib.ListN.{length, drop};
 ghost use Rattle.model.specs.Limits.{leastImage, floorRow, entryRow, clientCount, recordCount};
-ghost use Rattle.model.specs.Tables.{bytesOf, keep, written};
+ghost use Rattle.model.specs.Tables.{rows, every, bytesOf, keep, written};
 ghost use Rattle.model.specs.Choice.{pick};
 ghost use Rattle.model.specs.States.{load, stateEnd, clientsIn, recordsStart, recordRow, isId, completionOf, completionBytes};
-ghost use Rattle.model.specs.Apply.{takenRecord};
-ghost use Rattle.model.specs.Decisions.{find};
+ghost use Rattle.model.specs.Apply.{staysOver, takenRecord};
+ghost use Rattle.model.specs.Decisions.{find, isNone};
 ghost use Rattle.model.specs.Operations.{stored};
 ghost use Rattle.model_laws.specs.Layout.{withRecords};
 ghost use Rattle.state_rows.specs.Canonical.{Canonical};
+ghost use Rattle.state_records.specs.Sought.{Sought};
 ghost use Rattle.state_records.specs.Rules.{foundOf, staysBy, front, keptBy, brought, lengthBy, PutKept, CompactedBy, PutEntries};
 
 // What a search finds.
@@ -50,14 +53,42 @@ pub enum Rule {
 
 // ---- search
 
-// The record from k has the id.
+// The record from k has the id: client and call are compared as one number of 64 bits.
 fn is_id(s: &[u8], k: usize, client: u32, call: u32) -> bool
     requires { ⌜ k + recordRow ≤ length (now s) ⌝ }
     ensures { λ r. ⌜ r ≡ isId client call (completionOf (drop k (now (s .entry)))) ⌝ }
 {
-    let x = format_numbers::read_u32(s, k);
-    let c = format_numbers::read_u32(s, k + 4);
-    (x == client) & (c == call)
+    format_numbers::read_u64(s, k) == client as u64 + WORD * (call as u64)
+}
+
+// None of the four records from k has the id.
+fn is_past(s: &[u8], k: usize, client: u32, call: u32) -> bool
+    requires { ⌜ k + 4 * recordRow ≤ length (now s) ⌝ }
+    ensures { λ r. ⌜ r ≡ isNone (find client call (rows completionOf recordRow 4 (drop k (now (s .entry))))) ⌝ }
+{
+    let a = is_id(s, k, client, call);
+    let b = is_id(s, k + RECORD_ROW, client, call);
+    let c = is_id(s, k + 2 * RECORD_ROW, client, call);
+    let d = is_id(s, k + 3 * RECORD_ROW, client, call);
+    !(a | (b | (c | d)))
+}
+
+// An index before which none of the n records has the id. Rows are tested eight at a time, so that the loop turns once for eight.
+fn pass(s: &[u8], n: usize, client: u32, call: u32) -> usize
+    requires { ⌜ Canonical (now s) × (n ≡ length (load (now s) .records)) ⌝ }
+    ensures { λ i. ⌜ Sought client call (now (s .entry)) n i ⌝ }
+{
+    let mut i = 0;
+    while i + 8 <= n {
+        let k = RECORDS_START + RECORD_ROW * i;
+        let a = is_past(s, k, client, call);
+        let b = is_past(s, k + 4 * RECORD_ROW, client, call);
+        if !(a & b) {
+            return i;
+        }
+        i += 8;
+    }
+    i
 }
 
 // The completion record of an id.
@@ -66,7 +97,7 @@ pub fn find(s: &[u8], client: u32, call: u32) -> Found
     ensures { λ r. ⌜ r ≡ foundOf (find client call (load (now (s .entry)) .records)) ⌝ }
 {
     let n = state::records_of(s);
-    let mut i = 0;
+    let mut i = pass(s, n, client, call);
     while i < n {
         if is_id(s, RECORDS_START + RECORD_ROW * i, client, call) {
             return Found::At(state_rows::completion_from(s, RECORDS_START + RECORD_ROW * i));
@@ -148,6 +179,17 @@ pub fn keep_records(s: &mut [u8], rule: Rule)
     let end = RECORDS_START + RECORD_ROW * n;
     state_rows::clear(s, RECORDS_START + RECORD_ROW * j, end);
     state_rows::put_records(s, j as u32);
+}
+
+// Of a client the records from a floor on. `old` is a floor that they are all over: where the floor is not above it, none goes.
+pub fn keep_over(s: &mut [u8], x: u32, old: u32, floor: u32)
+    requires { ⌜ Canonical (now s) × (every (staysOver x old) (load (now s) .records) ≡ true) ⌝ }
+    ensures { λ r. ⌜ now (s .exit) ≡ stored (now (s .entry)) (withRecords (keep (staysOver x floor) (load (now (s .entry)) .records)) (load (now (s .entry)))) ⌝ }
+{
+    if floor <= old {
+        return;
+    }
+    keep_records(s, Rule::OverFloor(x, floor));
 }
 
 // ---- records added

@@ -3,13 +3,12 @@
 --     point-there, entry-there, client-there, record-there     a row of a table, by its index
 --     heard-put, size-put, mark-put, point-put     one store into a canonical buffer
 -- Assumes nothing.
-use Prim.Native.Nat.{ℕ, _+_, _*_, _≤_, _<_}
-use mathlib.Core.Path.{_≡_, refl, sym, ap, _∙_}
+use Prim.Native.Nat.{ℕ, _+_, _*_, _<_}
+use mathlib.Core.Path.{_≡_, sym, ap, _∙_}
 use mathlib.Core.List.{List}
 use native.Mathlib.Omega.{arith}
 use lib.ListN.{length, drop, getD}
 use lib.Seq.{drop-drop}
-use Rattle.model.specs.declared.PlanEntry.{PlanEntry}
 use Rattle.model.specs.declared.Floor.{Floor}
 use Rattle.model.specs.declared.Point.{Point}
 use Rattle.model.specs.declared.Completion.{Completion}
@@ -18,7 +17,7 @@ use Rattle.model.specs.Numbers.{le32, le64}
 use Rattle.model.specs.Tables.{rows, written}
 use Rattle.model.specs.Plan.{entryAt, noEntry, planEntryOf}
 use Rattle.model.specs.Images.{floorOfBytes, floorBytes}
-use Rattle.model.specs.States.{State, load, stateBytes, clientsIn, recordsIn, pointAt, noPoint, pointOf, pointBytes, completionOf, completionBytes, padded, stateHead, pointsStart, floorsStart, recordsStart, pointRow, recordRow}
+use Rattle.model.specs.States.{load, clientsIn, recordsIn, pointAt, noPoint, pointOf, pointBytes, completionOf, completionBytes, padded, stateHead, pointsStart, floorsStart, recordsStart, pointRow, recordRow}
 use Rattle.model.specs.Apply.{withMark}
 use Rattle.model.specs.Operations.{stored}
 use Rattle.model_laws.specs.Layout.{layout, withHeard, withSize, withPoint}

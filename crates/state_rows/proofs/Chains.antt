@@ -5,7 +5,7 @@
 --     fits-heard, fits-size, fits-mark, fits-point, fits-floors, fits-records     a state that fits, with one part replaced
 -- Assumes nothing.
 use Prim.Native.Nat.{ℕ, zero, suc, _*_, _≤_, _<_}
-use mathlib.Core.Path.{_≡_, refl, sym, ap, _∙_}
+use mathlib.Core.Path.{_≡_}
 use mathlib.Core.Bool.{true}
 use mathlib.Core.List.{List, [], _∷_}
 use native.Mathlib.Omega.{arith}
@@ -15,7 +15,6 @@ use Rattle.model.specs.declared.Point.{Point}
 use Rattle.model.specs.declared.Completion.{Completion}
 use Rattle.model.specs.Limits.{clientCount, recordCount}
 use Rattle.model.specs.Numbers.{word}
-use Rattle.model.specs.Tables.{written}
 use Rattle.model.specs.States.{State, load, stateBytes, stateEnd, sound}
 use Rattle.model.specs.Apply.{withMark}
 use Rattle.model.specs.Operations.{stored}

@@ -1,4 +1,4 @@
-// A server's state in its buffer: the fields of its head, and the rows of its tables, each at its place. The plan's entries are read by
+// A server's state in its buffer: the counts of its head, and the rows of its tables, each at its place. The plan's entries are read by
 // `command`, the clients' rows (floors) by `image_rows`. The module `state` reads and stores the parts of a state.
 pub mod state;
 
@@ -9,27 +9,11 @@ use model::Point;
 ghost use mathlib.Core.Path.{_≡_};
 ghost use Prim.Native.Nat.{_+_, _-_, _≤_};
 ghost use lib.ListN.{length, drop, replicate};
-ghost use Rattle.model.specs.Numbers.{byteAt, le32At, le64At, le32, le64};
+ghost use Rattle.model.specs.Numbers.{le32, le64};
 ghost use Rattle.model.specs.Tables.{written};
 ghost use Rattle.model.specs.States.{clientsIn, recordsIn, pointOf, pointBytes, completionOf, completionBytes, pointRow, recordRow, stateHead};
 
 // ---- the head
-
-// The server's number.
-pub fn server_in(s: &[u8]) -> u8
-    requires { ⌜ stateHead ≤ length (now s) ⌝ }
-    ensures { λ r. ⌜ r ≡ byteAt (now (s .entry)) 4 ⌝ }
-{
-    s[4]
-}
-
-// Heard time.
-pub fn heard_in(s: &[u8]) -> u32
-    requires { ⌜ stateHead ≤ length (now s) ⌝ }
-    ensures { λ r. ⌜ r ≡ le32At (now (s .entry)) 8 ⌝ }
-{
-    format_numbers::read_u32(s, 8)
-}
 
 // The number of clients.
 pub fn clients_in(s: &[u8]) -> u32
@@ -45,29 +29,6 @@ pub fn records_in(s: &[u8]) -> u32
     ensures { λ r. ⌜ r ≡ recordsIn (now (s .entry)) ⌝ }
 {
     format_numbers::read_u32(s, 16)
-}
-
-// The log's recorded length.
-pub fn size_in(s: &[u8]) -> u64
-    requires { ⌜ stateHead ≤ length (now s) ⌝ }
-    ensures { λ r. ⌜ r ≡ le64At (now (s .entry)) 24 ⌝ }
-{
-    format_numbers::read_u64(s, 24)
-}
-
-// The sync mark.
-pub fn mark_in(s: &[u8]) -> u64
-    requires { ⌜ stateHead ≤ length (now s) ⌝ }
-    ensures { λ r. ⌜ r ≡ le64At (now (s .entry)) 32 ⌝ }
-{
-    format_numbers::read_u64(s, 32)
-}
-
-pub fn put_heard(s: &mut [u8], v: u32)
-    requires { ⌜ stateHead ≤ length (now s) ⌝ }
-    ensures { λ r. ⌜ now (s .exit) ≡ written (now (s .entry)) 8 (le32 v) ⌝ }
-{
-    format_numbers::write_u32(s, 8, v);
 }
 
 pub fn put_clients(s: &mut [u8], v: u32)

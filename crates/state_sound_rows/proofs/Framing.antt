@@ -1,6 +1,6 @@
 -- The head of a state's buffer and the rows past its counts.
 --     few-clients, few-records     the counts are in their limits; framed-counts: both, once the whole framing is tested
---     framed-head, framed-floors, framed-records     the walk through stateFramed: the head, then the rows past the counts
+--     framed-is, framed-rows     stateFramed by the head and the rows past the counts
 -- Assumes nothing.
 use Prim.Native.Nat.{ℕ, _+_, _-_, _*_, _≤_}
 use mathlib.Core.Path.{_≡_, refl, sym, ap, _∙_}
@@ -8,7 +8,7 @@ use mathlib.Core.Bool.{Bool, true, false, _&&_, not, and-assoc}
 use mathlib.Core.List.{List, [], _∷_}
 use lib.ListN.{drop}
 use lib.Dec.{eqb, leb}
-use borrow.Author.Tests.{leb-true, not-true, not-false}
+use borrow.Author.Tests.{leb-true, not-false}
 use Rattle.model.specs.Numbers.{byteAt, le32At, zeros3At}
 use Rattle.model.specs.Tables.{zeros}
 use Rattle.model.specs.States.{clientsIn, recordsIn, stateFramed, floorsStart, recordRow, recordsStart, stateMagic}
@@ -34,7 +34,7 @@ then : (a b c d e f g h x : Bool)
     → (a && (b && (c && (d && (e && (f && (g && (h && x)))))))) ≡ ((a && (b && (c && (d && (e && (f && (g && h))))))) && x)
 then a b c d e f g h x = rw (and-assoc, and-assoc, and-assoc, and-assoc, and-assoc, and-assoc, and-assoc)
 
-framed-is : (s : List ℕ)
+pub framed-is : (s : List ℕ)
     → stateFramed s ≡ (headFramed s && (zeros (floorRow * (clientCount - clientsIn s)) (drop (floorsStart + floorRow * clientsIn s) s) && zeros (recordRow * (recordCount - recordsIn s))
     (drop (recordsStart + recordRow * recordsIn s) s)))
 unfolding stateFramed headFramed
@@ -53,12 +53,6 @@ framed-counts s {u} p q =
     (few-clients s refl n, few-records s refl n)
 
 module _ (s : List ℕ) {u : Bool} (p : u ≡ headFramed s) where
-  pub framed-head : not u ≡ true → false ≡ stateFramed s
-  framed-head q = sym (framed-is s ∙ rw (← p, not-true u q))
-
-  module _ (q : not u ≡ false) {n : ℕ} (a : n ≡ clientsIn s) {v : Bool} (f : v ≡ zeros (floorRow * (clientCount - n)) (drop (floorsStart + floorRow * n) s)) where
-    pub framed-floors : not v ≡ true → false ≡ stateFramed s
-    framed-floors r = sym (framed-is s ∙ rw (← p, not-false u q, ← a, ← f, not-true v r))
-
-    pub framed-records : not v ≡ false → {m : ℕ} → m ≡ recordsIn s → {x : Bool} → x ≡ zeros (recordRow * (recordCount - m)) (drop (recordsStart + recordRow * m) s) → x ≡ stateFramed s
-    framed-records r b g = sym (framed-is s ∙ rw (← p, not-false u q, ← a, ← f, not-false v r, ← b, ← g))
+  pub framed-rows : not u ≡ false → {n m : ℕ} → n ≡ clientsIn s → m ≡ recordsIn s → {v w : Bool} → v ≡ zeros (floorRow * (clientCount - n)) (drop (floorsStart + floorRow * n) s)
+      → w ≡ zeros (recordRow * (recordCount - m)) (drop (recordsStart + recordRow * m) s) → (v && w) ≡ stateFramed s
+  framed-rows q a b f g = sym (framed-is s ∙ rw (← p, not-false u q, ← a, ← b, ← f, ← g))

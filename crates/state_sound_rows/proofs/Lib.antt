@@ -1,4 +1,5 @@
 -- Laws that the proofs of `sound_rows`, and of those who call it, cite.
+pub mod Chains
 pub mod Loops
 pub mod Zeros
 pub mod Points

@@ -1,5 +1,5 @@
 -- What a loop that tests each row of a table starts from: `Open` of `images`, the rows from i on decide the answer.
---     open-start, row-open     the answer is a test of every row
+--     open-start     the answer is a test of every row
 --     clients-open     it is that the clients ascend: a test of every two neighbours, at a place by client-pair
 -- Assumes nothing.
 use Prim.Native.Nat.{ℕ, zero, suc, _+_, _-_}
@@ -18,9 +18,6 @@ use Rattle.model_laws.proofs.Loops.{Open}
 
 pub open-start : (t : List ℕ → Bool) (w k : ℕ) (x : Bool) (s : List ℕ) (n : ℕ) → x ≡ everyRow t w n (drop k s) → Open t w k x s n 0
 open-start t w k x s n e = record { below = omega arith; rest = rw (mul-zero, add-zero, sub-zero) e }
-
-pub row-open : (t : List ℕ → Bool) (w k : ℕ) (s : List ℕ) (n : ℕ) → Open t w k (everyRow t w n (drop k s)) s n 0
-row-open t w k s n = open-start t w k (everyRow t w n (drop k s)) s n refl
 
 -- the client of the first row is below that of the next
 abbrev pub clientBefore : List ℕ → Bool

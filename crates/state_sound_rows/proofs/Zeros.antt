@@ -1,24 +1,23 @@
--- Zero bytes, read as numbers and as rows.
---     zero-word, zero-long     4 or 8 bytes are zero where their number is
---     zeros-28     a completion record's row
---     zeros-open     what a loop over rows of zeros starts from
+-- Zero bytes, and words joined by OR.
+--     zero-word     4 bytes are zero where their number is
+--     run-start, run-next, run-end     a loop that joins the words of a run: what is joined and the rest of the run decide whether the run is zero
+--     run-parts     a run of blocks, and the words past them; run-split: two runs, one behind the other
 -- Assumes nothing.
-use Prim.Native.Nat.{ℕ, zero, suc, _+_, _*_}
+use Prim.Native.Nat.{ℕ, zero, suc, _+_, _-_, _*_, _/_, _%_, _≤_, _<_}
 use mathlib.Core.Path.{_≡_, refl, sym, _∙_}
-use mathlib.Core.Bool.{Bool, true, false, _&&_, and-assoc}
+use mathlib.Core.Bool.{Bool, true, false, _&&_, and-assoc, and-true}
 use mathlib.Core.List.{List, [], _∷_}
 use native.Mathlib.Omega.{arith}
-use native.Mathlib.Nat.{zero-add, suc-add, mul-suc, mul-zero, add-zero}
+use native.Mathlib.Nat.{zero-add, suc-add, mul-suc, mul-zero, add-zero, sub-zero}
 use lib.ListN.{drop}
 use lib.Seq.{drop-drop}
 use lib.Dec.{eqb}
+use lib.Bits.{bitAnd, bitOr, or-add-and, and-le-l, and-le-r}
 use borrow.Author.Tests.{eqb-true, eqb-false, eq-eqb}
-use Rattle.model.specs.Numbers.{join32, le32At, le64At}
+use Rattle.model.specs.Numbers.{join32, le32At}
 use Rattle.model.specs.Tables.{everyRow, zeros}
-use Rattle.model.specs.States.{recordRow}
 use Rattle.model_laws.proofs.Numbers.{le32-drop}
-use Rattle.model_laws.proofs.Loops.{Open}
-use Rattle.state_sound_rows.proofs.Loops.{open-start}
+use Rattle.model_laws.proofs.Tables.{everyRow-cons}
 
 zeros-nil : (n : ℕ) → zeros n [] ≡ true
 unfolding zeros
@@ -36,9 +35,6 @@ unfolding everyRow zeros
 zeros-rows w zero s = rw mul-zero
 zeros-rows w (suc n) s = let e : w * suc n ≡ w + w * n = omega (arith, mul-suc w n) in rw (e, zeros-add w (w * n) s, zeros-rows w n (drop w s))
 
-pub zeros-open : (w k : ℕ) (s : List ℕ) (n : ℕ) → Open (zeros w) w k (zeros (w * n) (drop k s)) s n 0
-zeros-open w k s n = open-start (zeros w) w k (zeros (w * n) (drop k s)) s n (zeros-rows w n (drop k s))
-
 -- a number is zero exactly where two others are
 both-zero : (x a b : ℕ) → (x ≡ 0 → a ≡ 0) → (x ≡ 0 → b ≡ 0) → (a ≡ 0 → b ≡ 0 → x ≡ 0) → eqb x 0 ≡ (eqb a 0 && eqb b 0)
 both-zero x a b p q r = step (eqb x 0) (eqb a 0) (eqb b 0) refl refl refl
@@ -48,10 +44,6 @@ both-zero x a b p q r = step (eqb x 0) (eqb a 0) (eqb b 0) refl refl refl
     step false true true e f g = absurd (eqb-false x 0 e (r (eqb-true a 0 f) (eqb-true b 0 g)))
     step false true false e f g = rw (e, f, g)
     step false false v e f g = rw (e, f)
-
-and-true : (b : Bool) → (b && true) ≡ b
-and-true true = refl
-and-true false = refl
 
 four : (a b c d : ℕ) → (eqb a 0 && (eqb b 0 && (eqb c 0 && (eqb d 0 && true)))) ≡ eqb (join32 a b c d) 0
 four a b c d =
@@ -71,17 +63,42 @@ word-zero (a ∷ b ∷ c ∷ []) = four a b c 0
 word-zero (a ∷ b ∷ c ∷ d ∷ []) = four a b c d
 word-zero (a ∷ b ∷ c ∷ d ∷ e ∷ s) = four a b c d
 
-pub zero-word : (s : List ℕ) (k : ℕ) → eqb (le32At s k) 0 ≡ zeros 4 (drop k s)
-zero-word s k = sym (word-zero (drop k s) ∙ rw (le32-drop k s 0, add-zero))
+pub zero-word : (s : List ℕ) (k : ℕ) {r : ℕ} → r ≡ le32At s k → eqb r 0 ≡ zeros 4 (drop k s)
+zero-word s k e = rw e (sym (word-zero (drop k s) ∙ rw (le32-drop k s 0, add-zero)))
 
-pub zero-long : (s : List ℕ) (k : ℕ) → eqb (le64At s k) 0 ≡ zeros 8 (drop k s)
-unfolding le64At
-zero-long s k =
-    both-zero (le64At s k) (le32At s k) (le32At s (k + 4)) (λ e. omega arith) (λ e. omega arith) (λ e f. omega arith)
-    ∙ rw (zero-word s k, zero-word s (k + 4), zeros-add 4 4 (drop k s), drop-drop 4 k s)
+or-zero : (a b : ℕ) → eqb (bitOr a b) 0 ≡ (eqb a 0 && eqb b 0)
+or-zero a b =
+    let sum : bitOr a b + bitAnd a b ≡ a + b = or-add-and a b in
+    let l : bitAnd a b ≤ a = and-le-l a b in
+    let r : bitAnd a b ≤ b = and-le-r a b in
+    both-zero (bitOr a b) a b (λ e. omega arith) (λ e. omega arith) (λ e f. omega arith)
 
-pub zeros-28 : (s : List ℕ) (k : ℕ) → zeros recordRow (drop k s) ≡ (zeros 8 (drop k s) && (zeros 8 (drop (k + 8) s) && (zeros 8 (drop (k + 16) s) && zeros 4 (drop (k + 24) s))))
-zeros-28 s k =
-    let p : k + 8 + 8 ≡ k + 16 = omega arith in
-    let q : k + 16 + 8 ≡ k + 24 = omega arith in
-    zeros-add 8 20 (drop k s) ∙ rw (drop-drop 8 k s, zeros-add 8 12 (drop (k + 8) s), drop-drop 8 (k + 8) s, p, zeros-add 8 4 (drop (k + 16) s), drop-drop 8 (k + 16) s, q)
+-- ---- a run of n words of w bytes from k
+
+-- those before i, joined, are acc
+pub record Run (w k : ℕ) (s : List ℕ) (n acc i : ℕ) : Type 0 where
+  pub below : i ≤ n
+  pub rest : zeros (w * n) (drop k s) ≡ (eqb acc 0 && everyRow (zeros w) w (n - i) (drop (k + w * i) s))
+
+pub run-start : (w k : ℕ) (s : List ℕ) (n : ℕ) → Run w k s n 0 0
+run-start w k s n = record { below = omega arith; rest = rw (mul-zero, add-zero, sub-zero) (zeros-rows w n (drop k s)) }
+
+module _ {w k : ℕ} {s : List ℕ} {n acc i : ℕ} (o : Run w k s n acc i) where
+  pub run-next : (r : ℕ) → i < n → eqb r 0 ≡ zeros w (drop (k + w * i) s) → Run w k s n (bitOr acc r) (i + 1)
+  run-next r h p = record { below = omega arith; rest = o .rest ∙ rw (everyRow-cons (zeros w) w s k i n h, ← p, or-zero acc r, and-assoc) }
+
+  pub run-end : n ≤ i → eqb acc 0 ≡ zeros (w * n) (drop k s)
+  unfolding everyRow
+  run-end h = let e : n - i ≡ 0 = omega arith in sym (o .rest ∙ rw (e, and-true (eqb acc 0)))
+
+pub run-parts : (s : List ℕ) (k n front rest : ℕ) → n % 4 ≡ 0 → eqb front 0 ≡ zeros (256 * (n / 256)) (drop k s)
+    → eqb rest 0 ≡ zeros (4 * (n % 256 / 4)) (drop (k + 256 * (n / 256)) s) → eqb (bitOr front rest) 0 ≡ zeros n (drop k s)
+run-parts s k n front rest h p q =
+    let e : 256 * (n / 256) + 4 * (n % 256 / 4) ≡ n = omega arith in
+    or-zero front rest ∙ rw (p, q, ← drop-drop (256 * (n / 256)) k s, ← zeros-add (256 * (n / 256)) (4 * (n % 256 / 4)) (drop k s), e)
+
+pub run-split : (s : List ℕ) (k m n : ℕ) {u v : Bool} → m ≤ n → u ≡ zeros m (drop k s) → v ≡ zeros (n - m) (drop (k + m) s) → (u && v) ≡ zeros n (drop k s)
+run-split s k m n h p q = let e : m + (n - m) ≡ n = omega arith in rw (p, q, ← drop-drop m k s, ← zeros-add m (n - m) (drop k s), e)
+
+pub rest-words : (m n : ℕ) → m % 4 ≡ 0 → n % 4 ≡ 0 → m ≤ n → (n - m) % 4 ≡ 0
+rest-words m n p q h = omega arith

@@ -1,4 +1,4 @@
-// Tests of the parts of a server's state buffer, each at its place: rows of zeros, the plan, the points, the clients.
+// Tests of the parts of a server's state buffer, each at its place: runs of zeros, the plan with the points, the clients.
 use model::PlanEntry;
 use model::Point;
 use model::constants;
@@ -12,74 +12,70 @@ use model::constants::RECORD_COUNT;
 use model::constants::RECORD_ROW;
 use model::constants::RECORDS_START;
 ghost use mathlib.Core.Path.{_≡_};
-ghost use Prim.Native.Nat.{suc, _+_, _*_, _≤_};
+ghost use Prim.Native.Nat.{suc, _+_, _*_, _%_, _≤_};
 ghost use lib.ListN.{length, drop};
 ghost use lib.Dec.{eqb};
-ghost use Rattle.model.specs.Tables.{rows, everyRow, every, zeros};
-ghost use Rattle.model.specs.Plan.{planEntryOf, planRowOk};
+ghost use Rattle.model.specs.Choice.{pick};
+ghost use Rattle.model.specs.Tables.{rows, every, zeros};
 ghost use Rattle.model.specs.Images.{floorOfBytes, floorOk, clientsAscend};
-ghost use Rattle.model.specs.States.{recordRow, pointRow, pointOf, endOk, notGiven, originOk, absentOk, heldOk, givenOk, statusOk, pointOk, pointsOk, keepsRecords, pointRowOk, stateFramed, stateEnd, stateHead};
+ghost use Rattle.model.specs.States.{held, pointRow, notGiven, absentOk, pointOk, keepsRecords, pointRowOk, stateFramed, stateEnd, stateHead};
 ghost use Rattle.model.specs.Limits.{floorRow, planRow, pointCount, planSize};
-ghost use Rattle.state_sound_rows.specs.Parts.{headFramed};
+ghost use Rattle.state_sound_rows.specs.Parts.{headFramed, isEnd, heldMove, givenMove, origin, statusAndEnds, fieldsIn, rowOk, rowsOk};
 
-// ---- rows of zeros
+// ---- runs of zeros
 
-// The 4 bytes from k are 0.
-fn zero_4(s: &[u8], k: usize) -> bool
-    requires { ⌜ k + 4 ≤ length (now s) ⌝ }
-    ensures { λ r. ⌜ r ≡ zeros 4 (drop k (now (s .entry))) ⌝ }
+// The words of 4 bytes, n of them from at, joined by OR: 0 where all their bytes are.
+fn or_words(s: &[u8], at: usize, n: usize) -> u32
+    requires { ⌜ at + 4 * n ≤ length (now s) ⌝ }
+    ensures { λ r. ⌜ eqb r 0 ≡ zeros (4 * n) (drop at (now (s .entry))) ⌝ }
 {
-    format_numbers::read_u32(s, k) == 0
-}
-
-// The 8 bytes from k are 0.
-fn zero_8(s: &[u8], k: usize) -> bool
-    requires { ⌜ k + 8 ≤ length (now s) ⌝ }
-    ensures { λ r. ⌜ r ≡ zeros 8 (drop k (now (s .entry))) ⌝ }
-{
-    format_numbers::read_u64(s, k) == 0
-}
-
-// The 28 bytes from k are 0.
-fn zero_28(s: &[u8], k: usize) -> bool
-    requires { ⌜ k + recordRow ≤ length (now s) ⌝ }
-    ensures { λ r. ⌜ r ≡ zeros recordRow (drop k (now (s .entry))) ⌝ }
-{
-    let a = zero_8(s, k);
-    let b = zero_8(s, k + 8);
-    let c = zero_8(s, k + 16);
-    let d = zero_4(s, k + 24);
-    a & (b & (c & d))
-}
-
-// n rows of a client from at are 0.
-pub fn zero_floors(s: &[u8], at: usize, n: usize) -> bool
-    requires { ⌜ at + floorRow * n ≤ length (now s) ⌝ }
-    ensures { λ r. ⌜ r ≡ zeros (floorRow * n) (drop at (now (s .entry))) ⌝ }
-{
+    let mut acc = 0;
     let mut i = 0;
     while i < n {
-        if !zero_8(s, at + FLOOR_ROW * i) {
-            return false;
-        }
+        acc |= format_numbers::read_u32(s, at + 4 * i);
         i += 1;
     }
-    true
+    acc
 }
 
-// n rows of a completion record from at are 0.
-pub fn zero_records(s: &[u8], at: usize, n: usize) -> bool
-    requires { ⌜ at + recordRow * n ≤ length (now s) ⌝ }
-    ensures { λ r. ⌜ r ≡ zeros (recordRow * n) (drop at (now (s .entry))) ⌝ }
+// The same of n blocks of 64 words, 256 bytes. A block is compiled to loads without a loop; a loop over single words takes up to half
+// as long again, by the place of its code in memory.
+fn or_blocks(s: &[u8], at: usize, n: usize) -> u32
+    requires { ⌜ at + 256 * n ≤ length (now s) ⌝ }
+    ensures { λ r. ⌜ eqb r 0 ≡ zeros (256 * n) (drop at (now (s .entry))) ⌝ }
 {
+    let mut acc = 0;
     let mut i = 0;
     while i < n {
-        if !zero_28(s, at + RECORD_ROW * i) {
-            return false;
-        }
+        acc |= or_words(s, at + 256 * i, 64);
         i += 1;
     }
-    true
+    acc
+}
+
+// n bytes from at are 0, whole words, by blocks from at.
+fn zero_blocks(s: &[u8], at: usize, n: usize) -> bool
+    requires { ⌜ (at + n ≤ length (now s)) × (n % 4 ≡ 0) ⌝ }
+    ensures { λ r. ⌜ r ≡ zeros n (drop at (now (s .entry))) ⌝ }
+{
+    let blocks = n / 256;
+    let front = or_blocks(s, at, blocks);
+    let rest = or_words(s, at + 256 * blocks, n % 256 / 4);
+    (front | rest) == 0
+}
+
+// The same, with the blocks from a multiple of 16 on: where the buffer begins at one, no load of 16 bytes lies across two cache lines.
+fn zero_run(s: &[u8], at: usize, n: usize) -> bool
+    requires { ⌜ (at + n ≤ length (now s)) × (at % 4 ≡ 0) × (n % 4 ≡ 0) ⌝ }
+    ensures { λ r. ⌜ r ≡ zeros n (drop at (now (s .entry))) ⌝ }
+{
+    let before = (16 - at % 16) % 16;
+    if n < before {
+        return zero_blocks(s, at, n);
+    }
+    let front = zero_blocks(s, at, before);
+    let rest = zero_blocks(s, at + before, n - before);
+    front & rest
 }
 
 // ---- the head
@@ -113,59 +109,26 @@ pub fn framed(s: &[u8]) -> bool
     }
     let n = state_rows::clients_in(s) as usize;
     let m = state_rows::records_in(s) as usize;
-    if !zero_floors(s, FLOORS_START + FLOOR_ROW * n, CLIENT_COUNT - n) {
-        return false;
-    }
-    zero_records(s, RECORDS_START + RECORD_ROW * m, RECORD_COUNT - m)
+    let clients = zero_run(
+        s,
+        FLOORS_START + FLOOR_ROW * n,
+        FLOOR_ROW * (CLIENT_COUNT - n),
+    );
+    let records = zero_run(
+        s,
+        RECORDS_START + RECORD_ROW * m,
+        RECORD_ROW * (RECORD_COUNT - m),
+    );
+    clients & records
 }
 
-// ---- the plan
+// ---- the plan and the points
 
-// Each of the 64 entries from at.
-pub fn plan_rows_ok(s: &[u8], at: usize) -> bool
-    requires { ⌜ at + planSize ≤ length (now s) ⌝ }
-    ensures { λ r. ⌜ r ≡ everyRow planRowOk planRow pointCount (drop at (now (s .entry))) ⌝ }
+// An end of a log record in a log of size bytes.
+pub fn is_end(size: u64, end: u64) -> bool
+    ensures { λ r. ⌜ r ≡ isEnd size end ⌝ }
 {
-    let mut i = 0;
-    while i < POINT_COUNT {
-        if !format_commands::plan_row_ok(s, at + PLAN_ROW * i) {
-            return false;
-        }
-        i += 1;
-    }
-    true
-}
-
-// ---- the points
-
-// The zero byte of the point from k.
-fn point_row_ok(s: &[u8], k: usize) -> bool
-    requires { ⌜ k + pointRow ≤ length (now s) ⌝ }
-    ensures { λ r. ⌜ r ≡ pointRowOk (drop k (now (s .entry))) ⌝ }
-{
-    format_numbers::zero_at(s, k + 3)
-}
-
-// The zero byte of each of the 64 points from at.
-pub fn point_rows_ok(s: &[u8], at: usize) -> bool
-    requires { ⌜ at + pointRow * pointCount ≤ length (now s) ⌝ }
-    ensures { λ r. ⌜ r ≡ everyRow pointRowOk pointRow pointCount (drop at (now (s .entry))) ⌝ }
-{
-    let mut i = 0;
-    while i < POINT_COUNT {
-        if !point_row_ok(s, at + POINT_ROW * i) {
-            return false;
-        }
-        i += 1;
-    }
-    true
-}
-
-// The end of a log record in a log of size bytes, or 0 for none.
-fn end_ok(size: u64, end: u64) -> bool
-    ensures { λ r. ⌜ r ≡ endOk size end ⌝ }
-{
-    (end == 0) | ((constants::HEAD_SIZE_U64 < end) & (end <= size))
+    (constants::HEAD_SIZE_U64 < end) & (end <= size)
 }
 
 // Neither destination nor give.
@@ -173,17 +136,6 @@ fn not_given(x: Point) -> bool
     ensures { λ r. ⌜ r ≡ notGiven x ⌝ }
 {
     (x.destination == 0) & (x.giveEnd == 0)
-}
-
-// Never taken: founded here; else the take has an end.
-fn origin_ok(server: u8, e: PlanEntry, x: Point) -> bool
-    ensures { λ r. ⌜ r ≡ originOk server e x ⌝ }
-{
-    if x.takenMove == 0 {
-        (x.takeEnd == 0) & (e.home == server)
-    } else {
-        1 <= x.takeEnd
-    }
 }
 
 // Absent: as founding left it.
@@ -198,12 +150,11 @@ fn absent_ok(server: u8, e: PlanEntry, x: Point) -> bool
 }
 
 // Held: since founding, or taken with just this move.
-fn held_ok(server: u8, e: PlanEntry, x: Point) -> bool
-    ensures { λ r. ⌜ r ≡ heldOk server e x ⌝ }
+fn held_ok(x: Point) -> bool
+    ensures { λ r. ⌜ r ≡ heldMove x ⌝ }
 {
     let none = not_given(x);
-    let origin = origin_ok(server, e, x);
-    (x.moveNumber == x.takenMove) & (none & origin)
+    (x.moveNumber == x.takenMove) & none
 }
 
 // Number is the one after n.
@@ -214,58 +165,101 @@ fn is_next(number: u32, n: u32) -> bool
 }
 
 // Given or released: to another server, by the move and the log record after those of being held.
-fn given_ok(server: u8, e: PlanEntry, x: Point) -> bool
-    ensures { λ r. ⌜ r ≡ givenOk server e x ⌝ }
+fn given_ok(server: u8, size: u64, x: Point) -> bool
+    ensures { λ r. ⌜ r ≡ givenMove server size x ⌝ }
 {
     let next = is_next(x.moveNumber, x.takenMove);
-    let origin = origin_ok(server, e, x);
-    next & ((x.destination != server) & ((x.takeEnd < x.giveEnd) & origin))
+    let end = is_end(size, x.giveEnd);
+    next & ((x.destination != server) & ((x.takeEnd < x.giveEnd) & end))
+}
+
+// The latest move of a point that is not absent.
+fn move_ok(server: u8, size: u64, x: Point) -> bool
+    ensures { λ r. ⌜ r ≡ pick (eqb (x .status) held) (heldMove x) (givenMove server size x) ⌝ }
+{
+    if x.status == constants::HELD {
+        return held_ok(x);
+    }
+    given_ok(server, size, x)
+}
+
+// Never taken: founded here; else the take has an end.
+fn origin_ok(server: u8, size: u64, e: PlanEntry, x: Point) -> bool
+    ensures { λ r. ⌜ r ≡ origin server size e x ⌝ }
+{
+    if x.takenMove == 0 {
+        (x.takeEnd == 0) & (e.home == server)
+    } else {
+        is_end(size, x.takeEnd)
+    }
 }
 
 // What a point's status says of its other fields.
-fn status_ok(server: u8, e: PlanEntry, x: Point) -> bool
-    ensures { λ r. ⌜ r ≡ statusOk server e x ⌝ }
+fn status_ok(server: u8, size: u64, e: PlanEntry, x: Point) -> bool
+    ensures { λ r. ⌜ r ≡ statusAndEnds server size e x ⌝ }
 {
     if x.status == constants::ABSENT {
         return absent_ok(server, e, x);
     }
-    if x.status == constants::HELD {
-        return held_ok(server, e, x);
+    if !move_ok(server, size, x) {
+        return false;
     }
-    given_ok(server, e, x)
+    origin_ok(server, size, e, x)
+}
+
+// Fields in their ranges.
+fn fields_ok(e: PlanEntry, x: Point) -> bool
+    ensures { λ r. ⌜ r ≡ fieldsIn e x ⌝ }
+{
+    let value = format_numbers::in_range(e, x.value);
+    (x.status <= constants::LAST_STATUS)
+        & ((x.quality <= constants::LAST_QUALITY)
+            & ((x.destination <= constants::LAST_SERVER) & value))
 }
 
 // A point against its entry of the plan.
 fn point_ok(server: u8, size: u64, e: PlanEntry, x: Point) -> bool
     ensures { λ r. ⌜ r ≡ pointOk server size e x ⌝ }
 {
-    let value = format_numbers::in_range(e, x.value);
-    let gave = end_ok(size, x.giveEnd);
-    let took = end_ok(size, x.takeEnd);
-    let status = status_ok(server, e, x);
-    (x.status <= constants::LAST_STATUS)
-        & ((x.quality <= constants::LAST_QUALITY)
-            & ((x.destination <= constants::LAST_SERVER) & (value & (gave & (took & status)))))
+    if !fields_ok(e, x) {
+        return false;
+    }
+    status_ok(server, size, e, x)
 }
 
-// The point from k against its entry of the plan from j.
-fn point_at_ok(s: &[u8], j: usize, k: usize, server: u8, size: u64) -> bool
-    requires { ⌜ (j + planRow ≤ length (now s)) × (k + pointRow ≤ length (now s)) ⌝ }
-    ensures { λ r. ⌜ r ≡ pointOk server size (planEntryOf (drop j (now (s .entry)))) (pointOf (drop k (now (s .entry)))) ⌝ }
+// The zero byte of the point from k.
+fn point_row_ok(s: &[u8], k: usize) -> bool
+    requires { ⌜ k + pointRow ≤ length (now s) ⌝ }
+    ensures { λ r. ⌜ r ≡ pointRowOk (drop k (now (s .entry))) ⌝ }
 {
+    format_numbers::zero_at(s, k + 3)
+}
+
+// The plan's entry from j, and the point from k against it.
+fn row_ok(s: &[u8], j: usize, k: usize, server: u8, size: u64) -> bool
+    requires { ⌜ (j + planRow ≤ length (now s)) × (k + pointRow ≤ length (now s)) ⌝ }
+    ensures { λ r. ⌜ r ≡ rowOk server size (drop j (now (s .entry))) (drop k (now (s .entry))) ⌝ }
+{
+    if !format_commands::plan_row_ok(s, j) {
+        return false;
+    }
+    if !point_row_ok(s, k) {
+        return false;
+    }
     let e = format_commands::plan_entry(s, j);
     let x = state_rows::point_from(s, k);
     point_ok(server, size, e, x)
 }
 
-// The 64 points from at against the plan from plan.
+// The 64 entries of the plan from plan, and the 64 points from at against them: one pass over both tables. A row's tests leave at the
+// first group that fails; all joined without an exit they take longer.
 pub fn points_ok(s: &[u8], plan: usize, at: usize, server: u8, size: u64) -> bool
     requires { ⌜ (plan + planSize ≤ length (now s)) × (at + pointRow * pointCount ≤ length (now s)) ⌝ }
-    ensures { λ r. ⌜ r ≡ pointsOk server size (rows planEntryOf planRow pointCount (drop plan (now (s .entry)))) (rows pointOf pointRow pointCount (drop at (now (s .entry)))) ⌝ }
+    ensures { λ r. ⌜ r ≡ rowsOk server size (drop plan (now (s .entry))) (drop at (now (s .entry))) ⌝ }
 {
     let mut i = 0;
     while i < POINT_COUNT {
-        if !point_at_ok(s, plan + PLAN_ROW * i, at + POINT_ROW * i, server, size) {
+        if !row_ok(s, plan + PLAN_ROW * i, at + POINT_ROW * i, server, size) {
             return false;
         }
         i += 1;
@@ -273,12 +267,11 @@ pub fn points_ok(s: &[u8], plan: usize, at: usize, server: u8, size: u64) -> boo
     true
 }
 
-// The point from k is held, or given and not released: its completion records stay.
-pub fn keeps_records(s: &[u8], k: usize) -> bool
-    requires { ⌜ k + pointRow ≤ length (now s) ⌝ }
-    ensures { λ r. ⌜ r ≡ keepsRecords (pointOf (drop k (now (s .entry)))) ⌝ }
+// Held, or given and not released: its completion records stay.
+pub fn keeps_records(x: Point) -> bool
+    ensures { λ r. ⌜ r ≡ keepsRecords x ⌝ }
 {
-    (s[k] == constants::HELD) | (s[k] == constants::GIVEN)
+    (x.status == constants::HELD) | (x.status == constants::GIVEN)
 }
 
 // ---- the clients

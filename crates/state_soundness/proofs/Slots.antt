@@ -6,7 +6,7 @@
 -- Assumes nothing.
 use Prim.Native.Nat.{ℕ, zero, suc, _≤_, _<_}
 use mathlib.Core.Path.{_≡_, refl, sym, ap, _∙_}
-use mathlib.Core.Bool.{Bool, true, false, _&&_, not}
+use mathlib.Core.Bool.{Bool, true, false, _&&_, not, and-true, and-false}
 use mathlib.Core.List.{List, [], _∷_}
 use native.Mathlib.Omega.{arith}
 use lib.ListN.{length, getD, set, replicate, length-set, length-replicate}
@@ -15,26 +15,17 @@ use lib.Dec.{eqb, leb}
 use borrow.Author.Tests.{eqb-true, eqb-false, eq-eqb}
 use Rattle.model.specs.declared.Completion.{Completion}
 use Rattle.model.specs.Tables.{every}
-use Rattle.model.specs.Plan.{entryAt, inRange}
 use Rattle.model.specs.Images.{floorOf, inWindow}
-use Rattle.model.specs.States.{State, pointAt, keepsRecords, completionOk, isId, idsDiffer, endsFrom}
+use Rattle.model.specs.States.{State, completionOk, isId, idsDiffer, endsFrom}
 use Rattle.model.specs.Limits.{clientCount, recordCount}
 use Rattle.model_laws.specs.Bytes.{All}
-use Rattle.model_laws.proofs.Tests.{joined-all}
+use Rattle.model_laws.proofs.Tests.{and-right}
 use Rattle.model_laws.proofs.Tables.{every-all, all-every, all-map}
 use Rattle.model_invariants.specs.Sound.{Ascending, InWindow}
 use Rattle.model_invariants.proofs.Tests.{in-window}
 use Rattle.state_clients.proofs.Slots.{slot-below, slot-id}
-use Rattle.state_soundness.specs.Slots.{fieldsOk, slotIn, isFree, slotsPass, recordsPass}
+use Rattle.state_soundness.specs.Slots.{atPointOk, slotIn, isFree, slotsPass, recordsPass}
 use Rattle.state_soundness.proofs.Records.{ok-parts}
-
-and-true : (b : Bool) → (b && true) ≡ b
-and-true true = refl
-and-true false = refl
-
-and-false : (b : Bool) → (b && false) ≡ false
-and-false true = refl
-and-false false = refl
 
 getD-zeros : (n i : ℕ) → getD {A = ℕ} (replicate n 0) i 0 ≡ 0
 getD-zeros zero i = refl
@@ -44,10 +35,7 @@ getD-zeros (suc n) (suc i) = getD-zeros n i
 windowed : (st : State) (r : Completion) → completionOk st r ≡ true → InWindow (floorOf (r .command .client) (st .floors)) (r .command .call)
 windowed st r e =
     in-window (floorOf (r .command .client) (st .floors)) (r .command .call)
-    (joined-all
-    (fieldsOk (st .size) r ∷ inRange (entryAt (st .plan) (r .command .point)) (r .result .value) ∷ keepsRecords (pointAt st (r .command .point)) ∷ inWindow (floorOf (r .command .client) (st .floors))
-    (r .command .call) ∷ [])
-    (sym (ok-parts st r) ∙ e) .1 .1 .1 .0)
+    (and-right (atPointOk (st .size) st r) (inWindow (floorOf (r .command .client) (st .floors)) (r .command .call)) (sym (ok-parts st r) ∙ e))
 
 pub slot-few : (st : State) → length (st .floors) ≤ clientCount → (r : Completion) → completionOk st r ≡ true → slotIn st r < recordCount
 unfolding slotIn

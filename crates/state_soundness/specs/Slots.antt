@@ -1,27 +1,33 @@
 -- One pass over the completion records: each passes its test and finds its slot free. A record's slot stands for its id.
 -- Assumes nothing.
-use Prim.Native.Nat.{ℕ, suc, _+_, _*_, _%_, _≤_}
+use Prim.Native.Nat.{ℕ, suc, _+_, _%_, _≤_}
 use mathlib.Core.Path.{_≡_}
 use mathlib.Core.Bool.{Bool, true, _&&_}
 use mathlib.Core.List.{List, [], _∷_}
 use lib.ListN.{length, getD, set, drop}
-use lib.Dec.{eqb, leb, ltb}
+use lib.Dec.{eqb, leb}
 use Rattle.model.specs.declared.Floor.{Floor}
 use Rattle.model.specs.declared.Completion.{Completion}
 use Rattle.model.specs.Choice.{pick}
-use Rattle.model.specs.Limits.{headSize, clientCount, recordCount, floorRow}
-use Rattle.model.specs.Numbers.{le64At}
+use Rattle.model.specs.Limits.{headSize, clientCount, recordCount, floorRow, lastServer}
 use Rattle.model.specs.Tables.{rows, every}
+use Rattle.model.specs.Plan.{entryAt, inRange}
 use Rattle.model.specs.Packets.{idOk, commandOk, outcomeOk}
 use Rattle.model.specs.Images.{floorOfBytes, floorOk, clientsAscend}
-use Rattle.model.specs.States.{State, floorsStart, recordRow, stateEnd, clientsIn, recordsIn, pointsOk, completionOk, idsDiffer, endsFrom}
+use Rattle.model.specs.States.{State, load, pointAt, keepsRecords, stateHead, pointsStart, floorsStart, recordRow, stateEnd, clientsIn, recordsIn, completionOk, idsDiffer, endsFrom}
 use Rattle.state_clients.specs.Places.{slotOf}
+use Rattle.state_sound_rows.specs.Parts.{isEnd, rowsOk}
 
 -- the fields of a record that are tested without plan and clients
 unfoldable pub fieldsOk : ℕ → Completion → Bool
 fieldsOk size r =
     commandOk (r .command .op) (r .command .point) (r .command .argument)
-    && (outcomeOk (r .result .outcome) (r .result .quality) && (idOk (r .command .client) (r .command .call) && (ltb headSize (r .end) && leb (r .end) size)))
+    && (outcomeOk (r .result .outcome) (r .result .quality) && (idOk (r .command .client) (r .command .call) && isEnd size (r .end)))
+
+-- what is tested without the clients: the fields, and the record's point
+unfoldable pub atPointOk : ℕ → State → Completion → Bool
+atPointOk size st r =
+    fieldsOk size r && (inRange (entryAt (st .plan) (r .command .point)) (r .result .value) && keepsRecords (pointAt st (r .command .point)))
 
 -- 16 slots for each client, one for each call of its window
 unfoldable pub slotIn : State → Completion → ℕ
@@ -55,10 +61,17 @@ unfoldable pub hintsFrom : ℕ → List ℕ → List Floor → List ℕ
 hintsFrom i hints [] = hints
 hintsFrom i hints (f ∷ fs) = hintsFrom (suc i) (set hints (f .client % 256) i) fs
 
--- the tables of a state whose head's numbers are in range
-unfoldable pub tablesOk : State → Bool
-tablesOk st =
-    pointsOk (st .server) (st .size) (st .plan) (st .points)
+-- ---- the whole
+
+-- the head's numbers
+unfoldable pub headOk : State → Bool
+headOk st = leb (st .server) lastServer && (leb headSize (st .mark) && leb (st .mark) (st .size))
+
+-- the tables of the buffer s, the zero bytes in the rows of plan and points among them
+unfoldable pub tablesOk : List ℕ → Bool
+tablesOk s =
+    let st = load s in
+    rowsOk (st .server) (st .size) (drop stateHead s) (drop pointsStart s)
     && (every floorOk (st .floors)
     && (clientsAscend (st .floors) && recordsOk st))
 
@@ -71,7 +84,7 @@ RecordPlaced s n size k =
     × (k + recordRow ≤ length s)
     × (n ≤ clientCount)
     × (n ≡ clientsIn s)
-    × (size ≡ le64At s 24)
+    × (size ≡ load s .size)
     × (clientsAscend (rows floorOfBytes floorRow n (drop floorsStart s)) ≡ true)
 
 -- m records
@@ -82,5 +95,5 @@ RecordsPlaced s n m size =
     × (m ≤ recordCount)
     × (n ≡ clientsIn s)
     × (m ≡ recordsIn s)
-    × (size ≡ le64At s 24)
+    × (size ≡ load s .size)
     × (clientsAscend (rows floorOfBytes floorRow n (drop floorsStart s)) ≡ true)

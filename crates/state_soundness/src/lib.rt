@@ -4,15 +4,14 @@ use model::Completion;
 use model::constants;
 use model::constants::FLOOR_ROW;
 use model::constants::FLOORS_START;
-use model::constants::PLAN_ROW;
 use model::constants::PLAN_START;
-use model::constants::POINT_ROW;
 use model::constants::POINTS_START;
 use model::constants::RECORD_COUNT;
 use model::constants::RECORD_ROW;
 use model::constants::RECORDS_START;
 use model::constants::STATE_END;
 use state_clients::floors;
+use state_rows::state;
 ghost use mathlib.Core.Path.{_≡_};
 ghost use mathlib.Core.Bool.{true};
 ghost use Prim.Native.Nat.{_+_, _*_, _≤_};
@@ -20,9 +19,9 @@ ghost use lib.ListN.{length, drop, replicate};
 ghost use Rattle.model.specs.Limits.{floorRow, clientCount, recordCount};
 ghost use Rattle.model.specs.Tables.{rows};
 ghost use Rattle.model.specs.Images.{floorOfBytes, clientsAscend};
-ghost use Rattle.model.specs.States.{clientsIn, recordsIn, floorsStart, completionOf, load, stateOk, sound, recordRow, stateEnd};
+ghost use Rattle.model.specs.States.{clientsIn, recordsIn, floorsStart, completionOf, load, sound, recordRow, stateEnd};
 ghost use Rattle.state_clients.specs.Places.{placeOf};
-ghost use Rattle.state_soundness.specs.Slots.{fieldsOk, testedSlot, recordsOk, hintsFrom, tablesOk, RecordPlaced, RecordsPlaced};
+ghost use Rattle.state_soundness.specs.Slots.{fieldsOk, atPointOk, testedSlot, recordsOk, hintsFrom, headOk, tablesOk, RecordPlaced, RecordsPlaced};
 
 // ---- one completion record
 
@@ -33,7 +32,8 @@ fn fields_ok(size: u64, r: Completion) -> bool
     let command = format_numbers::command_ok(r.command.op, r.command.point, r.command.argument);
     let outcome = format_numbers::outcome_ok(r.result.outcome, r.result.quality);
     let id = format_numbers::id_ok(r.command.client, r.command.call);
-    command & (outcome & (id & ((constants::HEAD_SIZE_U64 < r.end) & (r.end <= size))))
+    let end = state_sound_rows::is_end(size, r.end);
+    command & (outcome & (id & end))
 }
 
 // The place of the client x among n ascending clients. A hint that is right saves the search.
@@ -50,20 +50,29 @@ fn place_by(s: &[u8], n: usize, x: u32, hint: usize) -> usize
     floors::client_place(s, FLOORS_START, n, x)
 }
 
+// The fields, the value in its point's range, the point held or given.
+fn at_point_ok(s: &[u8], size: u64, r: Completion) -> bool
+    requires { ⌜ stateEnd ≤ length (now s) ⌝ }
+    ensures { λ x. ⌜ x ≡ atPointOk size (load (now (s .entry))) r ⌝ }
+{
+    if !fields_ok(size, r) {
+        return false;
+    }
+    let e = state::entry_at(s, r.command.point);
+    if !format_numbers::in_range(e, r.result.value) {
+        return false;
+    }
+    let x = state::point_at(s, r.command.point);
+    state_sound_rows::keeps_records(x)
+}
+
 // The slot of the record from k, 512 where it does not pass its test.
 fn record_slot(s: &[u8], n: usize, size: u64, hint: usize, k: usize) -> usize
     requires { ⌜ RecordPlaced (now s) n size k ⌝ }
     ensures { λ r. ⌜ r ≡ testedSlot (load (now (s .entry))) (completionOf (drop k (now (s .entry)))) ⌝ }
 {
     let r = state_rows::completion_from(s, k);
-    if !fields_ok(size, r) {
-        return RECORD_COUNT;
-    }
-    let e = format_commands::plan_entry(s, PLAN_START + PLAN_ROW * (r.command.point as usize));
-    if !format_numbers::in_range(e, r.result.value) {
-        return RECORD_COUNT;
-    }
-    if !state_sound_rows::keeps_records(s, POINTS_START + POINT_ROW * (r.command.point as usize)) {
+    if !at_point_ok(s, size, r) {
         return RECORD_COUNT;
     }
     let i = place_by(s, n, r.command.client, hint);
@@ -133,15 +142,27 @@ fn records_ok(s: &[u8], n: usize, m: usize, size: u64) -> bool
 
 // ---- the whole
 
+// The head's numbers: server, sync mark, the log's length.
+fn head_ok(s: &[u8]) -> bool
+    requires { ⌜ stateEnd ≤ length (now s) ⌝ }
+    ensures { λ r. ⌜ r ≡ headOk (load (now (s .entry))) ⌝ }
+{
+    let server = state::server_of(s);
+    let mark = state::mark_of(s);
+    let size = state::size_of(s);
+    (server <= constants::LAST_SERVER) & ((constants::HEAD_SIZE_U64 <= mark) & (mark <= size))
+}
+
 // The tables of a state whose counts are in their limits.
 fn tables_ok(s: &[u8]) -> bool
     requires { ⌜ (stateEnd ≤ length (now s)) × (clientsIn (now s) ≤ clientCount) × (recordsIn (now s) ≤ recordCount) ⌝ }
-    ensures { λ r. ⌜ r ≡ tablesOk (load (now (s .entry))) ⌝ }
+    ensures { λ r. ⌜ r ≡ tablesOk (now (s .entry)) ⌝ }
 {
-    let size = state_rows::size_in(s);
+    let server = state::server_of(s);
+    let size = state::size_of(s);
     let n = state_rows::clients_in(s) as usize;
     let m = state_rows::records_in(s) as usize;
-    if !state_sound_rows::points_ok(s, PLAN_START, POINTS_START, state_rows::server_in(s), size) {
+    if !state_sound_rows::points_ok(s, PLAN_START, POINTS_START, server, size) {
         return false;
     }
     if !state_sound_rows::floors_ok(s, FLOORS_START, n) {
@@ -151,24 +172,6 @@ fn tables_ok(s: &[u8]) -> bool
         return false;
     }
     records_ok(s, n, m, size)
-}
-
-// The head's numbers and the tables.
-fn body_ok(s: &[u8]) -> bool
-    requires { ⌜ (stateEnd ≤ length (now s)) × (clientsIn (now s) ≤ clientCount) × (recordsIn (now s) ≤ recordCount) ⌝ }
-    ensures { λ r. ⌜ r ≡ stateOk (load (now (s .entry))) ⌝ }
-{
-    let mark = state_rows::mark_in(s);
-    if constants::LAST_SERVER < state_rows::server_in(s) {
-        return false;
-    }
-    if mark < constants::HEAD_SIZE_U64 {
-        return false;
-    }
-    if state_rows::size_in(s) < mark {
-        return false;
-    }
-    tables_ok(s)
 }
 
 // The buffer is sound.
@@ -181,11 +184,8 @@ pub fn state_ok(s: &[u8]) -> bool
     if !state_sound_rows::framed(s) {
         return false;
     }
-    if !state_sound_rows::plan_rows_ok(s, PLAN_START) {
+    if !head_ok(s) {
         return false;
     }
-    if !state_sound_rows::point_rows_ok(s, POINTS_START) {
-        return false;
-    }
-    body_ok(s)
+    tables_ok(s)
 }

@@ -3,53 +3,39 @@
 // not read; else the program says so on standard error and answers nothing.
 use model::Answer;
 ghost use mathlib.Core.Path.{_≡_};
-ghost use Prim.Native.Nat.{_≤_};
+ghost use Prim.Native.Nat.{_+_, _*_};
 ghost use lib.ListN.{length};
+ghost use Rattle.model.specs.Yard.{mostLines};
+ghost use Rattle.simulator_text.specs.Letters.{replyRoom};
+ghost use Rattle.yard.specs.Input.{longest, holdsAll};
 
-const MOST: usize = 65536;
+// Bytes of an input that is read whole.
+const LONGEST: usize = 65536;
 
-// One byte more than the longest input that is read whole.
-fn buffer() -> [u8; MOST + 1]
-    ensures { λ r. ⌜ length r ≡ 65537 ⌝ }
+// One byte more, by which a longer input shows.
+fn buffer() -> [u8; LONGEST + 1]
+    ensures { λ r. ⌜ length r ≡ longest + 1 ⌝ }
 {
-    [0; MOST + 1]
+    [0; LONGEST + 1]
 }
 
 fn page() -> [u8; simulator::PAGE]
-    ensures { λ r. ⌜ length r ≡ 2700 ⌝ }
+    ensures { λ r. ⌜ length r ≡ replyRoom * mostLines ⌝ }
 {
     [0; simulator::PAGE]
 }
 
-// 1 for a line feed, 0 for another byte.
-fn line_feed(b: u8) -> usize
-    ensures { λ r. ⌜ r ≤ 1 ⌝ }
+// Whether what was read holds all that is answered. Of a longer input the first bytes do where they have the line feeds of all lines that
+// are read: law `rest-unread` of simulator.
+fn holds_all(s: &[u8]) -> bool
+    ensures { λ r. ⌜ r ≡ holdsAll (now (s .entry)) ⌝ }
 {
-    if b == 10 { 1 } else { 0 }
-}
-
-// The line feeds of a text.
-fn line_feeds(s: &[u8]) -> usize {
-    let mut n: usize = 0;
-    let mut i = 0;
-    while i < s.len() {
-        n += line_feed(s[i]);
-        i += 1;
-    }
-    n
-}
-
-// Whether the text holds all that is read.
-fn is_whole(s: &[u8]) -> bool {
-    if s.len() <= MOST {
-        return true;
-    }
-    60 <= line_feeds(s)
+    (s.len() <= LONGEST) | simulator::is_closed(s)
 }
 
 // Writes the answers of a text.
 fn answer(text: &[u8]) {
-    if !is_whole(text) {
+    if !holds_all(text) {
         io::write_all(2, b"yard: the first 60 lines have more than 65536 bytes\n");
         return;
     }

@@ -2,8 +2,10 @@
 
 use second::simulator::{run, Simulator};
 
-/// Bytes that suffice for the answers of every schedule.
+/// Bytes that suffice for the answers of every schedule: the proved bound.
 pub const ANSWERS_LEN: usize = 2_700;
+/// Bytes of the longest answers of all: those of tests/schedules/longest.in (docs/SIMULATOR.md).
+pub const LONGEST_ANSWERS: usize = 595;
 const TOO_SHORT: u32 = 2;
 const FILL: u8 = 0xA5;
 

@@ -65,8 +65,9 @@ fn differing(have: &[u8], want: &[u8]) -> String {
     )
 }
 
-/// Both simulators on a schedule; a difference is shown and ends the program.
-fn compare(text: &[u8]) {
+/// Both simulators on a schedule, and the length of its answers; a difference is shown and ends the program, and so are answers longer than
+/// the longest.
+fn compare(text: &[u8]) -> usize {
     let want = both::second(text);
     let result = both::proved(text).and_then(|have| match have == want {
         true => both::exact(text, &want),
@@ -78,10 +79,19 @@ fn compare(text: &[u8]) {
             "DIFFERENT on the schedule\n{shown}\nthe proved simulator: {why}"
         ));
     }
+    if want.len() > both::LONGEST_ANSWERS {
+        let shown = text.escape_ascii().to_string().replace("\\n", "\n");
+        fail(&format!(
+            "answers of {} bytes, longer than the longest, on the schedule\n{shown}",
+            want.len()
+        ));
+    }
+    want.len()
 }
 
-fn stored(folder: &Path) -> u64 {
-    let mut count = 0;
+/// How many there are, and the length of the longest answers.
+fn stored(folder: &Path) -> (u64, usize) {
+    let (mut count, mut longest) = (0, 0);
     for entry in
         fs::read_dir(folder).unwrap_or_else(|e| fail(&format!("{}: {e}", folder.display())))
     {
@@ -91,14 +101,14 @@ fn stored(folder: &Path) -> u64 {
                 fs::read(&path).unwrap_or_else(|e| fail(&format!("{}: {e}", path.display())));
             let due = fs::read(path.with_extension("out"))
                 .unwrap_or_else(|e| fail(&format!("{}: {e}", path.display())));
-            compare(&text);
+            longest = longest.max(compare(&text));
             if both::second(&text) != due {
                 fail(&format!("{} is not answered as stored", path.display()));
             }
             count += 1;
         }
     }
-    count
+    (count, longest)
 }
 
 /// Every word over the alphabet, shortest first.
@@ -122,8 +132,17 @@ fn words() -> u64 {
 fn compare_all() {
     let began = Instant::now();
     let seconds = |since: Instant| since.elapsed().as_secs_f64();
-    let count = stored(Path::new(concat!(env!("CARGO_MANIFEST_DIR"), "/../yard")));
+    let package = Path::new(env!("CARGO_MANIFEST_DIR"));
+    let (count, _) = stored(&package.join("../yard"));
     println!("schedules of tests/yard: {count}, answered as stored");
+    let (_, longest) = stored(package);
+    if longest != both::LONGEST_ANSWERS {
+        fail(&format!(
+            "longest.in is answered with {longest} bytes, not {}",
+            both::LONGEST_ANSWERS
+        ));
+    }
+    println!("the longest answers: {longest} bytes, in an output of just that length and not in one byte less");
     let since = Instant::now();
     let count = words();
     println!(

@@ -1,14 +1,12 @@
--- `client::is_own` meets its contract.
--- Assumes nothing.
-use mathlib.Core.Path.{refl}
-use Rattle.model.specs.Clients.{isOwn}
-use borrow.Author.Needs.{needs}
+use Rattle.client.proofs.Answers.{is-own}
 use Rattle.client.proofs.is_own.Statement.{statement}
 use Rattle.client.proofs.is_own.Tie as tie
+use Rattle.client.proofs.is_own.Reads as reads
+use Rattle.client.proofs.is_own.Lts as lts
 
+-- src/lib.rt:265:1
 returns : tie.Need-returns
-unfolding isOwn
-returns c = rw (c .before .before .call-at .ensures, c .before .before .before .is-open .ensures) refl
+returns c = search is-own
 
 pub is-own-spec : {M : Type 1} → statement M
-is-own-spec = tie.close (tie.spec (λ c κs. search needs) (λ c κs. search needs) returns)
+is-own-spec = tie.close (tie.spec returns)

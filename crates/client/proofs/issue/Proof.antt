@@ -1,38 +1,36 @@
--- `client::issue` meets its contract.
--- Assumes nothing.
-use borrow.Author.Tests.{not-true, not-false}
-use Rattle.client.proofs.Answers.{issue-bad, issue-full, issue-out, issue-done}
+use Rattle.client.specs.Changes.{issued}
 use borrow.Author.Needs.{needs}
 use Rattle.client.proofs.issue.Statement.{statement}
 use Rattle.client.proofs.issue.Tie as tie
+use Rattle.client.proofs.issue.Reads as reads
+use Rattle.client.proofs.issue.Lts as lts
+use Rattle.client.proofs.call_at.Reads as call-at-reads
+use Rattle.client.proofs.issue_change.Reads as issue-change-reads
+use Rattle.client.proofs.placed.Reads as placed-reads
+use Rattle.client.proofs.with_calls.Reads as with-calls-reads
 
+-- src/lib.rt:355:9
+call-at-requires : tie.Need-call-at-requires
+call-at-requires c κs = search needs
+
+-- src/lib.rt:356:9
+issue-change-requires : tie.Need-issue-change-requires
+issue-change-requires c κs = search needs
+
+-- src/lib.rt:359:9
+placed-requires : tie.Need-placed-requires
+placed-requires c κs = search needs
+
+-- src/lib.rt:360:9
+with-calls-requires : tie.Need-with-calls-requires
+with-calls-requires c κs = search needs
+
+-- src/lib.rt:352:1
 returns : tie.Need-returns
-returns c = search (issue-bad, not-true) depth 8
-
-returns-2 : tie.Need-returns-2
-returns-2 c = search (issue-full, not-false) depth 12
-
-returns-3 : tie.Need-returns-3
-returns-3 c = search (issue-out, not-false) depth 12
-
-returns-4 : tie.Need-returns-4
-returns-4 c = search (issue-done, not-false) depth 16
+unfolding issued
+returns c = rw (c .with-calls .ensures, c .before .placed .ensures) (c .before .before .before .before .issue-change .ensures)
 
 pub issue-spec : {M : Type 1} → statement M
 issue-spec =
     tie.close
-    (tie.spec
-    (λ c κs. search needs)
-    (λ c κs. search needs)
-    returns
-    (λ c κs. search needs)
-    (λ c. search needs)
-    (λ c. search needs)
-    (λ c. search needs)
-    (λ c κs. search needs)
-    returns-2
-    (λ c κs. search needs)
-    returns-3
-    (λ c κs. search needs)
-    (λ c κs. search needs)
-    returns-4)
+    (tie.spec call-at-requires issue-change-requires placed-requires with-calls-requires returns)

@@ -25,7 +25,7 @@ loop-again c =
     let l = c .before .before .before .loop in (omega arith, omega arith, l .inv .2 ∙ least-step (l .least) (c .before .before .before .before .args .t2) (l .i) (omega arith) (c .lesser .ensures))
 
 returns : tie.Need-returns Inv-loop μ-loop
-returns c = let l = c .before .loop in sym (l .inv .2 ∙ least-end (l .least) (c .before .before .args .t2) (l .i) (omega arith))
+returns c = let l = c .before .loop in (sym (l .inv .2 ∙ least-end (l .least) (c .before .before .args .t2) (l .i) (omega arith)), l .inv .1)
 
 pub least-open-spec : {M : Type 1} → statement M
 least-open-spec =

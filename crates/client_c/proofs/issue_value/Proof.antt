@@ -1,27 +1,28 @@
 -- `client_c::issue_value` meets its contract.
 -- Assumes nothing.
-use Rattle.client_c.specs.Replies.{sending}
-use mathlib.Core.Path.{refl, ap, _∙_}
 use native.Mathlib.Omega.{arith}
 use Rattle.model.specs.Numbers.{flip}
-use Rattle.client_c.proofs.Cases.{past-byte, both-under}
+use Rattle.client_c.proofs.Cases.{both-under, sends-past, sends-change}
 use borrow.Author.Needs.{needs}
 use Rattle.client_c.proofs.issue_value.Statement.{statement}
 use Rattle.client_c.proofs.issue_value.Tie as tie
 
 returns : tie.Need-returns
 returns c =
-    c .with-send-reply .ensures
-    ∙ ap sending (past-byte (c .before .before .args .d) (c .before .before .args .op) (c .before .before .args .point) (flip (c .before .before .args .argument)) (c .before .if1 .taken))
+    let start = c .before .before in
+    let given = start .args in
+    sends-past (given .d) (given .op) (given .point) (flip (given .argument)) (start .pre) (c .before .if1 .taken) (c .send-reply .ensures)
 
-cast-issue : tie.Need-cast-issue
-cast-issue c = let f = both-under (c .before .args .op) (c .before .args .point) (c .if1 .left) in omega arith
+cast-issue-change : tie.Need-cast-issue-change
+cast-issue-change c = let f = both-under (c .before .args .op) (c .before .args .point) (c .if1 .left) in omega arith
 
-cast-issue-2 : tie.Need-cast-issue-2
-cast-issue-2 c = let f = both-under (c .before .args .op) (c .before .args .point) (c .if1 .left) in omega arith
+cast-issue-change-2 : tie.Need-cast-issue-change-2
+cast-issue-change-2 c = let f = both-under (c .before .args .op) (c .before .args .point) (c .if1 .left) in omega arith
 
 returns-2 : tie.Need-returns-2
-returns-2 c = rw (c .with-send-reply2 .ensures, c .before .issue .ensures, c .before .before .flipped .ensures) refl
+returns-2 c =
+    let change = c .before .before in
+    rw (← change .before .flipped .ensures) (sends-change _ (change .issue-change .result) (change .issue-change .ensures) (c .send-reply2 .ensures))
 
 pub issue-value-spec : {M : Type 1} → statement M
 issue-value-spec =
@@ -29,8 +30,8 @@ issue-value-spec =
     (tie.spec
     (λ c κs. search needs)
     returns
-    cast-issue
-    cast-issue-2
+    cast-issue-change
+    cast-issue-change-2
     (λ c κs. search needs)
     (λ c κs. search needs)
     (λ c κs. search needs)

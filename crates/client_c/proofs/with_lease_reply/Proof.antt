@@ -1,7 +1,6 @@
 -- `client_c::with_lease_reply` meets its contract.
 -- Assumes nothing.
 use mathlib.Core.Path.{refl}
-use Rattle.client_c.specs.Replies.{sending}
 use borrow.Author.Needs.{needs}
 use Rattle.client_c.proofs.with_lease_reply.Statement.{statement}
 use Rattle.client_c.proofs.with_lease_reply.Tie as tie
@@ -10,7 +9,6 @@ lease-reply-requires : tie.Need-lease-reply-requires
 lease-reply-requires c κs = search needs
 
 returns : tie.Need-returns
-unfolding sending
 returns c = rw (c .lease-reply .ensures) refl
 
 pub with-lease-reply-spec : {M : Type 1} → statement M

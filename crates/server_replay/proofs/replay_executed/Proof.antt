@@ -3,8 +3,7 @@
 use mathlib.Core.Path.{sym, _∙_}
 use native.Mathlib.Omega.{arith}
 use Rattle.server_replay.proofs.Rooms.{executed-place, executed-room}
-use borrow.Author.Tests.{not-true, not-false}
-use Rattle.model.specs.Logs.{executed}
+use borrow.Author.Tests.{not-false}
 use Rattle.model.specs.Apply.{applyRecord}
 use Rattle.server_replay.proofs.Replayed.{replayed-no, replayed-yes}
 use borrow.Author.Needs.{needs}
@@ -15,11 +14,7 @@ executed-follows-requires : tie.Need-executed-follows-requires
 executed-follows-requires c κs = (c .before .before .pre .standing .canonical, executed-place (c .before .before .args .x) (c .before .before .pre .good))
 
 returns : tie.Need-returns
-returns c =
-    let at-executed-follows = c .before in
-    let start = at-executed-follows .before .before .before in
-    let start = start .args in
-    replayed-no (start .s .now) (executed (start .x)) (at-executed-follows .executed-follows .ensures) (start .end) (not-true _ (c .if1 .taken))
+returns c = replayed-no _ _ _ (c .before .executed-follows .ensures) (c .if1 .taken)
 
 apply-executed-requires : tie.Need-apply-executed-requires
 apply-executed-requires c κs =
@@ -32,12 +27,9 @@ apply-executed-requires c κs =
 returns-2 : tie.Need-returns-2
 unfolding applyRecord
 returns-2 c =
-    let at-apply-executed = c .before .before in
-    let at-if1 = at-apply-executed .before .before in
-    let at-executed-follows = at-if1 .before in
-    let start = at-executed-follows .before .before .before in
-    let start = start .args in
-    replayed-yes (start .s .now) (executed (start .x)) (at-executed-follows .executed-follows .ensures) (start .end) (not-false _ (at-if1 .if1 .left)) (at-apply-executed .apply-executed .ensures)
+    let put = c .before .before in
+    let branch = put .before .before in
+    replayed-yes _ _ _ (branch .before .executed-follows .ensures) (branch .if1 .left) (put .apply-executed .ensures)
 
 pub replay-executed-spec : {M : Type 1} → statement M
 replay-executed-spec =

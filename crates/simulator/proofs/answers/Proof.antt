@@ -6,8 +6,20 @@ use Rattle.simulator.proofs.answers.Statement.{statement}
 use Rattle.simulator.proofs.answers.Tie as tie
 
 run-new-requires : tie.Need-run-new-requires
-run-new-requires c κs = record
-    { pages = c .before .before .before .before .before .before .before .before .before .before .before .before .before .pre; first = c .before .before .before .before .before .before .before .before .before .before .blank-state .ensures; log0 = c .before .before .before .before .before .before .before .before .before .blank-log .ensures; second = c .before .before .before .before .before .before .before .before .blank-state2 .ensures; log1 = c .before .before .before .before .before .before .before .blank-log2 .ensures; rows = omega (arith, c .before .before .before .before .before .before .blank-store .ensures) }
+run-new-requires c κs =
+    let store = c .before .before .before .before .before .before in
+    let log1 = store .before in
+    let s1 = log1 .before in
+    let log0 = s1 .before in
+    let s0 = log0 .before in
+    record {
+      pages = s0 .before .before .before .pre;
+      first = s0 .blank-state .ensures;
+      log0 = log0 .blank-log .ensures;
+      second = s1 .blank-state2 .ensures;
+      log1 = log1 .blank-log2 .ensures;
+      rows = omega (arith, store .blank-store .ensures);
+    }
 
 returns : tie.Need-returns
 returns c = c .before .before .before .before .before .before .before .run-new .ensures

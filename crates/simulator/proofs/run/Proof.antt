@@ -3,8 +3,9 @@
 use Rattle.simulator.proofs.Runs.{Running, running-start, running-next, running-end, ready, test-left, test-right}
 use native.Mathlib.Omega.{arith}
 use mathlib.Core.Path.{_≡_, refl, _∙_}
-use Prim.Native.Nat.{_-_}
+use Prim.Native.Nat.{suc, _-_}
 use lib.ListN.{length}
+use Rattle.model.specs.Yard.{mostLines}
 use Rattle.simulator_state.specs.Whole.{yardIn}
 use Rattle.simulator.proofs.run.Statement.{statement}
 use Rattle.simulator.proofs.run.Tie as tie
@@ -15,27 +16,60 @@ Inv-loop text page₀ s0₀ log0₀ s1₀ log1₀ store₀ m at₀ n₀ k₀ pag
     (length log1 ≡ length log1₀) × (length store ≡ length store₀)
 
 abbrev μ-loop : tie.MeasureT-loop
-μ-loop text page₀ s0₀ log0₀ s1₀ log1₀ store₀ m at₀ n₀ k₀ page s0 log0 s1 log1 store w at n k = 61 - k
+μ-loop text page₀ s0₀ log0₀ s1₀ log1₀ store₀ m at₀ n₀ k₀ page s0 log0 s1 log1 store w at n k = suc mostLines - k
 
 loop-holds : tie.Need-loop-holds Inv-loop μ-loop
 loop-holds c =
-    (running-start _ _ _ _ (c .before .before .before .before .before .before .before .pre .pages) (c .before .before .before .before .before .before .before .pre .none), refl, refl, refl, refl, refl, refl)
+    let a = c .before .before .before .before .before .before .before in
+    (running-start _ _ _ _ (a .pre .pages) (a .pre .none), refl, refl, refl, refl, refl, refl)
 
 run-line-requires : tie.Need-run-line-requires Inv-loop μ-loop
 run-line-requires c κs =
-    (ready _ _ _ (c .before .before .before .before .before .before .before .before .before .before .before .before .before .before .before .args .s0 .now) (c .before .before .before .before .before .before .before .before .before .before .before .before .before .before .before .args .s1 .now) (c .before .before .before .before .before .before .before .before .before .before .before .before .before .before .before .args .store .now) _ (c .before .before .before .before .before .before .before .loop .k) (c .before .before .before .before .before .before .before .before .before .before .before .before .before .before .before .pre .first) (c .before .before .before .before .before .before .before .before .before .before .before .before .before .before .before .pre .second) (c .before .before .before .before .before .before .before .before .before .before .before .before .before .before .before .pre .rows) (c .before .before .before .before .before .before .before .loop .inv .2) (c .before .before .before .before .before .before .before .loop .inv .4) (c .before .before .before .before .before .before .before .loop .inv .6) (c .before .before .before .before .before .before .before .loop .inv .0 .packets) (test-left (c .before .before .before .before .before .before .before .loop .k) (c .before .before .before .before .before .before .before .loop .at) (length (c .before .before .before .before .before .before .before .before .before .before .before .before .before .before .before .args .text .now)) (c .before .before .before .before .before .before .loop-test .taken)), test-right (c .before .before .before .before .before .before .before .loop .k) (c .before .before .before .before .before .before .before .loop .at) (length (c .before .before .before .before .before .before .before .before .before .before .before .before .before .before .before .args .text .now)) (c .before .before .before .before .before .before .loop-test .taken), omega (arith, c .before .before .before .before .before .before .before .loop .inv .0 .wrote, c .before .before .before .before .before .before .before .loop .inv .0 .long, c .before .before .before .before .before .before .before .loop .inv .0 .least, test-left (c .before .before .before .before .before .before .before .loop .k) (c .before .before .before .before .before .before .before .loop .at) (length (c .before .before .before .before .before .before .before .before .before .before .before .before .before .before .before .args .text .now)) (c .before .before .before .before .before .before .loop-test .taken)))
+    let t = c .before .before .before .before .before .before in
+    let l = t .before .loop in
+    let a = t .before .before .before .before .before .before .before .before .before in
+    let u = l .inv .0 in
+    let k = test-left (l .k) (l .at) (length (a .args .text .now)) (t .loop-test .taken) in
+    let p = a .pre in
+    let s = a .args in (
+      ready _ _ _ (s .s0 .now) (s .s1 .now) (s .store .now) _ (l .k) (p .first) (p .second) (p .rows) (l .inv .2) (l .inv .4) (l .inv .6) (u .packets) k,
+      test-right (l .k) (l .at) (length (s .text .now)) (t .loop-test .taken),
+      omega (arith, u .wrote, u .long, u .least, k),
+    )
 
 add-k : tie.Need-add-k Inv-loop μ-loop
-add-k c = omega
-    (arith, c .before .before .before .before .before .before .before .before .before .before .before .before .before .before .before .before .before .before .before .before .before .loop .inv .0 .most)
+add-k c =
+    let t = c .before .before .before .before .before .before .before .before .before .before .before .before .before .before .before .before .before .before .before .before in
+    omega (arith, t .before .loop .inv .0 .most)
 
 loop-less : tie.Need-loop-less Inv-loop μ-loop
-loop-less c = omega
-    (arith, c .before .before .before .before .before .before .before .before .before .before .before .before .before .before .before .before .before .before .before .before .before .loop .inv .0 .most, test-left (c .before .before .before .before .before .before .before .before .before .before .before .before .before .before .before .before .before .before .before .before .before .loop .k) (c .before .before .before .before .before .before .before .before .before .before .before .before .before .before .before .before .before .before .before .before .before .loop .at) (length (c .before .before .before .before .before .before .before .before .before .before .before .before .before .before .before .before .before .before .before .before .before .before .before .before .before .before .before .before .before .args .text .now)) (c .before .before .before .before .before .before .before .before .before .before .before .before .before .before .before .before .before .before .before .before .loop-test .taken))
+loop-less c =
+    let t = c .before .before .before .before .before .before .before .before .before .before .before .before .before .before .before .before .before .before .before .before in
+    let l = t .before .loop in
+    let a = t .before .before .before .before .before .before .before .before .before .args in
+    omega (arith, l .inv .0 .most, test-left (l .k) (l .at) (length (a .text .now)) (t .loop-test .taken))
 
 loop-again : tie.Need-loop-again Inv-loop μ-loop
 loop-again c =
-    (running-next _ _ _ _ _ _ _ _ (c .before .before .before .before .before .before .before .before .before .before .before .before .before .before .before .before .before .before .before .before .before .loop .inv .0) (test-left (c .before .before .before .before .before .before .before .before .before .before .before .before .before .before .before .before .before .before .before .before .before .loop .k) (c .before .before .before .before .before .before .before .before .before .before .before .before .before .before .before .before .before .before .before .before .before .loop .at) (length (c .before .before .before .before .before .before .before .before .before .before .before .before .before .before .before .before .before .before .before .before .before .before .before .before .before .before .before .before .before .args .text .now)) (c .before .before .before .before .before .before .before .before .before .before .before .before .before .before .before .before .before .before .before .before .loop-test .taken)) (test-right (c .before .before .before .before .before .before .before .before .before .before .before .before .before .before .before .before .before .before .before .before .before .loop .k) (c .before .before .before .before .before .before .before .before .before .before .before .before .before .before .before .before .before .before .before .before .before .loop .at) (length (c .before .before .before .before .before .before .before .before .before .before .before .before .before .before .before .before .before .before .before .before .before .before .before .before .before .before .before .before .before .args .text .now)) (c .before .before .before .before .before .before .before .before .before .before .before .before .before .before .before .before .before .before .before .before .loop-test .taken)) (c .before .before .before .before .before .before .before .before .before .before .before .before .before .run-line .ensures), c .before .before .before .before .before .before .before .before .before .before .before .before .before .run-line .kept .1 .0 ∙ c .before .before .before .before .before .before .before .before .before .before .before .before .before .before .before .before .before .before .before .before .before .loop .inv .1, c .before .before .before .before .before .before .before .before .before .before .before .before .before .run-line .kept .1 .1 .0 ∙ c .before .before .before .before .before .before .before .before .before .before .before .before .before .before .before .before .before .before .before .before .before .loop .inv .2, c .before .before .before .before .before .before .before .before .before .before .before .before .before .run-line .kept .1 .1 .1 .0 ∙ c .before .before .before .before .before .before .before .before .before .before .before .before .before .before .before .before .before .before .before .before .before .loop .inv .3, c .before .before .before .before .before .before .before .before .before .before .before .before .before .run-line .kept .1 .1 .1 .1 .0 ∙ c .before .before .before .before .before .before .before .before .before .before .before .before .before .before .before .before .before .before .before .before .before .loop .inv .4, c .before .before .before .before .before .before .before .before .before .before .before .before .before .run-line .kept .1 .1 .1 .1 .1 .0 ∙ c .before .before .before .before .before .before .before .before .before .before .before .before .before .before .before .before .before .before .before .before .before .loop .inv .5, c .before .before .before .before .before .before .before .before .before .before .before .before .before .run-line .kept .1 .1 .1 .1 .1 .1 .0 ∙ c .before .before .before .before .before .before .before .before .before .before .before .before .before .before .before .before .before .before .before .before .before .loop .inv .6)
+    let r = c .before .before .before .before .before .before .before .before .before .before .before .before .before .run-line in
+    let t = c .before .before .before .before .before .before .before .before .before .before .before .before .before .before .before .before .before .before .before .before in
+    let l = t .before .loop in
+    let n = length (t .before .before .before .before .before .before .before .before .before .args .text .now) in
+    let e = t .loop-test .taken in
+    let page = r .kept .1 in
+    let s0 = page .1 in
+    let log0 = s0 .1 in
+    let s1 = log0 .1 in
+    let log1 = s1 .1 in
+    let store = log1 .1 in (
+      running-next _ _ _ _ _ _ _ _ (l .inv .0) (test-left (l .k) (l .at) n e) (test-right (l .k) (l .at) n e) (r .ensures),
+      page .0 ∙ l .inv .1,
+      s0 .0 ∙ l .inv .2,
+      log0 .0 ∙ l .inv .3,
+      s1 .0 ∙ l .inv .4,
+      log1 .0 ∙ l .inv .5,
+      store .0 ∙ l .inv .6,
+    )
 
 same-length : tie.Need-same-length Inv-loop μ-loop
 same-length c = c .before .loop .inv .1

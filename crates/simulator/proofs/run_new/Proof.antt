@@ -7,16 +7,28 @@ use Rattle.simulator.proofs.run_new.Tie as tie
 
 new-yard-requires : tie.Need-new-yard-requires
 new-yard-requires c κs =
-    (c .before .before .before .before .before .before .before .before .before .before .before .pre .first, c .before .before .before .before .before .before .before .before .before .before .before .pre .log0, c .before .before .before .before .before .before .before .before .before .before .before .pre .second, c .before .before .before .before .before .before .before .before .before .before .before .pre .log1)
+    let p = c .before .before .before .before .before .before .before .before .before .before .before .pre in
+    (p .first, p .log0, p .second, p .log1)
 
 run-requires : tie.Need-run-requires
-run-requires c κs = record
-    { pages = c .before .before .before .before .before .before .before .before .before .before .before .before .before .before .before .before .before .before .before .before .before .before .before .before .before .before .pre .pages; first = omega (arith, c .before .before .before .before .before .before .before .before .before .before .before .before .before .before .new-yard .kept .0, c .before .before .before .before .before .before .before .before .before .before .before .before .before .before .before .before .before .before .before .before .before .before .before .before .before .before .pre .first); second = omega (arith, c .before .before .before .before .before .before .before .before .before .before .before .before .before .before .new-yard .kept .1 .1 .0, c .before .before .before .before .before .before .before .before .before .before .before .before .before .before .before .before .before .before .before .before .before .before .before .before .before .before .pre .second); rows = c .before .before .before .before .before .before .before .before .before .before .before .before .before .before .before .before .before .before .before .before .before .before .before .before .before .before .pre .rows; none = c .before .before .before .before .before .before .before .before .before .before .before .before .before .before .new-yard .ensures .1 }
+run-requires c κs =
+    let n = c .before .before .before .before .before .before .before .before .before .before .before .before .before .before in
+    let p = n .before .before .before .before .before .before .before .before .before .before .before .before .pre in
+    let k = n .new-yard .kept in
+    record {
+      pages = p .pages;
+      first = omega (arith, k .0, p .first);
+      second = omega (arith, k .1 .1 .0, p .second);
+      rows = p .rows;
+      none = n .new-yard .ensures .1;
+    }
 
 returns : tie.Need-returns
-returns c = rw
-    (c .before .before .before .before .before .before .before .before .before .before .before .before .before .before .before .before .before .before .before .before .before .before .before .before .before .before .before .new-yard .ensures .0 (c .before .before .before .before .before .before .before .before .before .before .before .before .before .before .before .before .before .before .before .before .before .before .before .before .before .before .before .before .before .before .before .before .before .before .before .before .before .before .before .args .store .now))
-    at (c .before .before .before .before .before .before .before .before .before .before .before .before .run .ensures)
+returns c =
+    let r = c .before .before .before .before .before .before .before .before .before .before .before .before in
+    let n = r .before .before .before .before .before .before .before .before .before .before .before .before .before .before .before in
+    let a = n .before .before .before .before .before .before .before .before .before .before .before .before .args in
+    rw (n .new-yard .ensures .0 (a .store .now)) at (r .run .ensures)
 
 pub run-new-spec : {M : Type 1} → statement M
 run-new-spec =

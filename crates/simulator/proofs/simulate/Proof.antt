@@ -11,12 +11,16 @@ answers-requires c κs = omega (arith, c .before .blank-page .ensures)
 
 hand-over-requires : tie.Need-hand-over-requires
 hand-over-requires c κs =
-    (c .before .before .before .answers .ensures .most, omega (arith, c .before .before .before .before .before .blank-page .ensures, c .before .before .before .answers .ensures .most, c .before .before .before .answers .kept .1 .0))
+    let n = c .before .before .before in
+    let a = n .answers in
+    (a .ensures .most, omega (arith, n .before .before .blank-page .ensures, a .ensures .most, a .kept .1 .0))
 
 returns : tie.Need-returns
-returns c = simulate-is _ _ _ _ (c .before .before .before .before .before .before .answers .ensures)
-    (omega (arith, c .before .before .before .before .before .before .before .before .blank-page .ensures, c .before .before .before .before .before .before .answers .ensures .most, c .before .before .before .before .before .before .answers .kept .1 .0))
-    (c .before .before .hand-over .ensures)
+returns c =
+    let h = c .before .before in
+    let n = h .before .before .before .before in
+    let a = n .answers in
+    simulate-is _ _ _ _ (a .ensures) (omega (arith, n .before .before .blank-page .ensures, a .ensures .most, a .kept .1 .0)) (h .hand-over .ensures)
 
 pub simulate-spec : {M : Type 1} → statement M
 simulate-spec =

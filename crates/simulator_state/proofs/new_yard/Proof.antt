@@ -10,7 +10,12 @@ use Rattle.simulator_state.proofs.new_yard.Tie as tie
 returns : tie.Need-returns
 unfolding newYard packetsIn
 returns c =
-    ((λ store. rw (c .before .before .before .before .before .before .before .before .before .before .before .before .before .new-server .ensures .0, c .before .before .before .before .before .before .before .before .before .before .before .before .before .new-server .ensures .1, c .before .before .before .before .before .before .new-server2 .ensures .0, c .before .before .before .before .before .before .new-server2 .ensures .1, c .before .new-client .ensures, c .new-client2 .ensures) refl), refl)
+    let d = c .before in
+    let t = d .before .before .before .before .before in
+    let u = t .before .before .before .before .before .before .before in
+    let e = u .new-server .ensures in
+    let f = t .new-server2 .ensures in
+    ((λ store. rw (e .0, e .1, f .0, f .1, d .new-client .ensures, c .new-client2 .ensures) refl), refl)
 
 pub new-yard-spec : {M : Type 1} → statement M
 new-yard-spec =

@@ -6,16 +6,33 @@ use Rattle.simulator_state.proofs.server_line.Statement.{statement}
 use Rattle.simulator_state.proofs.server_line.Tie as tie
 
 returns : tie.Need-returns
-returns c = rw (c .after-server .ensures)
-    (first-server (c .before .before .before .before .before .before .before .before .before .before .before .before .before .before .before .before .before .args .s0 .now) (c .before .before .before .before .before .before .before .before .before .before .before .before .before .before .before .before .before .args .log0 .now) (c .before .before .before .before .before .before .before .before .before .before .before .before .before .before .before .before .before .args .s1 .now) (c .before .before .before .before .before .before .before .before .before .before .before .before .before .before .before .before .before .args .log1 .now) (c .before .before .before .before .before .before .before .before .before .before .before .before .before .before .before .before .before .args .store .now) _ (c .before .before .before .before .before .before .before .before .before .before .before .before .before .before .before .before .before .args .m) (c .before .before .before .before .before .before .before .before .before .before .before .before .before .before .before .before .before .args .n) (c .before .before .before .before .before .before .before .before .before .before .before .before .before .before .before .before .before .args .l) (c .before .before .before .before .before .before .before .server-step .result) (c .before .before .before .before .before .before .before .before .before .before .before .if1 .taken) (c .before .before .before .before .before .before .before .server-step .ensures .0), c .before .before .before .before .before .before .before .server-step .ensures .1)
+returns c =
+    let t = c .before .before .before .before .before .before .before in
+    let i = t .before .before .before .before in
+    let a = i .before .before .before .before .before .before .args in
+    let e = t .server-step .ensures in
+    rw (c .after-server .ensures)
+    (first-server (a .s0 .now) (a .log0 .now) (a .s1 .now) (a .log1 .now) (a .store .now) _ (a .m) (a .n) (a .l) (t .server-step .result) (i .if1 .taken) (e .0), e .1)
 
 returns-2 : tie.Need-returns-2
-returns-2 c = rw (c .after-server2 .ensures)
-    (second-server (c .before .before .before .before .before .before .before .before .before .before .before .before .before .before .before .before .before .before .args .s0 .now) (c .before .before .before .before .before .before .before .before .before .before .before .before .before .before .before .before .before .before .args .log0 .now) (c .before .before .before .before .before .before .before .before .before .before .before .before .before .before .before .before .before .before .args .s1 .now) (c .before .before .before .before .before .before .before .before .before .before .before .before .before .before .before .before .before .before .args .log1 .now) (c .before .before .before .before .before .before .before .before .before .before .before .before .before .before .before .before .before .before .args .store .now) _ (c .before .before .before .before .before .before .before .before .before .before .before .before .before .before .before .before .before .before .args .m) (c .before .before .before .before .before .before .before .before .before .before .before .before .before .before .before .before .before .before .args .n) (c .before .before .before .before .before .before .before .before .before .before .before .before .before .before .before .before .before .before .args .l) (c .before .before .before .before .before .before .before .server-step2 .result) (c .before .before .before .before .before .before .before .before .before .before .before .if2 .taken) (c .before .before .before .before .before .before .before .server-step2 .ensures .0), c .before .before .before .before .before .before .before .server-step2 .ensures .1)
+returns-2 c =
+    let t = c .before .before .before .before .before .before .before in
+    let i = t .before .before .before .before in
+    let a = i .before .before .before .before .before .before .before .args in
+    let e = t .server-step2 .ensures in
+    rw (c .after-server2 .ensures)
+    (second-server (a .s0 .now) (a .log0 .now) (a .s1 .now) (a .log1 .now) (a .store .now) _ (a .m) (a .n) (a .l) (t .server-step2 .result) (i .if2 .taken) (e .0), e .1)
 
 returns-3 : tie.Need-returns-3
-returns-3 c = rw (c .after-server3 .ensures)
-    (no-such-server (c .before .before .before .before .before .before .before .before .before .args .s0 .now) (c .before .before .before .before .before .before .before .before .before .args .log0 .now) (c .before .before .before .before .before .before .before .before .before .args .s1 .now) (c .before .before .before .before .before .before .before .before .before .args .log1 .now) (c .before .before .before .before .before .before .before .before .before .args .store .now) (c .before .before .before .before .before .before .before .before .before .args .store .now) (c .before .before .before .before .before .before .before .before .before .args .m) (c .before .before .before .before .before .before .before .before .before .args .n) (c .before .before .before .before .before .before .before .before .before .args .l) (c .before .told .result) (c .before .before .before .if1 .left) (c .before .before .if2 .left) (c .before .told .ensures .0) (c .before .told .ensures .1), same-count (c .before .told .ensures .0))
+returns-3 c =
+    let t = c .before in
+    let i = t .before in
+    let j = i .before in
+    let a = j .before .before .before .before .before .before .args in
+    let e = t .told .ensures in
+    let p = a .store .now in
+    rw (c .after-server3 .ensures)
+    (no-such-server (a .s0 .now) (a .log0 .now) (a .s1 .now) (a .log1 .now) p p (a .m) (a .n) (a .l) (t .told .result) (j .if1 .left) (i .if2 .left) (e .0) (e .1), same-count (e .0))
 
 pub server-line-spec : {M : Type 1} → statement M
 server-line-spec =

@@ -6,16 +6,26 @@ use Rattle.simulator_state.proofs.step.Statement.{statement}
 use Rattle.simulator_state.proofs.step.Tie as tie
 
 returns : tie.Need-returns
-returns c = rw (c .after-server .ensures, c .before .before .enum-told .given .1)
-    (no-line (c .before .before .before .before .before .before .before .before .before .args .s0 .now) (c .before .before .before .before .before .before .before .before .before .args .log0 .now) (c .before .before .before .before .before .before .before .before .before .args .s1 .now) (c .before .before .before .before .before .before .before .before .before .args .log1 .now) (c .before .before .before .before .before .before .before .before .before .args .store .now) (c .before .before .before .before .before .before .before .before .before .args .m) (c .before .told .result) (c .before .told .ensures .0) (c .before .told .ensures .1), same-count (c .before .told .ensures .0))
+returns c =
+    let t = c .before in
+    let l = t .before in
+    let a = l .before .before .before .before .before .before .before .args in
+    let e = t .told .ensures in
+    rw (c .after-server .ensures, l .enum-told .given .1)
+    (no-line (a .s0 .now) (a .log0 .now) (a .s1 .now) (a .log1 .now) (a .store .now) (a .m) (t .told .result) (e .0) (e .1), same-count (e .0))
 
 returns-2 : tie.Need-returns-2
-returns-2 c = rw (c .before .before .before .before .before .before .before .before .before .before .before .before .before .before .before .before .before .line .given .1)
-    (c .before .before .before .before .before .before .before .before .before .before .server-line .ensures)
+returns-2 c =
+    let t = c .before .before .before .before .before .before .before .before .before .before in
+    rw (t .before .before .before .before .before .before .before .line .given .1) (t .server-line .ensures)
 
 returns-3 : tie.Need-returns-3
-returns-3 c = rw (c .before .before .before .before .before .line2 .given .1)
-    (c .before .before .client-line .ensures .0 (c .before .before .before .before .before .before .before .before .before .before .before .before .args .s0 .now) (c .before .before .before .before .before .before .before .before .before .before .before .before .args .log0 .now) (c .before .before .before .before .before .before .before .before .before .before .before .before .args .s1 .now) (c .before .before .before .before .before .before .before .before .before .before .before .before .args .log1 .now), c .before .before .client-line .ensures .1)
+returns-3 c =
+    let t = c .before .before in
+    let l = t .before .before .before in
+    let a = l .before .before .before .before .before .before .before .args in
+    let e = t .client-line .ensures in
+    rw (l .line2 .given .1) (e .0 (a .s0 .now) (a .log0 .now) (a .s1 .now) (a .log1 .now), e .1)
 
 pub step-spec : {M : Type 1} → statement M
 step-spec =

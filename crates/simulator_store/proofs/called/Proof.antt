@@ -13,21 +13,27 @@ returns : tie.Need-returns
 returns c = told-by _ _ _ _ _ (c .told .ensures .0) (c .told .ensures .1) (c .before .if1 .taken)
 
 part-put-packet-end : tie.Need-part-put-packet-end
-part-put-packet-end c = let m : c .before .lesser .result ≤ length (c .before .before .before .before .before .before .before .args .out .now) = rw (c .before .lesser .ensures)
-    (lesser-most _ _) in omega arith
+part-put-packet-end c =
+    let n = c .before in
+    let a = n .before .before .before .before .before .before .args in
+    let m : n .lesser .result ≤ length (a .out .now) = rw (n .lesser .ensures) (lesser-most _ _) in
+    omega arith
 
 put-packet-requires : tie.Need-put-packet-requires
 put-packet-requires c κs =
-    (c .before .before .before .before .before .before .before .before .pre .0 .rows, omega (arith, take-most (c .before .before .lesser .result - 0) (c .before .before .before .before .before .before .before .before .args .out .now), c .before .before .before .before .before .before .before .before .pre .1))
+    let n = c .before .before in
+    let a = n .before .before .before .before .before .before in
+    (a .pre .0 .rows, omega (arith, take-most (n .lesser .result - 0) (a .args .out .now), a .pre .1))
 
 returns-2 : tie.Need-returns-2
-returns-2 c = made-by _ _ _ _ _ _
-    (take (c .before .before .before .before .before .before .lesser .result - 0) (c .before .before .before .before .before .before .before .before .before .before .before .before .args .out .now))
-    (c .before .before .before .before .before .before .before .before .before .before .before .before .pre .0)
-    (omega (arith, take-most (c .before .before .before .before .before .before .lesser .result - 0) (c .before .before .before .before .before .before .before .before .before .before .before .before .args .out .now), c .before .before .before .before .before .before .before .before .before .before .before .before .pre .1))
-    (rw (c .before .before .before .before .before .before .lesser .ensures) (front-part (c .before .before .before .before .before .before .before .before .before .before .before .before .args .a .wrote) (c .before .before .before .before .before .before .before .before .before .before .before .before .args .out .now)))
-    (c .before .before .before .put-packet .ensures) (c .made-one .ensures .0)
-    (c .made-one .ensures .1) (c .before .before .before .before .before .before .before .before .if1 .left)
+returns-2 c =
+    let p = c .before .before .before in
+    let n = p .before .before .before in
+    let i = n .before .before in
+    let a = i .before .before .before .before in
+    let out = a .args .out .now in
+    made-by _ _ _ _ _ _ (take (n .lesser .result - 0) out) (a .pre .0) (omega (arith, take-most (n .lesser .result - 0) out, a .pre .1))
+    (rw (n .lesser .ensures) (front-part (a .args .a .wrote) out)) (p .put-packet .ensures) (c .made-one .ensures .0) (c .made-one .ensures .1) (i .if1 .left)
 
 pub called-spec : {M : Type 1} → statement M
 called-spec =

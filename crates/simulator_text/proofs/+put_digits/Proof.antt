@@ -110,8 +110,10 @@ put-digits-put-byte-requires-2 : (t : ℕ) → put-digits-lts.Need-put-byte-requ
   put-digits-below t,
   put-digits.Post,
 ) (put-digits-at t) put-digits.Post
-put-digits-put-byte-requires-2 t c κs = omega
-    (arith, c .before .before .before .put-digits .ensures .behind, length-digits (c .before .before .before .before .before .before .before .before .args .k - 1) (c .before .before .before .before .before .before .before .before .args .v / 10), c .before .before .before .put-digits .kept .0)
+put-digits-put-byte-requires-2 t c κs =
+    let d = c .before .before .before in
+    let a = d .before .before .before .before .before .args in
+    omega (arith, d .put-digits .ensures .behind, length-digits (a .k - 1) (a .v / 10), d .put-digits .kept .0)
 
 put-digits-same-length-2 : (t : ℕ) → put-digits-lts.Need-same-length-2 (
   put-byte-reads.Asked,

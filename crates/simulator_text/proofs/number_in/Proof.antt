@@ -36,10 +36,13 @@ with-digit-requires : tie.Need-with-digit-requires Inv-loop μ-loop
 with-digit-requires c κs = let d = digit-range _ (sym (c .before .is-digit .ensures) ∙ not-false _ (c .if2 .left)) in (c .before .before .before .before .loop .inv .1, d .0, d .1)
 
 returns-3 : tie.Need-returns-3 Inv-loop μ-loop
-returns-3 c = left-big (c .before .before .before .before .before .before .before .before .before .args .s .now) (c .before .with-digit .result)
-    (c .before .before .before .before .before .before .loop .i + 1) (c .before .before .before .before .before .before .before .if1 .left)
-    (left-next _ _ _ (c .before .before .before .before .before .before .loop .inv .2) (c .before .before .before .before .before .loop-test .taken) (c .before .before .before .is-digit .ensures) (not-false _ (c .before .before .if2 .left)) (c .before .with-digit .ensures))
-    (c .if3 .taken)
+returns-3 c =
+    let w = c .before in
+    let d = w .before .before in
+    let t = d .before .before in
+    let l = t .before in
+    let more = left-next _ _ _ (l .loop .inv .2) (t .loop-test .taken) (d .is-digit .ensures) (not-false _ (w .before .if2 .left)) (w .with-digit .ensures) in
+    left-big (l .before .before .before .args .s .now) (w .with-digit .result) (l .loop .i + 1) (l .before .if1 .left) more (c .if3 .taken)
 
 add-i : tie.Need-add-i Inv-loop μ-loop
 add-i c = omega arith
@@ -49,7 +52,10 @@ loop-less c = omega arith
 
 loop-again : tie.Need-loop-again Inv-loop μ-loop
 loop-again c =
-    (omega arith, omega arith, left-next _ _ _ (c .before .before .before .before .before .before .loop .inv .2) (c .before .before .before .before .before .loop-test .taken) (c .before .before .before .is-digit .ensures) (not-false _ (c .before .before .if2 .left)) (c .before .with-digit .ensures))
+    let w = c .before in
+    let d = w .before .before in
+    let t = d .before .before in
+    (omega arith, omega arith, left-next _ _ _ (t .before .loop .inv .2) (t .loop-test .taken) (d .is-digit .ensures) (not-false _ (w .before .if2 .left)) (w .with-digit .ensures))
 
 cast-t12 : tie.Need-cast-t12 Inv-loop μ-loop
 cast-t12 c = omega arith

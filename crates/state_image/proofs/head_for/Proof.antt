@@ -7,19 +7,11 @@ use Rattle.state_image.proofs.head_for.Tie as tie
 
 returns : tie.Need-returns
 returns c =
-    let point = c .before .before .before in
+    let heard = c .before in
+    let server = heard .before in
+    let point = server .before in
     let start = point .before .before in
-    head-of (start .args .point) (start .args .s .now) (start .pre .1) (point .point-from .ensures) (c .before .before .server-in .ensures) (c .before .heard-in .ensures) (c .clients-in .ensures)
-    (start .pre .2)
+    head-of (start .args .point) (start .args .s .now) (point .point-at .ensures) (server .server-of .ensures) (heard .heard-of .ensures) (c .clients-in .ensures) (start .pre .2)
 
 pub head-for-spec : {M : Type 1} → statement M
-head-for-spec =
-    tie.close
-    (tie.spec
-    (λ c. search needs)
-    (λ c. search needs)
-    (λ c κs. search needs)
-    (λ c κs. search needs)
-    (λ c κs. search needs)
-    (λ c κs. search needs)
-    returns)
+head-for-spec = tie.close (tie.spec (λ c κs. search needs) (λ c κs. search needs) (λ c κs. search needs) (λ c κs. search needs) returns)

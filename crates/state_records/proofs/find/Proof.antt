@@ -2,7 +2,8 @@
 -- Assumes nothing.
 use Prim.Native.Nat.{_-_}
 use borrow.Author.Needs.{needs}
-use Rattle.state_records.proofs.Search.{Sought, find-start, find-hit, find-next, find-none}
+use Rattle.state_records.specs.Sought.{Sought}
+use Rattle.state_records.proofs.Search.{find-hit, find-next, find-none}
 use Rattle.state_records.proofs.find.Statement.{statement}
 use Rattle.state_records.proofs.find.Tie as tie
 
@@ -13,7 +14,7 @@ abbrev μ-loop : tie.MeasureT-loop
 μ-loop s client call n i₀ i = n - i
 
 loop-holds : tie.Need-loop-holds Inv-loop μ-loop
-loop-holds c = find-start _ _ (c .before .before .pre) (c .records-of .ensures)
+loop-holds c = c .pass .ensures
 
 returns : tie.Need-returns Inv-loop μ-loop
 returns c =
@@ -34,6 +35,7 @@ find-spec =
     (tie.spec
     Inv-loop
     μ-loop
+    (λ c κs. search needs)
     (λ c κs. search needs)
     loop-holds
     (λ c. search needs)

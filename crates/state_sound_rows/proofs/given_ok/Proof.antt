@@ -1,12 +1,12 @@
 -- `sound_rows::given_ok` meets its contract.
 -- Assumes nothing.
 use borrow.Author.Needs.{needs}
-use Rattle.model.specs.States.{givenOk}
+use Rattle.state_sound_rows.specs.Parts.{givenMove}
 use Rattle.state_sound_rows.proofs.given_ok.Statement.{statement}
 use Rattle.state_sound_rows.proofs.given_ok.Tie as tie
 
 returns : tie.Need-returns
-unfolding givenOk
+unfolding givenMove
 returns c = cc
 
 pub given-ok-spec : {M : Type 1} → statement M

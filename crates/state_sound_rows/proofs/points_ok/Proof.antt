@@ -1,30 +1,27 @@
 -- `sound_rows::points_ok` meets its contract.
 -- Assumes nothing.
 use borrow.Author.Needs.{needs}
-use Rattle.state_sound_rows.proofs.Points.{PointsOpen, points-start, points-next, points-false, points-true}
-use Rattle.model.specs.States.{pointOf, pointsOk, pointRow}
-use Rattle.model.specs.Plan.{planEntryOf}
-use Rattle.model.specs.Tables.{rows}
-use Rattle.model.specs.Limits.{planRow, pointCount}
-use lib.ListN.{drop}
 use Prim.Native.Nat.{_-_}
+use lib.ListN.{drop}
+use Rattle.state_sound_rows.proofs.Points.{PointsOpen, points-start, points-next, points-false, points-true}
+use Rattle.state_sound_rows.specs.Parts.{rowsOk}
 use Rattle.state_sound_rows.proofs.points_ok.Statement.{statement}
 use Rattle.state_sound_rows.proofs.points_ok.Tie as tie
 
 abbrev Inv-loop : tie.InvT-loop
-Inv-loop s plan at server size i₀ i = PointsOpen server size plan at (pointsOk server size (rows planEntryOf planRow pointCount (drop plan s)) (rows pointOf pointRow pointCount (drop at s))) s 64 i
+Inv-loop s plan at server size i₀ i = PointsOpen server size plan at (rowsOk server size (drop plan s) (drop at s)) s 64 i
 
 abbrev μ-loop : tie.MeasureT-loop
 μ-loop s plan at server size i₀ i = 64 - i
 
 loop-holds : tie.Need-loop-holds Inv-loop μ-loop
-loop-holds c = points-start _ _ _ _ _ _
+loop-holds c = points-start _ _ _ _ _
 
 returns : tie.Need-returns Inv-loop μ-loop
-returns c = points-false (c .before .before .before .loop .inv) (c .before .before .loop-test .taken) (c .before .point-at-ok .ensures) (c .if1 .taken)
+returns c = points-false (c .before .before .before .loop .inv) (c .before .before .loop-test .taken) (c .before .row-ok .ensures) (c .if1 .taken)
 
 loop-again : tie.Need-loop-again Inv-loop μ-loop
-loop-again c = points-next (c .before .before .before .loop .inv) (c .before .before .loop-test .taken) (c .before .point-at-ok .ensures) (c .if1 .left)
+loop-again c = points-next (c .before .before .before .loop .inv) (c .before .before .loop-test .taken) (c .before .row-ok .ensures) (c .if1 .left)
 
 returns-2 : tie.Need-returns-2 Inv-loop μ-loop
 returns-2 c = points-true (c .before .loop .inv) (c .loop-test .left)

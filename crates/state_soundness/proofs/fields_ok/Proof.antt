@@ -11,4 +11,4 @@ returns c = cc
 
 pub fields-ok-spec : {M : Type 1} → statement M
 fields-ok-spec =
-    tie.close (tie.spec (λ c κs. search needs) (λ c κs. search needs) (λ c κs. search needs) returns)
+    tie.close (tie.spec (λ c κs. search needs) (λ c κs. search needs) (λ c κs. search needs) (λ c κs. search needs) returns)

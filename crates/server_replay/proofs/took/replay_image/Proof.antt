@@ -2,9 +2,7 @@
 -- Assumes nothing.
 use mathlib.Core.Path.{sym, _∙_}
 use native.Mathlib.Omega.{arith}
-use borrow.Author.Tests.{not-true, not-false}
-use Rattle.model.specs.Images.{imageAt}
-use Rattle.model.specs.Logs.{took}
+use borrow.Author.Tests.{not-false}
 use Rattle.model.specs.Apply.{applyRecord}
 use Rattle.server_replay.proofs.Replayed.{replayed-no, replayed-yes}
 use Rattle.server_replay.proofs.Taking.{imaged-size, took-place, took-room}
@@ -18,10 +16,7 @@ took-follows-requires c κs =
     (start .pre .0 .standing, took-place (start .args .s .now) (start .args .image .now) (start .args .h) (start .args .end) (start .pre .0), start .pre .1)
 
 returns : tie.Need-returns
-returns c =
-    let at-took-follows = c .before in
-    let start = at-took-follows .before .before .before .before in
-    replayed-no (start .args .s .now) (took (imageAt (start .args .h) (start .args .image .now))) (at-took-follows .took-follows .ensures) (start .args .end) (not-true _ (c .if1 .taken))
+returns c = replayed-no _ _ _ (c .before .took-follows .ensures) (c .if1 .taken)
 
 apply-took-requires : tie.Need-apply-took-requires
 apply-took-requires c κs =
@@ -38,12 +33,9 @@ apply-took-requires c κs =
 returns-2 : tie.Need-returns-2
 unfolding applyRecord
 returns-2 c =
-    let at-apply-took = c .before .before in
-    let at-if1 = at-apply-took .before .before in
-    let at-took-follows = at-if1 .before in
-    let start = at-took-follows .before .before .before .before in
-    replayed-yes (start .args .s .now) (took (imageAt (start .args .h) (start .args .image .now))) (at-took-follows .took-follows .ensures) (start .args .end) (not-false _ (at-if1 .if1 .left))
-    (at-apply-took .apply-took .ensures)
+    let put = c .before .before in
+    let branch = put .before .before in
+    replayed-yes _ _ _ (branch .before .took-follows .ensures) (branch .if1 .left) (put .apply-took .ensures)
 
 pub replay-image-spec : {M : Type 1} → statement M
 replay-image-spec =

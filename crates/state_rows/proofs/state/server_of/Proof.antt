@@ -10,4 +10,4 @@ unfolding load
 returns c = search needs
 
 pub server-of-spec : {M : Type 1} → statement M
-server-of-spec = tie.close (tie.spec (λ c κs. search needs) returns)
+server-of-spec = tie.close (tie.spec (λ c. search needs) returns)

@@ -8,9 +8,9 @@ use Rattle.state_rows.proofs.state.set_heard.Tie as tie
 
 returns : tie.Need-returns
 returns c =
-    let at-put-heard = c .before .before in
-    let start = at-put-heard .before .before .before in
-    at-put-heard .put-heard .ensures ∙ heard-put (start .args .s .now) (start .pre) (start .args .v)
+    let at-write-u32 = c .before .before in
+    let start = at-write-u32 .before .before .before in
+    at-write-u32 .write-u32 .ensures ∙ heard-put (start .args .s .now) (start .pre) (start .args .v)
 
 pub set-heard-spec : {M : Type 1} → statement M
 set-heard-spec = tie.close (tie.spec (λ c κs. search needs) (λ c. search needs) returns)

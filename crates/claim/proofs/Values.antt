@@ -1,0 +1,19 @@
+-- At its holder a point has the value that the book gives, where the holder is crashed and where it has recovered: a recovery that gives the
+-- founding state breaks the clause `values` (must-fail/recover_founding).
+--     values-seen
+-- Assumes nothing.
+use mathlib.Core.Path.{_≡_, refl}
+use mathlib.Core.Option.{some}
+use Rattle.model.specs.Plan.{planOf}
+use Rattle.model.specs.Yard.{yardPlan}
+use Rattle.model.specs.Sequential.{opened, bookAfter}
+use Rattle.claim.specs.Claim.{readingAt}
+use Rattle.claim.specs.RecordClaim.{stateGiven, finalState}
+use Rattle.model_laws.specs.Opened.{openBook}
+use Rattle.claim.proofs.Opened.{openRecordWorld}
+use Rattle.claim.specs.Kept.{kept, regained, keptOrder, readingIn}
+
+pub values-seen : (readingIn 5 (finalState yardPlan kept 0) ≡ some (bookAfter (planOf yardPlan) (opened (planOf yardPlan)) keptOrder 5))
+    × (readingIn 5 (finalState yardPlan regained 0) ≡ some (bookAfter (planOf yardPlan) (opened (planOf yardPlan)) keptOrder 5))
+unfolding openRecordWorld openBook kept regained keptOrder readingIn readingAt finalState stateGiven
+values-seen = (refl, refl)

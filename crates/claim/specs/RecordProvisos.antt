@@ -1,0 +1,73 @@
+-- The provisos of demand 3, each with the customer's words, as conditions on a schedule. These hold by the world's construction:
+--     "packets and images are only those the parties made": an event names one by its number among those made
+--     "only the operations change state and log": `running` holds what the last call left, and a call works on just that
+--     "recovery uses that prefix": recover works on the records that the crash kept
+--     "the lease office keeps its state": there is one manager, and each call of it gets what the last one left
+-- Assumes nothing.
+use Prim.Native.Nat.{ℕ, _*_, _≤_, _<_}
+use mathlib.Core.Path.{_≡_}
+use mathlib.Core.List.{List}
+use mathlib.Core.Option.{none, some}
+use lib.ListN.{getElem?}
+use Rattle.model.specs.declared.Started.the-variants.{Running}
+use Rattle.model.specs.Numbers.{word}
+use Rattle.model.specs.States.{State}
+use Rattle.model.specs.Clients.{startOf}
+use Rattle.claim.specs.World.{packet}
+use Rattle.claim.specs.Provisos.{Bytes}
+use Rattle.claim.specs.RecordWorld.{Event, found, request, fetch, sync, notice, give, image, take·image, receipt, release, recover, crash, start, issue, resend, receive, open·lease, renew, query, Log, Server, nothing, running, crashed, foundOf, recoverOf, keptBy, after}
+
+-- what the interface's types say and the conclusion needs, as over bytes
+unfoldable pub Typed : Event → Type 0
+Typed (found c plan n) = Bytes plan
+Typed (request c p v room) = room < word * word
+Typed (fetch c x k room) = room < word * word
+Typed (sync c m room) = room < word * word
+Typed (notice c p room) = room < word * word
+Typed (give c p d room) = room < word * word
+Typed (image c p room) = room < word * word
+Typed (take·image c p room) = room < word * word
+Typed (receipt c p room) = room < word * word
+Typed (release c p room) = room < word * word
+Typed (recover c plan) = Unit
+Typed (crash c k) = Unit
+Typed (start p) = Unit
+Typed (issue x op p a) = Unit
+Typed (resend x c) = Unit
+Typed (receive x p) = Unit
+Typed (open·lease t span) = t < word
+Typed (renew x t span) = t < word
+Typed (query x t) = t < word
+
+-- the sync mark and the length in bytes of a server's log
+unfoldable pub markOf : Server → ℕ
+markOf nothing = 0
+markOf (running st log) = st .mark
+markOf (crashed log k mark) = mark
+
+unfoldable pub lengthOf : Server → ℕ
+lengthOf nothing = 0
+lengthOf (running st log) = st .size
+lengthOf (crashed log k mark) = k
+
+module _ (plan : List ℕ) (es : List Event) where
+  -- event number n
+  unfoldable pub At : ℕ → Event → Type 0
+  At n e = getElem? es n ≡ some e
+
+  pub record Provisos : Type 0 where
+    -- what the interface's types say
+    pub typed : (n : ℕ) (e : Event) → At n e → Typed e
+    -- "all cabinets have one plan, given again at each recovery"
+    pub one-plan : (n c : ℕ) (p : List ℕ) (k : ℕ) (st : State) → At n (found c p k) → foundOf p k ≡ some st → p ≡ plan
+    pub plan-again : (n c : ℕ) (p : List ℕ) (log : Log) (st : State) → At n (recover c p) → keptBy (after es n .servers c) ≡ some log → recoverOf p log ≡ some st
+        → p ≡ plan
+    -- "and different numbers": a server is named by the number it was founded with
+    pub own-number : (n c : ℕ) (p : List ℕ) (k : ℕ) (st : State) → At n (found c p k) → foundOf p k ≡ some st → k ≡ c
+    -- "and are founded once": only a refused found is called again
+    pub founded-once : (n c : ℕ) (p : List ℕ) (k : ℕ) (st : State) → At n (found c p k) → foundOf p k ≡ some st → after es n .servers c ≡ nothing
+    -- "a crash keeps a prefix of the log not shorter than its synced part"
+    pub crash-keeps : (n c k : ℕ) → At n (crash c k) → (markOf (after es n .servers c) ≤ k) × (k ≤ lengthOf (after es n .servers c))
+    -- "each client number starts one desk, once"
+    pub started-once : (n p : ℕ) (b : List ℕ) → At n (start p) → packet (after es n) p ≡ some b → startOf b .answer ≡ Running
+        → after es n .clients (startOf b .client .client) ≡ none

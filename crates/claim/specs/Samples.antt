@@ -1,0 +1,68 @@
+-- Schedules over states and log records, and what is seen of a server along a schedule.
+-- Assumes nothing.
+use Prim.Native.Nat.{ℕ}
+use mathlib.Core.List.{List, [], _∷_}
+use mathlib.Core.Option.{Option, none, some}
+use lib.ListN.{length}
+use Rattle.model.specs.Versions.{today}
+use Rattle.model.specs.Yard.{yardPlan}
+use Rattle.claim.specs.RecordWorld.{Event, found, request, sync, give, image, take·image, receipt, release, recover, crash, open·lease, start, issue, receive, Log, World, keptBy, step, emptyWorld}
+use Rattle.claim.specs.RecordProvisos.{lengthOf, markOf}
+
+-- a client sets point 5 to 40: executed, refused with 7, cut off by a crash inside its record, executed again, recovered whole, told, completed;
+-- call 2 finds a log slice shorter than the log (19), one without space (9), and one with space
+unfoldable pub lost : List Event
+lost =
+    found 0 yardPlan 0
+    ∷ open·lease 0 1000
+    ∷ start 0
+    ∷ issue 1 1 5 2147483688
+    ∷ request 0 1 today 100
+    ∷ request 0 1 today 100
+    ∷ crash 0 35
+    ∷ recover 0 yardPlan
+    ∷ request 0 1 today 100
+    ∷ crash 0 36
+    ∷ recover 0 yardPlan
+    ∷ request 0 1 today 100
+    ∷ receive 1 3
+    ∷ issue 1 2 5 2147483649
+    ∷ request 0 4 today 35
+    ∷ request 0 4 today 63
+    ∷ request 0 4 today 64
+    ∷ []
+
+-- point 5 moves from server 0 to server 1 with its record: a repeat there is told once the take is synced, and server 0 releases the point
+unfoldable pub moved : List Event
+moved =
+    found 0 yardPlan 0
+    ∷ found 1 yardPlan 1
+    ∷ open·lease 0 1000
+    ∷ start 0
+    ∷ issue 1 1 5 2147483688
+    ∷ request 0 1 today 100
+    ∷ give 0 5 1 100
+    ∷ sync 0 44 100
+    ∷ image 0 5 100
+    ∷ take·image 1 2 200
+    ∷ take·image 1 2 200
+    ∷ request 1 1 today 200
+    ∷ sync 1 92 200
+    ∷ request 1 1 today 200
+    ∷ receipt 1 5 200
+    ∷ release 0 5 100
+    ∷ []
+
+unfoldable pub recordsOf : Option Log → ℕ
+recordsOf none = 0
+recordsOf (some log) = length (log .entries)
+
+-- of server c after each event: the log's length, its sync mark, its records; and the packets and images made
+unfoldable pub seenFrom : ℕ → World → List Event → List (List ℕ)
+seenFrom c w [] = []
+seenFrom c w (e ∷ es) =
+    let v : World = step w e in
+    (lengthOf (v .servers c) ∷ markOf (v .servers c) ∷ recordsOf (keptBy (v .servers c)) ∷ length (v .made) ∷ []) ∷ seenFrom c v es
+
+unfoldable pub seen : ℕ → List Event → List (List ℕ)
+seen c es = seenFrom c emptyWorld es

@@ -1,0 +1,86 @@
+use mathlib.Core.Path.{ap, sym, _∙_}
+use Rattle.model.specs.declared.Packet.{Packet}
+use Rattle.model.specs.Clients.{callAt, receiveWith}
+use Rattle.client.specs.Changes.{packetCall}
+use Rattle.client.proofs.Others.{not-taken}
+use borrow.Author.Needs.{needs}
+use Rattle.client.proofs.receive_change.Statement.{statement}
+use Rattle.client.proofs.receive_change.Tie as tie
+use Rattle.client.proofs.receive_change.Reads as reads
+use Rattle.client.proofs.receive_change.Lts as lts
+use Rattle.client.proofs.grant_change.Reads as grant-change-reads
+use Rattle.client.proofs.not_received.Reads as not-received-reads
+use Rattle.client.proofs.packet_call.Reads as packet-call-reads
+use Rattle.client.proofs.refusal_change.Reads as refusal-change-reads
+use Rattle.client.proofs.result_change.Reads as result-change-reads
+
+-- src/lib.rt:343:26
+enum-known-p : tie.Need-enum-known-p
+enum-known-p c = search needs
+
+-- src/lib.rt:343:32
+result-change-requires : tie.Need-result-change-requires
+unfolding packetCall
+result-change-requires c κs = let start = c .before .before .before in start .pre ∙ ap (λ (q : Packet). callAt (start .args .d) (packetCall q)) (c .before .p .given .1)
+
+-- src/lib.rt:344:25
+enum-known-p-2 : tie.Need-enum-known-p-2
+enum-known-p-2 c = search needs
+
+-- src/lib.rt:344:31
+refusal-change-requires : tie.Need-refusal-change-requires
+unfolding packetCall
+refusal-change-requires c κs = let start = c .before .before .before in start .pre ∙ ap (λ (q : Packet). callAt (start .args .d) (packetCall q)) (c .before .p2 .given .1)
+
+-- src/lib.rt:345:25
+enum-known-p-3 : tie.Need-enum-known-p-3
+enum-known-p-3 c = search needs
+
+-- src/lib.rt:345:31
+grant-change-requires : tie.Need-grant-change-requires
+unfolding packetCall
+grant-change-requires c κs = let start = c .before .before .before in start .pre ∙ ap (λ (q : Packet). callAt (start .args .d) (packetCall q)) (c .before .p3 .given .1)
+
+-- src/lib.rt:346:33
+packet-call-requires : tie.Need-packet-call-requires
+packet-call-requires c κs = search needs
+
+-- src/lib.rt:346:14
+not-received-requires : tie.Need-not-received-requires
+not-received-requires c κs = rw (c .packet-call .ensures) (c .before .before .pre)
+
+-- src/lib.rt:338:1
+returns : tie.Need-returns
+unfolding receiveWith packetCall
+returns c = rw (c .before .before .p .given .1) (c .result-change .ensures)
+
+-- src/lib.rt:338:1
+returns-2 : tie.Need-returns-2
+unfolding receiveWith packetCall
+returns-2 c = rw (c .before .before .p2 .given .1) (c .refusal-change .ensures)
+
+-- src/lib.rt:338:1
+returns-3 : tie.Need-returns-3
+unfolding receiveWith packetCall
+returns-3 c = rw (c .before .before .p3 .given .1) (c .grant-change .ensures)
+
+-- src/lib.rt:338:1
+returns-4 : tie.Need-returns-4
+returns-4 c = let start = c .before .before .before .args in rw (← c .before .packet-call .ensures) (c .not-received .ensures ∙ sym (not-taken (start .d) (start .p) (c .before .before .match .keys4)))
+
+pub receive-change-spec : {M : Type 1} → statement M
+receive-change-spec =
+    tie.close
+    (tie.spec
+    enum-known-p
+    result-change-requires
+    enum-known-p-2
+    refusal-change-requires
+    enum-known-p-3
+    grant-change-requires
+    packet-call-requires
+    not-received-requires
+    returns
+    returns-2
+    returns-3
+    returns-4)

@@ -1,0 +1,38 @@
+-- The claim over records speaks of something: the schedule of `sanity` over bytes (Moved: a move, two crashes and recoveries, a lease end and a late
+-- repeat) is one over records that keeps all its provisos; two commands survive and are completed there.
+--     not-vacuous
+-- Assumes nothing.
+use mathlib.Core.List.{[], _∷_}
+use Rattle.model.specs.Versions.{today}
+use Rattle.model.specs.Sequential.{markedBy, one, resultMeant}
+use Rattle.model.specs.Yard.{yardPlan}
+use Rattle.proof_sanity.specs.Moved.{setting, stepping, settingResult, steppingResult}
+use Rattle.proof_sanity.specs.Moved as Moved
+use Rattle.proof_sanity.proofs.NotVacuous as Bytes
+use Rattle.claim.specs.RecordWorld.{Event}
+use Rattle.claim.specs.RecordProvisos.{Provisos}
+use Rattle.claim.specs.RecordClaim.{SurvivesAt, Completes, Issues}
+use Rattle.safety.specs.Decoded.{schedule}
+use Rattle.safety.proofs.Runs.{provisos-here}
+use Rattle.safety.proofs.FromRecords.{issues-here, completes-here, survives-here}
+use mathlib.Core.List.{List}
+
+abbrev moved : List Event
+moved = schedule Moved.schedule
+
+pub not-vacuous : Provisos yardPlan moved
+    × SurvivesAt yardPlan moved 7 (markedBy today setting)
+    × Completes yardPlan moved 10 (setting ∷ []) (one (resultMeant settingResult))
+    × Issues yardPlan moved 11 (stepping ∷ [])
+    × SurvivesAt yardPlan moved 15 (markedBy today stepping)
+    × Completes yardPlan moved 23 (stepping ∷ []) (one (resultMeant steppingResult))
+not-vacuous =
+    let x = Bytes.not-vacuous in
+    let P = x .0 in (
+      provisos-here yardPlan Moved.schedule P,
+      survives-here yardPlan Moved.schedule P 7 _ (x .1),
+      completes-here yardPlan Moved.schedule P 10 _ _ (x .2),
+      issues-here yardPlan Moved.schedule P 11 _ (x .3),
+      survives-here yardPlan Moved.schedule P 15 _ (x .4),
+      completes-here yardPlan Moved.schedule P 23 _ _ (x .5),
+    )

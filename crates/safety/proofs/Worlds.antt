@@ -1,0 +1,156 @@
+-- Changes of one part of both worlds keep them alike.
+--     alike-server, alike-client, alike-manager, alike-making     one part
+--     same-packet, same-client           packets and clients by number
+--     alike-starts, alike-sends, alike-receives, alike-told       calls of clients and of the lease manager
+--     alike-mark, alike-length           the sync mark and the length of a server's log
+--     nothing-back                       a server that is not there
+--     running-here, running-there, running-room     a server that runs
+-- Assumes nothing.
+use Prim.Native.Nat.{ℕ}
+use mathlib.Core.Path.{_≡_, refl, sym, _∙_, ap, subst}
+use mathlib.Core.Bool.{Bool, true, false}
+use mathlib.Core.List.{List, [], _∷_, _++_}
+use mathlib.Core.Option.{Option, none, some}
+use native.Mathlib.Omega.{arith}
+use lib.Dec.{eqb}
+use lib.ListN.{getElem?}
+use borrow.Author.Tests.{eqb-true}
+use Rattle.model.specs.declared.PlanEntry.{PlanEntry}
+use Rattle.model.specs.declared.Client.{Client}
+use Rattle.model.specs.declared.LeaseManager.{LeaseManager}
+use Rattle.model.specs.declared.Started.{Started}
+use Rattle.model.specs.declared.Started.the-variants.{NotStarted, Running}
+use Rattle.model.specs.declared.StartAnswer.{StartAnswer}
+use Rattle.model.specs.declared.SendAnswer.{SendAnswer}
+use Rattle.model.specs.declared.LeaseAnswer.{LeaseAnswer}
+use Rattle.model.specs.Choice.{pick}
+use Rattle.model.specs.States.{State}
+use Rattle.model.specs.Clients.{startOf, receiveOf, sentBytes}
+use Rattle.model.specs.Leases.{toldBytes}
+use Rattle.safety.proofs.Facts.{holds-size}
+use Rattle.claim.specs.World.{withServer, withClient, withManager, making, startsAs, startsOn, sends, receives, told, packet}
+use Rattle.claim.specs.World as B
+use Rattle.claim.specs.Provisos as BP
+use Rattle.claim.specs.RecordWorld as R
+use Rattle.claim.specs.RecordProvisos as RP
+use Rattle.safety.specs.Alike.{RunningAlike, ServerAlike, nothing, running, crashed, WorldAlike}
+use Rattle.safety.specs.Decoded.{roomIn, roomOf}
+
+module _ {plan : List PlanEntry} {r : R.World} {b : B.World} (l : WorldAlike plan r b) where
+  pub alike-server : (c : ℕ) (s : R.Server) (t : B.Server) → ServerAlike plan c s t → WorldAlike plan (withServer c s r) (withServer c t b)
+  unfolding withServer
+  alike-server c s t k = record { servers = λ d. go d (eqb d c) refl; clients = l .clients; manager = l .manager; made = l .made }
+    where
+      go : (d : ℕ) (q : Bool) → eqb d c ≡ q → ServerAlike plan d (pick q s (r .servers d)) (pick q t (b .servers d))
+      go d true e = rw (eqb-true d c e) k
+      go d false e = l .servers d
+
+  pub alike-client : (x : ℕ) (d : Client) → WorldAlike plan (withClient x d r) (withClient x d b)
+  unfolding withClient
+  alike-client x d =
+      record {
+        servers = l .servers;
+        clients = ap (λ (f : ℕ → Option Client). λ y. pick (eqb y x) (some d) (f y)) (l .clients);
+        manager = l .manager;
+        made = l .made;
+      }
+
+  pub alike-manager : (m : LeaseManager) → WorldAlike plan (withManager m r) (withManager m b)
+  unfolding withManager
+  alike-manager m = record { servers = l .servers; clients = l .clients; manager = refl; made = l .made }
+
+  pub alike-making : (p : List ℕ) → WorldAlike plan (making p r) (making p b)
+  unfolding making
+  alike-making [] = l
+  alike-making (x ∷ p) =
+      record {
+        servers = l .servers;
+        clients = l .clients;
+        manager = l .manager;
+        made = ap (λ (m : List (List ℕ)). m ++ ((x ∷ p) ∷ [])) (l .made);
+      }
+
+  pub same-packet : (n : ℕ) → packet r n ≡ packet b n
+  unfolding packet
+  same-packet n = ap (λ (m : List (List ℕ)). getElem? m n) (l .made)
+
+  pub same-client : (x : ℕ) → r .clients x ≡ b .clients x
+  same-client x = ap (λ (f : ℕ → Option Client). f x) (l .clients)
+
+-- ---- clients and the lease manager
+
+module _ {plan : List PlanEntry} {r : R.World} {b : B.World} (l : WorldAlike plan r b) where
+  alike-started : (a : StartAnswer) → WorldAlike plan (startsAs a r) (startsAs a b)
+  unfolding startsAs
+  alike-started a = go (a .answer)
+    where
+      go : (s : Started)
+          → WorldAlike plan (elim s [ NotStarted n ↦ r | Running ↦ withClient (a .client .client) (a .client) r ])
+          (elim s [ NotStarted n ↦ b | Running ↦ withClient (a .client .client) (a .client) b ])
+      go (NotStarted n) = l
+      go Running = alike-client l (a .client .client) (a .client)
+
+  pub alike-starts : (o : Option (List ℕ)) → WorldAlike plan (startsOn o r) (startsOn o b)
+  unfolding startsOn
+  alike-starts none = l
+  alike-starts (some p) = alike-started (startOf p)
+
+  pub alike-sends : (x : ℕ) (f : Client → SendAnswer) (o : Option Client) → WorldAlike plan (sends x f o r) (sends x f o b)
+  unfolding sends
+  alike-sends x f none = l
+  alike-sends x f (some d) = alike-making (alike-client l x (f d .client)) (sentBytes (f d .answer))
+
+  pub alike-receives : (x : ℕ) (o : Option Client) (p : Option (List ℕ)) → WorldAlike plan (receives x o p r) (receives x o p b)
+  unfolding receives
+  alike-receives x none p = l
+  alike-receives x (some d) none = l
+  alike-receives x (some d) (some p) = alike-client l x (receiveOf d p .client)
+
+  pub alike-told : (a : LeaseAnswer) → WorldAlike plan (told a r) (told a b)
+  unfolding told
+  alike-told a = alike-making (alike-manager l (a .manager)) (toldBytes (a .answer))
+
+-- ---- the log of a server
+
+pub alike-mark : {plan : List PlanEntry} {c : ℕ} {s : R.Server} {t : B.Server} → ServerAlike plan c s t → RP.markOf s ≡ BP.markOf t
+unfolding RP.markOf BP.markOf
+alike-mark nothing = refl
+alike-mark (running k) = ap (λ (st : State). st .mark) (sym (k .loads))
+alike-mark (crashed k) = refl
+
+pub alike-length : {plan : List PlanEntry} {c : ℕ} {s : R.Server} {t : B.Server} → ServerAlike plan c s t → RP.lengthOf s ≡ BP.lengthOf t
+unfolding RP.lengthOf BP.lengthOf
+alike-length nothing = refl
+alike-length (running k) = ap (λ (st : State). st .size) (sym (k .loads)) ∙ holds-size (k .holds)
+alike-length (crashed k) = sym (k .size)
+
+-- ---- a server that is not there
+
+pub nothing-back : {plan : List PlanEntry} {c : ℕ} {s : R.Server} {t : B.Server} → ServerAlike plan c s t → t ≡ B.nothing → s ≡ R.nothing
+nothing-back nothing e = refl
+nothing-back (running k) e = let z : _≡_ {A = ℕ} 0 1 = cc in absurd (omega arith)
+nothing-back (crashed k) e = let z : _≡_ {A = ℕ} 0 1 = cc in absurd (omega arith)
+
+-- ---- running servers
+
+pub running-there : {plan : List PlanEntry} {c : ℕ} {x : R.Server} {y : B.Server} → ServerAlike plan c x y → (st : State) (log : R.Log) → x ≡ R.running st log
+    → (state : List ℕ) × (bytes : List ℕ) × (y ≡ B.running state bytes) × RunningAlike plan c st log state bytes
+running-there nothing st log e = let z : _≡_ {A = ℕ} 0 1 = cc in absurd (omega arith)
+running-there {plan} {c} (running {st = s} {log = g} {state = state} {bytes = bytes} K) st log e =
+    let a : s ≡ st = cc in
+    let b : g ≡ log = cc in
+    (state, bytes, refl, subst (λ (i : State). RunningAlike plan c i log state bytes) a (subst (λ (i : R.Log). RunningAlike plan c s i state bytes) b K))
+running-there (crashed K) st log e = let z : _≡_ {A = ℕ} 0 1 = cc in absurd (omega arith)
+
+pub running-here : {plan : List PlanEntry} {c : ℕ} {x : R.Server} {y : B.Server} → ServerAlike plan c x y → (state bytes : List ℕ) → y ≡ B.running state bytes
+    → (st : State) × (log : R.Log) × (x ≡ R.running st log) × RunningAlike plan c st log state bytes
+running-here nothing state bytes e = let z : _≡_ {A = ℕ} 0 1 = cc in absurd (omega arith)
+running-here {plan} {c} (running {st = st} {log = log} {state = s} {bytes = g} K) state bytes e =
+    let a : s ≡ state = cc in
+    let b : g ≡ bytes = cc in
+    (st, log, refl, subst (λ (i : List ℕ). RunningAlike plan c st log i bytes) a (subst (λ (i : List ℕ). RunningAlike plan c st log s i) b K))
+running-here (crashed K) state bytes e = let z : _≡_ {A = ℕ} 0 1 = cc in absurd (omega arith)
+
+pub running-room : {y : B.Server} {state bytes : List ℕ} → y ≡ B.running state bytes → (t : B.Lent) (out : List ℕ) (need : ℕ) → roomOf y t out need ≡ roomIn t state bytes out need
+unfolding roomOf
+running-room e t out need = rw e

@@ -1,0 +1,23 @@
+-- `simulator_delivery::release_line` meets its contract.
+-- Assumes nothing.
+use Rattle.simulator_delivery.proofs.Deliveries.{served-by}
+use borrow.Author.Needs.{needs}
+use Rattle.simulator_delivery.proofs.release_line.Statement.{statement}
+use Rattle.simulator_delivery.proofs.release_line.Tie as tie
+
+returns : tie.Need-returns
+returns c = served-by _ (c .before .before .before .before .before .before .before .before .before .before .by-release .ensures) (c .before .before .called .ensures)
+
+pub release-line-spec : {M : Type 1} → statement M
+release-line-spec =
+    tie.close
+    (tie.spec
+    (λ c κs. search needs)
+    (λ c. search needs)
+    (λ c. search needs)
+    (λ c. search needs)
+    (λ c κs. search needs)
+    (λ c. search needs)
+    (λ c. search needs)
+    (λ c. search needs)
+    returns)

@@ -1,0 +1,24 @@
+-- `simulator_delivery::request_line` meets its contract.
+-- Assumes nothing.
+use Rattle.simulator_delivery.proofs.Deliveries.{served-by}
+use Rattle.model.specs.Yard.{room}
+use borrow.Author.Needs.{needs}
+use Rattle.simulator_delivery.proofs.request_line.Statement.{statement}
+use Rattle.simulator_delivery.proofs.request_line.Tie as tie
+
+returns : tie.Need-returns
+unfolding room
+returns c = served-by _ (c .before .before .before .before .before .before .before .before .before .before .by-request .ensures) (c .before .before .called .ensures)
+
+pub request-line-spec : {M : Type 1} → statement M
+request-line-spec =
+    tie.close
+    (tie.spec
+    (λ c. search needs)
+    (λ c κs. search needs)
+    (λ c. search needs)
+    (λ c κs. search needs)
+    (λ c. search needs)
+    (λ c. search needs)
+    (λ c. search needs)
+    returns)

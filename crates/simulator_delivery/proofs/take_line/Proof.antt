@@ -1,0 +1,23 @@
+-- `simulator_delivery::take_line` meets its contract.
+-- Assumes nothing.
+use Rattle.simulator_delivery.proofs.Deliveries.{served-by}
+use borrow.Author.Needs.{needs}
+use Rattle.simulator_delivery.proofs.take_line.Statement.{statement}
+use Rattle.simulator_delivery.proofs.take_line.Tie as tie
+
+returns : tie.Need-returns
+returns c = served-by _ (c .before .before .before .before .before .before .before .before .before .before .by-take .ensures) (c .before .before .called .ensures)
+
+pub take-line-spec : {M : Type 1} → statement M
+take-line-spec =
+    tie.close
+    (tie.spec
+    (λ c κs. search needs)
+    (λ c. search needs)
+    (λ c. search needs)
+    (λ c. search needs)
+    (λ c κs. search needs)
+    (λ c. search needs)
+    (λ c. search needs)
+    (λ c. search needs)
+    returns)

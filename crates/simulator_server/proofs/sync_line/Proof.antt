@@ -1,0 +1,24 @@
+-- `simulator_server::sync_line` meets its contract.
+-- Assumes nothing.
+use Rattle.simulator_delivery.proofs.Deliveries.{served-by}
+use borrow.Author.Needs.{needs}
+use Rattle.simulator_server.proofs.sync_line.Statement.{statement}
+use Rattle.simulator_server.proofs.sync_line.Tie as tie
+
+returns : tie.Need-returns
+returns c = rw (← c .before .before .before .before .before .before .before .before .before .size-of .ensures)
+    (served-by _ (c .before .before .before .before .before .before .before .sync .ensures) (c .before .before .called .ensures))
+
+pub sync-line-spec : {M : Type 1} → statement M
+sync-line-spec =
+    tie.close
+    (tie.spec
+    (λ c κs. search needs)
+    (λ c κs. search needs)
+    (λ c. search needs)
+    (λ c. search needs)
+    (λ c. search needs)
+    (λ c κs. search needs)
+    (λ c. search needs)
+    (λ c. search needs)
+    returns)

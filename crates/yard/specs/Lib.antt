@@ -1,0 +1,2 @@
+-- What the contracts of `yard` cite beside `simulator`.
+pub mod Input
