@@ -46,7 +46,7 @@ extern "C" {
 /* The version of this header and, by mantelorris_version(), of the library: major * 65,536 + minor. The major number changes with a layout that
  * an older program would misread (packets, images, log, state); the minor one with what is added. */
 #define MANTELORRIS_VERSION_MAJOR 1
-#define MANTELORRIS_VERSION_MINOR 0
+#define MANTELORRIS_VERSION_MINOR 1
 #define MANTELORRIS_VERSION ((uint32_t)MANTELORRIS_VERSION_MAJOR << 16 | MANTELORRIS_VERSION_MINOR)
 
 /* least lengths of slices; a plan has exactly its length */
@@ -72,7 +72,7 @@ extern "C" {
 enum mantelorris_op {
     MANTELORRIS_READ = 0,   /* 0: gives value and quality, changes nothing */
     MANTELORRIS_SET = 1,    /* the new value */
-    MANTELORRIS_STEP = 2,   /* added to the value, where the quality is valid */
+    MANTELORRIS_STEP = 2,   /* added to the value, where the quality is valid; stops at the ends of the range */
     MANTELORRIS_REPORT = 3, /* a measured value; one outside the range makes the point invalid */
     MANTELORRIS_FAULT = 4,  /* 0: the point gets its fallback and is invalid */
     MANTELORRIS_PART = 5    /* 0 to 1000: thousandths of the way from low to high */
@@ -81,9 +81,10 @@ enum mantelorris_op {
 /* outcomes of a command that was carried out */
 enum mantelorris_outcome {
     MANTELORRIS_OUTCOME_DONE = 0,         /* as asked */
-    MANTELORRIS_OUTCOME_OUT_OF_RANGE = 1, /* set or step out of the point's range: nothing changed */
+    MANTELORRIS_OUTCOME_OUT_OF_RANGE = 1, /* set out of the point's range: nothing changed (of a version before 1.1: step too) */
     MANTELORRIS_OUTCOME_INVALID = 2,      /* step on an invalid value: nothing changed */
-    MANTELORRIS_OUTCOME_FALLBACK = 3      /* report out of range, or fault: value = fallback, invalid */
+    MANTELORRIS_OUTCOME_FALLBACK = 3,     /* report out of range, or fault: value = fallback, invalid */
+    MANTELORRIS_OUTCOME_STOPPED = 4       /* step past an end of the range: value = that end, the quality as it was */
 };
 
 enum mantelorris_quality { MANTELORRIS_VALID = 0, MANTELORRIS_INVALID = 1 };

@@ -72,7 +72,7 @@ pub fn packet_of_kind(random: &mut Random, kind: u32) -> Packet {
     match kind {
         1 => Packet::Request(request(random, point, client)),
         2 => Packet::Result(Reply {
-            outcome: random.below(4) as u8,
+            outcome: random.below(5) as u8,
             point,
             quality: random.below(2) as u8,
             client,
@@ -212,7 +212,7 @@ pub fn moved(random: &mut Random, client: u32, call: u32, range: (i32, i32)) -> 
         argument,
         value: within(random, range),
         op,
-        outcome: random.below(4) as u8,
+        outcome: random.below(5) as u8,
         quality: random.below(2) as u8,
     }
 }
@@ -285,7 +285,7 @@ fn executed(random: &mut Random, point: u8) -> Executed {
     Executed {
         op,
         point,
-        outcome: random.below(4) as u8,
+        outcome: random.below(5) as u8,
         client: at_least_1(random),
         call,
         done,

@@ -3,9 +3,9 @@
 //! result that a desk received and, at its end, each founded holder's value
 //! and quality, a command completed before another was issued standing first.
 //!
-//! The checker looks only at issues, completions, survival, results and final
-//! values. It does not look at logs or moves, so no fault of the cabinets can
-//! mislead it.
+//! The checker looks only at issues, completions, survival, results, final
+//! values and marks: for each command the rules that it was executed by. It
+//! does not look at logs or moves, so no fault of the cabinets can mislead it.
 //!
 //! Why one search for each point is right (locality of linearizability,
 //! Herlihy and Wing): the book changes and reads only the command's point, so
@@ -30,7 +30,7 @@
 //! in the order of their execution first; this bears on speed alone.
 
 use crate::plan::{Plan, POINTS};
-use crate::rule::{Effect, Op};
+use crate::rule::{Effect, Op, Rules};
 use crate::sequential::SequentialSpec;
 use std::collections::HashSet;
 
@@ -66,7 +66,19 @@ pub enum Violation {
     Undecided { point: u8 },
 }
 
+/// All commands are marked with today's rules.
 pub fn check(plan: &Plan, commands: &[Command], finals: &Finals) -> Result<(), Violation> {
+    check_marked(plan, commands, &vec![Rules::TODAY; commands.len()], finals)
+}
+
+/// The book runs each command by its mark; there is one for each command.
+pub fn check_marked(
+    plan: &Plan,
+    commands: &[Command],
+    marks: &[Rules],
+    finals: &Finals,
+) -> Result<(), Violation> {
+    assert_eq!(commands.len(), marks.len(), "one mark for each command");
     if let Some(c) = commands
         .iter()
         .find(|c| c.completed.is_some() && !c.survives)
@@ -76,26 +88,31 @@ pub fn check(plan: &Plan, commands: &[Command], finals: &Finals) -> Result<(), V
             call: c.call,
         });
     }
+    let marked: Vec<Marked> = commands.iter().zip(marks.iter().copied()).collect();
     for point in 0..POINTS as u8 {
-        check_point(plan, commands, point, finals[usize::from(point)])?;
+        check_point(plan, &marked, point, finals[usize::from(point)])?;
     }
     Ok(())
 }
 
+/// A command and the rules that it was executed by.
+type Marked<'a> = (&'a Command, Rules);
+
 fn check_point(
     plan: &Plan,
-    commands: &[Command],
+    commands: &[Marked],
     point: u8,
     last: Option<(i32, u8)>,
 ) -> Result<(), Violation> {
-    let mut commands: Vec<&Command> = commands
+    let mut commands: Vec<Marked> = commands
         .iter()
-        .filter(|c| c.survives && c.point == point)
+        .filter(|(c, _)| c.survives && c.point == point)
+        .copied()
         .collect();
     if commands.len() > COMMANDS_MAX {
         return Err(Violation::Undecided { point });
     }
-    commands.sort_by_key(|c| c.hint);
+    commands.sort_by_key(|(c, _)| c.hint);
     let mut search = Search {
         book: SequentialSpec::new(*plan),
         point,
@@ -114,7 +131,7 @@ fn check_point(
 struct Search<'a> {
     book: SequentialSpec,
     point: u8,
-    commands: Vec<&'a Command>,
+    commands: Vec<Marked<'a>>,
     last: Option<(i32, u8)>,
     failed: HashSet<(u128, i32, u8)>,
     nodes: u64,
@@ -133,11 +150,11 @@ impl Search<'_> {
         }
         let limit = self.first_completion(placed);
         for i in 0..self.commands.len() {
-            let command = self.commands[i];
+            let (command, rules) = self.commands[i];
             if placed & (1 << i) != 0 || command.issued > limit {
                 continue;
             }
-            if self.run(command) && self.place_rest(placed | (1 << i)) {
+            if self.run(command, rules) && self.place_rest(placed | (1 << i)) {
                 return true;
             }
             self.book.set(self.point, value, quality);
@@ -153,14 +170,14 @@ impl Search<'_> {
             .iter()
             .enumerate()
             .filter(|(i, _)| placed & (1 << i) == 0)
-            .filter_map(|(_, c)| c.completed.map(|(at, _)| at))
+            .filter_map(|(_, (c, _))| c.completed.map(|(at, _)| at))
             .min()
             .unwrap_or(u32::MAX)
     }
 
-    /// Runs the command; false if a desk received another result.
-    fn run(&mut self, c: &Command) -> bool {
-        let effect = self.book.run(c.op, c.point, c.argument);
+    /// Runs the command by its mark; false if a desk received another result.
+    fn run(&mut self, c: &Command, rules: Rules) -> bool {
+        let effect = self.book.run_by(rules, c.op, c.point, c.argument);
         c.completed.is_none_or(|(_, received)| received == effect)
     }
 }

@@ -3,7 +3,11 @@
 
 use crate::answer::Answer;
 use crate::packet::{parse_request, WINDOW};
-use crate::record::{parse_record, Parsed, Record, HEAD_LEN};
+use crate::plan::Entry;
+use crate::record::{
+    parse_executed, parse_record, write_executed, Executed, Parsed, Record, EXECUTED_LEN, HEAD_LEN,
+};
+use crate::rule::{apply, Rules, INVALID, STOPPED};
 use crate::server::Server;
 use std::ops::{Deref, DerefMut};
 
@@ -27,6 +31,12 @@ pub enum Fault {
     FloorNotTested,
     /// Recover tests the log, then gives the state of a server just founded.
     RecoverToFounding,
+    /// Recover works results out by today's rules instead of reading them.
+    RecoverWorksOut,
+    /// A step past an end puts the value at the other end.
+    StepToOtherEnd,
+    /// A step past an end makes the quality invalid.
+    StepLosesQuality,
 }
 
 /// A server, or one with a fault around the calls that stand here; the others are the
@@ -60,22 +70,45 @@ impl Faulty {
     }
 
     pub fn request(&mut self, len: usize, log: &mut [u8], packet: &[u8], out: &mut [u8]) -> Answer {
+        self.request_by(Rules::TODAY, len, log, packet, out)
+    }
+
+    /// Request as a program of the given rules answers it.
+    pub fn request_by(
+        &mut self,
+        rules: Rules,
+        len: usize,
+        log: &mut [u8],
+        packet: &[u8],
+        out: &mut [u8],
+    ) -> Answer {
         let server = &mut self.server;
+        let mut request = |s: &mut Server| s.request_by(rules, len, log, packet, out);
         match self.fault {
-            Some(Fault::ReplyBeforeSync) => {
-                with_mark_at_end(server, |s| s.request(len, log, packet, out))
-            }
+            Some(Fault::ReplyBeforeSync) => with_mark_at_end(server, request),
             Some(Fault::LeaseEndNotTested) => {
                 let heard = std::mem::take(&mut server.heard);
-                let answer = server.request(len, log, packet, out);
+                let answer = request(server);
                 server.heard = heard;
                 answer
             }
             Some(Fault::FloorNotTested) => {
                 let id = parse_request(packet).map_or((0, 0), |r| (r.client, r.call));
-                without_floor(server, id, |s| s.request(len, log, packet, out))
+                without_floor(server, id, request)
             }
-            _ => server.request(len, log, packet, out),
+            Some(Fault::StepToOtherEnd) => {
+                let answer = request(server);
+                change_stopped(server, log, answer, |r, entry| {
+                    r.value = other_end(entry, r.value);
+                });
+                answer
+            }
+            Some(Fault::StepLosesQuality) => {
+                let answer = request(server);
+                change_stopped(server, log, answer, |r, _| r.quality = INVALID);
+                answer
+            }
+            _ => request(server),
         }
     }
 
@@ -122,7 +155,10 @@ impl Faulty {
     pub fn recover(&mut self, len: usize, log: &[u8], plan: &[u8]) -> Answer {
         let server = &mut self.server;
         match self.fault {
-            Some(Fault::FloorNotTested) => recover_without_floors(server, len, log, plan),
+            Some(Fault::FloorNotTested) => {
+                recover_with(server, len, log, plan, follow_without_floor)
+            }
+            Some(Fault::RecoverWorksOut) => recover_with(server, len, log, plan, follow_worked_out),
             Some(Fault::RecoverToFounding) => {
                 let answer = server.recover(len, log, plan);
                 if answer == Answer::DONE {
@@ -132,6 +168,39 @@ impl Faulty {
             }
             _ => server.recover(len, log, plan),
         }
+    }
+}
+
+fn other_end(entry: &Entry, end: i32) -> i32 {
+    match end == entry.low {
+        true => entry.high,
+        false => entry.low,
+    }
+}
+
+/// Changes what a request left that stopped a step: its record in the log, its
+/// completion record and the point.
+fn change_stopped(
+    server: &mut Server,
+    log: &mut [u8],
+    answer: Answer,
+    change: impl FnOnce(&mut Executed, &Entry),
+) {
+    if answer != Answer::DONE {
+        return;
+    }
+    let end = server.length as usize;
+    let bytes = &mut log[end - EXECUTED_LEN..end];
+    let Some(mut record) = parse_executed(bytes).filter(|r| r.outcome == STOPPED) else {
+        return;
+    };
+    let entry = server.plan.entry(record.point);
+    change(&mut record, entry);
+    bytes.copy_from_slice(&write_executed(&record));
+    let point = &mut server.points[usize::from(record.point)];
+    (point.value, point.quality) = (record.value, record.quality);
+    if let Some(r) = server.records.last_mut() {
+        (r.value, r.quality) = (record.value, record.quality);
     }
 }
 
@@ -162,8 +231,14 @@ fn without_floor<T>(
     done
 }
 
-/// As recover, but for the floors.
-fn recover_without_floors(server: &mut Server, len: usize, log: &[u8], plan: &[u8]) -> Answer {
+/// As recover, with another way to follow a record that ends at the place given.
+fn recover_with(
+    server: &mut Server,
+    len: usize,
+    log: &[u8],
+    plan: &[u8],
+    follow: fn(&mut Server, Record, u64) -> Option<()>,
+) -> Answer {
     let mut new = Server::new();
     let answer = new.recover(len, log.get(..HEAD_LEN).unwrap_or(log), plan);
     if answer != Answer::DONE {
@@ -171,17 +246,29 @@ fn recover_without_floors(server: &mut Server, len: usize, log: &[u8], plan: &[u
     }
     let mut at = HEAD_LEN;
     while let Parsed::Whole(record, end) = parse_record(log, at) {
-        let id = match record {
-            Record::Executed(r) => (r.client, r.call),
-            _ => (0, 0),
-        };
-        let followed = without_floor(&mut new, id, |s| s.follow(&record, end as u64));
-        followed.expect("a kept log recovers");
+        follow(&mut new, record, end as u64).expect("a kept log recovers");
         at = end;
     }
     (new.length, new.mark) = (at as u64, at as u64);
     *server = new;
     Answer::DONE
+}
+
+fn follow_without_floor(server: &mut Server, record: Record, end: u64) -> Option<()> {
+    let id = match record {
+        Record::Executed(r) => (r.client, r.call),
+        _ => (0, 0),
+    };
+    without_floor(server, id, |s| s.follow(&record, end))
+}
+
+fn follow_worked_out(server: &mut Server, mut record: Record, end: u64) -> Option<()> {
+    if let Record::Executed(r) = &mut record {
+        let (point, entry) = (server.point(r.point), server.plan.entry(r.point));
+        let effect = apply(r.op, r.argument, entry, point.value, point.quality);
+        (r.outcome, r.value, r.quality) = (effect.outcome, effect.value, effect.quality);
+    }
+    server.follow(&record, end)
 }
 
 /// For each client of the records, the lowest floor under which they are still sound.

@@ -3,7 +3,7 @@
 use crate::bytes::{all_zero, get_i32, get_u32, put_i32, put_u32};
 use crate::packet::{cabinet_ok, point_ok, WINDOW};
 use crate::plan::{Entry, Plan};
-use crate::rule::Op;
+use crate::rule::{Op, OUTCOME_MAX};
 use std::cmp::Ordering;
 
 pub const IMAGE_MAGIC: [u8; 4] = [0x4D, 0x56, 0x49, 0x31];
@@ -193,7 +193,10 @@ fn records_ok(records: &[u8], floors: &[u8], entry: &Entry) -> bool {
 }
 
 fn moved_ok(r: &Moved, entry: &Entry) -> bool {
-    r.op.accepts(r.argument) && r.outcome <= 3 && r.quality <= 1 && entry.contains(r.value)
+    r.op.accepts(r.argument)
+        && r.outcome <= OUTCOME_MAX
+        && r.quality <= 1
+        && entry.contains(r.value)
 }
 
 fn in_window(r: &Moved, f: &Floor) -> bool {

@@ -2,7 +2,7 @@
 
 use crate::bytes::{all_zero, get_i32, get_u32, put_i32, put_u32};
 use crate::plan::{CABINETS, POINTS};
-use crate::rule::Op;
+use crate::rule::{Op, OUTCOME_MAX};
 
 pub const REQUEST: u8 = 1;
 pub const RESULT: u8 = 2;
@@ -152,7 +152,7 @@ pub fn parse_result(b: &[u8]) -> Option<Reply> {
         call: get_u32(b, 8),
         value: get_i32(b, 12),
     };
-    let ok = reply.outcome <= 3
+    let ok = reply.outcome <= OUTCOME_MAX
         && point_ok(reply.point)
         && reply.quality <= 1
         && reply.client >= 1

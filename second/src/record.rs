@@ -3,7 +3,7 @@
 use crate::bytes::{all_zero, get_i32, get_u32, put_i32, put_u32};
 use crate::image::{IMAGE_MAX, IMAGE_MIN};
 use crate::packet::{cabinet_ok, point_ok, window_ok};
-use crate::rule::Op;
+use crate::rule::{Op, OUTCOME_MAX};
 
 pub const LOG_MAGIC: [u8; 4] = [0x57, 0x4C, 0x47, 0x31];
 pub const HEAD_LEN: usize = 8;
@@ -153,7 +153,7 @@ pub fn parse_executed(b: &[u8]) -> Option<Executed> {
         quality: b[24],
     };
     let ok = point_ok(record.point)
-        && record.outcome <= 3
+        && record.outcome <= OUTCOME_MAX
         && record.client >= 1
         && window_ok(record.done, record.call)
         && record.op.accepts(record.argument)

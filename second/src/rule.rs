@@ -1,9 +1,15 @@
-//! Paper 01, "Points and commands": the rules of the six ops.
+//! Paper 01, "Points and commands": the rules of the six ops. Request 1 of
+//! paper 02 changed the rule of step; both versions of it stand here.
 
 use crate::plan::Entry;
 
 pub const VALID: u8 = 0;
 pub const INVALID: u8 = 1;
+
+/// Outcome of a step that stopped at an end of the range.
+pub const STOPPED: u8 = 4;
+/// Greatest outcome in packets, records, images and states.
+pub const OUTCOME_MAX: u8 = STOPPED;
 
 /// Least and greatest argument by op.
 pub const ARGUMENTS: [(i32, i32); 6] = [
@@ -45,6 +51,41 @@ impl Op {
     }
 }
 
+/// Versions of op 2's rule: what a step past low or high does.
+#[derive(Clone, Copy, PartialEq, Eq, Hash, Debug, Default)]
+pub enum StepRule {
+    /// Outcome 1, no change.
+    Refuse,
+    /// The value at that end, the quality as it was, outcome 4.
+    #[default]
+    Stop,
+}
+
+/// The version of each op's rule that a program executes by. An op that is
+/// not named here has one version, so these make no difference to it.
+#[derive(Clone, Copy, PartialEq, Eq, Hash, Debug, Default)]
+pub struct Rules {
+    pub step: StepRule,
+}
+
+impl Rules {
+    /// Before request 1 of paper 02.
+    pub const OLD: Rules = Rules {
+        step: StepRule::Refuse,
+    };
+    pub const TODAY: Rules = Rules {
+        step: StepRule::Stop,
+    };
+
+    /// Greatest outcome that a program of these rules knows.
+    pub fn outcome_max(self) -> u8 {
+        match self.step {
+            StepRule::Refuse => 3,
+            StepRule::Stop => STOPPED,
+        }
+    }
+}
+
 /// Outcome of a command, with the point's value and quality after it.
 #[derive(Clone, Copy, PartialEq, Eq, Debug)]
 pub struct Effect {
@@ -53,8 +94,21 @@ pub struct Effect {
     pub quality: u8,
 }
 
-/// One command on a point of the given range, value and quality.
+/// One command on a point of the given range, value and quality, by today's
+/// rules.
 pub fn apply(op: Op, argument: i32, entry: &Entry, value: i32, quality: u8) -> Effect {
+    apply_by(Rules::TODAY, op, argument, entry, value, quality)
+}
+
+/// The same by the given rules.
+pub fn apply_by(
+    rules: Rules,
+    op: Op,
+    argument: i32,
+    entry: &Entry,
+    value: i32,
+    quality: u8,
+) -> Effect {
     let keep = |outcome| Effect {
         outcome,
         value,
@@ -65,14 +119,14 @@ pub fn apply(op: Op, argument: i32, entry: &Entry, value: i32, quality: u8) -> E
         Op::Set if entry.contains(argument) => assign(argument),
         Op::Set => keep(1),
         Op::Step if quality == INVALID => keep(2),
-        Op::Step => match sum_in_range(entry, value, argument) {
-            Some(sum) => Effect {
-                outcome: 0,
-                value: sum,
+        Op::Step => {
+            let (outcome, value) = step(rules.step, entry, value, argument);
+            Effect {
+                outcome,
+                value,
                 quality,
-            },
-            None => keep(1),
-        },
+            }
+        }
         Op::Report if entry.contains(argument) => assign(argument),
         Op::Report | Op::Fault => fall_back(entry),
         Op::Part => assign(part(entry, argument)),
@@ -95,9 +149,17 @@ fn fall_back(entry: &Entry) -> Effect {
     }
 }
 
-fn sum_in_range(entry: &Entry, value: i32, argument: i32) -> Option<i32> {
+/// Outcome and value of a step on a valid point. The sum has 64 bits, so it
+/// does not wrap.
+fn step(rule: StepRule, entry: &Entry, value: i32, argument: i32) -> (u8, i32) {
     let sum = i64::from(value) + i64::from(argument);
-    i32::try_from(sum).ok().filter(|&s| entry.contains(s))
+    let in_range = i32::try_from(sum).ok().filter(|&s| entry.contains(s));
+    match (in_range, rule) {
+        (Some(sum), _) => (0, sum),
+        (None, StepRule::Refuse) => (1, value),
+        (None, StepRule::Stop) if sum < i64::from(entry.low) => (STOPPED, entry.low),
+        (None, StepRule::Stop) => (STOPPED, entry.high),
+    }
 }
 
 /// low + (high - low) * a / 1000, rounded down. The product is not negative,

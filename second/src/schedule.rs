@@ -11,8 +11,11 @@ mod commands;
 mod crashes;
 mod generate;
 mod moves;
+mod renewal;
 
 pub use generate::{generate, ISSUES_MAX};
+pub(crate) use renewal::rules_in_step;
+pub use renewal::{generate_renewed, Renewed};
 
 /// A cabinet or a desk.
 #[derive(Clone, Copy, PartialEq, Eq, Debug)]

@@ -1,8 +1,9 @@
 //! Paper 01, "Demand 3 in full": the book (sequential specification). It is
-//! fed the plan and the ordered commands, nothing else.
+//! fed the plan and the ordered commands, each with the rules that it was
+//! executed by, nothing else.
 
 use crate::plan::{Plan, POINTS};
-use crate::rule::{apply, Effect, Op, INVALID};
+use crate::rule::{apply_by, Effect, Op, Rules, INVALID};
 
 #[derive(Clone, PartialEq, Eq, Debug)]
 pub struct SequentialSpec {
@@ -16,10 +17,16 @@ impl SequentialSpec {
         SequentialSpec { plan, points }
     }
 
-    /// Runs a command; it changes only its point.
+    /// Runs a command by today's rules; it changes only its point.
     pub fn run(&mut self, op: Op, point: u8, argument: i32) -> Effect {
+        self.run_by(Rules::TODAY, op, point, argument)
+    }
+
+    /// The same by the given rules.
+    pub fn run_by(&mut self, rules: Rules, op: Op, point: u8, argument: i32) -> Effect {
         let (value, quality) = self.point(point);
-        let effect = apply(op, argument, self.plan.entry(point), value, quality);
+        let entry = self.plan.entry(point);
+        let effect = apply_by(rules, op, argument, entry, value, quality);
         self.set(point, effect.value, effect.quality);
         effect
     }

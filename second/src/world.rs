@@ -5,13 +5,14 @@
 //! cabinet before it is founded or between its crash and a recovery, a second
 //! founding, a second desk of one client number.
 
-use crate::checker::{check, Command, Violation};
+use crate::checker::{check_marked, Command, Violation};
 use crate::client::Client;
 use crate::faults::{Fault, Faulty};
 use crate::leases::LeaseManager;
 use crate::packet::{GRANT, REFUSAL, RESULT};
 use crate::plan::{write_plan, PLAN_LEN};
-use crate::schedule::{Call, Schedule, Step};
+use crate::rule::Rules;
+use crate::schedule::{rules_in_step, Call, Renewed, Schedule, Step};
 
 mod account;
 mod at_clients;
@@ -65,10 +66,12 @@ impl Cabinet {
     }
 }
 
-/// A request that executed a command: the log's length after it.
+/// A request that executed a command: the rules that it was executed by and
+/// the log's length after it.
 struct Execution {
     command: usize,
     cabinet: usize,
+    rules: Rules,
     end: u64,
     place: u32,
     survives: bool,
@@ -89,14 +92,25 @@ pub struct Run {
     pub trace: Vec<String>,
 }
 
-/// Runs the schedule and checks demand 3 after it.
+/// Runs the schedule and checks demand 3 after it. All servers run today's
+/// program.
 pub fn run(schedule: &Schedule, options: Options) -> Run {
-    let mut world = World::new(schedule, options);
+    run_world(World::new(schedule, options))
+}
+
+/// The same with servers that are renewed in the schedule.
+pub fn run_renewed(renewed: &Renewed, options: Options) -> Run {
+    run_world(World::new_renewed(renewed, options))
+}
+
+fn run_world(mut world: World) -> Run {
+    let schedule = world.schedule;
     for step in &schedule.steps {
         world.step(step);
     }
     world.count_left_crashed();
-    let result = check(&schedule.plan, &world.commands(), &world.finals());
+    let (commands, marks) = (world.commands(), world.marks());
+    let result = check_marked(&schedule.plan, &commands, &marks, &world.finals());
     Run {
         result,
         counts: world.counts,
@@ -106,14 +120,19 @@ pub fn run(schedule: &Schedule, options: Options) -> Run {
 
 /// Drops steps as long as the schedule still violates demand 3.
 pub fn minimise(schedule: &Schedule, options: Options) -> Schedule {
-    let mut best = schedule.clone();
-    let mut size = best.steps.len() / 2;
+    minimise_renewed(&Renewed::today(schedule), options).schedule
+}
+
+/// The same with servers that are renewed in the schedule.
+pub fn minimise_renewed(renewed: &Renewed, options: Options) -> Renewed {
+    let mut best = renewed.clone();
+    let count = |r: &Renewed| r.schedule.steps.len();
+    let mut size = count(&best) / 2;
     while size >= 1 {
         let mut at = 0;
-        while at < best.steps.len() {
-            let mut shorter = best.clone();
-            shorter.steps.drain(at..(at + size).min(best.steps.len()));
-            match run(&shorter, options).result {
+        while at < count(&best) {
+            let shorter = best.without(at..(at + size).min(count(&best)));
+            match run_renewed(&shorter, options).result {
                 Err(Violation::Lost { .. } | Violation::NoOrder { .. }) => best = shorter,
                 _ => at += size,
             }
@@ -125,6 +144,8 @@ pub fn minimise(schedule: &Schedule, options: Options) -> Schedule {
 
 pub struct World<'a> {
     schedule: &'a Schedule,
+    /// For each server, the number of steps before its renewal.
+    renewals: &'a [usize],
     options: Options,
     plan: [u8; PLAN_LEN],
     cabinets: Vec<Cabinet>,
@@ -145,7 +166,16 @@ pub struct World<'a> {
 }
 
 impl<'a> World<'a> {
+    /// All servers run today's program.
     pub fn new(schedule: &'a Schedule, options: Options) -> World<'a> {
+        World::with_renewals(schedule, &[], options)
+    }
+
+    pub fn new_renewed(renewed: &'a Renewed, options: Options) -> World<'a> {
+        World::with_renewals(&renewed.schedule, &renewed.places, options)
+    }
+
+    fn with_renewals(schedule: &'a Schedule, renewals: &'a [usize], options: Options) -> World<'a> {
         let cabinet = |_| Cabinet {
             phase: Phase::New,
             server: Faulty::new(options.fault),
@@ -153,6 +183,7 @@ impl<'a> World<'a> {
         };
         World {
             schedule,
+            renewals,
             options,
             plan: write_plan(&schedule.plan),
             cabinets: (0..schedule.cabinets).map(cabinet).collect(),
@@ -205,6 +236,11 @@ impl<'a> World<'a> {
             Call::Renew { desk, wait, span } => self.renew(desk, wait, span),
             Call::Query { desk, wait } => self.query(desk, wait),
         }
+    }
+
+    /// The rules of a server's program in the present step.
+    fn rules(&self, cabinet: usize) -> Rules {
+        rules_in_step(self.renewals, cabinet, self.place as usize - 1)
     }
 
     fn note(&mut self, text: impl FnOnce() -> String) {

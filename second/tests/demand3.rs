@@ -3,10 +3,10 @@
 mod common;
 
 use common::*;
-use second::checker::{check, Command, Finals, Violation};
-use second::plan::{Plan, POINTS};
+use second::checker::{check, check_marked, Command, Finals, Violation};
+use second::plan::{Entry, Plan, POINTS};
 use second::random::Random;
-use second::rule::{Effect, Op};
+use second::rule::{Effect, Op, Rules};
 use second::schedule::generate;
 use second::sequential::SequentialSpec;
 use second::world::{run, Counts, Options};
@@ -28,6 +28,8 @@ fn run_all(count: u64, options: Options) -> Counts {
 /// The dangerous things happen, and happen often.
 fn assert_eventful(counts: &Counts, schedules: u64) {
     assert!(counts.executed > 5 * schedules);
+    assert!(counts.steps_stopped > schedules / 4);
+    assert_eq!((counts.executed_old, counts.steps_refused), (0, 0));
     assert!(counts.completed > 2 * schedules);
     assert!(counts.repeats > 2 * schedules);
     assert!(counts.crashes > schedules);
@@ -142,27 +144,62 @@ fn checker_by_hand() {
     assert_eq!(check(&plan, &[pending], &finals), Ok(()));
 }
 
+/// The book runs a step past an end by its mark.
+#[test]
+fn checker_runs_by_the_marks() {
+    let plan = Plan::uniform(RANGE);
+    let set = completed(command(1, Op::Set, 5, 990, 1), 2, 0, 990, 0);
+    let old = completed(command(2, Op::Step, 5, 20, 3), 4, 1, 990, 0);
+    let new = completed(command(3, Op::Step, 5, 20, 5), 6, 4, 1000, 0);
+    let unseen = command(4, Op::Step, 5, -2000, 7);
+    let no_order = Err(Violation::NoOrder { point: 5 });
+    let verdict = |commands: &[Command], marks: &[Rules], value| {
+        check_marked(&plan, commands, marks, &finals_of(5, value, 0))
+    };
+    let (o, t) = (Rules::OLD, Rules::TODAY);
+    assert_eq!(verdict(&[set, old], &[t, o], 990), Ok(()));
+    assert_eq!(verdict(&[set, old], &[o, o], 990), Ok(()));
+    assert_eq!(verdict(&[set, old], &[t, t], 990), no_order);
+    assert_eq!(verdict(&[set, old, new], &[o, o, t], 1000), Ok(()));
+    assert_eq!(verdict(&[set, old, new], &[o, t, o], 1000), no_order);
+    assert_eq!(verdict(&[set, old, new], &[o, o, o], 1000), no_order);
+    // A step without a result counts at the end by its mark.
+    assert_eq!(verdict(&[set, unseen], &[t, o], 990), Ok(()));
+    assert_eq!(verdict(&[set, unseen], &[t, o], -100), no_order);
+    assert_eq!(verdict(&[set, unseen], &[t, t], -100), Ok(()));
+    assert_eq!(verdict(&[set, unseen], &[t, t], 990), no_order);
+    // Without marks, all are run by today's rules.
+    let finals = finals_of(5, -100, 0);
+    assert_eq!(check(&plan, &[set, unseen], &finals), Ok(()));
+    assert_eq!(check(&plan, &[set, old], &finals_of(5, 990, 0)), no_order);
+}
+
 /// All orders of the surviving commands, of all points together.
-fn some_order(rest: &mut Vec<Command>, book: &SequentialSpec, finals: &Finals) -> bool {
+fn some_order(rest: &mut Vec<(Command, Rules)>, book: &SequentialSpec, finals: &Finals) -> bool {
     if rest.is_empty() {
         return (0..POINTS).all(|p| finals[p].is_none_or(|f| f == book.point(p as u8)));
     }
     (0..rest.len()).any(|i| {
-        let c = rest.remove(i);
+        let (c, rules) = rest.remove(i);
         let early = rest
             .iter()
-            .any(|d| d.completed.is_some_and(|(at, _)| at < c.issued));
+            .any(|(d, _)| d.completed.is_some_and(|(at, _)| at < c.issued));
         let mut book = book.clone();
-        let effect = book.run(c.op, c.point, c.argument);
+        let effect = book.run_by(rules, c.op, c.point, c.argument);
         let agrees = c.completed.is_none_or(|(_, received)| received == effect);
         let found = !early && agrees && some_order(rest, &book, finals);
-        rest.insert(i, c);
+        rest.insert(i, (c, rules));
         found
     })
 }
 
-/// Commands run in a random order, results and finals at times changed.
-fn random_history(random: &mut Random, plan: &Plan) -> (Vec<Command>, Finals) {
+/// Commands run in a random order, by the old rules at times, finals at times
+/// changed.
+fn random_history(
+    random: &mut Random,
+    plan: &Plan,
+    old_percent: u32,
+) -> (Vec<(Command, Rules)>, Finals) {
     let mut book = SequentialSpec::new(*plan);
     let mut commands = Vec::new();
     let mut places: Vec<u32> = (1..40).collect();
@@ -179,12 +216,16 @@ fn random_history(random: &mut Random, plan: &Plan) -> (Vec<Command>, Finals) {
         };
         let (a, b) = (place(), place());
         let mut c = command(call, op, point, argument, a.min(b));
-        let effect = book.run(op, point, argument);
+        let rules = match random.chance(old_percent) {
+            true => Rules::OLD,
+            false => Rules::TODAY,
+        };
+        let effect = book.run_by(rules, op, point, argument);
         if random.chance(70) {
             let at = a.max(b);
             c = completed(c, at, effect.outcome, effect.value, effect.quality);
         }
-        commands.push(c);
+        commands.push((c, rules));
     }
     let mut finals: Finals = [0; POINTS].map(|_| Some((0, 1)));
     finals[0] = Some(book.point(0));
@@ -196,24 +237,36 @@ fn random_history(random: &mut Random, plan: &Plan) -> (Vec<Command>, Finals) {
 }
 
 /// One search for each point decides as a search over whole orders does.
-#[test]
-fn checker_agrees_with_a_search_over_whole_orders() {
-    let plan = Plan::uniform(RANGE);
+fn assert_agrees(plan: Plan, old_percent: u32) {
     let mut random = Random::new(8);
     let (mut suits, mut fails) = (0, 0);
     for _ in 0..3000 {
-        let (mut commands, finals) = random_history(&mut random, &plan);
-        let verdict = check(&plan, &commands, &finals).is_ok();
+        let (mut history, finals) = random_history(&mut random, &plan, old_percent);
+        let (commands, marks): (Vec<_>, Vec<_>) = history.iter().copied().unzip();
+        let verdict = check_marked(&plan, &commands, &marks, &finals).is_ok();
         let book = SequentialSpec::new(plan);
-        assert_eq!(
-            verdict,
-            some_order(&mut commands, &book, &finals),
-            "{commands:?}"
-        );
+        let expected = some_order(&mut history, &book, &finals);
+        assert_eq!(verdict, expected, "{history:?}");
+        if old_percent == 0 {
+            assert_eq!(check(&plan, &commands, &finals).is_ok(), verdict);
+        }
         match verdict {
             true => suits += 1,
             false => fails += 1,
         }
     }
     assert!(suits > 300 && fails > 300);
+}
+
+#[test]
+fn checker_agrees_with_a_search_over_whole_orders() {
+    assert_agrees(Plan::uniform(RANGE), 0);
+}
+
+/// The same where steps pass an end and some commands are marked old.
+#[test]
+fn checker_agrees_by_the_marks() {
+    let narrow = Entry { high: 2, ..RANGE };
+    assert_agrees(Plan::uniform(narrow), 0);
+    assert_agrees(Plan::uniform(narrow), 50);
 }

@@ -1,6 +1,8 @@
 //! The checker finds each planted fault within a bounded number of random
 //! schedules, and finds nothing in the same schedules without the fault.
 
+mod search;
+
 use second::checker::Violation;
 use second::faults::Fault;
 use second::schedule::generate;
@@ -25,15 +27,7 @@ fn violates(seed: u64, fault: Option<Fault>) -> bool {
 }
 
 fn assert_found(fault: Fault) {
-    let mut seeds = FIRST_SEED..FIRST_SEED + SCHEDULES_MAX;
-    let found = seeds.find(|&seed| violates(seed, Some(fault)));
-    let found = found.expect("the checker finds the fault");
-    println!(
-        "{fault:?}: found after {} schedules",
-        found - FIRST_SEED + 1
-    );
-    let clean = (FIRST_SEED..=found).find(|&seed| violates(seed, None));
-    assert_eq!(clean, None, "a violation without the fault");
+    search::first_violation(FIRST_SEED..FIRST_SEED + SCHEDULES_MAX, fault, violates);
 }
 
 #[test]
@@ -79,6 +73,16 @@ fn floor_not_tested() {
 #[test]
 fn recover_to_the_founding_state() {
     assert_found(Fault::RecoverToFounding);
+}
+
+#[test]
+fn step_to_the_other_end() {
+    assert_found(Fault::StepToOtherEnd);
+}
+
+#[test]
+fn step_that_loses_the_quality() {
+    assert_found(Fault::StepLosesQuality);
 }
 
 /// A shortened schedule still violates, and is no longer than the first.

@@ -259,7 +259,7 @@ fn p_cases_of_the_ops() {
     let cases = [
         (Op::Set, 1000, 5, 0, effect(0, 1000, 0)),
         (Op::Set, 1001, 5, 0, effect(1, 5, 0)),
-        (Op::Step, 1, 1000, 0, effect(1, 1000, 0)),
+        (Op::Step, 1, 1000, 0, effect(4, 1000, 0)),
         (Op::Step, 1, 999, 0, effect(0, 1000, 0)),
         (Op::Step, 0, 0, 1, effect(2, 0, 1)),
         (Op::Report, -101, 5, 0, effect(3, 0, 1)),
@@ -284,8 +284,8 @@ fn ops_beyond_the_p_cases() {
     let cases = [
         (Op::Read, 0, 4, 1, effect(0, 4, 1)),
         (Op::Set, i32::MIN, 4, 1, effect(0, i32::MIN, 0)),
-        (Op::Step, 1, i32::MAX, 0, effect(1, i32::MAX, 0)),
-        (Op::Step, -1, i32::MIN, 0, effect(1, i32::MIN, 0)),
+        (Op::Step, 1, i32::MAX, 0, effect(4, i32::MAX, 0)),
+        (Op::Step, -1, i32::MIN, 0, effect(4, i32::MIN, 0)),
         (Op::Step, i32::MIN, i32::MAX, 0, effect(0, -1, 0)),
         (Op::Report, 9, 4, 1, effect(0, 9, 0)),
         (Op::Fault, 0, 4, 0, effect(3, 3, 1)),

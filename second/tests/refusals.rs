@@ -597,7 +597,7 @@ fn bad_images() -> Vec<Vec<u8>> {
     with(&|b| put_u32(b, 76, -101i32 as u32));
     with(&|b| b[80] = 6);
     with(&|b| b[80] = 0);
-    with(&|b| b[81] = 4);
+    with(&|b| b[81] = 5);
     with(&|b| b[82] = 2);
     with(&|b| b[83] = 1);
     let many: Vec<Floor> = (1..=33).map(|client| floor(client, 1)).collect();
@@ -908,7 +908,7 @@ fn recover_broken_layouts() {
         (1, 6),
         (1, 0),
         (2, 64),
-        (3, 4),
+        (3, 5),
         (4, 0),
         (8, 19),
         (12, 0),

@@ -58,7 +58,7 @@ fn random_packet(random: &mut Random) -> Packet {
             })
         }
         1 => Packet::Result(Reply {
-            outcome: random.below(4) as u8,
+            outcome: random.below(5) as u8,
             point,
             quality: random.below(2) as u8,
             client,
@@ -265,7 +265,7 @@ fn random_image(random: &mut Random, plan: &Plan) -> Parts {
                     argument,
                     value: value(random),
                     op,
-                    outcome: random.below(4) as u8,
+                    outcome: random.below(5) as u8,
                     quality: random.below(2) as u8,
                 });
             }
@@ -347,7 +347,7 @@ fn random_record(random: &mut Random) -> Vec<u8> {
             write_record(&Record::Executed(Executed {
                 op,
                 point,
-                outcome: random.below(4) as u8,
+                outcome: random.below(5) as u8,
                 client,
                 call,
                 done,

@@ -95,14 +95,16 @@ fn plans() {
     tally.finish();
 }
 
-const RULE_CLASSES: [&str; 17] = [
+const RULE_CLASSES: [&str; 19] = [
     "read",
     "set: outcome 0",
     "set: outcome 1",
     "step: outcome 0",
-    "step: outcome 1, sum under low",
-    "step: outcome 1, sum over high",
-    "step: outcome 1, sum past 32 bits",
+    "step: outcome 0, at an end",
+    "step: outcome 4, low = high",
+    "step: outcome 4, sum under low",
+    "step: outcome 4, sum over high",
+    "step: outcome 4, sum past 32 bits",
     "step: outcome 2",
     "report: outcome 0",
     "report: outcome 3",
@@ -126,9 +128,11 @@ fn rule_class(case: &Case) -> &'static str {
         1 if e.contains(argument) => "set: outcome 0",
         1 => "set: outcome 1",
         2 if case.quality == 1 => "step: outcome 2",
-        2 if i32::try_from(sum).is_err() => "step: outcome 1, sum past 32 bits",
-        2 if sum < i64::from(e.low) => "step: outcome 1, sum under low",
-        2 if sum > i64::from(e.high) => "step: outcome 1, sum over high",
+        2 if i32::try_from(sum).is_err() => "step: outcome 4, sum past 32 bits",
+        2 if !e.contains(sum as i32) && e.low == e.high => "step: outcome 4, low = high",
+        2 if sum < i64::from(e.low) => "step: outcome 4, sum under low",
+        2 if sum > i64::from(e.high) => "step: outcome 4, sum over high",
+        2 if sum == i64::from(e.low) || sum == i64::from(e.high) => "step: outcome 0, at an end",
         2 => "step: outcome 0",
         3 if e.contains(argument) => "report: outcome 0",
         3 => "report: outcome 3",

@@ -120,7 +120,7 @@ fn record_fault(r: &[u8], floors: &[(u32, u32)]) -> Option<&'static str> {
         6.. => "record: op",
         0 | 4 if argument != 0 => "record: argument",
         5 if !(0..=1000).contains(&argument) => "record: argument",
-        _ if r[17] > 3 => "record: outcome",
+        _ if r[17] > 4 => "record: outcome",
         _ if r[18] > 1 => "record: quality",
         _ => match floor {
             None => "record: client without a floor",

@@ -131,7 +131,7 @@ fn request_class(b: &[u8]) -> &'static str {
 
 fn result_class(b: &[u8]) -> &'static str {
     match b {
-        _ if b[1] > 3 => "result: outcome",
+        _ if b[1] > 4 => "result: outcome",
         _ if b[2] > 63 => "result: point",
         _ if b[3] > 1 => "result: quality",
         _ if get_u32(b, 4) == 0 => "result: client",

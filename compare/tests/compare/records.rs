@@ -132,7 +132,7 @@ fn executed_class(b: &[u8]) -> &'static str {
     match b[1] {
         6.. => "executed: op",
         _ if b[2] > 63 => "executed: point",
-        _ if b[3] > 3 => "executed: outcome",
+        _ if b[3] > 4 => "executed: outcome",
         _ if get_u32(b, 4) == 0 => "executed: client",
         _ if done == 0 => "executed: done",
         _ if call < done || call > done + 15 => "executed: window",

@@ -17,15 +17,15 @@ use borrow.Author.Tests.{lt-ltb, le-ltb, le-leb, lt-leb, leb-true, leb-false, lt
 use lib.Dec.{leb, ltb, eqb}
 use lib.IntN.{ℤ, pos, negsuc, subℕ, _+ℤ_, _-ℤ_, negℤ}
 use lib.Signed.{leZ}
-use Rattle.model.specs.Versions.{Version, first}
+use Rattle.model.specs.Versions.{Version, first, second}
 use Rattle.model.specs.declared.PlanEntry.{PlanEntry}
 use Rattle.model.specs.declared.Reading.{Reading}
 use Rattle.model.specs.Choice.{pick}
 use Rattle.model.specs.Numbers.{half, signed}
 use Rattle.model.specs.Plan.{inRange, planEntryOk}
-use Rattle.model.specs.Rules.{sumInRange, setRule, stepRule, reportRule, faultRule, partRule, ruleOf, argumentRange, inArguments, argumentOk}
-use Rattle.model.specs.Sequential.{resultZ, entryZ, readingMeant, resultMeant, inRangeZ, quotientDown, readZ, setZ, stepZ, reportZ, faultZ, partZ, ruleZ}
-use Rattle.model.specs.Limits.{wholePart}
+use Rattle.model.specs.Rules.{sumInRange, endPast, pastEnd, setRule, stepRule, reportRule, faultRule, partRule, ruleOf, argumentRange, inArguments, argumentOk}
+use Rattle.model.specs.Sequential.{resultZ, entryZ, readingMeant, resultMeant, inRangeZ, quotientDown, readZ, setZ, pastEndZ, stepZ, reportZ, faultZ, partZ, ruleZ}
+use Rattle.model.specs.Limits.{wholePart, stopped}
 use Rattle.format_commands.proofs.Bounds.{sum-bounds, part-bounds, entry-ordered}
 
 -- ---- a difference of two numbers, as an integer
@@ -179,13 +179,24 @@ module _ (e : PlanEntry) where
   unfolding resultMeant faultRule faultZ entryZ
   fault-tie = refl
 
-  pub step-tie : (a : ℕ) (r : Reading) → resultMeant (stepRule e a r) ≡ stepZ (entryZ e) (signed a) (readingMeant r)
+  end-tie : (v a : ℕ) → signed (endPast e v a) ≡ pick (leZ (entryZ e .low) (signed v +ℤ signed a)) (entryZ e .high) (entryZ e .low)
+  unfolding entryZ
+  end-tie v a =
+      pick-tie signed (leb (e .low + half) (v + a)) (leZ (signed (e .low)) (signed v +ℤ signed a)) (sym (low-sum (e .low) v a)) (λ h. refl) (λ h. refl)
+
+  past-tie : (n : Version) (a : ℕ) (r : Reading)
+      → resultMeant (pastEnd n e a r) ≡ pastEndZ n (entryZ e) (signed (r .value) +ℤ signed a) (readingMeant r)
+  unfolding resultMeant pastEndZ readingMeant
+  past-tie first a r = refl
+  past-tie second a r = ap (λ (v : ℤ). resultZ stopped v (r .quality)) (end-tie (r .value) a)
+
+  pub step-tie : (n : Version) (a : ℕ) (r : Reading) → resultMeant (stepRule n e a r) ≡ stepZ n (entryZ e) (signed a) (readingMeant r)
   unfolding resultMeant stepRule stepZ readingMeant
-  step-tie a r =
+  step-tie n a r =
       pick-tie resultMeant (eqb (r .quality) 1) (eqb (r .quality) 1) refl (λ h. refl)
       (λ h. pick-tie resultMeant (sumInRange e (r .value) a) (inRangeZ (entryZ e) (signed (r .value) +ℤ signed a)) (sum-tie (r .value) a)
       (λ k. let b = sum-bounds e (r .value) a k in ap (λ (v : ℤ). resultZ 0 v (r .quality)) (sum-kept (r .value) a (omega arith)))
-      (λ k. refl))
+      (λ k. past-tie n a r))
 
   pub part-tie : (a : ℕ) → e .low ≤ e .high → half ≤ a → resultMeant (partRule e a) ≡ partZ (entryZ e) (signed a)
   unfolding resultMeant partRule partZ entryZ quotientDown
@@ -196,10 +207,10 @@ module _ (e : PlanEntry) where
   pub rule-tie : (v : Version) (op a : ℕ) (r : Reading) → planEntryOk e ≡ true → argumentOk op a ≡ true
       → resultMeant (ruleOf v e op a r) ≡ ruleZ v (entryZ e) op (signed a) (readingMeant r)
   unfolding ruleOf ruleZ readZ resultMeant readingMeant
-  rule-tie first op a r ok h =
+  rule-tie n op a r ok h =
       pick-tie resultMeant (eqb op 0) (eqb op 0) refl (λ k. refl)
       (λ k. pick-tie resultMeant (eqb op 1) (eqb op 1) refl (λ k. set-tie a r)
-      (λ k. pick-tie resultMeant (eqb op 2) (eqb op 2) refl (λ k. step-tie a r)
+      (λ k. pick-tie resultMeant (eqb op 2) (eqb op 2) refl (λ k. step-tie n a r)
       (λ k. pick-tie resultMeant (eqb op 3) (eqb op 3) refl (λ k. report-tie a r)
       (λ k. pick-tie resultMeant (eqb op 4) (eqb op 4) refl (λ k. fault-tie)
       (λ k. pick-tie resultMeant (eqb op 5) (eqb op 5) refl (λ k. part k) (λ k. refl))))))

@@ -1,20 +1,20 @@
 -- A command on a value in range leaves one in range.
---     rule-in-range     the result's value is in the plan's range, its outcome is 0 to 3, its quality 0 or 1
+--     rule-in-range     the result's value is in the plan's range, its outcome is 0 to 4, its quality 0 or 1
 -- Assumes nothing.
 use Prim.Native.Nat.{ℕ, _+_, _-_, _*_, _/_, _≤_}
 use mathlib.Core.Path.{_≡_, subst}
 use mathlib.Core.Bool.{true}
 use native.Mathlib.Omega.{arith}
 use borrow.Author.Tests.{le-leb, eqb-true}
-use lib.Dec.{eqb}
+use lib.Dec.{eqb, leb}
 use Rattle.model.specs.declared.PlanEntry.{PlanEntry}
 use Rattle.model.specs.declared.Reading.{Reading}
 use Rattle.model.specs.Numbers.{half}
-use Rattle.model.specs.Versions.{Version, first}
-use Rattle.model.specs.Limits.{lastOutcome, lastQuality, wholePart}
+use Rattle.model.specs.Versions.{Version, first, second}
+use Rattle.model.specs.Limits.{lastOutcome, lastQuality, wholePart, stopped}
 use Rattle.model.specs.Plan.{inRange, planEntryOk}
 use Rattle.model.specs.Packets.{outcomeOk}
-use Rattle.model.specs.Rules.{result, same, sumInRange, setRule, stepRule, reportRule, faultRule, partRule, ruleOf, argumentOk}
+use Rattle.model.specs.Rules.{result, same, sumInRange, endPast, pastEnd, setRule, stepRule, reportRule, faultRule, partRule, ruleOf, argumentOk}
 use Rattle.model_laws.proofs.Tests.{choose}
 use Rattle.format_commands.specs.Results.{ResultOk}
 use Rattle.format_commands.proofs.Bounds.{range-bounds, sum-bounds, part-bounds, part-between, entry-ordered}
@@ -39,13 +39,21 @@ module _ (e : PlanEntry) where
     stored-ok : inRange e a ≡ true → ResultOk e (result 0 a 0)
     stored-ok h = let b = range-bounds e a h in result-ok 0 a 0 (omega arith) (omega arith) (b .0) (b .1)
 
-    step-ok : ResultOk e (stepRule e a r)
+    past-ok : (n : Version) → ResultOk e (pastEnd n e a r)
+    past-ok first = unchanged-ok 1 (omega arith)
+    past-ok second =
+        let b = entry-ordered e ok in
+        choose (λ (v : ℕ). ResultOk e (result stopped v (r .quality))) (leb (e .low + half) (r .value + a))
+        (λ h. result-ok stopped (e .high) (r .quality) (omega arith) quality (omega arith) (omega arith))
+        (λ h. result-ok stopped (e .low) (r .quality) (omega arith) quality (omega arith) (omega arith))
+
+    step-ok : (n : Version) → ResultOk e (stepRule n e a r)
     unfolding stepRule
-    step-ok =
+    step-ok n =
         choose (ResultOk e) (eqb (r .quality) 1) (λ h. unchanged-ok 2 (omega arith))
         (λ h. choose (ResultOk e) (sumInRange e (r .value) a)
         (λ k. let b = sum-bounds e (r .value) a k in result-ok 0 (r .value + a - half) (r .quality) (omega arith) quality (omega arith) (omega arith))
-        (λ k. unchanged-ok 1 (omega arith)))
+        (λ k. past-ok n))
 
     part-ok : eqb op 5 ≡ true → ResultOk e (partRule e a)
     unfolding partRule
@@ -57,10 +65,10 @@ module _ (e : PlanEntry) where
 
     pub rule-in-range : (v : Version) → ResultOk e (ruleOf v e op a r)
     unfolding ruleOf setRule reportRule faultRule
-    rule-in-range first =
+    rule-in-range n =
         choose (ResultOk e) (eqb op 0) (λ h. unchanged-ok 0 (omega arith))
         (λ h. choose (ResultOk e) (eqb op 1) (λ h. choose (ResultOk e) (inRange e a) (λ k. stored-ok k) (λ k. unchanged-ok 1 (omega arith)))
-        (λ h. choose (ResultOk e) (eqb op 2) (λ h. step-ok)
+        (λ h. choose (ResultOk e) (eqb op 2) (λ h. step-ok n)
         (λ h. choose (ResultOk e) (eqb op 3) (λ h. choose (ResultOk e) (inRange e a) (λ k. stored-ok k) (λ k. fallback-ok))
         (λ h. choose (ResultOk e) (eqb op 4) (λ h. fallback-ok)
         (λ h. choose (ResultOk e) (eqb op 5) (λ h. part-ok h) (λ h. unchanged-ok 1 (omega arith)))))))

@@ -17,7 +17,7 @@ use Rattle.model.specs.Packets.{outcomeOk}
 unfoldable pub checkedRule : PlanEntry → ℕ → ℕ → Reading → CommandResult
 checkedRule e op a r = pick (argumentOk op a) (ruleOf (today op) e op a r) (same 1 r)
 
--- the value is in the entry's range, and fits 32 bits as the range does; outcome 0 to 3, quality 0 or 1
+-- the value is in the entry's range, and fits 32 bits as the range does; outcome 0 to 4, quality 0 or 1
 pub record ResultOk (e : PlanEntry) (x : CommandResult) : Type 0 where
   pub range : inRange e (x .value) ≡ true
   pub fits : e .high < word → x .value < word

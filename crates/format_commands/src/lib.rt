@@ -7,8 +7,9 @@ ghost use lib.ListN.{length, drop};
 ghost use Rattle.model.specs.Choice.{pick};
 ghost use Rattle.model.specs.Numbers.{half};
 ghost use Rattle.model.specs.Plan.{planEntryOf, planEntryOk, planRowOk, planOk};
-ghost use Rattle.model.specs.Rules.{same, result, sumInRange, setRule, stepRule, reportRule, faultRule, partRule, argumentOk};
-ghost use Rattle.model.specs.Limits.{planRow, partOp, carriedOut, outOfRange};
+ghost use Rattle.model.specs.Versions.{second};
+ghost use Rattle.model.specs.Rules.{same, result, sumInRange, endPast, pastEnd, setRule, stepRule, reportRule, faultRule, partRule, argumentOk};
+ghost use Rattle.model.specs.Limits.{planRow, partOp, carriedOut};
 ghost use Rattle.format_commands.specs.Results.{checkedRule};
 use model::CommandResult;
 use model::PlanEntry;
@@ -122,22 +123,35 @@ fn set_rule(e: PlanEntry, a: u32, r: Reading) -> CommandResult
     }
 }
 
-// v + a, where it is in range; else outcome 1.
+// The end of the range that v + a is past.
+fn end_past(e: PlanEntry, v: u32, a: u32) -> u32
+    ensures { λ x. ⌜ x ≡ endPast e v a ⌝ }
+{
+    let low = e.low as u64;
+    let sum = v as u64 + a as u64;
+    if low + constants::HALF_U64 <= sum {
+        e.high
+    } else {
+        e.low
+    }
+}
+
+// v + a, where it is in range; else the end that it is past, outcome 4.
 fn step_valid(e: PlanEntry, a: u32, r: Reading) -> CommandResult
-    ensures { λ x. ⌜ x ≡ pick (sumInRange e (r .value) a) (result carriedOut (r .value + a - half) (r .quality)) (same outOfRange r) ⌝ }
+    ensures { λ x. ⌜ x ≡ pick (sumInRange e (r .value) a) (result carriedOut (r .value + a - half) (r .quality)) (pastEnd second e a r) ⌝ }
 {
     let v = r.value;
     let q = r.quality;
     if sum_in_range(e, v, a) {
         result_of(constants::CARRIED_OUT, sum(e, v, a), q)
     } else {
-        unchanged(constants::OUT_OF_RANGE, r)
+        result_of(constants::STOPPED, end_past(e, v, a), q)
     }
 }
 
 // What a step of a valid value gives is found before the quality is looked at: a choice, and no jump that a processor guesses.
 fn step_rule(e: PlanEntry, a: u32, r: Reading) -> CommandResult
-    ensures { λ x. ⌜ x ≡ stepRule e a r ⌝ }
+    ensures { λ x. ⌜ x ≡ stepRule second e a r ⌝ }
 {
     let next = step_valid(e, a, r);
     let q = r.quality;

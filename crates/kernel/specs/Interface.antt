@@ -6,9 +6,9 @@ use Rattle.model.specs.declared.Answer.{Answer}
 use Rattle.model.specs.Numbers.{word}
 use Rattle.model.specs.Operations.{After}
 
--- the interface's version, major × 65,536 + minor: 1.0
+-- the interface's version, major × 65,536 + minor: 1.1
 abbrev pub version : ℕ
-version = 65536
+version = 65537
 
 -- the low 32 bits are 0 or the refusal's number, the high 32 bits the number of bytes written to the output
 unfoldable pub wordOf : Answer → ℕ

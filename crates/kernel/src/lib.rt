@@ -9,7 +9,7 @@ ghost use Rattle.model.specs.Operations.{foundOf, requestOf, fetchOf, syncOf, n
 ghost use Rattle.kernel.specs.Interface.{version, wordOf, returned, inC};
 
 // The interface's version, major * 65,536 + minor.
-const VERSION: u32 = 65536;
+const VERSION: u32 = 65537;
 
 #[no_mangle]
 pub extern "C" fn mantelorris_version() -> u32

@@ -27,7 +27,7 @@ partOp = 5
 abbrev pub wholePart : ℕ
 wholePart = 1000
 
--- ---- outcomes: carried out; the value would be out of range; the value is invalid; the fallback was put
+-- ---- outcomes: carried out; the value would be out of range; the value is invalid; the fallback was put; a step stopped at the range's end
 
 abbrev pub carriedOut : ℕ
 carriedOut = 0
@@ -40,6 +40,9 @@ onInvalid = 2
 
 abbrev pub fellBack : ℕ
 fellBack = 3
+
+abbrev pub stopped : ℕ
+stopped = 4
 
 -- ---- qualities
 
@@ -61,7 +64,7 @@ abbrev pub lastOp : ℕ
 lastOp = partOp
 
 abbrev pub lastOutcome : ℕ
-lastOutcome = fellBack
+lastOutcome = stopped
 
 abbrev pub lastQuality : ℕ
 lastQuality = invalid

@@ -13,8 +13,8 @@ use Rattle.model.specs.declared.ArgumentRange.{ArgumentRange}
 use Rattle.model.specs.Choice.{pick}
 use Rattle.model.specs.Numbers.{half}
 use Rattle.model.specs.Plan.{inRange}
-use Rattle.model.specs.Limits.{last32, readOp, setOp, stepOp, reportOp, faultOp, partOp, wholePart, carriedOut, outOfRange, onInvalid, fellBack, valid, invalid}
-use Rattle.model.specs.Versions.{Version, first}
+use Rattle.model.specs.Limits.{last32, readOp, setOp, stepOp, reportOp, faultOp, partOp, wholePart, carriedOut, outOfRange, onInvalid, fellBack, stopped, valid, invalid}
+use Rattle.model.specs.Versions.{Version, first, second}
 
 -- the arguments from one to another
 abbrev pub arguments : ℕ → ℕ → ArgumentRange
@@ -59,10 +59,19 @@ sumInRange e v a = leb (e .low + half) (v + a) && leb (v + a) (e .high + half)
 unfoldable pub setRule : PlanEntry → ℕ → Reading → CommandResult
 setRule e a r = pick (inRange e a) (result carriedOut a valid) (same outOfRange r)
 
-unfoldable pub stepRule : PlanEntry → ℕ → Reading → CommandResult
-stepRule e a r =
+-- the end of the range that value + a is past
+abbrev pub endPast : PlanEntry → ℕ → ℕ → ℕ
+endPast e v a = pick (leb (e .low + half) (v + a)) (e .high) (e .low)
+
+-- a step past an end: by the first version nothing changes, by the second the value is put at that end
+abbrev pub pastEnd : Version → PlanEntry → ℕ → Reading → CommandResult
+pastEnd first e a r = same outOfRange r
+pastEnd second e a r = result stopped (endPast e (r .value) a) (r .quality)
+
+unfoldable pub stepRule : Version → PlanEntry → ℕ → Reading → CommandResult
+stepRule n e a r =
     pick (eqb (r .quality) invalid) (same onInvalid r)
-    (pick (sumInRange e (r .value) a) (result carriedOut (r .value + a - half) (r .quality)) (same outOfRange r))
+    (pick (sumInRange e (r .value) a) (result carriedOut (r .value + a - half) (r .quality)) (pastEnd n e a r))
 
 unfoldable pub reportRule : PlanEntry → ℕ → Reading → CommandResult
 reportRule e a r = pick (inRange e a) (result carriedOut a valid) (result fellBack (e .fallback) invalid)
@@ -73,12 +82,12 @@ faultRule e = result fellBack (e .fallback) invalid
 unfoldable pub partRule : PlanEntry → ℕ → CommandResult
 partRule e a = result carriedOut (e .low + (e .high - e .low) * (a - half) / wholePart) valid
 
--- by the version and the op; another op is refused before (malformed)
+-- by the version of the op's rule; another op is refused before (malformed)
 unfoldable pub ruleOf : Version → PlanEntry → ℕ → ℕ → Reading → CommandResult
-ruleOf first e op a r =
+ruleOf n e op a r =
     pick (eqb op readOp) (same carriedOut r)
     (pick (eqb op setOp) (setRule e a r)
-    (pick (eqb op stepOp) (stepRule e a r)
+    (pick (eqb op stepOp) (stepRule n e a r)
     (pick (eqb op reportOp) (reportRule e a r)
     (pick (eqb op faultOp) (faultRule e)
     (pick (eqb op partOp) (partRule e a) (same outOfRange r))))))

@@ -15,8 +15,8 @@ use Rattle.model.specs.declared.Command.{Command}
 use Rattle.model.specs.Choice.{pick}
 use Rattle.model.specs.Numbers.{signed}
 use Rattle.model.specs.Plan.{entryAt}
-use Rattle.model.specs.Limits.{readOp, setOp, stepOp, reportOp, faultOp, partOp, wholePart, carriedOut, outOfRange, onInvalid, fellBack, valid, invalid}
-use Rattle.model.specs.Versions.{Version, first, Versions}
+use Rattle.model.specs.Limits.{readOp, setOp, stepOp, reportOp, faultOp, partOp, wholePart, carriedOut, outOfRange, onInvalid, fellBack, stopped, valid, invalid}
+use Rattle.model.specs.Versions.{Version, first, second, Versions}
 
 -- ---- over the integers
 
@@ -72,11 +72,16 @@ readZ r = resultZ carriedOut (r .value) (r .quality)
 unfoldable pub setZ : EntryZ → ℤ → ReadingZ → ResultZ
 setZ e a r = pick (inRangeZ e a) (resultZ carriedOut a valid) (resultZ outOfRange (r .value) (r .quality))
 
--- 2 step: adds a, outcome 0; nothing changes on an invalid value, outcome 2, or where the sum is out of range, outcome 1
-unfoldable pub stepZ : EntryZ → ℤ → ReadingZ → ResultZ
-stepZ e a r =
+-- a step whose sum is past an end of the range: by the first version nothing changes, outcome 1; by the second the value is that end, outcome 4
+unfoldable pub pastEndZ : Version → EntryZ → ℤ → ReadingZ → ResultZ
+pastEndZ first e sum r = resultZ outOfRange (r .value) (r .quality)
+pastEndZ second e sum r = resultZ stopped (pick (leZ (e .low) sum) (e .high) (e .low)) (r .quality)
+
+-- 2 step: adds a where the sum is in range, outcome 0; nothing changes on an invalid value, outcome 2
+unfoldable pub stepZ : Version → EntryZ → ℤ → ReadingZ → ResultZ
+stepZ n e a r =
     pick (eqb (r .quality) invalid) (resultZ onInvalid (r .value) (r .quality))
-    (pick (inRangeZ e (r .value +ℤ a)) (resultZ carriedOut (r .value +ℤ a) (r .quality)) (resultZ outOfRange (r .value) (r .quality)))
+    (pick (inRangeZ e (r .value +ℤ a)) (resultZ carriedOut (r .value +ℤ a) (r .quality)) (pastEndZ n e (r .value +ℤ a) r))
 
 -- 3 report: in range as set; else the fallback, invalid, outcome 3
 unfoldable pub reportZ : EntryZ → ℤ → ResultZ
@@ -90,12 +95,12 @@ faultZ e = resultZ fellBack (e .fallback) invalid
 unfoldable pub partZ : EntryZ → ℤ → ResultZ
 partZ e a = resultZ carriedOut (e .low +ℤ quotientDown ((e .high -ℤ e .low) *ℤ a) wholePart) valid
 
--- by the version and the op; commands have no other op, and one would change nothing
+-- by the version of the op's rule; commands have no other op, and one would change nothing
 unfoldable pub ruleZ : Version → EntryZ → ℕ → ℤ → ReadingZ → ResultZ
-ruleZ first e op a r =
+ruleZ n e op a r =
     pick (eqb op readOp) (readZ r)
     (pick (eqb op setOp) (setZ e a r)
-    (pick (eqb op stepOp) (stepZ e a r)
+    (pick (eqb op stepOp) (stepZ n e a r)
     (pick (eqb op reportOp) (reportZ e a)
     (pick (eqb op faultOp) (faultZ e)
     (pick (eqb op partOp) (partZ e a) (resultZ outOfRange (r .value) (r .quality)))))))

@@ -1,15 +1,19 @@
 -- The versions of the ops' rules: a request that changes a rule adds a version, and commands executed before stay as they were.
 -- Assumes nothing.
 use Prim.Native.Nat.{ℕ}
+use lib.Dec.{eqb}
+use Rattle.model.specs.Choice.{pick}
+use Rattle.model.specs.Limits.{stepOp}
 
--- the versions of a rule; the first is that of docs/REFERENCE.md
+-- the versions of an op's rule, in the order in which they came
 pub data Version : Type 0 where
   first : Version
+  second : Version
 
 -- the version of each op's rule that a program executes by
 abbrev pub Versions : Type 0
 Versions = ℕ → Version
 
--- this program's
+-- this program's: of step the second, which stops at the range's end
 abbrev pub today : Versions
-today op = first
+today op = pick (eqb op stepOp) second first

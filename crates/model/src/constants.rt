@@ -59,7 +59,7 @@ pub const ARGUMENT_RANGES: [ArgumentRange; 6] = [
     },
 ];
 
-// ---- outcomes: carried out; the value would be out of range; the value is invalid; the fallback was put
+// ---- outcomes: carried out; the value would be out of range; the value is invalid; the fallback was put; a step stopped at the range's end
 
 pub const CARRIED_OUT: u8 = 0;
 
@@ -68,6 +68,8 @@ pub const OUT_OF_RANGE: u8 = 1;
 pub const ON_INVALID: u8 = 2;
 
 pub const FELL_BACK: u8 = 3;
+
+pub const STOPPED: u8 = 4;
 
 // ---- qualities
 
@@ -93,7 +95,7 @@ pub const LAST_SERVER: u8 = 15;
 
 pub const LAST_OP: u8 = PART_OP;
 
-pub const LAST_OUTCOME: u8 = FELL_BACK;
+pub const LAST_OUTCOME: u8 = STOPPED;
 
 pub const LAST_QUALITY: u8 = INVALID;
 

@@ -55,8 +55,8 @@ unfoldable pub asked : State → Request → ℕ
 asked st q = refusalOf (onRequest today st executedSize (parsePacket (requestBytes q)))
 
 pub data Case : Type 0 where
-  -- op, argument, before: a command and its result, in integers and in the kernel's numbers
-  command : ℕ → ℤ → ℕ → ReadingZ → Reading → ResultZ → CommandResult → Case
+  -- entry of the plan, op, argument, before: a command and its result, in integers and in the kernel's numbers
+  command : PlanEntry → ℕ → ℤ → ℕ → ReadingZ → Reading → ResultZ → CommandResult → Case
   -- lease end, heard time: the refusal
   lease : ℕ → ℕ → ℕ → Case
   -- call, done: the refusal
@@ -64,8 +64,8 @@ pub data Case : Type 0 where
 
 -- the rules over the integers and those of the kernel both give the result, and the two speak of the same numbers
 unfoldable pub Holds : Case → Type 0
-Holds (command op a n b r z k) =
-    (ruleZ (today op) (entryZ entry) op a b ≡ z) × (ruleOf (today op) entry op n r ≡ k) × (readingMeant r ≡ b) × (resultMeant k ≡ z)
+Holds (command e op a n b r z k) =
+    (ruleZ (today op) (entryZ e) op a b ≡ z) × (ruleOf (today op) e op n r ≡ k) × (readingMeant r ≡ b) × (resultMeant k ≡ z)
 Holds (lease end heard n) = asked (heardAt heard) (asking 1 1 end) ≡ n
 Holds (window call done n) = asked (heardAt 0) (asking call done 1) ≡ n
 
@@ -76,27 +76,45 @@ AllHold (c ∷ cs) = Holds c × AllHold cs
 -- a case of an argument, a value and a result that are not negative
 abbrev pub onUp : ℕ → ℕ → ℕ → ℕ → ℕ → ℕ → ℕ → Case
 onUp op a v q o w t =
-    command op (pos a) (half + a) (readingZ (pos v) q) (record { value = half + v; quality = q }) (resultZ o (pos w) t)
+    command entry op (pos a) (half + a) (readingZ (pos v) q) (record { value = half + v; quality = q }) (resultZ o (pos w) t)
     (record { outcome = o; value = half + w; quality = t })
 
 -- the same with a result of −1 − w, or with an argument of −1 − a
 abbrev pub toDown : ℕ → ℕ → ℕ → ℕ → ℕ → ℕ → ℕ → Case
 toDown op a v q o w t =
-    command op (pos a) (half + a) (readingZ (pos v) q) (record { value = half + v; quality = q }) (resultZ o (negsuc w) t)
+    command entry op (pos a) (half + a) (readingZ (pos v) q) (record { value = half + v; quality = q }) (resultZ o (negsuc w) t)
     (record { outcome = o; value = half - 1 - w; quality = t })
 
 abbrev pub byDown : ℕ → ℕ → ℕ → ℕ → ℕ → ℕ → ℕ → Case
 byDown op a v q o w t =
-    command op (negsuc a) (half - 1 - a) (readingZ (pos v) q) (record { value = half + v; quality = q }) (resultZ o (pos w) t)
+    command entry op (negsuc a) (half - 1 - a) (readingZ (pos v) q) (record { value = half + v; quality = q }) (resultZ o (pos w) t)
     (record { outcome = o; value = half + w; quality = t })
+
+-- a step of −1 − a at value v, valid, that stops at the low end, −100
+abbrev pub stepDown : ℕ → ℕ → Case
+stepDown a v =
+    command entry 2 (negsuc a) (half - 1 - a) (readingZ (pos v) 0) (record { value = half + v; quality = 0 }) (resultZ 4 (negsuc 99) 0)
+    (record { outcome = 4; value = half - 100; quality = 0 })
+
+-- a step of a at 7, valid, where the range is 7 to 7: outcome o
+abbrev pub stepNarrow : ℕ → ℕ → Case
+stepNarrow a o =
+    command (record { low = half + 7; high = half + 7; fallback = half + 7; home = 0 }) 2 (pos a) (half + a) (readingZ (pos 7) 0)
+    (record { value = half + 7; quality = 0 }) (resultZ o (pos 7) 0) (record { outcome = o; value = half + 7; quality = 0 })
 
 -- op, argument, value and quality before; outcome, value and quality after
 unfoldable pub cases : List Case
 cases =
     onUp 1 1000 0 1 0 1000 0  -- set 1000: 1000, outcome 0
     ∷ onUp 1 1001 7 0 1 7 0  -- set 1001: outcome 1
-    ∷ onUp 2 1 1000 0 1 1000 0  -- at 1000, step 1: outcome 1
+    ∷ onUp 2 1 1000 0 4 1000 0  -- at 1000, step 1: 1000, outcome 4
     ∷ onUp 2 1 999 0 0 1000 0  -- at 999, step 1: 1000
+    ∷ onUp 2 0 1000 0 0 1000 0  -- at 1000, step 0: 1000, outcome 0
+    ∷ onUp 2 2147483647 7 0 4 1000 0  -- the greatest step: 1000, outcome 4
+    ∷ stepDown 107 7  -- at 7, step −108: −100, outcome 4
+    ∷ stepDown 2147483647 1000  -- the least step: −100, outcome 4
+    ∷ stepNarrow 0 0  -- where low is high, step 0: outcome 0
+    ∷ stepNarrow 1 4  -- and step 1: outcome 4
     ∷ onUp 2 0 0 1 2 0 1  -- at quality 1, step 0: outcome 2
     ∷ byDown 3 100 7 0 3 0 1  -- report −101: 0, quality 1, outcome 3
     ∷ onUp 4 0 7 0 3 0 1  -- fault: the same

@@ -1,8 +1,9 @@
 //! Runs random schedules and checks demand 3 after each.
-//! Arguments: number of schedules (10,000) and seed.
+//! Arguments: number of schedules (10,000), seed, and 1 for servers that are
+//! renewed in the schedule.
 
-use second::schedule::generate;
-use second::world::{minimise, run, Counts, Options};
+use second::schedule::{generate, generate_renewed, Renewed};
+use second::world::{minimise_renewed, run_renewed, Counts, Options};
 use std::process::ExitCode;
 use std::time::Instant;
 
@@ -15,14 +16,18 @@ fn main() -> ExitCode {
         Some(text) => text.parse().ok(),
         None => Some(default),
     };
-    let (Some(count), Some(seed)) = (number(COUNT), number(SEED)) else {
-        eprintln!("usage: check [schedules [seed]]");
+    let (Some(count), Some(seed), Some(renewed)) = (number(COUNT), number(SEED), number(0)) else {
+        eprintln!("usage: check [schedules [seed [renewed]]]");
         return ExitCode::FAILURE;
+    };
+    let make = match renewed {
+        0 => |seed| Renewed::today(&generate(seed)),
+        _ => generate_renewed,
     };
     let begin = Instant::now();
     let mut counts = Counts::default();
     for i in 0..count {
-        match check_one(seed.wrapping_add(i)) {
+        match check_one(seed.wrapping_add(i), make) {
             Some(more) => counts.add(&more),
             None => return ExitCode::FAILURE,
         }
@@ -37,17 +42,19 @@ fn main() -> ExitCode {
 }
 
 /// Runs one schedule; prints it, made shorter, if it violates demand 3.
-fn check_one(seed: u64) -> Option<Counts> {
-    let schedule = generate(seed);
+fn check_one(seed: u64, make: fn(u64) -> Renewed) -> Option<Counts> {
+    let schedule = make(seed);
     let options = Options::default();
-    let found = run(&schedule, options);
+    let found = run_renewed(&schedule, options);
     if let Err(violation) = found.result {
         println!("schedule {seed}: {violation:?}");
         let options = Options {
             trace: true,
             ..options
         };
-        let shorter = run(&minimise(&schedule, options), options);
+        let shorter = minimise_renewed(&schedule, options);
+        println!("renewals before steps {:?}", shorter.places);
+        let shorter = run_renewed(&shorter, options);
         println!("shortened: {:?}", shorter.result);
         for line in shorter.trace {
             println!("{line}");

@@ -11,7 +11,7 @@ use crate::plan::{parse_plan, CABINETS};
 use crate::record::{
     write_executed, write_gone, write_head, Executed, Gone, EXECUTED_LEN, GONE_LEN, HEAD_LEN,
 };
-use crate::rule::apply;
+use crate::rule::{apply_by, Rules};
 
 /// What a request that passed its tests comes to.
 enum Decision {
@@ -43,6 +43,18 @@ impl Server {
         packet: &[u8],
         output: &mut [u8],
     ) -> Answer {
+        self.request_by(Rules::TODAY, state_len, log, packet, output)
+    }
+
+    /// Request as a program of the given rules answers it.
+    pub fn request_by(
+        &mut self,
+        rules: Rules,
+        state_len: usize,
+        log: &mut [u8],
+        packet: &[u8],
+        output: &mut [u8],
+    ) -> Answer {
         if let Err(refusal) = self.test_lent(state_len, log, output, RESULT_LEN) {
             return Answer::refused(refusal);
         }
@@ -59,7 +71,7 @@ impl Server {
             }
             Ok(Decision::Repeat(index)) => self.write_reply(index, output),
             Ok(Decision::Execute) => {
-                self.execute(&request, log);
+                self.execute(rules, &request, log);
                 Answer::DONE
             }
         }
@@ -110,10 +122,11 @@ impl Server {
         Answer::wrote(RESULT_LEN)
     }
 
-    fn execute(&mut self, request: &Request, log: &mut [u8]) {
+    fn execute(&mut self, rules: Rules, request: &Request, log: &mut [u8]) {
         let point = self.point(request.point);
         let entry = self.plan.entry(request.point);
-        let effect = apply(
+        let effect = apply_by(
+            rules,
             request.op,
             request.argument,
             entry,

@@ -9,6 +9,7 @@ use crate::plan::{CABINETS, POINTS};
 use crate::record::{
     write_give, write_release, write_take_head, Give, Release, GIVE_LEN, RELEASE_LEN, TAKE_HEAD_LEN,
 };
+use crate::rule::Rules;
 
 impl Server {
     // Give.
@@ -125,12 +126,32 @@ impl Server {
     // Take.
 
     pub fn take(&mut self, state_len: usize, log: &mut [u8], image: &[u8]) -> Answer {
-        Answer::of(self.try_take(state_len, log, image))
+        self.take_by(Rules::TODAY, state_len, log, image)
     }
 
-    fn try_take(&mut self, state_len: usize, log: &mut [u8], bytes: &[u8]) -> Result<(), Refusal> {
+    /// Take as a program of the given rules answers it: an outcome that it
+    /// does not know is outside its range.
+    pub fn take_by(
+        &mut self,
+        rules: Rules,
+        state_len: usize,
+        log: &mut [u8],
+        image: &[u8],
+    ) -> Answer {
+        Answer::of(self.try_take(rules, state_len, log, image))
+    }
+
+    fn try_take(
+        &mut self,
+        rules: Rules,
+        state_len: usize,
+        log: &mut [u8],
+        bytes: &[u8],
+    ) -> Result<(), Refusal> {
         self.test_state(state_len, log)?;
-        let image = parse_image(bytes, &self.plan).ok_or(Refusal::Malformed)?;
+        let image = parse_image(bytes, &self.plan)
+            .filter(|image| image.records().all(|r| r.outcome <= rules.outcome_max()))
+            .ok_or(Refusal::Malformed)?;
         self.test_take(&image)?;
         self.test_space(log, TAKE_HEAD_LEN + bytes.len())?;
         self.append(log, &write_take_head(bytes.len()));

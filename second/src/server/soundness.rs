@@ -5,6 +5,7 @@ use crate::image::CLIENTS_MAX;
 use crate::packet::{cabinet_ok, WINDOW};
 use crate::plan::POINTS;
 use crate::record::HEAD_LEN;
+use crate::rule::OUTCOME_MAX;
 
 impl Server {
     /// Every field in range and every limit kept.
@@ -78,7 +79,7 @@ impl Server {
     fn record_sound(&self, r: &Completion) -> bool {
         usize::from(r.point) < POINTS
             && r.op.accepts(r.argument)
-            && r.outcome <= 3
+            && r.outcome <= OUTCOME_MAX
             && r.quality <= 1
             && r.end <= self.length
             && self.plan.entry(r.point).contains(r.value)

@@ -4,6 +4,7 @@ use super::{Cabinet, Phase, World};
 use crate::checker::{Command, Finals};
 use crate::faults::Faulty;
 use crate::plan::POINTS;
+use crate::rule::Rules;
 use crate::server::{Server, STATE_LEN};
 
 impl World<'_> {
@@ -33,6 +34,17 @@ impl World<'_> {
             commands[e.command].hint = e.place;
         }
         commands
+    }
+
+    /// For each command issued, the rules that its surviving execution went
+    /// by; today's if none survives. Where a fault lets two survive, the first
+    /// counts.
+    pub fn marks(&self) -> Vec<Rules> {
+        let mut marks = vec![Rules::TODAY; self.commands.len()];
+        for e in self.executions.iter().rev().filter(|e| e.survives) {
+            marks[e.command] = e.rules;
+        }
+        marks
     }
 
     /// Value and quality of each point at its holder. A crashed cabinet

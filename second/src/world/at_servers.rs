@@ -4,9 +4,10 @@ use super::{Cabinet, Execution, Phase, World, FILL, IMAGE};
 use crate::answer::{Answer, Refusal};
 use crate::bytes::get_u32;
 use crate::faults::Faulty;
-use crate::image::IMAGE_MAX;
+use crate::image::{IMAGE_MAGIC, IMAGE_MAX};
 use crate::packet::{NOTICE, RECEIPT, RECEIPT_LEN, REQUEST, RESULT_LEN};
-use crate::record::HEAD_LEN;
+use crate::record::{parse_executed, EXECUTED_LEN, HEAD_LEN};
+use crate::rule::{Op, Rules, STOPPED};
 use crate::schedule::{Flaw, Mark, Party, Which};
 use crate::server::{Server, STATE_LEN};
 
@@ -67,8 +68,9 @@ impl World<'_> {
             return;
         };
         let packet = self.pool[number].clone();
+        let rules = self.rules(cabinet);
         let (answer, output) = self.call(cabinet, flaw, RESULT_LEN, |s, len, log, out| {
-            s.request(len, log, &packet, out)
+            s.request_by(rules, len, log, &packet, out)
         });
         if answer.number == 0 && answer.written == 0 {
             self.executed(cabinet, &packet);
@@ -90,11 +92,26 @@ impl World<'_> {
         self.executions.push(Execution {
             command: command.expect("a request is made by an issue"),
             cabinet,
+            rules: self.rules(cabinet),
             end: self.cabinets[cabinet].server.length,
             place: self.place,
             survives: true,
         });
         self.counts.executed += 1;
+        self.counts.executed_old += u64::from(self.rules(cabinet) != Rules::TODAY);
+        match self.last_outcome(cabinet) {
+            (Op::Step, 1) => self.counts.steps_refused += 1,
+            (Op::Step, STOPPED) => self.counts.steps_stopped += 1,
+            _ => {}
+        }
+    }
+
+    /// Op and outcome of the executed record at the log's end.
+    fn last_outcome(&self, cabinet: usize) -> (Op, u8) {
+        let c = &self.cabinets[cabinet];
+        let end = c.server.length as usize;
+        let record = parse_executed(&c.log[end - EXECUTED_LEN..end]);
+        record.map_or((Op::Read, 0), |r| (r.op, r.outcome))
     }
 
     /// Keeps the packet written, if any; answers its number or 0.
@@ -200,8 +217,11 @@ impl World<'_> {
             return;
         };
         let image = self.pool[number].clone();
-        let (answer, _) = self.call(cabinet, flaw, 0, |s, len, log, _| s.take(len, log, &image));
-        self.counts.takes += u64::from(answer.number == 0);
+        let rules = self.rules(cabinet);
+        let (answer, _) = self.call(cabinet, flaw, 0, |s, len, log, _| {
+            s.take_by(rules, len, log, &image)
+        });
+        self.count_take(rules, answer, &image);
         self.note(|| {
             format!(
                 "take image {} at cabinet {cabinet} -> {}",
@@ -209,6 +229,18 @@ impl World<'_> {
                 answer.number
             )
         });
+    }
+
+    fn count_take(&mut self, rules: Rules, answer: Answer, image: &[u8]) {
+        match answer.number {
+            0 => {
+                let source = usize::from(image[6]);
+                self.counts.takes += 1;
+                self.counts.takes_across += u64::from(self.rules(source) != rules);
+            }
+            1 if image.starts_with(&IMAGE_MAGIC) => self.counts.images_too_new += 1,
+            _ => {}
+        }
     }
 
     pub(super) fn receipt(&mut self, at: Party, point: u8, flaw: Flaw) {

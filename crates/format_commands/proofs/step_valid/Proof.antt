@@ -2,9 +2,10 @@
 -- Assumes nothing.
 use mathlib.Core.Path.{_≡_, ap, sym, _∙_}
 use Prim.Native.Nat.{ℕ, _+_, _-_}
-use Rattle.format_numbers.proofs.Picks.{picks, yes-call}
+use Rattle.format_numbers.proofs.Picks.{yes-call, no-call}
 use Rattle.model.specs.Numbers.{half}
-use Rattle.model.specs.Rules.{result}
+use Rattle.model.specs.Limits.{stopped}
+use Rattle.model.specs.Rules.{result, endPast}
 use borrow.Author.Needs.{needs}
 use Rattle.format_commands.proofs.step_valid.Statement.{statement}
 use Rattle.format_commands.proofs.step_valid.Tie as tie
@@ -21,7 +22,12 @@ returns c =
     yes-call _ (c .before .before .before .sum-in-range .ensures) (c .before .before .if1 .taken) (e ∙ ap (λ (n : ℕ). result 0 n q) v)
 
 returns-2 : tie.Need-returns-2
-returns-2 c = search picks depth 12
+returns-2 c =
+    let start = c .before .before .before .before .args in
+    let q = start .r .quality in
+    let e : c .result-of2 .result ≡ result stopped (c .before .end-past .result) q = c .result-of2 .ensures in
+    let v : c .before .end-past .result ≡ endPast (start .e) (start .r .value) (start .a) = c .before .end-past .ensures in
+    no-call _ (c .before .before .before .sum-in-range .ensures) (c .before .before .if1 .left) (e ∙ ap (λ (n : ℕ). result stopped n q) v)
 
 pub step-valid-spec : {M : Type 1} → statement M
 step-valid-spec =
@@ -29,6 +35,7 @@ step-valid-spec =
     (tie.spec
     (λ c κs. search needs)
     sum-requires
+    (λ c κs. search needs)
     (λ c κs. search needs)
     (λ c κs. search needs)
     returns
