@@ -149,4 +149,5 @@ def main():
     sys.exit(status)
 
 
-main()
+if __name__ == '__main__':
+    main()

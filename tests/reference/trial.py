@@ -276,8 +276,9 @@ def steps(desk, manager, hook):
     return a, b
 
 
-def late_repeats(desk, manager, a, b, cut):
-    """the first client's lease ends: before the notice a finished call is under the floor and the last one answered as it was, after it both are refused"""
+def late_repeats(desk, manager, a, b, cut, noticed):
+    """the first client's lease ends: before the notice a finished call is under the floor and the last one answered as it was, after it both are refused;
+    noticed says whether the card has the notice's record"""
     requests = [p for p in desk.sent if struct.unpack('<I', p[4:8])[0] == a.number]
     call = lambda n: [p for p in requests if struct.unpack('<I', p[8:12])[0] == n][-1]
     desk.ask(call(2), refused(5))
@@ -289,13 +290,13 @@ def late_repeats(desk, manager, a, b, cut):
     assert manager.query(b.number, a.lease)[1][0] == 6
     desk.send(notice)
     cut()
-    for tries in range(100):  # a notice has no answer
+    # A notice has no answer, and a refusal may have left before the cut took the record that it rests on: the card tells.
+    end = time.time() + 30
+    while not noticed():
+        assert time.time() < end, 'no gone record'
         desk.send(notice)
-        try:
-            desk.ask(call(101), refused(4), 0.3)
-            break
-        except AssertionError:
-            assert tries < 99
+        time.sleep(0.02)
+    desk.ask(call(101), refused(4))
     desk.ask(call(2), refused(4))
     for p in requests:
         desk.sock.sendto(p, desk.to)
@@ -321,13 +322,14 @@ def trial(mode, seed, host, relay):
 
     try:
         a, b = steps(desk, manager, hook)
-        late_repeats(desk, manager, a, b, cabinet.kill if due else lambda: None)
+        # the head, each command once, one gone record
+        size = lambda commands: 8 + commands * 28 + 12
+        late_repeats(desk, manager, a, b, cabinet.kill if due else lambda: None, lambda: os.path.getsize(cabinet.card) == size(151))
         desk.run(b, [(READ, 5, 0)], 1)
         m = desk.log[b.number, b.next - 1]['res']
         assert (m['outcome'], m['quality'], m['value']) == (0, 0, 150), m
         assert cabinet.kills == due, cabinet.kills
-        # the head, each of 152 commands once, one gone record
-        assert os.path.getsize(cabinet.card) == 8 + 152 * 28 + 12
+        assert os.path.getsize(cabinet.card) == size(152)
     finally:
         if line:
             line.kill()
