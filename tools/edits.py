@@ -12,7 +12,6 @@ from progress import listed
 
 FUNCTION = re.compile(r'^(?:pub )?(?:extern "C" )?(?:const )?fn (\w+).*?^\{\n(.*?)^\}', re.M | re.S)
 IMPORT = re.compile(r'^\s*use Rattle·(\w+)·proofs\.proofs\.([\w.-]+?)\.?(?:\{|\s|$)', re.M)
-VERDICT = re.compile(r'^fn (\S+): not proved$', re.M)
 
 
 class Edit:
@@ -141,13 +140,16 @@ def copy_of_repository(folder, groups):
 
 
 def shown(edit, log):
-    """the first error of each edited function, in its own proof, if the log says that it is not proved by itself; else None"""
-    refused, places = set(VERDICT.findall(log)), []
+    """the first error of each edited function, in its own proof or, where it has no proof file, what the prover does not find; None if the log does not say
+    of each that it is not proved by itself"""
+    places = []
     for f in sorted(edit.functions):
-        error = re.search(r'^\S*/(proofs/%s/\S+?): error' % re.escape(f.replace('::', '/')), log, re.M)
-        if '%s::%s' % (edit.crate, f) not in refused or not error:
+        name = re.escape('%s::%s' % (edit.crate, f))
+        error = re.search(r'^\S*/(proofs/%s/\S+?): error' % re.escape(f.replace('::', '/')), log, re.M) if re.search(r'^fn %s: not proved$' % name, log, re.M) else None
+        error = error or re.search(r'^fn %s: no proof: .*; (`search` does not close .*)$' % name, log, re.M)
+        if not error:
             return None
-        places.append(error[1])
+        places.append(error[1] if '/' in error[1] else '%s (%s)' % (f, error[1]))
     return ', '.join(places)
 
 
@@ -184,7 +186,7 @@ def run(groups, report, names):
             for edit in group:
                 place = shown(edit, log)
                 if place:
-                    report.say(edit, 'refused at %s, %s s with %d others' % (place, seconds, len(group) - 1), True)
+                    report.say(edit, 'refused at %s, %s s with %s' % (place, seconds, 'one more' if len(group) == 2 else '%d more' % (len(group) - 1)), True)
                 else:
                     again.append(edit)
         rt.wait()

@@ -1,5 +1,5 @@
 #!/usr/bin/env bash
-# The whole check: the kit's identity, the format, every proof and must-fail edit (rt ci), the tests of the second program,
+# The whole check: the kit's identity, the format, every proof and must-fail edit, the tests of the second program,
 # the comparison of both, the simulator's too, the C programs, `make run`; that documents cite what is there, that stored pictures are what is
 # drawn, and that entry points have no `requires`.
 # Prints seconds per part and per crate; the last line is 'N passed, M failed'; any failure exits non-zero.
@@ -56,24 +56,34 @@ part yard-cases tools/yard_cases.py --check; count $?
 part pictures tools/picture.py --check; count $?
 part guide-pictures tools/guide_pictures.py --check; count $?
 part progress tests/progress.sh; count $?
+part edits-tool tests/edits.sh; count $?
 part claims tools/claims.py; count $?
 part entry-points tools/entry_points.py; count $?
 part callers tools/callers.py; count $?
 part house tools/house.py --check; count $?
 
-# every proof and must-fail edit, each shown as it comes
+# every proof, from nothing, each shown as it comes; then every must-fail edit
 echo "== proofs"
 start=$SECONDS
-PROGRESS_LOG=$logs/proofs tools/progress.py rt ci
+rm -rf target
+PROGRESS_LOG=$logs/proofs tools/progress.py rt check
 proofs=$?
 if [ "$proofs" = 0 ]; then echo "   ok, $((SECONDS - start)) s"; else echo "   FAILED: proofs, $((SECONDS - start)) s"; fi
-line=$(grep -E '^[0-9]+ passed, [0-9]+ failed$' "$logs/proofs" | tail -n 1)
-if [ -n "$line" ]; then
-  passed=$((passed + ${line%% passed*}))
-  n=${line#*, }
-  failed=$((failed + ${n%% failed*}))
-fi
-[ "$proofs" = 0 ] || { [ -n "$line" ] && [ "${n%% failed*}" != 0 ]; } || failed=$((failed + 1))
+passed=$((passed + $(grep -cE '^rt: [a-z_0-9]+ proved \([0-9]+ s\)$' "$logs/proofs")))
+n=$(grep -cE '^rt: [a-z_0-9]+ (NOT PROVED|proved, and its run FAILED)' "$logs/proofs")
+failed=$((failed + n))
+[ "$proofs" = 0 ] || [ "$n" != 0 ] || failed=$((failed + 1))
+
+echo "== edits"
+start=$SECONDS
+tools/edits.py | tee "$logs/edits" | sed -u -E '/^[0-9]+ passed, [0-9]+ failed$/d'
+edits=${PIPESTATUS[0]}
+if [ "$edits" = 0 ]; then echo "   ok, $((SECONDS - start)) s"; else echo "   FAILED: edits, $((SECONDS - start)) s"; fi
+n=$(sed -nE 's/^([0-9]+) passed, [0-9]+ failed$/\1/p' "$logs/edits")
+passed=$((passed + ${n:-0}))
+n=$(sed -nE 's/^[0-9]+ passed, ([0-9]+) failed$/\1/p' "$logs/edits")
+failed=$((failed + ${n:-0}))
+[ "$edits" = 0 ] || [ "${n:-0}" != 0 ] || failed=$((failed + 1))
 
 # tests PACKAGE WORDS..: the tests of a cargo package, each counted; one that hangs fails
 tests() {
