@@ -196,9 +196,6 @@ module _ (plan : List ℕ) (es : List Event) where
         Recovers = Recovers;
       }
 
-  abbrev pub Survives : OrderEntry → Type 0
-  Survives = SurvivesBy plan account
-
   abbrev pub Holder : ℕ → ℕ → State → Type 0
   Holder = HolderBy plan account
 

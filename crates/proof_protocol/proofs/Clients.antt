@@ -17,7 +17,7 @@ use Rattle.model.specs.declared.Command.{Command}
 use Rattle.model.specs.declared.OpenCall.{OpenCall}
 use Rattle.model.specs.declared.Client.{Client}
 use Rattle.model.specs.Choice.{pick}
-use Rattle.model.specs.Limits.{callWindow}
+use Rattle.model.specs.Limits.{callWindow, pointCount}
 use Rattle.model.specs.Sequential.{ResultZ}
 use Rattle.model.specs.Clients.{noCall, placeOf, callAt, isOpen, withCalls, withLease, closed, requestFor, newCall, withCall, isOwn}
 use Rattle.proof_protocol.specs.Servers.{Id, idOf, Packet, Asked}
@@ -46,7 +46,7 @@ pub record ClientsOk (clients : ℕ → Option Client) (made : List Packet) (see
   pub silent : (x : ℕ) → clients x ≡ none → (k : Command) → Saw seen (issued k) → k .client ≡ x → ⊥
   pub leased : (q : Asked) → In made (S.request q) → In made (S.grant (q .cmd .client) (q .lease))
   pub asked : (q : Asked) → In made (S.request q) → Saw seen (issued (q .cmd))
-  pub small : (k : Command) → Saw seen (issued k) → k .point < 64
+  pub small : (k : Command) → Saw seen (issued k) → k .point < pointCount
   pub single : (k l : Command) → Saw seen (issued k) → Saw seen (issued l) → Same k l → k ≡ l
   pub results : (k : Command) (r : ResultZ) → Saw seen (received k r) → Saw seen (issued k) × Brought made k r
 
@@ -202,7 +202,7 @@ module _ (clients : ℕ → Option Client) (made : List Packet) (seen : List See
       same-call n = unfold callAt in refl
 
   -- a command is issued
-  module _ (x : ℕ) (d : Client) (o p a : ℕ) (e : clients x ≡ some d) (cp : p < 64) where
+  module _ (x : ℕ) (d : Client) (o p a : ℕ) (e : clients x ≡ some d) (cp : p < pointCount) where
     abbrev call : OpenCall
     call = newCall d o p a
 
@@ -298,8 +298,8 @@ module _ (clients : ℕ → Option Client) (made : List Packet) (seen : List See
         mute y ne q k r (inl h) = far y ne k r h
         mute y ne q k r (inr m) = ok .silent y q k m r
 
-        sm : (k : Command) → (k ≡ c) ⊎ Saw seen (issued k) → k .point < 64
-        sm k (inl q) = subst (λ (z : ℕ). z < 64) (sym (ap (λ (z : Command). z .point) (q ∙ issued-is))) cp
+        sm : (k : Command) → (k ≡ c) ⊎ Saw seen (issued k) → k .point < pointCount
+        sm k (inl q) = subst (λ (z : ℕ). z < pointCount) (sym (ap (λ (z : Command). z .point) (q ∙ issued-is))) cp
         sm k (inr m) = ok .small k m
 
         one : (k l : Command) → Same k l → (k ≡ c) ⊎ Saw seen (issued k) → (l ≡ c) ⊎ Saw seen (issued l) → k ≡ l

@@ -10,6 +10,7 @@ use native.Mathlib.Omega.{arith}
 use Prim.Native.Nat.{ℕ, _<_}
 use lib.Dec.{eqb}
 use borrow.Author.Tests.{eqb-false}
+use Rattle.model.specs.Limits.{pointCount}
 use Rattle.model.specs.Versions.{Version}
 use Rattle.model.specs.Sequential.{ResultZ, Marked, OrderEntry, parts, one, opened, bookAfter, Answers}
 use Rattle.model.specs.declared.Command.{Command}
@@ -63,14 +64,14 @@ module _ (plan : Plan) (cs : List Change) (r : Run plan emptyWorld cs) where
   byEvent d = d .at
 
   unfoldable pub timeline : List Execution
-  timeline = merged byEvent H 64
+  timeline = merged byEvent H pointCount
 
   unfoldable pub order : List OrderEntry
   order = ordered timeline
 
   good : (p : ℕ) → Past plan p (only p timeline)
   unfolding timeline
-  good p = merged-good byEvent plan H (λ q. tops q .past) (λ q. past-rises (H q) (tops q .past)) 64 p
+  good p = merged-good byEvent plan H (λ q. tops q .past) (λ q. past-rises (H q) (tops q .past)) pointCount p
 
   -- ---- every execution in a past was issued
 
@@ -95,14 +96,14 @@ module _ (plan : Plan) (cs : List Change) (r : Run plan emptyWorld cs) where
       let d = s .1 .done in
       let t = shown-top (s .0) (idOf k) (b .point) x (s .1) in
       let same : d .cmd ≡ k = inv .clients .single (d .cmd) k (issued-past (b .point) d t) (h .0) (s .1 .id) in
-      let on : b .point < 64 = subst (λ (z : ℕ). z < 64) (on-point (tops (b .point) .past) d t) (inv .clients .small (d .cmd) (issued-past (b .point) d t)) in
-      let a = book-answers plan (merged byEvent H 64) good d (merged-in byEvent H d (b .point) 64 on t) in
-      subst (λ (z : ResultZ). Answers plan (opened plan) (ordered (merged byEvent H 64)) (k ∷ []) (one z)) (s .1 .res)
-      (subst (λ (z : Command). Answers plan (opened plan) (ordered (merged byEvent H 64)) (z ∷ []) (one (d .res))) same a)
+      let on : b .point < pointCount = subst (λ (z : ℕ). z < pointCount) (on-point (tops (b .point) .past) d t) (inv .clients .small (d .cmd) (issued-past (b .point) d t)) in
+      let a = book-answers plan (merged byEvent H pointCount) good d (merged-in byEvent H d (b .point) pointCount on t) in
+      subst (λ (z : ResultZ). Answers plan (opened plan) (ordered (merged byEvent H pointCount)) (k ∷ []) (one z)) (s .1 .res)
+      (subst (λ (z : Command). Answers plan (opened plan) (ordered (merged byEvent H pointCount)) (z ∷ []) (one (d .res))) same a)
 
   -- ---- values
 
-  pub values : (p c : ℕ) → p < 64 → Holder plan cs p c → stateOf plan (final cs) c .points p .value ≡ bookAfter plan (opened plan) order p
+  pub values : (p c : ℕ) → p < pointCount → Holder plan cs p c → stateOf plan (final cs) c .points p .value ≡ bookAfter plan (opened plan) order p
   unfolding order timeline final stateOf
   values p c lt h =
       let v = tops p .holder c (record {
@@ -111,7 +112,8 @@ module _ (plan : Plan) (cs : List Change) (r : Run plan emptyWorld cs) where
         taker = λ d f e. h .taker d f e;
         home = h .home;
       }) .1 in
-      v ∙ ap (valueAfter plan p) (sym (merged-only byEvent plan H (λ q. tops q .past) (λ q. past-rises (H q) (tops q .past)) p 64 lt)) ∙ sym (book-values plan (merged byEvent H 64) good p)
+      let only-p = merged-only byEvent plan H (λ q. tops q .past) (λ q. past-rises (H q) (tops q .past)) p pointCount lt in
+      v ∙ ap (valueAfter plan p) (sym only-p) ∙ sym (book-values plan (merged byEvent H pointCount) good p)
 
   -- ---- each once
 
@@ -190,4 +192,4 @@ module _ (plan : Plan) (cs : List Change) (r : Run plan emptyWorld cs) where
 
   pub once : Once order
   unfolding order timeline
-  once = once-all (merged byEvent H 64) good (λ d m. let s = Order.merged-out byEvent H d 64 m in issued-past (s .0) d (s .1))
+  once = once-all (merged byEvent H pointCount) good (λ d m. let s = Order.merged-out byEvent H d pointCount m in issued-past (s .0) d (s .1))

@@ -12,6 +12,7 @@ use Prim.Native.Nat.{ℕ, suc, _≤_, _<_}
 use lib.Dec.{ltb}
 use lib.ListN.{length, take}
 use borrow.Author.Tests.{ltb-true, ltb-false}
+use Rattle.model.specs.Limits.{pointCount}
 use Rattle.model.specs.declared.Command.{Command}
 use Rattle.model.specs.Sequential.{Marked, OrderEntry, single, parts, commands, EntryResult, one, ResultZ, opened, Answers}
 use Rattle.proof_protocol.specs.Servers.{Plan, idOf, Execution, Entry}
@@ -93,7 +94,7 @@ module _ (plan : Plan) (cs : List Change) (run-ok : Run plan emptyWorld cs) wher
   -- two executions of the timeline with one command are one
   one-run : (d e : Execution) → List·Memᴰ d (timeline plan cs run-ok) → List·Memᴰ e (timeline plan cs run-ok) → d .cmd ≡ e .cmd → d ≡ e
   unfolding timeline
-  one-run d e m n s = go (merged-out (byEvent plan cs run-ok) (H plan cs run-ok) d 64 m) (merged-out (byEvent plan cs run-ok) (H plan cs run-ok) e 64 n)
+  one-run d e m n s = go (merged-out (byEvent plan cs run-ok) (H plan cs run-ok) d pointCount m) (merged-out (byEvent plan cs run-ok) (H plan cs run-ok) e pointCount n)
     where
       go : (p : ℕ) × List·Memᴰ d (H plan cs run-ok p) → (q : ℕ) × List·Memᴰ e (H plan cs run-ok q) → d ≡ e
       go p q =
@@ -112,7 +113,7 @@ module _ (plan : Plan) (cs : List Change) (run-ok : Run plan emptyWorld cs) wher
       (by-time d e (timeline plan cs run-ok) falls m n lt))
     where
       falls : Falls (byEvent plan cs run-ok) (timeline plan cs run-ok)
-      falls = unfold timeline in (merged-falls (byEvent plan cs run-ok) (H plan cs run-ok) 64)
+      falls = unfold timeline in (merged-falls (byEvent plan cs run-ok) (H plan cs run-ok) pointCount)
 
       its : (c : OrderEntry) (f : Execution) → List·Memᴰ f (timeline plan cs run-ok) → f .cmd ∷ [] ≡ commands c → (g : Execution) × List·Memᴰ g (timeline plan cs run-ok) × (entry g ≡ c) → entry f ≡ c
       its c f k s g = ap entry (one-run f (g .0) k (g .1) (same-command (s ∙ sym (entry-commands (g .0) c (g .2))))) ∙ g .2
@@ -206,7 +207,7 @@ module _ (plan : Plan) (cs : List Change) (run-ok : Run plan emptyWorld cs) wher
       let s = completes-seen n ks r c in
       let d = completed-then (suc n) (s .0) k (c .res) (s .1) in
       let i = subst (λ (z : Command). Saw (run cs .seen) (issued z)) (d .2) (issued-past plan cs run-ok (k .point) (d .0) (d .1)) in
-      (d .0, merged-in (byEvent plan cs run-ok) (H plan cs run-ok) (d .0) (k .point) 64 (inv plan cs run-ok .clients .small k i) (d .1), ap (λ (z : Command). z ∷ []) (d .2) ∙ c .its, d .3)
+      (d .0, merged-in (byEvent plan cs run-ok) (H plan cs run-ok) (d .0) (k .point) pointCount (inv plan cs run-ok .clients .small k i) (d .1), ap (λ (z : Command). z ∷ []) (d .2) ∙ c .its, d .3)
 
   pub completed : (n : ℕ) (ks : List Command) (r : EntryResult) → Completes cs n ks r → (a : OrderEntry) × (commands a ≡ ks) × List·Memᴰ a (order plan cs run-ok)
   unfolding order
@@ -223,7 +224,7 @@ module _ (plan : Plan) (cs : List Change) (run-ok : Run plan emptyWorld cs) wher
   -- a command that event n issues is executed after it
   after-issue : (n : ℕ) (k : Command) → Issues cs n (k ∷ []) → (e : Execution) → List·Memᴰ e (timeline plan cs run-ok) → e .cmd ≡ k → n ≤ e .at
   unfolding timeline
-  after-issue n k i e j q = go (merged-out (byEvent plan cs run-ok) (H plan cs run-ok) e 64 j)
+  after-issue n k i e j q = go (merged-out (byEvent plan cs run-ok) (H plan cs run-ok) e pointCount j)
     where
       go : (p : ℕ) × List·Memᴰ e (H plan cs run-ok p) → n ≤ e .at
       go p = cases (ltb (e .at) n) refl

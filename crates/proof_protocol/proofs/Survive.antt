@@ -8,6 +8,7 @@ use mathlib.Core.Logic.{_⊎_, inl, inr, _↔_}
 use native.Mathlib.Omega.{arith}
 use Prim.Native.Nat.{ℕ, suc, _≤_, _<_}
 use lib.ListN.{length}
+use Rattle.model.specs.Limits.{pointCount}
 use Rattle.model.specs.Versions.{Version}
 use Rattle.model.specs.Sequential.{Marked, OrderEntry, single, parts, ResultZ}
 use Rattle.model.specs.declared.Command.{Command}
@@ -68,7 +69,7 @@ module _ (plan : Plan) (cs : List Change) (r : Run plan emptyWorld cs) where
       let i = executed-issued plan cs r _ (Legit-tail tl (inv plan cs r .core .legit c)) refl in
       record {
         run = record { version = m .version; cmd = k; res = x; at = t };
-        among = merged-in (byEvent plan cs r) (H plan cs r) _ (k .point) 64 (inv plan cs r .clients .small k i) j;
+        among = merged-in (byEvent plan cs r) (H plan cs r) _ (k .point) pointCount (inv plan cs r .clients .small k i) j;
         its = refl;
         at = refl;
       }
@@ -107,10 +108,10 @@ module _ (plan : Plan) (cs : List Change) (r : Run plan emptyWorld cs) where
   -- the event that wrote an execution was a Request of it, and its log was never shorter since
   back : (k : OrderEntry) → List·Memᴰ k (order plan cs r) → Survives cs k
   unfolding order timeline
-  back k m = found (ordered-out plan cs r (merged (byEvent plan cs r) (H plan cs r) 64) k m)
+  back k m = found (ordered-out plan cs r (merged (byEvent plan cs r) (H plan cs r) pointCount) k m)
     where
-      found : (d : Execution) × List·Memᴰ d (merged (byEvent plan cs r) (H plan cs r) 64) × (entry d ≡ k) → Survives cs k
-      found d = from-past (merged-out (byEvent plan cs r) (H plan cs r) (d .0) 64 (d .1))
+      found : (d : Execution) × List·Memᴰ d (merged (byEvent plan cs r) (H plan cs r) pointCount) × (entry d ≡ k) → Survives cs k
+      found d = from-past (merged-out (byEvent plan cs r) (H plan cs r) (d .0) pointCount (d .1))
         where
           from-past : (p : ℕ) × List·Memᴰ (d .0) (H plan cs r p) → Survives cs k
           from-past p = written (tops plan cs r (p .0) .rooted (d .0) (p .1))
