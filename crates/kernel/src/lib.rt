@@ -106,7 +106,7 @@ pub extern "C" fn mantelorris_image(state: &[u8], log: &[u8], point: u32, out: &
 pub extern "C" fn mantelorris_take(state: &mut [u8], log: &mut [u8], image: &[u8]) -> u64
     ensures { λ r. ⌜ returned r (now (state .exit)) (now (log .exit)) [] ≡ inC (takeOf (now (state .entry)) (now (log .entry)) (now (image .entry))) ⌝ }
 {
-    word_of(server_take::take(state, log, image))
+    word_of(server_moves::take::take(state, log, image))
 }
 
 // The receipt of the latest taken move.

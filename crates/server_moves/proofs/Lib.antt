@@ -1,2 +1,3 @@
--- Laws that the proofs of `moves` cite.
+-- Laws that the proofs of `server_moves` cite.
 pub mod Chains
+pub mod Taken

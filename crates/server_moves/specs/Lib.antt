@@ -1,2 +1,3 @@
--- What the contracts of `moves` cite beside `model`.
+-- What the contracts of `server_moves` cite beside `model`.
 pub mod Numbers
+pub mod Taking

@@ -1,5 +1,7 @@
-// The calls of a running server that move a point: give, receipt, image, release. Each answers and leaves its lent slices as its
-// definition says, for all arguments.
+// The calls of a running server that move a point: give, receipt, image, release; take in its own module. Each answers and leaves its lent
+// slices as its definition says, for all arguments.
+pub mod take;
+
 use model::Answer;
 use model::Give;
 use model::Packet;

@@ -41,7 +41,7 @@ fn by_take(s: &mut [u8], log: &mut [u8], store: &[u8], row: u32) -> Answer
     ensures { λ r. ⌜ after r (now (s .exit)) (now (log .exit)) [] ≡ takeOf (now (s .entry)) (now (log .entry)) (packetIn (now (store .entry)) row) ⌝ }
 {
     let b = simulator_store::packet_at(store, row);
-    server_take::take(s, log, b)
+    server_moves::take::take(s, log, b)
 }
 
 fn request_line(s: &mut [u8], log: &mut [u8], store: &mut [u8], count: u32, row: u32) -> Made

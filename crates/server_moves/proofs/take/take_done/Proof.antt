@@ -1,10 +1,10 @@
--- `takes::take_done` meets its contract.
+-- `server_moves::take::take_done` meets its contract.
 -- Assumes nothing.
 use native.Mathlib.Omega.{arith}
-use Rattle.server_take.proofs.Chains.{take-room, take-bounds, take-settled}
+use Rattle.server_moves.proofs.Taken.{take-room, take-bounds, take-settled}
 use borrow.Author.Needs.{needs}
-use Rattle.server_take.proofs.take_done.Statement.{statement}
-use Rattle.server_take.proofs.take_done.Tie as tie
+use Rattle.server_moves.proofs.take.take_done.Statement.{statement}
+use Rattle.server_moves.proofs.take.take_done.Tie as tie
 
 append-take-requires : tie.Need-append-take-requires
 append-take-requires c κs =

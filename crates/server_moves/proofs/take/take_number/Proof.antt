@@ -1,13 +1,13 @@
--- `takes::take_number` meets its contract.
+-- `server_moves::take::take_number` meets its contract.
 -- Assumes nothing.
 use native.Mathlib.Omega.{arith}
 use mathlib.Core.Path.{_∙_}
 use Rattle.model.specs.Images.{imageAt}
 use Rattle.model.specs.Decisions.{takeTests}
-use Rattle.server_take.proofs.Chains.{take-sized}
+use Rattle.server_moves.proofs.Taken.{take-sized}
 use borrow.Author.Needs.{needs}
-use Rattle.server_take.proofs.take_number.Statement.{statement}
-use Rattle.server_take.proofs.take_number.Tie as tie
+use Rattle.server_moves.proofs.take.take_number.Statement.{statement}
+use Rattle.server_moves.proofs.take.take_number.Tie as tie
 
 is-ranged-requires : tie.Need-is-ranged-requires
 is-ranged-requires c κs = search needs

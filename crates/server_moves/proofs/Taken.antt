@@ -40,7 +40,7 @@ use Rattle.server_memory.specs.Memory.{Fit}
 use Rattle.format_image_reader.specs.declared.ImageRead.the-variants.{Malformed, Head}
 use Rattle.format_image_reader.specs.Answers.{readOf}
 use Rattle.format_image_reader.proofs.Whole.{read-ok, read-none, floor-count, entry-count}
-use Rattle.server_take.specs.Taking.{Taking}
+use Rattle.server_moves.specs.Taking.{Taking}
 
 module _ (s log b : List ℕ) where
   pub take-is : takeOf s log b ≡ settle s log [] (unlessRefused (lentRefusal s log 0 0) (onTake (load s) (freeIn s log) (parseImage b)))

@@ -1,9 +1,9 @@
--- `takes::is_ranged` meets its contract.
+-- `server_moves::take::is_ranged` meets its contract.
 -- Assumes nothing.
 use mathlib.Core.Path.{_∙_}
 use borrow.Author.Needs.{needs}
-use Rattle.server_take.proofs.is_ranged.Statement.{statement}
-use Rattle.server_take.proofs.is_ranged.Tie as tie
+use Rattle.server_moves.proofs.take.is_ranged.Statement.{statement}
+use Rattle.server_moves.proofs.take.is_ranged.Tie as tie
 
 entry-at-requires : tie.Need-entry-at-requires
 entry-at-requires c κs = search needs

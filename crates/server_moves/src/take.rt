@@ -1,5 +1,4 @@
-// The call of a running server that takes a point: take. It answers and leaves its lent slices as its definition says, for all
-// arguments.
+// The call that takes a point: take.
 use format_image_reader::ImageRead;
 use model::Answer;
 use model::ImageHead;
@@ -16,7 +15,7 @@ ghost use Rattle.model.specs.States.{load};
 ghost use Rattle.model.specs.Decisions.{takeTests, decideTake};
 ghost use Rattle.model.specs.Operations.{after, settle, freeIn, takeOf};
 ghost use Rattle.server_memory.specs.Memory.{settledBy};
-ghost use Rattle.server_take.specs.Taking.{Taking};
+ghost use Rattle.server_moves.specs.Taking.{Taking};
 
 // ---- the tests
 

@@ -1,12 +1,12 @@
--- `takes::take_by` meets its contract.
+-- `server_moves::take::take_by` meets its contract.
 -- Assumes nothing.
 use mathlib.Core.Path.{sym, _∙_}
 use mathlib.Core.List.{[]}
 use Rattle.server_memory.proofs.Settled.{by-refused, by-passed}
-use Rattle.server_take.proofs.Chains.{take-chain, take-ready}
+use Rattle.server_moves.proofs.Taken.{take-chain, take-ready}
 use borrow.Author.Needs.{needs}
-use Rattle.server_take.proofs.take_by.Statement.{statement}
-use Rattle.server_take.proofs.take_by.Tie as tie
+use Rattle.server_moves.proofs.take.take_by.Statement.{statement}
+use Rattle.server_moves.proofs.take.take_by.Tie as tie
 
 returns : tie.Need-returns
 returns c =

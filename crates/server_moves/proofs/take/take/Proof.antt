@@ -1,13 +1,13 @@
--- `takes::take` meets its contract.
+-- `server_moves::take::take` meets its contract.
 -- Assumes nothing.
 use mathlib.Core.Path.{sym, ap, _∙_}
 use mathlib.Core.List.{[]}
 use Rattle.model.specs.Operations.{settle}
 use Rattle.server_memory.proofs.Settled.{by-refused, by-passed, passed-fit}
-use Rattle.server_take.proofs.Chains.{take-is, take-malformed, take-read, taking}
+use Rattle.server_moves.proofs.Taken.{take-is, take-malformed, take-read, taking}
 use borrow.Author.Needs.{needs}
-use Rattle.server_take.proofs.take.Statement.{statement}
-use Rattle.server_take.proofs.take.Tie as tie
+use Rattle.server_moves.proofs.take.take.Statement.{statement}
+use Rattle.server_moves.proofs.take.take.Tie as tie
 
 returns : tie.Need-returns
 returns c =

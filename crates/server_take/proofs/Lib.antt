@@ -1,2 +1,0 @@
--- Laws that the proofs of `takes` cite.
-pub mod Chains

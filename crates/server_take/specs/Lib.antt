@@ -1,2 +1,0 @@
--- What the contracts of `takes` cite beside `model`.
-pub mod Taking
