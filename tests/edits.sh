@@ -1,5 +1,6 @@
 #!/usr/bin/env bash
-# tools/edits.py on a small crate: edits of different functions share a check and are told apart, one that the prover takes is found, alone and in company.
+# tools/edits.py on a small crate: edits of different functions share a check and are told apart, of a caller too; one that the prover takes is found, though the
+# check that it shares is refused, and a caller without an edit is not taken for refused.
 set -eu
 cd "$(dirname "$0")/.."
 folder=$(mktemp -d)
@@ -56,11 +57,11 @@ edit eleven '    8' '    11'
 edit ten 'usize = 9' 'usize = 10'
 edit twice '    seven()' '    eight()'
 due 0 <<'END'
- 1/4 edit small/eleven refused at eight (`search` does not close `returns`), N s with one more
- 2/4 edit small/six refused at seven (`search` does not close `returns`), N s with one more
- 3/4 edit small/ten refused, N s
- 4/4 edit small/twice refused, N s
- 4 edits in 3 checks, N s
+ 1/4 edit small/eleven refused at eight (`search` does not close `returns`), N s with 2 more
+ 2/4 edit small/six refused at seven (`search` does not close `returns`), N s with 2 more
+ 3/4 edit small/twice refused at again (`search` does not close `returns`), N s with 2 more
+ 4/4 edit small/ten refused, N s
+ 4 edits in 2 checks, N s
 4 passed, 0 failed
 END
 

@@ -1,11 +1,12 @@
 #!/usr/bin/env python3
 """edits.py [NAME..]: tries the must-fail edits of all crates or of those named; the prover must refuse each.
 
-Edits of one crate share a check where the prover's verdicts tell them apart. It judges a function by its own code, its own proof, the contracts of what it
-calls and the definitions; so edits inside the bodies of functions that neither call each other nor cite each other's proofs leave each other's verdicts
-alone. Each of their functions must then be named as not proved by itself, with an error in its own proof. An edit of anything else (a definition, a contract,
-a constant), and one that a shared check does not show, is tried alone. The checks are those of `rt must-fail`, on a copy of the repository in which edits
-that share a check stand in one file; what `rt check` has proved is taken over. `rt must-fail` here tries each edit alone.
+Edits of one crate share a check where the prover's verdicts tell them apart. It judges a function's proof by its own code, the contracts of what it calls and
+the definitions; so edits inside the bodies of functions whose proofs do not cite each other leave each other's errors alone. Each of their functions must then
+be named as not proved, with an error in its own proof that is more than "was not admitted", which is what the callers of a function that is not proved get; and
+no function without an edit may have more than that. An edit of anything else (a definition, a contract, a constant), and one that a shared check does not show
+so, is tried alone. The checks are those of `rt must-fail`, on a copy of the repository in which edits that share a check stand in one file; what `rt check` has
+proved is taken over. `rt must-fail` here tries each edit alone.
 Prints each edit with the place of its first error; the last line is 'N passed, M failed'."""
 import glob, os, re, shutil, subprocess, sys, tempfile, time
 from progress import listed
@@ -51,19 +52,15 @@ def bodies_of(crate):
     return out
 
 
-def named_by(crate, bodies):
-    """for each function the functions that its code calls or its proof cites, at any remove"""
-    names = {f.split('::')[-1]: set() for f, _, _, _ in bodies}
-    for f, _, _, _ in bodies:
-        names[f.split('::')[-1]].add(f)
-    texts = {p: open(p, encoding='utf-8').read() for p in glob.glob('crates/%s/proofs/**/*.antt' % crate, recursive=True)}
-    root = 'crates/%s/proofs/' % crate
+def cited_by(crate, bodies):
+    """for each function the functions whose proofs its own proof cites, through files that proofs share too"""
+    root, functions = 'crates/%s/proofs/' % crate, [f for f, _, _, _ in bodies]
+    texts = {p: open(p, encoding='utf-8').read() for p in glob.glob(root + '**/*.antt', recursive=True)}
 
     def folder(f):
-        return root + f.replace('::', '/')
+        return root + f.replace('::', '/') + '/'
 
     def cited(paths):
-        """functions whose folders these proof files name, through the crate's shared files too"""
         todo, seen, out = list(paths), set(), set()
         while todo:
             path = todo.pop()
@@ -71,27 +68,13 @@ def named_by(crate, bodies):
                 continue
             seen.add(path)
             for owner, module in IMPORT.findall(texts[path]):
-                if owner != crate:
-                    continue
-                file = root + module.replace('.', '/') + '.antt'
-                out |= {f for f, _, _, _ in bodies if (root + module.replace('.', '/') + '/').startswith(folder(f) + '/')}
-                if file in texts:
-                    todo.append(file)
+                place = root + module.replace('.', '/')
+                if owner == crate:
+                    out |= {f for f in functions if (place + '/').startswith(folder(f))}
+                    todo += [place + '.antt'] if place + '.antt' in texts else []
         return out
 
-    named = {}
-    for f, source, start, end in bodies:
-        code = open('crates/%s/%s' % (crate, source), encoding='utf-8').read()[start:end]
-        named[f] = set().union(*(names.get(n, set()) for n in re.findall(r'\b(\w+)\(', code)))
-        named[f] |= cited(p for p in texts if p.startswith(folder(f) + '/'))
-        named[f].discard(f)
-    grown = True
-    while grown:
-        grown = False
-        for f in named:
-            more = set().union(named[f], *(named.get(g, set()) for g in named[f]))
-            grown, named[f] = grown or more != named[f], more
-    return named
+    return {f: cited(p for p in texts if p.startswith(folder(f))) - {f} for f in functions}
 
 
 def fits(group, edit):
@@ -113,12 +96,12 @@ def grouped(crate):
     if not paths:
         return []
     bodies = bodies_of(crate)
-    named, groups = named_by(crate, bodies), []
+    cited, groups = cited_by(crate, bodies), []
     for edit in (Edit(crate, p, bodies) for p in paths):
         for group in groups:
             others = [f for e in group for f in e.functions or ()]
             if edit.functions and all(e.functions for e in group) and fits(group, edit) and not any(
-                    f == g or g in named[f] or f in named[g] for f in edit.functions for g in others):
+                    f == g or g in cited[f] or f in cited[g] for f in edit.functions for g in others):
                 group.append(edit)
                 break
         else:
@@ -139,18 +122,23 @@ def copy_of_repository(folder, groups):
             f.write('\n'.join(e.text for e in group))
 
 
-def shown(edit, log):
-    """the first error of each edited function, in its own proof or, where it has no proof file, what the prover does not find; None if the log does not say
-    of each that it is not proved by itself"""
-    places = []
-    for f in sorted(edit.functions):
-        name = re.escape('%s::%s' % (edit.crate, f))
-        error = re.search(r'^\S*/(proofs/%s/\S+?): error' % re.escape(f.replace('::', '/')), log, re.M) if re.search(r'^fn %s: not proved$' % name, log, re.M) else None
-        error = error or re.search(r'^fn %s: no proof: .*; (`search` does not close .*)$' % name, log, re.M)
-        if not error:
-            return None
-        places.append(error[1] if '/' in error[1] else '%s (%s)' % (f, error[1]))
-    return ', '.join(places)
+def own_errors(crate, log):
+    """for each function that is not proved by itself where the log has its first error, "was not admitted" aside"""
+    out = {}
+    for m in re.finditer(r'^fn %s::(\S+): (no proof: .*?; (`search` does not close [^;\n]*).*|not proved.*|no proof.*)$' % crate, log, re.M):
+        f = m[1]
+        error = re.search(r'^\S*/(proofs/%s/\w+\.antt:\d+:\d+): error: (?!`[^`]*`: `[^`]*` was not admitted)' % re.escape(f.replace('::', '/')), log, re.M)
+        if error or m[3]:
+            out[f] = error[1] if error else '%s (%s)' % (f, m[3])
+    return out
+
+
+def shown(group, log):
+    """where each edit of the group is refused, as far as the log tells them apart"""
+    errors = own_errors(group[0].crate, log)
+    if set(errors) - {f for e in group for f in e.functions}:
+        return {}
+    return {e: ', '.join(errors[f] for f in sorted(e.functions)) for e in group if all(f in errors for f in e.functions)}
 
 
 class Report:
@@ -183,10 +171,10 @@ def run(groups, report, names):
                 report.say(group[0], '%s%s, %s s' % (m[3], ' at ' + first[1] if first else '', seconds) + ('' if m[3] == 'refused' else m[4]), m[3] == 'refused')
                 continue
             log = open('%s/target/must-fail/%s/%s/.log' % (folder, m[1], m[2]), encoding='utf-8', errors='replace').read() if m[3] == 'refused' else ''
+            places = shown(group, log)
             for edit in group:
-                place = shown(edit, log)
-                if place:
-                    report.say(edit, 'refused at %s, %s s with %s' % (place, seconds, 'one more' if len(group) == 2 else '%d more' % (len(group) - 1)), True)
+                if edit in places:
+                    report.say(edit, 'refused at %s, %s s with %s' % (places[edit], seconds, 'one more' if len(group) == 2 else '%d more' % (len(group) - 1)), True)
                 else:
                     again.append(edit)
         rt.wait()
