@@ -125,10 +125,10 @@ module _ (d : Client) (r : RefusalPacket) {u : Bool} (tested : u ≡ isOwn d (r 
   refusal-unknown is e = rw (← tested, is) e
 
 module _ (d : Client) (g : Grant) where
-  pub grant-later : (eqb (g .client) (d .client) && leb (d .lease) (g .lease)) ≡ true → {k : OpenCall} → k ≡ callAt d 0
-      → received d 0 (record { lease = g .lease; call = k; answer = Extended g }) ≡ receiveGrant d g
+  pub grant-later : (eqb (g .client) (d .client) && leb (d .lease) (g .lease)) ≡ true → (c : ℕ) {k : OpenCall} → k ≡ callAt d c
+      → received d c (record { lease = g .lease; call = k; answer = Extended g }) ≡ receiveGrant d g
   unfolding receiveGrant received withLease
-  grant-later is at = rw (is, same-call d 0 at) refl
+  grant-later is c at = rw (is, same-call d c at) refl
 
   pub grant-unknown : (eqb (g .client) (d .client) && leb (d .lease) (g .lease)) ≡ false → {a : ReceiveAnswer} → a ≡ notReceived d unknown → a ≡ receiveGrant d g
   unfolding receiveGrant

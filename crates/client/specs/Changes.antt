@@ -1,7 +1,10 @@
 -- What an operation changes of a client, and the answer that it makes: the next number or the lease end, and what stands at one place.
 -- Assumes nothing.
 use Prim.Native.Nat.{ℕ}
-use lib.ListN.{set}
+use mathlib.Core.Path.{_≡_}
+use mathlib.Core.List.{List}
+use lib.Dec.{ltb}
+use lib.ListN.{length, set}
 use Rattle.model.specs.declared.OpenCall.{OpenCall}
 use Rattle.model.specs.declared.Client.{Client}
 use Rattle.model.specs.declared.Request.{Request}
@@ -10,6 +13,9 @@ use Rattle.model.specs.declared.Packet.the-variants.{Malformed, Requested, Resu
 use Rattle.model.specs.declared.StartAnswer.{StartAnswer}
 use Rattle.model.specs.declared.SendAnswer.{SendAnswer}
 use Rattle.model.specs.declared.ReceiveAnswer.{ReceiveAnswer}
+use Rattle.model.specs.Choice.{pick}
+use Rattle.model.specs.Numbers.{le32At}
+use Rattle.model.specs.Limits.{refusalSize}
 use Rattle.model.specs.Clients.{placeOf, withCalls, startNumber}
 use Rattle.client.specs.declared.StartFields.{StartFields}
 use Rattle.client.specs.declared.SendChange.{SendChange}
@@ -28,21 +34,25 @@ requestWith d k done =
       lease = d .lease;
     }
 
--- the call that a packet to a client is of, 0 for none
-unfoldable pub packetCall : Packet → ℕ
-packetCall Malformed = 0
-packetCall (Requested q) = 0
-packetCall (Resulted r) = r .call
-packetCall (Refused r) = r .call
-packetCall (Receipted r) = 0
-packetCall (Noticed n) = 0
-packetCall (Granted g) = 0
+-- the number in bytes where a result and a refusal have their call, 0 in fewer bytes
+unfoldable pub packetCall : List ℕ → ℕ
+packetCall b = pick (ltb (length b) refusalSize) 0 (le32At b 8)
+
+-- a packet that is of a call is of the call c
+abbrev pub OfCall : ℕ → Packet → Type 0
+OfCall c Malformed = Unit
+OfCall c (Requested q) = Unit
+OfCall c (Resulted r) = c ≡ r .call
+OfCall c (Refused r) = c ≡ r .call
+OfCall c (Receipted r) = Unit
+OfCall c (Noticed n) = Unit
+OfCall c (Granted g) = Unit
 
 -- the answer of an issue that changes the client so
 unfoldable pub issued : Client → SendChange → SendAnswer
 issued d c = record { client = withCalls d (c .next) (set (d .calls) (placeOf (d .next)) (c .call)); answer = c .answer }
 
--- the answer of a receive, of a packet of the call n, that changes the client so
+-- the answer of a receive that changes the client so, at the place of the call n
 unfoldable pub received : Client → ℕ → ReceiveChange → ReceiveAnswer
 received d n c =
     record {

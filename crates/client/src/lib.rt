@@ -2,6 +2,7 @@
 // made of what it changes (the next number or the lease end, and what stands at one place), so that one who is lent a client stores that alone.
 use model::constants;
 use model::constants::CALL_WINDOW;
+use model::constants::REFUSAL_SIZE;
 ghost use mathlib.Core.Path.{_≡_};
 ghost use mathlib.Core.Bool.{_&&_};
 ghost use Prim.Native.Nat.{_<_};
@@ -12,7 +13,7 @@ ghost use Rattle.model.specs.Limits.{last32, callWindow};
 ghost use Rattle.model.specs.Clients.{noCall, placeOf, callAt, leastOpen, firstOpen, notSent, notReceived};
 ghost use Rattle.model.specs.Clients.{withCalls, withCall, startWith, startOf, issueOf, resendOf};
 ghost use Rattle.model.specs.Clients.{isOwn, receiveResult, receiveRefusal, receiveGrant, receiveWith, receiveOf};
-ghost use Rattle.client.specs.Changes.{startFields, requestWith, packetCall, issued, received};
+ghost use Rattle.client.specs.Changes.{startFields, requestWith, packetCall, OfCall, issued, received};
 use model::Client;
 use model::Command;
 use model::Grant;
@@ -241,17 +242,16 @@ pub fn resend_answer(d: Client, k: OpenCall, c: u32) -> Sent
     Sent::NotSent(constants::UNKNOWN)
 }
 
-// ---- receive
+// ---- receive: k is what stands at the place of c, which is the call of a packet that has one
 
-// The call that a packet to a client is of, 0 for none.
-pub fn packet_call(p: Packet) -> u32
-    ensures { λ r. ⌜ r ≡ packetCall p ⌝ }
+// The number where a result and a refusal have their call, 0 in a shorter packet.
+pub fn packet_call(packet: &[u8]) -> u32
+    ensures { λ r. ⌜ r ≡ packetCall (now (packet .entry)) ⌝ }
 {
-    match p {
-        Packet::Resulted(r) => r.call,
-        Packet::Refused(r) => r.call,
-        _ => 0,
+    if packet.len() < REFUSAL_SIZE {
+        return 0;
     }
+    format_numbers::read_u32(packet, 8)
 }
 
 // The packet is of this client and of an open call on its point.
@@ -313,9 +313,9 @@ fn refusal_change(d: Client, k: OpenCall, r: RefusalPacket) -> ReceiveChange
     not_received(d, k, r.call, constants::UNKNOWN)
 }
 
-fn grant_change(d: Client, k: OpenCall, g: Grant) -> ReceiveChange
-    requires { ⌜ k ≡ callAt d 0 ⌝ }
-    ensures { λ a. ⌜ received d 0 a ≡ receiveGrant d g ⌝ }
+fn grant_change(d: Client, k: OpenCall, c: u32, g: Grant) -> ReceiveChange
+    requires { ⌜ k ≡ callAt d c ⌝ }
+    ensures { λ a. ⌜ received d c a ≡ receiveGrant d g ⌝ }
 {
     if (g.client == d.client) & (d.lease <= g.lease) {
         return ReceiveChange {
@@ -324,19 +324,19 @@ fn grant_change(d: Client, k: OpenCall, g: Grant) -> ReceiveChange
             answer: Received::Extended(g),
         };
     }
-    not_received(d, k, 0, constants::UNKNOWN)
+    not_received(d, k, c, constants::UNKNOWN)
 }
 
 // Receive: 1 no well-formed result, refusal or grant; 17 not for this client and an open call of it on that point, or a lease end that falls.
-pub fn receive_change(d: Client, k: OpenCall, p: Packet) -> ReceiveChange
-    requires { ⌜ k ≡ callAt d (packetCall p) ⌝ }
-    ensures { λ r. ⌜ received d (packetCall p) r ≡ receiveWith d p ⌝ }
+pub fn receive_change(d: Client, k: OpenCall, c: u32, p: Packet) -> ReceiveChange
+    requires { ⌜ (k ≡ callAt d c) × OfCall c p ⌝ }
+    ensures { λ r. ⌜ received d c r ≡ receiveWith d p ⌝ }
 {
     match p {
         Packet::Resulted(r) => result_change(d, k, r),
         Packet::Refused(r) => refusal_change(d, k, r),
-        Packet::Granted(g) => grant_change(d, k, g),
-        _ => not_received(d, k, packet_call(p), constants::MALFORMED),
+        Packet::Granted(g) => grant_change(d, k, c, g),
+        _ => not_received(d, k, c, constants::MALFORMED),
     }
 }
 
@@ -373,9 +373,9 @@ pub fn receive(d: Client, packet: &[u8]) -> ReceiveAnswer
     ensures { λ r. ⌜ r ≡ receiveOf d (now (packet .entry)) ⌝ }
 {
     let p = format_packet_reader::parse_packet(packet);
-    let n = packet_call(p);
+    let n = packet_call(packet);
     let k = call_at(d, n);
-    let c = receive_change(d, k, p);
+    let c = receive_change(d, k, n, p);
     let ks = d.calls;
     let call = c.call;
     let out = placed(ks, n, call);

@@ -12,7 +12,7 @@ use mathlib.Core.List.{List}
 use Prim.Native.Nat.{ℕ, _<_}
 use native.Mathlib.Omega.{arith}
 use lib.Dec.{ltb}
-use lib.ListN.{length, set, replicate}
+use lib.ListN.{length, replicate}
 use borrow.Author.Tests.{ltb-false, le-ltb}
 use Rattle.model.specs.declared.Request.{Request}
 use Rattle.model.specs.declared.Grant.{Grant}
@@ -26,8 +26,8 @@ use Rattle.model.specs.declared.Packet.the-variants.{Malformed, Requested, Resu
 use Rattle.model.specs.declared.Sent.the-variants.{NotSent, Asked}
 use Rattle.model.specs.declared.Told.the-variants.{NotTold, ByGrant, ByNotice}
 use Rattle.model.specs.Limits.{callWindow, noticeKind, grantKind, requestSize, grantSize, noticeSize}
-use Rattle.model.specs.Packets.{parsePacket, commandOk, requestBytes, grantBytes, noticeBytes}
-use Rattle.model.specs.Clients.{noCall, placeOf, receiveWith, receiveOf, callAt, withCalls, startNumber, startWith, sendNumber, sentBytes, notSent, issueOf}
+use Rattle.model.specs.Packets.{commandOk, requestBytes, grantBytes, noticeBytes}
+use Rattle.model.specs.Clients.{noCall, receiveOf, callAt, withCalls, startNumber, startWith, sendNumber, sentBytes, notSent, issueOf}
 use Rattle.model.specs.Leases.{toldNumber, toldBytes}
 use Rattle.model.specs.Refusals.{noRefusal, malformed}
 use Rattle.model_laws.proofs.Commands.{CommandParts, command-parts}
@@ -102,15 +102,10 @@ pub sends-change : (d : Client) {a : SendAnswer} (c : SendChange) {s : SendReply
 unfolding issued
 sends-change d c i e = (e ∙ ap (λ (x : SendAnswer). sendReply (x .answer)) i, ap (λ (x : SendAnswer). x .client) i)
 
-pub receives-change : (d : Client) (b : List ℕ) {p : Packet} (c : ReceiveChange) {s : ReceiveReply} → p ≡ parsePacket b → received d (packetCall p) c ≡ receiveWith d p
+pub receives-change : (d : Client) (b : List ℕ) (c : ReceiveChange) {s : ReceiveReply} → received d (packetCall b) c ≡ receiveOf d b
     → s ≡ receiveReply (c .answer) → Receives d b (record { lease = c .lease; call = c .call; reply = s })
-unfolding received receiveOf
-receives-change d b c {s} at i e =
-    let whole = i ∙ ap (receiveWith d) at in (
-      e ∙ ap (λ (x : ReceiveAnswer). receiveReply (x .answer)) whole,
-      ap (λ (x : Packet). record { client = d .client; lease = c .lease; next = d .next; calls = set (d .calls) (placeOf (packetCall x)) (c .call) }) (sym at)
-          ∙ ap (λ (x : ReceiveAnswer). x .client) whole,
-    )
+unfolding received
+receives-change d b c i e = (e ∙ ap (λ (x : ReceiveAnswer). receiveReply (x .answer)) i, ap (λ (x : ReceiveAnswer). x .client) i)
 
 -- a client without open calls
 abbrev fresh : StartFields → StartReply

@@ -16,7 +16,6 @@ use Rattle.model.specs.declared.LeaseAnswer.{LeaseAnswer}
 use Rattle.model.specs.declared.Client.{Client}
 use Rattle.model.specs.Numbers.{flip}
 use Rattle.model.specs.Limits.{callWindow, requestSize, grantSize, grantKind, noticeKind}
-use Rattle.model.specs.Packets.{parsePacket}
 use Rattle.model.specs.Clients.{placeOf, withCalls, receiveOf, startNumber, sendNumber, sentBytes, receiveNumber, brought}
 use Rattle.model.specs.Leases.{toldNumber, toldBytes}
 use Rattle.client.specs.Changes.{packetCall}
@@ -63,19 +62,15 @@ receiveReply a =
       refusal = b .refusal;
     }
 
--- the call that a packet in bytes is of, 0 for none
-abbrev pub callIn : List ℕ → ℕ
-callIn b = packetCall (parsePacket b)
-
--- i is its place
+-- i is the place of a packet's call
 abbrev pub Placed : List ℕ → ℕ → Type 0
-Placed b i = (i ≡ placeOf (callIn b)) × (i < callWindow)
+Placed b i = (i ≡ placeOf (packetCall b)) × (i < callWindow)
 
 -- the reply is the answer's, and the client with what changes stored in it is the answer's client
 abbrev pub Receives : Client → List ℕ → Receiving → Type 0
 Receives d b r =
     (r .reply ≡ receiveReply (receiveOf d b .answer))
-    × (record { client = d .client; lease = r .lease; next = d .next; calls = set (d .calls) (placeOf (callIn b)) (r .call) } ≡ receiveOf d b .client)
+    × (record { client = d .client; lease = r .lease; next = d .next; calls = set (d .calls) (placeOf (packetCall b)) (r .call) } ≡ receiveOf d b .client)
 
 -- the kind of what the lease manager gives
 unfoldable pub toldKind : Told → ℕ

@@ -5,7 +5,8 @@ ghost use mathlib.Core.Path.{_≡_};
 ghost use Rattle.model.specs.Numbers.{flip};
 ghost use Rattle.model.specs.Clients.{callAt, startOf, issueOf, resendOf, receiveOf};
 ghost use Rattle.model.specs.Leases.{newManager, openOf, renewOf, queryOf};
-ghost use Rattle.client_c.specs.Replies.{startReply, sendReply, Sends, receiveReply, callIn, Placed, Receives, leaseReply, leasing};
+ghost use Rattle.client.specs.Changes.{packetCall};
+ghost use Rattle.client_c.specs.Replies.{startReply, sendReply, Sends, receiveReply, Placed, Receives, leaseReply, leasing};
 use model::Client;
 use model::Grant;
 use model::Lease;
@@ -240,16 +241,15 @@ fn resend_value(d: Client, k: OpenCall, call: u32) -> SendReply
 fn packet_place(packet: &[u8]) -> usize
     ensures { λ r. ⌜ Placed (now (packet .entry)) r ⌝ }
 {
-    let p = format_packet_reader::parse_packet(packet);
-    client::place_of(client::packet_call(p))
+    client::place_of(client::packet_call(packet))
 }
 
 fn receive_value(d: Client, k: OpenCall, packet: &[u8]) -> Receiving
-    requires { ⌜ k ≡ callAt d (callIn (now packet)) ⌝ }
+    requires { ⌜ k ≡ callAt d (packetCall (now packet)) ⌝ }
     ensures { λ r. ⌜ Receives d (now (packet .entry)) r ⌝ }
 {
     let p = format_packet_reader::parse_packet(packet);
-    let c = client::receive_change(d, k, p);
+    let c = client::receive_change(d, k, client::packet_call(packet), p);
     let call = c.call;
     let s = c.answer;
     let reply = receive_reply(s);

@@ -1,5 +1,6 @@
 use Rattle.model.specs.Clients.{receiveOf}
 use Rattle.client.specs.Changes.{received}
+use Rattle.client.proofs.Others.{of-call}
 use borrow.Author.Needs.{needs}
 use Rattle.client.proofs.receive.Statement.{statement}
 use Rattle.client.proofs.receive.Tie as tie
@@ -25,7 +26,7 @@ call-at-requires c κs = search needs
 
 -- src/lib.rt:385:9
 receive-change-requires : tie.Need-receive-change-requires
-receive-change-requires c κs = rw (← c .before .packet-call .ensures) (c .call-at .ensures)
+receive-change-requires c κs = (c .call-at .ensures, rw (c .before .packet-call .ensures, c .before .before .parse-packet .ensures) (of-call _))
 
 -- src/lib.rt:388:9
 placed-requires : tie.Need-placed-requires
@@ -34,7 +35,7 @@ placed-requires c κs = search needs
 -- src/lib.rt:379:1
 returns : tie.Need-returns
 unfolding received receiveOf
-returns c = let b = c .before .before .before in rw (c .placed .ensures, b .before .before .packet-call .ensures, ← b .before .before .before .parse-packet .ensures) (b .receive-change .ensures)
+returns c = let b = c .before .before .before in rw (c .placed .ensures, ← b .before .before .before .parse-packet .ensures) (b .receive-change .ensures)
 
 pub receive-spec : {M : Type 1} → statement M
 receive-spec =

@@ -1,7 +1,6 @@
-use mathlib.Core.Path.{ap, sym, _∙_}
-use Rattle.model.specs.declared.Packet.{Packet}
+use mathlib.Core.Path.{ap, sym, _∙_, subst}
 use Rattle.model.specs.Clients.{callAt, receiveWith}
-use Rattle.client.specs.Changes.{packetCall}
+use Rattle.client.specs.Changes.{OfCall}
 use Rattle.client.proofs.Others.{not-taken}
 use borrow.Author.Needs.{needs}
 use Rattle.client.proofs.receive_change.Statement.{statement}
@@ -10,7 +9,6 @@ use Rattle.client.proofs.receive_change.Reads as reads
 use Rattle.client.proofs.receive_change.Lts as lts
 use Rattle.client.proofs.grant_change.Reads as grant-change-reads
 use Rattle.client.proofs.not_received.Reads as not-received-reads
-use Rattle.client.proofs.packet_call.Reads as packet-call-reads
 use Rattle.client.proofs.refusal_change.Reads as refusal-change-reads
 use Rattle.client.proofs.result_change.Reads as result-change-reads
 
@@ -20,8 +18,8 @@ enum-known-p c = search needs
 
 -- src/lib.rt:343:32
 result-change-requires : tie.Need-result-change-requires
-unfolding packetCall
-result-change-requires c κs = let start = c .before .before .before in start .pre ∙ ap (λ (q : Packet). callAt (start .args .d) (packetCall q)) (c .before .p .given .1)
+result-change-requires c κs =
+    let start = c .before .before .before in start .pre .0 ∙ ap (callAt (start .args .d)) (subst (OfCall (start .args .c)) (c .before .p .given .1) (start .pre .1))
 
 -- src/lib.rt:344:25
 enum-known-p-2 : tie.Need-enum-known-p-2
@@ -29,8 +27,8 @@ enum-known-p-2 c = search needs
 
 -- src/lib.rt:344:31
 refusal-change-requires : tie.Need-refusal-change-requires
-unfolding packetCall
-refusal-change-requires c κs = let start = c .before .before .before in start .pre ∙ ap (λ (q : Packet). callAt (start .args .d) (packetCall q)) (c .before .p2 .given .1)
+refusal-change-requires c κs =
+    let start = c .before .before .before in start .pre .0 ∙ ap (callAt (start .args .d)) (subst (OfCall (start .args .c)) (c .before .p2 .given .1) (start .pre .1))
 
 -- src/lib.rt:345:25
 enum-known-p-3 : tie.Need-enum-known-p-3
@@ -38,35 +36,34 @@ enum-known-p-3 c = search needs
 
 -- src/lib.rt:345:31
 grant-change-requires : tie.Need-grant-change-requires
-unfolding packetCall
-grant-change-requires c κs = let start = c .before .before .before in start .pre ∙ ap (λ (q : Packet). callAt (start .args .d) (packetCall q)) (c .before .p3 .given .1)
-
--- src/lib.rt:346:33
-packet-call-requires : tie.Need-packet-call-requires
-packet-call-requires c κs = search needs
+grant-change-requires c κs = c .before .before .before .pre .0
 
 -- src/lib.rt:346:14
 not-received-requires : tie.Need-not-received-requires
-not-received-requires c κs = rw (c .packet-call .ensures) (c .before .before .pre)
+not-received-requires c κs = c .before .pre .0
 
 -- src/lib.rt:338:1
 returns : tie.Need-returns
-unfolding receiveWith packetCall
-returns c = rw (c .before .before .p .given .1) (c .result-change .ensures)
+unfolding receiveWith
+returns c =
+    let start = c .before .before .before .before in
+    rw (subst (OfCall (start .args .c)) (c .before .before .p .given .1) (start .pre .1), c .before .before .p .given .1) (c .result-change .ensures)
 
 -- src/lib.rt:338:1
 returns-2 : tie.Need-returns-2
-unfolding receiveWith packetCall
-returns-2 c = rw (c .before .before .p2 .given .1) (c .refusal-change .ensures)
+unfolding receiveWith
+returns-2 c =
+    let start = c .before .before .before .before in
+    rw (subst (OfCall (start .args .c)) (c .before .before .p2 .given .1) (start .pre .1), c .before .before .p2 .given .1) (c .refusal-change .ensures)
 
 -- src/lib.rt:338:1
 returns-3 : tie.Need-returns-3
-unfolding receiveWith packetCall
+unfolding receiveWith
 returns-3 c = rw (c .before .before .p3 .given .1) (c .grant-change .ensures)
 
 -- src/lib.rt:338:1
 returns-4 : tie.Need-returns-4
-returns-4 c = let start = c .before .before .before .args in rw (← c .before .packet-call .ensures) (c .not-received .ensures ∙ sym (not-taken (start .d) (start .p) (c .before .before .match .keys4)))
+returns-4 c = let start = c .before .before .args in c .not-received .ensures ∙ sym (not-taken (start .d) (start .p) (c .before .match .keys4))
 
 pub receive-change-spec : {M : Type 1} → statement M
 receive-change-spec =
@@ -78,7 +75,6 @@ receive-change-spec =
     refusal-change-requires
     enum-known-p-3
     grant-change-requires
-    packet-call-requires
     not-received-requires
     returns
     returns-2

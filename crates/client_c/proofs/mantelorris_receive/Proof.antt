@@ -50,7 +50,8 @@ use Rattle.client_c.specs.declared.Receiving.{Receiving}
 use Rattle.client_c.specs.declared.ReceiveReply.{ReceiveReply}
 use Rattle.model.specs.Clients.{noCall, placeOf, callAt, receiveOf}
 use Rattle.model.specs.Limits.{callWindow}
-use Rattle.client_c.specs.Replies.{receiveReply, callIn, Placed, Receives}
+use Rattle.client.specs.Changes.{packetCall}
+use Rattle.client_c.specs.Replies.{receiveReply, Placed, Receives}
 use Rattle.model.proofs.Client as T
 use Rattle.model.proofs.Client.Laws as T′
 use Rattle.model.proofs.OpenCall as O
@@ -164,7 +165,7 @@ module _ {M : Type 1} (𝓤 : URA M) (H : Heap 𝓤) (A : Atoms 𝓤) (W : Given
   abbrev to-value : OpenCall → Value 𝓤 H A at-mem run .Ghost
   to-value k = (((κ′, tt), (q′, tt), tt, (h, (k, (y, tt))), (client-val h ∷ [], (call-val k ∷ [], (s ∷ [], tt)))), tt)
 
-  goes-value : (k : OpenCall) → Is T.the-row h (client-val h ∷ []) → Is O.the-row k (call-val k ∷ []) → k ≡ callAt h (callIn (y .now))
+  goes-value : (k : OpenCall) → Is T.the-row h (client-val h ∷ []) → Is O.the-row k (call-val k ∷ []) → k ≡ callAt h (packetCall (y .now))
       → ent 𝓤 (⋆ 𝓤 H A ((‵ (flft κ′ q′) ⊛ ‵ ftrue) ∷ ‵ Own ∷ [])) (Value 𝓤 H A at-mem run .pre (to-value k))
   goes-value k was is at =
       qed W ((‵ (flft κ′ q′) ⊛ ‵ ftrue) ∷ ‵ Own ∷ []) ∵ says ! at $ nothing ! $ move ! (2 ∷ 0 ∷ []) $ fjoin ! $
@@ -254,7 +255,7 @@ module _ {M : Type 1} (𝓤 : URA M) (H : Heap 𝓤) (A : Atoms 𝓤) (W : Given
         typed-here : (i : ℕ) → i < callWindow → Is T.the-row h (client-val h ∷ []) → T-of (getD (call-vals (h .calls)) i (call-val noCall))
         typed-here i lt was = subst T-of (sym (at-val (h .calls) i)) (LL.lawful O.the-type O′.the-laws 𝓤 H A W .typed (here i) _ (call-is h was i lt) .0)
 
-        is-here : (i : ℕ) → i ≡ placeOf (callIn (y .now)) → here i ≡ callAt h (callIn (y .now))
+        is-here : (i : ℕ) → i ≡ placeOf (packetCall (y .now)) → here i ≡ callAt h (packetCall (y .now))
         is-here i e = unfold callAt in ap (λ (j : ℕ). getD (h .calls) j noCall) e
 
 module _ {M : Type 1} (𝓤 : URA M) (H : Heap 𝓤) (A : Atoms 𝓤) (W : Given 𝓤 H A) (at-mem : Memory → SProp 𝓤) (run : Routine → Fun 𝓤) where
