@@ -1,9 +1,11 @@
 -- A packet of another kind than a call takes: start takes a grant, receive a result, a refusal or a grant.
 --     not-grant, not-taken
+--     start-other, start-grant      start takes a packet whose kind and length are a grant's, and parses it as one
 --     of-call      a result and a refusal are of the call that stands in their bytes
+--     receive-same      receive takes a packet as a client parses it
 -- Assumes nothing.
-use mathlib.Core.Path.{_≡_, refl}
-use mathlib.Core.Bool.{Bool}
+use mathlib.Core.Path.{_≡_, refl, sym}
+use mathlib.Core.Bool.{Bool, true, false}
 use mathlib.Core.List.{List, [], _∷_}
 use Prim.Native.Nat.{ℕ, _≤_}
 use native.Mathlib.Omega.{arith}
@@ -18,12 +20,12 @@ use Rattle.model.specs.declared.Packet.the-variants.{Malformed, Requested, Resu
 use Rattle.model.proofs.Packet.{the-type}
 use Rattle.model.specs.Refusals.{malformed}
 use Rattle.model.specs.Numbers.{byteAt, le32At}
-use Rattle.model.specs.Limits.{requestKind, resultKind, refusalKind, receiptKind, noticeKind, grantKind, refusalSize}
+use Rattle.model.specs.Limits.{requestKind, resultKind, refusalKind, receiptKind, noticeKind, grantKind, refusalSize, grantSize}
 use Rattle.model.specs.Packets.{packetLength, resultAt, refusalAt, whole}
 use Rattle.model.specs.Packets.{parseRequest, parseResult, parseRefusal, parseReceipt, parseNotice, parseGrant, parsePacket}
 use Rattle.model_laws.proofs.Tests.{choose}
-use Rattle.client.specs.Changes.{packetCall, OfCall}
-use Rattle.model.specs.Clients.{notStarted, startWith, notReceived, receiveWith}
+use Rattle.client.specs.Changes.{packetCall, clientPacket, OfCall}
+use Rattle.model.specs.Clients.{notStarted, startWith, startOf, notReceived, receiveWith, receiveOf}
 
 pub not-grant : (p : Packet) → OneOf (0 ∷ 1 ∷ 2 ∷ 3 ∷ 4 ∷ 5 ∷ []) (tagOf the-type p) → startWith p ≡ notStarted
 unfolding startWith
@@ -45,23 +47,78 @@ not-taken d (Receipted r) h = refl
 not-taken d (Noticed n) h = refl
 not-taken d (Granted g) h = absurd (miss (0 ∷ 1 ∷ 4 ∷ 5 ∷ []) 6 tt h)
 
-call-there : (b : List ℕ) → refusalSize ≤ length b → packetCall b ≡ le32At b 8
-unfolding packetCall
-call-there b h = rw (le-ltb (length b) refusalSize h) refl
+-- ---- start
 
-module _ (c : ℕ) (b : List ℕ) where
-  whole-of : (kind : ℕ) (ok : Bool) (p : Packet) → (length b ≡ packetLength kind → OfCall c p) → OfCall c (whole b kind ok p)
+abbrev NotTaken : Packet → Type 0
+NotTaken p = startWith p ≡ notStarted
+
+module _ (b : List ℕ) where
+  whole-other : (kind : ℕ) (ok : Bool) (p : Packet) → NotTaken p → NotTaken (whole b kind ok p)
+  unfolding whole startWith
+  whole-other kind ok p e = choose NotTaken (eqb (length b) (packetLength kind)) (λ n. choose NotTaken ok (λ t. e) (λ t. refl)) (λ n. refl)
+
+  grant-other : (length b ≡ grantSize → ⊥) → NotTaken (parseGrant b)
+  unfolding parseGrant whole packetLength startWith
+  grant-other h = choose NotTaken (eqb (length b) grantSize) (λ n. absurd (h (eqb-true (length b) grantSize n))) (λ n. refl)
+
+  pub start-other : (byteAt b 0 ≡ grantKind → length b ≡ grantSize → ⊥) → startWith Malformed ≡ startOf b
+  unfolding startOf startWith parsePacket parseRequest parseResult parseRefusal parseReceipt parseNotice
+  start-other h =
+      sym (choose NotTaken (eqb (byteAt b 0) requestKind) (λ k. whole-other requestKind _ _ refl)
+      (λ k1. choose NotTaken (eqb (byteAt b 0) resultKind) (λ k. whole-other resultKind _ _ refl)
+      (λ k2. choose NotTaken (eqb (byteAt b 0) refusalKind) (λ k. whole-other refusalKind _ _ refl)
+      (λ k3. choose NotTaken (eqb (byteAt b 0) receiptKind) (λ k. whole-other receiptKind _ _ refl)
+      (λ k4. choose NotTaken (eqb (byteAt b 0) noticeKind) (λ k. whole-other noticeKind _ _ refl)
+      (λ k5. choose NotTaken (eqb (byteAt b 0) grantKind) (λ k. grant-other (h (eqb-true (byteAt b 0) grantKind k))) (λ k6. refl)))))))
+
+  pub start-grant : byteAt b 0 ≡ grantKind → startWith (parseGrant b) ≡ startOf b
+  unfolding startOf parsePacket
+  start-grant k = rw k refl
+
+-- ---- receive
+
+module _ (b : List ℕ) where
+  call-there : (kind : ℕ) → byteAt b 0 ≡ kind → kind ≤ refusalKind → refusalSize ≤ length b → packetCall b ≡ le32At b 8
+  unfolding packetCall
+  call-there kind k u h = rw (le-ltb (length b) refusalSize h, k, le-ltb refusalKind kind u) refl
+
+  whole-of : (c kind : ℕ) (ok : Bool) (p : Packet) → (length b ≡ packetLength kind → OfCall c p) → OfCall c (whole b kind ok p)
   unfolding whole
-  whole-of kind ok p f =
+  whole-of c kind ok p f =
       choose (OfCall c) (eqb (length b) (packetLength kind)) (λ n. choose (OfCall c) ok (λ t. f (eqb-true _ _ n)) (λ t. tt)) (λ n. tt)
 
-pub of-call : (b : List ℕ) → OfCall (packetCall b) (parsePacket b)
-unfolding parsePacket parseRequest parseResult parseRefusal parseReceipt parseNotice parseGrant packetLength resultAt refusalAt
-of-call b =
-    let c = packetCall b in
-    choose (OfCall c) (eqb (byteAt b 0) requestKind) (λ k. whole-of c b requestKind _ _ (λ n. tt))
-    (λ k1. choose (OfCall c) (eqb (byteAt b 0) resultKind) (λ k. whole-of c b resultKind _ _ (λ n. call-there b (omega arith)))
-    (λ k2. choose (OfCall c) (eqb (byteAt b 0) refusalKind) (λ k. whole-of c b refusalKind _ _ (λ n. call-there b (omega arith)))
-    (λ k3. choose (OfCall c) (eqb (byteAt b 0) receiptKind) (λ k. whole-of c b receiptKind _ _ (λ n. tt))
-    (λ k4. choose (OfCall c) (eqb (byteAt b 0) noticeKind) (λ k. whole-of c b noticeKind _ _ (λ n. tt))
-    (λ k5. choose (OfCall c) (eqb (byteAt b 0) grantKind) (λ k. whole-of c b grantKind _ _ (λ n. tt)) (λ k6. tt))))))
+  pub of-call : OfCall (packetCall b) (clientPacket b)
+  unfolding clientPacket parseResult parseRefusal parseGrant packetLength resultAt refusalAt
+  of-call =
+      let c = packetCall b in
+      choose (OfCall c) (eqb (byteAt b 0) resultKind) (λ k. whole-of c resultKind _ _ (λ n. call-there resultKind (eqb-true _ _ k) (omega arith) (omega arith)))
+      (λ k2. choose (OfCall c) (eqb (byteAt b 0) refusalKind) (λ k. whole-of c refusalKind _ _ (λ n. call-there refusalKind (eqb-true _ _ k) (omega arith) (omega arith)))
+      (λ k3. choose (OfCall c) (eqb (byteAt b 0) grantKind) (λ k. whole-of c grantKind _ _ (λ n. tt)) (λ k6. tt)))
+
+  module _ (d : Client) where
+    abbrev NotReceived : Packet → Type 0
+    NotReceived p = notReceived d malformed ≡ receiveWith d p
+
+    whole-not : (kind : ℕ) (ok : Bool) (p : Packet) → NotReceived p → NotReceived (whole b kind ok p)
+    unfolding whole receiveWith
+    whole-not kind ok p e = choose NotReceived (eqb (length b) (packetLength kind)) (λ n. choose NotReceived ok (λ t. e) (λ t. refl)) (λ n. refl)
+
+    abbrev Same : Type 0
+    Same = receiveWith d (clientPacket b) ≡ receiveOf d b
+
+    of-kind : (kind : ℕ) → (byteAt b 0 ≡ kind → Same) → (eqb (byteAt b 0) kind ≡ false → Same) → Same
+    of-kind kind f g = go (eqb (byteAt b 0) kind) refl
+      where
+        go : (u : Bool) → eqb (byteAt b 0) kind ≡ u → Same
+        go true k = f (eqb-true (byteAt b 0) kind k)
+        go false k = g k
+
+    pub receive-same : receiveWith d (clientPacket b) ≡ receiveOf d b
+    unfolding receiveOf clientPacket parsePacket parseRequest parseReceipt parseNotice receiveWith
+    receive-same =
+        of-kind requestKind (λ k. rw k (whole-not requestKind _ _ refl))
+        (λ k1. of-kind resultKind (λ k. rw k refl)
+        (λ k2. of-kind refusalKind (λ k. rw k refl)
+        (λ k3. of-kind receiptKind (λ k. rw k (whole-not receiptKind _ _ refl))
+        (λ k4. of-kind noticeKind (λ k. rw k (whole-not noticeKind _ _ refl))
+        (λ k5. of-kind grantKind (λ k. rw k refl) (λ k6. rw (k1, k2, k3, k4, k5, k6) refl))))))

@@ -3,7 +3,7 @@
 use Prim.Native.Nat.{ℕ}
 use mathlib.Core.Path.{_≡_}
 use mathlib.Core.List.{List}
-use lib.Dec.{ltb}
+use lib.Dec.{eqb, ltb}
 use lib.ListN.{length, set}
 use Rattle.model.specs.declared.OpenCall.{OpenCall}
 use Rattle.model.specs.declared.Client.{Client}
@@ -14,8 +14,9 @@ use Rattle.model.specs.declared.StartAnswer.{StartAnswer}
 use Rattle.model.specs.declared.SendAnswer.{SendAnswer}
 use Rattle.model.specs.declared.ReceiveAnswer.{ReceiveAnswer}
 use Rattle.model.specs.Choice.{pick}
-use Rattle.model.specs.Numbers.{le32At}
-use Rattle.model.specs.Limits.{refusalSize}
+use Rattle.model.specs.Numbers.{byteAt, le32At}
+use Rattle.model.specs.Limits.{resultKind, refusalKind, grantKind, refusalSize}
+use Rattle.model.specs.Packets.{parseResult, parseRefusal, parseGrant}
 use Rattle.model.specs.Clients.{placeOf, withCalls, startNumber}
 use Rattle.client.specs.declared.StartFields.{StartFields}
 use Rattle.client.specs.declared.SendChange.{SendChange}
@@ -34,9 +35,15 @@ requestWith d k done =
       lease = d .lease;
     }
 
--- the number in bytes where a result and a refusal have their call, 0 in fewer bytes
+-- the number in bytes where a result and a refusal have their call, 0 in fewer bytes and in a later kind
 unfoldable pub packetCall : List ℕ → ℕ
-packetCall b = pick (ltb (length b) refusalSize) 0 (le32At b 8)
+packetCall b = pick (ltb (length b) refusalSize) 0 (pick (ltb refusalKind (byteAt b 0)) 0 (le32At b 8))
+
+-- the result, refusal or grant in bytes; any other packet is malformed to a client
+unfoldable pub clientPacket : List ℕ → Packet
+clientPacket b =
+    pick (eqb (byteAt b 0) resultKind) (parseResult b)
+    (pick (eqb (byteAt b 0) refusalKind) (parseRefusal b) (pick (eqb (byteAt b 0) grantKind) (parseGrant b) Malformed))
 
 -- a packet that is of a call is of the call c
 abbrev pub OfCall : ℕ → Packet → Type 0

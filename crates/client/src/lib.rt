@@ -2,6 +2,7 @@
 // made of what it changes (the next number or the lease end, and what stands at one place), so that one who is lent a client stores that alone.
 use model::constants;
 use model::constants::CALL_WINDOW;
+use model::constants::GRANT_SIZE;
 use model::constants::REFUSAL_SIZE;
 ghost use mathlib.Core.Path.{_≡_};
 ghost use mathlib.Core.Bool.{_&&_};
@@ -13,7 +14,7 @@ ghost use Rattle.model.specs.Limits.{last32, callWindow};
 ghost use Rattle.model.specs.Clients.{noCall, placeOf, callAt, leastOpen, firstOpen, notSent, notReceived};
 ghost use Rattle.model.specs.Clients.{withCalls, withCall, startWith, startOf, issueOf, resendOf};
 ghost use Rattle.model.specs.Clients.{isOwn, receiveResult, receiveRefusal, receiveGrant, receiveWith, receiveOf};
-ghost use Rattle.client.specs.Changes.{startFields, requestWith, packetCall, OfCall, issued, received};
+ghost use Rattle.client.specs.Changes.{startFields, requestWith, packetCall, clientPacket, OfCall, issued, received};
 use model::Client;
 use model::Command;
 use model::Grant;
@@ -166,11 +167,24 @@ fn started(p: Packet) -> StartFields
     }
 }
 
+// A grant, parsed; any other packet is malformed to start.
+fn parse_start(packet: &[u8]) -> Packet
+    ensures { λ r. ⌜ startWith r ≡ startOf (now (packet .entry)) ⌝ }
+{
+    if packet.len() != GRANT_SIZE {
+        return Packet::Malformed;
+    }
+    if packet[0] != constants::GRANT_KIND {
+        return Packet::Malformed;
+    }
+    format_packet_reader::parse_grant(packet)
+}
+
 // Start: 1 not a grant. The next number is 1.
 pub fn start(packet: &[u8]) -> StartFields
     ensures { λ r. ⌜ r ≡ startFields (startOf (now (packet .entry))) ⌝ }
 {
-    let p = format_packet_reader::parse_packet(packet);
+    let p = parse_start(packet);
     started(p)
 }
 
@@ -244,14 +258,32 @@ pub fn resend_answer(d: Client, k: OpenCall, c: u32) -> Sent
 
 // ---- receive: k is what stands at the place of c, which is the call of a packet that has one
 
-// The number where a result and a refusal have their call, 0 in a shorter packet.
+// The number where a result and a refusal have their call, 0 in a shorter packet and in one of a later kind.
 pub fn packet_call(packet: &[u8]) -> u32
     ensures { λ r. ⌜ r ≡ packetCall (now (packet .entry)) ⌝ }
 {
     if packet.len() < REFUSAL_SIZE {
         return 0;
     }
+    if constants::REFUSAL_KIND < packet[0] {
+        return 0;
+    }
     format_numbers::read_u32(packet, 8)
+}
+
+// A result, a refusal or a grant, parsed; any other packet is malformed to a client.
+fn client_packet(packet: &[u8]) -> Packet
+    ensures { λ r. ⌜ r ≡ clientPacket (now (packet .entry)) ⌝ }
+{
+    if packet.len() == 0 {
+        return Packet::Malformed;
+    }
+    match packet[0] {
+        constants::RESULT_KIND => format_packet_reader::parse_result(packet),
+        constants::REFUSAL_KIND => format_packet_reader::parse_refusal(packet),
+        constants::GRANT_KIND => format_packet_reader::parse_grant(packet),
+        0 | 1 | 4 | 5 | 7..=255 => Packet::Malformed,
+    }
 }
 
 // The packet is of this client and of an open call on its point.
@@ -327,8 +359,7 @@ fn grant_change(d: Client, k: OpenCall, c: u32, g: Grant) -> ReceiveChange
     not_received(d, k, c, constants::UNKNOWN)
 }
 
-// Receive: 1 no well-formed result, refusal or grant; 17 not for this client and an open call of it on that point, or a lease end that falls.
-pub fn receive_change(d: Client, k: OpenCall, c: u32, p: Packet) -> ReceiveChange
+fn taken(d: Client, k: OpenCall, c: u32, p: Packet) -> ReceiveChange
     requires { ⌜ (k ≡ callAt d c) × OfCall c p ⌝ }
     ensures { λ r. ⌜ received d c r ≡ receiveWith d p ⌝ }
 {
@@ -338,6 +369,15 @@ pub fn receive_change(d: Client, k: OpenCall, c: u32, p: Packet) -> ReceiveChang
         Packet::Granted(g) => grant_change(d, k, c, g),
         _ => not_received(d, k, c, constants::MALFORMED),
     }
+}
+
+// Receive: 1 no well-formed result, refusal or grant; 17 not for this client and an open call of it on that point, or a lease end that falls.
+pub fn receive_change(d: Client, k: OpenCall, packet: &[u8]) -> ReceiveChange
+    requires { ⌜ k ≡ callAt d (packetCall (now packet)) ⌝ }
+    ensures { λ r. ⌜ received d (packetCall (now (packet .entry))) r ≡ receiveOf d (now (packet .entry)) ⌝ }
+{
+    let p = client_packet(packet);
+    taken(d, k, packet_call(packet), p)
 }
 
 // ---- the operations, by value
@@ -372,10 +412,9 @@ pub fn resend(d: Client, c: u32) -> SendAnswer
 pub fn receive(d: Client, packet: &[u8]) -> ReceiveAnswer
     ensures { λ r. ⌜ r ≡ receiveOf d (now (packet .entry)) ⌝ }
 {
-    let p = format_packet_reader::parse_packet(packet);
     let n = packet_call(packet);
     let k = call_at(d, n);
-    let c = receive_change(d, k, n, p);
+    let c = receive_change(d, k, packet);
     let ks = d.calls;
     let call = c.call;
     let out = placed(ks, n, call);

@@ -248,8 +248,7 @@ fn receive_value(d: Client, k: OpenCall, packet: &[u8]) -> Receiving
     requires { ⌜ k ≡ callAt d (packetCall (now packet)) ⌝ }
     ensures { λ r. ⌜ Receives d (now (packet .entry)) r ⌝ }
 {
-    let p = format_packet_reader::parse_packet(packet);
-    let c = client::receive_change(d, k, client::packet_call(packet), p);
+    let c = client::receive_change(d, k, packet);
     let call = c.call;
     let s = c.answer;
     let reply = receive_reply(s);

@@ -26,7 +26,7 @@ fn parse_request(p: &[u8]) -> Packet
     )
 }
 
-fn parse_result(p: &[u8]) -> Packet
+pub fn parse_result(p: &[u8]) -> Packet
     ensures { λ r. ⌜ r ≡ parseResult (now (p .entry)) ⌝ }
 {
     if p.len() != constants::PACKET_LENGTHS[2] {
@@ -36,7 +36,7 @@ fn parse_result(p: &[u8]) -> Packet
     checked(format_fields::result_ok(q), Packet::Resulted(q))
 }
 
-fn parse_refusal(p: &[u8]) -> Packet
+pub fn parse_refusal(p: &[u8]) -> Packet
     ensures { λ r. ⌜ r ≡ parseRefusal (now (p .entry)) ⌝ }
 {
     if p.len() != constants::PACKET_LENGTHS[3] {
@@ -75,7 +75,7 @@ fn parse_notice(p: &[u8]) -> Packet
     )
 }
 
-fn parse_grant(p: &[u8]) -> Packet
+pub fn parse_grant(p: &[u8]) -> Packet
     ensures { λ r. ⌜ r ≡ parseGrant (now (p .entry)) ⌝ }
 {
     if p.len() != constants::PACKET_LENGTHS[6] {
