@@ -2,6 +2,7 @@
 // in two's complement here.
 use model::constants;
 ghost use mathlib.Core.Path.{_≡_};
+ghost use Rattle.model.specs.declared.Received.the-variants.{NotReceived};
 ghost use Rattle.model.specs.Numbers.{flip};
 ghost use Rattle.model.specs.Clients.{callAt, startOf, issueOf, resendOf, receiveOf};
 ghost use Rattle.model.specs.Leases.{newManager, openOf, renewOf, queryOf};
@@ -103,54 +104,53 @@ fn send_reply(a: Sent) -> SendReply
     }
 }
 
+// A reply that brings nothing.
+fn empty_reply(number: u32) -> ReceiveReply
+    ensures { λ r. ⌜ r ≡ receiveReply (NotReceived number) ⌝ }
+{
+    ReceiveReply {
+        number,
+        kind: 0,
+        call: 0,
+        value: 0,
+        lease: 0,
+        point: 0,
+        outcome: 0,
+        quality: 0,
+        refusal: 0,
+    }
+}
+
 fn receive_reply(a: Received) -> ReceiveReply
     ensures { λ r. ⌜ r ≡ receiveReply a ⌝ }
 {
+    let mut s = empty_reply(constants::NO_REFUSAL);
     match a {
-        Received::NotReceived(n) => ReceiveReply {
-            number: n,
-            kind: 0,
-            call: 0,
-            value: 0,
-            lease: 0,
-            point: 0,
-            outcome: 0,
-            quality: 0,
-            refusal: 0,
-        },
-        Received::Completed(r) => ReceiveReply {
-            number: constants::NO_REFUSAL,
-            kind: constants::RESULT_KIND_U32,
-            call: r.call,
-            value: format_numbers::flipped(r.result.value),
-            lease: 0,
-            point: r.point,
-            outcome: r.result.outcome,
-            quality: r.result.quality,
-            refusal: 0,
-        },
-        Received::Denied(r) => ReceiveReply {
-            number: constants::NO_REFUSAL,
-            kind: constants::REFUSAL_KIND_U32,
-            call: r.call,
-            value: 0,
-            lease: 0,
-            point: r.point,
-            outcome: 0,
-            quality: 0,
-            refusal: r.refusal,
-        },
-        Received::Extended(g) => ReceiveReply {
-            number: constants::NO_REFUSAL,
-            kind: constants::GRANT_KIND_U32,
-            call: 0,
-            value: 0,
-            lease: g.lease,
-            point: 0,
-            outcome: 0,
-            quality: 0,
-            refusal: 0,
-        },
+        Received::NotReceived(n) => {
+            s.number = n;
+            s
+        }
+        Received::Completed(r) => {
+            s.kind = constants::RESULT_KIND_U32;
+            s.call = r.call;
+            s.value = format_numbers::flipped(r.result.value);
+            s.point = r.point;
+            s.outcome = r.result.outcome;
+            s.quality = r.result.quality;
+            s
+        }
+        Received::Denied(r) => {
+            s.kind = constants::REFUSAL_KIND_U32;
+            s.call = r.call;
+            s.point = r.point;
+            s.refusal = r.refusal;
+            s
+        }
+        Received::Extended(g) => {
+            s.kind = constants::GRANT_KIND_U32;
+            s.lease = g.lease;
+            s
+        }
     }
 }
 
