@@ -1,4 +1,4 @@
-// The parsers of the six packets: one of each kind, and one of any.
+// The parsers of the six packets: one of each kind, whose caller has read the kind, and one of any.
 use model::Packet;
 use model::constants;
 ghost use mathlib.Core.Path.{_≡_};
