@@ -47,29 +47,27 @@ not-taken d (Receipted r) h = refl
 not-taken d (Noticed n) h = refl
 not-taken d (Granted g) h = absurd (miss (0 ∷ 1 ∷ 4 ∷ 5 ∷ []) 6 tt h)
 
+-- a packet of one kind is malformed, or has its kind's length
+whole-case : (P : Packet → Type 0) (b : List ℕ) (kind : ℕ) (ok : Bool) (p : Packet) → P Malformed → (length b ≡ packetLength kind → P p) → P (whole b kind ok p)
+unfolding whole
+whole-case P b kind ok p m f = choose P (eqb (length b) (packetLength kind)) (λ n. choose P ok (λ t. f (eqb-true _ _ n)) (λ t. m)) (λ n. m)
+
 -- ---- start
 
 abbrev NotTaken : Packet → Type 0
 NotTaken p = startWith p ≡ notStarted
 
 module _ (b : List ℕ) where
-  whole-other : (kind : ℕ) (ok : Bool) (p : Packet) → NotTaken p → NotTaken (whole b kind ok p)
-  unfolding whole startWith
-  whole-other kind ok p e = choose NotTaken (eqb (length b) (packetLength kind)) (λ n. choose NotTaken ok (λ t. e) (λ t. refl)) (λ n. refl)
-
-  grant-other : (length b ≡ grantSize → ⊥) → NotTaken (parseGrant b)
-  unfolding parseGrant whole packetLength startWith
-  grant-other h = choose NotTaken (eqb (length b) grantSize) (λ n. absurd (h (eqb-true (length b) grantSize n))) (λ n. refl)
-
   pub start-other : (byteAt b 0 ≡ grantKind → length b ≡ grantSize → ⊥) → startWith Malformed ≡ startOf b
-  unfolding startOf startWith parsePacket parseRequest parseResult parseRefusal parseReceipt parseNotice
+  unfolding startOf startWith parsePacket parseRequest parseResult parseRefusal parseReceipt parseNotice parseGrant packetLength
   start-other h =
-      sym (choose NotTaken (eqb (byteAt b 0) requestKind) (λ k. whole-other requestKind _ _ refl)
-      (λ k1. choose NotTaken (eqb (byteAt b 0) resultKind) (λ k. whole-other resultKind _ _ refl)
-      (λ k2. choose NotTaken (eqb (byteAt b 0) refusalKind) (λ k. whole-other refusalKind _ _ refl)
-      (λ k3. choose NotTaken (eqb (byteAt b 0) receiptKind) (λ k. whole-other receiptKind _ _ refl)
-      (λ k4. choose NotTaken (eqb (byteAt b 0) noticeKind) (λ k. whole-other noticeKind _ _ refl)
-      (λ k5. choose NotTaken (eqb (byteAt b 0) grantKind) (λ k. grant-other (h (eqb-true (byteAt b 0) grantKind k))) (λ k6. refl)))))))
+      sym (choose NotTaken (eqb (byteAt b 0) requestKind) (λ k. whole-case NotTaken b requestKind _ _ refl (λ n. refl))
+      (λ k1. choose NotTaken (eqb (byteAt b 0) resultKind) (λ k. whole-case NotTaken b resultKind _ _ refl (λ n. refl))
+      (λ k2. choose NotTaken (eqb (byteAt b 0) refusalKind) (λ k. whole-case NotTaken b refusalKind _ _ refl (λ n. refl))
+      (λ k3. choose NotTaken (eqb (byteAt b 0) receiptKind) (λ k. whole-case NotTaken b receiptKind _ _ refl (λ n. refl))
+      (λ k4. choose NotTaken (eqb (byteAt b 0) noticeKind) (λ k. whole-case NotTaken b noticeKind _ _ refl (λ n. refl))
+      (λ k5. choose NotTaken (eqb (byteAt b 0) grantKind)
+      (λ k. whole-case NotTaken b grantKind _ _ refl (λ n. absurd (h (eqb-true (byteAt b 0) grantKind k) n))) (λ k6. refl)))))))
 
   pub start-grant : byteAt b 0 ≡ grantKind → startWith (parseGrant b) ≡ startOf b
   unfolding startOf parsePacket
@@ -82,26 +80,17 @@ module _ (b : List ℕ) where
   unfolding packetCall
   call-there kind k u h = rw (le-ltb (length b) refusalSize h, k, le-ltb refusalKind kind u) refl
 
-  whole-of : (c kind : ℕ) (ok : Bool) (p : Packet) → (length b ≡ packetLength kind → OfCall c p) → OfCall c (whole b kind ok p)
-  unfolding whole
-  whole-of c kind ok p f =
-      choose (OfCall c) (eqb (length b) (packetLength kind)) (λ n. choose (OfCall c) ok (λ t. f (eqb-true _ _ n)) (λ t. tt)) (λ n. tt)
-
   pub of-call : OfCall (packetCall b) (clientPacket b)
   unfolding clientPacket parseResult parseRefusal parseGrant packetLength resultAt refusalAt
   of-call =
-      let c = packetCall b in
-      choose (OfCall c) (eqb (byteAt b 0) resultKind) (λ k. whole-of c resultKind _ _ (λ n. call-there resultKind (eqb-true _ _ k) (omega arith) (omega arith)))
-      (λ k2. choose (OfCall c) (eqb (byteAt b 0) refusalKind) (λ k. whole-of c refusalKind _ _ (λ n. call-there refusalKind (eqb-true _ _ k) (omega arith) (omega arith)))
-      (λ k3. choose (OfCall c) (eqb (byteAt b 0) grantKind) (λ k. whole-of c grantKind _ _ (λ n. tt)) (λ k6. tt)))
+      let Is = OfCall (packetCall b) in
+      choose Is (eqb (byteAt b 0) resultKind) (λ k. whole-case Is b resultKind _ _ tt (λ n. call-there resultKind (eqb-true _ _ k) (omega arith) (omega arith)))
+      (λ k2. choose Is (eqb (byteAt b 0) refusalKind) (λ k. whole-case Is b refusalKind _ _ tt (λ n. call-there refusalKind (eqb-true _ _ k) (omega arith) (omega arith)))
+      (λ k3. choose Is (eqb (byteAt b 0) grantKind) (λ k. whole-case Is b grantKind _ _ tt (λ n. tt)) (λ k6. tt)))
 
   module _ (d : Client) where
     abbrev NotReceived : Packet → Type 0
     NotReceived p = notReceived d malformed ≡ receiveWith d p
-
-    whole-not : (kind : ℕ) (ok : Bool) (p : Packet) → NotReceived p → NotReceived (whole b kind ok p)
-    unfolding whole receiveWith
-    whole-not kind ok p e = choose NotReceived (eqb (length b) (packetLength kind)) (λ n. choose NotReceived ok (λ t. e) (λ t. refl)) (λ n. refl)
 
     abbrev Same : Type 0
     Same = receiveWith d (clientPacket b) ≡ receiveOf d b
@@ -116,9 +105,9 @@ module _ (b : List ℕ) where
     pub receive-same : receiveWith d (clientPacket b) ≡ receiveOf d b
     unfolding receiveOf clientPacket parsePacket parseRequest parseReceipt parseNotice receiveWith
     receive-same =
-        of-kind requestKind (λ k. rw k (whole-not requestKind _ _ refl))
+        of-kind requestKind (λ k. rw k (whole-case NotReceived b requestKind _ _ refl (λ n. refl)))
         (λ k1. of-kind resultKind (λ k. rw k refl)
         (λ k2. of-kind refusalKind (λ k. rw k refl)
-        (λ k3. of-kind receiptKind (λ k. rw k (whole-not receiptKind _ _ refl))
-        (λ k4. of-kind noticeKind (λ k. rw k (whole-not noticeKind _ _ refl))
+        (λ k3. of-kind receiptKind (λ k. rw k (whole-case NotReceived b receiptKind _ _ refl (λ n. refl)))
+        (λ k4. of-kind noticeKind (λ k. rw k (whole-case NotReceived b noticeKind _ _ refl (λ n. refl)))
         (λ k5. of-kind grantKind (λ k. rw k refl) (λ k6. rw (k1, k2, k3, k4, k5, k6) refl))))))
