@@ -40,7 +40,7 @@ sum-bounds e v a h = between (e .low + half) (v + a) (v + a) (e .high + half) h
 
 pub part-bounds : (a : ℕ) → argumentOk partOp a ≡ true → (half ≤ a) × (a ≤ half + wholePart)
 unfolding argumentOk argumentRange
-part-bounds a h = in-arguments (argumentRange 5) a h
+part-bounds a h = in-arguments (argumentRange partOp) a h
 
 pub part-scaled : (span : ℕ) {p : ℕ} (a : ℕ) → p ≡ a - half → argumentOk partOp a ≡ true → span * p ≤ span * wholePart
 part-scaled span a e h = let b = part-bounds a h in mul-le-mul-left span (omega arith)

@@ -25,7 +25,7 @@ use Rattle.model.specs.Numbers.{half, signed}
 use Rattle.model.specs.Plan.{inRange, planEntryOk}
 use Rattle.model.specs.Rules.{sumInRange, endPast, pastEnd, setRule, stepRule, reportRule, faultRule, partRule, ruleOf, argumentRange, inArguments, argumentOk}
 use Rattle.model.specs.Sequential.{resultZ, entryZ, readingMeant, resultMeant, inRangeZ, quotientDown, readZ, setZ, pastEndZ, stepZ, reportZ, faultZ, partZ, ruleZ}
-use Rattle.model.specs.Limits.{wholePart, stopped}
+use Rattle.model.specs.Limits.{wholePart, readOp, setOp, stepOp, reportOp, faultOp, partOp, carriedOut, stopped, valid, invalid}
 use Rattle.format_commands.proofs.Bounds.{sum-bounds, part-bounds, entry-ordered}
 
 -- ---- a difference of two numbers, as an integer
@@ -143,8 +143,8 @@ argument-tie op a = rw (leZ-signed (argumentRange op .least) a, leZ-signed a (ar
 abbrev ends : ℕ → ℤ → ℤ → Type 0
 ends op l h = (signed (argumentRange op .least) ≡ l) × (signed (argumentRange op .greatest) ≡ h)
 
-pub argument-ends : ends 0 (pos 0) (pos 0) × ends 1 (negsuc 2147483647) (pos 2147483647) × ends 2 (negsuc 2147483647) (pos 2147483647)
-    × ends 3 (negsuc 2147483647) (pos 2147483647) × ends 4 (pos 0) (pos 0) × ends 5 (pos 0) (pos wholePart)
+pub argument-ends : ends readOp (pos 0) (pos 0) × ends setOp (negsuc 2147483647) (pos 2147483647) × ends stepOp (negsuc 2147483647) (pos 2147483647)
+    × ends reportOp (negsuc 2147483647) (pos 2147483647) × ends faultOp (pos 0) (pos 0) × ends partOp (pos 0) (pos wholePart)
 unfolding signed argumentRange
 argument-ends = ((refl, refl), (refl, refl), (refl, refl), (refl, refl), (refl, refl), (refl, refl))
 
@@ -193,29 +193,29 @@ module _ (e : PlanEntry) where
   pub step-tie : (n : Version) (a : ℕ) (r : Reading) → resultMeant (stepRule n e a r) ≡ stepZ n (entryZ e) (signed a) (readingMeant r)
   unfolding resultMeant stepRule stepZ readingMeant
   step-tie n a r =
-      pick-tie resultMeant (eqb (r .quality) 1) (eqb (r .quality) 1) refl (λ h. refl)
+      pick-tie resultMeant (eqb (r .quality) invalid) (eqb (r .quality) invalid) refl (λ h. refl)
       (λ h. pick-tie resultMeant (sumInRange e (r .value) a) (inRangeZ (entryZ e) (signed (r .value) +ℤ signed a)) (sum-tie (r .value) a)
-      (λ k. let b = sum-bounds e (r .value) a k in ap (λ (v : ℤ). resultZ 0 v (r .quality)) (sum-kept (r .value) a (omega arith)))
+      (λ k. let b = sum-bounds e (r .value) a k in ap (λ (v : ℤ). resultZ carriedOut v (r .quality)) (sum-kept (r .value) a (omega arith)))
       (λ k. past-tie n a r))
 
   pub part-tie : (a : ℕ) → e .low ≤ e .high → half ≤ a → resultMeant (partRule e a) ≡ partZ (entryZ e) (signed a)
   unfolding resultMeant partRule partZ entryZ quotientDown
   part-tie a h k =
-      rw (diff-signed (e .high) (e .low) h, signed-pos a k) (ap (λ (v : ℤ). resultZ 0 v 0) (sum-pos (e .low) ((e .high - e .low) * (a - half) / wholePart)))
+      rw (diff-signed (e .high) (e .low) h, signed-pos a k) (ap (λ (v : ℤ). resultZ carriedOut v valid) (sum-pos (e .low) ((e .high - e .low) * (a - half) / wholePart)))
 
   -- for every op: read, and ops that no command has, change nothing in both
   pub rule-tie : (v : Version) (op a : ℕ) (r : Reading) → planEntryOk e ≡ true → argumentOk op a ≡ true
       → resultMeant (ruleOf v e op a r) ≡ ruleZ v (entryZ e) op (signed a) (readingMeant r)
   unfolding ruleOf ruleZ readZ resultMeant readingMeant
   rule-tie n op a r ok h =
-      pick-tie resultMeant (eqb op 0) (eqb op 0) refl (λ k. refl)
-      (λ k. pick-tie resultMeant (eqb op 1) (eqb op 1) refl (λ k. set-tie a r)
-      (λ k. pick-tie resultMeant (eqb op 2) (eqb op 2) refl (λ k. step-tie n a r)
-      (λ k. pick-tie resultMeant (eqb op 3) (eqb op 3) refl (λ k. report-tie a r)
-      (λ k. pick-tie resultMeant (eqb op 4) (eqb op 4) refl (λ k. fault-tie)
-      (λ k. pick-tie resultMeant (eqb op 5) (eqb op 5) refl (λ k. part k) (λ k. refl))))))
+      pick-tie resultMeant (eqb op readOp) (eqb op readOp) refl (λ k. refl)
+      (λ k. pick-tie resultMeant (eqb op setOp) (eqb op setOp) refl (λ k. set-tie a r)
+      (λ k. pick-tie resultMeant (eqb op stepOp) (eqb op stepOp) refl (λ k. step-tie n a r)
+      (λ k. pick-tie resultMeant (eqb op reportOp) (eqb op reportOp) refl (λ k. report-tie a r)
+      (λ k. pick-tie resultMeant (eqb op faultOp) (eqb op faultOp) refl (λ k. fault-tie)
+      (λ k. pick-tie resultMeant (eqb op partOp) (eqb op partOp) refl (λ k. part k) (λ k. refl))))))
     where
-      part : eqb op 5 ≡ true → resultMeant (partRule e a) ≡ partZ (entryZ e) (signed a)
+      part : eqb op partOp ≡ true → resultMeant (partRule e a) ≡ partZ (entryZ e) (signed a)
       part k =
           let b = entry-ordered e ok in
-          part-tie a (omega arith) (part-bounds a (subst (λ (n : ℕ). argumentOk n a ≡ true) (eqb-true op 5 k) h) .0)
+          part-tie a (omega arith) (part-bounds a (subst (λ (n : ℕ). argumentOk n a ≡ true) (eqb-true op partOp k) h) .0)

@@ -11,7 +11,7 @@ use Rattle.model.specs.declared.PlanEntry.{PlanEntry}
 use Rattle.model.specs.declared.Reading.{Reading}
 use Rattle.model.specs.Numbers.{half}
 use Rattle.model.specs.Versions.{Version, first, second}
-use Rattle.model.specs.Limits.{lastOutcome, lastQuality, wholePart, stopped}
+use Rattle.model.specs.Limits.{lastOutcome, lastQuality, wholePart, readOp, setOp, stepOp, reportOp, faultOp, partOp, carriedOut, outOfRange, onInvalid, fellBack, stopped, valid, invalid}
 use Rattle.model.specs.Plan.{inRange, planEntryOk}
 use Rattle.model.specs.Packets.{outcomeOk}
 use Rattle.model.specs.Rules.{result, same, sumInRange, endPast, pastEnd, setRule, stepRule, reportRule, faultRule, partRule, ruleOf, argumentOk}
@@ -33,14 +33,14 @@ module _ (e : PlanEntry) where
     unchanged-ok : (n : ℕ) → n ≤ lastOutcome → ResultOk e (same n r)
     unchanged-ok n h = let b = range-bounds e (r .value) within in result-ok n (r .value) (r .quality) h quality (b .0) (b .1)
 
-    fallback-ok : ResultOk e (result 3 (e .fallback) 1)
-    fallback-ok = let b = entry-ordered e ok in result-ok 3 (e .fallback) 1 (omega arith) (omega arith) (b .0) (b .1)
+    fallback-ok : ResultOk e (result fellBack (e .fallback) invalid)
+    fallback-ok = let b = entry-ordered e ok in result-ok fellBack (e .fallback) invalid (omega arith) (omega arith) (b .0) (b .1)
 
-    stored-ok : inRange e a ≡ true → ResultOk e (result 0 a 0)
-    stored-ok h = let b = range-bounds e a h in result-ok 0 a 0 (omega arith) (omega arith) (b .0) (b .1)
+    stored-ok : inRange e a ≡ true → ResultOk e (result carriedOut a valid)
+    stored-ok h = let b = range-bounds e a h in result-ok carriedOut a valid (omega arith) (omega arith) (b .0) (b .1)
 
     past-ok : (n : Version) → ResultOk e (pastEnd n e a r)
-    past-ok first = unchanged-ok 1 (omega arith)
+    past-ok first = unchanged-ok outOfRange (omega arith)
     past-ok second =
         let b = entry-ordered e ok in
         choose (λ (v : ℕ). ResultOk e (result stopped v (r .quality))) (leb (e .low + half) (r .value + a))
@@ -50,25 +50,25 @@ module _ (e : PlanEntry) where
     step-ok : (n : Version) → ResultOk e (stepRule n e a r)
     unfolding stepRule
     step-ok n =
-        choose (ResultOk e) (eqb (r .quality) 1) (λ h. unchanged-ok 2 (omega arith))
+        choose (ResultOk e) (eqb (r .quality) invalid) (λ h. unchanged-ok onInvalid (omega arith))
         (λ h. choose (ResultOk e) (sumInRange e (r .value) a)
-        (λ k. let b = sum-bounds e (r .value) a k in result-ok 0 (r .value + a - half) (r .quality) (omega arith) quality (omega arith) (omega arith))
+        (λ k. let b = sum-bounds e (r .value) a k in result-ok carriedOut (r .value + a - half) (r .quality) (omega arith) quality (omega arith) (omega arith))
         (λ k. past-ok n))
 
-    part-ok : eqb op 5 ≡ true → ResultOk e (partRule e a)
+    part-ok : eqb op partOp ≡ true → ResultOk e (partRule e a)
     unfolding partRule
     part-ok h =
-        let b = part-bounds a (subst (λ (n : ℕ). argumentOk n a ≡ true) (eqb-true op 5 h) argument) in
+        let b = part-bounds a (subst (λ (n : ℕ). argumentOk n a ≡ true) (eqb-true op partOp h) argument) in
         let o = entry-ordered e ok in
         let p = part-between (e .low) (e .high) (a - half) (omega arith) in
-        result-ok 0 (e .low + (e .high - e .low) * (a - half) / wholePart) 0 (omega arith) (omega arith) (omega arith) (omega arith)
+        result-ok carriedOut (e .low + (e .high - e .low) * (a - half) / wholePart) valid (omega arith) (omega arith) (omega arith) (omega arith)
 
     pub rule-in-range : (v : Version) → ResultOk e (ruleOf v e op a r)
     unfolding ruleOf setRule reportRule faultRule
     rule-in-range n =
-        choose (ResultOk e) (eqb op 0) (λ h. unchanged-ok 0 (omega arith))
-        (λ h. choose (ResultOk e) (eqb op 1) (λ h. choose (ResultOk e) (inRange e a) (λ k. stored-ok k) (λ k. unchanged-ok 1 (omega arith)))
-        (λ h. choose (ResultOk e) (eqb op 2) (λ h. step-ok n)
-        (λ h. choose (ResultOk e) (eqb op 3) (λ h. choose (ResultOk e) (inRange e a) (λ k. stored-ok k) (λ k. fallback-ok))
-        (λ h. choose (ResultOk e) (eqb op 4) (λ h. fallback-ok)
-        (λ h. choose (ResultOk e) (eqb op 5) (λ h. part-ok h) (λ h. unchanged-ok 1 (omega arith)))))))
+        choose (ResultOk e) (eqb op readOp) (λ h. unchanged-ok carriedOut (omega arith))
+        (λ h. choose (ResultOk e) (eqb op setOp) (λ h. choose (ResultOk e) (inRange e a) (λ k. stored-ok k) (λ k. unchanged-ok outOfRange (omega arith)))
+        (λ h. choose (ResultOk e) (eqb op stepOp) (λ h. step-ok n)
+        (λ h. choose (ResultOk e) (eqb op reportOp) (λ h. choose (ResultOk e) (inRange e a) (λ k. stored-ok k) (λ k. fallback-ok))
+        (λ h. choose (ResultOk e) (eqb op faultOp) (λ h. fallback-ok)
+        (λ h. choose (ResultOk e) (eqb op partOp) (λ h. part-ok h) (λ h. unchanged-ok outOfRange (omega arith)))))))

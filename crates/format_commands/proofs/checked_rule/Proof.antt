@@ -2,6 +2,7 @@
 -- Assumes nothing.
 use mathlib.Core.Path.{refl, sym, _∙_}
 use native.Mathlib.Omega.{arith}
+use Rattle.model.specs.Limits.{setOp, stepOp, reportOp}
 use Rattle.model.specs.Rules.{ruleOf, argumentRange}
 use Rattle.format_commands.proofs.Checked.{inside, outside, other, any-argument}
 use borrow.Author.Needs.{needs}
@@ -26,19 +27,19 @@ returns-3 : tie.Need-returns-3
 unfolding ruleOf argumentRange
 returns-3 c =
     let start = c .before .before .args in
-    inside (start .e) (start .op) (start .argument) (start .r) (c .before .match .keys2) (sym (any-argument 1 (start .argument) refl (omega arith))) refl (c .set-rule .ensures)
+    inside (start .e) (start .op) (start .argument) (start .r) (c .before .match .keys2) (sym (any-argument setOp (start .argument) refl (omega arith))) refl (c .set-rule .ensures)
 
 returns-4 : tie.Need-returns-4
 unfolding ruleOf argumentRange
 returns-4 c =
     let start = c .before .before .args in
-    inside (start .e) (start .op) (start .argument) (start .r) (c .before .match .keys3) (sym (any-argument 2 (start .argument) refl (omega arith))) refl (c .step-rule .ensures)
+    inside (start .e) (start .op) (start .argument) (start .r) (c .before .match .keys3) (sym (any-argument stepOp (start .argument) refl (omega arith))) refl (c .step-rule .ensures)
 
 returns-5 : tie.Need-returns-5
 unfolding ruleOf argumentRange
 returns-5 c =
     let start = c .before .before .args in
-    inside (start .e) (start .op) (start .argument) (start .r) (c .before .match .keys4) (sym (any-argument 3 (start .argument) refl (omega arith))) refl (c .report-rule .ensures)
+    inside (start .e) (start .op) (start .argument) (start .r) (c .before .match .keys4) (sym (any-argument reportOp (start .argument) refl (omega arith))) refl (c .report-rule .ensures)
 
 returns-6 : tie.Need-returns-6
 unfolding ruleOf

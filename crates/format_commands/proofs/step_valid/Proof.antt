@@ -4,7 +4,7 @@ use mathlib.Core.Path.{_≡_, ap, sym, _∙_}
 use Prim.Native.Nat.{ℕ, _+_, _-_}
 use Rattle.format_numbers.proofs.Picks.{yes-call, no-call}
 use Rattle.model.specs.Numbers.{half}
-use Rattle.model.specs.Limits.{stopped}
+use Rattle.model.specs.Limits.{carriedOut, stopped}
 use Rattle.model.specs.Rules.{result, endPast}
 use borrow.Author.Needs.{needs}
 use Rattle.format_commands.proofs.step_valid.Statement.{statement}
@@ -17,9 +17,9 @@ returns : tie.Need-returns
 returns c =
     let start = c .before .before .before .before .args in
     let q = start .r .quality in
-    let e : c .result-of .result ≡ result 0 (c .before .sum .result) q = c .result-of .ensures in
+    let e : c .result-of .result ≡ result carriedOut (c .before .sum .result) q = c .result-of .ensures in
     let v : c .before .sum .result ≡ start .r .value + start .a - half = c .before .sum .ensures in
-    yes-call _ (c .before .before .before .sum-in-range .ensures) (c .before .before .if1 .taken) (e ∙ ap (λ (n : ℕ). result 0 n q) v)
+    yes-call _ (c .before .before .before .sum-in-range .ensures) (c .before .before .if1 .taken) (e ∙ ap (λ (n : ℕ). result carriedOut n q) v)
 
 returns-2 : tie.Need-returns-2
 returns-2 c =
