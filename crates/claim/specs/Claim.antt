@@ -26,6 +26,7 @@ use Rattle.model.specs.Packets.{parsePacket}
 use Rattle.model.specs.States.{State, load, pointAt}
 use Rattle.model.specs.Operations.{After, answerOf, requestOf, recoveredState}
 use Rattle.model.specs.Clients.{callAt, issueOf, receiveOf}
+use Rattle.model.specs.Refusals.{noRefusal}
 use Rattle.claim.specs.World.{Event, request, crash, issue, receive, Lent, WorldOf, Server, nothing, running, crashed, run, after, packet, lentState, lentLog}
 use Rattle.claim.specs.Provisos.{Provisos, At, lengthOf}
 
@@ -163,7 +164,7 @@ module _ (plan : List ℕ) (es : List Event) where
     pub up : after es n .servers c ≡ running state log
     pub bytes : List ℕ
     pub delivered : packet (after es n) number ≡ some bytes
-    pub answer : requestOf versions (lentState lent state) (lentLog lent log) bytes (lent .out) .answer ≡ answerOf 0 0
+    pub answer : requestOf versions (lentState lent state) (lentLog lent log) bytes (lent .out) .answer ≡ answerOf noRefusal 0
     pub asked : Request
     pub parsed : parsePacket bytes ≡ Requested asked
     pub its : markedBy versions (asked .command) ≡ m

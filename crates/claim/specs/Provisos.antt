@@ -14,6 +14,7 @@ use Rattle.model.specs.Numbers.{word}
 use Rattle.model.specs.Operations.{After, foundOf, recoverOf}
 use Rattle.model.specs.States.{load}
 use Rattle.model.specs.Clients.{startOf}
+use Rattle.model.specs.Refusals.{noRefusal}
 use Rattle.claim.specs.World.{Event, found, request, fetch, sync, notice, give, image, take·image, receipt, release, recover, crash, start, issue, resend, receive, open·lease, renew, query, Lent, World, Server, nothing, running, crashed, after, packet}
 
 -- a list of bytes
@@ -73,17 +74,17 @@ module _ (plan : List ℕ) (es : List Event) where
     -- what the interface's types say
     pub typed : (n : ℕ) (e : Event) → At n e → Typed e
     -- "all cabinets have one plan, given again at each recovery"
-    pub one-plan : (n c : ℕ) (state log p : List ℕ) (k : ℕ) → At n (found c state log p k) → foundOf state log p k .answer .refusal ≡ 0 → p ≡ plan
-    pub plan-again : (n c : ℕ) (state log p : List ℕ) → At n (recover c state log p) → recoverOf state log p .answer .refusal ≡ 0 → p ≡ plan
+    pub one-plan : (n c : ℕ) (state log p : List ℕ) (k : ℕ) → At n (found c state log p k) → foundOf state log p k .answer .refusal ≡ noRefusal → p ≡ plan
+    pub plan-again : (n c : ℕ) (state log p : List ℕ) → At n (recover c state log p) → recoverOf state log p .answer .refusal ≡ noRefusal → p ≡ plan
     -- "and different numbers": a server is named by the number it was founded with
-    pub own-number : (n c : ℕ) (state log p : List ℕ) (k : ℕ) → At n (found c state log p k) → foundOf state log p k .answer .refusal ≡ 0 → k ≡ c
+    pub own-number : (n c : ℕ) (state log p : List ℕ) (k : ℕ) → At n (found c state log p k) → foundOf state log p k .answer .refusal ≡ noRefusal → k ≡ c
     -- "and are founded once": only a refused found is called again
-    pub founded-once : (n c : ℕ) (state log p : List ℕ) (k : ℕ) → At n (found c state log p k) → foundOf state log p k .answer .refusal ≡ 0
+    pub founded-once : (n c : ℕ) (state log p : List ℕ) (k : ℕ) → At n (found c state log p k) → foundOf state log p k .answer .refusal ≡ noRefusal
         → after es n .servers c ≡ nothing
     -- "a crash keeps a prefix of the log not shorter than its synced part"
     pub crash-keeps : (n c k : ℕ) → At n (crash c k) → (markOf (after es n .servers c) ≤ k) × (k ≤ lengthOf (after es n .servers c))
     -- "recovery uses that prefix": what the crash kept; without a crash, the log up to its recorded length (bytes past it are no log)
-    pub recovery-uses : (n c : ℕ) (state log p : List ℕ) → At n (recover c state log p) → recoverOf state log p .answer .refusal ≡ 0
+    pub recovery-uses : (n c : ℕ) (state log p : List ℕ) → At n (recover c state log p) → recoverOf state log p .answer .refusal ≡ noRefusal
         → keptBy (after es n .servers c) ≡ some log
     -- "each client number starts one desk, once"
     pub started-once : (n p : ℕ) (b : List ℕ) → At n (start p) → packet (after es n) p ≡ some b → startOf b .answer ≡ Running

@@ -23,6 +23,7 @@ use Rattle.model.specs.States.{State, load}
 use Rattle.model.specs.Operations.{After, foundOf, requestOf, fetchOf, syncOf, noticeOf, giveOf, imageOf, takeOf, receiptOf, releaseOf, recoverOf}
 use Rattle.model.specs.Clients.{startOf, issueOf, resendOf, receiveOf, sentBytes}
 use Rattle.model.specs.Leases.{newManager, openOf, renewOf, queryOf, toldBytes}
+use Rattle.model.specs.Refusals.{noRefusal}
 
 -- ---- parties
 
@@ -122,7 +123,7 @@ callsOn c l f (some b) w = calls c l (λ s g. f s g b) (w .servers c) w
 
 -- found and recover: on success the server runs with what they wrote; a refusal leaves it as it was
 unfoldable pub foundAs : ℕ → After → World → World
-foundAs c a w = pick (eqb (a .answer .refusal) 0) (withServer c (running (a .state) (take (load (a .state) .size) (a .log))) w) w
+foundAs c a w = pick (eqb (a .answer .refusal) noRefusal) (withServer c (running (a .state) (take (load (a .state) .size) (a .log))) w) w
 
 -- a crash leaves no state and the log's first k bytes
 unfoldable pub crashAt : ℕ → ℕ → Server → World → World

@@ -5,8 +5,8 @@ use Prim.Native.Nat.{ℕ}
 use mathlib.Core.Path.{_≡_, ap, _∙_}
 use mathlib.Core.List.{List}
 use Rattle.model.specs.declared.Answer.{Answer}
-use Rattle.model.specs.Operations.{After, after}
-use Rattle.kernel.specs.Interface.{wordOf, Returned, returned, inC}
+use Rattle.model.specs.Operations.{After, after, wordOf}
+use Rattle.kernel.specs.Interface.{Returned, returned, inC}
 
 pub returned-in : {r : ℕ} {a : Answer} {s l o : List ℕ} {x : After} → r ≡ wordOf a → after a s l o ≡ x → returned r s l o ≡ inC x
 unfolding inC

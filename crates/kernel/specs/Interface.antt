@@ -1,18 +1,12 @@
 -- What a call of the C interface leaves: its answer in one word of 64 bits, and the lent slices.
 -- Assumes nothing.
-use Prim.Native.Nat.{ℕ, _+_, _*_}
+use Prim.Native.Nat.{ℕ}
 use mathlib.Core.List.{List}
-use Rattle.model.specs.declared.Answer.{Answer}
-use Rattle.model.specs.Numbers.{word}
-use Rattle.model.specs.Operations.{After}
+use Rattle.model.specs.Operations.{After, wordOf}
 
 -- the interface's version, major × 65,536 + minor: 1.1
 abbrev pub version : ℕ
 version = 65537
-
--- the low 32 bits are 0 or the refusal's number, the high 32 bits the number of bytes written to the output
-unfoldable pub wordOf : Answer → ℕ
-wordOf a = a .refusal + word * a .wrote
 
 pub record Returned : Type 0 where
   pub answer : ℕ

@@ -5,8 +5,8 @@ use model::constants;
 ghost use mathlib.Core.Path.{_≡_};
 ghost use mathlib.Core.List.{[]};
 ghost use Rattle.model.specs.Versions.{today};
-ghost use Rattle.model.specs.Operations.{foundOf, requestOf, fetchOf, syncOf, noticeOf, giveOf, imageOf, takeOf, receiptOf, releaseOf, recoverOf};
-ghost use Rattle.kernel.specs.Interface.{version, wordOf, returned, inC};
+ghost use Rattle.model.specs.Operations.{wordOf, foundOf, requestOf, fetchOf, syncOf, noticeOf, giveOf, imageOf, takeOf, receiptOf, releaseOf, recoverOf};
+ghost use Rattle.kernel.specs.Interface.{version, returned, inC};
 
 // The interface's version, major * 65,536 + minor.
 const VERSION: u32 = 65537;

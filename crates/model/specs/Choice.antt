@@ -6,6 +6,7 @@ use mathlib.Core.Bool.{Bool, true, false}
 use mathlib.Core.List.{List}
 use mathlib.Core.Option.{Option, none, some}
 use lib.Dec.{eqb}
+use Rattle.model.specs.Refusals.{noRefusal}
 
 -- a where t holds, else b
 abbrev pub pick : {A : Type 0} → Bool → A → A → A
@@ -36,7 +37,7 @@ abbrev pub _if_else_ : ℕ → Bool → ℕ → ℕ
 _if_else_ n t m = pick t n m
 
 abbrev pub passed : ℕ
-passed = 0
+passed = noRefusal
 
 abbrev pub isPassed : ℕ → Bool
 isPassed n = eqb n passed

@@ -180,11 +180,11 @@ abbrev pub noResult : CommandResult
 noResult = record { outcome = 0; value = half; quality = 0 }
 
 unfoldable pub brought : Received → Brought
-brought (NotReceived n) = record { kind = 0; call = 0; point = 0; result = noResult; refusal = 0; lease = 0 }
+brought (NotReceived n) = record { kind = 0; call = 0; point = 0; result = noResult; refusal = noRefusal; lease = 0 }
 brought (Completed r) =
-    record { kind = resultKind; call = r .call; point = r .point; result = r .result; refusal = 0; lease = 0 }
+    record { kind = resultKind; call = r .call; point = r .point; result = r .result; refusal = noRefusal; lease = 0 }
 brought (Denied r) = record { kind = refusalKind; call = r .call; point = r .point; result = noResult; refusal = r .refusal; lease = 0 }
-brought (Extended g) = record { kind = grantKind; call = 0; point = 0; result = noResult; refusal = 0; lease = g .lease }
+brought (Extended g) = record { kind = grantKind; call = 0; point = 0; result = noResult; refusal = noRefusal; lease = g .lease }
 
 -- the packet that an answer carries
 unfoldable pub sentBytes : Sent → List ℕ

@@ -17,4 +17,5 @@ pub mod Decisions
 pub mod Operations
 pub mod Clients
 pub mod Leases
+pub mod Letters
 pub mod Yard

@@ -2,7 +2,7 @@
 -- arguments. 2 and 19 come first; a refusal leaves every slice as it was, a request's refusal packet aside; bytes past what is
 -- written are kept. An operation with no output is lent the empty one.
 -- Assumes nothing.
-use Prim.Native.Nat.{ℕ, zero, suc, _+_, _-_}
+use Prim.Native.Nat.{ℕ, zero, suc, _+_, _-_, _*_}
 use mathlib.Core.Bool.{Bool, true, false, _&&_, _||_, not}
 use mathlib.Core.List.{List, [], _∷_, _++_}
 use mathlib.Core.Option.{Option, none, some}
@@ -11,7 +11,8 @@ use lib.Dec.{eqb, leb, ltb}
 use Rattle.model.specs.declared.PlanEntry.{PlanEntry}
 use Rattle.model.specs.declared.Answer.{Answer}
 use Rattle.model.specs.Choice.{pick, Decision, refuse, deny, reply, append, marks, _if_else_, passed, isPassed, unlessRefused}
-use Rattle.model.specs.Refusals.{malformed, tooShort, badLog, unsound}
+use Rattle.model.specs.Numbers.{word}
+use Rattle.model.specs.Refusals.{malformed, tooShort, badLog, unsound, noRefusal}
 use Rattle.model.specs.Limits.{lastServer, stateSize, headSize, resultSize, receiptSize, greatestImage}
 use Rattle.model.specs.Tables.{written}
 use Rattle.model.specs.Versions.{Versions}
@@ -33,6 +34,10 @@ pub record After : Type 0 where
 -- the refusal's number, 0 for none, and the number of bytes written to the output
 abbrev pub answerOf : ℕ → ℕ → Answer
 answerOf n w = record { refusal = n; wrote = w }
+
+-- an answer in one word of 64 bits, for C: the low 32 bits are 0 or the refusal's number, the high 32 bits the number of bytes written
+unfoldable pub wordOf : Answer → ℕ
+wordOf a = a .refusal + word * a .wrote
 
 abbrev pub after : Answer → List ℕ → List ℕ → List ℕ → After
 after a s l o = record { answer = a; state = s; log = l; out = o }
@@ -57,11 +62,11 @@ stored state st = written state 0 (stateBytes st)
 unfoldable pub settle : List ℕ → List ℕ → List ℕ → Decided → After
 settle state log out (refuse n) = after (answerOf n 0) state log out
 settle state log out (deny n b) = after (answerOf n (length b)) state log (written out 0 b)
-settle state log out (reply b) = after (answerOf 0 (length b)) state log (written out 0 b)
+settle state log out (reply b) = after (answerOf noRefusal (length b)) state log (written out 0 b)
 settle state log out (append r) =
-    after (answerOf 0 0) (stored state (applyRecord r (load state .size + recordSize r) (load state)))
+    after (answerOf noRefusal 0) (stored state (applyRecord r (load state .size + recordSize r) (load state)))
     (written log (load state .size) (recordBytes r)) out
-settle state log out (marks m) = after (answerOf 0 0) (stored state (withMark m (load state))) log out
+settle state log out (marks m) = after (answerOf noRefusal 0) (stored state (withMark m (load state))) log out
 
 -- 2 state or output too short; 19. The output has n bytes, of which `need` are asked
 unfoldable pub lentRefusal : List ℕ → List ℕ → ℕ → ℕ → ℕ
@@ -89,7 +94,7 @@ foundRefusal states logs good n =
 unfoldable pub foundOf : List ℕ → List ℕ → List ℕ → ℕ → After
 foundOf state log plan n =
     leftUnless (foundRefusal (length state) (length log) (planOk plan) n) state log
-    (after (answerOf 0 0) (stored state (founded (planOf plan) n)) (written log 0 (headBytes n)) [])
+    (after (answerOf noRefusal 0) (stored state (founded (planOf plan) n)) (written log 0 (headBytes n)) [])
 
 -- by a program that executes by v
 unfoldable pub requestOf : Versions → List ℕ → List ℕ → List ℕ → List ℕ → After
@@ -141,7 +146,7 @@ recoveredState plan log = elim (headOk log) [ true ↦ recoveredAll (founded pla
 
 unfoldable pub settleRecovered : List ℕ → List ℕ → Option State → After
 settleRecovered state log none = settle state log [] (refuse badLog)
-settleRecovered state log (some st) = after (answerOf 0 0) (stored state (withMark (st .size) st)) log []
+settleRecovered state log (some st) = after (answerOf noRefusal 0) (stored state (withMark (st .size) st)) log []
 
 -- by the state's length and whether the plan is good
 unfoldable pub recoverRefusal : ℕ → Bool → ℕ

@@ -14,7 +14,7 @@ use Rattle.model.specs.declared.SendAnswer.{SendAnswer}
 use Rattle.model.specs.declared.ReceiveAnswer.{ReceiveAnswer}
 use Rattle.model.specs.Choice.{pick}
 use Rattle.model.specs.Numbers.{half, byteAt}
-use Rattle.model.specs.Refusals.{malformed, badMark, unknown}
+use Rattle.model.specs.Refusals.{malformed, badMark, unknown, noRefusal}
 use Rattle.model.specs.Limits.{last32, requestKind, receiptKind, stateSize, resultSize, receiptSize, greatestImage, pointCount, callWindow}
 use Rattle.model.specs.Plan.{planBytes}
 use Rattle.model.specs.Images.{imageMagic}
@@ -22,6 +22,7 @@ use Rattle.model.specs.States.{State, load}
 use Rattle.model.specs.Versions.{today}
 use Rattle.model.specs.Operations.{After, foundOf, requestOf, syncOf, giveOf, imageOf, takeOf, receiptOf, releaseOf, recoverOf}
 use Rattle.model.specs.Clients.{issueOf, resendOf, receiveOf, sendNumber, receiveNumber, brought, sentBytes, noCall}
+use Rattle.model.specs.Letters.{space, lineFeed, minus, firstDigit, lastDigit, issueLetter, resendLetter, deliverLetter, receiveLetter, syncLetter, cutLetter, giveLetter, imageLetter, receiptLetter, mostDigits}
 
 -- lines read at the most, and the bytes of a log
 abbrev pub mostLines : ℕ
@@ -165,7 +166,7 @@ cutServer y n k =
 unfoldable pub issued : Yard → ℕ → SendAnswer → Step
 issued y n a =
     let z = withClient y n (a .client) in
-    pick (eqb (sendNumber (a .answer)) 0) (step (withPacket z (sentBytes (a .answer))) (answered 0 (suc (length (y .packets))) half))
+    pick (eqb (sendNumber (a .answer)) noRefusal) (step (withPacket z (sentBytes (a .answer))) (answered noRefusal (suc (length (y .packets))) half))
     (step z (plain (sendNumber (a .answer))))
 
 unfoldable pub receivedAt : Yard → ℕ → ReceiveAnswer → Step
@@ -208,12 +209,12 @@ runLines y (l ∷ ls) = let s = ran y l in (s .reply) ∷ runLines (s .yard) ls
 -- bits is unreadable
 
 unfoldable pub isDigit : ℕ → Bool
-isDigit b = leb 48 b && leb b 57
+isDigit b = leb firstDigit b && leb b lastDigit
 
 -- the number of a run of digits, none where a byte is no digit
 unfoldable pub digitsFrom : ℕ → List ℕ → Option ℕ
 digitsFrom n [] = some n
-digitsFrom n (b ∷ s) = pick (isDigit b) (digitsFrom (10 * n + (b - 48)) s) none
+digitsFrom n (b ∷ s) = pick (isDigit b) (digitsFrom (10 * n + (b - firstDigit)) s) none
 
 unfoldable pub atMost : ℕ → Option ℕ → Option ℕ
 atMost m none = none
@@ -234,12 +235,12 @@ positive (some n) = pick (ltb n half) (some (half + n)) none
 -- a signed number, as x + 2 ^ 31
 unfoldable pub argumentIn : List ℕ → Option ℕ
 argumentIn [] = none
-argumentIn (b ∷ s) = pick (eqb b 45) (negative (numberIn s)) (positive (numberIn (b ∷ s)))
+argumentIn (b ∷ s) = pick (eqb b minus) (negative (numberIn s)) (positive (numberIn (b ∷ s)))
 
 -- the fields of a line
 unfoldable pub fieldsFrom : List ℕ → List ℕ → List (List ℕ)
 fieldsFrom f [] = f ∷ []
-fieldsFrom f (b ∷ s) = pick (eqb b 32) (f ∷ fieldsFrom [] s) (fieldsFrom (f ++ (b ∷ [])) s)
+fieldsFrom f (b ∷ s) = pick (eqb b space) (f ∷ fieldsFrom [] s) (fieldsFrom (f ++ (b ∷ [])) s)
 
 unfoldable pub line1 : (ℕ → Line) → Option ℕ → Line
 line1 f none = unreadable
@@ -262,23 +263,28 @@ unfoldable pub letterIn : List ℕ → ℕ
 letterIn [] = 0
 letterIn (b ∷ s) = pick (eqb (length s) 0) b 0
 
+-- the lines of two numbers, by letter
+unfoldable pub letterLine : ℕ → ℕ → ℕ → Line
+letterLine c a b =
+    pick (eqb c resendLetter) (resend a b)
+    (pick (eqb c deliverLetter) (deliver a b)
+    (pick (eqb c receiveLetter) (receive a b)
+    (pick (eqb c cutLetter) (cut a b)
+    (pick (eqb c imageLetter) (image a b)
+    (pick (eqb c receiptLetter) (receipt a b) unreadable)))))
+
+-- the line of a letter and its fields, by how many they are
 unfoldable pub with1 : ℕ → List ℕ → Line
-with1 c a = pick (eqb c 121) (line1 sync (numberIn a)) unreadable
+with1 c a = pick (eqb c syncLetter) (line1 sync (numberIn a)) unreadable
 
 unfoldable pub with2 : ℕ → List ℕ → List ℕ → Line
-with2 c a b =
-    pick (eqb c 115) (line2 resend (numberIn a) (numberIn b))
-    (pick (eqb c 100) (line2 deliver (numberIn a) (numberIn b))
-    (pick (eqb c 114) (line2 receive (numberIn a) (numberIn b))
-    (pick (eqb c 107) (line2 cut (numberIn a) (numberIn b))
-    (pick (eqb c 120) (line2 image (numberIn a) (numberIn b))
-    (pick (eqb c 102) (line2 receipt (numberIn a) (numberIn b)) unreadable)))))
+with2 c a b = line2 (letterLine c) (numberIn a) (numberIn b)
 
 unfoldable pub with3 : ℕ → List ℕ → List ℕ → List ℕ → Line
-with3 c a b d = pick (eqb c 103) (line3 give (numberIn a) (numberIn b) (numberIn d)) unreadable
+with3 c a b d = pick (eqb c giveLetter) (line3 give (numberIn a) (numberIn b) (numberIn d)) unreadable
 
 unfoldable pub with4 : ℕ → List ℕ → List ℕ → List ℕ → List ℕ → Line
-with4 c a b d e = pick (eqb c 105) (line4 issue (numberIn a) (numberIn b) (numberIn d) (argumentIn e)) unreadable
+with4 c a b d e = pick (eqb c issueLetter) (line4 issue (numberIn a) (numberIn b) (numberIn d) (argumentIn e)) unreadable
 
 unfoldable pub lineOfFields : List (List ℕ) → Line
 lineOfFields [] = unreadable
@@ -299,7 +305,7 @@ endLine (b ∷ s) = lineOf (b ∷ s) ∷ []
 
 unfoldable pub linesFrom : List ℕ → List ℕ → List Line
 linesFrom f [] = endLine f
-linesFrom f (b ∷ s) = pick (eqb b 10) (lineOf f ∷ linesFrom [] s) (linesFrom (f ++ (b ∷ [])) s)
+linesFrom f (b ∷ s) = pick (eqb b lineFeed) (lineOf f ∷ linesFrom [] s) (linesFrom (f ++ (b ∷ [])) s)
 
 -- up to 60 lines; later ones are not read
 unfoldable pub linesOf : List ℕ → List Line
@@ -308,17 +314,17 @@ linesOf s = take mostLines (linesFrom [] s)
 -- a number's decimal digits; a number of 32 bits has at most 10
 unfoldable pub digitsOf : ℕ → ℕ → List ℕ
 digitsOf zero n = []
-digitsOf (suc k) n = pick (ltb n 10) ((48 + n) ∷ []) (digitsOf k (n / 10) ++ ((48 + n % 10) ∷ []))
+digitsOf (suc k) n = pick (ltb n 10) ((firstDigit + n) ∷ []) (digitsOf k (n / 10) ++ ((firstDigit + n % 10) ∷ []))
 
 unfoldable pub shown : ℕ → List ℕ
-shown n = digitsOf 10 n
+shown n = digitsOf mostDigits n
 
 unfoldable pub shownSigned : ℕ → List ℕ
-shownSigned x = pick (ltb x half) (45 ∷ shown (half - x)) (shown (x - half))
+shownSigned x = pick (ltb x half) (minus ∷ shown (half - x)) (shown (x - half))
 
 -- line, number, packet made, value received
 unfoldable pub replyText : ℕ → Reply → List ℕ
-replyText k r = shown k ++ (32 ∷ (shown (r .number) ++ (32 ∷ (shown (r .made) ++ (32 ∷ (shownSigned (r .value) ++ (10 ∷ [])))))))
+replyText k r = shown k ++ (space ∷ (shown (r .number) ++ (space ∷ (shown (r .made) ++ (space ∷ (shownSigned (r .value) ++ (lineFeed ∷ [])))))))
 
 unfoldable pub repliesText : ℕ → List Reply → List ℕ
 repliesText k [] = []

@@ -11,7 +11,7 @@ use Rattle.model.specs.declared.CommandResult.{CommandResult}
 use Rattle.model.specs.declared.Request.{Request}
 use Rattle.model.specs.Choice.{Decision, refuse, deny, reply, append, marks}
 use Rattle.model.specs.Numbers.{half}
-use Rattle.model.specs.Limits.{pointCount, executedSize}
+use Rattle.model.specs.Limits.{pointCount, executedSize, setOp, stepOp, reportOp, faultOp, partOp, carriedOut, outOfRange, onInvalid, fellBack, stopped, valid, invalid}
 use Rattle.model.specs.Versions.{today}
 use Rattle.model.specs.Rules.{ruleOf}
 use Rattle.model.specs.Sequential.{EntryZ, ReadingZ, ResultZ, readingZ, resultZ, entryZ, readingMeant, resultMeant, ruleZ}
@@ -19,6 +19,7 @@ use Rattle.model.specs.Packets.{parsePacket, requestBytes}
 use Rattle.model.specs.States.{State}
 use Rattle.model.specs.Apply.{founded}
 use Rattle.model.specs.Decisions.{Decided, onRequest}
+use Rattle.model.specs.Refusals.{noRefusal, malformed, leaseOver}
 
 abbrev pub entry : PlanEntry
 entry = record { low = half - 100; high = half + 1000; fallback = half; home = 0 }
@@ -26,7 +27,7 @@ entry = record { low = half - 100; high = half + 1000; fallback = half; home = 0
 -- a request of client 1 for a report in range on point 0
 abbrev pub asking : ℕ → ℕ → ℕ → Request
 asking call done lease =
-    record { command = record { client = 1; call = call; op = 3; point = 0; argument = half }; done = done; lease = lease }
+    record { command = record { client = 1; call = call; op = reportOp; point = 0; argument = half }; done = done; lease = lease }
 
 -- server 0 as founded, at a heard time
 unfoldable pub heardAt : ℕ → State
@@ -47,9 +48,9 @@ heardAt t =
 unfoldable pub refusalOf : Decided → ℕ
 refusalOf (refuse n) = n
 refusalOf (deny n b) = n
-refusalOf (reply b) = 0
-refusalOf (append r) = 0
-refusalOf (marks m) = 0
+refusalOf (reply b) = noRefusal
+refusalOf (append r) = noRefusal
+refusalOf (marks m) = noRefusal
 
 unfoldable pub asked : State → Request → ℕ
 asked st q = refusalOf (onRequest today st executedSize (parsePacket (requestBytes q)))
@@ -93,36 +94,36 @@ byDown op a v q o w t =
 -- a step of −1 − a at value v, valid, that stops at the low end, −100
 abbrev pub stepDown : ℕ → ℕ → Case
 stepDown a v =
-    command entry 2 (negsuc a) (half - 1 - a) (readingZ (pos v) 0) (record { value = half + v; quality = 0 }) (resultZ 4 (negsuc 99) 0)
-    (record { outcome = 4; value = half - 100; quality = 0 })
+    command entry stepOp (negsuc a) (half - 1 - a) (readingZ (pos v) valid) (record { value = half + v; quality = valid }) (resultZ stopped (negsuc 99) valid)
+    (record { outcome = stopped; value = half - 100; quality = valid })
 
 -- a step of a at 7, valid, where the range is 7 to 7: outcome o
 abbrev pub stepNarrow : ℕ → ℕ → Case
 stepNarrow a o =
-    command (record { low = half + 7; high = half + 7; fallback = half + 7; home = 0 }) 2 (pos a) (half + a) (readingZ (pos 7) 0)
-    (record { value = half + 7; quality = 0 }) (resultZ o (pos 7) 0) (record { outcome = o; value = half + 7; quality = 0 })
+    command (record { low = half + 7; high = half + 7; fallback = half + 7; home = 0 }) stepOp (pos a) (half + a) (readingZ (pos 7) valid)
+    (record { value = half + 7; quality = valid }) (resultZ o (pos 7) valid) (record { outcome = o; value = half + 7; quality = valid })
 
 -- op, argument, value and quality before; outcome, value and quality after
 unfoldable pub cases : List Case
 cases =
-    onUp 1 1000 0 1 0 1000 0  -- set 1000: 1000, outcome 0
-    ∷ onUp 1 1001 7 0 1 7 0  -- set 1001: outcome 1
-    ∷ onUp 2 1 1000 0 4 1000 0  -- at 1000, step 1: 1000, outcome 4
-    ∷ onUp 2 1 999 0 0 1000 0  -- at 999, step 1: 1000
-    ∷ onUp 2 0 1000 0 0 1000 0  -- at 1000, step 0: 1000, outcome 0
-    ∷ onUp 2 2147483647 7 0 4 1000 0  -- the greatest step: 1000, outcome 4
+    onUp setOp 1000 0 invalid carriedOut 1000 valid  -- set 1000: 1000, outcome 0
+    ∷ onUp setOp 1001 7 valid outOfRange 7 valid  -- set 1001: outcome 1
+    ∷ onUp stepOp 1 1000 valid stopped 1000 valid  -- at 1000, step 1: 1000, outcome 4
+    ∷ onUp stepOp 1 999 valid carriedOut 1000 valid  -- at 999, step 1: 1000
+    ∷ onUp stepOp 0 1000 valid carriedOut 1000 valid  -- at 1000, step 0: 1000, outcome 0
+    ∷ onUp stepOp 2147483647 7 valid stopped 1000 valid  -- the greatest step: 1000, outcome 4
     ∷ stepDown 107 7  -- at 7, step −108: −100, outcome 4
     ∷ stepDown 2147483647 1000  -- the least step: −100, outcome 4
-    ∷ stepNarrow 0 0  -- where low is high, step 0: outcome 0
-    ∷ stepNarrow 1 4  -- and step 1: outcome 4
-    ∷ onUp 2 0 0 1 2 0 1  -- at quality 1, step 0: outcome 2
-    ∷ byDown 3 100 7 0 3 0 1  -- report −101: 0, quality 1, outcome 3
-    ∷ onUp 4 0 7 0 3 0 1  -- fault: the same
-    ∷ toDown 5 0 0 1 0 99 0  -- part 0: −100
-    ∷ onUp 5 333 0 1 0 266 0  -- part 333: 266
-    ∷ toDown 5 5 0 1 0 94 0  -- part 5: −95
-    ∷ lease 50 50 4  -- lease end 50, heard 50: 4
-    ∷ lease 50 49 0  -- heard 49: passes
-    ∷ window 16 1 0  -- call 16 done 1: passes
-    ∷ window 17 1 1  -- call 17 done 1: 1
+    ∷ stepNarrow 0 carriedOut  -- where low is high, step 0: outcome 0
+    ∷ stepNarrow 1 stopped  -- and step 1: outcome 4
+    ∷ onUp stepOp 0 0 invalid onInvalid 0 invalid  -- at quality 1, step 0: outcome 2
+    ∷ byDown reportOp 100 7 valid fellBack 0 invalid  -- report −101: 0, quality 1, outcome 3
+    ∷ onUp faultOp 0 7 valid fellBack 0 invalid  -- fault: the same
+    ∷ toDown partOp 0 0 invalid carriedOut 99 valid  -- part 0: −100
+    ∷ onUp partOp 333 0 invalid carriedOut 266 valid  -- part 333: 266
+    ∷ toDown partOp 5 0 invalid carriedOut 94 valid  -- part 5: −95
+    ∷ lease 50 50 leaseOver  -- lease end 50, heard 50: 4
+    ∷ lease 50 49 noRefusal  -- heard 49: passes
+    ∷ window 16 1 noRefusal  -- call 16 done 1: passes
+    ∷ window 17 1 malformed  -- call 17 done 1: 1
     ∷ []

@@ -205,11 +205,11 @@ lent-elim P state log out need d two nineteen k =
 pub found-elim : (P : After → Type 0) (state log plan : List ℕ) (n : ℕ) → Bytes plan → P (after (answerOf Refusals.tooShort 0) state log [])
     → P (after (answerOf Refusals.malformed 0) state log [])
     → (stateSize ≤ length state → headSize ≤ length log → GoodPlan (planOf plan) → planOk plan ≡ true → n ≤ lastServer
-    → P (after (answerOf 0 0) (stored state (founded (planOf plan) n)) (written log 0 (headBytes n)) []))
+    → P (after (answerOf Refusals.noRefusal 0) (stored state (founded (planOf plan) n)) (written log 0 (headBytes n)) []))
     → P (foundOf state log plan n)
 unfolding foundOf foundRefusal leftUnless settle
 found-elim P state log plan n b two one k =
-    let a : After = after (answerOf 0 0) (stored state (founded (planOf plan) n)) (written log 0 (headBytes n)) [] in
+    let a : After = after (answerOf Refusals.noRefusal 0) (stored state (founded (planOf plan) n)) (written log 0 (headBytes n)) [] in
     let s : Bool = ltb (length state) stateSize in
     let l : Bool = ltb (length log) headSize in
     choose (λ (m : ℕ). P (leftUnless m state log a)) (s || l) (λ e. two)
@@ -223,7 +223,7 @@ found-elim P state log plan n b two one k =
 pub recover-elim : (P : After → Type 0) (state log plan : List ℕ) → P (after (answerOf Refusals.tooShort 0) state log [])
     → P (after (answerOf Refusals.malformed 0) state log []) → P (after (answerOf Refusals.badLog 0) state log [])
     → ((st : State) → stateSize ≤ length state → planOk plan ≡ true → recoveredState (planOf plan) log ≡ some st
-    → P (after (answerOf 0 0) (stored state (withMark (st .size) st)) log []))
+    → P (after (answerOf Refusals.noRefusal 0) (stored state (withMark (st .size) st)) log []))
     → P (recoverOf state log plan)
 unfolding recoverOf recoverRefusal leftUnless settle settleRecovered
 recover-elim P state log plan two one fourteen k =
@@ -277,9 +277,9 @@ decision-allowed (release packet) state log h =
 
 -- a call was not refused, or the buffer was sound before it
 abbrev Begun : After → List ℕ → Type 0
-Begun a state = (a .answer .refusal ≡ 0) ⊎ (sound state ≡ true)
+Begun a state = (a .answer .refusal ≡ Refusals.noRefusal) ⊎ (sound state ≡ true)
 
-refused : (state : List ℕ) (n : ℕ) → (n ≡ 0 → ⊥) → (n ≡ 0) ⊎ (sound state ≡ true) → sound state ≡ true
+refused : (state : List ℕ) (n : ℕ) → (n ≡ Refusals.noRefusal → ⊥) → (n ≡ Refusals.noRefusal) ⊎ (sound state ≡ true) → sound state ≡ true
 refused state n h (inl e) = absurd (h e)
 refused state n h (inr e) = e
 
@@ -287,21 +287,21 @@ begun-sound : (c : Call) (state log out : List ℕ) → Bytes state → Bytes lo
     → sound (left c state log out .state) ≡ true
 unfolding left decidedOn settle
 begun-sound (found plan n) state log out b c z h =
-    found-elim (λ a. Begun a state → sound (a .state) ≡ true) state log plan n h (refused state 2 (λ e. omega arith)) (refused state 1 (λ e. omega arith))
+    found-elim (λ a. Begun a state → sound (a .state) ≡ true) state log plan n h (refused state Refusals.tooShort (λ e. omega arith)) (refused state Refusals.malformed (λ e. omega arith))
     (λ l k g p m e. stored-sound state (founded (planOf plan) n) (founded-sound (planOf plan) n g m) (omega arith))
 begun-sound (operate o) state log out b c z h =
     subst (λ (a : After). Begun a state → sound (a .state) ≡ true) (sym (operated-is o state log out))
     (lent-elim (λ d. Begun (settle state log (output o out) d) state → sound (settle state log (output o out) d .state) ≡ true) state log (output o out) (outputSize o)
-    (decision o (load state) (freeIn state log)) (refused state 2 (λ e. omega arith)) (refused state 19 (λ e. omega arith))
+    (decision o (load state) (freeIn state log)) (refused state Refusals.tooShort (λ e. omega arith)) (refused state Refusals.unsound (λ e. omega arith))
     (λ l s f e. settled state log (output o out) (decision o (load state) (freeIn state log)) b l s f z (decision-allowed o state log h)))
 begun-sound (recover plan) state log out b c z h =
-    recover-elim (λ a. Begun a state → sound (a .state) ≡ true) state log plan (refused state 2 (λ e. omega arith)) (refused state 1 (λ e. omega arith))
-    (refused state 14 (λ e. omega arith))
+    recover-elim (λ a. Begun a state → sound (a .state) ≡ true) state log plan (refused state Refusals.tooShort (λ e. omega arith)) (refused state Refusals.malformed (λ e. omega arith))
+    (refused state Refusals.badLog (λ e. omega arith))
     (λ st l g r e. stored-sound state (withMark (st .size) st) (recovered-bytes (planOf plan) log st (plan-good plan h g) c z r .marked) (omega arith))
 
 -- every call not refused leaves it sound
 pub call-sound : (c : Call) (state log out : List ℕ) → Bytes state → Bytes log → length log < word * word → CallBytes c
-    → left c state log out .answer .refusal ≡ 0 → sound (left c state log out .state) ≡ true
+    → left c state log out .answer .refusal ≡ Refusals.noRefusal → sound (left c state log out .state) ≡ true
 call-sound c state log out b k z h e = begun-sound c state log out b k z h (inl e)
 
 -- a call on a sound buffer leaves a sound buffer, refused or not

@@ -28,7 +28,7 @@ use Rattle.model.specs.declared.Completion.{Completion}
 use Rattle.model.specs.declared.ImageEntry.{ImageEntry}
 use Rattle.model.specs.declared.Request.{Request}
 use Rattle.model.specs.declared.Notice.{Notice}
-use Rattle.model.specs.Choice.{pick, reply, append, marks, _if_else_}
+use Rattle.model.specs.Choice.{pick, reply, append, marks, _if_else_, passed}
 use Rattle.model.specs.Refusals.{malformed, clientsFull, logFull}
 use Rattle.model.specs.Limits.{lastPoint, clientCount, executedSize, goneSize, giveSize, takeHead, releaseSize}
 use Rattle.model.specs.Tables.{every}
@@ -90,36 +90,36 @@ unfolding find
 fresh-find x c [] h = refl
 fresh-find x c (r ∷ rs) h = rw (id-not x c r (h .0)) (fresh-find x c rs (h .1))
 
-pub request-tests : (x : Point) (over : Bool) (floor call : ℕ) → requestRefusal x over floor call ≡ 0
+pub request-tests : (x : Point) (over : Bool) (floor call : ℕ) → requestRefusal x over floor call ≡ passed
     → (x .status ≡ held) × (over ≡ false) × (floor ≤ call)
 unfolding requestRefusal isHeld
 request-tests x over floor call e = search passing depth 12
 
-pub request-again : (x : Point) (over : Bool) (floor call : ℕ) → requestRefusal x over floor call ≡ 0 → requestRefusal x false floor call ≡ 0
-request-again x over floor call e = subst (λ (b : Bool). requestRefusal x b floor call ≡ 0) (request-tests x over floor call e .1) e
+pub request-again : (x : Point) (over : Bool) (floor call : ℕ) → requestRefusal x over floor call ≡ passed → requestRefusal x false floor call ≡ passed
+request-again x over floor call e = subst (λ (b : Bool). requestRefusal x b floor call ≡ passed) (request-tests x over floor call e .1) e
 
 -- of a point with the same status, under another floor that is not above the call
-pub request-still : (x y : Point) (over : Bool) (floor after call : ℕ) → y .status ≡ x .status → after ≤ call → requestRefusal x over floor call ≡ 0
-    → requestRefusal y over after call ≡ 0
+pub request-still : (x y : Point) (over : Bool) (floor after call : ℕ) → y .status ≡ x .status → after ≤ call → requestRefusal x over floor call ≡ passed
+    → requestRefusal y over after call ≡ passed
 unfolding requestRefusal isHeld
 request-still x y over floor after call s l e = let f : ltb call floor ≡ false = search passing depth 12 in rw (s, le-ltb call after l) (rw f at e)
 
 full-not : (floor clients : ℕ) → (notKnown floor && leb clientCount clients) ≡ false → floor ≡ 0 → clients < clientCount
 full-not floor clients e z = leb-false _ _ (sym (rw (eq-eqb _ _ z)) ∙ e)
 
-pub new-tests : (floor clients free : ℕ) → newRefusal floor clients free ≡ 0 → (floor ≡ 0 → clients < clientCount) × (executedSize ≤ free)
+pub new-tests : (floor clients free : ℕ) → newRefusal floor clients free ≡ passed → (floor ≡ 0 → clients < clientCount) × (executedSize ≤ free)
 unfolding newRefusal
 new-tests floor clients free e = (full-not floor clients (search passing depth 12), search passing depth 12)
 
-pub new-again : (floor clients free : ℕ) → newRefusal floor clients free ≡ 0 → newRefusal floor clients executedSize ≡ 0
+pub new-again : (floor clients free : ℕ) → newRefusal floor clients free ≡ passed → newRefusal floor clients executedSize ≡ passed
 unfolding newRefusal
 new-again floor clients free e = let s : ltb free executedSize ≡ false = search passing depth 12 in rw s at e
 
-pub held-tests : (mark : ℕ) (q : Request) (r : Completion) → heldRefusal mark q r ≡ 0 → (sameCommand r q ≡ true) × (r .end ≤ mark)
+pub held-tests : (mark : ℕ) (q : Request) (r : Completion) → heldRefusal mark q r ≡ passed → (sameCommand r q ≡ true) × (r .end ≤ mark)
 unfolding heldRefusal isSynced
 held-tests mark q r e = search passing depth 12
 
-pub tests-held : (mark : ℕ) (q : Request) (r : Completion) → sameCommand r q ≡ true → r .end ≤ mark → heldRefusal mark q r ≡ 0
+pub tests-held : (mark : ℕ) (q : Request) (r : Completion) → sameCommand r q ≡ true → r .end ≤ mark → heldRefusal mark q r ≡ passed
 unfolding heldRefusal isSynced
 tests-held mark q r s l = rw (s, le-leb (r .end) mark l)
 
@@ -135,7 +135,7 @@ held-never st q s r e =
 pub record Requested (v : Versions) (st : State) (free : ℕ) (q : Request) (r : LogRecord) : Type 0 where
   pub first : Admits st q
   pub fresh : find (q .command .client) (q .command .call) (st .records) ≡ none
-  pub second : newRefusal (floorOf (q .command .client) (st .floors)) (length (st .floors)) free ≡ 0
+  pub second : newRefusal (floorOf (q .command .client) (st .floors)) (length (st .floors)) free ≡ passed
   pub same : r ≡ executed (executedFor v st q)
 
 pub requested : (v : Versions) (st : State) (free : ℕ) (q : Request) (r : LogRecord) → decideRequest v st free q ≡ append r → Requested v st free q r
@@ -191,11 +191,11 @@ founded-executes v plan n free q p F space =
 
 -- ---- notice
 
-pub notice-tests : (floor free : ℕ) → noticeRefusal floor free ≡ 0 → (floor ≢ 0) × (goneSize ≤ free)
+pub notice-tests : (floor free : ℕ) → noticeRefusal floor free ≡ passed → (floor ≢ 0) × (goneSize ≤ free)
 unfolding noticeRefusal
 notice-tests floor free e = (eqb-no floor 0 (search passing depth 12), search passing depth 12)
 
-pub notice-again : (st : State) (free : ℕ) (n : Notice) {r : LogRecord} → decideNotice st free n ≡ append r → noticeRefusal (floorOf (n .client) (st .floors)) goneSize ≡ 0
+pub notice-again : (st : State) (free : ℕ) (n : Notice) {r : LogRecord} → decideNotice st free n ≡ append r → noticeRefusal (floorOf (n .client) (st .floors)) goneSize ≡ passed
 unfolding decideNotice noticeRefusal
 notice-again st free n k =
     let e = unless-appends (noticeRefusal (floorOf (n .client) (st .floors)) free) _ k .0 in
@@ -220,7 +220,7 @@ point-tests p n e = search passing depth 12
 pub place-tests : (p d n : ℕ) → (malformed if placesBad p d else n) ≡ 0 → (placesBad p d ≡ false) × (n ≡ 0)
 place-tests p d n e = search passing depth 12
 
-pub give-tests : (st : State) (free p d : ℕ) → placesBad p d ≡ false → giveRefusal (pointAt st p) (st .server) free d ≡ 0
+pub give-tests : (st : State) (free p d : ℕ) → placesBad p d ≡ false → giveRefusal (pointAt st p) (st .server) free d ≡ passed
     → PassedGive st p d × (giveSize ≤ free)
 unfolding placesBad giveRefusal isHeld
 give-tests st free p d g e = (
@@ -235,7 +235,7 @@ give-tests st free p d g e = (
 )
 
 pub give-again : (st : State) (free p d : ℕ) {r : LogRecord} → onGive st free p d ≡ append r
-    → (placesBad p d ≡ false) × (giveRefusal (pointAt st p) (st .server) giveSize d ≡ 0)
+    → (placesBad p d ≡ false) × (giveRefusal (pointAt st p) (st .server) giveSize d ≡ passed)
 unfolding onGive giveRefusal
 give-again st free p d k =
     let b = place-tests p d (giveRefusal (pointAt st p) (st .server) free d) (unless-appends _ _ k .0) in
@@ -256,13 +256,13 @@ give-passed st free p d r e =
 
 -- ---- release
 
-pub release-tests : (st : State) (free p m : ℕ) → releaseRefusal (pointAt st p) free m ≡ 0 → PassedRelease st p m × (releaseSize ≤ free)
+pub release-tests : (st : State) (free p m : ℕ) → releaseRefusal (pointAt st p) free m ≡ passed → PassedRelease st p m × (releaseSize ≤ free)
 unfolding releaseRefusal isGiven
 release-tests st free p m e = (record { given = search passing depth 12; newer = search passing depth 12 }, search passing depth 12)
 
 -- with the point's own move for the receipt's
 pub release-again : (st : State) (free p m : ℕ) {r : LogRecord} → decideRelease st free p m ≡ append r
-    → releaseRefusal (pointAt st p) releaseSize (pointAt st p .moveNumber) ≡ 0
+    → releaseRefusal (pointAt st p) releaseSize (pointAt st p .moveNumber) ≡ passed
 unfolding decideRelease releaseRefusal
 release-again st free p m k =
     let n : ℕ = pointAt st p .moveNumber in
@@ -309,7 +309,7 @@ free-for p rs e h = all-to rs (one-free p e) (every-all (λ (r : Completion). no
 pub frees-all : (p : ℕ) (rs : List Completion) (es : List ImageEntry) → every (freeFor p rs) es ≡ true → All (FreeFor p rs) es
 frees-all p rs es h = all-to es (λ (x : ImageEntry) (k : freeFor p rs x ≡ true). free-for p rs x k) (every-all (freeFor p rs) es h)
 
-pub take-tests : (st : State) (free : ℕ) (i : Image) → takeTests st free i ≡ 0 → PassedTake st i × (takeHead + imageLength i ≤ free)
+pub take-tests : (st : State) (free : ℕ) (i : Image) → takeTests st free i ≡ passed → PassedTake st i × (takeHead + imageLength i ≤ free)
 unfolding takeTests takeRefusal isHeld
 take-tests st free i e = (
   record {
@@ -323,7 +323,7 @@ take-tests st free i e = (
   search passing depth 12,
 )
 
-pub take-again : (st : State) (free : ℕ) (i : Image) {r : LogRecord} → decideTake st free i ≡ append r → takeTests st (takeHead + imageLength i) i ≡ 0
+pub take-again : (st : State) (free : ℕ) (i : Image) {r : LogRecord} → decideTake st free i ≡ append r → takeTests st (takeHead + imageLength i) i ≡ passed
 unfolding decideTake takeTests takeRefusal
 take-again st free i k =
     let n : ℕ = takeHead + imageLength i in
@@ -342,7 +342,7 @@ take-passed st free i r e =
 
 -- ---- sync and the calls that reply
 
-pub sync-tests : (mark size m : ℕ) → syncRefusal mark size m ≡ 0 → (mark ≤ m) × (m ≤ size)
+pub sync-tests : (mark size m : ℕ) → syncRefusal mark size m ≡ passed → (mark ≤ m) × (m ≤ size)
 unfolding syncRefusal
 sync-tests mark size m e = (search (passing, or-left-no) depth 12, search (passing, or-right-no) depth 12)
 
@@ -354,15 +354,15 @@ sync-passed st m n e =
     let c : _≡_ {A = Decided} (marks m) (marks n) = a .1 in
     (cc, b .0, b .1)
 
-pub fetch-tests : (mark : ℕ) (r : Completion) → fetchRefusal mark r ≡ 0 → r .end ≤ mark
+pub fetch-tests : (mark : ℕ) (r : Completion) → fetchRefusal mark r ≡ passed → r .end ≤ mark
 unfolding fetchRefusal isSynced
 fetch-tests mark r e = search passing depth 12
 
-pub image-tests : (x : Point) (mark : ℕ) → imageRefusal x mark ≡ 0 → (x .status ≡ given) × (x .giveEnd ≤ mark)
+pub image-tests : (x : Point) (mark : ℕ) → imageRefusal x mark ≡ passed → (x .status ≡ given) × (x .giveEnd ≤ mark)
 unfolding imageRefusal isGiven isSynced
 image-tests x mark e = search passing depth 12
 
-pub receipt-tests : (x : Point) (mark : ℕ) → receiptRefusal x mark ≡ 0 → (x .takenMove ≢ 0) × (x .takeEnd ≤ mark)
+pub receipt-tests : (x : Point) (mark : ℕ) → receiptRefusal x mark ≡ passed → (x .takenMove ≢ 0) × (x .takeEnd ≤ mark)
 unfolding receiptRefusal isSynced
 receipt-tests x mark e = (eqb-no (x .takenMove) 0 (search passing depth 12), search passing depth 12)
 

@@ -26,7 +26,7 @@ use Rattle.model.specs.declared.Give.{Give}
 use Rattle.model.specs.declared.Release.{Release}
 use Rattle.model.specs.declared.Completion.{Completion}
 use Rattle.model.specs.Choice.{pick, append, marks, isPassed}
-use Rattle.model.specs.Limits.{lastPoint, lastServer, headSize, executedSize, giveSize, takeHead, releaseSize}
+use Rattle.model.specs.Limits.{lastPoint, lastServer, headSize, executedSize, giveSize, takeHead, releaseSize, invalid}
 use Rattle.model.specs.Plan.{entryAt, noEntry, inRange}
 use Rattle.model.specs.Rules.{argumentOk}
 use Rattle.model.specs.Packets.{commandOk, outcomeOk, idOk, doneOk, requestOk}
@@ -51,14 +51,14 @@ use Rattle.model_invariants.proofs.Decided.{find-fresh, request-tests, 
 
 -- ---- founding
 
-founded-point : (n : ℕ) (e : PlanEntry) → GoodEntry e → GoodPoint n 8 e (foundedPoint n e)
+founded-point : (n : ℕ) (e : PlanEntry) → GoodEntry e → GoodPoint n headSize e (foundedPoint n e)
 unfolding foundedPoint
 founded-point n e g = go (eqb (e .home) n) refl
   where
-    go : (b : Bool) → eqb (e .home) n ≡ b
-        → GoodPoint n 8 e (record { status = pick b States.held States.absent; quality = 1; destination = 0; value = e .fallback; moveNumber = 0; takenMove = 0; giveEnd = 0; takeEnd = 0 })
+    go : (b : Bool) → eqb (e .home) n ≡ b → GoodPoint n headSize e
+        (record { status = pick b States.held States.absent; quality = invalid; destination = 0; value = e .fallback; moveNumber = 0; takenMove = 0; giveEnd = 0; takeEnd = 0 })
     go b h =
-        let l : pick b 1 0 < 2 = small b in
+        let l : pick b States.held States.absent < States.given = small b in
         record {
           status = omega arith;
           quality = omega arith;
@@ -73,8 +73,8 @@ founded-point n e g = go (eqb (e .home) n) refl
                 given = λ (k : 2 ≤ pick b 1 0). absurd (omega arith);
                 away = λ (k : 2 ≤ pick b 1 0). absurd (omega arith);
                 ended = λ (k : 2 ≤ pick b 1 0). absurd (omega arith);
-                stays = λ (k : pick b 1 0 < 2). refl;
-                unended = λ (k : pick b 1 0 < 2). refl;
+                stays = λ (k : pick b States.held States.absent < States.given). refl;
+                unended = λ (k : pick b States.held States.absent < States.given). refl;
                 origin =
                     λ (k : 1 ≤ pick b 1 0).
                     record {
@@ -87,7 +87,7 @@ founded-point n e g = go (eqb (e .home) n) refl
           moveNumber = omega arith;
         }
       where
-        small : (b : Bool) → pick b 1 0 < 2
+        small : (b : Bool) → pick b States.held States.absent < States.given
         small true = omega arith
         small false = omega arith
 
@@ -100,7 +100,7 @@ founded-point n e g = go (eqb (e .home) n) refl
         elsewhere false h k = eqb-no _ _ h
 
 founded-points : (n : ℕ) (es : List PlanEntry) → All GoodEntry es → (p : ℕ) → p < length es
-    → GoodPoint n 8 (getD es p noEntry) (getD (map (foundedPoint n) es) p noPoint)
+    → GoodPoint n headSize (getD es p noEntry) (getD (map (foundedPoint n) es) p noPoint)
 founded-points n [] h p l = absurd (omega arith)
 founded-points n (e ∷ es) h zero l = founded-point n e (h .0)
 founded-points n (e ∷ es) h (suc p) l = founded-points n es (h .1) p (omega arith)

@@ -25,6 +25,7 @@ use Rattle.model.specs.States.{State, load, sound, stateEnd, stateBytes}
 use Rattle.model.specs.Apply.{applyRecord, apply, founded, replayFrom, withMark}
 use Rattle.model.specs.Decisions.{Decided}
 use Rattle.model.specs.Operations.{After, answerOf, after, freeIn, stored, settle, lent, foundOf, leftUnless, recoverRefusal, recoverOf, settleRecovered, recoveredState}
+use Rattle.model.specs.Refusals.{noRefusal}
 use Rattle.model_laws.specs.Bytes.{Bytes}
 use Rattle.model_laws.specs.Fits.{EntriesFrom, lastEnd}
 use Rattle.model_laws.proofs.Written.{take-written-run}
@@ -188,7 +189,7 @@ module _ (plan : List PlanEntry) (n : ℕ) (g : GoodPlan plan) (h : n ≤ lastSe
       let d = decided-cut start c es (H .decided) in
       let S = recovers start a d .sound in
       let M = sound-mark rp (rp .size) S (S .mark) (omega arith) in
-      let e : recoverOf fresh (take c log) bytes ≡ after (answerOf 0 0) (stored fresh (withMark (rp .size) rp)) (take c log) []
+      let e : recoverOf fresh (take c log) bytes ≡ after (answerOf noRefusal 0) (stored fresh (withMark (rp .size) rp)) (take c log) []
       = rw (le-ltb (length fresh) stateSize l, ok, r) in
       let x : Holds (founded plan n) a (stored fresh (withMark (rp .size) rp)) log
       = record {
@@ -214,10 +215,10 @@ founded-holds plan n g h state log l k =
       logged = founded-log log n k;
     }
 
-pub found-holds : (state log plan : List ℕ) (n : ℕ) → Bytes plan → foundOf state log plan n .answer .refusal ≡ 0
+pub found-holds : (state log plan : List ℕ) (n : ℕ) → Bytes plan → foundOf state log plan n .answer .refusal ≡ noRefusal
     → GoodPlan (planOf plan) × (n ≤ lastServer) × Holds (founded (planOf plan) n) [] (foundOf state log plan n .state) (foundOf state log plan n .log)
 found-holds state log plan n b =
-    found-elim (λ a. a .answer .refusal ≡ 0 → GoodPlan (planOf plan) × (n ≤ lastServer) × Holds (founded (planOf plan) n) [] (a .state) (a .log)) state log plan n b
+    found-elim (λ a. a .answer .refusal ≡ noRefusal → GoodPlan (planOf plan) × (n ≤ lastServer) × Holds (founded (planOf plan) n) [] (a .state) (a .log)) state log plan n b
     (λ e. absurd (omega (arith, e))) (λ e. absurd (omega (arith, e))) (λ l k g p h e. (g, h, founded-holds (planOf plan) n g h state log l k))
 
 -- ---- parts of the buffers

@@ -23,12 +23,12 @@ use Rattle.model.specs.declared.Give.{Give}
 use Rattle.model.specs.declared.Release.{Release}
 use Rattle.model.specs.Numbers.{word}
 use Rattle.model.specs.Tables.{keep}
-use Rattle.model.specs.Limits.{lastPoint, lastServer, lastQuality, lastOutcome, pointCount, executedSize, goneSize, giveSize, takeHead, releaseSize}
+use Rattle.model.specs.Limits.{lastPoint, lastServer, lastQuality, lastOutcome, pointCount, executedSize, goneSize, giveSize, takeHead, releaseSize, headSize, clientCount, recordCount, lastInWindow}
 use Rattle.model.specs.Plan.{entryAt}
 use Rattle.model.specs.Packets.{commandOk, outcomeOk, idOk, doneOk}
 use Rattle.model.specs.Images.{Image, floorOf, imageLength}
 use Rattle.model.specs.Logs.{executedOk}
-use Rattle.model.specs.States.{State, pointAt, noPoint}
+use Rattle.model.specs.States.{State, pointAt, noPoint, absent as absentStatus, held as heldStatus, given as givenStatus, releasedStatus}
 use Rattle.model.specs.Apply
 use Rattle.model.specs.Apply.{raise, mergeFloors, isNotClient, staysOver, staysOverFloors, isOfOther, isOnOther, completion, takenRecord, applyExecuted, applyGone, applyGave, applyTook, applyReleased, withMark}
 use Rattle.model_laws.specs.Bytes.{All}
@@ -128,7 +128,7 @@ module _ {P : ℕ → Type 0} (st : State) (S : SoundBy P st) (t : ℕ) (h : st 
       (S .records) (S .kept)
 
 -- at most 16 for each of 32 clients
-count-kept : (fs : List Floor) (rs : List Completion) → length fs ≤ 32 → All (Windowed fs) rs → Distinct rs → length rs ≤ 512
+count-kept : (fs : List Floor) (rs : List Completion) → length fs ≤ clientCount → All (Windowed fs) rs → Distinct rs → length rs ≤ recordCount
 count-kept fs rs h w d = omega (arith, windows-few fs rs w d)
 
 -- ---- executed
@@ -136,7 +136,7 @@ count-kept fs rs h w d = omega (arith, windows-few fs rs w d)
 -- what every record is after the client's floor rose to that of fs; client x apart, its call is not under its floor
 record Reached (x : ℕ) (fs : List Floor) (r : Completion) : Type 0 where
   known : 1 ≤ floorOf (r .command .client) fs
-  high : r .command .call ≤ floorOf (r .command .client) fs + 15
+  high : r .command .call ≤ floorOf (r .command .client) fs + lastInWindow
   low : r .command .client ≢ x → floorOf (r .command .client) fs ≤ r .command .call
 
 reached-old : (x n : ℕ) (fs : List Floor) → Ascending fs → (r : Completion) → Windowed fs r → Reached x (raise x n fs) r
@@ -173,7 +173,7 @@ tested x e =
     let i2 = leb 1 (x .command .call) in
     let d1 = leb 1 (x .done) in
     let d2 = leb (x .done) (x .command .call) in
-    let d3 = leb (x .command .call) (x .done + 15) in
+    let d3 = leb (x .command .call) (x .done + lastInWindow) in
     let r1 = and-right c ((o1 && o2) && ((i1 && i2) && (d1 && (d2 && d3)))) e in
     let o = and-left (o1 && o2) ((i1 && i2) && (d1 && (d2 && d3))) r1 in
     let r2 = and-right (o1 && o2) ((i1 && i2) && (d1 && (d2 && d3))) r1 in
@@ -190,7 +190,7 @@ tested x e =
       high = leb-true _ _ (and-right d2 d3 (and-right d1 (d2 && d3) d));
     }
 
-executed-point : (server size : ℕ) (e : PlanEntry) (x : Executed) (q : Point) → GoodPoint server size e q → q .status ≡ 1 → x .result .quality ≤ lastQuality
+executed-point : (server size : ℕ) (e : PlanEntry) (x : Executed) (q : Point) → GoodPoint server size e q → q .status ≡ heldStatus → x .result .quality ≤ lastQuality
     → Ranged e (x .result .value) → GoodPoint server size e (Apply.executedPoint x q)
 unfolding Apply.executedPoint
 executed-point server size e x q g s l v =
@@ -204,7 +204,7 @@ executed-point server size e x q g s l v =
       takeEnd = g .takeEnd;
       standing =
           record {
-            absent = λ (k : q .status ≡ 0). absurd (omega arith);
+            absent = λ (k : q .status ≡ absentStatus). absurd (omega arith);
             held = h .held;
             given = h .given;
             away = h .away;
@@ -217,10 +217,10 @@ executed-point server size e x q g s l v =
       moveNumber = g .moveNumber;
     }
 
-raise-place : (x n : ℕ) (fs : List Floor) → Ascending fs → length fs ≤ 32 → (floorOf x fs ≡ 0 → length fs < 32) → length (raise x n fs) ≤ 32
+raise-place : (x n : ℕ) (fs : List Floor) → Ascending fs → length fs ≤ clientCount → (floorOf x fs ≡ 0 → length fs < clientCount) → length (raise x n fs) ≤ clientCount
 raise-place x n fs a h k = go (eqb (floorOf x fs) 0) refl
   where
-    go : (b : Bool) → eqb (floorOf x fs) 0 ≡ b → length (raise x n fs) ≤ 32
+    go : (b : Bool) → eqb (floorOf x fs) 0 ≡ b → length (raise x n fs) ≤ clientCount
     go true e = omega (arith, k (eqb-true _ _ e), raise-length x n fs)
     go false e = omega (arith, raise-known x n fs a (eqb-no _ _ e))
 
@@ -234,7 +234,7 @@ sound-executed st x S G P v z =
     let T = tested x (G .ok) in
     let fs = raise (x .command .client) (x .done) (st .floors) in
     let new = completion x end in
-    let most : length fs ≤ 32 = raise-place (x .command .client) (x .done) (st .floors) (S .ascending) (S .clients) (P .place) in
+    let most : length fs ≤ clientCount = raise-place (x .command .client) (x .done) (st .floors) (S .ascending) (S .clients) (P .place) in
     let same : floorOf (x .command .client) fs ≡ max (floorOf (x .command .client) (st .floors)) (x .done) = raise-same (x .command .client) (x .done) (st .floors) (S .ascending) in
     let t : Completion → Bool = staysOver (x .command .client) (floorOf (x .command .client) fs) in
     let here : Reached (x .command .client) fs new
@@ -313,7 +313,7 @@ sound-gone st n S G z =
     let up : st .size ≤ end = omega arith in
     let fs = keep (isNotClient (n .client)) (st .floors) in
     let t : Completion → Bool = isOfOther (n .client) in
-    let most : length fs ≤ 32 = omega (arith, length-keep (isNotClient (n .client)) (st .floors), S .clients) in
+    let most : length fs ≤ clientCount = omega (arith, length-keep (isNotClient (n .client)) (st .floors), S .clients) in
     let windows : All (Windowed fs) (keep t (st .records))
     = all-with (keep t (st .records))
     (λ (r : Completion) (w : Windowed (st .floors) r) (e : t r ≡ true).
@@ -344,8 +344,8 @@ sound-gone st n S G z =
 
 -- ---- give
 
-gave-point : (server size : ℕ) (e : PlanEntry) (g : Give) (q : Point) → GoodPoint server size e q → q .status ≡ 1 → q .takeEnd < size → g .destination ≤ lastServer
-    → g .destination ≢ server → g .moveNumber ≡ suc (q .moveNumber) → g .moveNumber < word → 8 < size → GoodPoint server size e (Apply.gavePoint g size q)
+gave-point : (server size : ℕ) (e : PlanEntry) (g : Give) (q : Point) → GoodPoint server size e q → q .status ≡ heldStatus → q .takeEnd < size → g .destination ≤ lastServer
+    → g .destination ≢ server → g .moveNumber ≡ suc (q .moveNumber) → g .moveNumber < word → headSize < size → GoodPoint server size e (Apply.gavePoint g size q)
 unfolding Apply.gavePoint
 gave-point server size e g q h s u d o n f l =
     record {
@@ -357,14 +357,14 @@ gave-point server size e g q h s u d o n f l =
       takeEnd = h .takeEnd;
       standing =
           record {
-            absent = λ (k : _≡_ {A = ℕ} 2 0). absurd (omega arith);
-            held = λ (k : _≡_ {A = ℕ} 2 1). absurd (omega arith);
-            given = λ (k : 2 ≤ 2). omega (arith, h .standing .held s);
-            away = λ (k : 2 ≤ 2). o;
-            ended = λ (k : 2 ≤ 2). u;
-            stays = λ (k : 2 < 2). absurd (omega arith);
-            unended = λ (k : 2 < 2). absurd (omega arith);
-            origin = λ (k : 1 ≤ 2). h .standing .origin (omega arith);
+            absent = λ (k : _≡_ {A = ℕ} givenStatus absentStatus). absurd (omega arith);
+            held = λ (k : _≡_ {A = ℕ} givenStatus heldStatus). absurd (omega arith);
+            given = λ (k : givenStatus ≤ givenStatus). omega (arith, h .standing .held s);
+            away = λ (k : givenStatus ≤ givenStatus). o;
+            ended = λ (k : givenStatus ≤ givenStatus). u;
+            stays = λ (k : givenStatus < givenStatus). absurd (omega arith);
+            unended = λ (k : givenStatus < givenStatus). absurd (omega arith);
+            origin = λ (k : heldStatus ≤ givenStatus). h .standing .origin (omega arith);
           };
       takenMove = omega (arith, h .takenMove);
       moveNumber = f;
@@ -417,11 +417,11 @@ kept-others st S q v =
     (λ (r : Completion) (k : KeptOn (st .points) r) (e : isOnOther q r ≡ true). set-others (st .points) q v r (on-other q r e) k)
     (all-keep (KeptOn (st .points)) (isOnOther q) (st .records) (S .kept)) (keep-passes (isOnOther q) (st .records))
 
-released-point : (server size : ℕ) (e : PlanEntry) (q : Point) → GoodPoint server size e q → q .status ≡ 2
+released-point : (server size : ℕ) (e : PlanEntry) (q : Point) → GoodPoint server size e q → q .status ≡ givenStatus
     → GoodPoint server size e (Apply.releasedPoint q)
 unfolding Apply.releasedPoint
 released-point server size e q h s =
-    let l : 2 ≤ q .status = omega arith in
+    let l : givenStatus ≤ q .status = omega arith in
     record {
       status = omega arith;
       quality = h .quality;
@@ -431,14 +431,14 @@ released-point server size e q h s =
       takeEnd = h .takeEnd;
       standing =
           record {
-            absent = λ (k : _≡_ {A = ℕ} 3 0). absurd (omega arith);
-            held = λ (k : _≡_ {A = ℕ} 3 1). absurd (omega arith);
-            given = λ (k : 2 ≤ 3). h .standing .given l;
-            away = λ (k : 2 ≤ 3). h .standing .away l;
-            ended = λ (k : 2 ≤ 3). h .standing .ended l;
-            stays = λ (k : 3 < 2). absurd (omega arith);
-            unended = λ (k : 3 < 2). absurd (omega arith);
-            origin = λ (k : 1 ≤ 3). h .standing .origin (omega arith);
+            absent = λ (k : _≡_ {A = ℕ} releasedStatus absentStatus). absurd (omega arith);
+            held = λ (k : _≡_ {A = ℕ} releasedStatus heldStatus). absurd (omega arith);
+            given = λ (k : givenStatus ≤ releasedStatus). h .standing .given l;
+            away = λ (k : givenStatus ≤ releasedStatus). h .standing .away l;
+            ended = λ (k : givenStatus ≤ releasedStatus). h .standing .ended l;
+            stays = λ (k : releasedStatus < givenStatus). absurd (omega arith);
+            unended = λ (k : releasedStatus < givenStatus). absurd (omega arith);
+            origin = λ (k : heldStatus ≤ releasedStatus). h .standing .origin (omega arith);
           };
       takenMove = h .takenMove;
       moveNumber = h .moveNumber;
@@ -476,7 +476,7 @@ sound-released st r S m P z =
 
 -- ---- take
 
-took-point : (server end : ℕ) (e : PlanEntry) (i : Image) → GoodImage i → Ranged e (i .value) → 1 ≤ i .moveNumber → 8 < end
+took-point : (server end : ℕ) (e : PlanEntry) (i : Image) → GoodImage i → Ranged e (i .value) → 1 ≤ i .moveNumber → headSize < end
     → GoodPoint server end e (Apply.tookPoint i end)
 unfolding Apply.tookPoint
 took-point server end e i G v n l =
@@ -489,15 +489,15 @@ took-point server end e i G v n l =
       takeEnd = record { past = λ (k : end ≢ 0). l; within = omega arith };
       standing =
           record {
-            absent = λ (k : _≡_ {A = ℕ} 1 0). absurd (omega arith);
-            held = λ (k : _≡_ {A = ℕ} 1 1). refl;
-            given = λ (k : 2 ≤ 1). absurd (omega arith);
-            away = λ (k : 2 ≤ 1). absurd (omega arith);
-            ended = λ (k : 2 ≤ 1). absurd (omega arith);
-            stays = λ (k : 1 < 2). refl;
-            unended = λ (k : 1 < 2). refl;
+            absent = λ (k : _≡_ {A = ℕ} heldStatus absentStatus). absurd (omega arith);
+            held = λ (k : _≡_ {A = ℕ} heldStatus heldStatus). refl;
+            given = λ (k : givenStatus ≤ heldStatus). absurd (omega arith);
+            away = λ (k : givenStatus ≤ heldStatus). absurd (omega arith);
+            ended = λ (k : givenStatus ≤ heldStatus). absurd (omega arith);
+            stays = λ (k : heldStatus < givenStatus). refl;
+            unended = λ (k : heldStatus < givenStatus). refl;
             origin =
-                λ (k : 1 ≤ 1).
+                λ (k : heldStatus ≤ heldStatus).
                 record {
                   founded = λ (z : i .moveNumber ≡ 0). absurd (omega arith);
                   untaken = λ (z : i .moveNumber ≡ 0). absurd (omega arith);
@@ -521,7 +521,7 @@ taken-distinct p end (e ∷ es) a =
 -- what every record is once floors are merged
 record Under (fs : List Floor) (r : Completion) : Type 0 where
   known : 1 ≤ floorOf (r .command .client) fs
-  high : r .command .call ≤ floorOf (r .command .client) fs + 15
+  high : r .command .call ≤ floorOf (r .command .client) fs + lastInWindow
 
 under-stays : (fs : List Floor) (r : Completion) → Under fs r → staysOverFloors fs r ≡ true → Windowed fs r
 unfolding staysOverFloors

@@ -23,12 +23,12 @@ use Rattle.model.specs.declared.Point.{Point}
 use Rattle.model.specs.declared.Completion.{Completion}
 use Rattle.model.specs.Choice.{pick}
 use Rattle.model.specs.Numbers.{word}
-use Rattle.model.specs.Limits.{lastPoint, lastServer, lastOutcome, lastQuality, headSize}
+use Rattle.model.specs.Limits.{lastPoint, lastServer, lastOutcome, lastQuality, headSize, invalid, lastInWindow}
 use Rattle.model.specs.Tables.{every}
 use Rattle.model.specs.Plan.{planEntryOk, inRange, entryAt, noEntry}
 use Rattle.model.specs.Packets.{commandOk, outcomeOk, idOk}
 use Rattle.model.specs.Images.{floorOf, floorOk, inWindow, clientsAscend}
-use Rattle.model.specs.States.{State, pointAt, noPoint, isHeld, isGiven, endOk, notGiven, originOk, absentOk, heldOk, givenOk, statusOk, pointOk, pointsOk, keepsRecords, completionOk, isId, idsDiffer, endsFrom, stateOk}
+use Rattle.model.specs.States.{State, pointAt, noPoint, isHeld, isGiven, endOk, notGiven, originOk, absentOk, heldOk, givenOk, statusOk, pointOk, pointsOk, keepsRecords, completionOk, isId, idsDiffer, endsFrom, stateOk, absent as absentStatus, held as heldStatus, given as givenStatus, releasedStatus}
 use Rattle.model_laws.specs.Bytes.{All}
 use Rattle.model_laws.specs.Fits.{FloorFits, PlanEntryFits, PointFits, CompletionFits, StateFits}
 use Rattle.model_laws.proofs.Tests.{and-left, and-right, and-both, joined-all, all-joined}
@@ -138,17 +138,17 @@ of-origin server e x o = go (eqb (x .takenMove) 0) refl
 
 abbrev absentTests : ℕ → PlanEntry → Point → List Bool
 absentTests server e x =
-    not (eqb (e .home) server) ∷ eqb (x .value) (e .fallback) ∷ eqb (x .quality) 1 ∷ eqb (x .moveNumber) 0 ∷ eqb (x .takenMove) 0 ∷ eqb (x .takeEnd) 0
+    not (eqb (e .home) server) ∷ eqb (x .value) (e .fallback) ∷ eqb (x .quality) invalid ∷ eqb (x .moveNumber) 0 ∷ eqb (x .takenMove) 0 ∷ eqb (x .takeEnd) 0
     ∷ eqb (x .destination) 0 ∷ eqb (x .giveEnd) 0 ∷ []
 
 -- what a status says, by status
-absent-standing : (server : ℕ) (e : PlanEntry) (x : Point) → x .status ≡ 0 → absentOk server e x ≡ true → Standing server e x
+absent-standing : (server : ℕ) (e : PlanEntry) (x : Point) → x .status ≡ absentStatus → absentOk server e x ≡ true → Standing server e x
 unfolding absentOk notGiven
 absent-standing server e x s h =
     let a = joined-all (absentTests server e x) h in
     record {
       absent =
-          λ (k : x .status ≡ 0).
+          λ (k : x .status ≡ absentStatus).
           record {
             home = eqb-no _ _ (not-true _ (a .0));
             value = eqb-true _ _ (a .1 .0);
@@ -157,56 +157,56 @@ absent-standing server e x s h =
             takenMove = eqb-true _ _ (a .1 .1 .1 .1 .0);
             takeEnd = eqb-true _ _ (a .1 .1 .1 .1 .1 .0);
           };
-      held = λ (k : x .status ≡ 1). absurd (omega arith);
-      given = λ (k : 2 ≤ x .status). absurd (omega arith);
-      away = λ (k : 2 ≤ x .status). absurd (omega arith);
-      ended = λ (k : 2 ≤ x .status). absurd (omega arith);
-      stays = λ (k : x .status < 2). eqb-true _ _ (a .1 .1 .1 .1 .1 .1 .0);
-      unended = λ (k : x .status < 2). eqb-true _ _ (a .1 .1 .1 .1 .1 .1 .1 .0);
-      origin = λ (k : 1 ≤ x .status). absurd (omega arith);
+      held = λ (k : x .status ≡ heldStatus). absurd (omega arith);
+      given = λ (k : givenStatus ≤ x .status). absurd (omega arith);
+      away = λ (k : givenStatus ≤ x .status). absurd (omega arith);
+      ended = λ (k : givenStatus ≤ x .status). absurd (omega arith);
+      stays = λ (k : x .status < givenStatus). eqb-true _ _ (a .1 .1 .1 .1 .1 .1 .0);
+      unended = λ (k : x .status < givenStatus). eqb-true _ _ (a .1 .1 .1 .1 .1 .1 .1 .0);
+      origin = λ (k : heldStatus ≤ x .status). absurd (omega arith);
     }
 
-held-standing : (server : ℕ) (e : PlanEntry) (x : Point) → x .status ≡ 1 → heldOk server e x ≡ true → Standing server e x
+held-standing : (server : ℕ) (e : PlanEntry) (x : Point) → x .status ≡ heldStatus → heldOk server e x ≡ true → Standing server e x
 unfolding heldOk notGiven
 held-standing server e x s h =
     let a = split (eqb (x .moveNumber) (x .takenMove)) ((eqb (x .destination) 0 && eqb (x .giveEnd) 0) && originOk server e x) h in
     let b = split (eqb (x .destination) 0 && eqb (x .giveEnd) 0) (originOk server e x) (a .1) in
     let c = split (eqb (x .destination) 0) (eqb (x .giveEnd) 0) (b .0) in
     record {
-      absent = λ (k : x .status ≡ 0). absurd (omega arith);
-      held = λ (k : x .status ≡ 1). eqb-true _ _ (a .0);
-      given = λ (k : 2 ≤ x .status). absurd (omega arith);
-      away = λ (k : 2 ≤ x .status). absurd (omega arith);
-      ended = λ (k : 2 ≤ x .status). absurd (omega arith);
-      stays = λ (k : x .status < 2). eqb-true _ _ (c .0);
-      unended = λ (k : x .status < 2). eqb-true _ _ (c .1);
-      origin = λ (k : 1 ≤ x .status). origin-of server e x (b .1);
+      absent = λ (k : x .status ≡ absentStatus). absurd (omega arith);
+      held = λ (k : x .status ≡ heldStatus). eqb-true _ _ (a .0);
+      given = λ (k : givenStatus ≤ x .status). absurd (omega arith);
+      away = λ (k : givenStatus ≤ x .status). absurd (omega arith);
+      ended = λ (k : givenStatus ≤ x .status). absurd (omega arith);
+      stays = λ (k : x .status < givenStatus). eqb-true _ _ (c .0);
+      unended = λ (k : x .status < givenStatus). eqb-true _ _ (c .1);
+      origin = λ (k : heldStatus ≤ x .status). origin-of server e x (b .1);
     }
 
-given-standing : (server : ℕ) (e : PlanEntry) (x : Point) → 2 ≤ x .status → givenOk server e x ≡ true → Standing server e x
+given-standing : (server : ℕ) (e : PlanEntry) (x : Point) → givenStatus ≤ x .status → givenOk server e x ≡ true → Standing server e x
 unfolding givenOk
 given-standing server e x s h =
     let a = joined-all (eqb (x .moveNumber) (suc (x .takenMove)) ∷ not (eqb (x .destination) server) ∷ ltb (x .takeEnd) (x .giveEnd) ∷ originOk server e x ∷ []) h in
     record {
-      absent = λ (k : x .status ≡ 0). absurd (omega arith);
-      held = λ (k : x .status ≡ 1). absurd (omega arith);
-      given = λ (k : 2 ≤ x .status). eqb-true _ _ (a .0);
-      away = λ (k : 2 ≤ x .status). eqb-no _ _ (not-true _ (a .1 .0));
-      ended = λ (k : 2 ≤ x .status). ltb-true _ _ (a .1 .1 .0);
-      stays = λ (k : x .status < 2). absurd (omega arith);
-      unended = λ (k : x .status < 2). absurd (omega arith);
-      origin = λ (k : 1 ≤ x .status). origin-of server e x (a .1 .1 .1 .0);
+      absent = λ (k : x .status ≡ absentStatus). absurd (omega arith);
+      held = λ (k : x .status ≡ heldStatus). absurd (omega arith);
+      given = λ (k : givenStatus ≤ x .status). eqb-true _ _ (a .0);
+      away = λ (k : givenStatus ≤ x .status). eqb-no _ _ (not-true _ (a .1 .0));
+      ended = λ (k : givenStatus ≤ x .status). ltb-true _ _ (a .1 .1 .0);
+      stays = λ (k : x .status < givenStatus). absurd (omega arith);
+      unended = λ (k : x .status < givenStatus). absurd (omega arith);
+      origin = λ (k : heldStatus ≤ x .status). origin-of server e x (a .1 .1 .1 .0);
     }
 
 -- which status it is
-past-held : (n : ℕ) → n ≢ 0 → n ≢ 1 → 2 ≤ n
+past-held : (n : ℕ) → n ≢ absentStatus → n ≢ heldStatus → givenStatus ≤ n
 past-held n p q = omega arith
 
 standing-of : (server : ℕ) (e : PlanEntry) (x : Point) → statusOk server e x ≡ true → Standing server e x
 unfolding statusOk
-standing-of server e x h = go (eqb (x .status) 0) (eqb (x .status) 1) refl refl h
+standing-of server e x h = go (eqb (x .status) absentStatus) (eqb (x .status) heldStatus) refl refl h
   where
-    go : (b d : Bool) → eqb (x .status) 0 ≡ b → eqb (x .status) 1 ≡ d → pick b (absentOk server e x) (pick d (heldOk server e x) (givenOk server e x)) ≡ true
+    go : (b d : Bool) → eqb (x .status) absentStatus ≡ b → eqb (x .status) heldStatus ≡ d → pick b (absentOk server e x) (pick d (heldOk server e x) (givenOk server e x)) ≡ true
         → Standing server e x
     go true d p q k = absent-standing server e x (eqb-true _ _ p) k
     go false true p q k = held-standing server e x (eqb-true _ _ q) k
@@ -214,12 +214,12 @@ standing-of server e x h = go (eqb (x .status) 0) (eqb (x .status) 1) refl refl 
 
 of-standing : (server : ℕ) (e : PlanEntry) (x : Point) → Standing server e x → statusOk server e x ≡ true
 unfolding statusOk absentOk heldOk givenOk notGiven
-of-standing server e x g = go (eqb (x .status) 0) (eqb (x .status) 1) refl refl
+of-standing server e x g = go (eqb (x .status) absentStatus) (eqb (x .status) heldStatus) refl refl
   where
-    go : (b d : Bool) → eqb (x .status) 0 ≡ b → eqb (x .status) 1 ≡ d
+    go : (b d : Bool) → eqb (x .status) absentStatus ≡ b → eqb (x .status) heldStatus ≡ d
         → pick b (absentOk server e x) (pick d (heldOk server e x) (givenOk server e x)) ≡ true
     go true d p q =
-        let z : x .status ≡ 0 = eqb-true _ _ p in
+        let z : x .status ≡ absentStatus = eqb-true _ _ p in
         let u = g .absent z in
         all-joined (absentTests server e x) (
           not-of-false _ (ne-eqb _ _ (u .home)),
@@ -235,28 +235,28 @@ of-standing server e x g = go (eqb (x .status) 0) (eqb (x .status) 1) refl refl
           ),
         )
     go false true p q =
-        let z : x .status ≡ 1 = eqb-true _ _ q in
+        let z : x .status ≡ heldStatus = eqb-true _ _ q in
         and-both (eqb (x .moveNumber) (x .takenMove)) ((eqb (x .destination) 0 && eqb (x .giveEnd) 0) && originOk server e x) (eq-eqb _ _ (g .held z))
         (and-both (eqb (x .destination) 0 && eqb (x .giveEnd) 0) (originOk server e x)
         (and-both (eqb (x .destination) 0) (eqb (x .giveEnd) 0) (eq-eqb _ _ (g .stays (omega arith))) (eq-eqb _ _ (g .unended (omega arith))))
         (of-origin server e x (g .origin (omega arith))))
     go false false p q =
-        let l : 2 ≤ x .status = past-held (x .status) (eqb-no _ _ p) (eqb-no _ _ q) in
+        let l : givenStatus ≤ x .status = past-held (x .status) (eqb-no _ _ p) (eqb-no _ _ q) in
         all-joined (eqb (x .moveNumber) (suc (x .takenMove)) ∷ not (eqb (x .destination) server) ∷ ltb (x .takeEnd) (x .giveEnd) ∷ originOk server e x ∷ [])
         (eq-eqb _ _ (g .given l), (not-of-false _ (ne-eqb _ _ (g .away l)), (lt-ltb _ _ (g .ended l), (of-origin server e x (g .origin (omega arith)), tt))))
 
 -- the latest taken move is not above the move number
 taken-low : (server : ℕ) (e : PlanEntry) (x : Point) → Standing server e x → x .takenMove ≤ x .moveNumber
-taken-low server e x g = go (eqb (x .status) 0) (eqb (x .status) 1) refl refl
+taken-low server e x g = go (eqb (x .status) absentStatus) (eqb (x .status) heldStatus) refl refl
   where
-    go : (b d : Bool) → eqb (x .status) 0 ≡ b → eqb (x .status) 1 ≡ d → x .takenMove ≤ x .moveNumber
+    go : (b d : Bool) → eqb (x .status) absentStatus ≡ b → eqb (x .status) heldStatus ≡ d → x .takenMove ≤ x .moveNumber
     go true d p q = omega (arith, g .absent (eqb-true _ _ p) .takenMove)
     go false true p q = omega (arith, g .held (eqb-true _ _ q))
     go false false p q = omega (arith, g .given (past-held (x .status) (eqb-no _ _ p) (eqb-no _ _ q)))
 
 abbrev pointTests : ℕ → ℕ → PlanEntry → Point → List Bool
 pointTests server size e x =
-    leb (x .status) 3 ∷ leb (x .quality) lastQuality ∷ leb (x .destination) lastServer ∷ inRange e (x .value) ∷ endOk size (x .giveEnd) ∷ endOk size (x .takeEnd)
+    leb (x .status) releasedStatus ∷ leb (x .quality) lastQuality ∷ leb (x .destination) lastServer ∷ inRange e (x .value) ∷ endOk size (x .giveEnd) ∷ endOk size (x .takeEnd)
     ∷ statusOk server e x ∷ []
 
 pub good-point : (server size : ℕ) (e : PlanEntry) (x : Point) → pointOk server size e x ≡ true → x .moveNumber < word → GoodPoint server size e x
@@ -358,34 +358,34 @@ ascend-test (f ∷ (g ∷ gs)) a =
 pub in-window : (floor call : ℕ) → inWindow floor call ≡ true → InWindow floor call
 unfolding inWindow
 in-window floor call h =
-    let a = split (leb 1 floor) (leb floor call && leb call (floor + 15)) h in
-    let b = split (leb floor call) (leb call (floor + 15)) (a .1) in
+    let a = split (leb 1 floor) (leb floor call && leb call (floor + lastInWindow)) h in
+    let b = split (leb floor call) (leb call (floor + lastInWindow)) (a .1) in
     record { known = leb-true _ _ (a .0); low = leb-true _ _ (b .0); high = leb-true _ _ (b .1) }
 
 pub window-in : (floor call : ℕ) → InWindow floor call → inWindow floor call ≡ true
 unfolding inWindow
 window-in floor call w =
-    and-both (leb 1 floor) (leb floor call && leb call (floor + 15)) (le-leb _ _ (w .known))
-    (and-both (leb floor call) (leb call (floor + 15)) (le-leb _ _ (w .low)) (le-leb _ _ (w .high)))
+    and-both (leb 1 floor) (leb floor call && leb call (floor + lastInWindow)) (le-leb _ _ (w .known))
+    (and-both (leb floor call) (leb call (floor + lastInWindow)) (le-leb _ _ (w .low)) (le-leb _ _ (w .high)))
 
 -- a point whose records stay
 keeps : (x : Point) → keepsRecords x ≡ true → Keeps x
 unfolding keepsRecords isHeld isGiven
-keeps x h = go (eqb (x .status) 1) refl h
+keeps x h = go (eqb (x .status) heldStatus) refl h
   where
-    go : (b : Bool) → eqb (x .status) 1 ≡ b → (b || eqb (x .status) 2) ≡ true → Keeps x
-    go true e k = let z : x .status ≡ 1 = eqb-true _ _ e in record { low = omega arith; high = omega arith }
-    go false e k = let z : x .status ≡ 2 = eqb-true _ _ k in record { low = omega arith; high = omega arith }
+    go : (b : Bool) → eqb (x .status) heldStatus ≡ b → (b || eqb (x .status) givenStatus) ≡ true → Keeps x
+    go true e k = let z : x .status ≡ heldStatus = eqb-true _ _ e in record { low = omega arith; high = omega arith }
+    go false e k = let z : x .status ≡ givenStatus = eqb-true _ _ k in record { low = omega arith; high = omega arith }
 
 keeps-test : (x : Point) → Keeps x → keepsRecords x ≡ true
 unfolding keepsRecords isHeld isGiven
-keeps-test x k = go (eqb (x .status) 1) refl
+keeps-test x k = go (eqb (x .status) heldStatus) refl
   where
-    go : (b : Bool) → eqb (x .status) 1 ≡ b → (b || eqb (x .status) 2) ≡ true
+    go : (b : Bool) → eqb (x .status) heldStatus ≡ b → (b || eqb (x .status) givenStatus) ≡ true
     go true e = refl
     go false e =
-        let n : x .status ≢ 1 = eqb-no _ _ e in
-        let z : x .status ≡ 2 = omega (arith, k .low, k .high) in
+        let n : x .status ≢ heldStatus = eqb-no _ _ e in
+        let z : x .status ≡ givenStatus = omega (arith, k .low, k .high) in
         eq-eqb _ _ z
 
 abbrev completionTests : State → Completion → List Bool

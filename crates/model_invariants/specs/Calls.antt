@@ -18,6 +18,7 @@ use Rattle.model.specs.States.{State, load, sound}
 use Rattle.model.specs.Apply.{replayFrom, withMark}
 use Rattle.model.specs.Decisions.{Decided, onRequest, onFetch, onSync, onNotice, onGive, onImage, onTake, onReceipt, onRelease}
 use Rattle.model.specs.Operations.{After, freeIn, lent, foundOf, requestOf, fetchOf, syncOf, noticeOf, giveOf, imageOf, takeOf, receiptOf, releaseOf, recoverOf}
+use Rattle.model.specs.Refusals.{noRefusal}
 use Rattle.model_laws.specs.Bytes.{Bytes}
 use Rattle.model_laws.specs.Fits.{lastEnd}
 use Rattle.model_invariants.specs.History.{Decides, entryFor, DecidedFrom}
@@ -147,5 +148,5 @@ entriesAfter st es (marks m) = es
 
 -- a recovery from the log's first c bytes was not refused, and left the records that end at or under c
 pub record Recovered (st : State) (es : List Entry) (c : ℕ) (a : After) (log : List ℕ) : Type 0 where
-  pub refusal : a .answer .refusal ≡ 0
+  pub refusal : a .answer .refusal ≡ noRefusal
   pub holds : Holds st (keep (λ (e : Entry). leb (e .end) c) es) (a .state) log

@@ -16,6 +16,7 @@ use Rattle.model.specs.Images.{Image, floorOf}
 use Rattle.model.specs.States.{State, pointAt, held, given}
 use Rattle.model.specs.Apply.{mergeFloors}
 use Rattle.model.specs.Decisions.{requestRefusal}
+use Rattle.model.specs.Choice.{passed}
 use Rattle.model_laws.specs.Bytes.{All}
 use Rattle.model_invariants.specs.Sound.{GoodValues}
 
@@ -26,7 +27,7 @@ Fresh x c rs = All (λ (r : Completion). r .command .client ≡ x → r .command
 -- the request q passes the tests that stand before its id is looked up
 abbrev pub Admits : State → Request → Type 0
 Admits st q =
-    requestRefusal (pointAt st (q .command .point)) (leb (q .lease) (st .heard)) (floorOf (q .command .client) (st .floors)) (q .command .call) ≡ 0
+    requestRefusal (pointAt st (q .command .point)) (leb (q .lease) (st .heard)) (floorOf (q .command .client) (st .floors)) (q .command .call) ≡ passed
 
 -- a request that a server founded with this plan and number executes: the server is the point's home, the lease is not over from the start
 pub record FirstRequest (plan : List PlanEntry) (n : ℕ) (q : Request) : Type 0 where

@@ -18,7 +18,7 @@ use Rattle.model.specs.declared.Notice.{Notice}
 use Rattle.model.specs.declared.Give.{Give}
 use Rattle.model.specs.declared.Release.{Release}
 use Rattle.model.specs.Numbers.{word}
-use Rattle.model.specs.Limits.{lastPoint, lastServer, lastQuality, lastOp, lastInWindow, pointCount, clientCount, recordCount, headSize}
+use Rattle.model.specs.Limits.{lastPoint, lastServer, lastQuality, lastOp, lastInWindow, pointCount, clientCount, recordCount, headSize, invalid}
 use Rattle.model.specs.Plan.{entryAt}
 use Rattle.model.specs.Packets.{commandOk, outcomeOk, requestOk}
 use Rattle.model.specs.Images.{Image, floorOf}
@@ -55,7 +55,7 @@ pub record Origin (server home taken took : ℕ) : Type 0 where
 pub record Untouched (server : ℕ) (e : PlanEntry) (x : Point) : Type 0 where
   pub home : e .home ≢ server
   pub value : x .value ≡ e .fallback
-  pub quality : x .quality ≡ 1
+  pub quality : x .quality ≡ invalid
   pub moveNumber : x .moveNumber ≡ 0
   pub takenMove : x .takenMove ≡ 0
   pub takeEnd : x .takeEnd ≡ 0

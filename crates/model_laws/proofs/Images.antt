@@ -24,7 +24,7 @@ use Rattle.model.specs.Numbers.{byteAt, flip, le32At, le32, signedAt, signed32,
 use Rattle.model.specs.Tables.{rows, everyRow, bytesOf}
 use Rattle.model.specs.Images.{Image, floorOfBytes, floorBytes, imageEntryOf, imageEntryBytes, imageHeadOf, imageAt, imageFramed, imageParts}
 use Rattle.model.specs.Images.{imageHeadOk, entryRowOk, imageTablesOk, imageOk, parseImage, imageLength, imageHeadBytes, imageBytes, imageMagic}
-use Rattle.model.specs.Limits.{leastImage, greatestImage, floorRow, entryRow}
+use Rattle.model.specs.Limits.{leastImage, greatestImage, floorRow, entryRow, partsStart, pointPart}
 use Rattle.model_laws.specs.Bytes.{Bytes}
 use Rattle.model_laws.specs.Codec.{Codec}
 use Rattle.model_laws.specs.Fits.{FloorFits, ImageEntryFits, ImageFits, imageHead, imageWell, IsImage}
@@ -47,8 +47,8 @@ floor-bytes f h = bytes-run (le32 (f .client) ∷ le32 (f .floor) ∷ []) (bytes
 pub floor-take : (s : List ℕ) → floorOfBytes (take floorRow s) ≡ floorOfBytes s
 unfolding floorOfBytes
 floor-take s =
-    let client : le32At (take 8 s) 0 ≡ le32At s 0 = le32-take 8 s 0 (lit≤ tt) in
-    let floor : le32At (take 8 s) 4 ≡ le32At s 4 = le32-take 8 s 4 (lit≤ tt) in
+    let client : le32At (take floorRow s) 0 ≡ le32At s 0 = le32-take floorRow s 0 (lit≤ tt) in
+    let floor : le32At (take floorRow s) 4 ≡ le32At s 4 = le32-take floorRow s 4 (lit≤ tt) in
     λ i. record { client = client i; floor = floor i }
 
 pub floor-at : (f : Floor) (rest : List ℕ) → floorOfBytes (floorBytes f ++ rest) ≡ f
@@ -110,13 +110,13 @@ entry-bytes e h =
 pub entry-take : (s : List ℕ) → imageEntryOf (take entryRow s) ≡ imageEntryOf s
 unfolding imageEntryOf
 entry-take s =
-    let client : le32At (take 20 s) 0 ≡ le32At s 0 = le32-take 20 s 0 (lit≤ tt) in
-    let call : le32At (take 20 s) 4 ≡ le32At s 4 = le32-take 20 s 4 (lit≤ tt) in
-    let argument : signedAt (take 20 s) 8 ≡ signedAt s 8 = signed-take 20 s 8 (lit≤ tt) in
-    let value : signedAt (take 20 s) 12 ≡ signedAt s 12 = signed-take 20 s 12 (lit≤ tt) in
-    let op : byteAt (take 20 s) 16 ≡ byteAt s 16 = getD-take 20 s 16 0 (lit< tt) in
-    let outcome : byteAt (take 20 s) 17 ≡ byteAt s 17 = getD-take 20 s 17 0 (lit< tt) in
-    let quality : byteAt (take 20 s) 18 ≡ byteAt s 18 = getD-take 20 s 18 0 (lit< tt) in
+    let client : le32At (take entryRow s) 0 ≡ le32At s 0 = le32-take entryRow s 0 (lit≤ tt) in
+    let call : le32At (take entryRow s) 4 ≡ le32At s 4 = le32-take entryRow s 4 (lit≤ tt) in
+    let argument : signedAt (take entryRow s) 8 ≡ signedAt s 8 = signed-take entryRow s 8 (lit≤ tt) in
+    let value : signedAt (take entryRow s) 12 ≡ signedAt s 12 = signed-take entryRow s 12 (lit≤ tt) in
+    let op : byteAt (take entryRow s) 16 ≡ byteAt s 16 = getD-take entryRow s 16 0 (lit< tt) in
+    let outcome : byteAt (take entryRow s) 17 ≡ byteAt s 17 = getD-take entryRow s 17 0 (lit< tt) in
+    let quality : byteAt (take entryRow s) 18 ≡ byteAt s 18 = getD-take entryRow s 18 0 (lit< tt) in
     λ i.
     record {
       client = client i;
@@ -128,7 +128,7 @@ entry-take s =
 
 pub entry-test-take : (s : List ℕ) → entryRowOk (take entryRow s) ≡ entryRowOk s
 unfolding entryRowOk
-entry-test-take s = ap (λ (x : ℕ). eqb x 0) (getD-take 20 s 19 0 (lit< tt))
+entry-test-take s = ap (λ (x : ℕ). eqb x 0) (getD-take entryRow s 19 0 (lit< tt))
 
 pub entry-at : (e : ImageEntry) (rest : List ℕ) → ImageEntryFits e → imageEntryOf (imageEntryBytes e ++ rest) ≡ e
 unfolding imageEntryOf imageEntryBytes le32At signedAt
@@ -193,11 +193,11 @@ entryCodec =
 
 -- ---- what was written is read back
 
-over-8 : (n : ℕ) → floorRow * n / 8 ≡ n
-over-8 n = omega arith
+over-floor : (n : ℕ) → floorRow * n / floorRow ≡ n
+over-floor n = omega arith
 
-over-20 : (n : ℕ) → entryRow * n / 20 ≡ n
-over-20 n = omega arith
+over-entry : (n : ℕ) → entryRow * n / entryRow ≡ n
+over-entry n = omega arith
 
 pub image-head-at : (i : Image) (rest : List ℕ) → ImageFits i → imageHeadOf (imageHeadBytes i ++ rest) ≡ imageHead i
 unfolding imageHeadOf imageHeadBytes imageHead le32At signedAt
@@ -208,9 +208,9 @@ image-head-at i rest h =
     let bits : le32At s 40 ≡ flip (i .value) = omega arith in
     let value : flip (le32At s 40) ≡ i .value = ap flip bits ∙ flip-flip (i .value) (h .value) in
     let size : le32At s 28 ≡ floorRow * length (i .floors) = le32-digits (floorRow * length (i .floors)) in
-    let floors : le32At s 28 / 8 ≡ length (i .floors) = ap (λ (x : ℕ). x / 8) size ∙ over-8 (length (i .floors)) in
+    let floors : le32At s 28 / floorRow ≡ length (i .floors) = ap (λ (x : ℕ). x / floorRow) size ∙ over-floor (length (i .floors)) in
     let size' : le32At s 36 ≡ entryRow * length (i .entries) = le32-digits (entryRow * length (i .entries)) in
-    let entries : le32At s 36 / 20 ≡ length (i .entries) = ap (λ (x : ℕ). x / 20) size' ∙ over-20 (length (i .entries)) in
+    let entries : le32At s 36 / entryRow ≡ length (i .entries) = ap (λ (x : ℕ). x / entryRow) size' ∙ over-entry (length (i .entries)) in
     λ j.
     record {
       point = i .point;
@@ -280,13 +280,13 @@ module _ (i : Image) where
         let m : ℕ = length (i .floors) in
         let n : ℕ = length (i .entries) in
         all-joined
-        (eqb (le32At s 16) 40 ∷ eqb (le32At s 20) 8 ∷ eqb (le32At s 24) leastImage ∷ eqb (le32At s 28) (floorRow * m) ∷ eqb (le32At s 32) (leastImage + floorRow * m)
+        (eqb (le32At s 16) partsStart ∷ eqb (le32At s 20) pointPart ∷ eqb (le32At s 24) leastImage ∷ eqb (le32At s 28) (floorRow * m) ∷ eqb (le32At s 32) (leastImage + floorRow * m)
         ∷ eqb (le32At s 36) (entryRow * n) ∷ eqb (length s) (leastImage + floorRow * m + entryRow * n) ∷ []) (
-          eq-eqb (le32At s 16) 40 refl,
+          eq-eqb (le32At s 16) partsStart refl,
           (
-            eq-eqb (le32At s 20) 8 refl,
+            eq-eqb (le32At s 20) pointPart refl,
             (
-              eq-eqb (le32At s 24) 48 refl,
+              eq-eqb (le32At s 24) leastImage refl,
               (
                 eq-eqb (le32At s 28) (floorRow * m) (le32-digits (floorRow * m)),
                 (
@@ -311,7 +311,7 @@ module _ (i : Image) where
         (all-joined
         (leb leastImage (length s) ∷ leb (length s) greatestImage ∷ imageFramed s ∷ imageHeadOk (imageHead i) ∷ imageParts (imageHead i) s
         ∷ everyRow entryRowOk entryRow (length (i .entries)) (drop (leastImage + floorRow * length (i .floors)) s) ∷ imageTablesOk (imageAt (imageHead i) s) ∷ [])
-        (le-leb 48 (length s) (rw image-length image-least), (rw image-length (t .1 .0), (framed, (t .0, (parts, (entry-rows, (rw image-at (t .1 .1 .0), tt))))))))
+        (le-leb leastImage (length s) (rw image-length image-least), (rw image-length (t .1 .0), (framed, (t .0, (parts, (entry-rows, (rw image-at (t .1 .1 .0), tt))))))))
 
     pub image-back : imageWell i ≡ true → parseImage (imageBytes i) ≡ some i
     unfolding parseImage
@@ -331,9 +331,9 @@ image-bytes i ok f =
     let n : ℕ = length (i .entries) in
     bytes-append (imageHeadBytes i) (bytesOf floorBytes (i .floors) ++ bytesOf imageEntryBytes (i .entries))
     (bytes-run
-    (imageMagic ∷ quad (i .point) (i .destination) (i .source) 0 ∷ le32 (i .moveNumber) ∷ le32 (i .heard) ∷ le32 40 ∷ le32 8 ∷ le32 leastImage ∷ le32 (floorRow * m)
+    (imageMagic ∷ quad (i .point) (i .destination) (i .source) 0 ∷ le32 (i .moveNumber) ∷ le32 (i .heard) ∷ le32 partsStart ∷ le32 pointPart ∷ le32 leastImage ∷ le32 (floorRow * m)
     ∷ le32 (leastImage + floorRow * m) ∷ le32 (entryRow * n) ∷ signed32 (i .value) ∷ quad (i .quality) 0 0 0 ∷ []) (
-      bytes-quad 77 86 73 49 (lit< tt) (lit< tt) (lit< tt) (lit< tt),
+      bytes-quad (byteAt imageMagic 0) (byteAt imageMagic 1) (byteAt imageMagic 2) (byteAt imageMagic 3) (lit< tt) (lit< tt) (lit< tt) (lit< tt),
       (
         bytes-quad (i .point) (i .destination) (i .source) 0 (f .point) (f .destination) (f .source) (lit< tt),
         (
@@ -341,11 +341,11 @@ image-bytes i ok f =
           (
             bytes-le32 (i .heard) (f .heard),
             (
-              bytes-le32 40 (lit< tt),
+              bytes-le32 partsStart (lit< tt),
               (
-                bytes-le32 8 (lit< tt),
+                bytes-le32 pointPart (lit< tt),
                 (
-                  bytes-le32 48 (lit< tt),
+                  bytes-le32 leastImage (lit< tt),
                   (
                     bytes-le32 (floorRow * m) (omega arith),
                     (
@@ -393,9 +393,9 @@ tested b e =
 
 -- the numbers of the three parts
 pub record Placed (m n : ℕ) (b : List ℕ) : Type 0 where
-  pub at16 : le32At b 16 ≡ 40
-  pub at20 : le32At b 20 ≡ 8
-  pub at24 : le32At b 24 ≡ 48
+  pub at16 : le32At b 16 ≡ partsStart
+  pub at20 : le32At b 20 ≡ pointPart
+  pub at24 : le32At b 24 ≡ leastImage
   pub at28 : le32At b 28 ≡ floorRow * m
   pub at32 : le32At b 32 ≡ leastImage + floorRow * m
   pub at36 : le32At b 36 ≡ entryRow * n
@@ -407,12 +407,12 @@ placed k b e =
     let m : ℕ = k .floors in
     let n : ℕ = k .entries in
     let t = joined-all
-    (eqb (le32At b 16) 40 ∷ eqb (le32At b 20) 8 ∷ eqb (le32At b 24) leastImage ∷ eqb (le32At b 28) (floorRow * m) ∷ eqb (le32At b 32) (leastImage + floorRow * m)
+    (eqb (le32At b 16) partsStart ∷ eqb (le32At b 20) pointPart ∷ eqb (le32At b 24) leastImage ∷ eqb (le32At b 28) (floorRow * m) ∷ eqb (le32At b 32) (leastImage + floorRow * m)
     ∷ eqb (le32At b 36) (entryRow * n) ∷ eqb (length b) (leastImage + floorRow * m + entryRow * n) ∷ []) e in
     record {
-      at16 = eqb-true (le32At b 16) 40 (t .0);
-      at20 = eqb-true (le32At b 20) 8 (t .1 .0);
-      at24 = eqb-true (le32At b 24) 48 (t .1 .1 .0);
+      at16 = eqb-true (le32At b 16) partsStart (t .0);
+      at20 = eqb-true (le32At b 20) pointPart (t .1 .0);
+      at24 = eqb-true (le32At b 24) leastImage (t .1 .1 .0);
       at28 = eqb-true (le32At b 28) (floorRow * m) (t .1 .1 .1 .0);
       at32 = eqb-true (le32At b 32) (leastImage + floorRow * m) (t .1 .1 .1 .1 .0);
       at36 = eqb-true (le32At b 36) (entryRow * n) (t .1 .1 .1 .1 .1 .0);
@@ -423,9 +423,10 @@ module _ (b : List ℕ) (h : Bytes b) (t : Tested b) where
   found-head : imageHead (imageAt (imageHeadOf b) b) ≡ imageHeadOf b
   unfolding imageHead imageAt imageHeadOf
   found-head =
-      let floors : length (rows floorOfBytes floorRow (le32At b 28 / 8) (drop leastImage b)) ≡ le32At b 28 / 8 = length-rows floorOfBytes 8 (le32At b 28 / 8) (drop leastImage b) in
-      let entries : length (rows imageEntryOf entryRow (le32At b 36 / 20) (drop (leastImage + floorRow * (le32At b 28 / 8)) b)) ≡ le32At b 36 / 20 =
-      length-rows imageEntryOf 20 (le32At b 36 / 20) (drop (leastImage + floorRow * (le32At b 28 / 8)) b) in
+      let floors : length (rows floorOfBytes floorRow (le32At b 28 / floorRow) (drop leastImage b)) ≡ le32At b 28 / floorRow =
+      length-rows floorOfBytes floorRow (le32At b 28 / floorRow) (drop leastImage b) in
+      let entries : length (rows imageEntryOf entryRow (le32At b 36 / entryRow) (drop (leastImage + floorRow * (le32At b 28 / floorRow)) b)) ≡ le32At b 36 / entryRow =
+      length-rows imageEntryOf entryRow (le32At b 36 / entryRow) (drop (leastImage + floorRow * (le32At b 28 / floorRow)) b) in
       λ j.
       record {
         point = byteAt b 4;
@@ -439,21 +440,23 @@ module _ (b : List ℕ) (h : Bytes b) (t : Tested b) where
         entries = entries j;
       }
 
-  head-again : imageHeadBytes (imageAt (imageHeadOf b) b) ≡ take 48 b
+  head-again : imageHeadBytes (imageAt (imageHeadOf b) b) ≡ take leastImage b
   unfolding imageHeadBytes imageAt imageFramed imageHeadOf
   head-again =
-      let m : ℕ = le32At b 28 / 8 in
-      let n : ℕ = le32At b 36 / 20 in
+      let m : ℕ = le32At b 28 / floorRow in
+      let n : ℕ = le32At b 36 / entryRow in
       let p = placed (imageHeadOf b) b (t .parts) in
-      let f = joined-all (eqb (byteAt b 0) 77 ∷ eqb (byteAt b 1) 86 ∷ eqb (byteAt b 2) 73 ∷ eqb (byteAt b 3) 49 ∷ zeroAt b 7 ∷ zeros3At b 45 ∷ []) (t .framed) in
+      let f = joined-all
+      (eqb (byteAt b 0) (byteAt imageMagic 0) ∷ eqb (byteAt b 1) (byteAt imageMagic 1) ∷ eqb (byteAt b 2) (byteAt imageMagic 2) ∷ eqb (byteAt b 3) (byteAt imageMagic 3)
+      ∷ zeroAt b 7 ∷ zeros3At b 45 ∷ []) (t .framed) in
       let z = zeros3-at b 45 (f .1 .1 .1 .1 .1 .0) in
-      let l : leastImage ≤ length b = leb-true 48 (length b) (t .least) in
-      let floors : floorRow * length (rows floorOfBytes floorRow m (drop leastImage b)) ≡ floorRow * m = ap (λ (x : ℕ). floorRow * x) (length-rows floorOfBytes 8 m (drop leastImage b)) in
+      let l : leastImage ≤ length b = leb-true leastImage (length b) (t .least) in
+      let floors : floorRow * length (rows floorOfBytes floorRow m (drop leastImage b)) ≡ floorRow * m = ap (λ (x : ℕ). floorRow * x) (length-rows floorOfBytes floorRow m (drop leastImage b)) in
       let entries : entryRow * length (rows imageEntryOf entryRow n (drop (leastImage + floorRow * m) b)) ≡ entryRow * n = ap (λ (x : ℕ). entryRow * x)
-      (length-rows imageEntryOf 20 n (drop (leastImage + floorRow * m) b)) in
+      (length-rows imageEntryOf entryRow n (drop (leastImage + floorRow * m) b)) in
       part-join b 0 4 44
-      (quad-again b 0 (omega arith) (sym (eqb-true (byteAt b 0) 77 (f .0))) (sym (eqb-true (byteAt b 1) 86 (f .1 .0))) (sym (eqb-true (byteAt b 2) 73 (f .1 .1 .0)))
-      (sym (eqb-true (byteAt b 3) 49 (f .1 .1 .1 .0))))
+      (quad-again b 0 (omega arith) (sym (eqb-true (byteAt b 0) (byteAt imageMagic 0) (f .0))) (sym (eqb-true (byteAt b 1) (byteAt imageMagic 1) (f .1 .0)))
+      (sym (eqb-true (byteAt b 2) (byteAt imageMagic 2) (f .1 .1 .0))) (sym (eqb-true (byteAt b 3) (byteAt imageMagic 3) (f .1 .1 .1 .0))))
       (part-join b 4 4 40 (quad-again b 4 (omega arith) refl refl refl (sym (zero-at b 7 (f .1 .1 .1 .1 .0))))
       (part-join b 8 4 36 (le32-again b 8 h (omega arith))
       (part-join b 12 4 32 (le32-again b 12 h (omega arith))
@@ -461,7 +464,7 @@ module _ (b : List ℕ) (h : Bytes b) (t : Tested b) where
       (part-join b 20 4 24 (le32-is b 20 h (omega arith) (sym (p .at20)))
       (part-join b 24 4 20 (le32-is b 24 h (omega arith) (sym (p .at24)))
       (part-join b 28 4 16 (le32-is b 28 h (omega arith) (floors ∙ sym (p .at28)))
-      (part-join b 32 4 12 (le32-is b 32 h (omega arith) (ap (λ (x : ℕ). 48 + x) floors ∙ sym (p .at32)))
+      (part-join b 32 4 12 (le32-is b 32 h (omega arith) (ap (λ (x : ℕ). leastImage + x) floors ∙ sym (p .at32)))
       (part-join b 36 4 8 (le32-is b 36 h (omega arith) (entries ∙ sym (p .at36)))
       (part-join b 40 4 4 (signed-again b 40 h (omega arith)) (quad-again b 44 (omega arith) refl (sym (z .0)) (sym (z .1)) (sym (z .2)))))))))))))
 
@@ -471,11 +474,11 @@ module _ (b : List ℕ) (h : Bytes b) (t : Tested b) where
       let m : ℕ = imageHeadOf b .floors in
       let n : ℕ = imageHeadOf b .entries in
       let p = placed (imageHeadOf b) b (t .parts) in
-      part-join b 0 48 (floorRow * m + entryRow * n) head-again
-      (part-join b 48 (floorRow * m) (entryRow * n)
-      (rows-again floorCodec m (drop leastImage b) (bytes-drop leastImage b h) (rw length-drop (omega arith)) (everyRow-true 8 m (drop leastImage b)))
+      part-join b 0 leastImage (floorRow * m + entryRow * n) head-again
+      (part-join b leastImage (floorRow * m) (entryRow * n)
+      (rows-again floorCodec m (drop leastImage b) (bytes-drop leastImage b h) (rw length-drop (omega arith)) (everyRow-true floorRow m (drop leastImage b)))
       (rows-again entryCodec n (drop (leastImage + floorRow * m) b) (bytes-drop (leastImage + floorRow * m) b h) (rw length-drop (omega arith)) (t .zero-bytes)))
-      ∙ take-all (48 + (floorRow * m + entryRow * n)) b (omega arith)
+      ∙ take-all (leastImage + (floorRow * m + entryRow * n)) b (omega arith)
 
   found-fits : ImageFits (imageAt (imageHeadOf b) b)
   unfolding imageAt imageHeadOf
@@ -488,8 +491,9 @@ module _ (b : List ℕ) (h : Bytes b) (t : Tested b) where
         heard = le32-below b 12 h;
         value = signed-below b 40;
         quality = h 44;
-        floors = rows-fit floorCodec (le32At b 28 / 8) (drop leastImage b) (bytes-drop leastImage b h) (everyRow-true 8 (le32At b 28 / 8) (drop leastImage b));
-        entries = rows-fit entryCodec (le32At b 36 / 20) (drop (leastImage + floorRow * (le32At b 28 / 8)) b) (bytes-drop (leastImage + floorRow * (le32At b 28 / 8)) b h) (t .zero-bytes);
+        floors = rows-fit floorCodec (le32At b 28 / floorRow) (drop leastImage b) (bytes-drop leastImage b h) (everyRow-true floorRow (le32At b 28 / floorRow) (drop leastImage b));
+        entries = rows-fit entryCodec (le32At b 36 / entryRow) (drop (leastImage + floorRow * (le32At b 28 / floorRow)) b)
+            (bytes-drop (leastImage + floorRow * (le32At b 28 / floorRow)) b h) (t .zero-bytes);
       }
 
   found-well : imageWell (imageAt (imageHeadOf b) b) ≡ true

@@ -49,6 +49,12 @@ use Rattle.model_laws.proofs.Images.{image-length, image-least, image-l
 
 -- ---- the head
 
+-- the tests of a log's head, one by one
+abbrev headTests : List ℕ → List Bool
+headTests s =
+    leb headSize (length s) ∷ eqb (byteAt s 0) (byteAt logMagic 0) ∷ eqb (byteAt s 1) (byteAt logMagic 1) ∷ eqb (byteAt s 2) (byteAt logMagic 2)
+    ∷ eqb (byteAt s 3) (byteAt logMagic 3) ∷ leb (byteAt s 4) lastServer ∷ zeros3At s 5 ∷ []
+
 pub head-server : (n : ℕ) (rest : List ℕ) → headServer (headBytes n ++ rest) ≡ n
 unfolding headServer headBytes
 head-server n rest = refl
@@ -57,40 +63,36 @@ pub head-back : (n : ℕ) (rest : List ℕ) → n ≤ lastServer → headOk (hea
 unfolding headOk headBytes headServer zeros3At
 head-back n rest h =
     let s : List ℕ = headBytes n ++ rest in
-    all-joined
-    (leb headSize (length s) ∷ eqb (byteAt s 0) 87 ∷ eqb (byteAt s 1) 76 ∷ eqb (byteAt s 2) 71 ∷ eqb (byteAt s 3) 49 ∷ leb (headServer s) lastServer ∷ zeros3At s 5 ∷ [])
-    (le-leb 8 (length s) (omega arith), (refl, (refl, (refl, (refl, (le-leb n lastServer h, (refl, tt)))))))
+    all-joined (headTests s)
+    (le-leb headSize (length s) (omega arith), (refl, (refl, (refl, (refl, (le-leb n lastServer h, (refl, tt)))))))
 
-pub head-take : (n : ℕ) (t : List ℕ) (c : ℕ) → headSize ≤ c → take c (headBytes n ++ t) ≡ headBytes n ++ take (c - 8) t
+pub head-take : (n : ℕ) (t : List ℕ) (c : ℕ) → headSize ≤ c → take c (headBytes n ++ t) ≡ headBytes n ++ take (c - headSize) t
 unfolding headBytes
 head-take n t c h =
-    let e : 8 + (c - 8) ≡ c = omega arith in
-    ap (λ (x : ℕ). take x (headBytes n ++ t)) (sym e) ∙ take-append-add (headBytes n) t (c - 8)
+    let e : headSize + (c - headSize) ≡ c = omega arith in
+    ap (λ (x : ℕ). take x (headBytes n ++ t)) (sym e) ∙ take-append-add (headBytes n) t (c - headSize)
 
 pub head-bytes : (n : ℕ) → n < 256 → Bytes (headBytes n)
 unfolding headBytes
 head-bytes n h =
     bytes-run (logMagic ∷ quad n 0 0 0 ∷ [])
-    (bytes-quad 87 76 71 49 (lit< tt) (lit< tt) (lit< tt) (lit< tt), (bytes-quad n 0 0 0 h (lit< tt) (lit< tt) (lit< tt), tt))
+    (bytes-quad (byteAt logMagic 0) (byteAt logMagic 1) (byteAt logMagic 2) (byteAt logMagic 3) (lit< tt) (lit< tt) (lit< tt) (lit< tt), (bytes-quad n 0 0 0 h (lit< tt) (lit< tt) (lit< tt), tt))
 
 pub head-again : (s : List ℕ) → headOk s ≡ true → headBytes (headServer s) ≡ take headSize s
 unfolding headOk headBytes headServer
 head-again s e =
-    let t = joined-all
-    (leb headSize (length s) ∷ eqb (byteAt s 0) 87 ∷ eqb (byteAt s 1) 76 ∷ eqb (byteAt s 2) 71 ∷ eqb (byteAt s 3) 49 ∷ leb (byteAt s 4) lastServer ∷ zeros3At s 5 ∷ []) e in
-    let l : 8 ≤ length s = leb-true 8 (length s) (t .0) in
+    let t = joined-all (headTests s) e in
+    let l : headSize ≤ length s = leb-true headSize (length s) (t .0) in
     let z = zeros3-at s 5 (t .1 .1 .1 .1 .1 .1 .0) in
     part-join s 0 4 4
-    (quad-again s 0 (omega arith) (sym (eqb-true (byteAt s 0) 87 (t .1 .0))) (sym (eqb-true (byteAt s 1) 76 (t .1 .1 .0)))
-    (sym (eqb-true (byteAt s 2) 71 (t .1 .1 .1 .0))) (sym (eqb-true (byteAt s 3) 49 (t .1 .1 .1 .1 .0))))
+    (quad-again s 0 (omega arith) (sym (eqb-true (byteAt s 0) (byteAt logMagic 0) (t .1 .0))) (sym (eqb-true (byteAt s 1) (byteAt logMagic 1) (t .1 .1 .0)))
+    (sym (eqb-true (byteAt s 2) (byteAt logMagic 2) (t .1 .1 .1 .0))) (sym (eqb-true (byteAt s 3) (byteAt logMagic 3) (t .1 .1 .1 .1 .0))))
     (quad-again s 4 (omega arith) refl (sym (z .0)) (sym (z .1)) (sym (z .2)))
 
 pub head-length : (s : List ℕ) → headOk s ≡ true → headSize ≤ length s
 unfolding headOk headServer
 head-length s e =
-    leb-true 8 (length s)
-    (and-left (leb headSize (length s))
-    (eqb (byteAt s 0) 87 && (eqb (byteAt s 1) 76 && (eqb (byteAt s 2) 71 && (eqb (byteAt s 3) 49 && (leb (byteAt s 4) lastServer && zeros3At s 5))))) e)
+    leb-true headSize (length s) (joined-all (headTests s) e .0)
 
 -- ---- records: what was written is read back
 
@@ -191,8 +193,8 @@ take-within s n l g f = step (ltb (length s) takeHead) refl
   where
     step : (b : Bool) → ltb (length s) takeHead ≡ b
         → pick b cut (pick (ltb (le32At s 4) leastImage || ltb greatestImage (le32At s 4)) off (within s (takeHead + le32At s 4))) ≡ within s (takeHead + n)
-    step true e = sym (within-cut s (8 + n) (omega (arith, ltb-true (length s) 8 e)))
-    step false e = rw (f (ltb-false (length s) 8 e), le-ltb n 48 l, le-ltb greatestImage n g)
+    step true e = sym (within-cut s (takeHead + n) (omega (arith, ltb-true (length s) takeHead e)))
+    step false e = rw (f (ltb-false (length s) takeHead e), le-ltb n leastImage l, le-ltb greatestImage n g)
 
 -- the extent of the first j bytes of what begins with a record: its size, or cut where they are fewer
 pub extent-take : (r : LogRecord) (rest : List ℕ) (j : ℕ) → recordOk r ≡ true → 1 ≤ j
@@ -202,7 +204,7 @@ extent-take (executed x) rest j ok h =
     let k : byteAt (take j (executedBytes x ++ rest)) 0 ≡ 1 = getD-take j (executedBytes x ++ rest) 0 0 h ∙ unfold executedBytes in refl in
     rw k
 extent-take (gone n) rest j ok h =
-    let k : byteAt (take j (noticeBytes 2 n ++ rest)) 0 ≡ 2 = getD-take j (noticeBytes 2 n ++ rest) 0 0 h ∙ unfold noticeBytes in refl in
+    let k : byteAt (take j (noticeBytes goneKind n ++ rest)) 0 ≡ goneKind = getD-take j (noticeBytes goneKind n ++ rest) 0 0 h ∙ unfold noticeBytes in refl in
     rw k
 extent-take (gave g) rest j ok h =
     let k : byteAt (take j (giveBytes g ++ rest)) 0 ≡ 3 = getD-take j (giveBytes g ++ rest) 0 0 h ∙ unfold giveBytes in refl in
@@ -263,8 +265,8 @@ pub take-again : (s : List ℕ) (i : Image) → Bytes s → takeHead + le32At s 
 unfolding takeBytes
 take-again s i h b k z e =
     let o = zeros3-at s 1 z in
-    let n : imageLength i ≡ le32At s 4 = sym (image-length i) ∙ ap length e ∙ length-take-le (le32At s 4) (drop 8 s) (rw length-drop (omega arith)) in
-    part-join s 0 8 (le32At s 4)
+    let n : imageLength i ≡ le32At s 4 = sym (image-length i) ∙ ap length e ∙ length-take-le (le32At s 4) (drop takeHead s) (rw length-drop (omega arith)) in
+    part-join s 0 takeHead (le32At s 4)
     (part-join s 0 4 4 (quad-again s 0 (omega arith) (sym k) (sym (o .0)) (sym (o .1)) (sym (o .2))) (le32-is s 4 h (omega arith) n)) e
 
 -- what an extent tells
@@ -352,11 +354,11 @@ module _ (s : List ℕ) (h : Bytes s) (m : ℕ) (ext : extentOf s ≡ spans m) (
   found-took : byteAt s 0 ≡ takeKind → zeros3At s 1 ≡ true → (i : Image) → parseImage (take (le32At s 4) (drop takeHead s)) ≡ some i → IsRecord s m (took i)
   unfolding recordBytes recordSize extentOf
   found-took k t i e =
-      let w : (m ≡ takeHead + le32At s 4) × (8 + le32At s 4 ≤ length s) = take-spans s m (rw k at ext) in
-      let g : IsImage (take (le32At s 4) (drop 8 s)) i =
-      image-is (take (le32At s 4) (drop 8 s)) (bytes-take (le32At s 4) (drop 8 s) (bytes-drop 8 s h)) i e in
+      let w : (m ≡ takeHead + le32At s 4) × (takeHead + le32At s 4 ≤ length s) = take-spans s m (rw k at ext) in
+      let g : IsImage (take (le32At s 4) (drop takeHead s)) i =
+      image-is (take (le32At s 4) (drop takeHead s)) (bytes-take (le32At s 4) (drop takeHead s) (bytes-drop takeHead s h)) i e in
       let n : imageLength i ≡ le32At s 4 =
-      sym (image-length i) ∙ ap length (g .same) ∙ length-take-le (le32At s 4) (drop 8 s) (rw length-drop (omega arith)) in
+      sym (image-length i) ∙ ap length (g .same) ∙ length-take-le (le32At s 4) (drop takeHead s) (rw length-drop (omega arith)) in
       record {
         ok = g .ok;
         fits = g .fits;
@@ -502,7 +504,7 @@ entries-length k (e ∷ es) f =
 
 pub log-length : (n : ℕ) (es : List Entry) → EntriesFrom headSize es → length (headBytes n ++ entriesBytes es) ≡ lastEnd headSize es
 unfolding headBytes
-log-length n es f = omega (arith, entries-length 8 es f)
+log-length n es f = omega (arith, entries-length headSize es f)
 
 pub entries-append : (es fs : List Entry) → entriesBytes (es ++ fs) ≡ entriesBytes es ++ entriesBytes fs
 unfolding entriesBytes
@@ -536,8 +538,8 @@ pub entries-take : (n : ℕ) (es : List Entry) (c : ℕ) → EntriesFrom headSiz
     → entriesOf (take c (headBytes n ++ entriesBytes es)) ≡ some (keep (λ e. leb (e .end) c) es)
 unfolding entriesOf headBytes
 entries-take n es c f h =
-    let j : ℕ = c - 8 in
-    let e : 8 + j ≡ c = omega arith in
+    let j : ℕ = c - headSize in
+    let e : headSize + j ≡ c = omega arith in
     ap entriesOf (head-take n (entriesBytes es) c h)
     ∙ walk-take es (length (headBytes n ++ take j (entriesBytes es))) headSize j f (omega arith)
     ∙ ap (λ (x : ℕ). some (keep (λ q. leb (q .end) x) es)) e
@@ -552,10 +554,10 @@ module _ (log : List ℕ) (n : ℕ) (es : List Entry) (f : EntriesFrom headSize 
   cut-entries = ap entriesOf cut-bytes ∙ entries-take n es c f low
 
   pub cut-server : headServer (take c log) ≡ n
-  cut-server = ap headServer (cut-bytes ∙ head-take n (entriesBytes es) c low) ∙ head-server n (take (c - 8) (entriesBytes es))
+  cut-server = ap headServer (cut-bytes ∙ head-take n (entriesBytes es) c low) ∙ head-server n (take (c - headSize) (entriesBytes es))
 
   pub cut-head : n ≤ lastServer → headOk (take c log) ≡ true
-  cut-head h = ap headOk (cut-bytes ∙ head-take n (entriesBytes es) c low) ∙ head-back n (take (c - 8) (entriesBytes es)) h
+  cut-head h = ap headOk (cut-bytes ∙ head-take n (entriesBytes es) c low) ∙ head-back n (take (c - headSize) (entriesBytes es)) h
 
 -- those entries are the first ones, follow each other, and end at or under the cut
 pub cut-split : (c k : ℕ) (es : List Entry) → EntriesFrom k es → keep (λ e. leb (e .end) c) es ++ keep (λ e. ltb c (e .end)) es ≡ es

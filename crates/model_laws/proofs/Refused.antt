@@ -12,7 +12,7 @@ use mathlib.Core.Bool.{Bool, true, false, false≢true}
 use native.Mathlib.Omega.{arith}
 use lib.Dec.{eqb, ltb}
 use borrow.Author.Tests.{eqb-true, eqb-false, ne-eqb, ltb-false, leb-true, leb-false, not-false}
-use Rattle.model.specs.Choice.{pick, Decision, refuse, append, isPassed, unlessRefused}
+use Rattle.model.specs.Choice.{pick, Decision, refuse, append, isPassed, unlessRefused, passed}
 use Rattle.model_laws.proofs.Tests.{choose}
 
 module _ {R : Type 0} where
@@ -20,36 +20,36 @@ module _ {R : Type 0} where
   unfolding unlessRefused
   unless P n r h = choose P (isPassed n) (λ e. h) (λ e. r n)
 
-  pub unless-passed : (n : ℕ) (d : Decision R) → n ≡ 0 → unlessRefused n d ≡ d
+  pub unless-passed : (n : ℕ) (d : Decision R) → n ≡ passed → unlessRefused n d ≡ d
   unfolding unlessRefused
   unless-passed n d h = rw h
 
-  pub unless-refused : (n : ℕ) (d : Decision R) → (n ≡ 0 → ⊥) → unlessRefused n d ≡ refuse n
+  pub unless-refused : (n : ℕ) (d : Decision R) → (n ≡ passed → ⊥) → unlessRefused n d ≡ refuse n
   unfolding unlessRefused
-  unless-refused n d h = rw (ne-eqb n 0 h)
+  unless-refused n d h = rw (ne-eqb n passed h)
 
   -- a decision that is no refusal
-  pub unless-does : (n : ℕ) (d e : Decision R) → ((k : ℕ) → refuse k ≡ e → ⊥) → unlessRefused n d ≡ e → (n ≡ 0) × (d ≡ e)
+  pub unless-does : (n : ℕ) (d e : Decision R) → ((k : ℕ) → refuse k ≡ e → ⊥) → unlessRefused n d ≡ e → (n ≡ passed) × (d ≡ e)
   unfolding unlessRefused
-  unless-does n d e other = go (eqb n 0) refl
+  unless-does n d e other = go (isPassed n) refl
     where
-      go : (b : Bool) → eqb n 0 ≡ b → pick b d (refuse n) ≡ e → (n ≡ 0) × (d ≡ e)
-      go true k h = (eqb-true n 0 k, h)
+      go : (b : Bool) → isPassed n ≡ b → pick b d (refuse n) ≡ e → (n ≡ passed) × (d ≡ e)
+      go true k h = (eqb-true n passed k, h)
       go false k h = absurd (other n h)
 
-  pub unless-appends : (n : ℕ) (d : Decision R) {r : R} → unlessRefused n d ≡ append r → (n ≡ 0) × (d ≡ append r)
+  pub unless-appends : (n : ℕ) (d : Decision R) {r : R} → unlessRefused n d ≡ append r → (n ≡ passed) × (d ≡ append r)
   unless-appends n d {r} e = unless-does n d (append r) (λ k h. let z : _≡_ {A = ℕ} 0 1 = cc in omega arith) e
 
-  pub unless-if : (n : ℕ) → eqb n 0 ≡ false → (t : Bool) (m : ℕ) (d : Decision R) → unlessRefused (pick t n m) d ≡ pick t (refuse n) (unlessRefused m d)
+  pub unless-if : (n : ℕ) → isPassed n ≡ false → (t : Bool) (m : ℕ) (d : Decision R) → unlessRefused (pick t n m) d ≡ pick t (refuse n) (unlessRefused m d)
   unfolding unlessRefused
   unless-if n z true m d = rw z
   unless-if n z false m d = refl
 
-pub if-passed : (n : ℕ) → eqb n 0 ≡ false → (t : Bool) (m : ℕ) → pick t n m ≡ 0 → (t ≡ false) × (m ≡ 0)
-if-passed n z true m e = absurd (eqb-false n 0 z e)
+pub if-passed : (n : ℕ) → isPassed n ≡ false → (t : Bool) (m : ℕ) → pick t n m ≡ passed → (t ≡ false) × (m ≡ passed)
+if-passed n z true m e = absurd (eqb-false n passed z e)
 if-passed n z false m e = (refl, e)
 
-pub passed-if : (n : ℕ) (t : Bool) (m : ℕ) → t ≡ false → m ≡ 0 → pick t n m ≡ 0
+pub passed-if : (n : ℕ) (t : Bool) (m : ℕ) → t ≡ false → m ≡ passed → pick t n m ≡ passed
 passed-if n t m e h = rw e h
 
 -- ---- tests of any number, one after the other, for `search` to walk down: none is counted or named
@@ -60,19 +60,19 @@ Unless true A = Unit
 Unless false A = A
 
 -- where all are passed, the first one is, and those after it; the types compute at a number that is not 0
-pub passed-first : (t : Bool) (n m : ℕ) → pick t n m ≡ 0 → Unless (eqb n 0) (t ≡ false)
+pub passed-first : (t : Bool) (n m : ℕ) → pick t n m ≡ passed → Unless (isPassed n) (t ≡ false)
 passed-first true n m e = rw e tt
-passed-first false n m e = go (eqb n 0)
+passed-first false n m e = go (isPassed n)
   where
     go : (b : Bool) → Unless b (false ≡ false)
     go true = tt
     go false = refl
 
-pub passed-later : (t : Bool) (n m : ℕ) → pick t n m ≡ 0 → Unless (eqb n 0) (m ≡ 0)
+pub passed-later : (t : Bool) (n m : ℕ) → pick t n m ≡ passed → Unless (isPassed n) (m ≡ passed)
 passed-later true n m e = rw e tt
-passed-later false n m e = go (eqb n 0)
+passed-later false n m e = go (isPassed n)
   where
-    go : (b : Bool) → Unless b (m ≡ 0)
+    go : (b : Bool) → Unless b (m ≡ passed)
     go true = tt
     go false = e
 

@@ -10,7 +10,7 @@
 -- Assumes nothing.
 use Prim.Native.Nat.{ℕ, _+_, _-_, _*_, _≤_, _<_}
 use mathlib.Core.Path.{_≡_, refl, sym, ap, _∙_}
-use mathlib.Core.Bool.{true}
+use mathlib.Core.Bool.{Bool, true}
 use mathlib.Core.List.{List, [], _∷_, _++_, append-assoc}
 use native.Mathlib.Omega.{arith}
 use lib.ListN.{length, take, drop, replicate, length-append, length-drop, length-replicate}
@@ -41,6 +41,14 @@ use Rattle.model_laws.proofs.Tables.{places, every-imp, zeros-back, zer
 use Rattle.model_laws.proofs.Images.{floorCodec}
 use Rattle.model_laws.proofs.Windows.{records-count}
 use Rattle.model_laws.proofs.Plans.{planCodec, plan-length, plan-bytes}
+
+-- the tests of a state's frame, one by one
+abbrev framedTests : List ℕ → List Bool
+framedTests s =
+    eqb (byteAt s 0) (byteAt stateMagic 0) ∷ eqb (byteAt s 1) (byteAt stateMagic 1) ∷ eqb (byteAt s 2) (byteAt stateMagic 2) ∷ eqb (byteAt s 3) (byteAt stateMagic 3)
+    ∷ zeros3At s 5 ∷ eqb (le32At s 20) 0 ∷ leb (clientsIn s) clientCount ∷ leb (recordsIn s) recordCount
+    ∷ zeros (floorRow * (clientCount - clientsIn s)) (drop (floorsStart + floorRow * clientsIn s) s)
+    ∷ zeros (recordRow * (recordCount - recordsIn s)) (drop (recordsStart + recordRow * recordsIn s) s) ∷ []
 
 -- ---- a point's row
 
@@ -321,7 +329,7 @@ module _ (st : State) where
         ∷ padded completionBytes recordRow recordCount (st .records) ∷ []) (
           bytes-run
               (stateMagic ∷ quad (st .server) 0 0 0 ∷ le32 (st .heard) ∷ le32 (length (st .floors)) ∷ le32 (length (st .records)) ∷ quad 0 0 0 0 ∷ le64 (st .size) ∷ le64 (st .mark) ∷ []) (
-                bytes-quad 87 83 84 49 (lit< tt) (lit< tt) (lit< tt) (lit< tt),
+                bytes-quad (byteAt stateMagic 0) (byteAt stateMagic 1) (byteAt stateMagic 2) (byteAt stateMagic 3) (lit< tt) (lit< tt) (lit< tt) (lit< tt),
                 (
                   bytes-quad (st .server) 0 0 0 (f .server) (lit< tt) (lit< tt) (lit< tt),
                   (
@@ -457,10 +465,7 @@ module _ (st : State) where
       framed =
           let b : List ℕ = stateBytes st ++ rest in
           let h = head-framed in
-          all-joined
-          (eqb (byteAt b 0) 87 ∷ eqb (byteAt b 1) 83 ∷ eqb (byteAt b 2) 84 ∷ eqb (byteAt b 3) 49 ∷ zeros3At b 5 ∷ eqb (le32At b 20) 0 ∷ leb (clientsIn b) clientCount ∷ leb (recordsIn b) recordCount
-          ∷ zeros (floorRow * (clientCount - clientsIn b)) (drop (floorsStart + floorRow * clientsIn b) b)
-          ∷ zeros (recordRow * (recordCount - recordsIn b)) (drop (recordsStart + recordRow * recordsIn b) b) ∷ []) (
+          all-joined (framedTests b) (
             h .0,
             (
               h .1,
@@ -520,16 +525,13 @@ unfolding sound stateFramed
 sound-is s e =
     let t = joined-all
     (leb stateEnd (length s) ∷ stateFramed s ∷ everyRow planRowOk planRow pointCount (drop stateHead s) ∷ everyRow pointRowOk pointRow pointCount (drop pointsStart s) ∷ stateOk (load s) ∷ []) e in
-    let u = joined-all
-    (eqb (byteAt s 0) 87 ∷ eqb (byteAt s 1) 83 ∷ eqb (byteAt s 2) 84 ∷ eqb (byteAt s 3) 49 ∷ zeros3At s 5 ∷ eqb (le32At s 20) 0 ∷ leb (clientsIn s) clientCount ∷ leb (recordsIn s) recordCount
-    ∷ zeros (floorRow * (clientCount - clientsIn s)) (drop (floorsStart + floorRow * clientsIn s) s)
-    ∷ zeros (recordRow * (recordCount - recordsIn s)) (drop (recordsStart + recordRow * recordsIn s) s) ∷ []) (t .1 .0) in
+    let u = joined-all (framedTests s) (t .1 .0) in
     record {
       long = leb-true stateEnd (length s) (t .0);
-      at0 = eqb-true (byteAt s 0) 87 (u .0);
-      at1 = eqb-true (byteAt s 1) 83 (u .1 .0);
-      at2 = eqb-true (byteAt s 2) 84 (u .1 .1 .0);
-      at3 = eqb-true (byteAt s 3) 49 (u .1 .1 .1 .0);
+      at0 = eqb-true (byteAt s 0) (byteAt stateMagic 0) (u .0);
+      at1 = eqb-true (byteAt s 1) (byteAt stateMagic 1) (u .1 .0);
+      at2 = eqb-true (byteAt s 2) (byteAt stateMagic 2) (u .1 .1 .0);
+      at3 = eqb-true (byteAt s 3) (byteAt stateMagic 3) (u .1 .1 .1 .0);
       at5 = u .1 .1 .1 .1 .0;
       at20 = eqb-true (le32At s 20) 0 (u .1 .1 .1 .1 .1 .0);
       few-clients = leb-true (clientsIn s) clientCount (u .1 .1 .1 .1 .1 .1 .0);
@@ -548,28 +550,25 @@ is-sound s d =
     (leb stateEnd (length s) ∷ stateFramed s ∷ everyRow planRowOk planRow pointCount (drop stateHead s) ∷ everyRow pointRowOk pointRow pointCount (drop pointsStart s) ∷ stateOk (load s) ∷ []) (
       le-leb stateEnd (length s) (d .long),
       (
-        all-joined
-            (eqb (byteAt s 0) 87 ∷ eqb (byteAt s 1) 83 ∷ eqb (byteAt s 2) 84 ∷ eqb (byteAt s 3) 49 ∷ zeros3At s 5 ∷ eqb (le32At s 20) 0 ∷ leb (clientsIn s) clientCount ∷ leb (recordsIn s) recordCount
-            ∷ zeros (floorRow * (clientCount - clientsIn s)) (drop (floorsStart + floorRow * clientsIn s) s)
-            ∷ zeros (recordRow * (recordCount - recordsIn s)) (drop (recordsStart + recordRow * recordsIn s) s) ∷ []) (
-              eq-eqb (byteAt s 0) 87 (d .at0),
+        all-joined (framedTests s) (
+          eq-eqb (byteAt s 0) (byteAt stateMagic 0) (d .at0),
+          (
+            eq-eqb (byteAt s 1) (byteAt stateMagic 1) (d .at1),
+            (
+              eq-eqb (byteAt s 2) (byteAt stateMagic 2) (d .at2),
               (
-                eq-eqb (byteAt s 1) 83 (d .at1),
+                eq-eqb (byteAt s 3) (byteAt stateMagic 3) (d .at3),
                 (
-                  eq-eqb (byteAt s 2) 84 (d .at2),
+                  d .at5,
                   (
-                    eq-eqb (byteAt s 3) 49 (d .at3),
-                    (
-                      d .at5,
-                      (
-                        eq-eqb (le32At s 20) 0 (d .at20),
-                        (le-leb (clientsIn s) clientCount (d .few-clients), (le-leb (recordsIn s) recordCount (d .few-records), (d .past-clients, (d .past-records, tt)))),
-                      ),
-                    ),
+                    eq-eqb (le32At s 20) 0 (d .at20),
+                    (le-leb (clientsIn s) clientCount (d .few-clients), (le-leb (recordsIn s) recordCount (d .few-records), (d .past-clients, (d .past-records, tt)))),
                   ),
                 ),
               ),
             ),
+          ),
+        ),
         (d .plan-rows, (d .point-rows, (d .state, tt))),
       ),
     )

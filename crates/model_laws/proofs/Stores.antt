@@ -153,7 +153,7 @@ module _ (s : List ℕ) (st : State) (m n : ℕ) (fs rs : List ℕ) where
     layout-length = simp (length-append, head-length, plan-length (st .plan) p64) (omega arith)
 
     point-set : (p : ℕ) (x : Point) → p < length (st .points)
-        → headWith st m n ++ (planBytes (st .plan) ++ (written (bytesOf pointBytes (st .points)) (32 * p) (pointBytes x) ++ (fs ++ rs))) ≡ layout (withPoint p x st) m n fs rs
+        → headWith st m n ++ (planBytes (st .plan) ++ (written (bytesOf pointBytes (st .points)) (pointRow * p) (pointBytes x) ++ (fs ++ rs))) ≡ layout (withPoint p x st) m n fs rs
     unfolding layout headWith withPoint
     point-set p x h = rw (bytesOf-set pointCodec (st .points) p x h)
 
@@ -170,13 +170,13 @@ module _ (s : List ℕ) (st : State) (m n : ℕ) (fs rs : List ℕ) where
         )
 
     pub put-point : (p : ℕ) (x : Point) → p < length (st .points)
-        → written (written s 0 (layout st m n fs rs)) (pointsStart + 32 * p) (pointBytes x) ≡ written s 0 (layout (withPoint p x st) m n fs rs)
+        → written (written s 0 (layout st m n fs rs)) (pointsStart + pointRow * p) (pointBytes x) ≡ written s 0 (layout (withPoint p x st) m n fs rs)
     put-point p x h =
-        let size : length (pointBytes x) ≡ 32 = point-width x in
-        let all : length (bytesOf pointBytes (st .points)) ≡ 32 * length (st .points) = length-bytesOf pointCodec (st .points) in
-        let fits : 32 * p + length (pointBytes x) ≤ length (bytesOf pointBytes (st .points)) = omega arith in
-        nested-front s (layout st m n fs rs) (pointsStart + 32 * p) (pointBytes x) (rw layout-length (omega arith))
-        ∙ ap (λ (y : List ℕ). written s 0 y) (in-points (32 * p) (pointBytes x) fits ∙ point-set p x h)
+        let size : length (pointBytes x) ≡ pointRow = point-width x in
+        let all : length (bytesOf pointBytes (st .points)) ≡ pointRow * length (st .points) = length-bytesOf pointCodec (st .points) in
+        let fits : pointRow * p + length (pointBytes x) ≤ length (bytesOf pointBytes (st .points)) = omega arith in
+        nested-front s (layout st m n fs rs) (pointsStart + pointRow * p) (pointBytes x) (rw layout-length (omega arith))
+        ∙ ap (λ (y : List ℕ). written s 0 y) (in-points (pointRow * p) (pointBytes x) fits ∙ point-set p x h)
 
     -- bytes of the two tables
     module _ (x64 : length (st .points) ≡ pointCount) where

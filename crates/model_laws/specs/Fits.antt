@@ -30,7 +30,7 @@ use Rattle.model.specs.Logs.{LogRecord, executed, gone, gave, took, released, e
 use Rattle.model.specs.Plan.{planEntryOk, planRowOk}
 use Rattle.model.specs.Tables.{everyRow, zeros}
 use Rattle.model.specs.States.{State, stateHead, recordRow, pointRow, pointsStart, floorsStart, recordsStart, stateEnd, clientsIn, recordsIn, load, pointRowOk, stateOk}
-use Rattle.model.specs.Limits.{greatestImage, pointCount, clientCount, recordCount, planRow, floorRow}
+use Rattle.model.specs.Limits.{greatestImage, pointCount, clientCount, recordCount, planRow, floorRow, requestKind, resultKind, refusalKind, receiptKind, noticeKind, grantKind}
 use Rattle.model_laws.specs.Bytes.{All}
 use Rattle.model.specs.Packets.{requestOk, resultOk, refusalOk, receiptOk, noticeOk, grantOk, packetBytes}
 
@@ -94,12 +94,12 @@ packetOk (Granted g) = grantOk g
 -- the kind, 0 for none
 abbrev pub kindOf : Packet → ℕ
 kindOf Malformed = 0
-kindOf (Requested q) = 1
-kindOf (Resulted r) = 2
-kindOf (Refused r) = 3
-kindOf (Receipted r) = 4
-kindOf (Noticed n) = 5
-kindOf (Granted g) = 6
+kindOf (Requested q) = requestKind
+kindOf (Resulted r) = resultKind
+kindOf (Refused r) = refusalKind
+kindOf (Receipted r) = receiptKind
+kindOf (Noticed n) = noticeKind
+kindOf (Granted g) = grantKind
 
 -- p is a well-formed packet, and b are its bytes
 pub record IsPacket (b : List ℕ) (p : Packet) : Type 0 where

@@ -24,7 +24,7 @@ use Rattle.model.specs.Plan.{planOk, planOf}
 use Rattle.model.specs.Apply.{founded}
 use Rattle.model.specs.Packets.{parsePacket, asRequest, asReceipt, asNotice}
 use Rattle.model.specs.Images.{parseImage, floorOf}
-use Rattle.model.specs.States.{State, pointAt}
+use Rattle.model.specs.States.{State, pointAt, held}
 use Rattle.model.specs.Decisions.{Decided, orMalformed, find, onHeld, onNew, onId, decideRequest, denying, onRequest, onFetched, onFetch, onSync, decideNotice, onNotice, onGive, onImage, decideTake, onTake, onReceipt, decideRelease, onRelease}
 use Rattle.model_laws.proofs.Packets.{request-of, receipt-of, notice-of}
 use Rattle.model_laws.proofs.Refused.{unless-passed}
@@ -70,7 +70,7 @@ module _ (st : State) (free : ℕ) where
       P d = Shows st free (Calls.request v b) (denying q d)
 
       id : (o : Option Completion) → find (q .command .client) (q .command .call) (st .records) ≡ o
-          → (pointAt st (q .command .point) .status ≡ 1) × (leb (q .lease) (st .heard) ≡ false) × (floorOf (q .command .client) (st .floors) ≤ q .command .call)
+          → (pointAt st (q .command .point) .status ≡ held) × (leb (q .lease) (st .heard) ≡ false) × (floorOf (q .command .client) (st .floors) ≤ q .command .call)
           → decideRequest v st free q ≡ onId v st free q (find (q .command .client) (q .command .call) (st .records)) → P (onId v st free q o)
       id none f t e =
           passes P _ _ (λ k n. (n, (_, refl)))

@@ -53,6 +53,7 @@ use Rattle.model.specs.declared.LeaseManager.{LeaseManager}
 use Rattle.model.specs.declared.LeaseAnswer.{LeaseAnswer}
 use Rattle.model.specs.declared.Told.the-variants.{ByGrant, ByNotice}
 use Rattle.model.specs.Leases.{timeAt, runningAt, leaseEnd, extended, manager, notTold, granted, toldBytes}
+use Rattle.model.specs.Limits.{noticeKind, last32}
 use Rattle.leases.specs.WellFormed.{WellFormed as WellManaged, LeaseCall, givenTime, answerOf}
 use Rattle.leases.proofs.Kept.{Exit, call-exit, call-well, grant-within, notice-gone}
 use Rattle.leases.proofs.Kept as Kept
@@ -238,7 +239,7 @@ module _ {plan : List PlanEntry} {w : World} {v : W.World} (l : WorldLike plan w
         go none f = idle-step l (R.start n) (rw f) tt
         go (some b) f = starts b f (parsePacket b) refl
 
-module _ {m : LeaseManager} (k : WellManaged m) (c : LeaseCall) (h : givenTime c ≤ 4294967295) {M : S.Packet → Type 0} where
+module _ {m : LeaseManager} (k : WellManaged m) (c : LeaseCall) (h : givenTime c ≤ last32) {M : S.Packet → Type 0} where
   grant-like : (g : Grant) → answerOf m c .answer ≡ ByGrant g → M (S.grant (g .client) (g .lease)) → PacketLike M (grantBytes g)
   unfolding packetBytes grantOk Means
   grant-like g e made =
@@ -246,7 +247,7 @@ module _ {m : LeaseManager} (k : WellManaged m) (c : LeaseCall) (h : givenTime c
       let f : GrantFits g = record { client = omega (arith, b .1); lease = omega (arith, b .2) } in
       like-packet (Granted g) (record { ok = le-leb 1 (g .client) (b .0); fits = f; same = refl }) (b .0, f, made)
 
-  notice-like : (n : Notice) → answerOf m c .answer ≡ ByNotice n → M (S.notice (n .client) (n .time)) → PacketLike M (noticeBytes 5 n)
+  notice-like : (n : Notice) → answerOf m c .answer ≡ ByNotice n → M (S.notice (n .client) (n .time)) → PacketLike M (noticeBytes noticeKind n)
   unfolding packetBytes noticeOk Means
   notice-like n e made =
       let b = notice-gone k c n e in
@@ -256,7 +257,7 @@ module _ {m : LeaseManager} (k : WellManaged m) (c : LeaseCall) (h : givenTime c
       (record { ok = b .0 .from; client = f .client; time = f .time }, made)
 
 module _ {plan : List PlanEntry} {w : World} {v : W.World} (l : WorldLike plan w v) where
-  module _ (e : Event) (c : LeaseCall) (h : givenTime c ≤ 4294967295) (s : step w e ≡ told (answerOf (w .manager) c) w) (q : Quiet w e) where
+  module _ (e : Event) (c : LeaseCall) (h : givenTime c ≤ last32) (s : step w e ≡ told (answerOf (w .manager) c) w) (q : Quiet w e) where
     abbrev a : LeaseAnswer
     a = answerOf (w .manager) c
 

@@ -32,7 +32,7 @@ use Rattle.model.specs.Sequential.{ResultZ, readingMeant, resultMeant}
 use Rattle.model.specs.Packets.{commandOk, outcomeOk, idOk, requestOk, resultOk, resultBytes, receiptOk, receiptBytes, packetBytes}
 use Rattle.model.specs.Images.{idBefore, imageBytes, floorOf}
 use Rattle.model.specs.Logs.{LogRecord, executed}
-use Rattle.model.specs.States.{State, pointAt, held, given, isId}
+use Rattle.model.specs.States.{State, pointAt, held, given, isId, releasedStatus}
 use Rattle.model.specs.Decisions.{find, resultOfRecord, resultFor, executedFor, isOnPoint, entryOfRecord, insertEntry, sortEntries, imageFor}
 use Rattle.format_commands.proofs.Meaning.{rule-tie}
 use Rattle.model_laws.specs.Bytes.{All}
@@ -70,9 +70,9 @@ module _ (zs : List Pair) (x : Point) (y : S.Point) (P : PointLike zs x y) where
 
   not-held : x .status ≢ held → y .holding ≡ S.held → ⊥
   unfolding holdingOf
-  not-held n e = go (eqb (x .status) 1) refl (eqb (x .status) 2) (eqb (x .status) 3) (sym (P .holding) ∙ e)
+  not-held n e = go (eqb (x .status) held) refl (eqb (x .status) given) (eqb (x .status) releasedStatus) (sym (P .holding) ∙ e)
     where
-      go : (a : Bool) → eqb (x .status) 1 ≡ a → (b c : Bool)
+      go : (a : Bool) → eqb (x .status) held ≡ a → (b c : Bool)
           → pick a S.held (pick b (S.given (x .destination) (placeOf zs (x .giveEnd))) (pick c S.released S.absent)) ≡ S.held → ⊥
       go true q b c k = n (eqb-true _ _ q)
       go false q true c k = let z : _≡_ {A = ℕ} 0 1 = cc in omega arith

@@ -21,7 +21,7 @@ use Rattle.model.specs.Limits.{lastPoint, lastServer, headSize}
 use Rattle.model.specs.Plan.{entryAt, noEntry}
 use Rattle.model.specs.Sequential.{readingMeant, entryZ, opened}
 use Rattle.model.specs.Logs.{LogRecord, executed, gone, gave, took, released, recordSize}
-use Rattle.model.specs.States.{State, pointAt, noPoint}
+use Rattle.model.specs.States.{State, pointAt, noPoint, absent, held, given, releasedStatus}
 use Rattle.model.specs.Apply.{applyRecord, applyExecuted, applyGone, applyGave, applyTook, applyReleased, apply, foundedPoint, founded, replayFrom, replay, withMark}
 use Rattle.model.specs.Operations.{recovered}
 use Rattle.model_laws.proofs.Logs.{record-least}
@@ -65,7 +65,7 @@ unfolding foundedPoint S.foundedPoint holdingOf placeOf readingOf readingMeant o
 founded-point plan c p = record { holding = holding (eqb (entryAt plan p .home) c); move = refl; taken = refl; value = refl }
   where
     holding : (b : Bool) → pick b S.held S.absent
-        ≡ pick (eqb (pick b 1 0) 1) S.held (pick (eqb (pick b 1 0) 2) (S.given 0 0) (pick (eqb (pick b 1 0) 3) S.released S.absent))
+        ≡ pick (eqb (pick b held absent) held) S.held (pick (eqb (pick b held absent) given) (S.given 0 0) (pick (eqb (pick b held absent) releasedStatus) S.released S.absent))
     holding true = refl
     holding false = refl
 

@@ -19,7 +19,7 @@ use Rattle.model.specs.Sequential.{ReadingZ, readingMeant, resultMeant}
 use Rattle.model.specs.Images.{Image}
 use Rattle.model.specs.Logs.{LogRecord, Entry, recordSize}
 use Rattle.model.specs.Logs as Logs
-use Rattle.model.specs.States.{State, pointAt}
+use Rattle.model.specs.States.{State, pointAt, held, given, releasedStatus}
 use Rattle.proof_protocol.specs.Servers as S
 use lib.ListN.{length, drop}
 use Rattle.model.specs.declared.PlanEntry.{PlanEntry}
@@ -84,9 +84,9 @@ completionOf zs r =
 -- by the status: 1 held, 2 given, 3 released, else absent
 unfoldable pub holdingOf : List Pair → Point → S.Holding
 holdingOf zs x =
-    pick (eqb (x .status) 1) S.held
-    (pick (eqb (x .status) 2) (S.given (x .destination) (placeOf zs (x .giveEnd)))
-    (pick (eqb (x .status) 3) S.released S.absent))
+    pick (eqb (x .status) held) S.held
+    (pick (eqb (x .status) given) (S.given (x .destination) (placeOf zs (x .giveEnd)))
+    (pick (eqb (x .status) releasedStatus) S.released S.absent))
 
 pub record PointLike (zs : List Pair) (x : Point) (y : S.Point) : Type 0 where
   pub holding : y .holding ≡ holdingOf zs x

@@ -38,6 +38,7 @@ use Rattle.model.specs.States.{State, load, stateBytes, stateEnd, pointAt, noPo
 use Rattle.model.specs.Apply.{raise, staysOver, completion, executedPoint, applyExecuted, applyRecord, withMark}
 use Rattle.model.specs.Decisions.{Decided, orMalformed, find, sameCommand, resultOfRecord, heldRefusal, onHeld, executedFor, newRefusal, onNew, onId, decideRequest, denying, onRequest, syncRefusal, onSync}
 use Rattle.model.specs.Operations.{After, answerOf, after, short, unfit, freeIn, stored, settle, lentRefusal, lent, requestOf, syncOf}
+use Rattle.model.specs.Refusals.{noRefusal}
 use Rattle.model_laws.specs.Bytes.{Bytes}
 use Rattle.model_laws.proofs.Tests.{choose, and-both, joined-all}
 use Rattle.model_laws.proofs.Refused.{unless, unless-passed}
@@ -173,7 +174,7 @@ module _ {state log out : List ℕ} (R : Ready state log out) where
   marked-sound : Sound (withMark (st .size) st)
   marked-sound = let S = ready-sound in sound-mark st (st .size) S (S .mark) (omega arith)
 
-  pub sync-all : syncOf state log (st .size) ≡ after (answerOf 0 0) (stored state (withMark (st .size) st)) log []
+  pub sync-all : syncOf state log (st .size) ≡ after (answerOf noRefusal 0) (stored state (withMark (st .size) st)) log []
   unfolding settle
   sync-all = sync-is (st .size) ∙ ap (settle state log []) (sync-marks st ready-sound)
 
@@ -188,19 +189,19 @@ module _ {state log out : List ℕ} (R : Ready state log out) where
 
   pub request-held : (b : List ℕ) (q : Request) → parsePacket b ≡ Requested q → (r : Completion) → find (q .command .client) (q .command .call) (st .records) ≡ some r
       → sameCommand r q ≡ true → Admits st q → r .end ≤ st .mark
-      → requestOf today state log b out ≡ after (answerOf 0 resultSize) state log (written out 0 (resultBytes (resultOfRecord r)))
+      → requestOf today state log b out ≡ after (answerOf noRefusal resultSize) state log (written out 0 (resultBytes (resultOfRecord r)))
   unfolding settle denying
   request-held b q e r f same a m =
       request-is b q e
       ∙ ap (λ (d : Decided). settle state log out (denying q d)) (held-replies st free q r a f same m)
-      ∙ ap (λ (n : ℕ). after (answerOf 0 n) state log (written out 0 (resultBytes (resultOfRecord r)))) (result-length r)
+      ∙ ap (λ (n : ℕ). after (answerOf noRefusal n) state log (written out 0 (resultBytes (resultOfRecord r)))) (result-length r)
 
   abbrev IsReply : Request → Decided → Type 0
   IsReply q d =
-      settle state log out (denying q d) .answer ≡ answerOf 0 resultSize
+      settle state log out (denying q d) .answer ≡ answerOf noRefusal resultSize
       → (r : Completion) × (find (q .command .client) (q .command .call) (st .records) ≡ some r) × (sameCommand r q ≡ true) × (d ≡ reply (resultBytes (resultOfRecord r)))
 
-  other-size : (n k : ℕ) → k < resultSize → answerOf n k ≡ answerOf 0 resultSize → ⊥
+  other-size : (n k : ℕ) → k < resultSize → answerOf n k ≡ answerOf noRefusal resultSize → ⊥
   other-size n k h e = let z : k ≡ resultSize = ap (λ (x : Answer). x .wrote) e in omega arith
 
   no-reply : (q : Request) (n : ℕ) → IsReply q (refuse n)
@@ -220,11 +221,11 @@ module _ {state log out : List ℕ} (R : Ready state log out) where
   is-reply q = unless (IsReply q) _ (no-reply q) (reply-id q (find (q .command .client) (q .command .call) (st .records)) refl)
 
   -- the record whose packet it is, held with the same command
-  pub request-replied : (b : List ℕ) (q : Request) → parsePacket b ≡ Requested q → requestOf today state log b out .answer ≡ answerOf 0 resultSize
+  pub request-replied : (b : List ℕ) (q : Request) → parsePacket b ≡ Requested q → requestOf today state log b out .answer ≡ answerOf noRefusal resultSize
       → (r : Completion)
       × (find (q .command .client) (q .command .call) (st .records) ≡ some r)
       × (sameCommand r q ≡ true)
-      × (requestOf today state log b out ≡ after (answerOf 0 resultSize) state log (written out 0 (resultBytes (resultOfRecord r))))
+      × (requestOf today state log b out ≡ after (answerOf noRefusal resultSize) state log (written out 0 (resultBytes (resultOfRecord r))))
   unfolding settle denying
   request-replied b q e z =
       let k = is-reply q (ap (λ (a : After). a .answer) (sym (request-is b q e)) ∙ z) in
@@ -234,15 +235,15 @@ module _ {state log out : List ℕ} (R : Ready state log out) where
         k .2,
         request-is b q e
             ∙ ap (λ (d : Decided). settle state log out (denying q d)) (k .3)
-            ∙ ap (λ (n : ℕ). after (answerOf 0 n) state log (written out 0 (resultBytes (resultOfRecord r)))) (result-length r),
+            ∙ ap (λ (n : ℕ). after (answerOf noRefusal n) state log (written out 0 (resultBytes (resultOfRecord r)))) (result-length r),
       )
 
   -- ---- an answer without number or packet
 
   abbrev IsAppended : Request → Decided → Type 0
-  IsAppended q d = settle state log out (denying q d) .answer ≡ answerOf 0 0 → (r : LogRecord) × (d ≡ append r)
+  IsAppended q d = settle state log out (denying q d) .answer ≡ answerOf noRefusal 0 → (r : LogRecord) × (d ≡ append r)
 
-  not-made : (n k : ℕ) → 1 ≤ k → answerOf n k ≡ answerOf 0 0 → ⊥
+  not-made : (n k : ℕ) → 1 ≤ k → answerOf n k ≡ answerOf noRefusal 0 → ⊥
   not-made n k h e = let z : k ≡ 0 = ap (λ (x : Answer). x .wrote) e in omega arith
 
   denied : (q : Request) (n : ℕ) → IsAppended q (refuse n)
@@ -258,7 +259,7 @@ module _ {state log out : List ℕ} (R : Ready state log out) where
   unfolding decideRequest
   is-appended q = unless (IsAppended q) _ (denied q) (by-id q (find (q .command .client) (q .command .call) (st .records)))
 
-  module _ (b : List ℕ) (q : Request) (A : Asks b q) (zero : requestOf today state log b out .answer ≡ answerOf 0 0) where
+  module _ (b : List ℕ) (q : Request) (A : Asks b q) (zero : requestOf today state log b out .answer ≡ answerOf noRefusal 0) where
     abbrev x : Executed
     x = executedFor today st q
 
@@ -282,7 +283,7 @@ module _ {state log out : List ℕ} (R : Ready state log out) where
     pub executed-terms : (st .heard < q .lease) × (executedSize ≤ free)
     executed-terms = request-terms today st free q (executed x) executed-decided
 
-    pub executed-result : requestOf today state log b out ≡ after (answerOf 0 0) (stored state new) (written log (st .size) (recordBytes (executed x))) out
+    pub executed-result : requestOf today state log b out ≡ after (answerOf noRefusal 0) (stored state new) (written log (st .size) (recordBytes (executed x))) out
     unfolding settle denying applyRecord recordSize
     executed-result = request-is b q (A .parsed) ∙ ap (λ (d : Decided). settle state log out (denying q d)) executed-decided
 

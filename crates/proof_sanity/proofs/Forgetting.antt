@@ -27,6 +27,7 @@ use Rattle.model.specs.Apply.{foundedPoint, founded}
 use Rattle.model.specs.Versions.{Version, today}
 use Rattle.model.specs.Sequential.{OrderEntry, single, parts, bookWith, markedBy, Marked, ReadingZ, Book, readingMeant, opened, bookAfter, entered, answerZ, afterZ, ruleZ, setZ, inRangeZ, entryZ}
 use Rattle.model.specs.Yard.{yardPlan}
+use Rattle.model.specs.Limits.{valid, invalid}
 use Rattle.claim.specs.World.{sync, nothing, crashed, run, after}
 use Rattle.claim.specs.Provisos.{lengthOf, At, Provisos}
 use Rattle.claim.specs.Claim.{readingAt, Executes, SurvivesAt, SurvivesBy, HolderBy, ExplainedBy}
@@ -73,7 +74,7 @@ only-setting n c k E =
 
 -- value 40, quality 0
 abbrev isSet : ReadingZ
-isSet = readingMeant (record { value = half + 40; quality = 0 })
+isSet = readingMeant (record { value = half + 40; quality = valid })
 
 entered-set : (b : Book) (v : Version) → entered (planOf yardPlan) b (record { version = v; command = setting }) 5 ≡ isSet
 unfolding yardPlan rows bytesOf flip le32At signedAt planEntryOf planEntryBytes planOf planBytes entryAt signed readingMeant entered answerZ afterZ ruleZ setZ inRangeZ entryZ
@@ -144,7 +145,7 @@ crash-holder =
       home = λ z. at-home;
     }
 
-quality-lost : readingMeant (readingAt (pointAt (founded (planOf yardPlan) 0) 5)) .quality ≡ 1
+quality-lost : readingMeant (readingAt (pointAt (founded (planOf yardPlan) 0) 5)) .quality ≡ invalid
 unfolding yardPlan rows bytesOf flip le32At signedAt planEntryOf planEntryBytes planOf planBytes readingMeant readingAt pointAt founded foundedPoint
 quality-lost = refl
 

@@ -16,7 +16,7 @@ use mathlib.Core.List.{[], _∷_}
 use Rattle.model.specs.Versions.{today}
 use Rattle.model.specs.Sequential.{markedBy, one, resultMeant}
 use Rattle.model.specs.Numbers.{half}
-use Rattle.model.specs.Limits.{refusalSize}
+use Rattle.model.specs.Limits.{refusalSize, stepOp}
 use Rattle.model.specs.Tables.{every}
 use Rattle.model.specs.Packets.{requestBytes, resultBytes, parsePacket}
 use Rattle.model.specs.States.{State, load, pointAt}
@@ -142,7 +142,7 @@ unfolding At schedule rowsSeen callSeen callWith done
 step-issued =
     record {
       client = 2;
-      op = 2;
+      op = stepOp;
       point = 5;
       argument = half + 1;
       event = refl;

@@ -32,7 +32,7 @@ use Rattle.model.specs.declared.Packet.the-variants.{Malformed, Requested, Resu
 use Rattle.model.specs.Choice.{refuse, reply, append, isPassed, unlessRefused}
 use Rattle.model.specs.Refusals
 use Rattle.model.specs.Numbers.{word}
-use Rattle.model.specs.Limits.{lastServer, clientCount, stateSize, headSize, resultSize, executedSize}
+use Rattle.model.specs.Limits.{lastServer, clientCount, stateSize, headSize, resultSize, executedSize, setOp, carriedOut, valid}
 use Rattle.model.specs.Tables.{written, keep}
 use Rattle.model.specs.Plan.{planOk, planOf, entryAt, inRange}
 use Rattle.model.specs.Rules.{ruleOf, setRule}
@@ -77,9 +77,9 @@ and-no false e = refl
 -- passes the tests that stand before its id is looked up
 pub served-after-sync : {state log out : List ℕ} → Ready state log out → (b : List ℕ) (q : Request) → Asks b q → (r : Completion)
     → find (q .command .client) (q .command .call) (load state .records) ≡ some r → sameCommand r q ≡ true → Admits (load state) q
-    → (syncOf state log (load state .size) .answer ≡ answerOf 0 0)
+    → (syncOf state log (load state .size) .answer ≡ answerOf Refusals.noRefusal 0)
     × (requestOf today (syncOf state log (load state .size) .state) (syncOf state log (load state .size) .log) b out
-    ≡ after (answerOf 0 resultSize) (syncOf state log (load state .size) .state) log (written out 0 (resultBytes (resultOfRecord r))))
+    ≡ after (answerOf Refusals.noRefusal resultSize) (syncOf state log (load state .size) .state) log (written out 0 (resultBytes (resultOfRecord r))))
 unfolding withMark pointAt
 served-after-sync {state} {log} {out} R b q A r f same a =
     let st = load state in
@@ -96,7 +96,7 @@ served-after-sync {state} {log} {out} R b q A r f same a =
 
 -- ---- "one that changes nothing (2)"
 
-pub not-unchanging : {state log out : List ℕ} → Ready state log out → (b : List ℕ) (q : Request) → Asks b q → requestOf today state log b out .answer ≡ answerOf 0 0
+pub not-unchanging : {state log out : List ℕ} → Ready state log out → (b : List ℕ) (q : Request) → Asks b q → requestOf today state log b out .answer ≡ answerOf Refusals.noRefusal 0
     → Changed state log q (requestOf today state log b out)
 unfolding applyExecuted executedPoint executedFor recordSize
 not-unchanging {state} {log} {out} R b q A z =
@@ -125,7 +125,7 @@ not-unchanging {state} {log} {out} R b q A z =
 
 -- what a request is answered with is the result packet of its own id, with its own command
 pub own-result : {state log out : List ℕ} → Ready state log out → (b : List ℕ) (q : Request) → Asks b q
-    → requestOf today state log b out .answer ≡ answerOf 0 resultSize → (r : Completion) × Own state q (requestOf today state log b out) r
+    → requestOf today state log b out .answer ≡ answerOf Refusals.noRefusal resultSize → (r : Completion) × Own state q (requestOf today state log b out) r
 unfolding sameCommand
 own-result {state} {log} {out} R b q A z =
     let st = load state in
@@ -149,7 +149,7 @@ own-result {state} {log} {out} R b q A z =
 
 -- two ids are answered with two packets, whenever and wherever they are
 pub own-results-differ : {state log out state′ log′ out′ : List ℕ} → Ready state log out → Ready state′ log′ out′ → (b b′ : List ℕ) (q q′ : Request)
-    → Asks b q → Asks b′ q′ → requestOf today state log b out .answer ≡ answerOf 0 resultSize → requestOf today state′ log′ b′ out′ .answer ≡ answerOf 0 resultSize
+    → Asks b q → Asks b′ q′ → requestOf today state log b out .answer ≡ answerOf Refusals.noRefusal resultSize → requestOf today state′ log′ b′ out′ .answer ≡ answerOf Refusals.noRefusal resultSize
     → (q .command .client ≡ q′ .command .client → q .command .call ≡ q′ .command .call → ⊥)
     → take resultSize (requestOf today state log b out .out) ≢ take resultSize (requestOf today state′ log′ b′ out′ .out)
 unfolding resultOfRecord
@@ -248,7 +248,7 @@ places-and-space state log b out q e = (places state log b out q e, space state 
 -- ---- "one fixed result (2)"
 
 -- a request that was executed, a sync to the log's length, and the same request: its answer is its own execution's result
-pub served-own : {state log out : List ℕ} → Ready state log out → (b : List ℕ) (q : Request) → Asks b q → requestOf today state log b out .answer ≡ answerOf 0 0
+pub served-own : {state log out : List ℕ} → Ready state log out → (b : List ℕ) (q : Request) → Asks b q → requestOf today state log b out .answer ≡ answerOf Refusals.noRefusal 0
     → Served b q (resultFor today (load state) q) out (requestOf today state log b out .state) (requestOf today state log b out .log)
 unfolding sameCommand completion executedFor executedPoint resultOfRecord applyExecuted answeredWith
 served-own {state} {log} {out} R b q A z =
@@ -276,22 +276,22 @@ served-own {state} {log} {out} R b q A z =
 same-packet : (p p′ : ResultPacket) → Resulted p ≡ Resulted p′ → p ≡ p′
 same-packet p p′ e = cc
 
-set-rule : (st : State) (q : Request) → q .command .op ≡ 1 → inRange (entryAt (st .plan) (q .command .point)) (q .command .argument) ≡ true
-    → resultFor today st q ≡ record { outcome = 0; value = q .command .argument; quality = 0 }
+set-rule : (st : State) (q : Request) → q .command .op ≡ setOp → inRange (entryAt (st .plan) (q .command .point)) (q .command .argument) ≡ true
+    → resultFor today st q ≡ record { outcome = carriedOut; value = q .command .argument; quality = valid }
 unfolding resultFor ruleOf setRule
 set-rule st q o i = rw (o, i)
 
 -- a set of a value in range is answered with outcome 0, that value and quality 0
-pub set-result : {state log out : List ℕ} → Ready state log out → (b : List ℕ) (q : Request) → Asks b q → requestOf today state log b out .answer ≡ answerOf 0 0
-    → q .command .op ≡ 1 → inRange (entryAt (load state .plan) (q .command .point)) (q .command .argument) ≡ true
-    → Served b q (record { outcome = 0; value = q .command .argument; quality = 0 }) out (requestOf today state log b out .state) (requestOf today state log b out .log)
+pub set-result : {state log out : List ℕ} → Ready state log out → (b : List ℕ) (q : Request) → Asks b q → requestOf today state log b out .answer ≡ answerOf Refusals.noRefusal 0
+    → q .command .op ≡ setOp → inRange (entryAt (load state .plan) (q .command .point)) (q .command .argument) ≡ true
+    → Served b q (record { outcome = carriedOut; value = q .command .argument; quality = valid }) out (requestOf today state log b out .state) (requestOf today state log b out .log)
 set-result {state} {log} {out} R b q A z o i =
     subst (λ (y : CommandResult). Served b q y out (requestOf today state log b out .state) (requestOf today state log b out .log)) (set-rule (load state) q o i) (served-own R b q A z)
 
 -- so sets of two values are answered with two packets
 pub not-one-result : {state log out state′ log′ out′ : List ℕ} → Ready state log out → Ready state′ log′ out′ → (b b′ : List ℕ) (q q′ : Request)
-    → Asks b q → Asks b′ q′ → requestOf today state log b out .answer ≡ answerOf 0 0 → requestOf today state′ log′ b′ out′ .answer ≡ answerOf 0 0
-    → q .command .op ≡ 1 → q′ .command .op ≡ 1 → inRange (entryAt (load state .plan) (q .command .point)) (q .command .argument) ≡ true
+    → Asks b q → Asks b′ q′ → requestOf today state log b out .answer ≡ answerOf Refusals.noRefusal 0 → requestOf today state′ log′ b′ out′ .answer ≡ answerOf Refusals.noRefusal 0
+    → q .command .op ≡ setOp → q′ .command .op ≡ setOp → inRange (entryAt (load state .plan) (q .command .point)) (q .command .argument) ≡ true
     → inRange (entryAt (load state′ .plan) (q′ .command .point)) (q′ .command .argument) ≡ true → q .command .argument ≢ q′ .command .argument
     → answeredWith b out (requestOf today state log b out .state) (requestOf today state log b out .log)
     ≢ answeredWith b′ out′ (requestOf today state′ log′ b′ out′ .state) (requestOf today state′ log′ b′ out′ .log)
@@ -334,7 +334,7 @@ module _ (plan : List PlanEntry) (n : ℕ) (g : GoodPlan plan) (h : n ≤ lastSe
   -- recovery from a server's log, and part of one more record behind it, gives the state that the server had, all of it synced
   pub recovered-same : (es : List Entry) (state log : List ℕ) → Holds (founded plan n) es state log → (rest fresh p : List ℕ) → Incomplete rest
       → stateSize ≤ length fresh → planOk p ≡ true → planOf p ≡ plan
-      → (recoverOf fresh (take (load state .size) log ++ rest) p .answer ≡ answerOf 0 0)
+      → (recoverOf fresh (take (load state .size) log ++ rest) p .answer ≡ answerOf Refusals.noRefusal 0)
       × (load (recoverOf fresh (take (load state .size) log ++ rest) p .state) ≡ withMark (load state .size) (load state))
   unfolding recoverOf recoverRefusal leftUnless settleRecovered withMark founded
   recovered-same es state log H rest fresh p i l ok same =
@@ -348,7 +348,7 @@ module _ (plan : List PlanEntry) (n : ℕ) (g : GoodPlan plan) (h : n ≤ lastSe
       let S = recovers start es (H .decided) .sound in
       let M = sound-mark rp (rp .size) S (S .mark) (omega arith) in
       let e : recoverOf fresh (take (load state .size) log ++ rest) p
-      ≡ after (answerOf 0 0) (stored fresh (withMark (rp .size) rp)) (take (load state .size) log ++ rest) []
+      ≡ after (answerOf Refusals.noRefusal 0) (stored fresh (withMark (rp .size) rp)) (take (load state .size) log ++ rest) []
       = rw (le-ltb (length fresh) stateSize l, ok, r) in
       let w : withMark (rp .size) rp ≡ withMark (load state .size) (load state)
       = ap (λ (k : ℕ). withMark k rp) (sym size) ∙ ap (λ (y : State). withMark (load state .size) y) (sym (H .same)) in
@@ -356,7 +356,7 @@ module _ (plan : List PlanEntry) (n : ℕ) (g : GoodPlan plan) (h : n ≤ lastSe
 
   -- so it keeps what a request executed, whatever part of a later record the crash kept
   pub recovered-keeps : (es : List Entry) (state log out : List ℕ) → Ready state log out → Holds (founded plan n) es state log → (b : List ℕ) (q : Request) → Asks b q
-      → requestOf today state log b out .answer ≡ answerOf 0 0
+      → requestOf today state log b out .answer ≡ answerOf Refusals.noRefusal 0
       → (rest fresh p : List ℕ) → Incomplete rest → stateSize ≤ length fresh → planOk p ≡ true → planOf p ≡ plan
       → Regained state q (recoverOf fresh (take (load (requestOf today state log b out .state) .size) (requestOf today state log b out .log) ++ rest) p)
   unfolding operated withMark pointAt
@@ -377,7 +377,7 @@ module _ (plan : List PlanEntry) (n : ℕ) (g : GoodPlan plan) (h : n ≤ lastSe
   -- and of a later log, from any kept prefix that includes what the server had: that state with the later records kept replayed on it
   pub recovered-later : (es fs : List Entry) (state log state₂ log₂ : List ℕ) → Holds (founded plan n) es state log → Holds (founded plan n) (es ++ fs) state₂ log₂
       → (c : ℕ) → load state .size ≤ c → c ≤ load state₂ .size → (fresh p : List ℕ) → stateSize ≤ length fresh → planOk p ≡ true → planOf p ≡ plan
-      → (recoverOf fresh (take c log₂) p .answer ≡ answerOf 0 0)
+      → (recoverOf fresh (take c log₂) p .answer ≡ answerOf Refusals.noRefusal 0)
       × (load (recoverOf fresh (take c log₂) p .state)
       ≡ withMark (load (recoverOf fresh (take c log₂) p .state) .size) (replayFrom (load state) (keep (λ (e : Entry). leb (e .end) c) fs)))
   unfolding recoverOf recoverRefusal leftUnless settleRecovered withMark founded
@@ -394,7 +394,7 @@ module _ (plan : List PlanEntry) (n : ℕ) (g : GoodPlan plan) (h : n ≤ lastSe
       ∙ crash-state plan n start h (es ++ fs) c (K .decided) (omega (arith, from-low headSize es f, size, low)) in
       let S = recovers start (keep t (es ++ fs)) (decided-cut start c (es ++ fs) (K .decided)) .sound in
       let M = sound-mark rp (rp .size) S (S .mark) (omega arith) in
-      let e : recoverOf fresh (take c log₂) p ≡ after (answerOf 0 0) (stored fresh (withMark (rp .size) rp)) (take c log₂) []
+      let e : recoverOf fresh (take c log₂) p ≡ after (answerOf Refusals.noRefusal 0) (stored fresh (withMark (rp .size) rp)) (take c log₂) []
       = rw (le-ltb (length fresh) stateSize l, ok, r) in
       let ld : load (recoverOf fresh (take c log₂) p .state) ≡ withMark (rp .size) rp
       = ap (λ (y : After). load (y .state)) e ∙ stored-load fresh (withMark (rp .size) rp) M (omega arith) in
@@ -419,7 +419,7 @@ not-refuses-all state log plan b out n q sb sl pb ok hn gl gz o A F =
     let S = founded-sound (planOf plan) n G hn in
     let log₁ = written log 0 (headBytes n) in
     let k : length log₁ ≡ length log = length-written log 0 (headBytes n) in
-    let e : foundOf state log plan n ≡ after (answerOf 0 0) (stored state fd) log₁ []
+    let e : foundOf state log plan n ≡ after (answerOf Refusals.noRefusal 0) (stored state fd) log₁ []
     = rw (le-ltb (length state) stateSize sl, le-ltb (length log) headSize (omega (arith, gl)), ok, le-ltb lastServer n hn) in
     let R : Ready (stored state fd) log₁ out = ready-stored state out sb sl o fd S log₁ (omega (arith, k, gl)) (omega (arith, k, gz)) in
     let ld : load (stored state fd) ≡ fd = stored-load state fd S (omega (arith, sl)) in
@@ -427,7 +427,7 @@ not-refuses-all state log plan b out n q sb sl pb ok hn gl gz o A F =
     let d : decideRequest today (load (stored state fd)) (freeIn (stored state fd) log₁) q ≡ append (executed (executedFor today fd q))
     = ap (λ (y : State). decideRequest today y (length log₁ - y .size) q) ld
     ∙ founded-executes today (planOf plan) n (length log₁ - headSize) q (omega (arith, request-point q (Q .ok), G .length)) F (omega (arith, k, gl)) in
-    let z : requestOf today (stored state fd) log₁ b out .answer ≡ answerOf 0 0
+    let z : requestOf today (stored state fd) log₁ b out .answer ≡ answerOf Refusals.noRefusal 0
     = ap (λ (y : After). y .answer) (request-is R b q (A .parsed) ∙ ap (λ (y : Decided). settle (stored state fd) log₁ out (denying q y)) d) in
     rw e
     (record {

@@ -35,6 +35,7 @@ use Rattle.model.specs.declared.SendAnswer.{SendAnswer}
 use Rattle.model.specs.declared.StartAnswer.{StartAnswer}
 use Rattle.model.specs.declared.Started.{Started}
 use Rattle.model.specs.States.{load, pointAt}
+use Rattle.model.specs.Refusals.{noRefusal}
 use Rattle.claim.specs.World.{withServer, withClient, withManager, making, calls, callsOn, foundAs, crashAt, startsAs, startsOn, sends, receives, told, step, packet}
 use Rattle.claim.specs.World.{Event, found, request, fetch, sync, notice, give, image, take·image, receipt, release, recover, crash, start, issue, resend, receive, open·lease, renew, query, Lent, World, Server, nothing, running, crashed, lentState, lentLog, packet, step, emptyWorld, runFrom, run, after}
 use Rattle.claim.specs.Provisos.{Bytes, Counted, Typed, keptBy, markOf, lengthOf, At, Provisos}
@@ -288,7 +289,7 @@ module _ (d : ℕ) where
 
   found-other : (c : ℕ) (a : After) (w : World) → eqb d c ≡ false → foundAs c a w .servers d ≡ w .servers d
   unfolding foundAs
-  found-other c a w h = choose (λ (x : World). x .servers d ≡ w .servers d) (eqb (a .answer .refusal) 0) (λ z. with-other c d _ w h) (λ z. refl)
+  found-other c a w h = choose (λ (x : World). x .servers d ≡ w .servers d) (eqb (a .answer .refusal) noRefusal) (λ z. with-other c d _ w h) (λ z. refl)
 
   crash-other : (c k : ℕ) (s : Server) (w : World) → eqb d c ≡ false → crashAt c k s w .servers d ≡ w .servers d
   unfolding crashAt
@@ -387,12 +388,12 @@ answer-of v l (crashed kept mark) o a e = impossible e
 module _ (plan : List ℕ) (es : List Event) where
   -- a request that is executed
   pub executes-seen : (n c p size : ℕ) (v : Versions) (l : Lent) (q : Request) → At plan es n (request c p v l) → parsePacket (requestBytes q) ≡ Requested q
-      → callSeen (after es n) (request c p v l) ≡ record { client = none; packet = some (requestBytes q); size = size; answer = some (answerOf 0 0) }
+      → callSeen (after es n) (request c p v l) ≡ record { client = none; packet = some (requestBytes q); size = size; answer = some (answerOf noRefusal 0) }
       → Executes plan es n c (markedBy v (q .command))
   unfolding callSeen callWith done
   executes-seen n c p size v l q e parsed s =
       let b : packet (after es n) p ≡ some (requestBytes q) = ap (λ (x : Call). x .packet) s in
-      let A = answer-of v l (after es n .servers c) (packet (after es n) p) (answerOf 0 0)
+      let A = answer-of v l (after es n .servers c) (packet (after es n) p) (answerOf noRefusal 0)
       (sym (done-answer c v l (after es n .servers c) (packet (after es n) p) (after es n)) ∙ ap (λ (x : Call). x .answer) s) in
       let same : A .bytes ≡ requestBytes q = some-list (sym (A .packet) ∙ b) in
       record {
@@ -405,7 +406,7 @@ module _ (plan : List ℕ) (es : List Event) where
         up = A .up;
         bytes = requestBytes q;
         delivered = b;
-        answer = subst (λ (x : List ℕ). requestOf v (lentState l (A .state)) (lentLog l (A .log)) x (l .out) .answer ≡ answerOf 0 0) same (A .answer);
+        answer = subst (λ (x : List ℕ). requestOf v (lentState l (A .state)) (lentLog l (A .log)) x (l .out) .answer ≡ answerOf noRefusal 0) same (A .answer);
         asked = q;
         parsed = parsed;
         its = refl;

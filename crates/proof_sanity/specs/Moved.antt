@@ -18,7 +18,7 @@ use Rattle.model.specs.declared.ResultPacket.{ResultPacket}
 use Rattle.model.specs.declared.Point.{Point}
 use Rattle.model.specs.Versions.{today}
 use Rattle.model.specs.Numbers.{half}
-use Rattle.model.specs.Limits.{stateSize, greatestImage, resultSize, refusalSize}
+use Rattle.model.specs.Limits.{stateSize, greatestImage, resultSize, refusalSize, noticeKind, setOp, stepOp, carriedOut, valid}
 use Rattle.model.specs.Packets.{requestBytes, resultBytes, receiptBytes, noticeBytes, grantBytes}
 use Rattle.model.specs.Images.{Image, imageBytes}
 use Rattle.model.specs.Logs.{headBytes, executedBytes, takeBytes}
@@ -32,16 +32,16 @@ use Rattle.proof_sanity.specs.Trace.{Call, Seen, up, Ended, Trace}
 -- ---- the two commands
 
 abbrev pub setting : Command
-setting = record { client = 1; call = 1; op = 1; point = 5; argument = half + 40 }
+setting = record { client = 1; call = 1; op = setOp; point = 5; argument = half + 40 }
 
 abbrev pub stepping : Command
-stepping = record { client = 2; call = 1; op = 2; point = 5; argument = half + 1 }
+stepping = record { client = 2; call = 1; op = stepOp; point = 5; argument = half + 1 }
 
 abbrev pub settingResult : CommandResult
-settingResult = record { outcome = 0; value = half + 40; quality = 0 }
+settingResult = record { outcome = carriedOut; value = half + 40; quality = valid }
 
 abbrev pub steppingResult : CommandResult
-steppingResult = record { outcome = 0; value = half + 41; quality = 0 }
+steppingResult = record { outcome = carriedOut; value = half + 41; quality = valid }
 
 -- as requests, with the lease ends 10 and 1000, and their result packets
 abbrev pub settingAsked : Request
@@ -73,11 +73,11 @@ movedImage =
       moveNumber = 1;
       heard = 0;
       value = half + 41;
-      quality = 0;
+      quality = valid;
       floors = record { client = 1; floor = 1 } ∷ record { client = 2; floor = 1 } ∷ [];
       entries =
-          record { client = 1; call = 1; op = 1; argument = half + 40; result = settingResult }
-          ∷ record { client = 2; call = 1; op = 2; argument = half + 1; result = steppingResult }
+          record { client = 1; call = 1; op = setOp; argument = half + 40; result = settingResult }
+          ∷ record { client = 2; call = 1; op = stepOp; argument = half + 1; result = steppingResult }
           ∷ [];
     }
 
@@ -197,7 +197,7 @@ rowsSeen =
     ∷ answering 120 (requestBytes steppingAsked) 0 resultSize
     ∷ atClient stepper (some (resultBytes steppingAnswer))
     ∷ atManager
-    ∷ onPacket 120 (noticeBytes 5 (record { client = 1; time = 20 }))
+    ∷ onPacket 120 (noticeBytes noticeKind (record { client = 1; time = 20 }))
     ∷ answering 132 (requestBytes settingAsked) 4 refusalSize
     ∷ atServer 132
     ∷ onPacket 72 (receiptBytes (record { point = 5; server = 1; moveNumber = 1 }))
@@ -206,10 +206,10 @@ rowsSeen =
 -- server 0 has released the point, server 1 holds it, both with move number 1
 abbrev pub giverPoint : Point
 giverPoint =
-    record { status = releasedStatus; quality = 0; destination = 1; value = half + 41; moveNumber = 1; takenMove = 0; giveEnd = 72; takeEnd = 0 }
+    record { status = releasedStatus; quality = valid; destination = 1; value = half + 41; moveNumber = 1; takenMove = 0; giveEnd = 72; takeEnd = 0 }
 
 abbrev pub takerPoint : Point
-takerPoint = record { status = held; quality = 0; destination = 0; value = half + 41; moveNumber = 1; takenMove = 1; giveEnd = 0; takeEnd = 120 }
+takerPoint = record { status = held; quality = valid; destination = 0; value = half + 41; moveNumber = 1; takenMove = 1; giveEnd = 0; takeEnd = 120 }
 
 unfoldable pub traceSeen : Trace
 traceSeen =

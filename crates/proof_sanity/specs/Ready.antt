@@ -20,6 +20,7 @@ use Rattle.model.specs.States.{load, sound, pointAt}
 use Rattle.model.specs.Apply.{completion}
 use Rattle.model.specs.Decisions.{find, executedFor, resultFor, resultOfRecord}
 use Rattle.model.specs.Operations.{After, answerOf, requestOf, syncOf}
+use Rattle.model.specs.Refusals.{noRefusal}
 use Rattle.model_laws.specs.Bytes.{Bytes}
 
 pub record Ready (state log out : List ℕ) : Type 0 where
@@ -63,14 +64,14 @@ answeredWith b out state log =
 
 -- a sync to the log's length is not refused, and then the request q is answered with its result r
 pub record Served (b : List ℕ) (q : Request) (r : CommandResult) (out state log : List ℕ) : Type 0 where
-  pub synced : syncOf state log (load state .size) .answer ≡ answerOf 0 0
-  pub answer : requestOf today (syncOf state log (load state .size) .state) (syncOf state log (load state .size) .log) b out .answer ≡ answerOf 0 resultSize
+  pub synced : syncOf state log (load state .size) .answer ≡ answerOf noRefusal 0
+  pub answer : requestOf today (syncOf state log (load state .size) .state) (syncOf state log (load state .size) .log) b out .answer ≡ answerOf noRefusal resultSize
   pub packet : parsePacket (answeredWith b out state log)
       ≡ Resulted (record { client = q .command .client; call = q .command .call; point = q .command .point; result = r })
 
 -- a recovery that is not refused holds what the request q executed: its completion record, its point's value and quality, all synced
 pub record Regained (state : List ℕ) (q : Request) (a : After) : Type 0 where
-  pub answer : a .answer ≡ answerOf 0 0
+  pub answer : a .answer ≡ answerOf noRefusal 0
   pub holds : find (q .command .client) (q .command .call) (load (a .state) .records) ≡ some (completion (executedFor today (load state) q) (load state .size + executedSize))
   pub value : pointAt (load (a .state)) (q .command .point) .value ≡ resultFor today (load state) q .value
   pub quality : pointAt (load (a .state)) (q .command .point) .quality ≡ resultFor today (load state) q .quality
@@ -78,6 +79,6 @@ pub record Regained (state : List ℕ) (q : Request) (a : After) : Type 0 where
 
 -- f, what found left, is not refused; then a first request is executed, and the same one is served with the result r after a sync
 pub record Begins (f : After) (b out : List ℕ) (q : Request) (r : CommandResult) : Type 0 where
-  pub found : f .answer ≡ answerOf 0 0
-  pub executed : requestOf today (f .state) (f .log) b out .answer ≡ answerOf 0 0
+  pub found : f .answer ≡ answerOf noRefusal 0
+  pub executed : requestOf today (f .state) (f .log) b out .answer ≡ answerOf noRefusal 0
   pub served : Served b q r out (requestOf today (f .state) (f .log) b out .state) (requestOf today (f .state) (f .log) b out .log)

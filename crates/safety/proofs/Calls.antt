@@ -16,7 +16,7 @@ use lib.Seq.{take-take, take-append-le, take-append-seam, length-front}
 use Rattle.model.specs.declared.PlanEntry.{PlanEntry}
 use Rattle.model.specs.declared.Answer.{Answer}
 use Rattle.model.specs.Choice.{pick, refuse, deny, reply, append, marks, unlessRefused}
-use Rattle.model.specs.Refusals.{tooShort, unsound}
+use Rattle.model.specs.Refusals.{tooShort, unsound, noRefusal}
 use Rattle.model.specs.Numbers.{word}
 use Rattle.model.specs.Limits.{stateSize, headSize}
 use Rattle.model.specs.Tables.{written}
@@ -59,14 +59,14 @@ no-bytes [] e = refl
 no-bytes (x ∷ b) e = absurd (omega arith)
 
 -- the same number, and as many bytes
-same-answer : {a : Answer} {n : ℕ} {b : List ℕ} → a ≡ answerOf n (length b) → (a ≡ answerOf 0 0) ↔ ((n ≡ 0) × (b ≡ []))
+same-answer : {a : Answer} {n : ℕ} {b : List ℕ} → a ≡ answerOf n (length b) → (a ≡ answerOf noRefusal 0) ↔ ((n ≡ 0) × (b ≡ []))
 same-answer {a} {n} {b} e = (
   λ z. (ap (λ (x : Answer). x .refusal) (sym e ∙ z), no-bytes b (ap (λ (x : Answer). x .wrote) (sym e ∙ z))),
-  λ z. e ∙ ap (λ (k : ℕ). answerOf k (length b)) (z .0) ∙ ap (λ (x : List ℕ). answerOf 0 (length x)) (z .1),
+  λ z. e ∙ ap (λ (k : ℕ). answerOf k (length b)) (z .0) ∙ ap (λ (x : List ℕ). answerOf noRefusal (length x)) (z .1),
 )
 
 -- two numbers that refuse
-refused-answer : {a : Answer} {m n : ℕ} {b : List ℕ} → a ≡ answerOf m 0 → 1 ≤ m → 1 ≤ n → (a ≡ answerOf 0 0) ↔ ((n ≡ 0) × (b ≡ []))
+refused-answer : {a : Answer} {m n : ℕ} {b : List ℕ} → a ≡ answerOf m 0 → 1 ≤ m → 1 ≤ n → (a ≡ answerOf noRefusal 0) ↔ ((n ≡ 0) × (b ≡ []))
 refused-answer {a} {m} {n} e h l = (λ z. absurd (omega (arith, ap (λ (x : Answer). x .refusal) (sym e ∙ z))), λ z. absurd (omega (arith, z .0)))
 
 -- ---- a call of a running server
@@ -127,7 +127,7 @@ module _ {plan : List PlanEntry} {c : ℕ} {log : R.Log} {state bytes : List ℕ
 
     -- a state stored in the lent part, and a log slice that opens with the entries
     changed : (fs : List Entry) (st : State) (h out : List ℕ) → Sound st → Limits.Holds start fs (stored s st) h
-        → LeftAlike plan c t state bytes (after (answerOf 0 0) (stored s st) h out)
+        → LeftAlike plan c t state bytes (after (answerOf noRefusal 0) (stored s st) h out)
         (record { number = 0; made = []; state = st; log = record { number = log .number; entries = fs } })
     unfolding stateBack logBack lentState
     changed fs st h out S H =

@@ -18,6 +18,7 @@ use Rattle.model.specs.States.{State}
 use Rattle.model.specs.Versions.{Versions}
 use Rattle.model.specs.Operations.{After, short, foundOf, recoverOf}
 use Rattle.model.specs.Clients.{startOf}
+use Rattle.model.specs.Refusals.{noRefusal}
 use Rattle.model_laws.proofs.Numbers.{bytes-nil}
 use Rattle.claim.specs.World.{Lent, lentState, lentLog}
 use Rattle.claim.specs.World as B
@@ -48,7 +49,7 @@ room-counted t out need (B.crashed kept mark) ok = lit< tt
 -- a plan, or none
 plan-bytes : (a : After) (p : List ℕ) → BP.Bytes p → BP.Bytes (planIf a p)
 unfolding planIf BP.Bytes
-plan-bytes a p s = go (eqb (a .answer .refusal) 0)
+plan-bytes a p s = go (eqb (a .answer .refusal) noRefusal)
   where
     go : (t : Bool) → BP.Bytes (pick t p [])
     go true = s
@@ -56,21 +57,21 @@ plan-bytes a p s = go (eqb (a .answer .refusal) 0)
 
 module _ (plan : List ℕ) {r : R.World} {b : B.World} (l : WorldAlike (planOf plan) r b) where
   -- found and recover that succeed over records succeed over bytes
-  found-ok : (c : ℕ) (state log p : List ℕ) (n : ℕ) → (foundOf state log p n .answer .refusal ≡ 0 → FoundOk plan B.nothing (b .servers c) c p n) → (st : State)
+  found-ok : (c : ℕ) (state log p : List ℕ) (n : ℕ) → (foundOf state log p n .answer .refusal ≡ noRefusal → FoundOk plan B.nothing (b .servers c) c p n) → (st : State)
       → R.foundOf (planIf (foundOf state log p n) p) n ≡ some st → FoundOk plan R.nothing (r .servers c) c (planIf (foundOf state log p n) p) n
   unfolding planIf R.foundOf planOk
-  found-ok c state log p n a st = go (eqb (foundOf state log p n .answer .refusal) 0) refl
+  found-ok c state log p n a st = go (eqb (foundOf state log p n .answer .refusal) noRefusal) refl
     where
-      go : (t : Bool) → eqb (foundOf state log p n .answer .refusal) 0 ≡ t → R.foundOf (pick t p []) n ≡ some st → FoundOk plan R.nothing (r .servers c) c (pick t p []) n
+      go : (t : Bool) → eqb (foundOf state log p n .answer .refusal) noRefusal ≡ t → R.foundOf (pick t p []) n ≡ some st → FoundOk plan R.nothing (r .servers c) c (pick t p []) n
       go true e s = let f = a (eqb-true _ _ e) in record { one-plan = f .one-plan; own-number = f .own-number; once = nothing-back (l .servers c) (f .once) }
       go false e s = let k : R.foundOf [] n ≡ none = refl in apart (cc)
 
-  recover-ok : (c : ℕ) (state log p : List ℕ) → (recoverOf state log p .answer .refusal ≡ 0 → RecoverOk plan (b .servers c) log p) → (g : R.Log) (st : State)
+  recover-ok : (c : ℕ) (state log p : List ℕ) → (recoverOf state log p .answer .refusal ≡ noRefusal → RecoverOk plan (b .servers c) log p) → (g : R.Log) (st : State)
       → R.recoverOf (planIf (recoverOf state log p) p) g ≡ some st → planIf (recoverOf state log p) p ≡ plan
   unfolding planIf R.recoverOf planOk
-  recover-ok c state log p a g st = go (eqb (recoverOf state log p .answer .refusal) 0) refl
+  recover-ok c state log p a g st = go (eqb (recoverOf state log p .answer .refusal) noRefusal) refl
     where
-      go : (t : Bool) → eqb (recoverOf state log p .answer .refusal) 0 ≡ t → R.recoverOf (pick t p []) g ≡ some st → pick t p [] ≡ plan
+      go : (t : Bool) → eqb (recoverOf state log p .answer .refusal) noRefusal ≡ t → R.recoverOf (pick t p []) g ≡ some st → pick t p [] ≡ plan
       go true e s = a (eqb-true _ _ e) .one-plan
       go false e s = let k : R.recoverOf [] g ≡ none = refl in apart (cc)
 

@@ -22,6 +22,7 @@ use Rattle.model.specs.States.{State}
 use Rattle.model.specs.Apply.{founded, replayFrom}
 use Rattle.model.specs.Decisions.{onRequest}
 use Rattle.model.specs.Operations.{answerOf, requestOf, recoveredState}
+use Rattle.model.specs.Refusals.{noRefusal}
 use Rattle.model_laws.specs.Bytes.{Bytes}
 use Rattle.model_invariants.specs.Calls.{request, decision, output, outputSize, operated}
 use Rattle.claim.specs.World.{Lent, packet, lentState, lentLog}
@@ -44,7 +45,7 @@ use Rattle.safety.proofs.Carried.{explained-too}
 -- a request gives neither number nor packet in both worlds, or in none
 request-left : (vs : Versions) (t : Lent) → Counted t → (b : List ℕ) → Bytes b → {plan : List PlanEntry} {c : ℕ} {st : State} {log : R.Log} {state bytes : List ℕ}
     → RunningAlike plan c st log state bytes
-    → (requestOf vs (lentState t state) (lentLog t bytes) b (t .out) .answer ≡ answerOf 0 0)
+    → (requestOf vs (lentState t state) (lentLog t bytes) b (t .out) .answer ≡ answerOf noRefusal 0)
     ↔ ((R.callOf st log (roomIn t state bytes (t .out) resultSize) (λ s free. onRequest vs s free (parsePacket b)) .number ≡ 0)
     × (R.callOf st log (roomIn t state bytes (t .out) resultSize) (λ s free. onRequest vs s free (parsePacket b)) .made ≡ []))
 unfolding decision output outputSize operated

@@ -19,6 +19,7 @@ use Rattle.model.specs.Logs.{Entry, headBytes, entriesBytes}
 use Rattle.model.specs.States.{State, load}
 use Rattle.model.specs.Apply.{founded, replayFrom, withMark}
 use Rattle.model.specs.Operations.{stored, foundOf, recoverOf, recoveredState}
+use Rattle.model.specs.Refusals.{noRefusal}
 use Rattle.model_laws.specs.Bytes.{Bytes}
 use Rattle.model_laws.specs.Fits.{lastEnd}
 use Rattle.model_laws.proofs.Numbers.{bytes-nil}
@@ -83,12 +84,12 @@ module _ {plan : List PlanEntry} {r : R.World} {b : B.World} (l : Both plan r b)
 -- ---- found
 
 module _ (plan : List ℕ) {r : R.World} {b : B.World} (l : Both (planOf plan) r b) (c : ℕ) where
-  pub found-alike : (state log p : List ℕ) (n : ℕ) → Bytes state → Bytes p → (foundOf state log p n .answer .refusal ≡ 0 → FoundOk plan B.nothing (b .servers c) c p n)
+  pub found-alike : (state log p : List ℕ) (n : ℕ) → Bytes state → Bytes p → (foundOf state log p n .answer .refusal ≡ noRefusal → FoundOk plan B.nothing (b .servers c) c p n)
       → Both (planOf plan) (R.founds c n (R.foundOf (planIf (foundOf state log p n) p) n) r) (foundAs c (foundOf state log p n) b)
   unfolding planIf planOk foundAs R.founds R.foundOf
   found-alike state log p n h bytes =
       found-elim
-      (λ a. (a .answer .refusal ≡ 0 → FoundOk plan B.nothing (b .servers c) c p n) → Both (planOf plan) (R.founds c n (R.foundOf (planIf a p) n) r) (foundAs c a b))
+      (λ a. (a .answer .refusal ≡ noRefusal → FoundOk plan B.nothing (b .servers c) c p n) → Both (planOf plan) (R.founds c n (R.foundOf (planIf a p) n) r) (foundAs c a b))
       state log p n bytes (λ f. l) (λ f. l)
       (λ i j g ok m f.
       let F = f refl in
@@ -180,11 +181,11 @@ module _ (plan : List ℕ) {r : R.World} {b : B.World} (l : Both (planOf plan) r
   none-from none = l
   none-from (some g) = l
 
-  pub recover-alike : (log p : List ℕ) → (recoverOf state log p .answer .refusal ≡ 0 → RecoverOk plan (b .servers c) log p)
+  pub recover-alike : (log p : List ℕ) → (recoverOf state log p .answer .refusal ≡ noRefusal → RecoverOk plan (b .servers c) log p)
       → Both (planOf plan) (R.recoversFrom c (planIf (recoverOf state log p) p) (R.keptBy (r .servers c)) r) (foundAs c (recoverOf state log p) b)
   unfolding planIf foundAs
   recover-alike log p =
       recover-elim
-      (λ a. (a .answer .refusal ≡ 0 → RecoverOk plan (b .servers c) log p) → Both (planOf plan) (R.recoversFrom c (planIf a p) (R.keptBy (r .servers c)) r) (foundAs c a b))
+      (λ a. (a .answer .refusal ≡ noRefusal → RecoverOk plan (b .servers c) log p) → Both (planOf plan) (R.recoversFrom c (planIf a p) (R.keptBy (r .servers c)) r) (foundAs c a b))
       state log p (λ f. none-from (R.keptBy (r .servers c))) (λ f. none-from (R.keptBy (r .servers c))) (λ f. none-from (R.keptBy (r .servers c)))
       (λ st long ok e f. recovers-to log p (f refl) ok long st e)

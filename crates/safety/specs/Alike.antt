@@ -11,6 +11,7 @@ use Rattle.model.specs.States.{State, load}
 use Rattle.model.specs.Decisions.{Decided}
 use Rattle.model.specs.Apply.{founded}
 use Rattle.model.specs.Operations.{After, answerOf}
+use Rattle.model.specs.Refusals.{noRefusal}
 use Rattle.model_laws.specs.Bytes.{Bytes}
 use Rattle.safety.specs.Holds.{Holds, Kept}
 use Rattle.claim.specs.World as B
@@ -49,7 +50,7 @@ pub record Both (plan : List PlanEntry) (r : R.World) (b : B.World) : Type 0 whe
 
 -- what a call leaves in both worlds; where it lacks memory the numbers differ (2 over bytes, 19 over records)
 pub record LeftAlike (plan : List PlanEntry) (c : ℕ) (t : B.Lent) (state bytes : List ℕ) (a : After) (x : R.Left) : Type 0 where
-  pub answer : (a .answer ≡ answerOf 0 0) ↔ ((x .number ≡ 0) × (x .made ≡ []))
+  pub answer : (a .answer ≡ answerOf noRefusal 0) ↔ ((x .number ≡ 0) × (x .made ≡ []))
   pub made : take (a .answer .wrote) (a .out) ≡ x .made
   pub server : RunningAlike plan c (x .state) (x .log) (B.stateBack t state a) (B.logBack t state bytes a)
 

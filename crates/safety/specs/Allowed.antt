@@ -9,6 +9,7 @@ use Rattle.model.specs.Versions.{Versions}
 use Rattle.model.specs.Limits.{resultSize}
 use Rattle.model.specs.Operations.{foundOf, recoverOf}
 use Rattle.model.specs.Clients.{startOf}
+use Rattle.model.specs.Refusals.{noRefusal}
 use Rattle.claim.specs.World.{Lent, packet}
 use Rattle.claim.specs.World as B
 use Rattle.claim.specs.Provisos as BP
@@ -23,8 +24,8 @@ pub record RecoverOk (plan : List ℕ) (s : B.Server) (log p : List ℕ) : Type 
 -- an event over bytes
 pub record Allowed (plan : List ℕ) (w : B.World) (y : B.Event) : Type 0 where
   pub typed : BP.Typed y
-  pub founds : (c : ℕ) (state log p : List ℕ) (k : ℕ) → y ≡ B.found c state log p k → foundOf state log p k .answer .refusal ≡ 0 → FoundOk plan B.nothing (w .servers c) c p k
-  pub recovers : (c : ℕ) (state log p : List ℕ) → y ≡ B.recover c state log p → recoverOf state log p .answer .refusal ≡ 0 → RecoverOk plan (w .servers c) log p
+  pub founds : (c : ℕ) (state log p : List ℕ) (k : ℕ) → y ≡ B.found c state log p k → foundOf state log p k .answer .refusal ≡ noRefusal → FoundOk plan B.nothing (w .servers c) c p k
+  pub recovers : (c : ℕ) (state log p : List ℕ) → y ≡ B.recover c state log p → recoverOf state log p .answer .refusal ≡ noRefusal → RecoverOk plan (w .servers c) log p
   pub crashes : (c k : ℕ) → y ≡ B.crash c k → (BP.markOf (w .servers c) ≤ k) × (k ≤ BP.lengthOf (w .servers c))
   pub starts : (p : ℕ) (b : List ℕ) → y ≡ B.start p → packet w p ≡ some b → startOf b .answer ≡ Running → w .clients (startOf b .client .client) ≡ none
 

@@ -8,6 +8,7 @@ use lib.ListN.{length}
 use Rattle.model.specs.Choice.{pick}
 use Rattle.model.specs.Limits.{stateSize, resultSize, receiptSize, greatestImage}
 use Rattle.model.specs.Operations.{After, short, foundOf, recoverOf}
+use Rattle.model.specs.Refusals.{noRefusal}
 use Rattle.claim.specs.World.{Lent, lentState, lentLog}
 use Rattle.claim.specs.World as B
 use Rattle.claim.specs.RecordWorld as R
@@ -24,7 +25,7 @@ roomOf (B.crashed kept mark) t out need = 0
 
 -- the plan; none where found or recover is refused, so that it is refused
 unfoldable pub planIf : After → List ℕ → List ℕ
-planIf a p = pick (eqb (a .answer .refusal) 0) p []
+planIf a p = pick (eqb (a .answer .refusal) noRefusal) p []
 
 -- the event of the byte world w
 unfoldable pub decoded : B.World → B.Event → R.Event

@@ -28,7 +28,7 @@ use Rattle.model.specs.Apply.{withMark}
 use Rattle.model.specs.Decisions.{orMalformed, find, resultOfRecord, fetchRefusal, onFetched, onFetch, syncRefusal, onSync, noticeRefusal, decideNotice, onNotice}
 use Rattle.model.specs.Operations.{After, answerOf, after, settle, stored, freeIn, lentRefusal, lent, syncOf, fetchOf, noticeOf}
 use Rattle.model.specs.Limits.{resultSize, goneSize}
-use Rattle.model.specs.Refusals.{unknown, logFull, malformed}
+use Rattle.model.specs.Refusals.{unknown, logFull, malformed, noRefusal}
 use Rattle.state_records.specs.declared.Found.{Found}
 use Rattle.state_records.specs.declared.Found.the-variants.{Nothing, At}
 use Rattle.state_records.specs.Rules.{foundOf}
@@ -39,7 +39,7 @@ module _ (s log : List ℕ) where
   unfolding syncOf lent onSync
   sync-is m = refl
 
-  pub sync-done : (m : ℕ) {r : Answer} {t : List ℕ} → t ≡ stored s (withMark m (load s)) → r ≡ answerOf 0 0 → after r t log [] ≡ settle s log [] (marks m)
+  pub sync-done : (m : ℕ) {r : Answer} {t : List ℕ} → t ≡ stored s (withMark m (load s)) → r ≡ answerOf noRefusal 0 → after r t log [] ≡ settle s log [] (marks m)
   unfolding settle
   sync-done m p q = rw (p, q)
 
@@ -77,11 +77,11 @@ other-packet st free (Noticed n) h = absurd (miss (0 ∷ 1 ∷ 2 ∷ 3 ∷ 4 ∷
 other-packet st free (Granted q) h = refl
 
 -- 0 where the log has space for a gone record
-pub notice-room : (floor free : ℕ) {m : ℕ} → m ≡ noticeRefusal floor free → m ≡ 0 → goneSize ≤ free
+pub notice-room : (floor free : ℕ) {m : ℕ} → m ≡ noticeRefusal floor free → m ≡ noRefusal → goneSize ≤ free
 unfolding noticeRefusal
 notice-room floor free p z = go (eqb floor 0) (ltb free goneSize) refl (sym p ∙ z)
   where
-    go : (a b : Bool) → ltb free goneSize ≡ b → pick {A = ℕ} a unknown (pick b logFull 0) ≡ 0 → goneSize ≤ free
+    go : (a b : Bool) → ltb free goneSize ≡ b → pick {A = ℕ} a unknown (pick b logFull noRefusal) ≡ noRefusal → goneSize ≤ free
     go true b q e = absurd (omega (arith, e))
     go false true q e = absurd (omega (arith, e))
     go false false q e = ltb-false free goneSize q

@@ -15,7 +15,7 @@ use borrow.Author.Tests.{eqb-true, ne-eqb, ltb-false, not-false}
 use Rattle.model.specs.declared.PlanEntry.{PlanEntry}
 use Rattle.model.specs.declared.Point.{Point}
 use Rattle.model.specs.Limits.{lastServer, stateSize, headSize, pointCount, planRow, planSize, floorRow, clientCount, recordCount}
-use Rattle.model.specs.Refusals.{malformed, tooShort}
+use Rattle.model.specs.Refusals.{malformed, tooShort, noRefusal}
 use Rattle.model.specs.Numbers.{le32, le64, quad}
 use Rattle.model.specs.Tables.{rows, everyRow, bytesOf, written}
 use Rattle.model.specs.Plan.{planEntryOf, planRowOk, planOk, planOf, planBytes}
@@ -135,11 +135,11 @@ either-no false b e = (refl, e)
 
 -- by the refusal's number, with the plan's test as a call gave it
 module _ (s log plan : List ℕ) (n : ℕ) {g : Bool} (p : g ≡ planOk plan) {k : ℕ} (q : k ≡ foundRefusal (length s) (length log) g n) where
-  pub found-refused : (k ≡ 0 → ⊥) → after (answerOf k 0) s log [] ≡ foundOf s log plan n
+  pub found-refused : (k ≡ noRefusal → ⊥) → after (answerOf k 0) s log [] ≡ foundOf s log plan n
   unfolding foundOf leftUnless settle
-  found-refused h = rw (← p, ← q, ne-eqb k 0 h)
+  found-refused h = rw (← p, ← q, ne-eqb k noRefusal h)
 
-  module _ (z : k ≡ 0) where
+  module _ (z : k ≡ noRefusal) where
     tests : (ltb (length s) stateSize || ltb (length log) headSize) ≡ false × (not g || ltb lastServer n) ≡ false
     unfolding foundRefusal
     tests =
@@ -156,6 +156,6 @@ module _ (s log plan : List ℕ) (n : ℕ) {g : Bool} (p : g ≡ planOk plan) {k
         let e = either-no (not g) (ltb lastServer n) (tests .1) in
         (sym p ∙ not-false g (e .0), ltb-false lastServer n (e .1))
 
-    pub found-done : {s' log' : List ℕ} → s' ≡ stored s (founded (planOf plan) n) → log' ≡ written log 0 (headBytes n) → after (answerOf 0 0) s' log' [] ≡ foundOf s log plan n
+    pub found-done : {s' log' : List ℕ} → s' ≡ stored s (founded (planOf plan) n) → log' ≡ written log 0 (headBytes n) → after (answerOf noRefusal 0) s' log' [] ≡ foundOf s log plan n
     unfolding foundOf leftUnless
     found-done e f = rw (← p, ← q, z, e, f)

@@ -30,12 +30,12 @@ use Rattle.state_rows.specs.Canonical.{Canonical}
 use Rattle.state_rows.proofs.Chains.{canonical-sound}
 use Rattle.server_memory.specs.Memory.{Fit}
 
-pub lent-fit : (state log : List ℕ) (n need : ℕ) → lentRefusal state log n need ≡ 0 → Fit state log n need
+pub lent-fit : (state log : List ℕ) (n need : ℕ) → lentRefusal state log n need ≡ noRefusal → Fit state log n need
 unfolding lentRefusal short unfit
 lent-fit state log n need e = go (ltb (length state) stateSize) (ltb n need) (sound state) (ltb (length log) (load state .size)) refl refl refl refl e
   where
     go : (a b c d : Bool) → ltb (length state) stateSize ≡ a → ltb n need ≡ b → sound state ≡ c → ltb (length log) (load state .size) ≡ d
-        → pick {A = ℕ} (a || b) tooShort (pick (not c || d) unsound noRefusal) ≡ 0 → Fit state log n need
+        → pick {A = ℕ} (a || b) tooShort (pick (not c || d) unsound noRefusal) ≡ noRefusal → Fit state log n need
     go true b c d p q r t e = absurd (omega (arith, e))
     go false true c d p q r t e = absurd (omega (arith, e))
     go false false false d p q r t e = absurd (omega (arith, e))
@@ -43,11 +43,11 @@ lent-fit state log n need e = go (ltb (length state) stateSize) (ltb n need) (so
     go false false true false p q r t e = record { long = ltb-false (length state) stateSize p; room = ltb-false n need q; sound = r; logged = ltb-false (length log) (load state .size) t }
 
 module _ (state log out : List ℕ) (d : Decided) where
-  pub settle-refused : (n : ℕ) → (n ≡ 0 → ⊥) → settle state log out (unlessRefused n d) ≡ after (answerOf n 0) state log out
+  pub settle-refused : (n : ℕ) → (n ≡ noRefusal → ⊥) → settle state log out (unlessRefused n d) ≡ after (answerOf n 0) state log out
   unfolding unlessRefused settle
-  settle-refused n h = rw (ne-eqb n 0 h)
+  settle-refused n h = rw (ne-eqb n noRefusal h)
 
-  pub settle-passed : (n : ℕ) → n ≡ 0 → settle state log out (unlessRefused n d) ≡ settle state log out d
+  pub settle-passed : (n : ℕ) → n ≡ noRefusal → settle state log out (unlessRefused n d) ≡ settle state log out d
   unfolding unlessRefused
   settle-passed n h = rw h
 
@@ -72,15 +72,15 @@ long-enough s n need e = omega (arith, ltb-false (length s) stateSize (or-left (
 -- ---- a number from a call
 
 module _ (state log out : List ℕ) (d : Decided) {n m : ℕ} (p : n ≡ m) where
-  pub by-refused : (n ≡ 0 → ⊥) → {r : Answer} → r ≡ answerOf n 0 → after r state log out ≡ settle state log out (unlessRefused m d)
+  pub by-refused : (n ≡ noRefusal → ⊥) → {r : Answer} → r ≡ answerOf n 0 → after r state log out ≡ settle state log out (unlessRefused m d)
   by-refused h {r} e = rw (e, ← p) (sym (settle-refused state log out d n h))
 
-  pub by-passed : n ≡ 0 → {a : After} → a ≡ settle state log out d → a ≡ settle state log out (unlessRefused m d)
+  pub by-passed : n ≡ noRefusal → {a : After} → a ≡ settle state log out d → a ≡ settle state log out (unlessRefused m d)
   by-passed h {a} e = e ∙ sym (settle-passed state log out d m (sym p ∙ h))
 
 -- ---- once the tests of lent memory are passed
 
-module _ (s log : List ℕ) (k need : ℕ) {n : ℕ} (p : n ≡ lentRefusal s log k need) (z : n ≡ 0) where
+module _ (s log : List ℕ) (k need : ℕ) {n : ℕ} (p : n ≡ lentRefusal s log k need) (z : n ≡ noRefusal) where
   pub passed-fit : Fit s log k need
   passed-fit = lent-fit s log k need (sym p ∙ z)
 
@@ -93,11 +93,11 @@ module _ (s log : List ℕ) (k need : ℕ) {n : ℕ} (p : n ≡ lentRefusal s lo
 -- ---- what a call answers that is not refused
 
 module _ (s log out : List ℕ) where
-  pub replied : (p : ResultPacket) {r : Answer} {o : List ℕ} → r ≡ answerOf 0 resultSize → o ≡ written out 0 (resultBytes p) → after r s log o ≡ settle s log out (reply (resultBytes p))
+  pub replied : (p : ResultPacket) {r : Answer} {o : List ℕ} → r ≡ answerOf noRefusal resultSize → o ≡ written out 0 (resultBytes p) → after r s log o ≡ settle s log out (reply (resultBytes p))
   unfolding settle resultBytes
   replied p e q = rw (e, q)
 
   pub appended : (x : LogRecord) {r : Answer} {t l : List ℕ} → t ≡ stored s (applyRecord x (load s .size + recordSize x) (load s))
-      → l ≡ written log (load s .size) (recordBytes x) → r ≡ answerOf 0 0 → after r t l out ≡ settle s log out (append x)
+      → l ≡ written log (load s .size) (recordBytes x) → r ≡ answerOf noRefusal 0 → after r t l out ≡ settle s log out (append x)
   unfolding settle
   appended x p q e = rw (p, q, e)

@@ -28,6 +28,7 @@ use Rattle.model.specs.States.{load, sound, pointAt}
 use Rattle.model.specs.Apply.{applyRecord, applyGave, applyReleased}
 use Rattle.model.specs.Decisions.{Decided, placesBad, giveRefusal, onGive, imageFor, imageRefusal, onImage, receiptRefusal, onReceipt, releaseRefusal, decideRelease, onRelease}
 use Rattle.model.specs.Operations.{answerOf, after, settle, stored, lentRefusal, lent, freeIn, giveOf, receiptOf, imageOf, releaseOf}
+use Rattle.model.specs.Refusals.{noRefusal, malformed}
 use Rattle.model_laws.specs.Bytes.{Bytes}
 use Rattle.model_laws.proofs.Images.{image-length}
 use Rattle.model_invariants.specs.Passed.{PassedGive}
@@ -44,34 +45,34 @@ use Rattle.server_moves.specs.Numbers.{first, giveFor, giveNumber, place
 
 pub first-by : (n m : ℕ) (d : Decided) → unlessRefused n (unlessRefused m d) ≡ unlessRefused (first n m) d
 unfolding unlessRefused first
-first-by n m d = go (eqb n 0) refl
+first-by n m d = go (eqb n noRefusal) refl
   where
-    go : (t : Bool) → eqb n 0 ≡ t → pick t (pick (eqb m 0) d (refuse m)) (refuse n) ≡ pick (eqb (pick t m n) 0) d (refuse (pick t m n))
+    go : (t : Bool) → eqb n noRefusal ≡ t → pick t (pick (eqb m noRefusal) d (refuse m)) (refuse n) ≡ pick (eqb (pick t m n) noRefusal) d (refuse (pick t m n))
     go true e = refl
     go false e = rw e
 
 -- 1, then the others
-malformed-by : (t : Bool) (m : ℕ) (d : Decided) → unlessRefused (pick t 1 m) d ≡ unlessRefused (pick t 1 0) (unlessRefused m d)
+malformed-by : (t : Bool) (m : ℕ) (d : Decided) → unlessRefused (pick t malformed m) d ≡ unlessRefused (pick t malformed noRefusal) (unlessRefused m d)
 unfolding unlessRefused
 malformed-by true m d = refl
 malformed-by false m d = refl
 
 -- the first test in code
-pub first-no : {n k : ℕ} (m : ℕ) → n ≡ k → (n ≡ 0 → ⊥) → n ≡ first k m
+pub first-no : {n k : ℕ} (m : ℕ) → n ≡ k → (n ≡ noRefusal → ⊥) → n ≡ first k m
 unfolding first
-first-no {n} {k} m p h = rw (← p, ne-eqb n 0 h)
+first-no {n} {k} m p h = rw (← p, ne-eqb n noRefusal h)
 
-pub first-yes : {n k m : ℕ} {r : ℕ} → n ≡ k → n ≡ 0 → r ≡ m → r ≡ first k m
+pub first-yes : {n k m : ℕ} {r : ℕ} → n ≡ k → n ≡ noRefusal → r ≡ m → r ≡ first k m
 unfolding first
 first-yes p h e = rw (← p, h, e)
 
 -- both tests are passed
-pub first-zero : (n m : ℕ) → first n m ≡ 0 → (n ≡ 0) × (m ≡ 0)
+pub first-zero : (n m : ℕ) → first n m ≡ noRefusal → (n ≡ noRefusal) × (m ≡ noRefusal)
 unfolding first
-first-zero n m e = go (eqb n 0) refl e
+first-zero n m e = go (eqb n noRefusal) refl e
   where
-    go : (t : Bool) → eqb n 0 ≡ t → pick t m n ≡ 0 → (n ≡ 0) × (m ≡ 0)
-    go true q k = (eqb-true n 0 q, k)
+    go : (t : Bool) → eqb n noRefusal ≡ t → pick t m n ≡ noRefusal → (n ≡ noRefusal) × (m ≡ noRefusal)
+    go true q k = (eqb-true n noRefusal q, k)
     go false q k = absurd (false≢true (sym q ∙ rw k))
 
 pub places-good : (p d : ℕ) {u : Bool} → u ≡ placesBad p d → u ≡ false → (p ≤ lastPoint) × (d ≤ lastServer)
@@ -87,7 +88,7 @@ module _ (s log : List ℕ) where
     abbrev given : LogRecord
     given = gave (giveFor (load s) p d)
 
-    give-by : onGive (load s) (freeIn s log) p d ≡ unlessRefused (pick (placesBad p d) 1 (giveRefusal (pointAt (load s) p) (load s .server) (freeIn s log) d)) (append given)
+    give-by : onGive (load s) (freeIn s log) p d ≡ unlessRefused (pick (placesBad p d) malformed (giveRefusal (pointAt (load s) p) (load s .server) (freeIn s log) d)) (append given)
     unfolding giveFor onGive
     give-by = refl
 
@@ -95,7 +96,7 @@ module _ (s log : List ℕ) where
     unfolding giveOf giveNumber lent
     give-is = ap (settle s log []) (ap (unlessRefused (lentRefusal s log 0 0)) give-by ∙ first-by _ _ (append given))
 
-    pub give-ready : giveNumber s log p d ≡ 0 → Fit s log 0 0 × PassedGive (load s) p d × (load s .size + giveSize ≤ length log)
+    pub give-ready : giveNumber s log p d ≡ noRefusal → Fit s log 0 0 × PassedGive (load s) p d × (load s .size + giveSize ≤ length log)
     unfolding giveNumber freeIn
     give-ready e =
         let k = first-zero _ _ e in
@@ -107,7 +108,7 @@ module _ (s log : List ℕ) where
   -- the point's number as it was read, and the log's length
   pub give-settled : (p d : ℕ) {x : Point} {k : ℕ} {r : Answer} {t l : List ℕ} → x ≡ pointAt (load s) p → k ≡ load s .size
       → t ≡ stored s (applyGave (record { point = p; destination = d; moveNumber = x .moveNumber + 1 }) (k + giveSize) (load s))
-      → l ≡ written log k (recordBytes (gave (record { point = p; destination = d; moveNumber = x .moveNumber + 1 }))) → r ≡ answerOf 0 0
+      → l ≡ written log k (recordBytes (gave (record { point = p; destination = d; moveNumber = x .moveNumber + 1 }))) → r ≡ answerOf noRefusal 0
       → after r t l [] ≡ settle s log [] (append (gave (giveFor (load s) p d)))
   unfolding settle recordSize applyRecord giveFor
   give-settled p d {x} a b e f g = let n : x .moveNumber + 1 ≡ suc (x .moveNumber) = omega arith in rw (e, f, g, n, a, b)
@@ -116,7 +117,7 @@ module _ (s log : List ℕ) where
 
 module _ (s log : List ℕ) (p : ℕ) where
   module _ (out : List ℕ) where
-    place-by : (need m : ℕ) (d : Decided) → lent s log out need (unlessRefused (pick (ltb lastPoint p) 1 m) d) ≡ unlessRefused (placeNumber s log (length out) need p) (unlessRefused m d)
+    place-by : (need m : ℕ) (d : Decided) → lent s log out need (unlessRefused (pick (ltb lastPoint p) malformed m) d) ≡ unlessRefused (placeNumber s log (length out) need p) (unlessRefused m d)
     unfolding placeNumber lent
     place-by need m d = ap (unlessRefused (lentRefusal s log (length out) need)) (malformed-by (ltb lastPoint p) m d) ∙ first-by _ _ (unlessRefused m d)
 
@@ -133,21 +134,21 @@ module _ (s log : List ℕ) (p : ℕ) where
     image-is = ap (settle s log out) (place-by greatestImage _ _)
 
     pub receipt-done : {x : Point} {v : ℕ} {r : Answer} {o : List ℕ} → x ≡ pointAt (load s) p → v ≡ load s .server
-        → o ≡ written out 0 (receiptBytes (record { point = p; server = v; moveNumber = x .takenMove })) → r ≡ answerOf 0 receiptSize
+        → o ≡ written out 0 (receiptBytes (record { point = p; server = v; moveNumber = x .takenMove })) → r ≡ answerOf noRefusal receiptSize
         → after r s log o ≡ settle s log out (reply (receiptBytes (record { point = p; server = load s .server; moveNumber = pointAt (load s) p .takenMove })))
     unfolding settle receiptBytes
     receipt-done a b e f = rw (e, f, a, b)
 
-    pub image-done : {n : ℕ} {r : Answer} {o : List ℕ} → o ≡ written out 0 (imageBytes (imageFor (load s) p)) → n ≡ imageLength (imageFor (load s) p) → r ≡ answerOf 0 n
+    pub image-done : {n : ℕ} {r : Answer} {o : List ℕ} → o ≡ written out 0 (imageBytes (imageFor (load s) p)) → n ≡ imageLength (imageFor (load s) p) → r ≡ answerOf noRefusal n
         → after r s log o ≡ settle s log out (reply (imageBytes (imageFor (load s) p)))
     unfolding settle
     image-done a b e = rw (e, a, b, image-length (imageFor (load s) p))
 
-  pub place-ready : {n need m : ℕ} → m ≡ placeNumber s log n need p → m ≡ 0 → Fit s log n need × (p ≤ lastPoint)
+  pub place-ready : {n need m : ℕ} → m ≡ placeNumber s log n need p → m ≡ noRefusal → Fit s log n need × (p ≤ lastPoint)
   unfolding placeNumber
   place-ready {n} {need} q z = let k = first-zero _ _ (sym q ∙ z) in (lent-fit s log n need (k .0), within (ltb lastPoint p) refl (k .1))
     where
-      within : (t : Bool) → ltb lastPoint p ≡ t → pick {A = ℕ} t 1 0 ≡ 0 → p ≤ lastPoint
+      within : (t : Bool) → ltb lastPoint p ≡ t → pick {A = ℕ} t malformed noRefusal ≡ noRefusal → p ≤ lastPoint
       within true e k = absurd (omega (arith, k))
       within false e k = ltb-false lastPoint p e
 
@@ -170,7 +171,7 @@ module _ (s log : List ℕ) where
         ≡ settle s log [] (unlessRefused (releaseRefusal (pointAt (load s) p) (freeIn s log) m) (append (released (releaseFor (load s) p))))
     release-chain = ap (settle s log []) release-by
 
-    pub release-room : {n : ℕ} → n ≡ releaseRefusal (pointAt (load s) p) (freeIn s log) m → n ≡ 0 → load s .size ≤ length log → load s .size + releaseSize ≤ length log
+    pub release-room : {n : ℕ} → n ≡ releaseRefusal (pointAt (load s) p) (freeIn s log) m → n ≡ noRefusal → load s .size ≤ length log → load s .size + releaseSize ≤ length log
     unfolding freeIn
     release-room q z l =
         let a = release-by ∙ unless-passed _ (append (released (releaseFor (load s) p))) (sym q ∙ z) in
@@ -178,7 +179,7 @@ module _ (s log : List ℕ) where
 
   pub release-settled : (p : ℕ) {x : Point} {k : ℕ} {r : Answer} {t l : List ℕ} → x ≡ pointAt (load s) p → k ≡ load s .size
       → t ≡ stored s (applyReleased (record { point = p; moveNumber = x .moveNumber }) (k + releaseSize) (load s))
-      → l ≡ written log k (recordBytes (released (record { point = p; moveNumber = x .moveNumber }))) → r ≡ answerOf 0 0
+      → l ≡ written log k (recordBytes (released (record { point = p; moveNumber = x .moveNumber }))) → r ≡ answerOf noRefusal 0
       → after r t l [] ≡ settle s log [] (append (released (releaseFor (load s) p)))
   unfolding settle recordSize applyRecord releaseFor
   release-settled p a b e f g = rw (e, f, g, a, b)

@@ -24,7 +24,7 @@ use Rattle.model.specs.States.{State, load, pointAt}
 use Rattle.model.specs.Apply.{applyRecord, applyTook}
 use Rattle.model.specs.Decisions.{orMalformed, takeTests, decideTake, onTake}
 use Rattle.model.specs.Operations.{answerOf, after, settle, stored, lentRefusal, lent, freeIn, takeOf}
-use Rattle.model.specs.Refusals.{malformed}
+use Rattle.model.specs.Refusals.{malformed, noRefusal}
 use Rattle.model_laws.specs.Bytes.{Bytes}
 use Rattle.model_laws.proofs.Tests.{and-left, and-right}
 use Rattle.model_laws.proofs.Images.{tested, placed}
@@ -95,7 +95,7 @@ module _ (s log b : List ℕ) where
     unfolding decideTake
     take-chain = refl
 
-    pub take-ready : {n : ℕ} → n ≡ takeTests (load s) (freeIn s log) brought → n ≡ 0 → decideTake (load s) (freeIn s log) brought ≡ append (took brought)
+    pub take-ready : {n : ℕ} → n ≡ takeTests (load s) (freeIn s log) brought → n ≡ noRefusal → decideTake (load s) (freeIn s log) brought ≡ append (took brought)
     unfolding decideTake
     take-ready q z = unless-passed _ (append (took brought)) (sym q ∙ z)
 
@@ -122,7 +122,7 @@ module _ (s log b : List ℕ) where
         take-bounds p l = let S = left p l in (S .clients, S .count)
 
       pub take-settled : {k : ℕ} {r : Answer} {t l : List ℕ} → k ≡ load s .size → t ≡ stored s (applyTook brought (k + takeHead + length b) (load s))
-          → l ≡ written log k (recordBytes (took (imageAt (imageHeadOf b) b))) → r ≡ answerOf 0 0 → after r t l [] ≡ settle s log [] (append (took brought))
+          → l ≡ written log k (recordBytes (took (imageAt (imageHeadOf b) b))) → r ≡ answerOf noRefusal 0 → after r t l [] ≡ settle s log [] (append (took brought))
       unfolding settle recordSize applyRecord
       take-settled {k} a x y z =
           let q : k + takeHead + length b ≡ load s .size + (takeHead + imageLength brought) = omega (arith, a, take-sized) in

@@ -9,7 +9,7 @@ use Rattle.model.specs.declared.Release.{Release}
 use Rattle.model.specs.declared.Packet.{Packet}
 use Rattle.model.specs.declared.Packet.the-variants.{Malformed, Requested, Resulted, Refused, Receipted, Noticed, Granted}
 use Rattle.model.specs.Choice.{pick}
-use Rattle.model.specs.Refusals.{malformed}
+use Rattle.model.specs.Refusals.{malformed, noRefusal}
 use Rattle.model.specs.Limits.{lastPoint}
 use Rattle.model.specs.States.{State, load, pointAt}
 use Rattle.model.specs.Decisions.{placesBad, giveRefusal}
@@ -17,7 +17,7 @@ use Rattle.model.specs.Operations.{lentRefusal, freeIn}
 
 -- the number n, or what comes behind it where n is 0
 unfoldable pub first : ℕ → ℕ → ℕ
-first n m = pick (eqb n 0) m n
+first n m = pick (eqb n noRefusal) m n
 
 -- ---- give
 
@@ -31,7 +31,7 @@ giveNumber s log p d =
 -- ---- receipt and image: what they test before the point's own state
 
 unfoldable pub placeNumber : List ℕ → List ℕ → ℕ → ℕ → ℕ → ℕ
-placeNumber s log n need p = first (lentRefusal s log n need) (pick (ltb lastPoint p) malformed 0)
+placeNumber s log n need p = first (lentRefusal s log n need) (pick (ltb lastPoint p) malformed noRefusal)
 
 -- ---- release
 

@@ -13,7 +13,7 @@ use lib.ListN.{length, drop-of-length-le}
 use lib.Dec.{ltb}
 use borrow.Author.Tests.{ltb-false, ne-eqb, not-false}
 use Rattle.model.specs.Limits.{stateSize, headSize}
-use Rattle.model.specs.Refusals.{malformed, tooShort, badLog}
+use Rattle.model.specs.Refusals.{malformed, tooShort, badLog, noRefusal}
 use Rattle.model.specs.Tables.{written}
 use Rattle.model.specs.Plan.{planOk, planOf}
 use Rattle.model.specs.Logs.{headOk, headServer, entriesOf}
@@ -92,11 +92,11 @@ module _ {log plan s1 s2 : List ℕ} {t : Bool} (w : Begun log plan s1) (d : End
 
 -- by the refusal's number, with the plan's test as a call gave it
 module _ (state log plan : List ℕ) {g : Bool} (p : g ≡ planOk plan) {k : ℕ} (q : k ≡ recoverRefusal (length state) g) where
-  pub recover-refused : (k ≡ 0 → ⊥) → after (answerOf k 0) state log [] ≡ recoverOf state log plan
+  pub recover-refused : (k ≡ noRefusal → ⊥) → after (answerOf k 0) state log [] ≡ recoverOf state log plan
   unfolding recoverOf leftUnless settle
-  recover-refused h = rw (← p, ← q, ne-eqb k 0 h)
+  recover-refused h = rw (← p, ← q, ne-eqb k noRefusal h)
 
-  module _ (z : k ≡ 0) where
+  module _ (z : k ≡ noRefusal) where
     tests : (ltb (length state) stateSize ≡ false) × (not g ≡ false)
     unfolding recoverRefusal
     tests = let a = if-passed tooShort refl (ltb (length state) stateSize) _ (sym q ∙ z) in (a .0, if-passed malformed refl (not g) 0 (a .1) .0)
@@ -117,12 +117,12 @@ module _ (state log plan : List ℕ) {g : Bool} (p : g ≡ planOk plan) {k : ℕ
         go (some st) e = let z : _≡_ {A = ℕ} 0 1 = cc in absurd (omega arith)
 
     pub recover-done : (work : List ℕ) {state' : List ℕ} {v : Bool} → rebuilt v work ≡ recoveredBytes (recoveredState (planOf plan) log) → v ≡ true
-        → state' ≡ written state 0 work → after (answerOf 0 0) state' log [] ≡ recoverOf state log plan
+        → state' ≡ written state 0 work → after (answerOf noRefusal 0) state' log [] ≡ recoverOf state log plan
     unfolding recoverOf leftUnless rebuilt recoveredBytes settleRecovered settle stored
     recover-done work {state'} {v} r f c = rw (← p, ← q, z) (go (recoveredState (planOf plan) log) (rw f at r))
       where
-        go : (o : Option State) → some work ≡ recoveredBytes o → after (answerOf 0 0) state' log [] ≡ settleRecovered state log o
+        go : (o : Option State) → some work ≡ recoveredBytes o → after (answerOf noRefusal 0) state' log [] ≡ settleRecovered state log o
         go none e = let z : _≡_ {A = ℕ} 0 1 = cc in absurd (omega arith)
         go (some st) e =
             let w : work ≡ stateBytes (withMark (st .size) st) = cc in
-            ap (λ (x : List ℕ). after (answerOf 0 0) x log []) (c ∙ ap (written state 0) w)
+            ap (λ (x : List ℕ). after (answerOf noRefusal 0) x log []) (c ∙ ap (written state 0) w)

@@ -19,6 +19,7 @@ use Rattle.model.specs.States.{State, load, pointAt}
 use Rattle.model.specs.Apply.{applyRecord}
 use Rattle.model.specs.Decisions.{isNone, placesBad, giveRefusal, follows}
 use Rattle.model.specs.Operations.{stored}
+use Rattle.model.specs.Choice.{passed}
 use Rattle.state_records.specs.declared.Found.{Found}
 use Rattle.state_records.specs.declared.Found.the-variants.{Nothing, At}
 use Rattle.state_records.specs.Rules.{foundOf}
@@ -35,7 +36,7 @@ free-no o {r = r} p q = rw (found-at o r (sym q ∙ p))
 
 -- a give in range
 pub gave-tests : (st : State) (g : Give) → g .point ≤ lastPoint → g .destination ≤ lastServer
-    → (eqb (giveRefusal (pointAt st (g .point)) (st .server) giveSize (g .destination)) 0 && eqb (g .moveNumber) (pointAt st (g .point) .moveNumber + 1)) ≡ follows st (gave g)
+    → (eqb (giveRefusal (pointAt st (g .point)) (st .server) giveSize (g .destination)) passed && eqb (g .moveNumber) (pointAt st (g .point) .moveNumber + 1)) ≡ follows st (gave g)
 unfolding follows placesBad
 gave-tests st g p d = rw (le-ltb lastPoint (g .point) p, le-ltb lastServer (g .destination) d, add-one)
 

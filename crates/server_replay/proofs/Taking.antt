@@ -21,6 +21,7 @@ use Rattle.model.specs.Logs.{took}
 use Rattle.model.specs.States.{State, load, pointAt}
 use Rattle.model.specs.Apply.{mergeFloors, applyTook, applyRecord}
 use Rattle.model.specs.Decisions.{freeFor, takeRefusal, takeTests, follows}
+use Rattle.model.specs.Choice.{passed}
 use Rattle.model_laws.proofs.Tests.{and-left, and-right}
 use Rattle.model_laws.proofs.Images.{tested}
 use Rattle.model_invariants.specs.Sound.{Sound}
@@ -40,9 +41,9 @@ took-tests st i = let n : ℕ = takeHead + imageLength i in rw (le-ltb n n (omeg
 module _ (st : State) (h : ImageHead) (image : List ℕ) where
   pub took-follows : {n : ℕ} → n ≡ takeRefusal (pointAt st (h .point)) (st .server) (h .destination) (h .moveNumber) (imageInRange (entryAt (st .plan) (h .point)) (imageAt h image))
       (every (freeFor (h .point) (st .records)) (imageAt h image .entries)) (length (mergeFloors (imageAt h image .floors) (st .floors))) 0 0
-      → eqb n 0 ≡ follows st (took (imageAt h image))
+      → eqb n passed ≡ follows st (took (imageAt h image))
   unfolding follows imageAt
-  took-follows e = ap (λ (k : ℕ). eqb k 0) (e ∙ took-tests st (imageAt h image))
+  took-follows e = ap (λ (k : ℕ). eqb k passed) (e ∙ took-tests st (imageAt h image))
 
 -- ---- a well-formed image
 

@@ -37,7 +37,7 @@ use Rattle.model.specs.States.{State, load, pointAt}
 use Rattle.model.specs.Apply.{applyRecord, applyExecuted}
 use Rattle.model.specs.Decisions.{Decided, orMalformed, find, resultOfRecord, resultFor, executedFor, requestRefusal, heldRefusal, newRefusal, onHeld, onNew, onId, decideRequest, denying, onRequest}
 use Rattle.model.specs.Operations.{After, answerOf, after, settle, stored, freeIn, lentRefusal, lent, requestOf}
-use Rattle.model.specs.Refusals.{malformed}
+use Rattle.model.specs.Refusals.{malformed, noRefusal}
 use Rattle.model_laws.proofs.Tests.{and-left}
 use Rattle.model_laws.proofs.Commands.{CommandParts, command-parts}
 use Rattle.format_commands.specs.Results.{checkedRule}
@@ -93,11 +93,11 @@ module _ (st : State) (q : Request) where
   request-decided free = refl
 
 module _ (d : Decided) {e : Decided} {n m : ℕ} (p : n ≡ m) (q : e ≡ unlessRefused m d) where
-  pub refused-by : (n ≡ 0 → ⊥) → {r : Decision} → r ≡ Refuse n → decided r ≡ e
+  pub refused-by : (n ≡ noRefusal → ⊥) → {r : Decision} → r ≡ Refuse n → decided r ≡ e
   unfolding decided
   refused-by h k = rw k (sym (q ∙ ap (λ (j : ℕ). unlessRefused j d) (sym p) ∙ unless-refused n d h))
 
-  pub passed-by : n ≡ 0 → {r : Decided} → r ≡ d → r ≡ e
+  pub passed-by : n ≡ noRefusal → {r : Decided} → r ≡ d → r ≡ e
   passed-by h k = k ∙ sym (q ∙ unless-passed m d (sym p ∙ h))
 
 module _ (st : State) (free : ℕ) (q : Request) {f : Found} (p : f ≡ foundOf (find (q .command .client) (q .command .call) (st .records))) where
@@ -144,12 +144,12 @@ module _ (s log out : List ℕ) where
     unfolding decided denying settle refusalBytes
     denied n h a b = rw (← p, h, a, b)
 
-    pub answered : (x : Completion) → d ≡ Reply x → {r : Answer} {o : List ℕ} → r ≡ answerOf 0 resultSize → o ≡ written out 0 (resultBytes (resultOfRecord x))
+    pub answered : (x : Completion) → d ≡ Reply x → {r : Answer} {o : List ℕ} → r ≡ answerOf noRefusal resultSize → o ≡ written out 0 (resultBytes (resultOfRecord x))
         → after r s log o ≡ settle s log out (denying q e)
     unfolding decided denying
     answered x h a b = rw (← p, h) (replied s log out (resultOfRecord x) a b)
 
-    pub executes : (x : Executed) → d ≡ Execute x → {r : Answer} {t l : List ℕ} → r ≡ answerOf 0 0
+    pub executes : (x : Executed) → d ≡ Execute x → {r : Answer} {t l : List ℕ} → r ≡ answerOf noRefusal 0
         → t ≡ stored s (applyExecuted x (load s .size + executedSize) (load s)) → l ≡ written log (load s .size) (recordBytes (executed x))
         → after r t l out ≡ settle s log out (denying q e)
     unfolding decided denying applyRecord recordSize

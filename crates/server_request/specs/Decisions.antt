@@ -17,6 +17,7 @@ use Rattle.model.specs.Versions.{today}
 use Rattle.model.specs.Apply.{applyExecuted}
 use Rattle.model.specs.Operations.{answerOf, stored}
 use Rattle.model.specs.Decisions.{Decided, resultOfRecord, decideRequest, denying}
+use Rattle.model.specs.Refusals.{noRefusal}
 use Rattle.server_request.specs.declared.Decision.{Decision}
 use Rattle.server_request.specs.declared.Decision.the-variants.{Refuse, Reply, Execute}
 
@@ -35,6 +36,6 @@ requestedBy q st free = denying q (decideRequest today st free q)
 -- an execution logged and applied: the state s and the log become t and l
 abbrev pub Executes : Executed → List ℕ → List ℕ → Answer → List ℕ → List ℕ → Type 0
 Executes x s log r t l =
-    (r ≡ answerOf 0 0)
+    (r ≡ answerOf noRefusal 0)
     × (t ≡ stored s (applyExecuted x (load s .size + executedSize) (load s)))
     × (l ≡ written log (load s .size) (recordBytes (executed x)))

@@ -14,7 +14,7 @@ use lib.ListN.{take, drop, take-append-drop}
 use borrow.Author.Tests.{leb-true}
 use Rattle.model.specs.Choice.{pick}
 use Rattle.model.specs.Yard.{Line, newYard, mostLines, runLines, lineOf, linesFrom, linesOf, repliesText, yardOf}
-use Rattle.simulator_text.specs.Letters.{lineFeed}
+use Rattle.model.specs.Letters.{lineFeed}
 use Rattle.simulator_text.specs.Values.{lineFeeds}
 use Rattle.simulator.specs.Run.{closed}
 

@@ -15,14 +15,14 @@ use lib.Seq.{drop-drop, take-nil, length-take-le}
 use borrow.Author.Tests.{ltb-true, ltb-false, leb-true, leb-false, lt-ltb, le-ltb}
 use borrow.Rule.Slice.PartMut.{midOf}
 use Rattle.model.specs.Choice.{pick}
-use Rattle.model.specs.Refusals.{tooShort}
+use Rattle.model.specs.Refusals.{tooShort, noRefusal}
 use Rattle.model.specs.States.{stateEnd}
 use Rattle.model.specs.Tables.{written}
 use Rattle.model.specs.Operations.{answerOf}
 use Rattle.model.specs.Yard.{Yard, Line, Reply, Step, step, newYard, mostLines, ran, runLines, lineOf, linesFrom, linesOf, replyText, repliesText, yardOf}
 use Rattle.model_laws.proofs.Written.{take-written-run, length-written, tail-part}
 use Rattle.model_laws.proofs.Tests.{and-left, and-right}
-use Rattle.simulator_text.specs.Letters.{lineFeed, replyRoom}
+use Rattle.model.specs.Letters.{lineFeed, replyRoom}
 use Rattle.simulator_text.specs.Values.{replyIs, firstOf, Put}
 use Rattle.simulator_text.proofs.Fields.{lines-next, lines-none}
 use Rattle.simulator_text.proofs.Texts.{length-reply}
@@ -148,7 +148,7 @@ simulate-is text page n out p h e =
     let y = printed-yard text page n p h in
     e ∙ ap (λ (l : List ℕ). handed out n l) (y .0) ∙ ap (λ (k : ℕ). handed out k (yardOf text)) (y .1)
 
-pub handed-over : (out page t : List ℕ) (n : ℕ) → n ≤ length out → t ≡ written out 0 (midOf 0 (n - 0) page) → simulated (answerOf 0 n) t ≡ handed out n (take n page)
+pub handed-over : (out page t : List ℕ) (n : ℕ) → n ≤ length out → t ≡ written out 0 (midOf 0 (n - 0) page) → simulated (answerOf noRefusal n) t ≡ handed out n (take n page)
 unfolding handed
 handed-over out page t n h e = let z : n - 0 ≡ n = omega arith in rw (le-ltb (length out) n h, e, z) refl
 

@@ -8,13 +8,13 @@ use lib.Dec.{leb, ltb}
 use lib.ListN.{length, take, drop}
 use Rattle.model.specs.declared.Answer.{Answer}
 use Rattle.model.specs.Choice.{pick}
-use Rattle.model.specs.Refusals.{tooShort}
+use Rattle.model.specs.Refusals.{tooShort, noRefusal}
 use Rattle.model.specs.Limits.{stateSize}
 use Rattle.model.specs.States.{stateEnd}
 use Rattle.model.specs.Tables.{written}
 use Rattle.model.specs.Operations.{answerOf}
 use Rattle.model.specs.Yard.{Yard, step, mostLines, yardLog, ran, runLines, lineOf, linesOf, replyText, repliesText, yardOf}
-use Rattle.simulator_text.specs.Letters.{lineFeed, replyRoom}
+use Rattle.model.specs.Letters.{lineFeed, replyRoom}
 use Rattle.simulator_text.specs.Values.{replyIs, firstOf, lineFeeds, Put}
 use Rattle.simulator_store.specs.Store.{rowSize, Next}
 use Rattle.simulator.specs.declared.Turn.{Turn}
@@ -65,7 +65,7 @@ simulated a o = record { answer = a; out = o }
 
 -- n bytes of a text into an output: 2 they do not fit, and it is kept; else they stand at its front
 unfoldable pub handed : List ℕ → ℕ → List ℕ → Simulated
-handed out n t = pick (ltb (length out) n) (simulated (answerOf tooShort 0) out) (simulated (answerOf 0 n) (written out 0 t))
+handed out n t = pick (ltb (length out) n) (simulated (answerOf tooShort 0) out) (simulated (answerOf noRefusal n) (written out 0 t))
 
 -- the answers of a schedule's text
 unfoldable pub simulateOf : List ℕ → List ℕ → Simulated

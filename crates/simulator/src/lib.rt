@@ -8,7 +8,7 @@ ghost use Prim.Native.Nat.{_+_, _*_, _≤_, _<_};
 ghost use lib.ListN.{length, take};
 ghost use Rattle.model.specs.Limits.{stateSize};
 ghost use Rattle.model.specs.Yard.{yardLog, mostLines, newYard};
-ghost use Rattle.simulator_text.specs.Letters.{replyRoom};
+ghost use Rattle.model.specs.Letters.{replyRoom};
 ghost use Rattle.simulator_store.specs.Store.{rowSize};
 ghost use Rattle.simulator_state.specs.Whole.{yardIn, Ready};
 ghost use Rattle.simulator.specs.Run.{Turned, Space, Fresh, Printed, simulated, handed, simulateOf, nextPlace, closed};

@@ -5,8 +5,9 @@ use Prim.Native.Nat.{ℕ}
 use mathlib.Core.Path.{_≡_, ap, _∙_}
 use mathlib.Core.List.{List}
 use Rattle.model.specs.declared.Answer.{Answer}
+use Rattle.model.specs.Operations.{wordOf}
 use Rattle.simulator.specs.Run.{Simulated, simulated}
-use Rattle.simulator_c.specs.Interface.{wordOf, Returned, returned, inC}
+use Rattle.simulator_c.specs.Interface.{Returned, returned, inC}
 
 pub returned-in : {r : ℕ} {a : Answer} {o : List ℕ} {x : Simulated} → r ≡ wordOf a → simulated a o ≡ x → returned r o ≡ inC x
 unfolding inC

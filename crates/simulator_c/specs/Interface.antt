@@ -1,14 +1,9 @@
 -- What the simulator leaves in C: its answer in one word of 64 bits, and the output.
 -- Assumes nothing.
-use Prim.Native.Nat.{ℕ, _+_, _*_}
+use Prim.Native.Nat.{ℕ}
 use mathlib.Core.List.{List}
-use Rattle.model.specs.declared.Answer.{Answer}
-use Rattle.model.specs.Numbers.{word}
+use Rattle.model.specs.Operations.{wordOf}
 use Rattle.simulator.specs.Run.{Simulated}
-
--- the low 32 bits are 0 or the refusal's number, the high 32 bits the number of bytes written to the output
-unfoldable pub wordOf : Answer → ℕ
-wordOf a = a .refusal + word * a .wrote
 
 pub record Returned : Type 0 where
   pub answer : ℕ

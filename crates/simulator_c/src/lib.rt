@@ -3,8 +3,9 @@
 use model::Answer;
 use model::constants;
 ghost use mathlib.Core.Path.{_≡_};
+ghost use Rattle.model.specs.Operations.{wordOf};
 ghost use Rattle.simulator.specs.Run.{simulateOf};
-ghost use Rattle.simulator_c.specs.Interface.{wordOf, returned, inC};
+ghost use Rattle.simulator_c.specs.Interface.{returned, inC};
 
 fn word_of(a: Answer) -> u64
     ensures { λ r. ⌜ r ≡ wordOf a ⌝ }

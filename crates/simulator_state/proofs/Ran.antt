@@ -15,7 +15,7 @@ use Rattle.model.specs.declared.SendAnswer.{SendAnswer}
 use Rattle.model.specs.declared.ReceiveAnswer.{ReceiveAnswer}
 use Rattle.model.specs.Choice.{pick}
 use Rattle.model.specs.Numbers.{half}
-use Rattle.model.specs.Refusals.{malformed, badMark, unknown}
+use Rattle.model.specs.Refusals.{malformed, badMark, unknown, noRefusal}
 use Rattle.model.specs.Operations.{After}
 use Rattle.model.specs.States.{load}
 use Rattle.model.specs.Clients.{sendNumber, sentBytes}
@@ -126,12 +126,13 @@ no-server y n (Receipt p) e = known-no n y _ e
 
 sent-join : (y : Yard) (n : ℕ) (a : SendAnswer) → issued y n a ≡ joinClient y n (sentBy (y .packets) a)
 unfolding issued joinClient sentBy sentOutcome withClient withPacket
-sent-join y n a = go (eqb (sendNumber (a .answer)) 0)
+sent-join y n a = go (eqb (sendNumber (a .answer)) noRefusal)
   where
-    go : (t : Bool) → pick t (step (withPacket (withClient y n (a .client)) (sentBytes (a .answer))) (answered 0 (suc (length (y .packets))) half))
+    go : (t : Bool) → pick t (step (withPacket (withClient y n (a .client)) (sentBytes (a .answer))) (answered noRefusal (suc (length (y .packets))) half))
         (step (withClient y n (a .client)) (plain (sendNumber (a .answer))))
         ≡ joinClient y n
-        (attended (a .client) (pick t (outcome (y .packets ++ (sentBytes (a .answer) ∷ [])) (answered 0 (suc (length (y .packets))) half)) (outcome (y .packets) (plain (sendNumber (a .answer))))))
+        (attended (a .client) (pick t (outcome (y .packets ++ (sentBytes (a .answer) ∷ [])) (answered noRefusal (suc (length (y .packets))) half))
+        (outcome (y .packets) (plain (sendNumber (a .answer))))))
     go true = refl
     go false = refl
 

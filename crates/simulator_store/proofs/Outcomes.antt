@@ -22,6 +22,7 @@ use Rattle.model.specs.Tables.{written}
 use Rattle.model.specs.Packets.{requestBytes}
 use Rattle.model.specs.Clients.{sendNumber, sentBytes}
 use Rattle.model.specs.Yard.{plain, answered}
+use Rattle.model.specs.Refusals.{noRefusal}
 use Rattle.model_laws.proofs.Written.{tail-back, written-append}
 use Rattle.simulator_text.specs.Values.{replyIs}
 use Rattle.simulator_store.specs.declared.Made.{Made}
@@ -76,7 +77,7 @@ unfolding requestBytes
 short y = omega arith
 
 pub made-sent : (m : Made) (s t : List ℕ) (n : ℕ) (a : Sent) {x : Request} {b : List ℕ} → a ≡ Asked x → Room s n → b ≡ requestBytes x → t ≡ putIn s n b
-    → m .count ≡ n + 1 → replyIs (m .reply) ≡ answered 0 (n + 1) half
+    → m .count ≡ n + 1 → replyIs (m .reply) ≡ answered noRefusal (n + 1) half
     → (outcomeIs m t ≡ sentOutcome (packetsIn s n) a) × Next n (m .count)
 unfolding outcomeIs sentOutcome sendNumber sentBytes
 made-sent m s t n a {x} {b} d r f e p q =

@@ -16,6 +16,7 @@ use Rattle.model.specs.Limits.{greatestImage, last32}
 use Rattle.model.specs.Tables.{written}
 use Rattle.model.specs.Clients.{sendNumber, sentBytes}
 use Rattle.model.specs.Yard as yard
+use Rattle.model.specs.Refusals.{noRefusal}
 use Rattle.simulator_text.specs.Values.{replyIs}
 use Rattle.simulator_store.specs.declared.Made.{Made}
 use Rattle.simulator_store.specs.declared.Place.{Place}
@@ -96,10 +97,10 @@ outcomeBy ps a out =
 -- a client's issue or resend
 unfoldable pub sentOutcome : List (List ℕ) → Sent → Outcome
 sentOutcome ps a =
-    pick (eqb (sendNumber a) 0) (outcome (ps ++ (sentBytes a ∷ [])) (yard.answered 0 (suc (length ps)) half))
+    pick (eqb (sendNumber a) noRefusal) (outcome (ps ++ (sentBytes a ∷ [])) (yard.answered noRefusal (suc (length ps)) half))
     (outcome ps (yard.plain (sendNumber a)))
 
 -- a refusal's number is not 0
 abbrev pub Sendable : Sent → Type 0
-Sendable (NotSent n) = n ≡ 0 → ⊥
+Sendable (NotSent n) = n ≡ noRefusal → ⊥
 Sendable (Asked q) = Unit

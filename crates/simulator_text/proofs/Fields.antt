@@ -23,7 +23,7 @@ use Rattle.model.specs.Limits.{last32}
 use Rattle.model.specs.Yard.{Line, unreadable, lineOfFields, isDigit, digitsFrom, atMost, numberIn, fieldsFrom, lineOf, endLine, linesFrom}
 use Rattle.model_laws.proofs.Written.{tail-part}
 use Rattle.model_laws.proofs.Tests.{and-left, and-right, choose}
-use Rattle.simulator_text.specs.Letters.{space, lineFeed, firstDigit, lastDigit}
+use Rattle.model.specs.Letters.{space, lineFeed, firstDigit, lastDigit}
 use Rattle.simulator_text.specs.Values.{firstOf, lineFeeds}
 
 -- ---- the place of a byte

@@ -11,11 +11,11 @@ use lib.ListN.{length, getD, drop}
 use borrow.Author.Tests.{eq-eqb, ne-eqb}
 use Rattle.model.specs.Choice.{pick}
 use Rattle.model.specs.Yard as yard
-use Rattle.model.specs.Yard.{numberIn, argumentIn, negative, positive, letterIn, line1, line2, line3, line4, with1, with2, with3, with4}
-use Rattle.simulator_text.specs.Letters.{minus, issueLetter, syncLetter, giveLetter}
+use Rattle.model.specs.Yard.{numberIn, argumentIn, negative, positive, letterIn, letterLine, line1, line2, line3, line4, with1, with2, with3, with4}
+use Rattle.model.specs.Letters.{minus, issueLetter, syncLetter, giveLetter}
 use Rattle.simulator_text.specs.declared.Number.{Number}
 use Rattle.simulator_text.specs.declared.Number.the-variants.{Nothing, Is}
-use Rattle.simulator_text.specs.Values.{numberIs, letterLine}
+use Rattle.simulator_text.specs.Values.{numberIs}
 
 pub letter-one : (s : List ℕ) → length s ≡ 1 → getD s 0 0 ≡ letterIn s
 unfolding letterIn
@@ -58,15 +58,15 @@ one-other k s e h = rw (ne-eqb k syncLetter (λ g. h (e ∙ g))) refl
 
 pub two-none : (k : ℕ) (a b : List ℕ) {x : Number} → numberIs x ≡ numberIn a → x ≡ Nothing → yard.unreadable ≡ with2 k a b
 unfolding with2 line2
-two-none k a b p q = sym (rw (is-none p q) (simp same))
+two-none k a b p q = sym (rw (is-none p q) refl)
 
 pub two-half : (k : ℕ) (a b : List ℕ) {x y : Number} {m : ℕ} → numberIs x ≡ numberIn a → x ≡ Is m → numberIs y ≡ numberIn b → y ≡ Nothing → yard.unreadable ≡ with2 k a b
 unfolding with2 line2 line1
-two-half k a b p q r t = sym (rw (is-some p q, is-none r t) (simp same))
+two-half k a b p q r t = sym (rw (is-some p q, is-none r t) refl)
 
 pub two-read : (k : ℕ) (a b : List ℕ) {x y : Number} {m n j : ℕ} {l : yard.Line} → numberIs x ≡ numberIn a → x ≡ Is m → numberIs y ≡ numberIn b → y ≡ Is n
     → j ≡ k → l ≡ letterLine j m n → l ≡ with2 k a b
-unfolding with2 line2 line1 letterLine
+unfolding with2 line2 line1
 two-read k a b p q r t e h = h ∙ rw (e, is-some p q, is-some r t) refl
 
 -- ---- three numbers

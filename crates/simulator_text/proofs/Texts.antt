@@ -18,7 +18,7 @@ use Rattle.model.specs.Tables.{written}
 use Rattle.model.specs.Yard.{Reply, digitsOf, shown, shownSigned, replyText}
 use Rattle.model_laws.proofs.Tests.{choose}
 use Rattle.model_laws.proofs.Written.{written-append, length-written, written-none}
-use Rattle.simulator_text.specs.Letters.{space, lineFeed, minus, firstDigit, mostDigits, signedRoom, fieldRoom, replyRoom}
+use Rattle.model.specs.Letters.{space, lineFeed, minus, firstDigit, mostDigits, signedRoom, fieldRoom, replyRoom}
 use Rattle.simulator_text.specs.Values.{Put}
 
 pub put-then : {p q r us vs : List ℕ} {a b c : ℕ} → Put p a us q b → Put q b vs r c → Put p a (us ++ vs) r c

@@ -9,7 +9,7 @@ use lib.ListN.{length}
 use Rattle.model.specs.Choice.{pick}
 use Rattle.model.specs.Tables.{written}
 use Rattle.model.specs.Yard as yard
-use Rattle.simulator_text.specs.Letters.{lineFeed, resendLetter, deliverLetter, receiveLetter, cutLetter, imageLetter, receiptLetter}
+use Rattle.model.specs.Letters.{lineFeed}
 use Rattle.simulator_text.specs.declared.Number.{Number}
 use Rattle.simulator_text.specs.declared.Number.the-variants.{Nothing, Is}
 use Rattle.simulator_text.specs.declared.ServerLine.{ServerLine}
@@ -54,16 +54,6 @@ firstOf x (b ∷ s) = pick (eqb b x) 0 (suc (firstOf x s))
 unfoldable pub lineFeeds : List ℕ → ℕ
 lineFeeds [] = 0
 lineFeeds (b ∷ s) = pick (eqb b lineFeed) (suc (lineFeeds s)) (lineFeeds s)
-
--- a line of two numbers, by its letter
-unfoldable pub letterLine : ℕ → ℕ → ℕ → yard.Line
-letterLine c a b =
-    pick (eqb c resendLetter) (yard.resend a b)
-    (pick (eqb c deliverLetter) (yard.deliver a b)
-    (pick (eqb c receiveLetter) (yard.receive a b)
-    (pick (eqb c cutLetter) (yard.cut a b)
-    (pick (eqb c imageLetter) (yard.image a b)
-    (pick (eqb c receiptLetter) (yard.receipt a b) yard.unreadable)))))
 
 -- the text vs was put into p from a place on, which leaves q and the place behind it
 pub record Put (p : List ℕ) (at : ℕ) (vs : List ℕ) (q : List ℕ) (next : ℕ) : Type 0 where

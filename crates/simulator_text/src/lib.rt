@@ -4,10 +4,10 @@ ghost use mathlib.Core.Path.{_≡_};
 ghost use mathlib.Core.List.{[], _∷_, _++_};
 ghost use Prim.Native.Nat.{_+_, _-_, _*_, _≤_, _<_};
 ghost use lib.ListN.{length};
-ghost use Rattle.model.specs.Yard.{isDigit, numberIn, argumentIn, negative, positive, letterIn, with1, with2, with3, with4, lineOfFields, fieldsFrom, lineOf, digitsOf, shown, shownSigned, replyText};
+ghost use Rattle.model.specs.Yard.{isDigit, numberIn, argumentIn, negative, positive, letterIn, letterLine, with1, with2, with3, with4, lineOfFields, fieldsFrom, lineOf, digitsOf, shown, shownSigned, replyText};
 ghost use Rattle.model.specs.Limits.{last32};
-ghost use Rattle.simulator_text.specs.Letters.{firstDigit, lastDigit, space, mostDigits, signedRoom, fieldRoom, replyRoom};
-ghost use Rattle.simulator_text.specs.Values.{numberIs, lineIs, replyIs, letterLine, firstOf, lineFeeds, Put};
+ghost use Rattle.model.specs.Letters.{firstDigit, lastDigit, space, mostDigits, signedRoom, fieldRoom, replyRoom};
+ghost use Rattle.simulator_text.specs.Values.{numberIs, lineIs, replyIs, firstOf, lineFeeds, Put};
 
 // The digits of a number of 32 bits, at the most.
 const DIGITS: u32 = 10;

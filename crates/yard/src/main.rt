@@ -6,7 +6,7 @@ ghost use mathlib.Core.Path.{_≡_};
 ghost use Prim.Native.Nat.{_+_, _*_};
 ghost use lib.ListN.{length};
 ghost use Rattle.model.specs.Yard.{mostLines};
-ghost use Rattle.simulator_text.specs.Letters.{replyRoom};
+ghost use Rattle.model.specs.Letters.{replyRoom};
 ghost use Rattle.yard.specs.Input.{longest, holdsAll};
 
 // Bytes of an input that is read whole.

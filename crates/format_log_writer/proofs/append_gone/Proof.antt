@@ -2,6 +2,7 @@
 -- Assumes nothing.
 use Rattle.model.specs.Packets.{noticeBytes}
 use Rattle.model.specs.Logs.{recordBytes}
+use Rattle.model.specs.Limits.{goneKind}
 use Rattle.model_laws.proofs.Written.{tail-back}
 use borrow.Author.Needs.{needs}
 use Rattle.format_log_writer.proofs.append_gone.Statement.{statement}
@@ -11,7 +12,7 @@ returns : tie.Need-returns
 unfolding recordBytes
 returns c =
     let start = c .before .before .before .before .before .args in
-    rw (c .before .before .write-notice .ensures) (tail-back (start .at) (start .log .now) (noticeBytes 2 (start .x)))
+    rw (c .before .before .write-notice .ensures) (tail-back (start .at) (start .log .now) (noticeBytes goneKind (start .x)))
 
 pub append-gone-spec : {M : Type 1} → statement M
 append-gone-spec =

@@ -1,6 +1,6 @@
 -- `kernel::word_of` meets its contract.
 -- Assumes nothing.
-use Rattle.kernel.specs.Interface.{wordOf}
+use Rattle.model.specs.Operations.{wordOf}
 use borrow.Author.Needs.{needs}
 use Rattle.kernel.proofs.word_of.Statement.{statement}
 use Rattle.kernel.proofs.word_of.Tie as tie

@@ -1,6 +1,6 @@
 -- `simulator_c::word_of` meets its contract.
 -- Assumes nothing.
-use Rattle.simulator_c.specs.Interface.{wordOf}
+use Rattle.model.specs.Operations.{wordOf}
 use borrow.Author.Needs.{needs}
 use Rattle.simulator_c.proofs.word_of.Statement.{statement}
 use Rattle.simulator_c.proofs.word_of.Tie as tie

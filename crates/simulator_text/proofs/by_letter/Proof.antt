@@ -1,7 +1,7 @@
 -- `simulator_text::by_letter` meets its contract.
 -- Assumes nothing.
 use Rattle.format_numbers.proofs.Picks.{picks}
-use Rattle.simulator_text.specs.Values.{letterLine}
+use Rattle.model.specs.Yard.{letterLine}
 use Rattle.simulator_text.proofs.by_letter.Statement.{statement}
 use Rattle.simulator_text.proofs.by_letter.Tie as tie
 

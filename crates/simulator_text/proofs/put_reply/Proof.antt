@@ -3,7 +3,7 @@
 use Rattle.simulator_text.proofs.Texts.{put-then, put-as, put-room, field-room, length-signed, reply-parts}
 use Prim.Native.Nat.{ℕ, _+_, _*_}
 use native.Mathlib.Omega.{arith}
-use Rattle.simulator_text.specs.Letters.{signedRoom, fieldRoom}
+use Rattle.model.specs.Letters.{signedRoom, fieldRoom}
 use Rattle.simulator_text.specs.Values.{replyIs}
 use borrow.Author.Needs.{needs}
 use Rattle.simulator_text.proofs.put_reply.Statement.{statement}
