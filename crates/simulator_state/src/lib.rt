@@ -12,7 +12,7 @@ use simulator_text::ServerLine;
 ghost use mathlib.Core.Path.{_≡_};
 ghost use mathlib.Core.List.{List};
 ghost use Prim.Native.Nat.{ℕ};
-ghost use lib.ListN.{length, replicate};
+ghost use lib.ListN.{length};
 ghost use Rattle.model.specs.Limits.{stateSize};
 ghost use Rattle.model.specs.Yard.{yardLog, yardServer, yardClient, newYard, ran};
 ghost use Rattle.simulator_text.specs.Values.{lineIs, serverLine, clientLine};
@@ -159,22 +159,14 @@ pub fn step(
 
 // ---- a new simulator
 
-fn clear(s: &mut [u8])
-    ensures { λ r. ⌜ now (s .exit) ≡ replicate (length (now (s .entry))) 0 ⌝ }
-{
-    let mut i = 0;
-    while i < s.len() {
-        s[i] = 0;
-        i += 1;
-    }
-}
-
 fn new_server(s: &mut [u8], log: &mut [u8], n: u32)
     requires { ⌜ (length (now s) ≡ stateSize) × (length (now log) ≡ yardLog) ⌝ }
     ensures { λ r. ⌜ (now (s .exit) ≡ yardServer n .state) × (now (log .exit) ≡ yardServer n .log) ⌝ }
 {
-    clear(s);
-    clear(log);
+    let states = s.len();
+    let logs = log.len();
+    state_rows::clear(s, 0, states);
+    state_rows::clear(log, 0, logs);
     let p = simulator_server::plan();
     server_found::found(s, log, &p, n);
 }

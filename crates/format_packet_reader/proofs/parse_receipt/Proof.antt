@@ -7,22 +7,15 @@ use borrow.Author.Needs.{needs}
 use Rattle.format_packet_reader.proofs.parse_receipt.Statement.{statement}
 use Rattle.format_packet_reader.proofs.parse_receipt.Tie as tie
 
-returns : tie.Need-returns
-unfolding parseReceipt packetLength
-returns c = other-length _ receiptKind _ _ (c .if1 .taken)
-
-returns-2 : tie.Need-returns-2
-unfolding parseReceipt packetLength
-returns-2 c = by-fields _ receiptKind _ _ (c .before .before .before .before .if1 .left) (cc)
-
 pub parse-receipt-spec : {M : Type 1} → statement M
+unfolding parseReceipt packetLength
 parse-receipt-spec =
     tie.close
     (tie.spec
     (λ c. search needs)
-    returns
+    (λ c. other-length _ receiptKind _ _ (c .if1 .taken))
     (λ c κs. search needs)
     (λ c κs. search needs)
     (λ c κs. search needs)
     (λ c κs. search needs)
-    returns-2)
+    (λ c. by-fields _ receiptKind _ _ (c .before .before .before .before .if1 .left) cc))

@@ -7,22 +7,15 @@ use borrow.Author.Needs.{needs}
 use Rattle.format_packet_reader.proofs.parse_refusal.Statement.{statement}
 use Rattle.format_packet_reader.proofs.parse_refusal.Tie as tie
 
-returns : tie.Need-returns
-unfolding parseRefusal packetLength
-returns c = other-length _ refusalKind _ _ (c .if1 .taken)
-
-returns-2 : tie.Need-returns-2
-unfolding parseRefusal packetLength
-returns-2 c = by-fields _ refusalKind _ _ (c .before .before .before .before .if1 .left) (cc)
-
 pub parse-refusal-spec : {M : Type 1} → statement M
+unfolding parseRefusal packetLength
 parse-refusal-spec =
     tie.close
     (tie.spec
     (λ c. search needs)
-    returns
+    (λ c. other-length _ refusalKind _ _ (c .if1 .taken))
     (λ c κs. search needs)
     (λ c κs. search needs)
     (λ c κs. search needs)
     (λ c κs. search needs)
-    returns-2)
+    (λ c. by-fields _ refusalKind _ _ (c .before .before .before .before .if1 .left) cc))

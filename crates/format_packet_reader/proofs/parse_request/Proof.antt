@@ -7,22 +7,15 @@ use borrow.Author.Needs.{needs}
 use Rattle.format_packet_reader.proofs.parse_request.Statement.{statement}
 use Rattle.format_packet_reader.proofs.parse_request.Tie as tie
 
-returns : tie.Need-returns
-unfolding parseRequest packetLength
-returns c = other-length _ requestKind _ _ (c .if1 .taken)
-
-returns-2 : tie.Need-returns-2
-unfolding parseRequest packetLength
-returns-2 c = by-fields _ requestKind _ _ (c .before .before .before .before .if1 .left) (cc)
-
 pub parse-request-spec : {M : Type 1} → statement M
+unfolding parseRequest packetLength
 parse-request-spec =
     tie.close
     (tie.spec
     (λ c. search needs)
-    returns
+    (λ c. other-length _ requestKind _ _ (c .if1 .taken))
     (λ c κs. search needs)
     (λ c κs. search needs)
     (λ c κs. search needs)
     (λ c κs. search needs)
-    returns-2)
+    (λ c. by-fields _ requestKind _ _ (c .before .before .before .before .if1 .left) cc))

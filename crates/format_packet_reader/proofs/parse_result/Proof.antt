@@ -7,21 +7,14 @@ use borrow.Author.Needs.{needs}
 use Rattle.format_packet_reader.proofs.parse_result.Statement.{statement}
 use Rattle.format_packet_reader.proofs.parse_result.Tie as tie
 
-returns : tie.Need-returns
-unfolding parseResult packetLength
-returns c = other-length _ resultKind _ _ (c .if1 .taken)
-
-returns-2 : tie.Need-returns-2
-unfolding parseResult packetLength
-returns-2 c = by-fields _ resultKind _ _ (c .before .before .before .if1 .left) (cc)
-
 pub parse-result-spec : {M : Type 1} → statement M
+unfolding parseResult packetLength
 parse-result-spec =
     tie.close
     (tie.spec
     (λ c. search needs)
-    returns
+    (λ c. other-length _ resultKind _ _ (c .if1 .taken))
     (λ c κs. search needs)
     (λ c κs. search needs)
     (λ c κs. search needs)
-    returns-2)
+    (λ c. by-fields _ resultKind _ _ (c .before .before .before .if1 .left) cc))

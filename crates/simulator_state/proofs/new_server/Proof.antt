@@ -1,17 +1,19 @@
 -- `simulator_state::new_server` meets its contract.
 -- Assumes nothing.
-use Rattle.simulator_state.proofs.News.{new-server}
+use Rattle.simulator_state.proofs.News.{all-zeros, new-server}
 use borrow.Author.Needs.{needs}
 use Rattle.simulator_state.proofs.new_server.Statement.{statement}
 use Rattle.simulator_state.proofs.new_server.Tie as tie
 
 returns : tie.Need-returns
-returns c = new-server _ _ _ _ _ _ (c .before .before .before .before .found .ensures)
-    (c .before .before .before .before .before .before .before .before .before .before .before .before .before .before .before .clear .ensures)
-    (c .before .before .before .before .before .before .before .before .before .before .before .clear2 .ensures)
-    (c .before .before .before .before .before .before .before .before .before .before .before .before .before .before .before .before .before .before .before .pre .0)
-    (c .before .before .before .before .before .before .before .before .before .before .before .before .before .before .before .before .before .before .before .pre .1)
-    (c .before .before .before .before .before .before .before .before .plan .ensures)
+returns c =
+    let at-found = c .before .before .before .before in
+    let at-plan = at-found .before .before .before .before in
+    let at-clear2 = at-plan .before .before .before in
+    let at-clear = at-clear2 .before .before .before .before in
+    let start = at-clear .before .before .before .before in
+    new-server _ _ _ _ _ _ (at-found .found .ensures) (all-zeros (start .args .s .now) (at-clear .clear .ensures)) (all-zeros (start .args .log .now) (at-clear2 .clear2 .ensures))
+    (start .pre .0) (start .pre .1) (at-plan .plan .ensures)
 
 pub new-server-spec : {M : Type 1} → statement M
 new-server-spec =

@@ -6,152 +6,93 @@ use native.Mathlib.Omega.{arith}
 use Rattle.simulator_text.proofs.Texts.{digits-none, digits-one, digits-more, length-digits}
 use borrow.Fn.Kinds.{In}
 use borrow.Fn.PlainCycle.{Measures, is, falls, and}
-use Rattle.simulator_text.proofs.put_digits.Reads as put-digits
-use Rattle.simulator_text.proofs.put_digits.Kinds as put-digits-kinds
-use Rattle.simulator_text.proofs.+put_digits.Lts-put_digits as put-digits-lts
-use Rattle.simulator_text.proofs.put_byte.Reads as put-byte-reads
+use Rattle.simulator_text.proofs.put_digits.Reads.{Pre, Post}
+use Rattle.simulator_text.proofs.put_digits.Kinds.{ps}
+use Rattle.simulator_text.proofs.+put_digits.Lts-put_digits as lts
+use Rattle.simulator_text.proofs.put_byte.Reads as put-byte
 use Rattle.simulator_text.proofs.+put_digits.{statement}
 use Rattle.simulator_text.proofs.+put_digits.Tie.{close}
 
-abbrev μ-put-digits : Measures 1 put-digits-kinds.ps ℕ
-μ-put-digits κs a = a .1 .1 .0
+-- what falls at each call: the digits still allowed
+abbrev μ : Measures 1 ps ℕ
+μ κs a = a .1 .1 .0
 
-abbrev put-digits-at : ℕ → In 1 put-digits-kinds.ps
-put-digits-at t =
-    and 1 put-digits-kinds.ps (is 1 put-digits-kinds.ps μ-put-digits t) put-digits.Pre
+module _ (t : ℕ) where
+  -- a call with t digits allowed, and what is known of the functions that it calls
+  abbrev At : In 1 ps
+  At = and 1 ps (is 1 ps μ t) Pre
 
-abbrev put-digits-below : ℕ → In 1 put-digits-kinds.ps
-put-digits-below t =
-    and 1 put-digits-kinds.ps (falls 1 put-digits-kinds.ps _<_ μ-put-digits t) put-digits.Pre
+  abbrev called : lts.Claims
+  called = (put-byte.Asked, put-byte.Learnt, and 1 ps (falls 1 ps _<_ μ t) Pre, Post)
 
-put-digits-returns : (t : ℕ) → put-digits-lts.Need-returns (
-  put-byte-reads.Asked,
-  put-byte-reads.Learnt,
-  put-digits-below t,
-  put-digits.Post,
-) (put-digits-at t) put-digits.Post
-put-digits-returns t c = digits-none _ _ _ _ (c .if1 .taken)
+  returns : lts.Need-returns called At Post
+  returns c = digits-none _ _ _ _ (c .if1 .taken)
 
-put-digits-cast-put-byte : (t : ℕ) → put-digits-lts.Need-cast-put-byte (
-  put-byte-reads.Asked,
-  put-byte-reads.Learnt,
-  put-digits-below t,
-  put-digits.Post,
-) (put-digits-at t) put-digits.Post
-put-digits-cast-put-byte t c = omega arith
+  cast-put-byte : lts.Need-cast-put-byte called At Post
+  cast-put-byte c = omega arith
 
-put-digits-add-put-byte : (t : ℕ) → put-digits-lts.Need-add-put-byte (
-  put-byte-reads.Asked,
-  put-byte-reads.Learnt,
-  put-digits-below t,
-  put-digits.Post,
-) (put-digits-at t) put-digits.Post
-put-digits-add-put-byte t c = omega arith
+  add-put-byte : lts.Need-add-put-byte called At Post
+  add-put-byte c = omega arith
 
-put-digits-put-byte-requires : (t : ℕ) → put-digits-lts.Need-put-byte-requires (
-  put-byte-reads.Asked,
-  put-byte-reads.Learnt,
-  put-digits-below t,
-  put-digits.Post,
-) (put-digits-at t) put-digits.Post
-put-digits-put-byte-requires t c κs = omega arith
+  put-byte-requires : lts.Need-put-byte-requires called At Post
+  put-byte-requires c κs = omega arith
 
-put-digits-same-length : (t : ℕ) → put-digits-lts.Need-same-length (
-  put-byte-reads.Asked,
-  put-byte-reads.Learnt,
-  put-digits-below t,
-  put-digits.Post,
-) (put-digits-at t) put-digits.Post
-put-digits-same-length t c = c .before .before .put-byte .kept .0
+  same-length : lts.Need-same-length called At Post
+  same-length c = c .before .before .put-byte .kept .0
 
-put-digits-returns-2 : (t : ℕ) → put-digits-lts.Need-returns-2 (
-  put-byte-reads.Asked,
-  put-byte-reads.Learnt,
-  put-digits-below t,
-  put-digits.Post,
-) (put-digits-at t) put-digits.Post
-put-digits-returns-2 t c = digits-one _ _ (c .before .before .before .before .before .if1 .left) (c .before .before .before .before .if2 .taken) (c .before .before .put-byte .ensures)
+  returns-2 : lts.Need-returns-2 called At Post
+  returns-2 c =
+      let at-byte = c .before .before in
+      let at-if2 = at-byte .before .before in
+      digits-one _ _ (at-if2 .before .if1 .left) (at-if2 .if2 .taken) (at-byte .put-byte .ensures)
 
-put-digits-sub-put-digits : (t : ℕ) → put-digits-lts.Need-sub-put-digits (
-  put-byte-reads.Asked,
-  put-byte-reads.Learnt,
-  put-digits-below t,
-  put-digits.Post,
-) (put-digits-at t) put-digits.Post
-put-digits-sub-put-digits t c = omega arith
+  sub-put-digits : lts.Need-sub-put-digits called At Post
+  sub-put-digits c = omega arith
 
-put-digits-put-digits-requires : (t : ℕ) → put-digits-lts.Need-put-digits-requires (
-  put-byte-reads.Asked,
-  put-byte-reads.Learnt,
-  put-digits-below t,
-  put-digits.Post,
-) (put-digits-at t) put-digits.Post
-put-digits-put-digits-requires t c κs = (omega arith, omega arith)
+  put-digits-requires : lts.Need-put-digits-requires called At Post
+  put-digits-requires c κs = (omega arith, omega arith)
 
-put-digits-cast-put-byte-2 : (t : ℕ) → put-digits-lts.Need-cast-put-byte-2 (
-  put-byte-reads.Asked,
-  put-byte-reads.Learnt,
-  put-digits-below t,
-  put-digits.Post,
-) (put-digits-at t) put-digits.Post
-put-digits-cast-put-byte-2 t c = omega arith
+  cast-put-byte-2 : lts.Need-cast-put-byte-2 called At Post
+  cast-put-byte-2 c = omega arith
 
-put-digits-add-put-byte-2 : (t : ℕ) → put-digits-lts.Need-add-put-byte-2 (
-  put-byte-reads.Asked,
-  put-byte-reads.Learnt,
-  put-digits-below t,
-  put-digits.Post,
-) (put-digits-at t) put-digits.Post
-put-digits-add-put-byte-2 t c = omega arith
+  add-put-byte-2 : lts.Need-add-put-byte-2 called At Post
+  add-put-byte-2 c = omega arith
 
-put-digits-put-byte-requires-2 : (t : ℕ) → put-digits-lts.Need-put-byte-requires-2 (
-  put-byte-reads.Asked,
-  put-byte-reads.Learnt,
-  put-digits-below t,
-  put-digits.Post,
-) (put-digits-at t) put-digits.Post
-put-digits-put-byte-requires-2 t c κs =
-    let d = c .before .before .before in
-    let a = d .before .before .before .before .before .args in
-    omega (arith, d .put-digits .ensures .behind, length-digits (a .k - 1) (a .v / 10), d .put-digits .kept .0)
+  put-byte-requires-2 : lts.Need-put-byte-requires-2 called At Post
+  put-byte-requires-2 c κs =
+      let d = c .before .before .before in
+      let a = d .before .before .before .before .before .args in
+      omega (arith, d .put-digits .ensures .behind, length-digits (a .k - 1) (a .v / 10), d .put-digits .kept .0)
 
-put-digits-same-length-2 : (t : ℕ) → put-digits-lts.Need-same-length-2 (
-  put-byte-reads.Asked,
-  put-byte-reads.Learnt,
-  put-digits-below t,
-  put-digits.Post,
-) (put-digits-at t) put-digits.Post
-put-digits-same-length-2 t c = c .before .before .put-byte2 .kept .0 ∙ c .before .before .before .before .before .before .put-digits .kept .0
+  same-length-2 : lts.Need-same-length-2 called At Post
+  same-length-2 c =
+      let at-byte = c .before .before in
+      at-byte .put-byte2 .kept .0 ∙ at-byte .before .before .before .before .put-digits .kept .0
 
-put-digits-returns-3 : (t : ℕ) → put-digits-lts.Need-returns-3 (
-  put-byte-reads.Asked,
-  put-byte-reads.Learnt,
-  put-digits-below t,
-  put-digits.Post,
-) (put-digits-at t) put-digits.Post
-put-digits-returns-3 t c = digits-more _ _ (c .before .before .before .before .before .before .before .before .before .if1 .left)
-    (c .before .before .before .before .before .before .before .before .if2 .left) (c .before .before .before .before .before .before .put-digits .ensures)
-    (c .before .before .put-byte2 .ensures)
+  returns-3 : lts.Need-returns-3 called At Post
+  returns-3 c =
+      let at-byte = c .before .before in
+      let at-digits = at-byte .before .before .before .before in
+      let at-if2 = at-digits .before .before in
+      digits-more _ _ (at-if2 .before .if1 .left) (at-if2 .if2 .left) (at-digits .put-digits .ensures) (at-byte .put-byte2 .ensures)
 
 pub +put-digits-spec : {M : Type 1} → statement M
-+put-digits-spec = close μ-put-digits λ t. put-digits-lts.spec (
-  put-byte-reads.Asked,
-  put-byte-reads.Learnt,
-  put-digits-below t,
-  put-digits.Post,
-)
-    (put-digits-at t)
-    put-digits.Post
-    (put-digits-returns t)
-    (put-digits-cast-put-byte t)
-    (put-digits-add-put-byte t)
-    (put-digits-put-byte-requires t)
-    (put-digits-same-length t)
-    (put-digits-returns-2 t)
-    (put-digits-sub-put-digits t)
-    (put-digits-put-digits-requires t)
-    (put-digits-cast-put-byte-2 t)
-    (put-digits-add-put-byte-2 t)
-    (put-digits-put-byte-requires-2 t)
-    (put-digits-same-length-2 t)
-    (put-digits-returns-3 t)
++put-digits-spec =
+    close μ λ t.
+    lts.spec
+    (called t)
+    (At t)
+    Post
+    (returns t)
+    (cast-put-byte t)
+    (add-put-byte t)
+    (put-byte-requires t)
+    (same-length t)
+    (returns-2 t)
+    (sub-put-digits t)
+    (put-digits-requires t)
+    (cast-put-byte-2 t)
+    (add-put-byte-2 t)
+    (put-byte-requires-2 t)
+    (same-length-2 t)
+    (returns-3 t)
