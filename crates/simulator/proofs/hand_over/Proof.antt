@@ -10,7 +10,7 @@ returns : tie.Need-returns
 returns c = kept-back _ _ _ (c .if1 .taken)
 
 cast-t12 : tie.Need-cast-t12
-cast-t12 c = omega (arith, c .before .before .before .before .before .before .before .before .pre .0)
+cast-t12 c = let at-if1 = c .before .before .before .before in omega (arith, at-if1 .before .before .before .before .pre .0)
 
 returns-2 : tie.Need-returns-2
 returns-2 c = handed-over _ _ _ _ (c .before .before .before .before .before .if1 .left) (c .before .before .copy-bytes .ensures)

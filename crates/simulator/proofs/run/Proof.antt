@@ -18,16 +18,27 @@ Inv-loop text page₀ s0₀ log0₀ s1₀ log1₀ store₀ m at₀ n₀ k₀ pag
 abbrev μ-loop : tie.MeasureT-loop
 μ-loop text page₀ s0₀ log0₀ s1₀ log1₀ store₀ m at₀ n₀ k₀ page s0 log0 s1 log1 store w at n k = suc mostLines - k
 
+-- ---- the places on the way
+
+abbrev start-of : tie.After-slice-known6 Inv-loop μ-loop → tie.Start Inv-loop μ-loop
+start-of c = c .before .before .before .before .before .before .before
+
+abbrev test-at : tie.After-run-line-arg6 Inv-loop μ-loop → tie.In-loop Inv-loop μ-loop
+test-at c = c .before .before .before .before .before .before
+
+abbrev line-at : tie.After-w Inv-loop μ-loop → tie.After-run-line Inv-loop μ-loop
+line-at c = let at-log0 = c .before .before .before .before .before .before in at-log0 .before .before .before .before .before .before .before
+
+-- ---- the needs
+
 loop-holds : tie.Need-loop-holds Inv-loop μ-loop
-loop-holds c =
-    let a = c .before .before .before .before .before .before .before in
-    (running-start _ _ _ _ (a .pre .pages) (a .pre .none), refl, refl, refl, refl, refl, refl)
+loop-holds c = let p = start-of c .pre in (running-start _ _ _ _ (p .pages) (p .none), refl, refl, refl, refl, refl, refl)
 
 run-line-requires : tie.Need-run-line-requires Inv-loop μ-loop
 run-line-requires c κs =
-    let t = c .before .before .before .before .before .before in
+    let t = test-at c in
     let l = t .before .loop in
-    let a = t .before .before .before .before .before .before .before .before .before in
+    let a = start-of (t .before .before) in
     let u = l .inv .0 in
     let k = test-left (l .k) (l .at) (length (a .args .text .now)) (t .loop-test .taken) in
     let p = a .pre in
@@ -38,23 +49,21 @@ run-line-requires c κs =
     )
 
 add-k : tie.Need-add-k Inv-loop μ-loop
-add-k c =
-    let t = c .before .before .before .before .before .before .before .before .before .before .before .before .before .before .before .before .before .before .before .before in
-    omega (arith, t .before .loop .inv .0 .most)
+add-k c = omega (arith, test-at (line-at c .before) .before .loop .inv .0 .most)
 
 loop-less : tie.Need-loop-less Inv-loop μ-loop
 loop-less c =
-    let t = c .before .before .before .before .before .before .before .before .before .before .before .before .before .before .before .before .before .before .before .before in
+    let t = test-at (line-at c .before) in
     let l = t .before .loop in
-    let a = t .before .before .before .before .before .before .before .before .before .args in
-    omega (arith, l .inv .0 .most, test-left (l .k) (l .at) (length (a .text .now)) (t .loop-test .taken))
+    omega (arith, l .inv .0 .most, test-left (l .k) (l .at) (length (start-of (t .before .before) .args .text .now)) (t .loop-test .taken))
 
 loop-again : tie.Need-loop-again Inv-loop μ-loop
 loop-again c =
-    let r = c .before .before .before .before .before .before .before .before .before .before .before .before .before .run-line in
-    let t = c .before .before .before .before .before .before .before .before .before .before .before .before .before .before .before .before .before .before .before .before in
+    let at-line = line-at c in
+    let r = at-line .run-line in
+    let t = test-at (at-line .before) in
     let l = t .before .loop in
-    let n = length (t .before .before .before .before .before .before .before .before .before .args .text .now) in
+    let n = length (start-of (t .before .before) .args .text .now) in
     let e = t .loop-test .taken in
     let page = r .kept .1 in
     let s0 = page .1 in

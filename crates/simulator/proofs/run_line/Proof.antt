@@ -6,29 +6,36 @@ use borrow.Author.Needs.{needs}
 use Rattle.simulator.proofs.run_line.Statement.{statement}
 use Rattle.simulator.proofs.run_line.Tie as tie
 
+-- ---- the places on the way
+
+abbrev start-of : tie.After-find → tie.Start
+start-of c = let at-slices = c .before .before in at-slices .before .before .before .before .before .before .before
+
+abbrev line-at : tie.After-step → tie.After-line-of
+line-at c = c .before .before .before .before .before .before
+
+abbrev step-at : tie.After-put-reply-arg → tie.After-step
+step-at c = let at-log1 = c .before .before .before .before .before .before in at-log1 .before .before .before .before .before .before .before
+
+-- ---- the needs
+
 add-e : tie.Need-add-e
-add-e c =
-    let a = c .before .before .before .before .before .before .before .before .before .args in
-    omega (arith, part-length (a .text .now) (a .at), c .find .ensures .1)
+add-e c = let a = start-of c .args in omega (arith, part-length (a .text .now) (a .at), c .find .ensures .1)
 
 part-line-of-end : tie.Need-part-line-of-end
-part-line-of-end c =
-    let a = c .before .before .before .before .before .before .before .before .before .args in
-    omega (arith, part-length (a .text .now) (a .at), c .find .ensures .1)
+part-line-of-end c = let a = start-of c .args in omega (arith, part-length (a .text .now) (a .at), c .find .ensures .1)
 
 step-requires : tie.Need-step-requires
-step-requires c κs = c .before .before .before .before .before .before .before .before .before .before .before .before .before .before .before .before .pre .0
+step-requires c κs = start-of (c .before .before .before .before .before .before .before) .pre .0
 
 put-reply-requires : tie.Need-put-reply-requires
-put-reply-requires c κs =
-    let t = c .before .before .before .before .before .before .before .before .before .before .before .before .before .before .before in
-    t .before .before .before .before .before .before .before .before .before .before .before .before .before .before .before .pre .2
+put-reply-requires c κs = start-of (line-at (step-at c) .before .before) .pre .2
 
 returns : tie.Need-returns
 returns c =
     let p = c .before .before .before in
-    let t = p .before .before .before .before .before .before .before .before .before .before .before .before .before .before in
-    let l = t .before .before .before .before .before .before in
+    let t = step-at (p .before) in
+    let l = line-at t in
     let f = l .before .before .find in
     let e = t .step .ensures in
     turned _ _ _ _ _ _ _ _ _ _ (f .result) (f .ensures .0) (l .line-of .ensures) (e .0) (c .next-place .ensures) (p .put-reply .ensures) (e .1)

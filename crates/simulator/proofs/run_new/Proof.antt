@@ -5,15 +5,23 @@ use borrow.Author.Needs.{needs}
 use Rattle.simulator.proofs.run_new.Statement.{statement}
 use Rattle.simulator.proofs.run_new.Tie as tie
 
+-- ---- the places on the way
+
+abbrev start-of : tie.After-new-yard-arg4 → tie.Start
+start-of c = let at-slices = c .before .before .before .before in at-slices .before .before .before .before .before .before .before
+
+abbrev new-of : tie.After-run-arg6 → tie.After-new-yard
+new-of c = let at-log1 = c .before .before .before .before .before .before .before in at-log1 .before .before .before .before .before .before .before
+
+-- ---- the needs
+
 new-yard-requires : tie.Need-new-yard-requires
-new-yard-requires c κs =
-    let p = c .before .before .before .before .before .before .before .before .before .before .before .pre in
-    (p .first, p .log0, p .second, p .log1)
+new-yard-requires c κs = let p = start-of c .pre in (p .first, p .log0, p .second, p .log1)
 
 run-requires : tie.Need-run-requires
 run-requires c κs =
-    let n = c .before .before .before .before .before .before .before .before .before .before .before .before .before .before in
-    let p = n .before .before .before .before .before .before .before .before .before .before .before .before .pre in
+    let n = new-of c in
+    let p = start-of (n .before) .pre in
     let k = n .new-yard .kept in
     record {
       pages = p .pages;
@@ -25,10 +33,10 @@ run-requires c κs =
 
 returns : tie.Need-returns
 returns c =
-    let r = c .before .before .before .before .before .before .before .before .before .before .before .before in
-    let n = r .before .before .before .before .before .before .before .before .before .before .before .before .before .before .before in
-    let a = n .before .before .before .before .before .before .before .before .before .before .before .before .args in
-    rw (n .new-yard .ensures .0 (a .store .now)) at (r .run .ensures)
+    let at-slices = c .before .before .before .before .before .before in
+    let r = at-slices .before .before .before .before .before .before in
+    let n = new-of (r .before) in
+    rw (n .new-yard .ensures .0 (start-of (n .before) .args .store .now)) at (r .run .ensures)
 
 pub run-new-spec : {M : Type 1} → statement M
 run-new-spec =

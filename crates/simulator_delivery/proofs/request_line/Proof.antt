@@ -8,7 +8,10 @@ use Rattle.simulator_delivery.proofs.request_line.Tie as tie
 
 returns : tie.Need-returns
 unfolding room
-returns c = served-by _ (c .before .before .before .before .before .before .before .before .before .before .by-request .ensures) (c .before .before .called .ensures)
+returns c =
+    let at-called = c .before .before in
+    let at-slices = at-called .before .before .before .before in
+    served-by _ (at-slices .before .before .before .before .by-request .ensures) (at-called .called .ensures)
 
 pub request-line-spec : {M : Type 1} → statement M
 request-line-spec =

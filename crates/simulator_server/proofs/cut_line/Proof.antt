@@ -21,8 +21,9 @@ returns c =
 part-recover-from-end : tie.Need-part-recover-from-end
 part-recover-from-end c =
     let n = c .before in
-    let a = n .before .before .before .before .before .before .before .before .before .args in
-    let m : n .lesser .result ≤ length (a .log .now) = rw (n .lesser .ensures) (lesser-most (a .bytes) (length (a .log .now))) in
+    let m = n .before .before .before .before .before in
+    let a = m .before .before .before .before .args in
+    let l : n .lesser .result ≤ length (a .log .now) = rw (n .lesser .ensures) (lesser-most (a .bytes) (length (a .log .now))) in
     omega arith
 
 returns-2 : tie.Need-returns-2

@@ -6,8 +6,10 @@ use Rattle.simulator_server.proofs.sync_line.Statement.{statement}
 use Rattle.simulator_server.proofs.sync_line.Tie as tie
 
 returns : tie.Need-returns
-returns c = rw (← c .before .before .before .before .before .before .before .before .before .size-of .ensures)
-    (served-by _ (c .before .before .before .before .before .before .before .sync .ensures) (c .before .before .called .ensures))
+returns c =
+    let at-called = c .before .before in
+    let at-sync = at-called .before .before .before .before .before in
+    rw (← at-sync .before .before .size-of .ensures) (served-by _ (at-sync .sync .ensures) (at-called .called .ensures))
 
 pub sync-line-spec : {M : Type 1} → statement M
 sync-line-spec =

@@ -16,7 +16,8 @@ returns c =
 
 returns-2 : tie.Need-returns-2
 returns-2 c =
-    let t = c .before .before .before .before .before .before .before .before .before .before in
+    let at-slices = c .before .before .before .before .before in
+    let t = at-slices .before .before .before .before .before in
     rw (t .before .before .before .before .before .before .before .line .given .1) (t .server-line .ensures)
 
 returns-3 : tie.Need-returns-3

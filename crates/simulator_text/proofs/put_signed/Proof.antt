@@ -6,8 +6,10 @@ use Rattle.simulator_text.proofs.put_signed.Statement.{statement}
 use Rattle.simulator_text.proofs.put_signed.Tie as tie
 
 returns : tie.Need-returns
-returns c = signed-minus _ (c .before .before .before .before .before .before .before .before .if1 .taken)
-    (c .before .before .before .before .before .before .put-byte .ensures) (c .before .before .put-number .ensures)
+returns c =
+    let at-number = c .before .before in
+    let at-byte = at-number .before .before .before .before in
+    signed-minus _ (at-byte .before .before .if1 .taken) (at-byte .put-byte .ensures) (at-number .put-number .ensures)
 
 returns-2 : tie.Need-returns-2
 returns-2 c = signed-plain _ (c .before .before .before .before .if1 .left) (c .before .before .put-number2 .ensures)

@@ -9,13 +9,16 @@ returns : tie.Need-returns
 returns c = two-none _ _ _ (c .before .before .number-in .ensures) (c .enum-told .given .1)
 
 returns-2 : tie.Need-returns-2
-returns-2 c = two-half _ _ _ (c .before .before .before .before .before .before .number-in .ensures) (c .before .before .before .before .x .given .1)
-    (c .before .before .number-in2 .ensures) (c .enum-told2 .given .1)
+returns-2 c =
+    let at-x = c .before .before .before .before in
+    two-half _ _ _ (at-x .before .before .number-in .ensures) (at-x .x .given .1) (c .before .before .number-in2 .ensures) (c .enum-told2 .given .1)
 
 returns-3 : tie.Need-returns-3
-returns-3 c = two-read _ _ _ (c .before .before .before .before .before .before .before .before .before .number-in .ensures)
-    (c .before .before .before .before .before .before .before .x .given .1) (c .before .before .before .before .before .number-in2 .ensures)
-    (c .before .before .before .y .given .1) (c .before .letter-in .ensures) (c .by-letter .ensures)
+returns-3 c =
+    let at-y = c .before .before .before in
+    let at-x = at-y .before .before .before .before in
+    two-read _ _ _ (at-x .before .before .number-in .ensures) (at-x .x .given .1) (at-y .before .before .number-in2 .ensures) (at-y .y .given .1)
+    (c .before .letter-in .ensures) (c .by-letter .ensures)
 
 pub with-2-spec : {M : Type 1} → statement M
 with-2-spec =
