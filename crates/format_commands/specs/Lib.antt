@@ -1,2 +1,2 @@
--- What the contracts and laws of `command` cite beside `model`.
+-- What the contracts and laws of `format_commands` cite beside `model`.
 pub mod Results

@@ -1,3 +1,3 @@
--- Laws that the proofs of `images`, and of those who call it, cite.
+-- Laws that the proofs of `format_image_reader`, and of those who call it, cite.
 pub mod Tables
 pub mod Whole

@@ -1,3 +1,3 @@
--- What the contracts of `images` cite beside `model`.
+-- What the contracts of `format_image_reader` cite beside `model`.
 pub mod Answers
 pub mod Walks

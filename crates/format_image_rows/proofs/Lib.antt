@@ -1,2 +1,2 @@
--- Laws that the proofs of `image_rows` cite.
+-- Laws that the proofs of `format_image_rows` cite.
 pub mod Rows

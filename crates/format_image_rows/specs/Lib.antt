@@ -1,2 +1,2 @@
--- What the contracts of `image_rows` cite beside `model`.
+-- What the contracts of `format_image_rows` cite beside `model`.
 pub mod Order

@@ -1,2 +1,2 @@
--- Laws that the proofs of `image_writer`, and of those who call it, cite.
+-- Laws that the proofs of `format_image_writer`, and of those who call it, cite.
 pub mod Runs

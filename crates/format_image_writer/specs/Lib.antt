@@ -1,2 +1,2 @@
--- What the contracts of `image_writer` cite beside `model`.
+-- What the contracts of `format_image_writer` cite beside `model`.
 pub mod Heads

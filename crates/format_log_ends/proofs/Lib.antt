@@ -1,2 +1,2 @@
--- Laws that the proofs of `extents`, and of those who call it, cite.
+-- Laws that the proofs of `format_log_ends`, and of those who call it, cite.
 pub mod Ends

@@ -1,2 +1,2 @@
--- What the contracts of `extents` cite.
+-- What the contracts of `format_log_ends` cite.
 pub mod Answers

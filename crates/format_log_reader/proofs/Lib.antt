@@ -1,2 +1,2 @@
--- Laws that the proofs of `records` cite, and laws of its answers.
+-- Laws that the proofs of `format_log_reader` cite, and laws of its answers.
 pub mod Reading

@@ -1,2 +1,2 @@
--- What the contracts of `records` cite.
+-- What the contracts of `format_log_reader` cite.
 pub mod Answers

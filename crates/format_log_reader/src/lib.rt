@@ -1,4 +1,4 @@
-// What a whole record of the log says; `extents` tells where it ends.
+// What a whole record of the log says; `format_log_ends` tells where it ends.
 use model::Command;
 use model::CommandResult;
 use model::Executed;

@@ -1,2 +1,2 @@
--- Laws that the proofs of `appends` cite.
+-- Laws that the proofs of `format_log_writer` cite.
 pub mod Writing

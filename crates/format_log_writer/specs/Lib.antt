@@ -1,2 +1,2 @@
--- What the contracts of `appends` cite.
+-- What the contracts of `format_log_writer` cite.
 pub mod Fronts

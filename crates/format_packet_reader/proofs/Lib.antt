@@ -1,2 +1,2 @@
--- Laws that the proofs of `parser` cite.
+-- Laws that the proofs of `format_packet_reader` cite.
 pub mod Whole

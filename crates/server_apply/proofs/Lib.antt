@@ -1,4 +1,4 @@
--- Laws that the proofs of `apply` cite.
+-- Laws that the proofs of `server_apply` cite.
 pub mod Composed
 pub mod Stages
 pub mod Gave

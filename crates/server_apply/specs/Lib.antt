@@ -1,4 +1,4 @@
--- What the laws of `apply` speak of.
+-- What the laws of `server_apply` speak of.
 pub mod Stage
 pub mod Room
 pub mod Taking

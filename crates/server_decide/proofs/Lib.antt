@@ -1,2 +1,2 @@
--- Laws that the proofs of `decide` cite.
+-- Laws that the proofs of `server_decide` cite.
 pub mod Nots

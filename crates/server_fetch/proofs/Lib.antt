@@ -1,2 +1,2 @@
--- Laws that the proofs of `serve` cite.
+-- Laws that the proofs of `server_fetch` cite.
 pub mod Chains

@@ -1,2 +1,2 @@
--- Laws that the proofs of `found`, and of those who call it, cite.
+-- Laws that the proofs of `server_found`, and of those who call it, cite.
 pub mod Founded

@@ -1,2 +1,2 @@
--- Laws that the proofs of `lent`, and of the operations, cite.
+-- Laws that the proofs of `server_memory`, and of the operations, cite.
 pub mod Settled

@@ -1,2 +1,2 @@
--- What the contracts of `lent` cite beside `model`.
+-- What the contracts of `server_memory` cite beside `model`.
 pub mod Memory

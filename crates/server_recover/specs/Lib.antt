@@ -1,3 +1,3 @@
--- What the contracts of `recover` cite beside `model`.
+-- What the contracts of `server_recover` cite beside `model`.
 pub mod Remaining
 pub mod Rebuilt

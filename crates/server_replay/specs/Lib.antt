@@ -1,3 +1,3 @@
--- What the contracts of `replay` cite beside `model`.
+-- What the contracts of `server_replay` cite beside `model`.
 pub mod Standing
 pub mod Imaged

@@ -1,3 +1,3 @@
--- Laws that the proofs of `request` cite.
+-- Laws that the proofs of `server_request` cite.
 pub mod Chains
 pub mod Passed

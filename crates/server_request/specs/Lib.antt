@@ -1,2 +1,2 @@
--- What the contracts of `request` cite beside `model`.
+-- What the contracts of `server_request` cite beside `model`.
 pub mod Decisions

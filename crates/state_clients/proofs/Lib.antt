@@ -1,4 +1,4 @@
--- Laws that the proofs of `client_table`, and of those who call it, cite.
+-- Laws that the proofs of `state_clients`, and of those who call it, cite.
 pub mod Raised
 pub mod Loops
 pub mod Own

@@ -1,3 +1,3 @@
--- What the contracts of `client_table` cite beside `model` and `laws`.
+-- What the contracts of `state_clients` cite beside `model` and `model_laws`.
 pub mod Places
 pub mod Ordered

@@ -1,4 +1,4 @@
--- Laws that the proofs of `image_state`, and of those who call it, cite.
+-- Laws that the proofs of `state_image`, and of those who call it, cite.
 pub mod Order
 pub mod Filled
 pub mod Picking

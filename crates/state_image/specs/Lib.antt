@@ -1,2 +1,2 @@
--- What the contracts of `image_state` cite beside `model`.
+-- What the contracts of `state_image` cite beside `model`.
 pub mod Slots

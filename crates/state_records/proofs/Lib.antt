@@ -1,4 +1,4 @@
--- Laws that the proofs of `record_table`, and of those who call it, cite.
+-- Laws that the proofs of `state_records`, and of those who call it, cite.
 pub mod Search
 pub mod Kept
 pub mod Unmoved

@@ -1,3 +1,3 @@
--- What the contracts of `record_table` cite beside `model` and `laws`.
+-- What the contracts of `state_records` cite beside `model` and `model_laws`.
 pub mod Rules
 pub mod Sought

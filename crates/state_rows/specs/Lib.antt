@@ -1,2 +1,2 @@
--- What the contracts of `state_rows` cite beside `model` and `laws`.
+-- What the contracts of `state_rows` cite beside `model` and `model_laws`.
 pub mod Canonical

@@ -1,4 +1,4 @@
--- Laws that the proofs of `sound_rows`, and of those who call it, cite.
+-- Laws that the proofs of `state_sound_rows`, and of those who call it, cite.
 pub mod Chains
 pub mod Loops
 pub mod Zeros

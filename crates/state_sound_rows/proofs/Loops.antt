@@ -1,4 +1,4 @@
--- What a loop that tests each row of a table starts from: `Open` of `images`, the rows from i on decide the answer.
+-- What a loop that tests each row of a table starts from: `Open` of `model_laws`, the rows from i on decide the answer.
 --     open-start     the answer is a test of every row
 --     clients-open     it is that the clients ascend: a test of every two neighbours, at a place by client-pair
 -- Assumes nothing.

@@ -1,2 +1,2 @@
--- Definitions that the contracts of `sound_rows` cite.
+-- Definitions that the contracts of `state_sound_rows` cite.
 pub mod Parts

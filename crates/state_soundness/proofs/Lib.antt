@@ -1,4 +1,4 @@
--- Laws that the proofs of `soundness`, and of those who call it, cite.
+-- Laws that the proofs of `state_soundness`, and of those who call it, cite.
 pub mod Places
 pub mod Hints
 pub mod Records

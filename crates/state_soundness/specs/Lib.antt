@@ -1,2 +1,2 @@
--- Definitions that the contracts of `soundness` cite.
+-- Definitions that the contracts of `state_soundness` cite.
 pub mod Slots

@@ -1,4 +1,4 @@
--- `command::checked_rule` meets its contract.
+-- `format_commands::checked_rule` meets its contract.
 -- Assumes nothing.
 use mathlib.Core.Path.{refl, sym, _∙_}
 use native.Mathlib.Omega.{arith}

@@ -1,4 +1,4 @@
--- `command::end_past` meets its contract.
+-- `format_commands::end_past` meets its contract.
 -- Assumes nothing.
 use Rattle.format_numbers.proofs.Picks.{picks}
 use borrow.Author.Needs.{needs}

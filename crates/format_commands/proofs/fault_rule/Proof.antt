@@ -1,4 +1,4 @@
--- `command::fault_rule` meets its contract.
+-- `format_commands::fault_rule` meets its contract.
 -- Assumes nothing.
 use Rattle.model.specs.Rules.{faultRule}
 use borrow.Author.Needs.{needs}

@@ -1,4 +1,4 @@
--- `command::part_rule` meets its contract.
+-- `format_commands::part_rule` meets its contract.
 -- Assumes nothing.
 use Rattle.format_commands.proofs.Bounds.{part-scaled}
 use native.Mathlib.Omega.{arith}

@@ -1,4 +1,4 @@
--- `command::plan_entry` meets its contract.
+-- `format_commands::plan_entry` meets its contract.
 -- Assumes nothing.
 use Rattle.format_commands.proofs.Plan.{plan-entry-at}
 use borrow.Author.Needs.{needs}

@@ -1,4 +1,4 @@
--- `command::plan_entry_ok` meets its contract.
+-- `format_commands::plan_entry_ok` meets its contract.
 -- Assumes nothing.
 use borrow.Author.Needs.{needs}
 use Rattle.model.specs.Plan.{planEntryOk}

@@ -1,4 +1,4 @@
--- `command::plan_ok` meets its contract.
+-- `format_commands::plan_ok` meets its contract.
 -- Assumes nothing.
 use borrow.Author.Needs.{needs}
 use Prim.Native.Nat.{_≤_, _-_}

@@ -1,4 +1,4 @@
--- `command::plan_row_ok` meets its contract.
+-- `format_commands::plan_row_ok` meets its contract.
 -- Assumes nothing.
 use Rattle.model.specs.Plan.{planRowOk}
 use Rattle.model_laws.proofs.Numbers.{zeros3-drop}

@@ -1,4 +1,4 @@
--- `command::step_rule` meets its contract.
+-- `format_commands::step_rule` meets its contract.
 -- Assumes nothing.
 use Rattle.format_numbers.proofs.Picks.{picks}
 use Rattle.model.specs.Rules.{stepRule}

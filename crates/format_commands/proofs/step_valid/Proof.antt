@@ -1,4 +1,4 @@
--- `command::step_valid` meets its contract.
+-- `format_commands::step_valid` meets its contract.
 -- Assumes nothing.
 use mathlib.Core.Path.{_≡_, ap, sym, _∙_}
 use Prim.Native.Nat.{ℕ, _+_, _-_}

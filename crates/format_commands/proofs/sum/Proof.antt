@@ -1,4 +1,4 @@
--- `command::sum` meets its contract.
+-- `format_commands::sum` meets its contract.
 -- Assumes nothing.
 use native.Mathlib.Omega.{arith}
 use Rattle.format_commands.proofs.Bounds.{sum-bounds}

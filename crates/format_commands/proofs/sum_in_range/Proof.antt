@@ -1,4 +1,4 @@
--- `command::sum_in_range` meets its contract.
+-- `format_commands::sum_in_range` meets its contract.
 -- Assumes nothing.
 use Rattle.model.specs.Rules.{sumInRange}
 use borrow.Author.Needs.{needs}

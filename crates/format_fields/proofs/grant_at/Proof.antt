@@ -1,4 +1,4 @@
--- `fields::grant_at` meets its contract.
+-- `format_fields::grant_at` meets its contract.
 -- Assumes nothing.
 use Rattle.model.specs.Packets.{grantAt}
 use borrow.Author.Needs.{needs}

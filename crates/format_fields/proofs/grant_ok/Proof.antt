@@ -1,4 +1,4 @@
--- `fields::grant_ok` meets its contract.
+-- `format_fields::grant_ok` meets its contract.
 -- Assumes nothing.
 use borrow.Author.Needs.{needs}
 use Rattle.model.specs.Packets.{grantOk}

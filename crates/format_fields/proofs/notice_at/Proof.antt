@@ -1,4 +1,4 @@
--- `fields::notice_at` meets its contract.
+-- `format_fields::notice_at` meets its contract.
 -- Assumes nothing.
 use Rattle.model.specs.Packets.{noticeAt}
 use borrow.Author.Needs.{needs}

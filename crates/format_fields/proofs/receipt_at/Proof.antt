@@ -1,4 +1,4 @@
--- `fields::receipt_at` meets its contract.
+-- `format_fields::receipt_at` meets its contract.
 -- Assumes nothing.
 use Rattle.model.specs.Packets.{receiptAt}
 use borrow.Author.Needs.{needs}

@@ -1,4 +1,4 @@
--- `fields::refusal_at` meets its contract.
+-- `format_fields::refusal_at` meets its contract.
 -- Assumes nothing.
 use Rattle.model.specs.Packets.{refusalAt}
 use borrow.Author.Needs.{needs}

@@ -1,4 +1,4 @@
--- `fields::refusal_ok` meets its contract.
+-- `format_fields::refusal_ok` meets its contract.
 -- Assumes nothing.
 use Rattle.model.specs.Packets.{refusalOk}
 use borrow.Author.Needs.{needs}

@@ -1,4 +1,4 @@
--- `fields::request_at` meets its contract.
+-- `format_fields::request_at` meets its contract.
 -- Assumes nothing.
 use Rattle.model.specs.Packets.{requestAt}
 use borrow.Author.Needs.{needs}

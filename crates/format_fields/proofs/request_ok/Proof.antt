@@ -1,4 +1,4 @@
--- `fields::request_ok` meets its contract.
+-- `format_fields::request_ok` meets its contract.
 -- Assumes nothing.
 use Rattle.model.specs.Packets.{requestOk}
 use borrow.Author.Needs.{needs}

@@ -1,4 +1,4 @@
--- `fields::result_at` meets its contract.
+-- `format_fields::result_at` meets its contract.
 -- Assumes nothing.
 use Rattle.model.specs.Packets.{resultAt}
 use borrow.Author.Needs.{needs}

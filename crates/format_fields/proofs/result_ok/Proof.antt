@@ -1,4 +1,4 @@
--- `fields::result_ok` meets its contract.
+-- `format_fields::result_ok` meets its contract.
 -- Assumes nothing.
 use Rattle.model.specs.Packets.{resultOk}
 use borrow.Author.Needs.{needs}

@@ -1,4 +1,4 @@
--- `images::body_ok` meets its contract.
+-- `format_image_reader::body_ok` meets its contract.
 -- Assumes nothing.
 use borrow.Author.Tests.{not-false}
 use native.Mathlib.Omega.{arith}

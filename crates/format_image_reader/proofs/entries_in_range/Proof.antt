@@ -1,4 +1,4 @@
--- `images::entries_in_range` meets its contract.
+-- `format_image_reader::entries_in_range` meets its contract.
 -- Assumes nothing.
 use Prim.Native.Nat.{_-_}
 use borrow.Author.Needs.{needs}

@@ -1,4 +1,4 @@
--- `images::entries_ok` meets its contract.
+-- `format_image_reader::entries_ok` meets its contract.
 -- Assumes nothing.
 use Prim.Native.Nat.{_-_}
 use borrow.Author.Needs.{needs}

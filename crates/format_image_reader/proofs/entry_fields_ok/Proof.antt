@@ -1,4 +1,4 @@
--- `images::entry_fields_ok` meets its contract.
+-- `format_image_reader::entry_fields_ok` meets its contract.
 -- Assumes nothing.
 use borrow.Author.Needs.{needs}
 use Rattle.format_image_reader.specs.Walks.{entryFieldsOk}

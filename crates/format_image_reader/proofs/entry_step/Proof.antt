@@ -1,4 +1,4 @@
--- `images::entry_step` meets its contract.
+-- `format_image_reader::entry_step` meets its contract.
 -- Assumes nothing.
 use borrow.Author.Needs.{needs}
 use Rattle.format_image_reader.proofs.Tables.{entry-last, entry-before}

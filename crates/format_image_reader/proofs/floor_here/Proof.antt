@@ -1,4 +1,4 @@
--- `images::floor_here` meets its contract.
+-- `format_image_reader::floor_here` meets its contract.
 -- Assumes nothing.
 use borrow.Author.Needs.{needs}
 use Rattle.format_image_reader.proofs.Tables.{here-none, here-found, here-other}

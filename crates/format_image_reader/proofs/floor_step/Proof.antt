@@ -1,4 +1,4 @@
--- `images::floor_step` meets its contract.
+-- `format_image_reader::floor_step` meets its contract.
 -- Assumes nothing.
 use borrow.Author.Needs.{needs}
 use Rattle.format_image_reader.proofs.Tables.{floor-last, floor-before}

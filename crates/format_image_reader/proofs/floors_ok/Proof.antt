@@ -1,4 +1,4 @@
--- `images::floors_ok` meets its contract.
+-- `format_image_reader::floors_ok` meets its contract.
 -- Assumes nothing.
 use Prim.Native.Nat.{_-_}
 use borrow.Author.Needs.{needs}

@@ -1,4 +1,4 @@
--- `images::image_ok` meets its contract.
+-- `format_image_reader::image_ok` meets its contract.
 -- Assumes nothing.
 use borrow.Author.Tests.{not-false}
 use Rattle.format_image_reader.proofs.Whole.{last-test}

@@ -1,4 +1,4 @@
--- `images::image_read` meets its contract.
+-- `format_image_reader::image_read` meets its contract.
 -- Assumes nothing.
 use borrow.Author.Tests.{not-true, not-false}
 use Rattle.format_image_reader.proofs.Whole.{read-malformed, read-head, ok-least}

@@ -1,4 +1,4 @@
--- `images::next_floor` meets its contract.
+-- `format_image_reader::next_floor` meets its contract.
 -- Assumes nothing.
 use Prim.Native.Nat.{_-_}
 use borrow.Author.Needs.{needs}

@@ -1,4 +1,4 @@
--- `images::tables_ok` meets its contract.
+-- `format_image_reader::tables_ok` meets its contract.
 -- Assumes nothing.
 use native.Mathlib.Omega.{arith}
 use borrow.Author.Tests.{not-true, not-false}

@@ -1,4 +1,4 @@
--- `images::values_in_range` meets its contract.
+-- `format_image_reader::values_in_range` meets its contract.
 -- Assumes nothing.
 use Rattle.model.specs.Images.{imageInRange, imageAt}
 use Rattle.model_laws.proofs.Ands.{ands}

@@ -1,4 +1,4 @@
--- `image_rows::client_before` meets its contract.
+-- `format_image_rows::client_before` meets its contract.
 -- Assumes nothing.
 use borrow.Author.Needs.{needs}
 use Rattle.format_image_rows.proofs.client_before.Statement.{statement}

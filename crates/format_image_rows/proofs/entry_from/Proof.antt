@@ -1,4 +1,4 @@
--- `image_rows::entry_from` meets its contract.
+-- `format_image_rows::entry_from` meets its contract.
 -- Assumes nothing.
 use Rattle.format_image_rows.proofs.Rows.{entry-drop}
 use borrow.Author.Needs.{needs}

@@ -1,4 +1,4 @@
--- `image_rows::entry_in_range` meets its contract.
+-- `format_image_rows::entry_in_range` meets its contract.
 -- Assumes nothing.
 use Rattle.model.specs.Images.{entryInRange}
 use borrow.Author.Needs.{needs}

@@ -1,4 +1,4 @@
--- `image_rows::entry_row_ok` meets its contract.
+-- `format_image_rows::entry_row_ok` meets its contract.
 -- Assumes nothing.
 use mathlib.Core.Path.{sym, _∙_}
 use Rattle.model_laws.proofs.Numbers.{zero-drop}

@@ -1,4 +1,4 @@
--- `image_rows::floor_ok` meets its contract.
+-- `format_image_rows::floor_ok` meets its contract.
 -- Assumes nothing.
 use Rattle.model.specs.Images.{floorOk}
 use borrow.Author.Needs.{needs}

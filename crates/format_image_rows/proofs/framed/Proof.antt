@@ -1,4 +1,4 @@
--- `image_rows::framed` meets its contract.
+-- `format_image_rows::framed` meets its contract.
 -- Assumes nothing.
 use Rattle.model.specs.Images.{imageFramed}
 use borrow.Author.Needs.{needs}

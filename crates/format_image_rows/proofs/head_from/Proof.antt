@@ -1,4 +1,4 @@
--- `image_rows::head_from` meets its contract.
+-- `format_image_rows::head_from` meets its contract.
 -- Assumes nothing.
 use Rattle.model.specs.Images.{imageHeadOf}
 use borrow.Author.Needs.{needs}

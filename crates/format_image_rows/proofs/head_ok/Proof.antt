@@ -1,4 +1,4 @@
--- `image_rows::head_ok` meets its contract.
+-- `format_image_rows::head_ok` meets its contract.
 -- Assumes nothing.
 use Rattle.model.specs.Images.{imageHeadOk}
 use borrow.Author.Needs.{needs}

@@ -1,4 +1,4 @@
--- `image_rows::id_before` meets its contract.
+-- `format_image_rows::id_before` meets its contract.
 -- Assumes nothing.
 use Rattle.format_image_rows.specs.Order.{entryBefore}
 use Rattle.model.specs.Images.{idBefore}

@@ -1,4 +1,4 @@
--- `image_rows::in_window` meets its contract.
+-- `format_image_rows::in_window` meets its contract.
 -- Assumes nothing.
 use Rattle.model.specs.Images.{inWindow}
 use borrow.Author.Needs.{needs}

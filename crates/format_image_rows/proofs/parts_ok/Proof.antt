@@ -1,4 +1,4 @@
--- `image_rows::parts_ok` meets its contract.
+-- `format_image_rows::parts_ok` meets its contract.
 -- Assumes nothing.
 use Rattle.model.specs.Images.{imageParts}
 use borrow.Author.Needs.{needs}

@@ -1,4 +1,4 @@
--- `image_writer::put_entry` meets its contract.
+-- `format_image_writer::put_entry` meets its contract.
 -- Assumes nothing.
 use Rattle.model.specs.Images.{imageEntryBytes}
 use Rattle.model.specs.Numbers.{flip}

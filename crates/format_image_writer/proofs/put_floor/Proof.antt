@@ -1,4 +1,4 @@
--- `image_writer::put_floor` meets its contract.
+-- `format_image_writer::put_floor` meets its contract.
 -- Assumes nothing.
 use Rattle.model.specs.Images.{floorBytes}
 use Rattle.format_image_writer.proofs.Runs.{two-runs}

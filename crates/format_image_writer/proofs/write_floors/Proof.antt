@@ -1,4 +1,4 @@
--- `image_writer::write_floors` meets its contract.
+-- `format_image_writer::write_floors` meets its contract.
 -- Assumes nothing.
 use Prim.Native.Nat.{_-_}
 use borrow.Author.Needs.{needs}

@@ -1,4 +1,4 @@
--- `image_writer::write_head` meets its contract.
+-- `format_image_writer::write_head` meets its contract.
 -- Assumes nothing.
 use Rattle.format_image_writer.proofs.Runs.{head-written}
 use borrow.Author.Needs.{needs}

@@ -1,4 +1,4 @@
--- `extents::extent_at` meets its contract.
+-- `format_log_ends::extent_at` meets its contract.
 -- Assumes nothing.
 use borrow.Author.Tests.{lt-leb}
 use Rattle.model_laws.proofs.Written.{tail-part}

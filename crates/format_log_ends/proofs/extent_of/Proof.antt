@@ -1,4 +1,4 @@
--- `extents::extent_of` meets its contract.
+-- `format_log_ends::extent_of` meets its contract.
 -- Assumes nothing.
 use Rattle.format_numbers.proofs.Picks.{picks}
 use Rattle.format_log_ends.specs.Answers.{extentMeans}

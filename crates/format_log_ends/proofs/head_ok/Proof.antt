@@ -1,4 +1,4 @@
--- `extents::head_ok` meets its contract.
+-- `format_log_ends::head_ok` meets its contract.
 -- Assumes nothing.
 use borrow.Author.Tests.{le-leb}
 use Rattle.model_laws.proofs.Ands.{ands, go-test}

@@ -1,4 +1,4 @@
--- `extents::head_server` meets its contract.
+-- `format_log_ends::head_server` meets its contract.
 -- Assumes nothing.
 use Rattle.model.specs.Logs.{headServer}
 use borrow.Author.Needs.{needs}

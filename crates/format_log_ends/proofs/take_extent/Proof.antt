@@ -1,4 +1,4 @@
--- `extents::take_extent` meets its contract.
+-- `format_log_ends::take_extent` meets its contract.
 -- Assumes nothing.
 use Rattle.format_log_ends.proofs.Ends.{take-off, take-rest}
 use Rattle.format_numbers.proofs.Picks.{picks}

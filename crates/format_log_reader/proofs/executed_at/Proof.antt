@@ -1,4 +1,4 @@
--- `records::executed_at` meets its contract.
+-- `format_log_reader::executed_at` meets its contract.
 -- Assumes nothing.
 use Rattle.model.specs.Logs.{executedAt}
 use borrow.Author.Needs.{needs}

@@ -1,4 +1,4 @@
--- `records::executed_from` meets its contract.
+-- `format_log_reader::executed_from` meets its contract.
 -- Assumes nothing.
 use Rattle.format_log_reader.specs.Answers.{executedFrom}
 use borrow.Author.Needs.{needs}

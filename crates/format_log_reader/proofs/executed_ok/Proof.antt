@@ -1,4 +1,4 @@
--- `records::executed_ok` meets its contract.
+-- `format_log_reader::executed_ok` meets its contract.
 -- Assumes nothing.
 use Rattle.model.specs.Logs.{executedOk}
 use borrow.Author.Needs.{needs}

@@ -1,4 +1,4 @@
--- `records::give_at` meets its contract.
+-- `format_log_reader::give_at` meets its contract.
 -- Assumes nothing.
 use Rattle.model.specs.Logs.{giveAt}
 use borrow.Author.Needs.{needs}

@@ -1,4 +1,4 @@
--- `records::give_from` meets its contract.
+-- `format_log_reader::give_from` meets its contract.
 -- Assumes nothing.
 use Rattle.format_log_reader.specs.Answers.{giveFrom}
 use borrow.Author.Needs.{needs}

@@ -1,4 +1,4 @@
--- `records::give_ok` meets its contract.
+-- `format_log_reader::give_ok` meets its contract.
 -- Assumes nothing.
 use Rattle.model.specs.Logs.{giveOk}
 use Rattle.format_log_reader.proofs.give_ok.Statement.{statement}

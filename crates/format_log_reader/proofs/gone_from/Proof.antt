@@ -1,4 +1,4 @@
--- `records::gone_from` meets its contract.
+-- `format_log_reader::gone_from` meets its contract.
 -- Assumes nothing.
 use Rattle.format_log_reader.specs.Answers.{goneFrom}
 use borrow.Author.Needs.{needs}

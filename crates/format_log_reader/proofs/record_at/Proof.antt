@@ -1,4 +1,4 @@
--- `records::record_at` meets its contract.
+-- `format_log_reader::record_at` meets its contract.
 -- Assumes nothing.
 use Rattle.model_laws.proofs.Written.{tail-part}
 use native.Mathlib.Omega.{arith}

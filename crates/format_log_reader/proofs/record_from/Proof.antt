@@ -1,4 +1,4 @@
--- `records::record_from` meets its contract.
+-- `format_log_reader::record_from` meets its contract.
 -- Assumes nothing.
 use Rattle.format_numbers.proofs.Picks.{picks}
 use Rattle.format_log_reader.specs.Answers.{recordFrom}

@@ -1,4 +1,4 @@
--- `records::release_at` meets its contract.
+-- `format_log_reader::release_at` meets its contract.
 -- Assumes nothing.
 use Rattle.model.specs.Logs.{releaseAt}
 use borrow.Author.Needs.{needs}

@@ -1,4 +1,4 @@
--- `records::release_from` meets its contract.
+-- `format_log_reader::release_from` meets its contract.
 -- Assumes nothing.
 use Rattle.format_log_reader.specs.Answers.{releaseFrom}
 use borrow.Author.Needs.{needs}

@@ -1,4 +1,4 @@
--- `records::release_ok` meets its contract.
+-- `format_log_reader::release_ok` meets its contract.
 -- Assumes nothing.
 use borrow.Author.Needs.{needs}
 use Rattle.model.specs.Logs.{releaseOk}

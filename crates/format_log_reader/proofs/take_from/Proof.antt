@@ -1,4 +1,4 @@
--- `records::take_from` meets its contract.
+-- `format_log_reader::take_from` meets its contract.
 -- Assumes nothing.
 use Rattle.format_log_reader.specs.Answers.{takeFrom}
 use borrow.Author.Needs.{needs}

@@ -1,4 +1,4 @@
--- `appends::append_executed` meets its contract.
+-- `format_log_writer::append_executed` meets its contract.
 -- Assumes nothing.
 use Rattle.model.specs.Logs.{recordBytes, executedBytes}
 use Rattle.model_laws.proofs.Written.{tail-back}

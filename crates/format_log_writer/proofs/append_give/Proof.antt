@@ -1,4 +1,4 @@
--- `appends::append_give` meets its contract.
+-- `format_log_writer::append_give` meets its contract.
 -- Assumes nothing.
 use Rattle.model.specs.Logs.{recordBytes, giveBytes}
 use Rattle.model_laws.proofs.Written.{tail-back}

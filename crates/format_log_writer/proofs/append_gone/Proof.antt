@@ -1,4 +1,4 @@
--- `appends::append_gone` meets its contract.
+-- `format_log_writer::append_gone` meets its contract.
 -- Assumes nothing.
 use Rattle.model.specs.Packets.{noticeBytes}
 use Rattle.model.specs.Logs.{recordBytes}

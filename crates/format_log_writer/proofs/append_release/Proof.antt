@@ -1,4 +1,4 @@
--- `appends::append_release` meets its contract.
+-- `format_log_writer::append_release` meets its contract.
 -- Assumes nothing.
 use Rattle.model.specs.Logs.{recordBytes, releaseBytes}
 use Rattle.model_laws.proofs.Written.{tail-back}

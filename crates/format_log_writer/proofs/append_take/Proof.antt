@@ -1,4 +1,4 @@
--- `appends::append_take` meets its contract.
+-- `format_log_writer::append_take` meets its contract.
 -- Assumes nothing.
 use native.Mathlib.Omega.{arith}
 use Rattle.format_log_writer.proofs.Writing.{ok-most, took-back}

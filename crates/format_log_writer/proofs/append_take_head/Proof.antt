@@ -1,4 +1,4 @@
--- `appends::append_take_head` meets its contract.
+-- `format_log_writer::append_take_head` meets its contract.
 -- Assumes nothing.
 use Rattle.format_log_writer.specs.Fronts.{takeFront}
 use Rattle.model_laws.proofs.Written.{tail-back}

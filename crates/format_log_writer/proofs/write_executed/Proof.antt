@@ -1,4 +1,4 @@
--- `appends::write_executed` meets its contract.
+-- `format_log_writer::write_executed` meets its contract.
 -- Assumes nothing.
 use Rattle.model.specs.Logs.{executedBytes}
 use Rattle.model_laws.proofs.Written.{written-sets}

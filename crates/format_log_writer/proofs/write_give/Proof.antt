@@ -1,4 +1,4 @@
--- `appends::write_give` meets its contract.
+-- `format_log_writer::write_give` meets its contract.
 -- Assumes nothing.
 use Rattle.model.specs.Logs.{giveBytes}
 use Rattle.model_laws.proofs.Written.{written-sets}

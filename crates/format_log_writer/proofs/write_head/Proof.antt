@@ -1,4 +1,4 @@
--- `appends::write_head` meets its contract.
+-- `format_log_writer::write_head` meets its contract.
 -- Assumes nothing.
 use Rattle.model.specs.Logs.{headBytes}
 use Rattle.model_laws.proofs.Written.{written-sets}

@@ -1,4 +1,4 @@
--- `appends::write_release` meets its contract.
+-- `format_log_writer::write_release` meets its contract.
 -- Assumes nothing.
 use Rattle.model.specs.Logs.{releaseBytes}
 use Rattle.model_laws.proofs.Written.{written-sets}

@@ -1,4 +1,4 @@
--- `appends::write_take_front` meets its contract.
+-- `format_log_writer::write_take_front` meets its contract.
 -- Assumes nothing.
 use Rattle.format_log_writer.specs.Fronts.{takeFront}
 use Rattle.model_laws.proofs.Written.{written-sets}

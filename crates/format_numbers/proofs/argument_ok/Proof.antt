@@ -1,4 +1,4 @@
--- `wire::argument_ok` meets its contract.
+-- `format_numbers::argument_ok` meets its contract.
 -- Assumes nothing.
 use native.Mathlib.Omega.{arith}
 use Rattle.model.specs.Rules.{argumentOk, argumentRange}

@@ -1,4 +1,4 @@
--- `wire::command_ok` meets its contract.
+-- `format_numbers::command_ok` meets its contract.
 -- Assumes nothing.
 use Rattle.model.specs.Packets.{commandOk}
 use borrow.Author.Needs.{needs}

@@ -1,4 +1,4 @@
--- `wire::copy_bytes` meets its contract.
+-- `format_numbers::copy_bytes` meets its contract.
 -- Assumes nothing.
 use Prim.Native.Nat.{ℕ, _≤_, _-_}
 use mathlib.Core.Path.{_≡_, sym, ap, _∙_}

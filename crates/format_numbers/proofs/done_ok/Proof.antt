@@ -1,4 +1,4 @@
--- `wire::done_ok` meets its contract.
+-- `format_numbers::done_ok` meets its contract.
 -- Assumes nothing.
 use Rattle.model.specs.Packets.{doneOk}
 use borrow.Author.Needs.{needs}

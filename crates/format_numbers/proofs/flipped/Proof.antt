@@ -1,4 +1,4 @@
--- `wire::flipped` meets its contract.
+-- `format_numbers::flipped` meets its contract.
 -- Assumes nothing.
 use Rattle.model.specs.Numbers.{flip}
 use native.Mathlib.Omega.{arith}

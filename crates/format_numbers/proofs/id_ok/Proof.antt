@@ -1,4 +1,4 @@
--- `wire::id_ok` meets its contract.
+-- `format_numbers::id_ok` meets its contract.
 -- Assumes nothing.
 use borrow.Author.Needs.{needs}
 use Rattle.model.specs.Packets.{idOk}

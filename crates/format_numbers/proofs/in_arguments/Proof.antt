@@ -1,4 +1,4 @@
--- `wire::in_arguments` meets its contract.
+-- `format_numbers::in_arguments` meets its contract.
 -- Assumes nothing.
 use Rattle.model.specs.Rules.{inArguments}
 use Rattle.format_numbers.proofs.in_arguments.Statement.{statement}

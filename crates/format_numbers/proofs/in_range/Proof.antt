@@ -1,4 +1,4 @@
--- `wire::in_range` meets its contract.
+-- `format_numbers::in_range` meets its contract.
 -- Assumes nothing.
 use borrow.Author.Needs.{needs}
 use Rattle.model.specs.Plan.{inRange}

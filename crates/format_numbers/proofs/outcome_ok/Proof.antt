@@ -1,4 +1,4 @@
--- `wire::outcome_ok` meets its contract.
+-- `format_numbers::outcome_ok` meets its contract.
 -- Assumes nothing.
 use borrow.Author.Needs.{needs}
 use Rattle.model.specs.Packets.{outcomeOk}

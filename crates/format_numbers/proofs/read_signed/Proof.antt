@@ -1,4 +1,4 @@
--- `wire::read_signed` meets its contract.
+-- `format_numbers::read_signed` meets its contract.
 -- Assumes nothing.
 use Rattle.model.specs.Numbers.{signedAt}
 use borrow.Author.Needs.{needs}

@@ -1,4 +1,4 @@
--- `wire::write_4` meets its contract.
+-- `format_numbers::write_4` meets its contract.
 -- Assumes nothing.
 use Rattle.model_laws.proofs.Written.{written-sets}
 use native.Mathlib.Numerals.{towards-suc}

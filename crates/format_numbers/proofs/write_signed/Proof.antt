@@ -1,4 +1,4 @@
--- `wire::write_signed` meets its contract.
+-- `format_numbers::write_signed` meets its contract.
 -- Assumes nothing.
 use borrow.Author.Needs.{needs}
 use Rattle.format_numbers.proofs.write_signed.Statement.{statement}

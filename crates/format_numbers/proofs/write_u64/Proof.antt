@@ -1,4 +1,4 @@
--- `wire::write_u64` meets its contract.
+-- `format_numbers::write_u64` meets its contract.
 -- Assumes nothing.
 use mathlib.Core.Path.{sym}
 use Prim.Native.Nat.{_/_, _%_}

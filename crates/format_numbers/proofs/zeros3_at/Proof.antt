@@ -1,4 +1,4 @@
--- `wire::zeros3_at` meets its contract.
+-- `format_numbers::zeros3_at` meets its contract.
 -- Assumes nothing.
 use Rattle.model.specs.Numbers.{zeros3At}
 use borrow.Author.Needs.{needs}

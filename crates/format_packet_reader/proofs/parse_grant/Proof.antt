@@ -1,4 +1,4 @@
--- `parser::parse_grant` meets its contract.
+-- `format_packet_reader::parse_grant` meets its contract.
 -- Assumes nothing.
 use Rattle.model.specs.Limits.{grantKind}
 use Rattle.model.specs.Packets.{parseGrant, packetLength}

@@ -1,4 +1,4 @@
--- `parser::parse_notice` meets its contract.
+-- `format_packet_reader::parse_notice` meets its contract.
 -- Assumes nothing.
 use Rattle.model.specs.Limits.{noticeKind}
 use Rattle.model.specs.Packets.{parseNotice, packetLength}

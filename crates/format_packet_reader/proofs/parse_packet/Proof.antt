@@ -1,4 +1,4 @@
--- `parser::parse_packet` meets its contract.
+-- `format_packet_reader::parse_packet` meets its contract.
 -- Assumes nothing.
 use native.Mathlib.Omega.{arith}
 use Rattle.format_numbers.proofs.Past.{past}

@@ -1,4 +1,4 @@
--- `parser::parse_receipt` meets its contract.
+-- `format_packet_reader::parse_receipt` meets its contract.
 -- Assumes nothing.
 use Rattle.model.specs.Limits.{receiptKind}
 use Rattle.model.specs.Packets.{parseReceipt, packetLength}

@@ -1,4 +1,4 @@
--- `parser::parse_refusal` meets its contract.
+-- `format_packet_reader::parse_refusal` meets its contract.
 -- Assumes nothing.
 use Rattle.model.specs.Limits.{refusalKind}
 use Rattle.model.specs.Packets.{parseRefusal, packetLength}

@@ -1,4 +1,4 @@
--- `parser::parse_request` meets its contract.
+-- `format_packet_reader::parse_request` meets its contract.
 -- Assumes nothing.
 use Rattle.model.specs.Limits.{requestKind}
 use Rattle.model.specs.Packets.{parseRequest, packetLength}

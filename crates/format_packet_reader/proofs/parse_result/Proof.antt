@@ -1,4 +1,4 @@
--- `parser::parse_result` meets its contract.
+-- `format_packet_reader::parse_result` meets its contract.
 -- Assumes nothing.
 use Rattle.model.specs.Limits.{resultKind}
 use Rattle.model.specs.Packets.{parseResult, packetLength}

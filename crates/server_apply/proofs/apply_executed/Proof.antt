@@ -1,4 +1,4 @@
--- `apply::apply_executed` meets its contract.
+-- `server_apply::apply_executed` meets its contract.
 -- Assumes nothing.
 use mathlib.Core.Path.{ap, _∙_}
 use native.Mathlib.Omega.{arith}

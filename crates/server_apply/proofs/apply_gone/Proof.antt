@@ -1,4 +1,4 @@
--- `apply::apply_gone` meets its contract.
+-- `server_apply::apply_gone` meets its contract.
 -- Assumes nothing.
 use Prim.Native.Nat.{ℕ, max}
 use mathlib.Core.Path.{ap, _∙_}

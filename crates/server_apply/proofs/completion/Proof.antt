@@ -1,4 +1,4 @@
--- `apply::completion` meets its contract.
+-- `server_apply::completion` meets its contract.
 -- Assumes nothing.
 use Rattle.model.specs.Apply.{completion}
 use borrow.Author.Needs.{needs}

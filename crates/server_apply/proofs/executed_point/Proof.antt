@@ -1,4 +1,4 @@
--- `apply::executed_point` meets its contract.
+-- `server_apply::executed_point` meets its contract.
 -- Assumes nothing.
 use Rattle.model.specs.Apply.{executedPoint}
 use borrow.Author.Needs.{needs}

@@ -1,4 +1,4 @@
--- `apply::gave_point` meets its contract.
+-- `server_apply::gave_point` meets its contract.
 -- Assumes nothing.
 use Rattle.model.specs.Apply.{gavePoint}
 use borrow.Author.Needs.{needs}

@@ -1,4 +1,4 @@
--- `apply::released_point` meets its contract.
+-- `server_apply::released_point` meets its contract.
 -- Assumes nothing.
 use Rattle.model.specs.Apply.{releasedPoint}
 use borrow.Author.Needs.{needs}

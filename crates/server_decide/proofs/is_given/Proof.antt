@@ -1,4 +1,4 @@
--- `decide::is_given` meets its contract.
+-- `server_decide::is_given` meets its contract.
 -- Assumes nothing.
 use Rattle.model.specs.States.{isGiven}
 use borrow.Author.Needs.{needs}

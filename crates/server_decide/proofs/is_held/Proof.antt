@@ -1,4 +1,4 @@
--- `decide::is_held` meets its contract.
+-- `server_decide::is_held` meets its contract.
 -- Assumes nothing.
 use Rattle.model.specs.States.{isHeld}
 use borrow.Author.Needs.{needs}

@@ -1,4 +1,4 @@
--- `decide::is_kept` meets its contract.
+-- `server_decide::is_kept` meets its contract.
 -- Assumes nothing.
 use borrow.Author.Needs.{needs}
 use Rattle.server_decide.proofs.is_kept.Statement.{statement}

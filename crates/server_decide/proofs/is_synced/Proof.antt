@@ -1,4 +1,4 @@
--- `decide::is_synced` meets its contract.
+-- `server_decide::is_synced` meets its contract.
 -- Assumes nothing.
 use Rattle.model.specs.States.{isSynced}
 use borrow.Author.Needs.{needs}

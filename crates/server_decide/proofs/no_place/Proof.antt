@@ -1,4 +1,4 @@
--- `decide::no_place` meets its contract.
+-- `server_decide::no_place` meets its contract.
 -- Assumes nothing.
 use borrow.Author.Needs.{needs}
 use Rattle.server_decide.proofs.no_place.Statement.{statement}

@@ -1,4 +1,4 @@
--- `decide::places_bad` meets its contract.
+-- `server_decide::places_bad` meets its contract.
 -- Assumes nothing.
 use Rattle.model.specs.Decisions.{placesBad}
 use borrow.Author.Needs.{needs}

@@ -1,4 +1,4 @@
--- `decide::same_command` meets its contract.
+-- `server_decide::same_command` meets its contract.
 -- Assumes nothing.
 use Rattle.model.specs.Decisions.{sameCommand}
 use borrow.Author.Needs.{needs}

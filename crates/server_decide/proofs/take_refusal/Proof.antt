@@ -1,4 +1,4 @@
--- `decide::take_refusal` meets its contract.
+-- `server_decide::take_refusal` meets its contract.
 -- Assumes nothing.
 use mathlib.Core.Path.{refl}
 use borrow.Author.Tests.{lt-leb, lt-ltb, le-ltb}

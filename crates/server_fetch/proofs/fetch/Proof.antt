@@ -1,4 +1,4 @@
--- `serve::fetch` meets its contract.
+-- `server_fetch::fetch` meets its contract.
 -- Assumes nothing.
 use mathlib.Core.Path.{sym, _∙_}
 use Rattle.server_memory.proofs.Settled.{by-refused, by-passed, passed-fit, passed-long, passed-canonical, replied}

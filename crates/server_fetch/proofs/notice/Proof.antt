@@ -1,4 +1,4 @@
--- `serve::notice` meets its contract.
+-- `server_fetch::notice` meets its contract.
 -- Assumes nothing.
 use mathlib.Core.Path.{sym, _∙_}
 use mathlib.Core.List.{[]}

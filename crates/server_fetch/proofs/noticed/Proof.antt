@@ -1,4 +1,4 @@
--- `serve::noticed` meets its contract.
+-- `server_fetch::noticed` meets its contract.
 -- Assumes nothing.
 use mathlib.Core.Path.{_∙_}
 use mathlib.Core.List.{[]}

@@ -1,4 +1,4 @@
--- `serve::sync` meets its contract.
+-- `server_fetch::sync` meets its contract.
 -- Assumes nothing.
 use mathlib.Core.Path.{sym, _∙_}
 use mathlib.Core.List.{[]}

@@ -1,4 +1,4 @@
--- `found::first_status` meets its contract.
+-- `server_found::first_status` meets its contract.
 -- Assumes nothing.
 use Rattle.format_numbers.proofs.Picks.{picks}
 use Rattle.server_found.proofs.first_status.Statement.{statement}

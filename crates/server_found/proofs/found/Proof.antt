@@ -1,4 +1,4 @@
--- `found::found` meets its contract.
+-- `server_found::found` meets its contract.
 -- Assumes nothing.
 use native.Mathlib.Omega.{arith}
 use Rattle.server_found.proofs.Founded.{found-refused, lent-passed, plan-passed, found-done}

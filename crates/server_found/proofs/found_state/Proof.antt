@@ -1,4 +1,4 @@
--- `found::found_state` meets its contract.
+-- `server_found::found_state` meets its contract.
 -- Assumes nothing.
 use native.Mathlib.Omega.{arith}
 use Rattle.server_found.proofs.Founded.{plan-size, founded-runs}

@@ -1,4 +1,4 @@
--- `found::founded_point` meets its contract.
+-- `server_found::founded_point` meets its contract.
 -- Assumes nothing.
 use Rattle.model.specs.Apply.{foundedPoint}
 use borrow.Author.Needs.{needs}

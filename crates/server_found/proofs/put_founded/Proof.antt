@@ -1,4 +1,4 @@
--- `found::put_founded` meets its contract.
+-- `server_found::put_founded` meets its contract.
 -- Assumes nothing.
 use borrow.Author.Needs.{needs}
 use Rattle.server_found.proofs.put_founded.Statement.{statement}

@@ -1,4 +1,4 @@
--- `found::put_head` meets its contract.
+-- `server_found::put_head` meets its contract.
 -- Assumes nothing.
 use Rattle.server_found.proofs.Founded.{head-runs}
 use borrow.Author.Needs.{needs}

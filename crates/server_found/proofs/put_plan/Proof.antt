@@ -1,4 +1,4 @@
--- `found::put_plan` meets its contract.
+-- `server_found::put_plan` meets its contract.
 -- Assumes nothing.
 use Rattle.model_laws.proofs.Written.{tail-back}
 use borrow.Author.Needs.{needs}

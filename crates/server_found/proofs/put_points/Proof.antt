@@ -1,4 +1,4 @@
--- `found::put_points` meets its contract.
+-- `server_found::put_points` meets its contract.
 -- Assumes nothing.
 use Prim.Native.Nat.{_-_}
 use borrow.Author.Needs.{needs}

@@ -1,4 +1,4 @@
--- `lent::free_in` meets its contract.
+-- `server_memory::free_in` meets its contract.
 -- Assumes nothing.
 use Rattle.model.specs.Operations.{freeIn}
 use borrow.Author.Needs.{needs}

@@ -1,4 +1,4 @@
--- `lent::is_unfit` meets its contract.
+-- `server_memory::is_unfit` meets its contract.
 -- Assumes nothing.
 use Rattle.server_memory.proofs.Settled.{unfit-yes, unfit-no}
 use borrow.Author.Needs.{needs}

@@ -1,4 +1,4 @@
--- `lent::lent_refusal` meets its contract.
+-- `server_memory::lent_refusal` meets its contract.
 -- Assumes nothing.
 use Rattle.model.specs.Operations.{short, lentRefusal}
 use Rattle.format_numbers.proofs.Picks.{picks}

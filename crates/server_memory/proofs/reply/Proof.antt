@@ -1,4 +1,4 @@
--- `lent::reply` meets its contract.
+-- `server_memory::reply` meets its contract.
 -- Assumes nothing.
 use mathlib.Core.Path.{_∙_}
 use borrow.Author.Needs.{needs}

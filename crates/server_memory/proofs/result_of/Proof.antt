@@ -1,4 +1,4 @@
--- `lent::result_of` meets its contract.
+-- `server_memory::result_of` meets its contract.
 -- Assumes nothing.
 use mathlib.Core.Path.{refl}
 use Rattle.model.specs.Decisions.{resultOfRecord}

@@ -1,4 +1,4 @@
--- `moves::give` meets its contract.
+-- `server_moves::give` meets its contract.
 -- Assumes nothing.
 use native.Mathlib.Omega.{arith}
 use mathlib.Core.Path.{sym, _∙_}

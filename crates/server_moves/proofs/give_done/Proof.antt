@@ -1,4 +1,4 @@
--- `moves::give_done` meets its contract.
+-- `server_moves::give_done` meets its contract.
 -- Assumes nothing.
 use native.Mathlib.Omega.{arith}
 use Rattle.server_moves.proofs.Chains.{give-settled}

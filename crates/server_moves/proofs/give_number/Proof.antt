@@ -1,4 +1,4 @@
--- `moves::give_number` meets its contract.
+-- `server_moves::give_number` meets its contract.
 -- Assumes nothing.
 use native.Mathlib.Omega.{arith}
 use mathlib.Core.Path.{refl, _∙_}

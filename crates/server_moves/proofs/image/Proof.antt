@@ -1,4 +1,4 @@
--- `moves::image` meets its contract.
+-- `server_moves::image` meets its contract.
 -- Assumes nothing.
 use native.Mathlib.Omega.{arith}
 use mathlib.Core.Path.{sym, _∙_}

@@ -1,4 +1,4 @@
--- `moves::place_number` meets its contract.
+-- `server_moves::place_number` meets its contract.
 -- Assumes nothing.
 use mathlib.Core.Path.{refl}
 use borrow.Author.Tests.{lt-ltb, le-ltb}

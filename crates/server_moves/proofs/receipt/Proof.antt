@@ -1,4 +1,4 @@
--- `moves::receipt` meets its contract.
+-- `server_moves::receipt` meets its contract.
 -- Assumes nothing.
 use native.Mathlib.Omega.{arith}
 use mathlib.Core.Path.{sym, _∙_}

@@ -1,4 +1,4 @@
--- `moves::release_done` meets its contract.
+-- `server_moves::release_done` meets its contract.
 -- Assumes nothing.
 use Rattle.server_moves.proofs.Chains.{release-settled}
 use borrow.Author.Needs.{needs}

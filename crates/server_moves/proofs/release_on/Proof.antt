@@ -1,4 +1,4 @@
--- `moves::release_on` meets its contract.
+-- `server_moves::release_on` meets its contract.
 -- Assumes nothing.
 use mathlib.Core.Path.{subst}
 use Rattle.model.specs.Packets.{asReceipt}

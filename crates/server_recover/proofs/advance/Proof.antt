@@ -1,4 +1,4 @@
--- `recover::advance` meets its contract.
+-- `server_recover::advance` meets its contract.
 -- Assumes nothing.
 use mathlib.Core.Path.{refl}
 use native.Mathlib.Omega.{arith}

@@ -1,4 +1,4 @@
--- `recover::begin` meets its contract.
+-- `server_recover::begin` meets its contract.
 -- Assumes nothing.
 use Prim.Native.Nat.{ℕ}
 use mathlib.Core.Path.{ap, _∙_}

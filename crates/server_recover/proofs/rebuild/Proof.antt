@@ -1,4 +1,4 @@
--- `recover::rebuild` meets its contract.
+-- `server_recover::rebuild` meets its contract.
 -- Assumes nothing.
 use mathlib.Core.Path.{sym, _∙_}
 use native.Mathlib.Omega.{arith}

@@ -1,4 +1,4 @@
--- `recover::recover_with` meets its contract.
+-- `server_recover::recover_with` meets its contract.
 -- Assumes nothing.
 use native.Mathlib.Omega.{arith}
 use borrow.Author.Tests.{not-true, not-false}

@@ -1,4 +1,4 @@
--- `recover::replay_log` meets its contract.
+-- `server_recover::replay_log` meets its contract.
 -- Assumes nothing.
 use Prim.Native.Nat.{_-_}
 use lib.ListN.{length}

@@ -1,4 +1,4 @@
--- `recover::replay_record` meets its contract.
+-- `server_recover::replay_record` meets its contract.
 -- Assumes nothing.
 use Prim.Native.Nat.{_+_}
 use native.Mathlib.Omega.{arith}

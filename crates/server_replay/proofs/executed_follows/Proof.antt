@@ -1,4 +1,4 @@
--- `replay::executed_follows` meets its contract.
+-- `server_replay::executed_follows` meets its contract.
 -- Assumes nothing.
 use Rattle.model.specs.Plan.{inRange}
 use Rattle.model.specs.Decisions.{follows}

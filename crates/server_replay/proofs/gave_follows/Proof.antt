@@ -1,4 +1,4 @@
--- `replay::gave_follows` meets its contract.
+-- `server_replay::gave_follows` meets its contract.
 -- Assumes nothing.
 use Rattle.model.specs.States.{load}
 use Rattle.server_replay.proofs.Replayed.{gave-tests}

@@ -1,4 +1,4 @@
--- `replay::is_free` meets its contract.
+-- `server_replay::is_free` meets its contract.
 -- Assumes nothing.
 use Rattle.server_replay.proofs.Replayed.{free-yes, free-no}
 use borrow.Author.Needs.{needs}

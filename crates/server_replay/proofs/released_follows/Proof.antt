@@ -1,4 +1,4 @@
--- `replay::released_follows` meets its contract.
+-- `server_replay::released_follows` meets its contract.
 -- Assumes nothing.
 use Rattle.model.specs.Decisions.{follows}
 use borrow.Author.Needs.{needs}

@@ -1,4 +1,4 @@
--- `replay::replay_executed` meets its contract.
+-- `server_replay::replay_executed` meets its contract.
 -- Assumes nothing.
 use mathlib.Core.Path.{sym, _∙_}
 use native.Mathlib.Omega.{arith}

@@ -1,4 +1,4 @@
--- `request::deny` meets its contract.
+-- `server_request::deny` meets its contract.
 -- Assumes nothing.
 use mathlib.Core.Path.{refl}
 use borrow.Author.Needs.{needs}

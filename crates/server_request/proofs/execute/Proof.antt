@@ -1,4 +1,4 @@
--- `request::execute` meets its contract.
+-- `server_request::execute` meets its contract.
 -- Assumes nothing.
 use mathlib.Core.Path.{_∙_}
 use borrow.Author.Needs.{needs}

@@ -1,4 +1,4 @@
--- `request::executed_for` meets its contract.
+-- `server_request::executed_for` meets its contract.
 -- Assumes nothing.
 use Rattle.model.specs.States.{load}
 use Rattle.model.specs.Decisions.{executedFor}

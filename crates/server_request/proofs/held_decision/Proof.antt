@@ -1,4 +1,4 @@
--- `request::held_decision` meets its contract.
+-- `server_request::held_decision` meets its contract.
 -- Assumes nothing.
 use Prim.Native.Nat.{ℕ}
 use mathlib.Core.Path.{refl, ap, _∙_}

@@ -1,4 +1,4 @@
--- `request::new_decision` meets its contract.
+-- `server_request::new_decision` meets its contract.
 -- Assumes nothing.
 use mathlib.Core.Path.{refl, _∙_}
 use Rattle.model.specs.States.{load}

@@ -1,4 +1,4 @@
--- `request::request` meets its contract.
+-- `server_request::request` meets its contract.
 -- Assumes nothing.
 use mathlib.Core.Path.{sym, _∙_}
 use Rattle.server_memory.proofs.Settled.{by-refused, by-passed, passed-fit}

@@ -1,4 +1,4 @@
--- `request::request_decision` meets its contract.
+-- `server_request::request_decision` meets its contract.
 -- Assumes nothing.
 use mathlib.Core.Path.{refl, _∙_}
 use Rattle.model.specs.States.{load}

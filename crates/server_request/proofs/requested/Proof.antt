@@ -1,4 +1,4 @@
--- `request::requested` meets its contract.
+-- `server_request::requested` meets its contract.
 -- Assumes nothing.
 use Prim.Native.Nat.{_+_, _≤_}
 use mathlib.Core.Path.{_∙_}

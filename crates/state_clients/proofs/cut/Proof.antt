@@ -1,4 +1,4 @@
--- `client_table::cut` meets its contract.
+-- `state_clients::cut` meets its contract.
 -- Assumes nothing.
 use Rattle.state_clients.proofs.Changed.{holds-length}
 use Rattle.state_clients.proofs.Loops.{Cutting, cutting-start, cutting-drop, cutting-next, cutting-end}

@@ -1,4 +1,4 @@
--- `client_table::floor_in` meets its contract.
+-- `state_clients::floor_in` meets its contract.
 -- Assumes nothing.
 use borrow.Author.Needs.{needs}
 use Rattle.state_clients.proofs.Own.{floors-within, floor-own}

@@ -1,4 +1,4 @@
--- `client_table::insert` meets its contract.
+-- `state_clients::insert` meets its contract.
 -- Assumes nothing.
 use native.Mathlib.Omega.{arith}
 use Rattle.model_laws.specs.Fits.{FloorFits}

@@ -1,4 +1,4 @@
--- `client_table::is_at` meets its contract.
+-- `state_clients::is_at` meets its contract.
 -- Assumes nothing.
 use native.Mathlib.Omega.{arith}
 use Rattle.model.specs.States.{load}

@@ -1,4 +1,4 @@
--- `client_table::is_known` meets its contract.
+-- `state_clients::is_known` meets its contract.
 -- Assumes nothing.
 use Rattle.state_clients.specs.Ordered.{isAt, isKnown}
 use Rattle.model.specs.States.{load}

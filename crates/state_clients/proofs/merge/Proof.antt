@@ -1,4 +1,4 @@
--- `client_table::merge` meets its contract.
+-- `state_clients::merge` meets its contract.
 -- Assumes nothing.
 use Prim.Native.Nat.{_-_}
 use Rattle.state_clients.proofs.Changed.{holds-length}

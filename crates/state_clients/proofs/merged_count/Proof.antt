@@ -1,4 +1,4 @@
--- `client_table::merged_count` meets its contract.
+-- `state_clients::merged_count` meets its contract.
 -- Assumes nothing.
 use Prim.Native.Nat.{_-_}
 use native.Mathlib.Omega.{arith}

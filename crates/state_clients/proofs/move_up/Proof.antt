@@ -1,4 +1,4 @@
--- `client_table::move_up` meets its contract.
+-- `state_clients::move_up` meets its contract.
 -- Assumes nothing.
 use Rattle.state_clients.proofs.Changed.{holds-length}
 use Rattle.state_clients.proofs.Loops.{Moving, moving-start, moving-read, moving-write, moving-next, moving-end}

@@ -1,4 +1,4 @@
--- `client_table::pack` meets its contract.
+-- `state_clients::pack` meets its contract.
 -- Assumes nothing.
 use native.Mathlib.Omega.{arith}
 use Prim.Native.Nat.{_-_}

@@ -1,4 +1,4 @@
--- `client_table::place` meets its contract.
+-- `state_clients::place` meets its contract.
 -- Assumes nothing.
 use native.Mathlib.Omega.{arith}
 use Rattle.model.specs.States.{load}

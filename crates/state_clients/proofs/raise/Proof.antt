@@ -1,4 +1,4 @@
--- `client_table::raise` meets its contract.
+-- `state_clients::raise` meets its contract.
 -- Assumes nothing.
 use Rattle.state_clients.proofs.Loops.{raised-at, raised-room, raised-known, raised-new}
 use borrow.Author.Needs.{needs}

@@ -1,4 +1,4 @@
--- `client_table::raise_at` meets its contract.
+-- `state_clients::raise_at` meets its contract.
 -- Assumes nothing.
 use Rattle.state_clients.specs.Ordered.{raisedAt}
 use borrow.Author.Needs.{needs}

@@ -1,4 +1,4 @@
--- `client_table::remove` meets its contract.
+-- `state_clients::remove` meets its contract.
 -- Assumes nothing.
 use Rattle.model.specs.Apply.{isNotClient}
 use Rattle.state_clients.proofs.Loops.{removed-cut, removed-end}

@@ -1,4 +1,4 @@
--- `image_state::entry_of` meets its contract.
+-- `state_image::entry_of` meets its contract.
 -- Assumes nothing.
 use mathlib.Core.Path.{refl}
 use Rattle.model.specs.Decisions.{entryOfRecord}

@@ -1,4 +1,4 @@
--- `image_state::head_for` meets its contract.
+-- `state_image::head_for` meets its contract.
 -- Assumes nothing.
 use Rattle.state_image.proofs.Joined.{head-of}
 use borrow.Author.Needs.{needs}

@@ -1,4 +1,4 @@
--- `image_state::point_slots` meets its contract.
+-- `state_image::point_slots` meets its contract.
 -- Assumes nothing.
 use Prim.Native.Nat.{_-_}
 use native.Mathlib.Omega.{arith}

@@ -1,4 +1,4 @@
--- `image_state::write_entries` meets its contract.
+-- `state_image::write_entries` meets its contract.
 -- Assumes nothing.
 use Prim.Native.Nat.{_+_, _-_, _*_}
 use native.Mathlib.Omega.{arith}

@@ -1,4 +1,4 @@
--- `image_state::write_image` meets its contract.
+-- `state_image::write_image` meets its contract.
 -- Assumes nothing.
 use native.Mathlib.Omega.{arith}
 use Rattle.state_image.proofs.Whole.{entries-most, headed, imaged, sized}

@@ -1,4 +1,4 @@
--- `record_table::append` meets its contract.
+-- `state_records::append` meets its contract.
 -- Assumes nothing.
 use mathlib.Core.Path.{_∙_}
 use Rattle.state_records.proofs.Whole.{record-added}

@@ -1,4 +1,4 @@
--- `record_table::append_image` meets its contract.
+-- `state_records::append_image` meets its contract.
 -- Assumes nothing.
 use mathlib.Core.Path.{_∙_}
 use Rattle.model.specs.States.{load}

@@ -1,4 +1,4 @@
--- `record_table::is_id` meets its contract.
+-- `state_records::is_id` meets its contract.
 -- Assumes nothing.
 use native.Mathlib.Omega.{arith}
 use borrow.Author.Needs.{needs}

@@ -1,4 +1,4 @@
--- `record_table::is_past` meets its contract.
+-- `state_records::is_past` meets its contract.
 -- Assumes nothing.
 use borrow.Author.Needs.{needs}
 use Rattle.state_records.proofs.Search.{four-past}

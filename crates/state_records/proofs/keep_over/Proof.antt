@@ -1,4 +1,4 @@
--- `record_table::keep_over` meets its contract.
+-- `state_records::keep_over` meets its contract.
 -- Assumes nothing.
 use mathlib.Core.Path.{ap, _∙_}
 use lib.ListN.{length}

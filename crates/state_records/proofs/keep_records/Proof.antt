@@ -1,4 +1,4 @@
--- `record_table::keep_records` meets its contract.
+-- `state_records::keep_records` meets its contract.
 -- Assumes nothing.
 use mathlib.Core.Path.{_∙_}
 use borrow.Author.Needs.{needs}

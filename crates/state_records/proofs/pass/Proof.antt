@@ -1,4 +1,4 @@
--- `record_table::pass` meets its contract.
+-- `state_records::pass` meets its contract.
 -- Assumes nothing.
 use Prim.Native.Nat.{_-_}
 use borrow.Author.Needs.{needs}

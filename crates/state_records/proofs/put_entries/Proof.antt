@@ -1,4 +1,4 @@
--- `record_table::put_entries` meets its contract.
+-- `state_records::put_entries` meets its contract.
 -- Assumes nothing.
 use Prim.Native.Nat.{_-_}
 use borrow.Author.Needs.{needs}

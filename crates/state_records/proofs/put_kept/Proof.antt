@@ -1,4 +1,4 @@
--- `record_table::put_kept` meets its contract.
+-- `state_records::put_kept` meets its contract.
 -- Assumes nothing.
 use mathlib.Core.Path.{refl, sym, _∙_}
 use native.Mathlib.Omega.{arith}

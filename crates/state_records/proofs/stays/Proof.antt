@@ -1,4 +1,4 @@
--- `record_table::stays` meets its contract.
+-- `state_records::stays` meets its contract.
 -- Assumes nothing.
 use borrow.Author.Needs.{needs}
 use Rattle.model.specs.Apply.{staysOver, isOfOther, isOnOther}

@@ -1,4 +1,4 @@
--- `record_table::taken_record` meets its contract.
+-- `state_records::taken_record` meets its contract.
 -- Assumes nothing.
 use borrow.Author.Needs.{needs}
 use Rattle.model.specs.Apply.{takenRecord}

@@ -1,4 +1,4 @@
--- `sound_rows::absent_ok` meets its contract.
+-- `state_sound_rows::absent_ok` meets its contract.
 -- Assumes nothing.
 use borrow.Author.Needs.{needs}
 use Rattle.model.specs.States.{absentOk}

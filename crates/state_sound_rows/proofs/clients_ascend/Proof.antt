@@ -1,4 +1,4 @@
--- `sound_rows::clients_ascend` meets its contract.
+-- `state_sound_rows::clients_ascend` meets its contract.
 -- Assumes nothing.
 use borrow.Author.Needs.{needs}
 use Rattle.model_laws.proofs.Loops.{Open, open-next, open-false, open-true}

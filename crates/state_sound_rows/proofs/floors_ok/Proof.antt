@@ -1,4 +1,4 @@
--- `sound_rows::floors_ok` meets its contract.
+-- `state_sound_rows::floors_ok` meets its contract.
 -- Assumes nothing.
 use borrow.Author.Needs.{needs}
 use Rattle.model_laws.proofs.Loops.{Open, rowTest, every-open, open-next, open-false, open-true}

@@ -1,4 +1,4 @@
--- `sound_rows::framed` meets its contract.
+-- `state_sound_rows::framed` meets its contract.
 -- Assumes nothing.
 use Rattle.state_sound_rows.proofs.Framing.{few-clients, few-records, framed-is, framed-rows}
 use Rattle.state_sound_rows.proofs.Chains.{chain}

@@ -1,4 +1,4 @@
--- `sound_rows::head_framed` meets its contract.
+-- `state_sound_rows::head_framed` meets its contract.
 -- Assumes nothing.
 use Rattle.state_sound_rows.specs.Parts.{headFramed}
 use borrow.Author.Needs.{needs}

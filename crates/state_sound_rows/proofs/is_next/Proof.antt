@@ -1,4 +1,4 @@
--- `sound_rows::is_next` meets its contract.
+-- `state_sound_rows::is_next` meets its contract.
 -- Assumes nothing.
 use mathlib.Core.Path.{ap}
 use native.Mathlib.Numerals.{add-one}

@@ -1,4 +1,4 @@
--- `sound_rows::keeps_records` meets its contract.
+-- `state_sound_rows::keeps_records` meets its contract.
 -- Assumes nothing.
 use Rattle.model.specs.States.{isHeld, isGiven, keepsRecords}
 use borrow.Author.Needs.{needs}

@@ -1,4 +1,4 @@
--- `sound_rows::not_given` meets its contract.
+-- `state_sound_rows::not_given` meets its contract.
 -- Assumes nothing.
 use borrow.Author.Needs.{needs}
 use Rattle.model.specs.States.{notGiven}

@@ -1,4 +1,4 @@
--- `sound_rows::point_row_ok` meets its contract.
+-- `state_sound_rows::point_row_ok` meets its contract.
 -- Assumes nothing.
 use Rattle.model_laws.proofs.Numbers.{zero-drop}
 use mathlib.Core.Path.{sym, _∙_}

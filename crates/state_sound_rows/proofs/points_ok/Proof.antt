@@ -1,4 +1,4 @@
--- `sound_rows::points_ok` meets its contract.
+-- `state_sound_rows::points_ok` meets its contract.
 -- Assumes nothing.
 use borrow.Author.Needs.{needs}
 use Prim.Native.Nat.{_-_}

@@ -1,4 +1,4 @@
--- `sound_rows::status_ok` meets its contract.
+-- `state_sound_rows::status_ok` meets its contract.
 -- Assumes nothing.
 use borrow.Author.Needs.{needs}
 use Rattle.format_numbers.proofs.Picks.{picks}

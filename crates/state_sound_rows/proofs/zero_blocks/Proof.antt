@@ -1,4 +1,4 @@
--- `sound_rows::zero_blocks` meets its contract.
+-- `state_sound_rows::zero_blocks` meets its contract.
 -- Assumes nothing.
 use Rattle.state_sound_rows.proofs.Zeros.{run-parts}
 use borrow.Author.Needs.{needs}

@@ -1,4 +1,4 @@
--- `sound_rows::zero_run` meets its contract.
+-- `state_sound_rows::zero_run` meets its contract.
 -- Assumes nothing.
 use Rattle.state_sound_rows.proofs.Zeros.{run-split, rest-words}
 use borrow.Author.Needs.{needs}

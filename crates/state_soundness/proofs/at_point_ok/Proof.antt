@@ -1,4 +1,4 @@
--- `soundness::at_point_ok` meets its contract.
+-- `state_soundness::at_point_ok` meets its contract.
 -- Assumes nothing.
 use Rattle.state_sound_rows.proofs.Chains.{chain}
 use Rattle.state_soundness.specs.Slots.{atPointOk}

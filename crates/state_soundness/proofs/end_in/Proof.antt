@@ -1,4 +1,4 @@
--- `soundness::end_in` meets its contract.
+-- `state_soundness::end_in` meets its contract.
 -- Assumes nothing.
 use mathlib.Core.Path.{sym, _∙_}
 use Rattle.model.specs.States.{completionOf}

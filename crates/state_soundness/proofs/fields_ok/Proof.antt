@@ -1,4 +1,4 @@
--- `soundness::fields_ok` meets its contract.
+-- `state_soundness::fields_ok` meets its contract.
 -- Assumes nothing.
 use Rattle.state_soundness.specs.Slots.{fieldsOk}
 use borrow.Author.Needs.{needs}

@@ -1,4 +1,4 @@
--- `soundness::head_ok` meets its contract.
+-- `state_soundness::head_ok` meets its contract.
 -- Assumes nothing.
 use Rattle.state_soundness.specs.Slots.{headOk}
 use borrow.Author.Needs.{needs}

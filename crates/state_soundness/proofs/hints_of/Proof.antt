@@ -1,4 +1,4 @@
--- `soundness::hints_of` meets its contract.
+-- `state_soundness::hints_of` meets its contract.
 -- Assumes nothing.
 use borrow.Author.Needs.{needs}
 use Rattle.state_soundness.proofs.Hints.{Hinted, hints-start, hints-next, hints-end}

@@ -1,4 +1,4 @@
--- `soundness::place_by` meets its contract.
+-- `state_soundness::place_by` meets its contract.
 -- Assumes nothing.
 use Rattle.state_soundness.proofs.Places.{place-at}
 use borrow.Author.Needs.{needs}

@@ -1,4 +1,4 @@
--- `soundness::record_slot` meets its contract.
+-- `state_soundness::record_slot` meets its contract.
 -- Assumes nothing.
 use Rattle.state_soundness.proofs.Records.{above-few, slot-point, slot-window, slot-all}
 use Rattle.state_clients.proofs.Search.{place-within}

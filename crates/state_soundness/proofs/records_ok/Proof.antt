@@ -1,4 +1,4 @@
--- `soundness::records_ok` meets its contract.
+-- `state_soundness::records_ok` meets its contract.
 -- Assumes nothing.
 use borrow.Author.Needs.{needs}
 use Prim.Native.Nat.{_-_}

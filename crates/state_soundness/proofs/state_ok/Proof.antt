@@ -1,4 +1,4 @@
--- `soundness::state_ok` meets its contract.
+-- `state_soundness::state_ok` meets its contract.
 -- Assumes nothing.
 use Rattle.state_sound_rows.proofs.Framing.{framed-counts}
 use Rattle.state_sound_rows.proofs.Chains.{chain}

@@ -1,4 +1,4 @@
--- `soundness::tables_ok` meets its contract.
+-- `state_soundness::tables_ok` meets its contract.
 -- Assumes nothing.
 use Rattle.state_sound_rows.proofs.Chains.{chain}
 use Rattle.state_soundness.proofs.Whole.{tables-by}

@@ -1,4 +1,4 @@
--- `apply::took::apply_took` meets its contract.
+-- `server_apply::took::apply_took` meets its contract.
 -- Assumes nothing.
 use native.Mathlib.Omega.{arith}
 use Rattle.server_apply.proofs.Stages.{stage-canonical}

@@ -1,4 +1,4 @@
--- `apply::took::took_point` meets its contract.
+-- `server_apply::took::took_point` meets its contract.
 -- Assumes nothing.
 use Rattle.model.specs.Images.{imageAt}
 use Rattle.model.specs.Apply.{tookPoint}

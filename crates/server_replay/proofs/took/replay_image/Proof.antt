@@ -1,4 +1,4 @@
--- `replay::took::replay_image` meets its contract.
+-- `server_replay::took::replay_image` meets its contract.
 -- Assumes nothing.
 use mathlib.Core.Path.{sym, _∙_}
 use native.Mathlib.Omega.{arith}

@@ -1,4 +1,4 @@
--- `replay::took::replay_took` meets its contract.
+-- `server_replay::took::replay_took` meets its contract.
 -- Assumes nothing.
 use mathlib.Core.Path.{refl}
 use Rattle.format_image_reader.proofs.Whole.{ok-least}

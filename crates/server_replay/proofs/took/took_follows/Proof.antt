@@ -1,4 +1,4 @@
--- `replay::took::took_follows` meets its contract.
+-- `server_replay::took::took_follows` meets its contract.
 -- Assumes nothing.
 use mathlib.Core.Path.{_∙_}
 use native.Mathlib.Omega.{arith}

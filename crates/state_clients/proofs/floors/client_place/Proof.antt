@@ -1,4 +1,4 @@
--- `client_table::floors::client_place` meets its contract.
+-- `state_clients::floors::client_place` meets its contract.
 -- Assumes nothing.
 use Prim.Native.Nat.{_-_}
 use borrow.Author.Needs.{needs}

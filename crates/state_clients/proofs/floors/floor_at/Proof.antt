@@ -1,4 +1,4 @@
--- `client_table::floors::floor_at` meets its contract.
+-- `state_clients::floors::floor_at` meets its contract.
 -- Assumes nothing.
 use Rattle.state_clients.proofs.Search.{floor-past, floor-within}
 use borrow.Author.Needs.{needs}

@@ -1,4 +1,4 @@
--- `client_table::floors::floor_of` meets its contract.
+-- `state_clients::floors::floor_of` meets its contract.
 -- Assumes nothing.
 use lib.ListN.{drop}
 use Rattle.model.specs.Tables.{rows}

@@ -1,4 +1,4 @@
--- `client_table::floors::slot_of` meets its contract.
+-- `state_clients::floors::slot_of` meets its contract.
 -- Assumes nothing.
 use native.Mathlib.Omega.{arith}
 use lib.ListN.{drop}

@@ -1,4 +1,4 @@
--- `client_table::rows::add_row` meets its contract.
+-- `state_clients::rows::add_row` meets its contract.
 -- Assumes nothing.
 use Rattle.state_clients.proofs.Stored.{row-added}
 use borrow.Author.Needs.{needs}

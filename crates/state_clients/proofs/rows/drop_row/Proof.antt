@@ -1,4 +1,4 @@
--- `client_table::rows::drop_row` meets its contract.
+-- `state_clients::rows::drop_row` meets its contract.
 -- Assumes nothing.
 use Rattle.state_clients.proofs.Stored.{row-dropped}
 use borrow.Author.Needs.{needs}

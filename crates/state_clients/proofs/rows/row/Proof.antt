@@ -1,4 +1,4 @@
--- `client_table::rows::row` meets its contract.
+-- `state_clients::rows::row` meets its contract.
 -- Assumes nothing.
 use mathlib.Core.Path.{sym, _∙_}
 use Rattle.state_rows.proofs.Access.{client-there}

@@ -1,4 +1,4 @@
--- `client_table::rows::set_row` meets its contract.
+-- `state_clients::rows::set_row` meets its contract.
 -- Assumes nothing.
 use mathlib.Core.Path.{_∙_}
 use Rattle.state_clients.proofs.Stored.{row-set}

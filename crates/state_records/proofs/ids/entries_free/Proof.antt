@@ -1,4 +1,4 @@
--- `record_table::ids::entries_free` meets its contract.
+-- `state_records::ids::entries_free` meets its contract.
 -- Assumes nothing.
 use Prim.Native.Nat.{_-_}
 use mathlib.Core.Path.{_∙_}

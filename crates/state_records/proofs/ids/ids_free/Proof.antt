@@ -1,4 +1,4 @@
--- `record_table::ids::ids_free` meets its contract.
+-- `state_records::ids::ids_free` meets its contract.
 -- Assumes nothing.
 use native.Mathlib.Omega.{arith}
 use Rattle.model.specs.Images.{imageAt}

@@ -1,4 +1,4 @@
--- `record_table::ids::is_free` meets its contract.
+-- `state_records::ids::is_free` meets its contract.
 -- Assumes nothing.
 use Rattle.state_records.proofs.Unheld.{free-nothing, free-at}
 use borrow.Author.Needs.{needs}
