@@ -30,14 +30,14 @@ use Rattle.model.proofs.OpenCall.Laws as O′
 
 -- ---- lists
 
-map-set : {X Y : Type 0} (f : X → Y) (l : List X) (i : ℕ) (x : X) → map f (set l i x) ≡ set (map f l) i (f x)
+pub map-set : {X Y : Type 0} (f : X → Y) (l : List X) (i : ℕ) (x : X) → map f (set l i x) ≡ set (map f l) i (f x)
 map-set f [] i x = refl
 map-set f (y ∷ l) zero x = refl
 map-set {X} {Y} f (y ∷ l) (suc i) x = ap (λ (t : List Y). f y ∷ t) (map-set f l i x)
 
 module _ (D : Type 0) (own : D → List Val → Fml) where
   -- the machine values are those that the relation tells
-  each-told : (val : D → Val) → ((x : D) (vs : List Val) → shadow (own x vs) → vs ≡ val x ∷ []) → (xs : List D) (us : List Val) → shadow (each D own xs us) → shadow (each D own xs (map val xs))
+  pub each-told : (val : D → Val) → ((x : D) (vs : List Val) → shadow (own x vs) → vs ≡ val x ∷ []) → (xs : List D) (us : List Val) → shadow (each D own xs us) → shadow (each D own xs (map val xs))
   each-told val tells [] [] s = tt
   each-told val tells [] (u ∷ us) s = absurd s
   each-told val tells (x ∷ xs) [] s = absurd s
@@ -48,7 +48,7 @@ module _ (D : Type 0) (own : D → List Val → Fml) where
   each-at val (x ∷ xs) zero d h s = s .0
   each-at val (x ∷ xs) (suc i) d h s = each-at val xs i d (le-of-suc-le-suc h) (s .1)
 
-  each-set : (val : D → Val) (xs : List D) (i : ℕ) (y : D) → shadow (own y (val y ∷ [])) → shadow (each D own xs (map val xs)) → shadow (each D own (set xs i y) (map val (set xs i y)))
+  pub each-set : (val : D → Val) (xs : List D) (i : ℕ) (y : D) → shadow (own y (val y ∷ [])) → shadow (each D own xs (map val xs)) → shadow (each D own (set xs i y) (map val (set xs i y)))
   each-set val [] i y k s = tt
   each-set val (x ∷ xs) zero y k s = (k, s .1)
   each-set val (x ∷ xs) (suc i) y k s = (s .0, each-set val xs i y k (s .1))

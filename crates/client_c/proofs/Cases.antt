@@ -1,6 +1,7 @@
 -- The reply of each case, and a command whose op or point is past a byte.
 --     reply-none, reply-request      what issue and resend give
 --     lease-none, lease-grant, lease-notice      what the lease manager gives
+--     leases-change                  and what is stored in it
 --     past-byte      such a command is malformed, so issue refuses it with 1
 --     both-under     and the test for it
 --     sends-past, sends-change, receives-change      what is stored and replied makes the answer
@@ -21,6 +22,8 @@ use Rattle.model.specs.declared.Client.{Client}
 use Rattle.model.specs.declared.OpenCall.{OpenCall}
 use Rattle.model.specs.declared.SendAnswer.{SendAnswer}
 use Rattle.model.specs.declared.ReceiveAnswer.{ReceiveAnswer}
+use Rattle.model.specs.declared.LeaseManager.{LeaseManager}
+use Rattle.model.specs.declared.LeaseAnswer.{LeaseAnswer}
 use Rattle.model.specs.declared.Packet.{Packet}
 use Rattle.model.specs.declared.Packet.the-variants.{Malformed, Requested, Resulted, Refused, Receipted, Noticed, Granted}
 use Rattle.model.specs.declared.Sent.the-variants.{NotSent, Asked}
@@ -31,6 +34,8 @@ use Rattle.model.specs.Clients.{noCall, receiveOf, callAt, withCalls, startNumb
 use Rattle.model.specs.Leases.{toldNumber, toldBytes}
 use Rattle.model.specs.Refusals.{noRefusal, malformed}
 use Rattle.model_laws.proofs.Commands.{CommandParts, command-parts}
+use Rattle.leases.specs.declared.LeaseChange.{LeaseChange}
+use Rattle.leases.specs.Changes.{answered, Changes}
 use Rattle.client.specs.declared.SendChange.{SendChange}
 use Rattle.client.specs.declared.ReceiveChange.{ReceiveChange}
 use Rattle.client.specs.declared.StartFields.{StartFields}
@@ -39,7 +44,8 @@ use Rattle.client.proofs.Answers.{same-call}
 use Rattle.client_c.specs.declared.SendReply.{SendReply}
 use Rattle.client_c.specs.declared.ReceiveReply.{ReceiveReply}
 use Rattle.client_c.specs.declared.StartReply.{StartReply}
-use Rattle.client_c.specs.Replies.{filled, startReply, sentCall, sendReply, Sends, receiveReply, Receives, toldKind, leaseReply}
+use Rattle.client_c.specs.declared.Leasing.{Leasing}
+use Rattle.client_c.specs.Replies.{filled, startReply, sentCall, sendReply, Sends, receiveReply, Receives, toldKind, leaseReply, leasing, Leases}
 
 -- ---- issue and resend
 
@@ -66,6 +72,10 @@ pub lease-notice : (n : Notice) {p : List ℕ} → p ≡ noticeBytes noticeKind 
     → record { number = noRefusal; kind = noticeKind; length = noticeSize; packet = p } ≡ leaseReply (ByNotice n)
 unfolding leaseReply toldKind toldNumber toldBytes filled noticeBytes
 lease-notice n e = rw e refl
+
+pub leases-change : (m : LeaseManager) (c : LeaseChange) {a : LeaseAnswer} {r : Leasing} → Changes m c a → r ≡ leasing c → Leases m r a
+unfolding answered
+leases-change m c (under, whole) e = rw e (ap (λ (x : LeaseAnswer). leaseReply (x .answer)) whole, under, ap (λ (x : LeaseAnswer). x .manager) whole)
 
 -- ---- an op or a point past a byte
 

@@ -2,3 +2,5 @@
 pub mod Calls
 pub mod Cases
 pub mod Element
+pub mod Manager
+pub mod Lending

@@ -13,12 +13,15 @@ use Rattle.model.specs.declared.StartAnswer.{StartAnswer}
 use Rattle.model.specs.declared.SendAnswer.{SendAnswer}
 use Rattle.model.specs.declared.ReceiveAnswer.{ReceiveAnswer}
 use Rattle.model.specs.declared.LeaseAnswer.{LeaseAnswer}
+use Rattle.model.specs.declared.LeaseManager.{LeaseManager}
 use Rattle.model.specs.declared.Client.{Client}
 use Rattle.model.specs.Numbers.{flip}
-use Rattle.model.specs.Limits.{callWindow, requestSize, grantSize, grantKind, noticeKind}
+use Rattle.model.specs.Limits.{callWindow, leaseCount, requestSize, grantSize, grantKind, noticeKind}
 use Rattle.model.specs.Clients.{placeOf, withCalls, receiveOf, startNumber, sendNumber, sentBytes, receiveNumber, brought}
 use Rattle.model.specs.Leases.{toldNumber, toldBytes}
 use Rattle.client.specs.Changes.{packetCall}
+use Rattle.leases.specs.declared.LeaseChange.{LeaseChange}
+use Rattle.leases.specs.Changes.{stored}
 use Rattle.client_c.specs.declared.StartReply.{StartReply}
 use Rattle.client_c.specs.declared.SendReply.{SendReply}
 use Rattle.client_c.specs.declared.ReceiveReply.{ReceiveReply}
@@ -81,5 +84,13 @@ toldKind (ByNotice n) = noticeKind
 unfoldable pub leaseReply : Told → LeaseReply
 leaseReply a = record { number = toldNumber a; kind = toldKind a; length = length (toldBytes a); packet = filled grantSize (toldBytes a) }
 
-abbrev pub leasing : LeaseAnswer → Leasing
-leasing a = record { manager = a .manager; reply = leaseReply (a .answer) }
+abbrev pub leasing : LeaseChange → Leasing
+leasing c = record { ended = c .ended; time = c .time; issued = c .issued; place = c .place; lease = c .lease; reply = leaseReply (c .answer) }
+
+-- the manager with what changes stored in it
+abbrev pub changed : LeaseManager → Leasing → LeaseManager
+changed m r = stored m (r .ended) (r .time) (r .issued) (r .place) (r .lease)
+
+-- the reply is the answer's, and the manager with what changes stored in it is the answer's manager
+abbrev pub Leases : LeaseManager → Leasing → LeaseAnswer → Type 0
+Leases m r a = (r .reply ≡ leaseReply (a .answer)) × (r .place < leaseCount) × (changed m r ≡ a .manager)

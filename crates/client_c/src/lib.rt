@@ -2,16 +2,18 @@
 // in two's complement here.
 use model::constants;
 ghost use mathlib.Core.Path.{_≡_};
+ghost use Prim.Native.Nat.{_<_};
 ghost use Rattle.model.specs.declared.Received.the-variants.{NotReceived};
 ghost use Rattle.model.specs.Numbers.{flip};
+ghost use Rattle.model.specs.Limits.{leaseCount};
 ghost use Rattle.model.specs.Clients.{callAt, startOf, issueOf, resendOf, receiveOf};
 ghost use Rattle.model.specs.Leases.{newManager, openOf, renewOf, queryOf};
 ghost use Rattle.client.specs.Changes.{packetCall};
-ghost use Rattle.client_c.specs.Replies.{startReply, sendReply, Sends, receiveReply, Placed, Receives, leaseReply, leasing};
+ghost use Rattle.client_c.specs.Replies.{startReply, sendReply, Sends, receiveReply, Placed, Receives, leaseReply, leasing, changed, Leases};
+use leases::LeaseChange;
 use model::Client;
 use model::Grant;
 use model::Lease;
-use model::LeaseAnswer;
 use model::LeaseManager;
 use model::Notice;
 use model::OpenCall;
@@ -63,7 +65,8 @@ pub struct LeaseReply {
     pub packet: [u8; constants::GRANT_SIZE],
 }
 
-// ---- replies, by value, and what changes: in a client the next number or the lease end, and what stands at one place
+// ---- replies, by value, and what changes: in a client the next number or the lease end, and what stands at one place; in a lease
+// manager time, the latest client number, what stands at one place, and whether the ended leases are cleared before
 
 pub struct Sending {
     pub next: u32,
@@ -78,7 +81,11 @@ pub struct Receiving {
 }
 
 pub struct Leasing {
-    pub manager: LeaseManager,
+    pub ended: bool,
+    pub time: u32,
+    pub issued: u32,
+    pub place: usize,
+    pub lease: Lease,
     pub reply: LeaseReply,
 }
 
@@ -185,15 +192,19 @@ fn lease_reply(a: Told) -> LeaseReply
     }
 }
 
-fn with_lease_reply(a: LeaseAnswer) -> Leasing
-    ensures { λ r. ⌜ r ≡ leasing a ⌝ }
+fn with_lease_reply(c: LeaseChange) -> Leasing
+    ensures { λ r. ⌜ r ≡ leasing c ⌝ }
 {
-    let m = a.manager;
-    let s = a.answer;
-    let r = lease_reply(s);
+    let a = c.answer;
+    let reply = lease_reply(a);
+    let lease = c.lease;
     Leasing {
-        manager: m,
-        reply: r,
+        ended: c.ended,
+        time: c.time,
+        issued: c.issued,
+        place: c.place,
+        lease,
+        reply,
     }
 }
 
@@ -262,24 +273,33 @@ fn receive_value(d: Client, k: OpenCall, packet: &[u8]) -> Receiving
 // ---- the lease manager's operations, by value
 
 fn open_value(m: LeaseManager, time: u32, span: u32) -> Leasing
-    ensures { λ r. ⌜ r ≡ leasing (openOf m time span) ⌝ }
+    ensures { λ r. ⌜ Leases m r (openOf m time span) ⌝ }
 {
-    let a = leases::open_lease(m, time, span);
-    with_lease_reply(a)
+    let c = leases::open_change(m, time, span);
+    with_lease_reply(c)
 }
 
 fn renew_value(m: LeaseManager, client: u32, time: u32, span: u32) -> Leasing
-    ensures { λ r. ⌜ r ≡ leasing (renewOf m client time span) ⌝ }
+    ensures { λ r. ⌜ Leases m r (renewOf m client time span) ⌝ }
 {
-    let a = leases::renew(m, client, time, span);
-    with_lease_reply(a)
+    let c = leases::renew_change(m, client, time, span);
+    with_lease_reply(c)
 }
 
 fn query_value(m: LeaseManager, client: u32, time: u32) -> Leasing
-    ensures { λ r. ⌜ r ≡ leasing (queryOf m client time) ⌝ }
+    ensures { λ r. ⌜ Leases m r (queryOf m client time) ⌝ }
 {
-    let a = leases::query(m, client, time);
-    with_lease_reply(a)
+    let c = leases::query_change(m, client, time);
+    with_lease_reply(c)
+}
+
+// The manager with what changes.
+fn stored_value(m: LeaseManager, c: Leasing) -> LeaseManager
+    requires { ⌜ c .place < leaseCount ⌝ }
+    ensures { λ r. ⌜ r ≡ changed m c ⌝ }
+{
+    let l = c.lease;
+    leases::stored(m, c.ended, c.time, c.issued, c.place, l)
 }
 
 // ---- for C: the client. Start makes one; the others are lent it, and store what changes.
@@ -338,7 +358,7 @@ pub extern "C" fn mantelorris_receive(d: &mut Client, packet: &[u8]) -> ReceiveR
     r.reply
 }
 
-// ---- for C: the lease manager. It is made once and lent.
+// ---- for C: the lease manager. It is made once and lent; what changes is stored.
 
 #[no_mangle]
 pub extern "C" fn mantelorris_leases() -> LeaseManager
@@ -355,13 +375,28 @@ pub extern "C" fn mantelorris_leases() -> LeaseManager
     }
 }
 
+// Stores what a call changes: all anew where leases have ended, else time, latest number and one place.
+fn store_change(m: &mut LeaseManager, c: Leasing)
+    requires { ⌜ c .place < leaseCount ⌝ }
+    ensures { λ r. ⌜ now (m .exit) ≡ changed (now (m .entry)) c ⌝ }
+{
+    if c.ended {
+        *m = stored_value(*m, c);
+        return;
+    }
+    m.time = c.time;
+    m.issued = c.issued;
+    let i = c.place;
+    m.leases[i] = c.lease;
+}
+
 #[no_mangle]
 pub extern "C" fn mantelorris_open(m: &mut LeaseManager, time: u32, span: u32) -> LeaseReply
     ensures { λ r. ⌜ (r ≡ leaseReply (openOf (now (m .entry)) time span .answer))
         × (now (m .exit) ≡ openOf (now (m .entry)) time span .manager) ⌝ }
 {
     let r = open_value(*m, time, span);
-    *m = r.manager;
+    store_change(m, r);
     r.reply
 }
 
@@ -376,7 +411,7 @@ pub extern "C" fn mantelorris_renew(
         × (now (m .exit) ≡ renewOf (now (m .entry)) client time span .manager) ⌝ }
 {
     let r = renew_value(*m, client, time, span);
-    *m = r.manager;
+    store_change(m, r);
     r.reply
 }
 
@@ -386,6 +421,6 @@ pub extern "C" fn mantelorris_query(m: &mut LeaseManager, client: u32, time: u32
         × (now (m .exit) ≡ queryOf (now (m .entry)) client time .manager) ⌝ }
 {
     let r = query_value(*m, client, time);
-    *m = r.manager;
+    store_change(m, r);
     r.reply
 }

@@ -1,22 +1,26 @@
--- One step of each walk over the places of a lease manager: what is left of the list after the place i.
---     run-step, run-end            the running leases, place after place
---     end-miss, end-hit, end-none  the end of a client's lease
---     taken-on, taken-off          whether all places are taken
---     enter-on, enter-off, enter-end    a new lease at the first free place
---     extend-on, extend-off, extend-end the client's lease with a new end
+-- The places of a lease manager.
+--     run-step, run-end                       the running leases, place after place
+--     clear-not, none-step, none-end          no place must be cleared
+--     place-miss, place-hit, place-none       the place of a client's lease
+--     place-end, place-under                  what stands there is the client's lease
+--     place-full, place-free                  client 0 has the first free place
+--     place-new, place-extended               what is stored there
 -- Assumes nothing.
-use mathlib.Core.Path.{_≡_, refl}
-use mathlib.Core.Bool.{true, false}
-use mathlib.Core.List.{List, _++_, append-nil}
-use Prim.Native.Nat.{ℕ, suc, _+_, _≤_, _<_}
+use mathlib.Core.Path.{_≡_, refl, sym, _∙_, ap}
+use mathlib.Core.Bool.{Bool, true, false, _||_, _&&_, not, false≢true}
+use mathlib.Core.List.{List, [], _∷_, _++_, append-nil}
+use Prim.Native.Nat.{ℕ, zero, suc, _+_, _≤_, _<_}
 use native.Mathlib.Omega.{arith}
 use native.Mathlib.Numerals.{add-one}
+use lib.Dec.{eqb, leb}
 use lib.ListN.{length, getD, set, take, drop, drop-of-length-le}
-use lib.Seq.{drop-cons, take-suc, take-suc-set, drop-set-lt, append-snoc, set-split, take-all}
-use borrow.Author.Tests.{eq-eqb, ne-eqb}
+use lib.Seq.{drop-cons, take-suc, take-suc-set, drop-set-lt, append-snoc, take-all}
+use borrow.Author.Tests.{eq-eqb, ne-eqb, eqb-true}
 use Rattle.model.specs.declared.Lease.{Lease}
+use Rattle.model.specs.Choice.{pick}
 use Rattle.model.specs.Tables.{every}
 use Rattle.model.specs.Leases.{noLease, endedAt, runningAt, leaseEnd, isTaken, withNewLease, extended}
+use Rattle.leases.specs.Changes.{leasePlace}
 
 -- ---- the running leases
 
@@ -32,62 +36,119 @@ pub run-end : (now : ℕ) (ls out : List Lease) (i : ℕ) → length out ≤ i �
 unfolding runningAt
 run-end now ls out i h p = rw (p, take-all i out h, drop-of-length-le out h, append-nil) refl
 
--- ---- the end of a client's lease
+-- ---- whether any has ended
 
-module _ (x : ℕ) (ls : List Lease) (i : ℕ) (h : i < length ls) where
-  pub end-miss : (getD ls i noLease .client ≡ x → ⊥) → leaseEnd x (drop i ls) ≡ leaseEnd x (drop (i + 1) ls)
-  unfolding leaseEnd
-  end-miss n = rw (drop-cons ls i noLease h, add-one, ne-eqb _ _ n) refl
+pub or-left : (u v : Bool) → (u || v) ≡ false → u ≡ false
+or-left true v q = q
+or-left false v q = refl
 
-  pub end-hit : getD ls i noLease .client ≡ x → leaseEnd x (drop i ls) ≡ getD ls i noLease .lease
-  unfolding leaseEnd
-  end-hit e = rw (drop-cons ls i noLease h, eq-eqb _ _ e) refl
+pub or-right : (u v : Bool) → (u || v) ≡ false → v ≡ false
+or-right true v q = absurd (false≢true (sym q))
+or-right false v q = q
 
-pub end-none : (x : ℕ) (ls : List Lease) (i : ℕ) → length ls ≤ i → leaseEnd x (drop i ls) ≡ 0
-unfolding leaseEnd
-end-none x ls i h = rw (drop-of-length-le ls h) refl
+-- what need not be cleared is left by the clearing
+pub clear-not : (now : ℕ) (l : Lease) {u : Bool} → u ≡ (leb (l .lease) now || eqb (l .client) 0)
+    → (u && not (eqb (l .client) 0 && eqb (l .lease) 0)) ≡ false → endedAt now l ≡ l
+unfolding endedAt
+clear-not now l {u} e n = rw (← e) (go u (eqb (l .client) 0) (eqb (l .lease) 0) refl refl n)
+  where
+    go : (u a b : Bool) → eqb (l .client) 0 ≡ a → eqb (l .lease) 0 ≡ b → (u && not (a && b)) ≡ false → pick u noLease l ≡ l
+    go false a b p q n = refl
+    go true true true p q n =
+        ap (λ (c : ℕ). record { client = c; lease = 0 }) (sym (eqb-true _ _ p)) ∙ ap (λ (k : ℕ). record { client = l .client; lease = k }) (sym (eqb-true _ _ q))
+    go true true false p q n = absurd (false≢true (sym n))
+    go true false b p q n = absurd (false≢true (sym n))
 
--- ---- whether all places are taken
+pub none-step : (now : ℕ) (ls : List Lease) (i : ℕ) (found e : Bool) → i < length ls
+    → (found ≡ false → runningAt now ls ≡ take i ls ++ runningAt now (drop i ls))
+    → (e ≡ false → endedAt now (getD ls i noLease) ≡ getD ls i noLease)
+    → (found || e) ≡ false → runningAt now ls ≡ take (i + 1) ls ++ runningAt now (drop (i + 1) ls)
+unfolding runningAt
+none-step now ls i found e h p q n =
+    let before = p (or-left found e n) in
+    let here = q (or-right found e n) in
+    rw (before, add-one, take-suc ls i noLease h, drop-cons ls i noLease h, here, append-snoc) refl
 
-module _ (ls : List Lease) (i : ℕ) (h : i < length ls) where
-  pub taken-on : isTaken (getD ls i noLease) ≡ true → every isTaken (drop i ls) ≡ every isTaken (drop (i + 1) ls)
-  unfolding every
-  taken-on e = rw (drop-cons ls i noLease h, add-one, e) refl
+pub none-end : (now : ℕ) (ls : List Lease) (i : ℕ) → length ls ≤ i → runningAt now ls ≡ take i ls ++ runningAt now (drop i ls) → runningAt now ls ≡ ls
+unfolding runningAt
+none-end now ls i h p = rw (p, take-all i ls h, drop-of-length-le ls h, append-nil) refl
 
-  pub taken-off : isTaken (getD ls i noLease) ≡ false → every isTaken (drop i ls) ≡ false
-  unfolding every
-  taken-off e = rw (drop-cons ls i noLease h, e) refl
+-- ---- the place of a client's lease
 
-pub taken-end : (ls : List Lease) (i : ℕ) → length ls ≤ i → every isTaken (drop i ls) ≡ true
-unfolding every
-taken-end ls i h = rw (drop-of-length-le ls h) refl
+module _ (x : ℕ) (ls : List Lease) (i : ℕ) (p : leasePlace x ls ≡ i + leasePlace x (drop i ls)) where
+  pub place-miss : i < length ls → (getD ls i noLease .client ≡ x → ⊥) → leasePlace x ls ≡ i + 1 + leasePlace x (drop (i + 1) ls)
+  unfolding leasePlace
+  place-miss h n =
+      let e : leasePlace x (drop i ls) ≡ suc (leasePlace x (drop (i + 1) ls)) = rw (drop-cons ls i noLease h, add-one, ne-eqb _ _ n) refl in
+      omega arith
 
--- ---- a new lease at the first free place
+  pub place-hit : i < length ls → getD ls i noLease .client ≡ x → i ≡ leasePlace x ls
+  unfolding leasePlace
+  place-hit h q =
+      let e : leasePlace x (drop i ls) ≡ 0 = rw (drop-cons ls i noLease h, eq-eqb _ _ q) refl in
+      omega arith
 
-module _ (n : Lease) (ls : List Lease) (i : ℕ) (h : i < length ls) (p : withNewLease n ls ≡ take i ls ++ withNewLease n (drop i ls)) where
-  pub enter-on : isTaken (getD ls i noLease) ≡ true → withNewLease n ls ≡ take (i + 1) ls ++ withNewLease n (drop (i + 1) ls)
-  unfolding withNewLease
-  enter-on e = rw (p, add-one, take-suc ls i noLease h, drop-cons ls i noLease h, e, append-snoc) refl
+  pub place-none : length ls ≤ i → i ≡ leasePlace x ls
+  unfolding leasePlace
+  place-none h =
+      let e : leasePlace x (drop i ls) ≡ 0 = rw (drop-of-length-le ls h) refl in
+      omega arith
 
-  pub enter-off : isTaken (getD ls i noLease) ≡ false → set ls i n ≡ withNewLease n ls
-  unfolding withNewLease
-  enter-off e = rw (p, set-split ls i n h, drop-cons ls i noLease h, e) refl
+-- ---- what stands there
 
-pub enter-end : (n : Lease) (ls : List Lease) (i : ℕ) → length ls ≤ i → withNewLease n ls ≡ take i ls ++ withNewLease n (drop i ls) → ls ≡ withNewLease n ls
-unfolding withNewLease
-enter-end n ls i h p = rw (p, take-all i ls h, drop-of-length-le ls h, append-nil) refl
+pub place-end : (x : ℕ) (ls : List Lease) → leaseEnd x ls ≡ getD ls (leasePlace x ls) noLease .lease
+unfolding leaseEnd leasePlace
+place-end x [] = refl
+place-end x (l ∷ ls) = go (eqb (l .client) x) (place-end x ls)
+  where
+    go : (b : Bool) → leaseEnd x ls ≡ getD ls (leasePlace x ls) noLease .lease
+        → pick b (l .lease) (leaseEnd x ls) ≡ getD (l ∷ ls) (pick b 0 (suc (leasePlace x ls))) noLease .lease
+    go true e = refl
+    go false e = e
 
--- ---- the client's lease with a new end
+pub place-under : (x : ℕ) (ls : List Lease) → (getD ls (leasePlace x ls) noLease .lease ≡ 0 → ⊥) → leasePlace x ls < length ls
+unfolding leasePlace
+place-under x [] n = absurd (n refl)
+place-under x (l ∷ ls) n = go (eqb (l .client) x) n (place-under x ls)
+  where
+    go : (b : Bool) → (getD (l ∷ ls) (pick b 0 (suc (leasePlace x ls))) noLease .lease ≡ 0 → ⊥)
+        → ((getD ls (leasePlace x ls) noLease .lease ≡ 0 → ⊥) → leasePlace x ls < length ls) → pick b 0 (suc (leasePlace x ls)) < length (l ∷ ls)
+    go true m k = omega arith
+    go false m k = let h = k m in omega arith
 
-module _ (x e : ℕ) (ls : List Lease) (i : ℕ) (h : i < length ls) (p : extended x e ls ≡ take i ls ++ extended x e (drop i ls)) where
-  pub extend-on : (getD ls i noLease .client ≡ x → ⊥) → extended x e ls ≡ take (i + 1) ls ++ extended x e (drop (i + 1) ls)
-  unfolding extended
-  extend-on n = rw (p, add-one, take-suc ls i noLease h, drop-cons ls i noLease h, ne-eqb _ _ n, append-snoc) refl
+pub place-full : (ls : List Lease) → length ls ≤ leasePlace 0 ls → every isTaken ls ≡ true
+unfolding leasePlace every isTaken
+place-full [] h = refl
+place-full (l ∷ ls) h = go (eqb (l .client) 0) h (place-full ls)
+  where
+    go : (b : Bool) → length (l ∷ ls) ≤ pick b 0 (suc (leasePlace 0 ls)) → (length ls ≤ leasePlace 0 ls → every isTaken ls ≡ true) → (not b && every isTaken ls) ≡ true
+    go true k f = absurd (omega arith)
+    go false k f = f (omega arith)
 
-  pub extend-off : getD ls i noLease .client ≡ x → set ls i (record { client = x; lease = e }) ≡ extended x e ls
-  unfolding extended
-  extend-off q = rw (p, set-split ls i (record { client = x; lease = e }) h, drop-cons ls i noLease h, eq-eqb _ _ q) refl
+pub place-free : (ls : List Lease) → leasePlace 0 ls < length ls → every isTaken ls ≡ false
+unfolding leasePlace every isTaken
+place-free [] h = absurd (omega arith)
+place-free (l ∷ ls) h = go (eqb (l .client) 0) h (place-free ls)
+  where
+    go : (b : Bool) → pick b 0 (suc (leasePlace 0 ls)) < length (l ∷ ls) → (leasePlace 0 ls < length ls → every isTaken ls ≡ false) → (not b && every isTaken ls) ≡ false
+    go true k f = refl
+    go false k f = f (omega arith)
 
-pub extend-end : (x e : ℕ) (ls : List Lease) (i : ℕ) → length ls ≤ i → extended x e ls ≡ take i ls ++ extended x e (drop i ls) → ls ≡ extended x e ls
-unfolding extended
-extend-end x e ls i h p = rw (p, take-all i ls h, drop-of-length-le ls h, append-nil) refl
+pub place-new : (n : Lease) (ls : List Lease) → withNewLease n ls ≡ set ls (leasePlace 0 ls) n
+unfolding withNewLease leasePlace isTaken
+place-new n [] = refl
+place-new n (l ∷ ls) = go (eqb (l .client) 0) (place-new n ls)
+  where
+    go : (b : Bool) → withNewLease n ls ≡ set ls (leasePlace 0 ls) n → pick (not b) (l ∷ withNewLease n ls) (n ∷ ls) ≡ set (l ∷ ls) (pick b 0 (suc (leasePlace 0 ls))) n
+    go true e = refl
+    go false e = ap (λ (t : List Lease). l ∷ t) e
+
+pub place-extended : (x e : ℕ) (ls : List Lease) → extended x e ls ≡ set ls (leasePlace x ls) (record { client = x; lease = e })
+unfolding extended leasePlace
+place-extended x e [] = refl
+place-extended x e (l ∷ ls) = go (eqb (l .client) x) (place-extended x e ls)
+  where
+    go : (b : Bool) → extended x e ls ≡ set ls (leasePlace x ls) (record { client = x; lease = e })
+        → pick b (record { client = x; lease = e } ∷ ls) (l ∷ extended x e ls) ≡ set (l ∷ ls) (pick b 0 (suc (leasePlace x ls))) (record { client = x; lease = e })
+    go true q = refl
+    go false q = ap (λ (t : List Lease). l ∷ t) q

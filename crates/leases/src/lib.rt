@@ -1,17 +1,40 @@
-// The lease manager (paper: lease office): open, renew, query. Values in and values out; every value of the struct is taken.
+// The lease manager (paper: lease office): open, renew, query. Values in and values out; every value of the struct is taken. A call is what
+// it changes, so that a lent manager is read in place, and only what changes is stored.
 use model::constants;
 use model::constants::LEASE_COUNT;
 ghost use mathlib.Core.Path.{_≡_};
-ghost use mathlib.Core.Bool.{_||_};
+ghost use mathlib.Core.Bool.{false, _||_};
+ghost use Prim.Native.Nat.{_<_};
 ghost use lib.Dec.{eqb, leb};
-ghost use Rattle.model.specs.Leases.{timeAt, endedAt, runningAt, leaseEnd, isTaken, withNewLease, extended, spanOk, manager, notTold, granted, openOf, renewOf, queryOf};
-ghost use Rattle.model.specs.Tables.{every};
+ghost use lib.ListN.{length, getD};
+ghost use Rattle.model.specs.Leases.{noLease, timeAt, endedAt, runningAt, spanOk, manager, openOf, renewOf, queryOf};
+ghost use Rattle.model.specs.Limits.{leaseCount};
+ghost use Rattle.leases.specs.Changes.{leasePlace, keptAt, stored, answered, Changes, noChange, noPlace, notRunning, newHolder, holderOf, grantTo, toldEnd, queryAmong};
 use model::Grant;
 use model::Lease;
 use model::LeaseAnswer;
 use model::LeaseManager;
 use model::Notice;
 use model::Told;
+
+// What a call changes: time, the latest client number, and what stands at one place. ended: the ended leases are cleared before.
+pub struct LeaseChange {
+    pub ended: bool,
+    pub time: u32,
+    pub issued: u32,
+    pub place: usize,
+    pub lease: Lease,
+    pub answer: Told,
+}
+
+// Who is to be granted a lease, and at which place: the end that it has there, and the latest number then. refusal: 0, or why not.
+pub struct Holder {
+    pub place: usize,
+    pub refusal: u32,
+    pub issued: u64,
+    pub client: u64,
+    pub end: u32,
+}
 
 // ---- one lease
 
@@ -34,10 +57,11 @@ fn ended_at(now: u32, l: Lease) -> Lease
     l
 }
 
-fn is_taken(l: Lease) -> bool
-    ensures { λ r. ⌜ r ≡ isTaken l ⌝ }
+// Whether a call at this time must clear the place: a lease that has ended, or what no lease is.
+fn must_clear(now: u32, l: Lease) -> bool
+    ensures { λ r. ⌜ (r ≡ false → endedAt now l ≡ l) ⌝ }
 {
-    !(l.client == 0)
+    has_ended(now, l) & !((l.client == 0) & (l.lease == 0))
 }
 
 // ---- the 32 places
@@ -56,67 +80,45 @@ fn running_at(now: u32, ls: [Lease; LEASE_COUNT]) -> [Lease; LEASE_COUNT]
     out
 }
 
-fn lease_end(x: u32, ls: [Lease; LEASE_COUNT]) -> u32
-    ensures { λ r. ⌜ r ≡ leaseEnd x ls ⌝ }
+// Whether any place must be cleared. Without an exit from the loop, so that it is compiled to a few wide steps.
+fn some_ended(now: u32, ls: [Lease; LEASE_COUNT]) -> bool
+    ensures { λ r. ⌜ (r ≡ false → runningAt now ls ≡ ls) × (length ls ≡ leaseCount) ⌝ }
+{
+    let mut found = false;
+    let mut i: usize = 0;
+    while i < LEASE_COUNT {
+        let l = ls[i];
+        let e = must_clear(now, l);
+        found = found | e;
+        i += 1;
+    }
+    found
+}
+
+// The place of the client's lease, past the last where it has none; of client 0, the first free place.
+fn lease_place(x: u32, ls: [Lease; LEASE_COUNT]) -> usize
+    ensures { λ r. ⌜ r ≡ leasePlace x ls ⌝ }
 {
     let mut i: usize = 0;
     while i < LEASE_COUNT {
         let l = ls[i];
         if l.client == x {
-            return l.lease;
+            return i;
         }
         i += 1;
+    }
+    i
+}
+
+// The end of the lease at a place, 0 past the last.
+fn end_at(ls: [Lease; LEASE_COUNT], i: usize) -> u32
+    ensures { λ r. ⌜ r ≡ getD ls i noLease .lease ⌝ }
+{
+    if i < LEASE_COUNT {
+        let l = ls[i];
+        return l.lease;
     }
     0
-}
-
-fn all_taken(ls: [Lease; LEASE_COUNT]) -> bool
-    ensures { λ r. ⌜ r ≡ every isTaken ls ⌝ }
-{
-    let mut i: usize = 0;
-    while i < LEASE_COUNT {
-        let l = ls[i];
-        if !is_taken(l) {
-            return false;
-        }
-        i += 1;
-    }
-    true
-}
-
-fn with_new_lease(n: Lease, ls: [Lease; LEASE_COUNT]) -> [Lease; LEASE_COUNT]
-    ensures { λ r. ⌜ r ≡ withNewLease n ls ⌝ }
-{
-    let mut out = ls;
-    let mut i: usize = 0;
-    while i < LEASE_COUNT {
-        let l = ls[i];
-        if !is_taken(l) {
-            out[i] = n;
-            return out;
-        }
-        i += 1;
-    }
-    out
-}
-
-fn extended(x: u32, e: u32, ls: [Lease; LEASE_COUNT]) -> [Lease; LEASE_COUNT]
-    ensures { λ r. ⌜ r ≡ extended x e ls ⌝ }
-{
-    let mut out = ls;
-    let mut i: usize = 0;
-    while i < LEASE_COUNT {
-        let l = ls[i];
-        if l.client == x {
-            out[i] = Lease {
-                client: x,
-                lease: e,
-            };
-            return out;
-        }
-        i += 1;
-    }
-    out
 }
 
 // ---- what the operations are made of
@@ -143,96 +145,242 @@ fn manager(time: u32, issued: u32, ls: [Lease; LEASE_COUNT]) -> LeaseManager
     }
 }
 
-fn not_told(m: LeaseManager, n: u32) -> LeaseAnswer
-    ensures { λ r. ⌜ r ≡ notTold m n ⌝ }
+// The leases that are left before one is stored.
+fn kept_at(m: LeaseManager, ended: bool, now: u32) -> [Lease; LEASE_COUNT]
+    ensures { λ r. ⌜ r ≡ keptAt m ended now ⌝ }
 {
-    LeaseAnswer {
-        manager: m,
+    let held = m.leases;
+    if ended {
+        return running_at(now, held);
+    }
+    held
+}
+
+// The manager with what changes.
+pub fn stored(
+    m: LeaseManager,
+    ended: bool,
+    time: u32,
+    issued: u32,
+    place: usize,
+    lease: Lease,
+) -> LeaseManager
+    requires { ⌜ place < leaseCount ⌝ }
+    ensures { λ r. ⌜ r ≡ stored m ended time issued place lease ⌝ }
+{
+    let mut ls = kept_at(m, ended, time);
+    ls[place] = lease;
+    manager(time, issued, ls)
+}
+
+// A refused call changes nothing.
+fn no_change(m: LeaseManager, n: u32) -> LeaseChange
+    ensures { λ r. ⌜ r ≡ noChange m n ⌝ }
+{
+    let held = m.leases;
+    let l = held[0];
+    LeaseChange {
+        ended: false,
+        time: m.time,
+        issued: m.issued,
+        place: 0,
+        lease: l,
         answer: Told::NotTold(n),
     }
 }
 
-fn granted(m: LeaseManager, x: u32, e: u32) -> LeaseAnswer
-    ensures { λ r. ⌜ r ≡ granted m x e ⌝ }
+// 18 where all places are taken.
+fn no_place(place: usize) -> u32
+    ensures { λ r. ⌜ r ≡ noPlace place ⌝ }
 {
-    LeaseAnswer {
-        manager: m,
-        answer: Told::ByGrant(Grant {
-            client: x,
-            lease: e,
-        }),
+    if place < LEASE_COUNT {
+        return constants::NO_REFUSAL;
+    }
+    constants::LEASES_FULL
+}
+
+// 17 where no lease runs.
+fn no_lease(end: u32) -> u32
+    ensures { λ r. ⌜ r ≡ notRunning end ⌝ }
+{
+    if end == 0 {
+        return constants::UNKNOWN;
+    }
+    constants::NO_REFUSAL
+}
+
+fn new_holder(m: LeaseManager, ls: [Lease; LEASE_COUNT]) -> Holder
+    ensures { λ r. ⌜ r ≡ newHolder m ls ⌝ }
+{
+    let place = lease_place(0, ls);
+    let x = m.issued as u64 + 1;
+    Holder {
+        place,
+        refusal: no_place(place),
+        issued: x,
+        client: x,
+        end: 0,
     }
 }
 
-// ---- the operations
+fn holder_of(m: LeaseManager, x: u32, ls: [Lease; LEASE_COUNT]) -> Holder
+    ensures { λ r. ⌜ r ≡ holderOf m x ls ⌝ }
+{
+    let place = lease_place(x, ls);
+    let end = end_at(ls, place);
+    Holder {
+        place,
+        refusal: no_lease(end),
+        issued: m.issued as u64,
+        client: x as u64,
+        end,
+    }
+}
 
-// Open: 1 a span outside 1 to 86,400; 18 no place for a lease; 16 a client number or an end past 32 bits.
-pub fn open_lease(m: LeaseManager, time: u32, span: u32) -> LeaseAnswer
-    ensures { λ r. ⌜ r ≡ openOf m time span ⌝ }
+// Open and renew: 1 a span outside 1 to 86,400; the holder's refusal; 16 a number or an end past 32 bits. The later end holds.
+fn grant_to(m: LeaseManager, h: Holder, ended: bool, time: u32, span: u32) -> LeaseChange
+    ensures { λ r. ⌜ r ≡ grantTo m h ended time span ⌝ }
 {
     if !span_ok(span) {
-        return not_told(m, constants::MALFORMED);
+        return no_change(m, constants::MALFORMED);
+    }
+    if !(h.refusal == 0) {
+        return no_change(m, h.refusal);
     }
     let now = time_at(m, time);
-    let held = m.leases;
-    let ls = running_at(now, held);
-    if all_taken(ls) {
-        return not_told(m, constants::LEASES_FULL);
-    }
-    let x = m.issued as u64 + 1;
     let end = now as u64 + span as u64;
-    if (constants::LAST_32_U64 < x) | (constants::LAST_32_U64 < end) {
-        return not_told(m, constants::NUMBERS_OUT);
+    if (constants::LAST_32_U64 < h.issued)
+        | ((constants::LAST_32_U64 < h.client) | (constants::LAST_32_U64 < end))
+    {
+        return no_change(m, constants::NUMBERS_OUT);
     }
-    let client = x as u32;
-    let lease = end as u32;
-    let next = with_new_lease(Lease { client, lease }, ls);
-    granted(manager(now, client, next), client, lease)
+    let client = h.client as u32;
+    let lease = format_numbers::greater(h.end, end as u32);
+    LeaseChange {
+        ended,
+        time: now,
+        issued: h.issued as u32,
+        place: h.place,
+        lease: Lease { client, lease },
+        answer: Told::ByGrant(Grant { client, lease }),
+    }
+}
+
+// A grant, or a notice where no lease runs.
+fn told_end(x: u32, now: u32, end: u32) -> Told
+    ensures { λ r. ⌜ r ≡ toldEnd x now end ⌝ }
+{
+    if end == 0 {
+        return Told::ByNotice(Notice {
+            client: x,
+            time: now,
+        });
+    }
+    Told::ByGrant(Grant {
+        client: x,
+        lease: end,
+    })
+}
+
+fn query_among(
+    m: LeaseManager,
+    ls: [Lease; LEASE_COUNT],
+    ended: bool,
+    x: u32,
+    now: u32,
+) -> LeaseChange
+    ensures { λ r. ⌜ r ≡ queryAmong m ls ended x now ⌝ }
+{
+    let end = end_at(ls, lease_place(x, ls));
+    let l = ls[0];
+    let told = told_end(x, now, end);
+    LeaseChange {
+        ended,
+        time: now,
+        issued: m.issued,
+        place: 0,
+        lease: l,
+        answer: told,
+    }
+}
+
+// ---- the operations: what they change
+
+// Open: 1; 18 no place for a lease; 16.
+pub fn open_change(m: LeaseManager, time: u32, span: u32) -> LeaseChange
+    ensures { λ r. ⌜ Changes m r (openOf m time span) ⌝ }
+{
+    let now = time_at(m, time);
+    let held = m.leases;
+    if some_ended(now, held) {
+        let ls = running_at(now, held);
+        return grant_to(m, new_holder(m, ls), true, time, span);
+    }
+    grant_to(m, new_holder(m, held), false, time, span)
 }
 
 // Renew (client, time, span): 1; 17 no running lease; 16.
-pub fn renew(m: LeaseManager, x: u32, time: u32, span: u32) -> LeaseAnswer
-    ensures { λ r. ⌜ r ≡ renewOf m x time span ⌝ }
+pub fn renew_change(m: LeaseManager, x: u32, time: u32, span: u32) -> LeaseChange
+    ensures { λ r. ⌜ Changes m r (renewOf m x time span) ⌝ }
 {
-    if !span_ok(span) {
-        return not_told(m, constants::MALFORMED);
-    }
     let now = time_at(m, time);
     let held = m.leases;
-    let ls = running_at(now, held);
-    let old = lease_end(x, ls);
-    if old == 0 {
-        return not_told(m, constants::UNKNOWN);
+    if some_ended(now, held) {
+        let ls = running_at(now, held);
+        return grant_to(m, holder_of(m, x, ls), true, time, span);
     }
-    let end = now as u64 + span as u64;
-    if constants::LAST_32_U64 < end {
-        return not_told(m, constants::NUMBERS_OUT);
-    }
-    let lease = format_numbers::greater(old, end as u32);
-    let next = extended(x, lease, ls);
-    granted(manager(now, m.issued, next), x, lease)
+    grant_to(m, holder_of(m, x, held), false, time, span)
 }
 
 // Query: 17 a number that was never given out; else a grant or, where no lease runs, a notice with the manager's time.
+pub fn query_change(m: LeaseManager, x: u32, time: u32) -> LeaseChange
+    ensures { λ r. ⌜ Changes m r (queryOf m x time) ⌝ }
+{
+    if (x == 0) | (m.issued < x) {
+        return no_change(m, constants::UNKNOWN); // never issued
+    }
+    let now = time_at(m, time);
+    let held = m.leases;
+    if some_ended(now, held) {
+        let ls = running_at(now, held);
+        return query_among(m, ls, true, x, now);
+    }
+    query_among(m, held, false, x, now)
+}
+
+// ---- the operations, by value
+
+// The answer that a change makes.
+fn answered(m: LeaseManager, c: LeaseChange) -> LeaseAnswer
+    requires { ⌜ c .place < leaseCount ⌝ }
+    ensures { λ r. ⌜ r ≡ answered m c ⌝ }
+{
+    let l = c.lease;
+    let a = c.answer;
+    let next = stored(m, c.ended, c.time, c.issued, c.place, l);
+    LeaseAnswer {
+        manager: next,
+        answer: a,
+    }
+}
+
+pub fn open_lease(m: LeaseManager, time: u32, span: u32) -> LeaseAnswer
+    ensures { λ r. ⌜ r ≡ openOf m time span ⌝ }
+{
+    let c = open_change(m, time, span);
+    answered(m, c)
+}
+
+pub fn renew(m: LeaseManager, x: u32, time: u32, span: u32) -> LeaseAnswer
+    ensures { λ r. ⌜ r ≡ renewOf m x time span ⌝ }
+{
+    let c = renew_change(m, x, time, span);
+    answered(m, c)
+}
+
 pub fn query(m: LeaseManager, x: u32, time: u32) -> LeaseAnswer
     ensures { λ r. ⌜ r ≡ queryOf m x time ⌝ }
 {
-    let now = time_at(m, time);
-    let held = m.leases;
-    let ls = running_at(now, held);
-    let end = lease_end(x, ls);
-    let next = manager(now, m.issued, ls);
-    if (x == 0) | (m.issued < x) {
-        return not_told(m, constants::UNKNOWN); // never issued
-    }
-    if end == 0 {
-        return LeaseAnswer {
-            manager: next,
-            answer: Told::ByNotice(Notice {
-                client: x,
-                time: now,
-            }),
-        };
-    }
-    granted(next, x, end)
+    let c = query_change(m, x, time);
+    answered(m, c)
 }

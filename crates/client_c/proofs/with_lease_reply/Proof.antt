@@ -5,11 +5,8 @@ use borrow.Author.Needs.{needs}
 use Rattle.client_c.proofs.with_lease_reply.Statement.{statement}
 use Rattle.client_c.proofs.with_lease_reply.Tie as tie
 
-lease-reply-requires : tie.Need-lease-reply-requires
-lease-reply-requires c κs = search needs
-
 returns : tie.Need-returns
-returns c = rw (c .lease-reply .ensures) refl
+returns c = rw (c .before .lease-reply .ensures) refl
 
 pub with-lease-reply-spec : {M : Type 1} → statement M
-with-lease-reply-spec = tie.close (tie.spec lease-reply-requires returns)
+with-lease-reply-spec = tie.close (tie.spec (λ c κs. search needs) returns)
