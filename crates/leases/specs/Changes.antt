@@ -18,11 +18,16 @@ use Rattle.model.specs.Limits.{last32, leaseCount}
 use Rattle.model.specs.Refusals.{noRefusal, malformed, leasesFull, unknown, numbersOut}
 use Rattle.leases.specs.declared.LeaseChange.{LeaseChange}
 use Rattle.leases.specs.declared.Holder.{Holder}
+use Rattle.leases.specs.declared.Found.{Found}
 
 -- the place of the client's lease, past the last where it has none; of client 0, the first free place
 unfoldable pub leasePlace : ℕ → List Lease → ℕ
 leasePlace x [] = 0
 leasePlace x (l ∷ ls) = pick (eqb (l .client) x) 0 (suc (leasePlace x ls))
+
+-- and the lease's end
+unfoldable pub leaseAt : ℕ → List Lease → Found
+leaseAt x ls = record { place = leasePlace x ls; end = getD ls (leasePlace x ls) noLease .lease }
 
 -- ---- what is changed
 

@@ -6,10 +6,10 @@ ghost use mathlib.Core.Path.{_≡_};
 ghost use mathlib.Core.Bool.{false, _||_};
 ghost use Prim.Native.Nat.{_<_};
 ghost use lib.Dec.{eqb, leb};
-ghost use lib.ListN.{length, getD};
-ghost use Rattle.model.specs.Leases.{noLease, timeAt, endedAt, runningAt, spanOk, manager, openOf, renewOf, queryOf};
+ghost use lib.ListN.{length};
+ghost use Rattle.model.specs.Leases.{timeAt, endedAt, runningAt, spanOk, manager, openOf, renewOf, queryOf};
 ghost use Rattle.model.specs.Limits.{leaseCount};
-ghost use Rattle.leases.specs.Changes.{leasePlace, keptAt, stored, answered, Changes, noChange, noPlace, notRunning, newHolder, holderOf, grantTo, toldEnd, queryAmong};
+ghost use Rattle.leases.specs.Changes.{leaseAt, keptAt, stored, answered, Changes, noChange, noPlace, notRunning, newHolder, holderOf, grantTo, toldEnd, queryAmong};
 use model::Grant;
 use model::Lease;
 use model::LeaseAnswer;
@@ -33,6 +33,12 @@ pub struct Holder {
     pub refusal: u32,
     pub issued: u64,
     pub client: u64,
+    pub end: u32,
+}
+
+// Where a client's lease stands, and its end.
+pub struct Found {
+    pub place: usize,
     pub end: u32,
 }
 
@@ -95,30 +101,22 @@ fn some_ended(now: u32, ls: [Lease; LEASE_COUNT]) -> bool
     found
 }
 
-// The place of the client's lease, past the last where it has none; of client 0, the first free place.
-fn lease_place(x: u32, ls: [Lease; LEASE_COUNT]) -> usize
-    ensures { λ r. ⌜ r ≡ leasePlace x ls ⌝ }
+// The place of the client's lease and its end, past the last and 0 where it has none; of client 0, the first free place.
+fn lease_at(x: u32, ls: [Lease; LEASE_COUNT]) -> Found
+    ensures { λ r. ⌜ r ≡ leaseAt x ls ⌝ }
 {
     let mut i: usize = 0;
     while i < LEASE_COUNT {
         let l = ls[i];
         if l.client == x {
-            return i;
+            return Found {
+                place: i,
+                end: l.lease,
+            };
         }
         i += 1;
     }
-    i
-}
-
-// The end of the lease at a place, 0 past the last.
-fn end_at(ls: [Lease; LEASE_COUNT], i: usize) -> u32
-    ensures { λ r. ⌜ r ≡ getD ls i noLease .lease ⌝ }
-{
-    if i < LEASE_COUNT {
-        let l = ls[i];
-        return l.lease;
-    }
-    0
+    Found { place: i, end: 0 }
 }
 
 // ---- what the operations are made of
@@ -212,11 +210,11 @@ fn no_lease(end: u32) -> u32
 fn new_holder(m: LeaseManager, ls: [Lease; LEASE_COUNT]) -> Holder
     ensures { λ r. ⌜ r ≡ newHolder m ls ⌝ }
 {
-    let place = lease_place(0, ls);
+    let f = lease_at(0, ls);
     let x = m.issued as u64 + 1;
     Holder {
-        place,
-        refusal: no_place(place),
+        place: f.place,
+        refusal: no_place(f.place),
         issued: x,
         client: x,
         end: 0,
@@ -226,14 +224,13 @@ fn new_holder(m: LeaseManager, ls: [Lease; LEASE_COUNT]) -> Holder
 fn holder_of(m: LeaseManager, x: u32, ls: [Lease; LEASE_COUNT]) -> Holder
     ensures { λ r. ⌜ r ≡ holderOf m x ls ⌝ }
 {
-    let place = lease_place(x, ls);
-    let end = end_at(ls, place);
+    let f = lease_at(x, ls);
     Holder {
-        place,
-        refusal: no_lease(end),
+        place: f.place,
+        refusal: no_lease(f.end),
         issued: m.issued as u64,
         client: x as u64,
-        end,
+        end: f.end,
     }
 }
 
@@ -291,9 +288,9 @@ fn query_among(
 ) -> LeaseChange
     ensures { λ r. ⌜ r ≡ queryAmong m ls ended x now ⌝ }
 {
-    let end = end_at(ls, lease_place(x, ls));
+    let f = lease_at(x, ls);
     let l = ls[0];
-    let told = told_end(x, now, end);
+    let told = told_end(x, now, f.end);
     LeaseChange {
         ended,
         time: now,
