@@ -40,7 +40,6 @@ use Rattle.client_c.specs.declared.LeaseReply.{LeaseReply}
 use Rattle.model.specs.Limits.{leaseCount}
 use Rattle.client_c.specs.Replies.{changed}
 use Rattle.model.proofs.LeaseManager as T
-use Rattle.model.proofs.LeaseManager.Laws as T′
 use Rattle.client_c.proofs.Leasing as S
 use Rattle.client_c.proofs.Leasing.Laws as S′
 use Rattle.client_c.proofs.LeaseReply as E

@@ -6,24 +6,21 @@
 --     query-unknown
 --     both-fit, all-fit                            what the tests of sums tell
 -- Assumes nothing.
-use mathlib.Core.Path.{_≡_, refl, sym, _∙_, ap}
+use mathlib.Core.Path.{_≡_, refl, sym, _∙_}
 use mathlib.Core.Bool.{Bool, true, false, _||_}
 use mathlib.Core.List.{List}
-use Prim.Native.Nat.{ℕ, zero, suc, _+_, _≤_, _<_, max}
+use Prim.Native.Nat.{ℕ, _+_, _≤_, _<_, max}
 use native.Mathlib.Omega.{arith}
 use native.Mathlib.Numerals.{add-one}
 use lib.Dec.{eqb, ltb}
-use lib.ListN.{length, length-map, getD, set}
+use lib.ListN.{length, length-map, getD}
 use lib.Seq.{set-getD}
-use borrow.Author.Tests.{eqb-true, eqb-false, le-ltb, ltb-true, ltb-false}
+use borrow.Author.Tests.{eqb-false, le-ltb, ltb-true, ltb-false}
 use Rattle.model.specs.declared.Lease.{Lease}
 use Rattle.model.specs.declared.LeaseManager.{LeaseManager}
-use Rattle.model.specs.declared.LeaseAnswer.{LeaseAnswer}
 use Rattle.model.specs.declared.Told.the-variants.{ByGrant}
-use Rattle.model.specs.Choice.{pick}
-use Rattle.model.specs.Tables.{every}
-use Rattle.model.specs.Leases.{noLease, timeAt, endedAt, runningAt, leaseEnd, isTaken, withNewLease, extended, spanOk, manager, notTold, granted, openOf, renewOf, queryOf}
-use Rattle.model.specs.Refusals.{noRefusal, malformed, leasesFull, numbersOut, unknown}
+use Rattle.model.specs.Leases.{noLease, timeAt, endedAt, runningAt, withNewLease, extended, spanOk, manager, notTold, granted, openOf, renewOf, queryOf}
+use Rattle.model.specs.Refusals.{malformed, leasesFull, numbersOut, unknown}
 use Rattle.model.specs.Limits.{last32, leaseCount}
 use Rattle.leases.specs.declared.LeaseChange.{LeaseChange}
 use Rattle.leases.specs.declared.Holder.{Holder}
