@@ -59,7 +59,7 @@ module _ (s : List ℕ) (k left : ℕ) {u : Bool} where
   unfolding floorStep clientFollows rows
   floor-last z p = rw z p
 
-  pub floor-before : (left ≡ 0 → ⊥) → {v : Bool} → u ≡ floorOk (floorOfBytes (drop k s)) → v ≡ ltb (floorOfBytes (drop k s) .client) (floorOfBytes (drop (k + 8) s) .client)
+  pub floor-before : (left ≡ 0 → ⊥) → {v : Bool} → u ≡ floorOk (floorOfBytes (drop k s)) → v ≡ ltb (floorOfBytes (drop k s) .client) (floorOfBytes (drop (k + floorRow) s) .client)
       → (v && u) ≡ floorStep left (drop k s)
   unfolding floorStep clientFollows rows
   floor-before z p q = rw (some-left left z, p, q, drop-drop)
@@ -111,7 +111,7 @@ leading-from x (suc j) (suc n) t h = step (ltb (floorOfBytes t .client) x) h (le
         → pick b (suc more) 0 ≡ suc j + leading x (rows floorOfBytes floorRow (suc n - suc j) (drop (floorRow * suc j) t))
     step true k r =
         let e : suc n - suc j ≡ n - j = omega arith in
-        let p : 8 + 8 * j ≡ 8 * suc j = omega arith in
+        let p : floorRow + floorRow * j ≡ floorRow * suc j = omega arith in
         let q : drop (floorRow * j) (drop floorRow t) ≡ drop (floorRow * suc j) t = rw (drop-drop, p) in
         rw (e, ← q) (omega (arith, r (omega arith)))
     step false k r = absurd (omega arith)
@@ -191,7 +191,7 @@ floor-found x (suc n) t a j e =
         → floorOf x (f ∷ fs) ≡ floorFirst x (rows floorOfBytes floorRow (suc n - j) (drop (floorRow * j) t))
     step true p q i =
         let e' : suc n - j ≡ n - leading x fs = omega arith in
-        let m : 8 + 8 * leading x fs ≡ 8 * j = omega arith in
+        let m : floorRow + floorRow * leading x fs ≡ floorRow * j = omega arith in
         let r : drop (floorRow * leading x fs) (drop floorRow t) ≡ drop (floorRow * j) t = rw (drop-drop, m) in
         let l : f .client < x = ltb-true (f .client) x p in
         rw (ne-eqb (f .client) x (λ z. omega arith), e', ← r) i

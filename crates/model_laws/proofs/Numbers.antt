@@ -239,8 +239,8 @@ le32-is s i h b e = ap le32 e ∙ le32-again s i h b
 halves : (a b : ℕ) → a < word → le64 (a + word * b) ≡ le32 a ++ le32 b
 unfolding le64
 halves a b h =
-    let p : (a + 4294967296 * b) % 4294967296 ≡ a = omega arith in
-    let q : (a + 4294967296 * b) / 4294967296 ≡ b = omega arith in
+    let p : (a + word * b) % word ≡ a = omega arith in
+    let q : (a + word * b) / word ≡ b = omega arith in
     rw (p, q)
 
 pub le64-parts : (s : List ℕ) (i : ℕ) → Bytes s → le64 (le64At s i) ≡ le32 (le32At s i) ++ le32 (le32At s (i + 4))

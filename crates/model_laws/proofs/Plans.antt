@@ -112,17 +112,17 @@ pub plan-back : (es : List PlanEntry) → All PlanEntryFits es → length es ≡
 unfolding planOk planOf planBytes
 plan-back es f n =
     let b : List ℕ = bytesOf planEntryBytes es in
-    let t : everyRow planRowOk planRow 64 b ≡ true = rw append-nil at (rw n at (everyRow-back planCodec es [] f)) in
-    let r : rows planEntryOf planRow 64 b ≡ es = rw append-nil at (rw n at (rows-back planCodec es [] f)) in
+    let t : everyRow planRowOk planRow pointCount b ≡ true = rw append-nil at (rw n at (everyRow-back planCodec es [] f)) in
+    let r : rows planEntryOf planRow pointCount b ≡ es = rw append-nil at (rw n at (rows-back planCodec es [] f)) in
     (rw (eq-eqb (length b) planSize (plan-length es n)) t, r)
 
 pub plan-again : (s : List ℕ) → Bytes s → planOk s ≡ true → planBytes (planOf s) ≡ s
 unfolding planOk planOf planBytes
 plan-again s h ok =
     let n : length s ≡ planSize = eqb-true (length s) planSize (and-left (eqb (length s) planSize) (everyRow planRowOk planRow pointCount s) ok) in
-    rows-again planCodec 64 s h (omega arith) (and-right (eqb (length s) planSize) (everyRow planRowOk planRow pointCount s) ok)
+    rows-again planCodec pointCount s h (omega arith) (and-right (eqb (length s) planSize) (everyRow planRowOk planRow pointCount s) ok)
     ∙ take-all planSize s (omega arith)
 
 pub plan-fits : (s : List ℕ) → Bytes s → planOk s ≡ true → All PlanEntryFits (planOf s)
 unfolding planOk planOf
-plan-fits s h ok = rows-fit planCodec 64 s h (and-right (eqb (length s) planSize) (everyRow planRowOk planRow pointCount s) ok)
+plan-fits s h ok = rows-fit planCodec pointCount s h (and-right (eqb (length s) planSize) (everyRow planRowOk planRow pointCount s) ok)

@@ -224,7 +224,7 @@ places : (state log b out : List ℕ) (q : Request) → parsePacket b ≡ Reques
     → (floorOf (q .command .client) (load state .floors) ≢ 0) ⊎ (length (load state .floors) < clientCount)
     → requestOf today state log b out .answer .refusal ≢ Refusals.clientsFull
 places state log b out q e h =
-    other-number state log out b 8 (lit≤ tt) (lit≤ tt)
+    other-number state log out b Refusals.clientsFull (lit≤ tt) (lit≤ tt)
     (λ r k t.
     let same : q ≡ r = cc in
     subst (λ (y : Request). (notKnown (floorOf (y .command .client) (load state .floors)) && leb clientCount (length (load state .floors))) ≡ false) same (free h))
@@ -238,11 +238,11 @@ places state log b out q e h =
 space : (state log b out : List ℕ) → load state .size + executedSize ≤ length log → requestOf today state log b out .answer .refusal ≢ Refusals.logFull
 unfolding freeIn
 space state log b out h =
-    other-number state log out b 9 (lit≤ tt) (lit≤ tt) (λ r k t. absurd (omega arith)) (λ t. le-ltb (length log - load state .size) executedSize (omega (arith, h)))
+    other-number state log out b Refusals.logFull (lit≤ tt) (lit≤ tt) (λ r k t. absurd (omega arith)) (λ t. le-ltb (length log - load state .size) executedSize (omega (arith, h)))
 
 pub places-and-space : (state log b out : List ℕ) (q : Request) → parsePacket b ≡ Requested q
-    → ((floorOf (q .command .client) (load state .floors) ≢ 0) ⊎ (length (load state .floors) < clientCount) → requestOf today state log b out .answer .refusal ≢ 8)
-    × (load state .size + 28 ≤ length log → requestOf today state log b out .answer .refusal ≢ 9)
+    → ((floorOf (q .command .client) (load state .floors) ≢ 0) ⊎ (length (load state .floors) < clientCount) → requestOf today state log b out .answer .refusal ≢ Refusals.clientsFull)
+    × (load state .size + executedSize ≤ length log → requestOf today state log b out .answer .refusal ≢ Refusals.logFull)
 places-and-space state log b out q e = (places state log b out q e, space state log b out)
 
 -- ---- "one fixed result (2)"

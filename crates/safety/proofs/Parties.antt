@@ -28,6 +28,7 @@ use Rattle.model.specs.Choice.{pick}
 use Rattle.model.specs.Packets.{packetBytes, requestBytes}
 use Rattle.model.specs.Clients.{startOf, issueOf, resendOf, receiveOf, sentBytes}
 use Rattle.model.specs.Leases.{toldBytes}
+use Rattle.model.specs.Limits.{last32}
 use Rattle.model_laws.specs.Bytes.{Bytes, All}
 use Rattle.model_laws.specs.Fits.{IsPacket}
 use Rattle.model_laws.proofs.Numbers.{bytes-nil}
@@ -123,7 +124,7 @@ module _ {S : Type 0} {w : WorldOf S} (h : Parties w) where
 
   -- ---- the lease manager
 
-  pub parties-told : (c : LeaseCall) → givenTime c ≤ 4294967295 → Parties (told (answerOf (w .manager) c) w)
+  pub parties-told : (c : LeaseCall) → givenTime c ≤ last32 → Parties (told (answerOf (w .manager) c) w)
   unfolding told toldBytes packetBytes
   parties-told c t =
       parties-making (parties-manager h (answerOf (w .manager) c .manager) well) (toldBytes (answerOf (w .manager) c .answer)) (go (answerOf (w .manager) c .answer) refl)

@@ -12,6 +12,7 @@ use Rattle.model.specs.States.{State}
 use Rattle.model.specs.Decisions.{Decided}
 use Rattle.model.specs.Operations.{After}
 use Rattle.model.specs.Clients.{issueOf, resendOf}
+use Rattle.model.specs.Limits.{last32}
 use Rattle.model_laws.specs.Bytes.{Bytes}
 use Rattle.leases.specs.WellFormed.{LeaseCall, givenTime, answerOf}
 use Rattle.model_invariants.specs.Calls.{request, fetch, sync, notice, give, image, takeIn, receipt, release, decision, output, outputSize, operated}
@@ -41,7 +42,7 @@ module _ (plan : List ℕ) {r : R.World} {b : B.World} (l : Both (planOf plan) r
       go (some bs) e = h bs (packet-made (l .parties) p bs e)
 
   -- a call of the lease manager
-  told-alike : (c : LeaseCall) → givenTime c ≤ 4294967295 → Both (planOf plan) (told (answerOf (r .manager) c) r) (told (answerOf (b .manager) c) b)
+  told-alike : (c : LeaseCall) → givenTime c ≤ last32 → Both (planOf plan) (told (answerOf (r .manager) c) r) (told (answerOf (b .manager) c) b)
   told-alike c t =
       record {
         alike =

@@ -86,7 +86,7 @@ pointed-next {n} {s₀} {t} {s} {s'} {i} o h q =
 pub pointed-end : {n : ℕ} {s₀ t s : List ℕ} {i : ℕ} → Pointed n s₀ t s i → pointCount ≤ i
     → s ≡ written s₀ pointsStart (bytesOf pointBytes (map (foundedPoint n) (planOf t)))
 unfolding planOf
-pointed-end {n} {s₀} {t} {s} {i} o h = let e : 64 ≡ i = omega arith in rw e (o .bytes)
+pointed-end {n} {s₀} {t} {s} {i} o h = let e : pointCount ≡ i = omega arith in rw e (o .bytes)
 
 -- ---- the whole
 

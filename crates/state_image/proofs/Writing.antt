@@ -62,7 +62,7 @@ next-written : (s : List ℕ) (at j : ℕ) (e : ImageEntry) (es : List ImageEntr
     → written s (at + entryRow * j) (bytesOf imageEntryBytes (e ∷ es)) ≡ written (written s (at + entryRow * j) (imageEntryBytes e)) (at + entryRow * (j + 1)) (bytesOf imageEntryBytes es)
 unfolding bytesOf
 next-written s at j e es =
-    let q : at + entryRow * j + 20 ≡ at + entryRow * (j + 1) = omega arith in
+    let q : at + entryRow * j + entryRow ≡ at + entryRow * (j + 1) = omega arith in
     written-append s (at + entryRow * j) (imageEntryBytes e) (bytesOf imageEntryBytes es) ∙ rw (entry-width e, q)
 
 module _ {rs : List Completion} {u : List ℕ} {at : ℕ} {s₀ : List ℕ} {k j : ℕ} {s : List ℕ} (o : Walking rs u at s₀ k j s) where

@@ -58,7 +58,7 @@ kept-front t s {k} b l e =
     record {
       same = refl;
       count = rw (front-rows t s e, length-rows, zero-add);
-      bytes = rw (front-rows t s e) (sym (written-rows completionCodec s recordsStart k b l (everyRow-true 28 k (drop recordsStart s))));
+      bytes = rw (front-rows t s e) (sym (written-rows completionCodec s recordsStart k b l (everyRow-true recordRow k (drop recordsStart s))));
     }
 
 pub compact-start : (rule : Rule) {s : List ℕ} {n k : ℕ} → Bytes s → Canonical s → n ≡ length (load s .records) → k ≡ front (staysBy rule (load s .floors)) (load s .records)

@@ -16,8 +16,8 @@ use Rattle.model.specs.declared.Point.{Point}
 use Rattle.model.specs.Choice.{pick}
 use Rattle.model.specs.Tables.{rows, everyRow}
 use Rattle.model.specs.Plan.{planEntryOf, planRowOk}
-use Rattle.model.specs.States.{absent, held, pointOf, endOk, notGiven, originOk, absentOk, heldOk, givenOk, statusOk, pointOk, pointsOk, pointRowOk}
-use Rattle.model.specs.Limits.{invalid}
+use Rattle.model.specs.States.{absent, held, pointOf, endOk, notGiven, originOk, absentOk, heldOk, givenOk, statusOk, pointOk, pointsOk, pointRowOk, pointRow}
+use Rattle.model.specs.Limits.{invalid, pointCount, planRow}
 use Rattle.model_laws.proofs.Tests.{and-left, joined-all}
 use Rattle.model_laws.proofs.Tables.{rows-cons, everyRow-cons}
 use Rattle.state_sound_rows.specs.Parts.{isEnd, heldMove, givenMove, origin, statusAndEnds, fieldsIn, rowOk, rowsOk}
@@ -129,11 +129,11 @@ module _ (server size : ℕ) (e : PlanEntry) (x : Point) where
 pub record PointsOpen (server size j k : ℕ) (y : Bool) (s : List ℕ) (n i : ℕ) : Type 0 where
   pub below : i ≤ n
   pub rest : y
-      ≡ (everyRow planRowOk 16 (n - i) (drop (j + 16 * i) s)
-      && (everyRow pointRowOk 32 (n - i) (drop (k + 32 * i) s)
-      && pointsOk server size (rows planEntryOf 16 (n - i) (drop (j + 16 * i) s)) (rows pointOf 32 (n - i) (drop (k + 32 * i) s))))
+      ≡ (everyRow planRowOk planRow (n - i) (drop (j + planRow * i) s)
+      && (everyRow pointRowOk pointRow (n - i) (drop (k + pointRow * i) s)
+      && pointsOk server size (rows planEntryOf planRow (n - i) (drop (j + planRow * i) s)) (rows pointOf pointRow (n - i) (drop (k + pointRow * i) s))))
 
-pub points-start : (server size j k : ℕ) (s : List ℕ) → PointsOpen server size j k (rowsOk server size (drop j s) (drop k s)) s 64 0
+pub points-start : (server size j k : ℕ) (s : List ℕ) → PointsOpen server size j k (rowsOk server size (drop j s) (drop k s)) s pointCount 0
 unfolding rowsOk
 points-start server size j k s = record { below = omega arith; rest = rw (add-zero, add-zero) }
 
@@ -142,24 +142,24 @@ module _ {server size j k : ℕ} {y : Bool} {s : List ℕ} {n i : ℕ} (o : Poin
   unfolding pointsOk rows everyRow
   points-true h = let e : n - i ≡ 0 = omega arith in sym (o .rest ∙ rw e)
 
-  module _ {u : Bool} (h : i < n) (p : u ≡ rowOk server size (drop (j + 16 * i) s) (drop (k + 32 * i) s)) where
+  module _ {u : Bool} (h : i < n) (p : u ≡ rowOk server size (drop (j + planRow * i) s) (drop (k + pointRow * i) s)) where
     abbrev plan-at : List ℕ
-    plan-at = drop (j + 16 * i) s
+    plan-at = drop (j + planRow * i) s
 
     abbrev point-at : List ℕ
-    point-at = drop (k + 32 * i) s
+    point-at = drop (k + pointRow * i) s
 
     step : y
-        ≡ (u && (everyRow planRowOk 16 (n - (i + 1)) (drop (j + 16 * (i + 1)) s)
-        && (everyRow pointRowOk 32 (n - (i + 1)) (drop (k + 32 * (i + 1)) s)
-        && pointsOk server size (rows planEntryOf 16 (n - (i + 1)) (drop (j + 16 * (i + 1)) s)) (rows pointOf 32 (n - (i + 1)) (drop (k + 32 * (i + 1)) s)))))
+        ≡ (u && (everyRow planRowOk planRow (n - (i + 1)) (drop (j + planRow * (i + 1)) s)
+        && (everyRow pointRowOk pointRow (n - (i + 1)) (drop (k + pointRow * (i + 1)) s)
+        && pointsOk server size (rows planEntryOf planRow (n - (i + 1)) (drop (j + planRow * (i + 1)) s)) (rows pointOf pointRow (n - (i + 1)) (drop (k + pointRow * (i + 1)) s)))))
     unfolding pointsOk rowOk
     step =
         o .rest
-        ∙ rw (everyRow-cons planRowOk 16 s j i n h, everyRow-cons pointRowOk 32 s k i n h, rows-cons planEntryOf 16 s j i n h, rows-cons pointOf 32 s k i n h, p)
-        (firsts (planRowOk plan-at) (pointRowOk point-at) (pointOk server size (planEntryOf plan-at) (pointOf point-at)) (everyRow planRowOk 16 (n - (i + 1)) (drop (j + 16 * (i + 1)) s))
-        (everyRow pointRowOk 32 (n - (i + 1)) (drop (k + 32 * (i + 1)) s))
-        (pointsOk server size (rows planEntryOf 16 (n - (i + 1)) (drop (j + 16 * (i + 1)) s)) (rows pointOf 32 (n - (i + 1)) (drop (k + 32 * (i + 1)) s))))
+        ∙ rw (everyRow-cons planRowOk planRow s j i n h, everyRow-cons pointRowOk pointRow s k i n h, rows-cons planEntryOf planRow s j i n h, rows-cons pointOf pointRow s k i n h, p)
+        (firsts (planRowOk plan-at) (pointRowOk point-at) (pointOk server size (planEntryOf plan-at) (pointOf point-at)) (everyRow planRowOk planRow (n - (i + 1)) (drop (j + planRow * (i + 1)) s))
+        (everyRow pointRowOk pointRow (n - (i + 1)) (drop (k + pointRow * (i + 1)) s))
+        (pointsOk server size (rows planEntryOf planRow (n - (i + 1)) (drop (j + planRow * (i + 1)) s)) (rows pointOf pointRow (n - (i + 1)) (drop (k + pointRow * (i + 1)) s))))
 
     pub points-next : not u ≡ false → PointsOpen server size j k y s n (i + 1)
     points-next q = record { below = omega arith; rest = rw (not-false u q) at step }

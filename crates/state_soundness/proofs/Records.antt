@@ -13,7 +13,7 @@ use lib.ListN.{getD, drop}
 use lib.Dec.{leb, ltb}
 use borrow.Author.Tests.{not-true, not-false}
 use Rattle.model.specs.declared.Completion.{Completion}
-use Rattle.model.specs.Limits.{headSize, callWindow, floorRow, lastPoint, recordCount}
+use Rattle.model.specs.Limits.{headSize, callWindow, floorRow, lastPoint, recordCount, lastInWindow}
 use Rattle.model.specs.Tables.{rows}
 use Rattle.model.specs.Plan.{entryAt, inRange}
 use Rattle.model.specs.Packets.{idOk, commandOk, outcomeOk}
@@ -27,7 +27,7 @@ use Rattle.state_clients.proofs.Search.{floor-found, slot-found}
 use Rattle.state_sound_rows.specs.Parts.{isEnd}
 use Rattle.state_soundness.specs.Slots.{fieldsOk, atPointOk, slotIn, testedSlot}
 
-pub above-few : {w : Bool} (floor call : ℕ) → w ≡ inWindow floor call → not w ≡ false → call - floor ≤ 15
+pub above-few : {w : Bool} (floor call : ℕ) → w ≡ inWindow floor call → not w ≡ false → call - floor ≤ lastInWindow
 above-few floor call e h = let i = in-window floor call (sym e ∙ not-false _ h) in omega (arith, i .high)
 
 -- of eight tests, the fourth and the fifth behind the next two

@@ -2,6 +2,7 @@
 -- Assumes nothing.
 use Prim.Native.Nat.{_-_}
 use borrow.Author.Needs.{needs}
+use Rattle.model.specs.Limits.{pointCount}
 use Rattle.server_found.proofs.Founded.{Pointed, pointed-start, pointed-next, pointed-end}
 use Rattle.server_found.proofs.put_points.Statement.{statement}
 use Rattle.server_found.proofs.put_points.Tie as tie
@@ -10,7 +11,7 @@ abbrev Inv-loop : tie.InvT-loop
 Inv-loop s₀ plan n i₀ s i = Pointed n s₀ plan s i
 
 abbrev μ-loop : tie.MeasureT-loop
-μ-loop s₀ plan n i₀ s i = 64 - i
+μ-loop s₀ plan n i₀ s i = pointCount - i
 
 loop-holds : tie.Need-loop-holds Inv-loop μ-loop
 loop-holds c = pointed-start _ _ _

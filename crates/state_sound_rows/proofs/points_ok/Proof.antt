@@ -3,16 +3,17 @@
 use borrow.Author.Needs.{needs}
 use Prim.Native.Nat.{_-_}
 use lib.ListN.{drop}
+use Rattle.model.specs.Limits.{pointCount}
 use Rattle.state_sound_rows.proofs.Points.{PointsOpen, points-start, points-next, points-false, points-true}
 use Rattle.state_sound_rows.specs.Parts.{rowsOk}
 use Rattle.state_sound_rows.proofs.points_ok.Statement.{statement}
 use Rattle.state_sound_rows.proofs.points_ok.Tie as tie
 
 abbrev Inv-loop : tie.InvT-loop
-Inv-loop s plan at server size i₀ i = PointsOpen server size plan at (rowsOk server size (drop plan s) (drop at s)) s 64 i
+Inv-loop s plan at server size i₀ i = PointsOpen server size plan at (rowsOk server size (drop plan s) (drop at s)) s pointCount i
 
 abbrev μ-loop : tie.MeasureT-loop
-μ-loop s plan at server size i₀ i = 64 - i
+μ-loop s plan at server size i₀ i = pointCount - i
 
 loop-holds : tie.Need-loop-holds Inv-loop μ-loop
 loop-holds c = points-start _ _ _ _ _
