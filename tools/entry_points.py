@@ -29,7 +29,8 @@ LEAF_CRATES = 'format_numbers format_fields format_image_rows format_image_write
 LEAF_CRATES += 'state_records state_clients server_apply state_image server_replay'.split()
 # crates of parts of the simulator, on memory that `new_yard` has laid out
 LEAF_CRATES += 'simulator_store simulator_delivery simulator_client simulator_server simulator_state'.split()
-# leaves elsewhere: rows at a place, what is read once an entry point has answered that it is there, and what a client's call changes, of the open call at its place
+# leaves elsewhere: rows at a place, what is read once an entry point has answered that it is there, what a client's call changes, of the open call at its place, and a
+# lease stored at its place
 LEAVES = {
     'format_commands': 'plan_entry plan_row_ok',
     'format_image_reader': 'values_in_range',
@@ -38,6 +39,7 @@ LEAVES = {
     'server_memory': 'free_in reply',
     'server_found': 'found_state',
     'client': 'issue_change resend_answer receive_change',
+    'leases': 'stored',
     'simulator_text': 'put_reply',
 }
 
