@@ -1,5 +1,6 @@
 -- A packet of another kind than a call takes: start takes a grant, receive a result, a refusal or a grant.
 --     not-grant, not-taken
+--     start-same      what start answers is made of its numbers
 --     start-other, start-grant      start takes a packet whose kind and length are a grant's, and parses it as one
 --     of-call      a result and a refusal are of the call that stands in their bytes
 --     receive-same      receive takes a packet as a client parses it
@@ -24,8 +25,18 @@ use Rattle.model.specs.Limits.{requestKind, resultKind, refusalKind, receiptKin
 use Rattle.model.specs.Packets.{packetLength, resultAt, refusalAt, whole}
 use Rattle.model.specs.Packets.{parseRequest, parseResult, parseRefusal, parseReceipt, parseNotice, parseGrant, parsePacket}
 use Rattle.model_laws.proofs.Tests.{choose}
-use Rattle.client.specs.Changes.{packetCall, clientPacket, OfCall}
-use Rattle.model.specs.Clients.{notStarted, startWith, startOf, notReceived, receiveWith, receiveOf}
+use Rattle.client.specs.Changes.{startFields, startedBy, startAnswer, packetCall, clientPacket, OfCall}
+use Rattle.model.specs.Clients.{notStarted, startNumber, startWith, startOf, notReceived, receiveWith, receiveOf}
+
+pub start-same : (p : Packet) → startAnswer (startFields (startWith p)) ≡ startWith p
+unfolding startAnswer startedBy startFields startWith startNumber
+start-same Malformed = refl
+start-same (Requested q) = refl
+start-same (Resulted r) = refl
+start-same (Refused r) = refl
+start-same (Receipted r) = refl
+start-same (Noticed n) = refl
+start-same (Granted g) = refl
 
 pub not-grant : (p : Packet) → OneOf (0 ∷ 1 ∷ 2 ∷ 3 ∷ 4 ∷ 5 ∷ []) (tagOf the-type p) → startWith p ≡ notStarted
 unfolding startWith

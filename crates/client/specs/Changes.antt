@@ -4,20 +4,23 @@ use Prim.Native.Nat.{ℕ}
 use mathlib.Core.Path.{_≡_}
 use mathlib.Core.List.{List}
 use lib.Dec.{eqb, ltb}
-use lib.ListN.{length, set}
+use lib.ListN.{length, set, replicate}
 use Rattle.model.specs.declared.OpenCall.{OpenCall}
 use Rattle.model.specs.declared.Client.{Client}
 use Rattle.model.specs.declared.Request.{Request}
 use Rattle.model.specs.declared.Packet.{Packet}
 use Rattle.model.specs.declared.Packet.the-variants.{Malformed, Requested, Resulted, Refused, Receipted, Noticed, Granted}
+use Rattle.model.specs.declared.Started.{Started}
+use Rattle.model.specs.declared.Started.the-variants.{NotStarted, Running}
 use Rattle.model.specs.declared.StartAnswer.{StartAnswer}
 use Rattle.model.specs.declared.SendAnswer.{SendAnswer}
 use Rattle.model.specs.declared.ReceiveAnswer.{ReceiveAnswer}
 use Rattle.model.specs.Choice.{pick}
 use Rattle.model.specs.Numbers.{byteAt, le32At}
-use Rattle.model.specs.Limits.{resultKind, refusalKind, grantKind, refusalSize}
+use Rattle.model.specs.Refusals.{noRefusal}
+use Rattle.model.specs.Limits.{callWindow, resultKind, refusalKind, grantKind, refusalSize}
 use Rattle.model.specs.Packets.{parseResult, parseRefusal, parseGrant}
-use Rattle.model.specs.Clients.{placeOf, withCalls, startNumber}
+use Rattle.model.specs.Clients.{noCall, placeOf, withCalls, startNumber}
 use Rattle.client.specs.declared.StartFields.{StartFields}
 use Rattle.client.specs.declared.SendChange.{SendChange}
 use Rattle.client.specs.declared.ReceiveChange.{ReceiveChange}
@@ -25,6 +28,18 @@ use Rattle.client.specs.declared.ReceiveChange.{ReceiveChange}
 -- the numbers of a start; its open calls are none
 unfoldable pub startFields : StartAnswer → StartFields
 startFields a = record { client = a .client .client; lease = a .client .lease; next = a .client .next; number = startNumber (a .answer) }
+
+-- 0 or the refusal's number
+unfoldable pub startedBy : ℕ → Started
+startedBy n = pick (eqb n noRefusal) Running (NotStarted n)
+
+-- the answer of a start with these numbers
+unfoldable pub startAnswer : StartFields → StartAnswer
+startAnswer s =
+    record {
+      client = record { client = s .client; lease = s .lease; next = s .next; calls = replicate callWindow noCall };
+      answer = startedBy (s .number);
+    }
 
 -- the packet of an open call, with this done
 unfoldable pub requestWith : Client → OpenCall → ℕ → Request

@@ -14,7 +14,7 @@ ghost use Rattle.model.specs.Limits.{last32, callWindow};
 ghost use Rattle.model.specs.Clients.{noCall, placeOf, callAt, leastOpen, firstOpen, notSent, notReceived};
 ghost use Rattle.model.specs.Clients.{withCalls, withCall, startWith, startOf, issueOf, resendOf};
 ghost use Rattle.model.specs.Clients.{isOwn, receiveResult, receiveRefusal, receiveGrant, receiveWith, receiveOf};
-ghost use Rattle.client.specs.Changes.{startFields, requestWith, packetCall, clientPacket, OfCall, issued, received};
+ghost use Rattle.client.specs.Changes.{startFields, startedBy, startAnswer, requestWith, packetCall, clientPacket, OfCall, issued, received};
 use model::Client;
 use model::Command;
 use model::Grant;
@@ -27,6 +27,8 @@ use model::Request;
 use model::ResultPacket;
 use model::SendAnswer;
 use model::Sent;
+use model::StartAnswer;
+use model::Started;
 
 // ---- what an operation changes
 
@@ -181,7 +183,7 @@ fn parse_start(packet: &[u8]) -> Packet
 }
 
 // Start: 1 not a grant. The next number is 1.
-pub fn start(packet: &[u8]) -> StartFields
+pub fn start_fields(packet: &[u8]) -> StartFields
     ensures { λ r. ⌜ r ≡ startFields (startOf (now (packet .entry))) ⌝ }
 {
     let p = parse_start(packet);
@@ -381,6 +383,38 @@ pub fn receive_change(d: Client, k: OpenCall, packet: &[u8]) -> ReceiveChange
 }
 
 // ---- the operations, by value
+
+fn started_by(number: u32) -> Started
+    ensures { λ r. ⌜ r ≡ startedBy number ⌝ }
+{
+    if number == constants::NO_REFUSAL {
+        return Started::Running;
+    }
+    Started::NotStarted(number)
+}
+
+fn start_answer(s: StartFields) -> StartAnswer
+    ensures { λ r. ⌜ r ≡ startAnswer s ⌝ }
+{
+    let k = no_call();
+    let answer = started_by(s.number);
+    StartAnswer {
+        client: Client {
+            client: s.client,
+            lease: s.lease,
+            next: s.next,
+            calls: [k; CALL_WINDOW],
+        },
+        answer,
+    }
+}
+
+pub fn start(packet: &[u8]) -> StartAnswer
+    ensures { λ r. ⌜ r ≡ startOf (now (packet .entry)) ⌝ }
+{
+    let s = start_fields(packet);
+    start_answer(s)
+}
 
 pub fn issue(d: Client, op: u8, point: u8, argument: u32) -> SendAnswer
     ensures { λ r. ⌜ r ≡ issueOf d op point argument ⌝ }

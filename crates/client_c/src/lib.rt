@@ -308,7 +308,7 @@ fn stored_value(m: LeaseManager, c: Leasing) -> LeaseManager
 pub extern "C" fn mantelorris_start(packet: &[u8]) -> StartReply
     ensures { λ r. ⌜ r ≡ startReply (startOf (now (packet .entry))) ⌝ }
 {
-    let s = client::start(packet);
+    let s = client::start_fields(packet);
     let k = OpenCall {
         call: 0,
         op: 0,

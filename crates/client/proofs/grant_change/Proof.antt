@@ -1,3 +1,5 @@
+-- `client::grant_change` meets its contract.
+-- Assumes nothing.
 use borrow.Author.Needs.{needs}
 use Rattle.client.proofs.Answers.{grant-later, grant-unknown}
 use Rattle.client.proofs.grant_change.Statement.{statement}
@@ -6,15 +8,12 @@ use Rattle.client.proofs.grant_change.Reads as reads
 use Rattle.client.proofs.grant_change.Lts as lts
 use Rattle.client.proofs.not_received.Reads as not-received-reads
 
--- src/lib.rt:328:9
 returns : tie.Need-returns
 returns c = search grant-later depth 8
 
--- src/lib.rt:334:5
 not-received-requires : tie.Need-not-received-requires
 not-received-requires c κs = search needs
 
--- src/lib.rt:323:1
 returns-2 : tie.Need-returns-2
 returns-2 c = search grant-unknown depth 8
 

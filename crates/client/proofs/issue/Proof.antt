@@ -1,3 +1,5 @@
+-- `client::issue` meets its contract.
+-- Assumes nothing.
 use Rattle.client.specs.Changes.{issued}
 use borrow.Author.Needs.{needs}
 use Rattle.client.proofs.issue.Statement.{statement}
@@ -9,23 +11,18 @@ use Rattle.client.proofs.issue_change.Reads as issue-change-reads
 use Rattle.client.proofs.placed.Reads as placed-reads
 use Rattle.client.proofs.with_calls.Reads as with-calls-reads
 
--- src/lib.rt:355:9
 call-at-requires : tie.Need-call-at-requires
 call-at-requires c κs = search needs
 
--- src/lib.rt:356:9
 issue-change-requires : tie.Need-issue-change-requires
 issue-change-requires c κs = search needs
 
--- src/lib.rt:359:9
 placed-requires : tie.Need-placed-requires
 placed-requires c κs = search needs
 
--- src/lib.rt:360:9
 with-calls-requires : tie.Need-with-calls-requires
 with-calls-requires c κs = search needs
 
--- src/lib.rt:352:1
 returns : tie.Need-returns
 unfolding issued
 returns c = rw (c .with-calls .ensures, c .before .placed .ensures) (c .before .before .before .before .issue-change .ensures)

@@ -1,3 +1,5 @@
+-- `client::issue_change` meets its contract.
+-- Assumes nothing.
 use borrow.Author.Needs.{needs}
 use Rattle.client.proofs.Answers.{issue-bad, issue-full, issue-out, issue-done}
 use borrow.Author.Tests.{not-true, not-false}
@@ -11,63 +13,48 @@ use Rattle.client.proofs.not_issued.Reads as not-issued-reads
 use Rattle.client.proofs.request_with.Reads as request-with-reads
 use Rattle.format_numbers.proofs.command_ok.Reads as command-ok-reads
 
--- src/lib.rt:214:9
 command-ok-requires : tie.Need-command-ok-requires
 command-ok-requires c κs = search needs
 
--- src/lib.rt:215:9
 not-issued-requires : tie.Need-not-issued-requires
 not-issued-requires c κs = search needs
 
--- src/lib.rt:215:9
 returns : tie.Need-returns
 returns c = search (issue-bad, not-true) depth 8
 
--- src/lib.rt:217:9
 first-open-requires : tie.Need-first-open-requires
 first-open-requires c κs = search needs
 
--- src/lib.rt:218:8
 cast-if2 : tie.Need-cast-if2
 cast-if2 c = search needs
 
--- src/lib.rt:218:8
 add-if2 : tie.Need-add-if2
 add-if2 c = search needs
 
--- src/lib.rt:218:53
 cast-if2-2 : tie.Need-cast-if2-2
 cast-if2-2 c = search needs
 
--- src/lib.rt:219:9
 not-issued-requires-2 : tie.Need-not-issued-requires-2
 not-issued-requires-2 c κs = search needs
 
--- src/lib.rt:219:9
 returns-2 : tie.Need-returns-2
 returns-2 c = search (issue-full, not-false) depth 12
 
--- src/lib.rt:222:9
 not-issued-requires-3 : tie.Need-not-issued-requires-3
 not-issued-requires-3 c κs = search needs
 
--- src/lib.rt:222:9
 returns-3 : tie.Need-returns-3
 returns-3 c = search (issue-out, not-false) depth 12
 
--- src/lib.rt:230:9
 first-with-requires : tie.Need-first-with-requires
 first-with-requires c κs = search needs
 
--- src/lib.rt:231:9
 request-with-requires : tie.Need-request-with-requires
 request-with-requires c κs = search needs
 
--- src/lib.rt:233:15
 add-t15 : tie.Need-add-t15
 add-t15 c = search needs
 
--- src/lib.rt:210:1
 returns-4 : tie.Need-returns-4
 returns-4 c = search (issue-done, not-false) depth 16
 

@@ -1,3 +1,5 @@
+-- `client::request_with` meets its contract.
+-- Assumes nothing.
 use mathlib.Core.Path.{refl}
 use Rattle.client.specs.Changes.{requestWith}
 use Rattle.client.proofs.request_with.Statement.{statement}
@@ -5,7 +7,6 @@ use Rattle.client.proofs.request_with.Tie as tie
 use Rattle.client.proofs.request_with.Reads as reads
 use Rattle.client.proofs.request_with.Lts as lts
 
--- src/lib.rt:139:1
 returns : tie.Need-returns
 unfolding requestWith
 returns c = refl

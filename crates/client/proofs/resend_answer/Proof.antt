@@ -1,3 +1,5 @@
+-- `client::resend_answer` meets its contract.
+-- Assumes nothing.
 use borrow.Author.Needs.{needs}
 use Rattle.client.proofs.Answers.{resend-open, resend-unknown}
 use Rattle.client.proofs.resend_answer.Statement.{statement}
@@ -7,19 +9,15 @@ use Rattle.client.proofs.resend_answer.Lts as lts
 use Rattle.client.proofs.first_open.Reads as first-open-reads
 use Rattle.client.proofs.request_with.Reads as request-with-reads
 
--- src/lib.rt:245:36
 first-open-requires : tie.Need-first-open-requires
 first-open-requires c κs = search needs
 
--- src/lib.rt:245:13
 request-with-requires : tie.Need-request-with-requires
 request-with-requires c κs = search needs
 
--- src/lib.rt:246:9
 returns : tie.Need-returns
 returns c = search resend-open depth 8
 
--- src/lib.rt:240:1
 returns-2 : tie.Need-returns-2
 returns-2 c = search resend-unknown depth 8
 

@@ -1,3 +1,5 @@
+-- `client::result_change` meets its contract.
+-- Assumes nothing.
 use borrow.Author.Needs.{needs}
 use Rattle.client.proofs.Answers.{result-own, result-unknown}
 use Rattle.client.proofs.result_change.Statement.{statement}
@@ -8,23 +10,18 @@ use Rattle.client.proofs.is_own.Reads as is-own-reads
 use Rattle.client.proofs.left_open.Reads as left-open-reads
 use Rattle.client.proofs.not_received.Reads as not-received-reads
 
--- src/lib.rt:297:8
 is-own-requires : tie.Need-is-own-requires
 is-own-requires c κs = search needs
 
--- src/lib.rt:298:13
 left-open-requires : tie.Need-left-open-requires
 left-open-requires c κs = search needs
 
--- src/lib.rt:299:9
 returns : tie.Need-returns
 returns c = search result-own depth 8
 
--- src/lib.rt:305:5
 not-received-requires : tie.Need-not-received-requires
 not-received-requires c κs = search needs
 
--- src/lib.rt:293:1
 returns-2 : tie.Need-returns-2
 returns-2 c = search result-unknown depth 8
 

@@ -1,12 +1,15 @@
 -- `client::start` meets its contract.
 -- Assumes nothing.
-use mathlib.Core.Path.{refl}
+use Rattle.model.specs.Packets.{parsePacket}
+use Rattle.model.specs.Clients.{startOf}
+use Rattle.client.proofs.Others.{start-same}
 use borrow.Author.Needs.{needs}
 use Rattle.client.proofs.start.Statement.{statement}
 use Rattle.client.proofs.start.Tie as tie
 
 returns : tie.Need-returns
-returns c = rw (c .started .ensures, c .before .parse-start .ensures) refl
+unfolding startOf
+returns c = rw (c .start-answer .ensures, c .before .start-fields .ensures) (start-same (parsePacket _))
 
 pub start-spec : {M : Type 1} → statement M
 start-spec = tie.close (tie.spec (λ c κs. search needs) (λ c κs. search needs) returns)

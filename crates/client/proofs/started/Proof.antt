@@ -1,3 +1,5 @@
+-- `client::started` meets its contract.
+-- Assumes nothing.
 use mathlib.Core.Path.{refl}
 use Rattle.model.specs.Clients.{startWith, startNumber}
 use Rattle.client.specs.Changes.{startFields}
@@ -8,16 +10,13 @@ use Rattle.client.proofs.started.Tie as tie
 use Rattle.client.proofs.started.Reads as reads
 use Rattle.client.proofs.started.Lts as lts
 
--- src/lib.rt:161:25
 enum-known-p : tie.Need-enum-known-p
 enum-known-p c = search needs
 
--- src/lib.rt:162:9
 returns : tie.Need-returns
 unfolding startFields startNumber
 returns c = rw (not-grant (c .before .args .p) (c .match .keys2)) refl
 
--- src/lib.rt:158:1
 returns-2 : tie.Need-returns-2
 unfolding startFields startNumber startWith
 returns-2 c = rw (c .before .p .given .1) refl
