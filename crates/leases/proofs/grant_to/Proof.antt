@@ -9,6 +9,16 @@ use borrow.Author.Needs.{needs}
 use Rattle.leases.proofs.grant_to.Statement.{statement}
 use Rattle.leases.proofs.grant_to.Tie as tie
 
+-- ---- the places on the way
+
+abbrev time-from : tie.After-struct-known4 → tie.After-time-at
+time-from c = c .before .before .before .before
+
+abbrev start-of : tie.After-time-at → tie.Start
+start-of c = c .before .before .before .before .before
+
+-- ---- the needs
+
 returns : tie.Need-returns
 returns c = search (grant-bad, not-true) depth 8
 
@@ -20,20 +30,24 @@ returns-3 c = search (grant-out, not-false) depth 12
 
 cast-client : tie.Need-cast-client
 cast-client c =
-    let a = c .before .before .before .before .before .before .before .before .before .args in
-    let f = all-fit last32 (a .h .issued) (a .h .client) (c .before .before .before .before .time-at .result + a .span) (c .before .if3 .left) in
+    let t = time-from c in
+    let a = start-of t .args in
+    let f = all-fit last32 (a .h .issued) (a .h .client) (t .time-at .result + a .span) (c .before .if3 .left) in
     omega arith
 
 cast-greater : tie.Need-cast-greater
 cast-greater c =
-    let a = c .before .before .before .before .before .before .before .before .before .args in
-    let f = all-fit last32 (a .h .issued) (a .h .client) (c .before .before .before .before .time-at .result + a .span) (c .before .if3 .left) in
+    let t = time-from c in
+    let a = start-of t .args in
+    let f = all-fit last32 (a .h .issued) (a .h .client) (t .time-at .result + a .span) (c .before .if3 .left) in
     omega arith
 
 cast-t17 : tie.Need-cast-t17
 cast-t17 c =
-    let a = c .before .before .before .before .before .before .before .before .before .before .before .args in
-    let f = all-fit last32 (a .h .issued) (a .h .client) (c .before .before .before .before .before .before .time-at .result + a .span) (c .before .before .before .if3 .left) in
+    let known = c .before .before in
+    let t = time-from known in
+    let a = start-of t .args in
+    let f = all-fit last32 (a .h .issued) (a .h .client) (t .time-at .result + a .span) (known .before .if3 .left) in
     omega arith
 
 returns-4 : tie.Need-returns-4
