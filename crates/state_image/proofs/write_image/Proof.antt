@@ -6,32 +6,47 @@ use borrow.Author.Needs.{needs}
 use Rattle.state_image.proofs.write_image.Statement.{statement}
 use Rattle.state_image.proofs.write_image.Tie as tie
 
+-- ---- the places on the way
+
+abbrev floors-at : tie.After-write-entries → tie.After-write-floors
+floors-at c = c .before .before .before .before
+
+abbrev clients-at : tie.After-write-floors → tie.After-clients-in
+clients-at c = c .before .before .before
+
+abbrev start-of : tie.After-clients-in → tie.Start
+start-of c = c .before .before .before
+
+-- ---- the needs
+
 cast-head-for : tie.Need-cast-head-for
 cast-head-for c =
     let entries = c .before .before in
-    let start = entries .before .before .before .before .before .before .before .before .before .before in
+    let start = start-of (clients-at (floors-at entries)) in
     omega (arith, entries-most (start .args .point) (start .args .s .now) (start .pre .0) (entries .write-entries .ensures .1))
 
 write-head-requires : tie.Need-write-head-requires
 write-head-requires c κs =
-    let start = c .before .before .before .before .before .before .before .before .before .before .before .before .before .before in
+    let entries = c .before .before .before .before in
+    let start = start-of (clients-at (floors-at entries)) in
     let made = headed (start .args .point) (start .args .s .now) (start .pre .0) (c .before .head-for .ensures) in
     (search needs, made .0, made .1)
 
 mul-result-2 : tie.Need-mul-result-2
 mul-result-2 c =
     let entries = c .before .before .before .before .before .before .before in
-    let start = entries .before .before .before .before .before .before .before .before .before .before in
+    let start = start-of (clients-at (floors-at entries)) in
     omega (arith, entries-most (start .args .point) (start .args .s .now) (start .pre .0) (entries .write-entries .ensures .1))
 
 add-result-2 : tie.Need-add-result-2
 add-result-2 c =
     let entries = c .before .before .before .before .before .before .before in
-    let start = entries .before .before .before .before .before .before .before .before .before .before in
+    let clients = clients-at (floors-at entries) in
+    let start = start-of clients in
     omega (
       arith,
       start .pre .0 .few-clients,
-      entries .before .before .before .before .before .before .before .clients-in .ensures,
+      clients .clients-in .ensures,
       entries-most (start .args .point) (start .args .s .now)
           (start .pre .0) (entries .write-entries .ensures .1),
     )
@@ -41,9 +56,9 @@ returns c =
     let head = c .before .before in
     let made = head .before .before in
     let entries = made .before .before .before in
-    let floors = entries .before .before .before .before in
-    let clients = floors .before .before .before in
-    let a = clients .before .before .before .args in (
+    let floors = floors-at entries in
+    let clients = clients-at floors in
+    let a = start-of clients .args in (
       imaged (a .point) (a .s .now) (clients .clients-in .ensures) (a .out .now) (floors .write-floors .ensures) (entries .write-entries .ensures .0) (made .head-for .ensures)
           (head .write-head .ensures),
       sized (a .point) (a .s .now) (clients .clients-in .ensures) (entries .write-entries .ensures .1),
