@@ -9,39 +9,52 @@ use borrow.Author.Needs.{needs}
 use Rattle.server_apply.proofs.apply_gone.Statement.{statement}
 use Rattle.server_apply.proofs.apply_gone.Tie as tie
 
+-- ---- the places on the way
+
+abbrev kept-at : tie.After-set-heard → tie.After-keep-records
+kept-at c = c .before .before .before .before
+
+abbrev removed-at : tie.After-keep-records → tie.After-remove
+removed-at c = c .before .before .before .before
+
+abbrev start-of : tie.After-remove → tie.Start
+start-of c = c .before .before .before .before .before .before
+
+-- ---- the needs
+
 keep-records-requires : tie.Need-keep-records-requires
 keep-records-requires c κs =
     let removed = c .before .before .before in
-    let start = removed .before .before .before .before .before .before in
+    let start = start-of removed in
     stage-canonical (gone-client (start .pre) (start .args .n) (removed .remove .ensures))
 
 set-heard-requires : tie.Need-set-heard-requires
 set-heard-requires c κs =
     let keep = c .before .before .before in
-    let removed = keep .before .before .before .before in
-    let start = removed .before .before .before .before .before .before in
+    let removed = removed-at keep in
+    let start = start-of removed in
     stage-canonical (gone-records (start .pre) (start .args .n) (gone-client (start .pre) (start .args .n) (removed .remove .ensures)) (keep .keep-records .ensures))
 
 set-size-requires : tie.Need-set-size-requires
 set-size-requires c κs =
     let put = c .before .before .before in
-    let keep = c .before .before .before .before .before .before .before in
-    let removed = c .before .before .before .before .before .before .before .before .before .before .before in
-    let later = c .before .before .before .before .before .before .before .before .before .before .before .before .before in
-    let old = c .before .before .before .before .before .before .before .before .before .before .before .before .before .before in
-    let start = c .before .before .before .before .before .before .before .before .before .before .before .before .before .before .before .before .before in
+    let keep = kept-at put in
+    let removed = removed-at keep in
+    let later = removed .before .before in
+    let old = later .before in
+    let start = start-of removed in
     stage-canonical (gone-heard (start .pre) (start .args .n) (gone-records (start .pre) (start .args .n) (gone-client (start .pre) (start .args .n) (removed .remove .ensures))
     (keep .keep-records .ensures)) (omega arith) (later .greater .ensures ∙ ap (λ (h : ℕ). max h (start .args .n .time)) (old .heard-of .ensures)) (put .set-heard .ensures))
 
 returns : tie.Need-returns
 returns c =
     let size = c .before .before in
-    let put = c .before .before .before .before .before .before in
-    let keep = c .before .before .before .before .before .before .before .before .before .before in
-    let removed = c .before .before .before .before .before .before .before .before .before .before .before .before .before .before in
-    let later = c .before .before .before .before .before .before .before .before .before .before .before .before .before .before .before .before in
-    let old = c .before .before .before .before .before .before .before .before .before .before .before .before .before .before .before .before .before in
-    let start = c .before .before .before .before .before .before .before .before .before .before .before .before .before .before .before .before .before .before .before .before in
+    let put = size .before .before .before .before in
+    let keep = kept-at put in
+    let removed = removed-at keep in
+    let later = removed .before .before in
+    let old = later .before in
+    let start = start-of removed in
     gone-done (start .pre) (start .args .n) (start .args .end) (omega arith) (gone-heard (start .pre) (start .args .n)
     (gone-records (start .pre) (start .args .n) (gone-client (start .pre) (start .args .n) (removed .remove .ensures)) (keep .keep-records .ensures)) (omega arith)
     (later .greater .ensures ∙ ap (λ (h : ℕ). max h (start .args .n .time)) (old .heard-of .ensures)) (put .set-heard .ensures)) (size .set-size .ensures)

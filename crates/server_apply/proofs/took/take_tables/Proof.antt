@@ -13,33 +13,45 @@ use Rattle.server_apply.proofs.took.take_tables.Tie as tie
 fits : (c : tie.Start) → Widths (c .args .h) (c .args .end)
 fits c = record { point = omega arith; quality = omega arith; value = omega arith; moveNumber = omega arith; heard = omega arith; size = omega arith }
 
+-- ---- the places on the way
+
+abbrev kept-at : tie.After-keep-records2 → tie.After-keep-records
+kept-at c = c .before .before .before .before
+
+abbrev merged-at : tie.After-keep-records → tie.After-merge
+merged-at c = c .before .before .before .before
+
+abbrev known-at : tie.After-merge → tie.After-shared-slice-known
+known-at c = c .before .before .before
+
+abbrev start-of : tie.After-merge → tie.Start
+start-of c = known-at c .before .before
+
+-- ---- the needs
+
 merge-requires : tie.Need-merge-requires
 merge-requires c κs =
     let at-shared-slice-known = c .before .before in
     let start = at-shared-slice-known .before .before in
     taken-merge (start .pre .0) (start .args .image .now) (λ i. at-shared-slice-known .shared-slice-known .given i .fits) (start .args .h) (start .args .end) (start .pre .2) (start .pre .1)
 
-first : (c : tie.After-merge) → Stage (c .before .before .before .before .before .args .s .now) (c .merge .last .0)
-    (mergedBy (c .before .before .before .before .before .args .h) (c .before .before .before .before .before .args .image .now) (load (c .before .before .before .before .before .args .s .now)))
+first : (c : tie.After-merge) → Stage (start-of c .args .s .now) (c .merge .last .0)
+    (mergedBy (start-of c .args .h) (start-of c .args .image .now) (load (start-of c .args .s .now)))
 first c =
-    let known = c .before .before .before in
-    let start = known .before .before in
+    let known = known-at c in
+    let start = start-of c in
     taken-merged (start .pre .0) (start .args .image .now) (λ i. known .shared-slice-known .given i .fits) (start .args .h) (start .args .end) (start .pre .2) (c .merge .ensures)
 
-second : (c : tie.After-keep-records) → Stage (c .before .before .before .before .before .before .before .before .before .args .s .now) (c .keep-records .last .0)
-    (keptIn (OnOther (c .before .before .before .before .before .before .before .before .before .args .h .point))
-    (mergedBy (c .before .before .before .before .before .before .before .before .before .args .h) (c .before .before .before .before .before .before .before .before .before .args .image .now)
-    (load (c .before .before .before .before .before .before .before .before .before .args .s .now))))
+second : (c : tie.After-keep-records) → Stage (start-of (merged-at c) .args .s .now) (c .keep-records .last .0)
+    (keptIn (OnOther (start-of (merged-at c) .args .h .point))
+    (mergedBy (start-of (merged-at c) .args .h) (start-of (merged-at c) .args .image .now) (load (start-of (merged-at c) .args .s .now))))
 second c =
-    let at4 = c .before .before .before .before in
-    let start = at4 .before .before .before .before .before in
-    kept-stage (first (at4)) (OnOther (start .args .h .point)) (c .keep-records .ensures)
+    let merged = merged-at c in
+    kept-stage (first merged) (OnOther (start-of merged .args .h .point)) (c .keep-records .ensures)
 
-third : (c : tie.After-keep-records2) → Stage (c .before .before .before .before .before .before .before .before .before .before .before .before .before .args .s .now) (c .keep-records2 .last .0)
-    (keptOf (c .before .before .before .before .before .before .before .before .before .before .before .before .before .args .h)
-    (c .before .before .before .before .before .before .before .before .before .before .before .before .before .args .image .now)
-    (load (c .before .before .before .before .before .before .before .before .before .before .before .before .before .args .s .now)))
-third c = kept-stage (second (c .before .before .before .before)) OverFloors (c .keep-records2 .ensures)
+third : (c : tie.After-keep-records2) → Stage (start-of (merged-at (kept-at c)) .args .s .now) (c .keep-records2 .last .0)
+    (keptOf (start-of (merged-at (kept-at c)) .args .h) (start-of (merged-at (kept-at c)) .args .image .now) (load (start-of (merged-at (kept-at c)) .args .s .now)))
+third c = kept-stage (second (kept-at c)) OverFloors (c .keep-records2 .ensures)
 
 keep-records-requires : tie.Need-keep-records-requires
 keep-records-requires c κs = stage-canonical (first (c .before .before .before))
@@ -50,16 +62,18 @@ keep-records-requires-2 c κs = stage-canonical (second (c .before .before .befo
 append-image-requires : tie.Need-append-image-requires
 append-image-requires c κs =
     let kept = c .before .before .before in
-    let known = kept .before .before .before .before .before .before .before .before .before .before .before in
-    let start = known .before .before in
+    let merged = merged-at (kept-at kept) in
+    let known = known-at merged in
+    let start = start-of merged in
     taken-add (start .pre .0) (start .args .image .now) (λ i. known .shared-slice-known .given i .fits) (start .args .h) (start .args .end) (start .pre .2) (start .pre .3) (third kept) (start .pre .1)
 
 returns : tie.Need-returns
 returns c =
     let added = c .before .before in
     let kept = added .before .before .before .before in
-    let known = kept .before .before .before .before .before .before .before .before .before .before .before in
-    let start = known .before .before in
+    let merged = merged-at (kept-at kept) in
+    let known = known-at merged in
+    let start = start-of merged in
     taken-done (start .pre .0) (start .args .image .now) (λ i. known .shared-slice-known .given i .fits) (start .args .h) (start .args .end) (start .pre .2) (start .pre .3) (third kept) (fits start)
     (added .append-image .ensures)
 
