@@ -46,12 +46,16 @@ returns-3 c =
 
 returns-4 : tie.Need-returns-4
 returns-4 c =
-    let start = c .before .before .before .before .before .before .before .before .before .before .before in
+    let at-replay-record = c .before .before .before in
+    let at-extent = at-replay-record .before .before .before in
+    let at-extent-at = at-extent .before .before in
+    let known = at-extent-at .before in
+    let start = known .before .before in
     goes (start .args .s .now) (start .args .log .now) (start .args .at) _ (spans-from (start .args .s .now) (start .args .log .now) (start .args .at)
-    (c .before .before .before .before .before .before .before .before .extent-at .ensures) (c .before .before .before .before .before .before .extent .given .1))
-    (c .before .before .before .replay-record .ensures .0) (start .pre) (λ i. c .before .before .before .before .before .before .before .before .before .shared-slice-known .given i .fits)
+    (at-extent-at .extent-at .ensures) (at-extent .extent .given .1))
+    (at-replay-record .replay-record .ensures .0) (start .pre) (λ i. known .shared-slice-known .given i .fits)
     (omega arith) (not-false _ (c .if1 .left))
-    (c .before .before .before .replay-record .ensures .1)
+    (at-replay-record .replay-record .ensures .1)
 
 pub advance-spec : {M : Type 1} → statement M
 advance-spec =
