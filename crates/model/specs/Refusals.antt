@@ -1,4 +1,4 @@
--- The nineteen numbered refusals, each with its meaning.
+-- The numbered refusals, each with its meaning: 1 to 19 are the kernel's, 20 the lock chamber controller's.
 -- Assumes nothing.
 use Prim.Native.Nat.{ℕ}
 
@@ -81,6 +81,10 @@ leasesFull = 18
 -- 19 the state is not sound, or the log slice is shorter than its recorded length
 abbrev pub unsound : ℕ
 unsound = 19
+
+-- 20 a gate must not be opened: the reads that this needs are missing, or do not allow it (lock chamber controller)
+abbrev pub notSafe : ℕ
+notSafe = 20
 
 -- the refusals that make a packet
 abbrev pub firstDenied : ℕ

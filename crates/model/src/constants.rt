@@ -273,6 +273,8 @@ pub const LEASES_FULL: u32 = 18;
 
 pub const UNSOUND: u32 = 19;
 
+pub const NOT_SAFE: u32 = 20;
+
 // ---- some of them in another width
 
 pub const HALF_U64: u64 = HALF as u64;
