@@ -1,3 +1,4 @@
 pub mod Opened
 pub mod Cases
 pub mod Values
+pub mod Above
