@@ -2,3 +2,4 @@ pub mod Opened
 pub mod Cases
 pub mod Values
 pub mod Above
+pub mod Clients

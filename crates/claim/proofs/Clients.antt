@@ -1,0 +1,351 @@
+-- Clients along a run of the kernel.
+--     issue-case, receive-case          the exits of issue and receive, as far as the calls go
+--     after-step, at-once               a world after one event more; event n is one event
+--     becomes                           what an event makes of a client
+--     issue-after, receive-after, start-after    the client after a call of it
+--     own-number                        a client's number is the one that names it
+--     clients-on                        a client stays, and its next number never falls
+--     issue-is                          what an issue issues: the client's next number
+--     issued-below, issue-rises, issue-one       numbers rise by events; an event issues one command
+-- Assumes nothing.
+use Prim.Native.Nat.{ℕ, zero, suc, _+_, _≤_, _<_}
+use mathlib.Core.Path.{_≡_, refl, sym, _∙_, ap, subst}
+use mathlib.Core.Bool.{Bool, true, false, _&&_}
+use mathlib.Core.List.{List, [], _∷_}
+use mathlib.Core.Logic.{_⊎_, inl, inr}
+use mathlib.Core.Option.{Option, none, some}
+use native.Mathlib.Omega.{arith}
+use lib.ListN.{take, getElem?}
+use lib.Dec.{eqb, leb}
+use borrow.Author.Tests.{eqb-true, eq-eqb, leb-true, leb-false}
+use Rattle.model_laws.proofs.Tests.{choose}
+use Rattle.model.specs.declared.Client.{Client}
+use Rattle.model.specs.declared.Command.{Command}
+use Rattle.model.specs.declared.Request.{Request}
+use Rattle.model.specs.declared.ResultPacket.{ResultPacket}
+use Rattle.model.specs.declared.Packet.{Packet}
+use Rattle.model.specs.declared.Packet.the-variants.{Malformed, Requested, Resulted, Refused, Receipted, Noticed, Granted}
+use Rattle.model.specs.declared.Started.{Started}
+use Rattle.model.specs.declared.Started.the-variants.{NotStarted, Running}
+use Rattle.model.specs.declared.Sent.the-variants.{NotSent, Asked}
+use Rattle.model.specs.declared.Received.the-variants.{NotReceived, Completed, Denied, Extended}
+use Rattle.model.specs.declared.SendAnswer.{SendAnswer}
+use Rattle.model.specs.declared.ReceiveAnswer.{ReceiveAnswer}
+use Rattle.model.specs.Choice.{pick}
+use Rattle.model.specs.Limits.{last32, callWindow}
+use Rattle.model.specs.Refusals.{malformed, windowFull, numbersOut, noRefusal}
+use Rattle.model.specs.Packets.{parsePacket, commandOk}
+use Rattle.model.specs.Clients.{firstOpen, isOpen, isOwn, closed, withCalls, withLease, withCall, newCall, requestFor, notSent, sent, notReceived, startOf, issueOf, resendOf, receiveOf, receiveWith, receiveResult, receiveRefusal, receiveGrant, sentBytes}
+use Rattle.model.specs.Operations.{After}
+use Rattle.claim.specs.World.{World, WorldOf, Server, nothing, running, crashed, Lent, Event, found, request, fetch, sync, notice, give, image, take·image, receipt, release, recover, crash, start, issue, resend, receive, open·lease, renew, query, withServer, withClient, withManager, making, calls, callsOn, foundAs, crashAt, startsAs, startsOn, sends, receives, told, packet, step, emptyWorld, runFrom, run, after}
+use Rattle.claim.specs.Provisos.{At, Provisos}
+use Rattle.claim.specs.Claim.{Issues}
+
+pub impossible : {A : Type 0} → _≡_ {A = ℕ} 0 1 → A
+impossible e = absurd (omega arith)
+
+-- ---- one client
+
+abbrev pub asking : Client → ℕ → ℕ → ℕ → Client
+asking d op p a = withCall d (newCall d op p a)
+
+pub data IssueCase (d : Client) (op p a : ℕ) : Type 0 where
+  refused : (n : ℕ) → issueOf d op p a ≡ notSent d n → IssueCase d op p a
+  issued : issueOf d op p a ≡ sent (asking d op p a) (newCall d op p a) → IssueCase d op p a
+
+pub issue-case : (d : Client) (op p a : ℕ) → IssueCase d op p a
+unfolding issueOf
+issue-case d op p a = go (commandOk op p a) (leb (firstOpen d + callWindow) (d .next)) (leb last32 (d .next)) refl refl refl
+  where
+    go : (u v w : Bool) → commandOk op p a ≡ u → leb (firstOpen d + callWindow) (d .next) ≡ v → leb last32 (d .next) ≡ w → IssueCase d op p a
+    go false v w e f g = refused malformed (rw e refl)
+    go true true w e f g = refused windowFull (rw (e, f) refl)
+    go true false true e f g = refused numbersOut (rw (e, f, g) refl)
+    go true false false e f g = issued (rw (e, f, g) refl)
+
+issue-keeps : (d : Client) (op p a : ℕ) → (issueOf d op p a .client .client ≡ d .client) × (d .next ≤ issueOf d op p a .client .next)
+unfolding notSent sent withCall withCalls
+issue-keeps d op p a = go (issue-case d op p a)
+  where
+    go : IssueCase d op p a → (issueOf d op p a .client .client ≡ d .client) × (d .next ≤ issueOf d op p a .client .next)
+    go (IssueCase.refused n e) = rw e (refl, omega arith)
+    go (IssueCase.issued e) = rw e (refl, omega arith)
+
+-- the command that an issue asks for
+abbrev pub commandOf : Client → ℕ → ℕ → ℕ → Command
+commandOf d op p a = record { client = d .client; call = d .next; op = op; point = p; argument = a }
+
+pub issue-asked : (d : Client) (op p a : ℕ) (q : Request) → issueOf d op p a .answer ≡ Asked q → (issueOf d op p a .client ≡ asking d op p a) × (q .command ≡ commandOf d op p a)
+unfolding notSent sent requestFor newCall withCall withCalls
+issue-asked d op p a q s = go (issue-case d op p a)
+  where
+    go : IssueCase d op p a → (issueOf d op p a .client ≡ asking d op p a) × (q .command ≡ commandOf d op p a)
+    go (IssueCase.refused n e) = let f : NotSent n ≡ Asked q = ap (λ (x : SendAnswer). x .answer) (sym e) ∙ s in impossible cc
+    go (IssueCase.issued e) =
+        let f : Asked (requestFor (asking d op p a) (newCall d op p a)) ≡ Asked q = ap (λ (x : SendAnswer). x .answer) (sym e) ∙ s in
+        let g : requestFor (asking d op p a) (newCall d op p a) ≡ q = cc in
+        (ap (λ (x : SendAnswer). x .client) e, ap (λ (x : Request). x .command) (sym g))
+
+resend-same : (d : Client) (c : ℕ) → resendOf d c .client ≡ d
+unfolding resendOf notSent sent
+resend-same d c = choose (λ (a : SendAnswer). a .client ≡ d) (isOpen d c) (λ _. refl) (λ _. refl)
+
+-- only a result changes the open calls
+pub data ReceiveCase (d : Client) (b : List ℕ) : Type 0 where
+  kept : (lease : ℕ) → receiveOf d b .client ≡ withLease d lease → ((r : ResultPacket) → receiveOf d b .answer ≡ Completed r → ⊥) → ReceiveCase d b
+  ended : (r : ResultPacket) → isOwn d (r .client) (r .call) (r .point) ≡ true
+      → receiveOf d b ≡ record { client = closed d (r .call); answer = Completed r } → ReceiveCase d b
+
+pub receive-case : (d : Client) (b : List ℕ) → ReceiveCase d b
+unfolding receiveOf receiveWith receiveResult receiveRefusal receiveGrant notReceived withLease
+receive-case d b = go (parsePacket b) refl
+  where
+    go : (p : Packet) → parsePacket b ≡ p → ReceiveCase d b
+    go Malformed e = kept (d .lease) (rw e refl) (λ r. rw e (λ z. impossible cc))
+    go (Requested q) e = kept (d .lease) (rw e refl) (λ r. rw e (λ z. impossible cc))
+    go (Receipted q) e = kept (d .lease) (rw e refl) (λ r. rw e (λ z. impossible cc))
+    go (Noticed q) e = kept (d .lease) (rw e refl) (λ r. rw e (λ z. impossible cc))
+    go (Resulted q) e = cases (isOwn d (q .client) (q .call) (q .point)) refl
+      where
+        cases : (u : Bool) → isOwn d (q .client) (q .call) (q .point) ≡ u → ReceiveCase d b
+        cases true f = ended q f (rw (e, f) refl)
+        cases false f = kept (d .lease) (rw (e, f) refl) (λ r. rw (e, f) (λ z. impossible cc))
+    go (Refused q) e = cases (isOwn d (q .client) (q .call) (q .point)) refl
+      where
+        cases : (u : Bool) → isOwn d (q .client) (q .call) (q .point) ≡ u → ReceiveCase d b
+        cases true f = kept (d .lease) (rw (e, f) refl) (λ r. rw (e, f) (λ z. impossible cc))
+        cases false f = kept (d .lease) (rw (e, f) refl) (λ r. rw (e, f) (λ z. impossible cc))
+    go (Granted g) e = cases (eqb (g .client) (d .client) && leb (d .lease) (g .lease)) refl
+      where
+        cases : (u : Bool) → (eqb (g .client) (d .client) && leb (d .lease) (g .lease)) ≡ u → ReceiveCase d b
+        cases true f = kept (g .lease) (rw (e, f) refl) (λ r. rw (e, f) (λ z. impossible cc))
+        cases false f = kept (d .lease) (rw (e, f) refl) (λ r. rw (e, f) (λ z. impossible cc))
+
+receive-keeps : (d : Client) (b : List ℕ) → (receiveOf d b .client .client ≡ d .client) × (d .next ≤ receiveOf d b .client .next)
+unfolding withLease closed withCalls
+receive-keeps d b = go (receive-case d b)
+  where
+    go : ReceiveCase d b → (receiveOf d b .client .client ≡ d .client) × (d .next ≤ receiveOf d b .client .next)
+    go (ReceiveCase.kept l e f) = rw e (refl, omega arith)
+    go (ReceiveCase.ended r o e) = rw e (refl, omega arith)
+
+-- ---- one event of a server or of the lease manager leaves the clients
+
+making-clients : {S : Type 0} (b : List ℕ) (w : WorldOf S) → making b w .clients ≡ w .clients
+unfolding making
+making-clients [] w = refl
+making-clients (x ∷ b) w = refl
+
+calls-clients : (c : ℕ) (l : Lent) (f : List ℕ → List ℕ → After) (s : Server) (w : World) → calls c l f s w .clients ≡ w .clients
+unfolding calls withServer
+calls-clients c l f nothing w = refl
+calls-clients c l f (running state log) w = making-clients _ _
+calls-clients c l f (crashed log mark) w = refl
+
+on-clients : (c : ℕ) (l : Lent) (f : List ℕ → List ℕ → List ℕ → After) (b : Option (List ℕ)) (w : World) → callsOn c l f b w .clients ≡ w .clients
+unfolding callsOn
+on-clients c l f none w = refl
+on-clients c l f (some b) w = calls-clients c l (λ s g. f s g b) (w .servers c) w
+
+found-clients : (c : ℕ) (a : After) (w : World) → foundAs c a w .clients ≡ w .clients
+unfolding foundAs withServer
+found-clients c a w = choose (λ (v : World). v .clients ≡ w .clients) (eqb (a .answer .refusal) noRefusal) (λ _. refl) (λ _. refl)
+
+crash-clients : (c k : ℕ) (s : Server) (w : World) → crashAt c k s w .clients ≡ w .clients
+unfolding crashAt withServer
+crash-clients c k nothing w = refl
+crash-clients c k (running state log) w = refl
+crash-clients c k (crashed log mark) w = refl
+
+-- ---- a run
+
+run-step : (w : World) (es : List Event) (n : ℕ) (e : Event) → getElem? es n ≡ some e → runFrom w (take (suc n) es) ≡ step (runFrom w (take n es)) e
+unfolding runFrom
+run-step w [] n e h = impossible cc
+run-step w (x ∷ es) zero e h = ap (step w) (let q : x ≡ e = cc in q)
+run-step w (x ∷ es) (suc n) e h = run-step (step w x) es n e h
+
+run-past : (w : World) (es : List Event) (n : ℕ) → getElem? es n ≡ none → runFrom w (take (suc n) es) ≡ runFrom w (take n es)
+unfolding runFrom
+run-past w [] zero h = refl
+run-past w [] (suc n) h = refl
+run-past w (x ∷ es) zero h = impossible cc
+run-past w (x ∷ es) (suc n) h = run-past (step w x) es n h
+
+module _ (plan : List ℕ) (es : List Event) where
+  pub after-step : (n : ℕ) (e : Event) → At plan es n e → after es (suc n) ≡ step (after es n) e
+  unfolding At after run
+  after-step n e h = run-step emptyWorld es n e h
+
+  after-past : (n : ℕ) → getElem? es n ≡ none → after es (suc n) ≡ after es n
+  unfolding after run
+  after-past n h = run-past emptyWorld es n h
+
+  pub at-once : (n : ℕ) (e f : Event) → At plan es n e → At plan es n f → e ≡ f
+  unfolding At
+  at-once n e f h k = let q : some e ≡ some f = sym h ∙ k in cc
+
+  -- what event n makes of client x
+  pub data Becomes (n x : ℕ) : Option Client → Type 0 where
+    still : Becomes n x (after es n .clients x)
+    begun : (p : ℕ) (b : List ℕ) → At plan es n (start p) → packet (after es n) p ≡ some b → startOf b .answer ≡ Running → startOf b .client .client ≡ x
+        → Becomes n x (some (startOf b .client))
+    asked : (op p a : ℕ) (d : Client) → At plan es n (issue x op p a) → after es n .clients x ≡ some d → Becomes n x (some (issueOf d op p a .client))
+    heard : (p : ℕ) (d : Client) (b : List ℕ) → At plan es n (receive x p) → after es n .clients x ≡ some d → packet (after es n) p ≡ some b
+        → Becomes n x (some (receiveOf d b .client))
+
+  module _ (n x : ℕ) where
+    -- an event that leaves all clients
+    as-still : (e : Event) → step (after es n) e .clients ≡ after es n .clients → Becomes n x (step (after es n) e .clients x)
+    as-still e q = subst (λ (f : ℕ → Option Client). Becomes n x (f x)) (sym q) still
+
+    step-becomes : (e : Event) → At plan es n e → Becomes n x (step (after es n) e .clients x)
+    unfolding step startsOn startsAs sends receives told withClient withManager
+    step-becomes (found c state log plan k) h = as-still (found c state log plan k) (found-clients _ _ _)
+    step-becomes (request c p v l) h = as-still (request c p v l) (on-clients _ _ _ _ _)
+    step-becomes (fetch c y k l) h = as-still (fetch c y k l) (calls-clients _ _ _ _ _)
+    step-becomes (sync c m l) h = as-still (sync c m l) (calls-clients _ _ _ _ _)
+    step-becomes (notice c p l) h = as-still (notice c p l) (on-clients _ _ _ _ _)
+    step-becomes (give c p d l) h = as-still (give c p d l) (calls-clients _ _ _ _ _)
+    step-becomes (image c p l) h = as-still (image c p l) (calls-clients _ _ _ _ _)
+    step-becomes (take·image c p l) h = as-still (take·image c p l) (on-clients _ _ _ _ _)
+    step-becomes (receipt c p l) h = as-still (receipt c p l) (calls-clients _ _ _ _ _)
+    step-becomes (release c p l) h = as-still (release c p l) (on-clients _ _ _ _ _)
+    step-becomes (recover c state log plan) h = as-still (recover c state log plan) (found-clients _ _ _)
+    step-becomes (crash c k) h = as-still (crash c k) (crash-clients _ _ _ _)
+    step-becomes (start p) h = go (packet (after es n) p) refl
+      where
+        run-as : (b : List ℕ) → packet (after es n) p ≡ some b → (s : Started) → startOf b .answer ≡ s → Becomes n x (startsAs (startOf b) (after es n) .clients x)
+        run-as b f (NotStarted k) q = rw q still
+        run-as b f Running q = rw q (choose (Becomes n x) (eqb x (startOf b .client .client)) (λ t. begun p b h f q (sym (eqb-true _ _ t))) (λ t. still))
+
+        go : (o : Option (List ℕ)) → packet (after es n) p ≡ o → Becomes n x (startsOn o (after es n) .clients x)
+        go none f = still
+        go (some b) f = run-as b f (startOf b .answer) refl
+    step-becomes (issue y op p a) h = go (after es n .clients y) refl
+      where
+        go : (o : Option Client) → after es n .clients y ≡ o → Becomes n x (sends y (λ d. issueOf d op p a) o (after es n) .clients x)
+        go none f = still
+        go (some d) f =
+            subst (λ (g : ℕ → Option Client). Becomes n x (g x)) (sym (making-clients _ _))
+            (choose (Becomes n x) (eqb x y)
+            (λ t. let q : y ≡ x = sym (eqb-true x y t) in asked op p a d (subst (λ (z : ℕ). At plan es n (issue z op p a)) q h) (subst (λ (z : ℕ). after es n .clients z ≡ some d) q f)) (λ t. still))
+    step-becomes (resend y c) h = go (after es n .clients y) refl
+      where
+        go : (o : Option Client) → after es n .clients y ≡ o → Becomes n x (sends y (λ d. resendOf d c) o (after es n) .clients x)
+        go none f = still
+        go (some d) f =
+            subst (λ (g : ℕ → Option Client). Becomes n x (g x)) (sym (making-clients _ _))
+            (choose (Becomes n x) (eqb x y)
+            (λ t. rw (resend-same d c) (subst (Becomes n x) (subst (λ (z : ℕ). after es n .clients z ≡ some d) (sym (eqb-true x y t)) f) still)) (λ t. still))
+    step-becomes (receive y p) h = go (after es n .clients y) refl (packet (after es n) p) refl
+      where
+        go : (o : Option Client) → after es n .clients y ≡ o → (b : Option (List ℕ)) → packet (after es n) p ≡ b → Becomes n x (receives y o b (after es n) .clients x)
+        go none f b g = still
+        go (some d) f none g = still
+        go (some d) f (some b) g =
+            choose (Becomes n x) (eqb x y)
+            (λ t. let q : y ≡ x = sym (eqb-true x y t) in heard p d b (subst (λ (z : ℕ). At plan es n (receive z p)) q h) (subst (λ (z : ℕ). after es n .clients z ≡ some d) q f) g) (λ t. still)
+    step-becomes (open·lease t span) h = as-still (open·lease t span) (making-clients _ _)
+    step-becomes (renew y t span) h = as-still (renew y t span) (making-clients _ _)
+    step-becomes (query y t) h = as-still (query y t) (making-clients _ _)
+
+    pub becomes : Becomes n x (after es (suc n) .clients x)
+    unfolding At
+    becomes = go (getElem? es n) refl
+      where
+        go : (o : Option Event) → getElem? es n ≡ o → Becomes n x (after es (suc n) .clients x)
+        go none f = rw (after-past n f) still
+        go (some e) f = rw (after-step n e f) (step-becomes e f)
+
+  -- ---- the client after a call of it
+
+  pub issue-after : (n x op p a : ℕ) (d : Client) → At plan es n (issue x op p a) → after es n .clients x ≡ some d → after es (suc n) .clients x ≡ some (issueOf d op p a .client)
+  unfolding step sends withClient
+  issue-after n x op p a d h e = rw (after-step n _ h, e, making-clients, eq-eqb x x refl) refl
+
+  pub receive-after : (n x p : ℕ) (d : Client) (b : List ℕ) → At plan es n (receive x p) → after es n .clients x ≡ some d → packet (after es n) p ≡ some b
+      → after es (suc n) .clients x ≡ some (receiveOf d b .client)
+  unfolding step receives withClient
+  receive-after n x p d b h e f = rw (after-step n _ h, e, f, eq-eqb x x refl) refl
+
+  pub start-after : (n p : ℕ) (b : List ℕ) → At plan es n (start p) → packet (after es n) p ≡ some b → startOf b .answer ≡ Running
+      → after es (suc n) .clients (startOf b .client .client) ≡ some (startOf b .client)
+  unfolding step startsOn startsAs withClient
+  start-after n p b h f e = rw (after-step n _ h, f, e, eq-eqb (startOf b .client .client) (startOf b .client .client) refl) refl
+
+  -- ---- numbers
+
+  pub own-number : (n x : ℕ) (d : Client) → after es n .clients x ≡ some d → d .client ≡ x
+  unfolding after run runFrom emptyWorld
+  own-number zero x d e = impossible cc
+  own-number (suc n) x d e = go (λ c. own-number n x c) (becomes n x) e
+    where
+      go : ((c : Client) → after es n .clients x ≡ some c → c .client ≡ x) → {o : Option Client} → Becomes n x o → o ≡ some d → d .client ≡ x
+      go ih still f = ih d f
+      go ih (begun p b h f r q) g = let k : startOf b .client ≡ d = cc in subst (λ (z : Client). z .client ≡ x) k q
+      go ih (asked op p a c h f) g = let k : issueOf c op p a .client ≡ d = cc in subst (λ (z : Client). z .client ≡ x) k (issue-keeps c op p a .0 ∙ ih c f)
+      go ih (heard p c b h f q) g = let k : receiveOf c b .client ≡ d = cc in subst (λ (z : Client). z .client ≡ x) k (receive-keeps c b .0 ∙ ih c f)
+
+  -- an issue takes the next number
+  pub issue-is : (n : ℕ) (k : Command) (i : Issues plan es n (k ∷ [])) → k ≡ commandOf (i .state) (i .op) (i .point) (i .argument)
+  issue-is n k i = let q : i .asked .command ∷ [] ≡ k ∷ [] = i .its in let r : i .asked .command ≡ k = cc in sym r ∙ issue-asked _ _ _ _ _ (i .answer) .1
+
+  pub issuer : (n : ℕ) (k : Command) (i : Issues plan es n (k ∷ [])) → i .client ≡ k .client
+  issuer n k i = sym (ap (λ (z : Command). z .client) (issue-is n k i) ∙ own-number n (i .client) (i .state) (i .started))
+
+  pub issue-one : (n : ℕ) (k l : Command) → Issues plan es n (k ∷ []) → Issues plan es n (l ∷ []) → k ≡ l
+  issue-one n k l i j =
+      let e = at-once n _ _ (i .event) (j .event) in
+      let x : i .client ≡ j .client = cc in
+      let o : i .op ≡ j .op = cc in
+      let p : i .point ≡ j .point = cc in
+      let a : i .argument ≡ j .argument = cc in
+      let f : some (i .state) ≡ some (j .state) = sym (i .started) ∙ ap (after es n .clients) x ∙ j .started in
+      let d : i .state ≡ j .state = cc in
+      issue-is n k i ∙ (rw (d, o, p, a) refl) ∙ sym (issue-is n l j)
+
+  module _ (provisos : Provisos plan es) where
+    next-kept : (n x : ℕ) (d : Client) → after es n .clients x ≡ some d → (c : Client) × (after es (suc n) .clients x ≡ some c) × (d .next ≤ c .next)
+    next-kept n x d e = go (becomes n x)
+      where
+        go : {o : Option Client} → Becomes n x o → (c : Client) × (o ≡ some c) × (d .next ≤ c .next)
+        go still = (d, e, omega arith)
+        go (begun p b h f r q) =
+            let z : after es n .clients x ≡ none = subst (λ (y : ℕ). after es n .clients y ≡ none) q (provisos .started-once n p b h f r) in
+            let y : some d ≡ none = sym e ∙ z in impossible cc
+        go (asked op p a c h f) = let g : some d ≡ some c = sym e ∙ f in let k : d ≡ c = cc in (_, refl, subst (λ (z : Client). z .next ≤ issueOf c op p a .client .next) (sym k) (issue-keeps c op p a .1))
+        go (heard p c b h f q) = let g : some d ≡ some c = sym e ∙ f in let k : d ≡ c = cc in (_, refl, subst (λ (z : Client). z .next ≤ receiveOf c b .client .next) (sym k) (receive-keeps c b .1))
+
+    pub clients-on : (n m x : ℕ) (d : Client) → n ≤ m → after es n .clients x ≡ some d → (c : Client) × (after es m .clients x ≡ some c) × (d .next ≤ c .next)
+    clients-on n zero x d h e = (d, subst (λ (k : ℕ). after es k .clients x ≡ some d) (omega arith) e, omega arith)
+    clients-on n (suc m) x d h e = go (leb n m) refl (λ k. clients-on n m x d k e)
+      where
+        go : (b : Bool) → leb n m ≡ b → (n ≤ m → (c : Client) × (after es m .clients x ≡ some c) × (d .next ≤ c .next))
+            → (c : Client) × (after es (suc m) .clients x ≡ some c) × (d .next ≤ c .next)
+        go true q ih =
+            let c = ih (leb-true n m q) in
+            let f = next-kept m x (c .0) (c .1) in
+            (f .0, f .1, omega (arith, c .2, f .2))
+        go false q ih = let k = leb-false n m q in (d, subst (λ (j : ℕ). after es j .clients x ≡ some d) (omega arith) e, omega arith)
+
+    -- what was issued has a number below the next
+    pub issued-below : (n m : ℕ) (k : Command) (d : Client) → Issues plan es n (k ∷ []) → n < m → after es m .clients (k .client) ≡ some d → k .call < d .next
+    unfolding withCall withCalls
+    issued-below n m k d i h e =
+        let s : after es (suc n) .clients (i .client) ≡ some (asking (i .state) (i .op) (i .point) (i .argument)) =
+        issue-after n _ _ _ _ _ (i .event) (i .started) ∙ ap some (issue-asked _ _ _ _ _ (i .answer) .0) in
+        let c = clients-on (suc n) m (i .client) _ h s in
+        let f : some (c .0) ≡ some d = sym (c .1) ∙ ap (after es m .clients) (issuer n k i) ∙ e in
+        let g : c .0 ≡ d = cc in
+        let j : suc (i .state .next) ≤ c .0 .next = c .2 in
+        let l : c .0 .next ≡ d .next = ap (λ (z : Client). z .next) g in
+        let o : k .call ≡ i .state .next = ap (λ (z : Command). z .call) (issue-is n k i) in
+        omega arith
+
+    -- numbers rise by events
+    pub issue-rises : (n m : ℕ) (k l : Command) → Issues plan es n (k ∷ []) → Issues plan es m (l ∷ []) → k .client ≡ l .client → n < m → k .call < l .call
+    issue-rises n m k l i j e h =
+        let b = issued-below n m k (j .state) i h (ap (after es m .clients) (e ∙ sym (issuer m l j)) ∙ j .started) in
+        let o : l .call ≡ j .state .next = ap (λ (z : Command). z .call) (issue-is m l j) in
+        omega arith
