@@ -66,7 +66,7 @@ plain (S.notice x t) = true
 plain (S.grant x t) = true
 plain (S.image i) = false
 
-abbrev isImage : Packet → Bool
+abbrev pub isImage : Packet → Bool
 isImage (S.request q) = false
 isImage (S.answered i p r) = false
 isImage (S.receipt p c m) = false

@@ -25,7 +25,7 @@ use Rattle.proof_protocol.specs.Allowed.{Written, Told, Given, Leased, A
 use Rattle.proof_protocol.specs.Allowed as I
 use Rattle.proof_protocol.proofs.Basics.{impossible}
 use Rattle.proof_protocol.proofs.Memory.{Honest}
-use Rattle.proof_protocol.proofs.Logs.{Tail, whole, within, Tail-refl, Tail-drop, Tail-short, Legit-tail, stands, stepAt}
+use Rattle.proof_protocol.proofs.Logs.{Tail, whole, within, Tail-refl, Tail-drop, oldest-length, Tail-short, Legit-tail, stands, stepAt}
 use Rattle.proof_protocol.proofs.Logs as Logs
 use Rattle.proof_protocol.proofs.Token.{Place}
 use Rattle.proof_protocol.proofs.Token as Tok
@@ -77,7 +77,7 @@ module _ (plan : Plan) (w : World) (inv : Inv plan w) where
       t = Tail-drop (length (srv c .log) - srv c .mark) (srv c .log)
 
       len : length low ≡ srv c .mark
-      len = let h = inv .core .marks c in simp length-drop (omega arith)
+      len = oldest-length (srv c .mark) (srv c .log) (inv .core .marks c)
 
       same-there : replay plan c low .points p ≡ replay plan c (srv c .log) .points p
       same-there = stands plan (In made) c (w .clock) p (g .destination) (g .place) (srv c .log) (inv .core .legit c) (g .is) .still low t (omega (arith, len))

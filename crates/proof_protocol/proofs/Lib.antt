@@ -1,4 +1,4 @@
--- One order explains every run of the abstract world: RealTime.explained. docs/PROTOCOL.md has the map of the modules and a
+-- One order explains every run of the abstract world: RealTime.explained; and the fence: Fence.fenced. docs/PROTOCOL.md has the map of the modules and a
 -- paragraph for each invariant.
 pub mod Basics
 pub mod Floors
@@ -16,3 +16,4 @@ pub mod Final
 pub mod Trace
 pub mod Survive
 pub mod RealTime
+pub mod Fence

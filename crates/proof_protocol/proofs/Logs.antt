@@ -2,6 +2,7 @@
 --     Legit          each record was decided on the replay of what precedes it, by facts that only grow
 --     replay-ok      the replay of a legitimate log is StateOk
 --     stepAt         what one record does to one point;  taken≤move   the latest taken move is never above the move number
+--     move-rises, heard-rises   move numbers and heard times rise along a log
 --     stands         a given point stands still
 -- Assumes nothing.
 use mathlib.Core.Path.{_≡_, refl, sym, _∙_, ap, subst}
@@ -9,9 +10,9 @@ use mathlib.Core.Bool.{Bool, true, false}
 use mathlib.Core.List.{List, [], _∷_, List·Memᴰ, List·Memᴰ·tail}
 use mathlib.Core.Logic.{_⊎_, inl, inr}
 use native.Mathlib.Omega.{arith}
-use Prim.Native.Nat.{ℕ, zero, suc, _≤_, _<_}
+use Prim.Native.Nat.{ℕ, zero, suc, _-_, _≤_, _<_}
 use lib.Dec.{eqb}
-use lib.ListN.{length, drop}
+use lib.ListN.{length, drop, length-drop}
 use Rattle.model.specs.Versions.{Version}
 use Rattle.model.specs.Sequential.{ResultZ}
 use Rattle.model.specs.declared.Command.{Command}
@@ -52,6 +53,10 @@ pub Tail-drop : {A : Type 0} (j : ℕ) (l : List A) → Tail (drop j l) l
 Tail-drop zero l = whole refl
 Tail-drop (suc j) [] = whole refl
 Tail-drop (suc j) (a ∷ l) = within (Tail-drop j l)
+
+-- the oldest m of a log
+pub oldest-length : {A : Type 0} (m : ℕ) (l : List A) → m ≤ length l → length (drop (length l - m) l) ≡ m
+oldest-length m l h = simp length-drop (omega arith)
 
 -- a tail that is not longer than another is a tail of it
 pub Tail-short : {A : Type 0} {k j l : List A} → Tail k l → Tail j l → length k ≤ length j → Tail k j
@@ -150,7 +155,7 @@ pub stepAt : (plan : Plan) (Made : Packet → Type 0) (c : ℕ) (e : Entry) (l :
 unfolding replay apply
 stepAt plan Made c e l p w = changes plan Made c (replay plan c l) e p (e .item) refl w
 
--- ---- moves rise along a log
+-- ---- moves and heard times rise along a log
 
 pub change-move : {c : ℕ} {s : State} {Made : Packet → Type 0} {p : ℕ} {e : Entry} {x : Point} → Change c s Made p e x → s .points p .move ≤ x .move
 unfolding executedPoint gavePoint tookPoint freedPoint
@@ -159,6 +164,25 @@ change-move (ran v k done r h q hd) = omega arith
 change-move (left d h hd) = omega arith
 change-move (came i h m pt dst lt nh) = omega arith
 change-move (let-go d m k g le) = omega arith
+
+-- an earlier log has a move number and a heard time not over a later one's
+pub move-rises : {plan : Plan} {Made : Packet → Type 0} {c clock : ℕ} {k l : List Entry} (p : ℕ) → Tail k l → Legit plan Made c clock l
+    → replay plan c k .points p .move ≤ replay plan c l .points p .move
+move-rises p (whole e) g = rw e (omega arith)
+move-rises {plan} {Made} {c} p (within t) (then {e = e} {l = l} w a o g) = omega (arith, change-move (stepAt plan Made c e l p w), move-rises p t g)
+
+apply-heard : (s : State) (r : LogRecord) (t : ℕ) → s .heard ≤ applyRecord s r t .heard
+unfolding applyRecord
+apply-heard s (S.executed v k d r) t = omega arith
+apply-heard s (S.gone x y) t = omega arith
+apply-heard s (S.gave p d m) t = omega arith
+apply-heard s (S.took i) t = omega arith
+apply-heard s (S.freed p m) t = omega arith
+
+pub heard-rises : (plan : Plan) (c : ℕ) {k l : List Entry} → Tail k l → replay plan c k .heard ≤ replay plan c l .heard
+unfolding replay apply
+heard-rises plan c (whole e) = rw e (omega arith)
+heard-rises plan c (within {a = e} {l = l} t) = omega (arith, apply-heard (replay plan c l) (e .item) (e .at), heard-rises plan c t)
 
 change-taken : {c : ℕ} {s : State} {Made : Packet → Type 0} {p : ℕ} {e : Entry} {x : Point} → Change c s Made p e x → s .points p .taken ≤ s .points p .move → x .taken ≤ x .move
 unfolding executedPoint gavePoint tookPoint freedPoint

@@ -103,7 +103,7 @@ split a b h = dec (eqb a b) refl
     dec true q = inl (eqb-true a b q)
     dec false q = let ne = eqb-false a b q in inr (omega arith)
 
-held-given : {h : Holding} → Given h → h ≡ S.held → ⊥
+pub held-given : {h : Holding} → Given h → h ≡ S.held → ⊥
 held-given g e = let q = g .is in let z : _≡_ {A = ℕ} 0 1 = cc in omega arith
 
 module _ (plan : Plan) (Made : Packet → Type 0) (Allowed : ℕ → List Entry → Type 0) (Founded : ℕ → Type 0) (p : ℕ) (tok : Token) (ch : Chain plan Made Allowed Founded p tok)

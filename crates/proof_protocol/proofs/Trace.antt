@@ -1,7 +1,8 @@
 -- A run, change by change.
 --     step-at        a change leaves a server, appends one record to its log, or cuts its log to a tail of it, if it is a crash
 --     wrote          which change wrote an entry, and that the entry stands from then on
---     stands-through, synced-on   what no crash cuts off stands, what is synced stands;  seen-on   what was seen stays seen
+--     stands-through, synced-on   what no crash cuts off stands, what is synced stands
+--     seen-on, made-on            what was seen or made stays so;  through   what each change keeps stays
 -- Assumes nothing.
 use mathlib.Core.Path.{_≡_, refl, sym, _∙_, ap, subst}
 use mathlib.Core.List.{List, [], _∷_, _++_}
@@ -12,7 +13,7 @@ use mathlib.Core.Option.{some}
 use lib.ListN.{length, take, getD, getElem?}
 use lib.Seq.{take-suc, take-length}
 use Rattle.proof_protocol.specs.Servers.{Plan, LogRecord, Entry}
-use Rattle.proof_protocol.specs.World.{World, Server, Change, serverAfter, seenBy, step, run, runFrom, emptyWorld}
+use Rattle.proof_protocol.specs.World.{World, Server, Change, serverAfter, seenBy, madeBy, step, run, runFrom, emptyWorld}
 use Rattle.proof_protocol.specs.World as W
 use Rattle.proof_protocol.specs.Allowed.{Allowed, Run}
 use Rattle.proof_protocol.specs.Allowed as I
@@ -74,6 +75,14 @@ step-sees w (W.tells c p) = Tail-refl _
 step-sees w (W.client x k) = behind-more (seenBy k) (w .seen)
 step-sees w (W.leases m p) = Tail-refl _
 
+step-makes : (w : World) (c : Change) → Tail (w .made) (step w c .made)
+unfolding step
+step-makes w W.same = Tail-refl _
+step-makes w (W.server c s) = Tail-refl _
+step-makes w (W.tells c p) = within (Tail-refl _)
+step-makes w (W.client x k) = behind-more (madeBy k) (w .made)
+step-makes w (W.leases m p) = within (Tail-refl _)
+
 -- ---- change number n
 
 run-snoc : (w : World) (cs : List Change) (c : Change) → runFrom w (cs ++ (c ∷ [])) ≡ step (runFrom w cs) c
@@ -112,7 +121,7 @@ unfolding At
 is-at cs n c h q = at-found cs n W.same h ∙ ap some q
 
 -- what holds at n and is kept by each change from then on holds at N
-through : (P : ℕ → Type 0) (L n : ℕ) → P n → ((m : ℕ) → n ≤ m → m < L → P m → P (suc m)) → (N : ℕ) → n ≤ N → N ≤ L → P N
+pub through : (P : ℕ → Type 0) (L n : ℕ) → P n → ((m : ℕ) → n ≤ m → m < L → P m → P (suc m)) → (N : ℕ) → n ≤ N → N ≤ L → P N
 through P L n p f zero a b = subst P (omega arith) p
 through P L n p f (suc N) a b = go (split n (suc N) a) (λ k. through P L n p f N k (omega arith))
   where
@@ -121,7 +130,7 @@ through P L n p f (suc N) a b = go (split n (suc N) a) (λ k. through P L n p f 
     go (inr k) ih = f N (omega arith) (omega arith) (ih (omega arith))
 
 module _ (plan : Plan) (cs : List Change) (r : Run plan emptyWorld cs) where
-  abbrev ev : ℕ → Change
+  abbrev pub ev : ℕ → Change
   ev n = getD cs n W.same
 
   abbrev log : ℕ → ℕ → List Entry
@@ -145,7 +154,7 @@ module _ (plan : Plan) (cs : List Change) (r : Run plan emptyWorld cs) where
   step-clock : (n : ℕ) → n < length cs → after cs (suc n) .clock ≡ suc (after cs n .clock)
   step-clock n h = rw (after-suc n h) (step-ticks (after cs n) (ev n))
 
-  first-world : after cs 0 ≡ emptyWorld
+  pub first-world : after cs 0 ≡ emptyWorld
   unfolding after run runFrom
   first-world = refl
 
@@ -244,6 +253,9 @@ module _ (plan : Plan) (cs : List Change) (r : Run plan emptyWorld cs) where
 
   pub seen-on : (n N : ℕ) → n ≤ N → N ≤ length cs → Tail (after cs n .seen) (after cs N .seen)
   seen-on n N a b = through (λ m. Tail (after cs n .seen) (after cs m .seen)) (length cs) n (Tail-refl _) (λ m u v x. Tail-trans x (rw (after-suc m v) (step-sees (after cs m) (ev m)))) N a b
+
+  pub made-on : (n N : ℕ) → n ≤ N → N ≤ length cs → Tail (after cs n .made) (after cs N .made)
+  made-on n N a b = through (λ m. Tail (after cs n .made) (after cs m .made)) (length cs) n (Tail-refl _) (λ m u v x. Tail-trans x (rw (after-suc m v) (step-makes (after cs m) (ev m)))) N a b
 
   -- the synced part stands
   pub synced-on : (n N c : ℕ) (l : List Entry) → n ≤ N → N ≤ length cs → Tail l (log n c) → length l ≤ after cs n .servers c .mark → Tail l (log N c) × (length l ≤ after cs N .servers c .mark)
