@@ -1,6 +1,8 @@
 -- What issues, completes, executes and survives over records does so in the run, and back.
 --     like                                   worlds by number
---     issues-there, completes-there          issues, completions
+--     issues-there, issues-here              issues, both ways
+--     completes-there                        completions
+--     executes-there, executes-here          executions, both ways
 --     survives-there, survives-here          survivors, both ways
 -- Assumes nothing.
 use Prim.Native.Nat.{ℕ, suc, _<_, zero, _+_, _-_, _≤_}
@@ -53,7 +55,7 @@ module _ {w : World} {v v′ : W.World} where
   issue-on : {x op p b : ℕ} {a : W.Change} → Matched w v v′ (R.issue x op p b) a → (d : Client) (q : Request) → w .clients x ≡ some d → issueOf d op p b .answer ≡ Asked q
       → a ≡ W.client x (W.issues d op p b)
   unfolding Quiet
-  issue-on (M.issued x op p b c e) d q f k = rw (some-same e f)
+  issue-on (M.issued x op p b c r e s) d q f k = rw (some-same e f)
   issue-on (M.other e a h s) d q f k = absurd (h d q f k)
 
   receive-on : {x p : ℕ} {a : W.Change} → Matched w v v′ (R.receive x p) a → (d : Client) (b : List ℕ) (r : ResultPacket) → w .clients x ≡ some d → packet w p ≡ some b
@@ -76,6 +78,16 @@ module _ {w : World} {v v′ : W.World} where
       let t : k ≡ q = cc in
       (r, rw t)
   request-on (M.other e a h s) q Y = absurd (h q Y)
+
+-- the same issue asks the same
+issue-same : {d d′ : Client} {op op′ p p′ b b′ : ℕ} → W.issues d op p b ≡ W.issues d′ op′ p′ b′
+    → (W.issuedBy d op p b .command) ∷ [] ≡ (W.issuedBy d′ op′ p′ b′ .command) ∷ []
+issue-same {d} {d′} {op} {op′} {p} {p′} {b} {b′} e =
+    let i : d ≡ d′ = cc in
+    let j : op ≡ op′ = cc in
+    let k : p ≡ p′ = cc in
+    let l : b ≡ b′ = cc in
+    rw (i, j, k, l)
 
 -- ---- a schedule and its run
 
@@ -104,6 +116,31 @@ module _ (plan : List ℕ) (es : List Event) (cs : List W.Change) (F : Follows (
         event = subst (X.At cs n) (issue-on (r .2) (i .state) (i .asked) (i .started) (i .answer)) (r .1);
         its = ap (λ (q : Request). q .command ∷ []) (sym (issue-asked _ _ _ _ _ (i .answer) .asks)) ∙ i .its;
       }
+
+  -- an issue in the run is of an issue not refused
+  pub issues-here : (n : ℕ) (ks : List Command) → X.Issues cs n ks → Issues plan es n ks
+  issues-here n ks i = let r = pairing-back n _ (i .event) in go (r .0) (r .1) _ (r .2) refl
+    where
+      go : (e : Event) → At plan es n e → (a : W.Change) → Matched (after es n) (X.after cs n) (X.after cs (suc n)) e a
+          → a ≡ W.client (i .client) (W.issues (i .state) (i .op) (i .point) (i .argument)) → Issues plan es n ks
+      go e k a (M.issued x op p b d q f s) z =
+          let t : W.issues d op p b ≡ W.issues (i .state) (i .op) (i .point) (i .argument) = cc in
+          record {
+            client = x;
+            op = op;
+            point = p;
+            argument = b;
+            event = k;
+            state = d;
+            started = f;
+            asked = q;
+            answer = s;
+            its = ap (λ (y : Request). y .command ∷ []) (issue-asked d op p b q s .asks) ∙ (issue-same t ∙ i .its);
+          }
+      go e k a (M.executed d p vs room y r f) z = let o : _≡_ {A = ℕ} 0 1 = cc in absurd (omega arith)
+      go e k a (M.cut d b j y) z = let o : _≡_ {A = ℕ} 0 1 = cc in absurd (omega arith)
+      go e k a (M.received x p d b r f g h) z = let o : _≡_ {A = ℕ} 0 1 = cc in absurd (omega arith)
+      go e k a (M.other f b h s) z = absurd (subst Plain z s)
 
   pub completes-there : (n : ℕ) (ks : List Command) (r : EntryResult) → Completes plan es n ks r → X.Completes cs n ks r
   unfolding commandAt W.commandAt
@@ -163,7 +200,7 @@ module _ (plan : List ℕ) (es : List Event) (cs : List W.Change) (F : Follows (
             its = rw (j, t);
           })
       go e q a (M.cut d b j y) z = let o : _≡_ {A = ℕ} 0 1 = cc in absurd (omega arith)
-      go e q a (M.issued y op p b d f) z = let o : _≡_ {A = ℕ} 0 1 = cc in absurd (omega arith)
+      go e q a (M.issued y op p b d r f s) z = let o : _≡_ {A = ℕ} 0 1 = cc in absurd (omega arith)
       go e q a (M.received y p d b r f g h) z = let o : _≡_ {A = ℕ} 0 1 = cc in absurd (omega arith)
       go e q a (M.other f b h s) z = absurd (subst Plain z s)
 
@@ -181,7 +218,7 @@ module _ (plan : List ℕ) (es : List Event) (cs : List W.Change) (F : Follows (
           → (b : ℕ) × At plan es n (R.crash c b) × Cut (X.after cs n) (X.after cs (suc n)) c b
       go e k a (M.cut d b i y) z = let h : d ≡ c = cc in (b, rw (← h) k, rw (← h) y)
       go e k a (M.executed d p vs room y r f) z = let o : _≡_ {A = ℕ} 0 1 = cc in absurd (omega arith)
-      go e k a (M.issued x op p b d y) z = let o : _≡_ {A = ℕ} 0 1 = cc in absurd (omega arith)
+      go e k a (M.issued x op p b d r y s) z = let o : _≡_ {A = ℕ} 0 1 = cc in absurd (omega arith)
       go e k a (M.received x p d b r f g y) z = let o : _≡_ {A = ℕ} 0 1 = cc in absurd (omega arith)
       go e k a (M.other f b h s) z = absurd (subst Plain z s)
 

@@ -11,4 +11,6 @@ pub mod Starts
 pub mod Parties
 pub mod Runs
 pub mod Clauses
+pub mod Counting
 pub mod Demand3
+pub mod Fence

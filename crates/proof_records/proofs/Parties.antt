@@ -99,7 +99,7 @@ module _ {plan : List PlanEntry} {w : World} {v : W.World} (l : WorldLike plan w
               rw (e, s, i .after)
               (like-making (like-client l x k (record { well = subst WellFormed (i .after) (issue-well (t .well) op p a); own = own d (newCall d op p a) ∙ t .own })) (requestBytes q)
               (like-packet (Requested q) g (request-good q g, rw (i .asks) (unfold W.step W.madeBy in List·Memᴰ·head refl))));
-          matched = issued x op p a d e;
+          matched = issued x op p a d q e s;
         }
       where
         own : (d : Client) (k : OpenCall) → withCall d k .client ≡ d .client

@@ -1,6 +1,6 @@
 -- Every schedule under the provisos is followed by a run of the protocol, of as many changes.
 --     follows                  every event
---     follows-run              every schedule
+--     follows-run, followed    every schedule
 --     run-of, like-at, matched-at, matched-back     the run, its worlds and changes
 --     provided                 the provisos, event by event
 -- Assumes nothing.
@@ -18,7 +18,7 @@ use Rattle.model_invariants.specs.Calls.{decision}
 use Rattle.model_invariants.specs.Calls as Calls
 use Rattle.proof_protocol.specs.World as W
 use Rattle.proof_protocol.specs.Allowed.{Run, ended, then}
-use Rattle.claim.specs.RecordWorld.{World, Event, step, runFrom, after, emptyWorld}
+use Rattle.claim.specs.RecordWorld.{World, Event, step, run, runFrom, after, emptyWorld}
 use Rattle.claim.specs.RecordWorld as R
 use Rattle.claim.specs.RecordProvisos.{Typed, Provisos, At}
 use Rattle.proof_records.specs.Worlds.{WorldLike}
@@ -135,3 +135,8 @@ empty-like plan =
       started = λ x d e. let z : _≡_ {A = ℕ} 0 1 = cc in absurd (omega arith);
       leases = new-well;
     }
+
+-- a schedule under the provisos
+pub followed : (plan : List ℕ) (es : List Event) → Provisos plan es → (cs : List W.Change) × Follows (planOf plan) emptyWorld W.emptyWorld es cs
+unfolding after run At
+followed plan es P = follows-run plan es emptyWorld W.emptyWorld (empty-like (planOf plan)) (λ n e q. provided plan es P n e q)

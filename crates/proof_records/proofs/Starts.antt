@@ -1,4 +1,5 @@
 -- Found, recover and crash, each followed by a change.
+--     log-cut                  a log cut in both worlds
 --     kept-recovers            recovery of a log gives its replay
 --     found-step, recover-step, crash-step
 -- Assumes nothing.
@@ -41,6 +42,42 @@ use Rattle.proof_records.proofs.Calls.{some-same}
 
 -- ---- crash
 
+-- a log cut at k, in both worlds
+module _ {plan : List PlanEntry} {c : ℕ} {log : Log} {mark size : ℕ} {x : W.Server} (K : LogLike plan c log mark size x) (k : ℕ) where
+  abbrev ps : List Pair
+  ps = K .pairs
+
+  rising : Rising ps
+  rising = chain-alike plan c (K .good) (K .server) ps (K .chain) .rising
+
+  kept : Chain plan c (cutAt ps k)
+  unfolding cutAt
+  kept = chain-drop plan c (lost ps k) ps (K .chain)
+
+  most : mark ≤ k → replay plan c (entriesIn (cutAt ps k)) .size ≤ k
+  most low = chain-most plan c (cutAt ps k) k (omega (arith, K .head)) (cut-within ps k rising)
+
+  log-left : drop (lost ps k) (x .log) ≡ abstractIn (cutAt ps k)
+  log-left = ap (drop (lost ps k)) (K .same) ∙ sym (cut-abstract ps k)
+
+  pub log-cut : (t : ℕ) → mark ≤ k → LogLike plan c (R.cutAt k log) mark k (W.serverAfter t x (W.crashes (lost ps k)))
+  unfolding W.serverAfter R.cutAt
+  log-cut t low =
+      record {
+        pairs = cutAt ps k;
+        founded = K .founded;
+        same = log-left;
+        marked = K .marked ∙ sym (cut-place ps k mark rising low);
+        good = K .good;
+        server = K .server;
+        number = K .number;
+        entries = ap (keep (λ (e : Entry). leb (e .end) k)) (K .entries) ∙ sym (cut-entries ps k rising);
+        chain = kept;
+        head = K .head;
+        synced = low;
+        within = most low;
+      }
+
 module _ {plan : List PlanEntry} {w : World} {v : W.World} (l : WorldLike plan w v) (c k : ℕ) (low : markOf (w .servers c) ≤ k) where
   -- a server that has a log
   module _ (log : Log) (q : keptBy (w .servers c) ≡ some log) where
@@ -50,45 +87,17 @@ module _ {plan : List PlanEntry} {w : World} {v : W.World} (l : WorldLike plan w
     abbrev zs : List Pair
     zs = K .pairs
 
-    rising : Rising zs
-    rising = chain-alike plan c (K .good) (K .server) zs (K .chain) .rising
-
-    kept : Chain plan c (cutAt zs k)
-    unfolding cutAt
-    kept = chain-drop plan c (lost zs k) zs (K .chain)
-
-    most : replay plan c (entriesIn (cutAt zs k)) .size ≤ k
-    most = chain-most plan c (cutAt zs k) k (omega (arith, K .head)) (cut-within zs k rising)
-
-    log-left : drop (lost zs k) (v .servers c .log) ≡ abstractIn (cutAt zs k)
-    log-left = ap (drop (lost zs k)) (K .same) ∙ sym (cut-abstract zs k)
-
     crash-like : WorldLike plan (withServer c (crashed (R.cutAt k log) k (markOf (w .servers c))) w) (W.step v (W.server c (W.crashes (lost zs k))))
-    unfolding W.serverAfter R.cutAt
     crash-like =
         like-server l c (crashed (R.cutAt k log) k (markOf (w .servers c))) (W.crashes (lost zs k))
-        (like-crashed (R.cutAt k log) k (markOf (w .servers c))
-        (record {
-          pairs = cutAt zs k;
-          founded = K .founded;
-          same = log-left;
-          marked = K .marked ∙ sym (cut-place zs k _ rising low);
-          good = K .good;
-          server = K .server;
-          number = K .number;
-          entries = ap (keep (λ (e : Entry). leb (e .end) k)) (K .entries) ∙ sym (cut-entries zs k rising);
-          chain = kept;
-          head = K .head;
-          synced = low;
-          within = most;
-        }))
+        (like-crashed (R.cutAt k log) k (markOf (w .servers c)) (log-cut K k (v .clock) low))
 
     log-after : W.step v (W.server c (W.crashes (lost zs k))) .servers c .log ≡ abstractIn (cutAt zs k)
     unfolding W.step W.serverAfter
-    log-after = rw (eqb-same c) log-left
+    log-after = rw (eqb-same c) (log-left K k)
 
     crash-cut : Cut v (W.step v (W.server c (W.crashes (lost zs k)))) c k
-    crash-cut = record { stays = stays; most = rw (log-after, ← chain-bytes plan c (cutAt zs k) kept) most }
+    crash-cut = record { stays = stays; most = rw (log-after, ← chain-bytes plan c (cutAt zs k) (kept K k)) (most K k low) }
       where
         stays : (t : List S.Entry) → Tail t (v .servers c .log) → bytesIn t ≤ k → Tail t (W.step v (W.server c (W.crashes (lost zs k))) .servers c .log)
         stays t u le =

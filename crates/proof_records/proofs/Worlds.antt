@@ -3,7 +3,7 @@
 --     calls-up, calls-down     a call of a server that runs, and of one that does not
 --     crash-kept, crash-none   a crash of a server that has a log, and of one that has none
 --     like-nothing, like-running, like-crashed     when a server is the protocol's
---     given-either, given-kept     the state that counts at the end
+--     given-either, given-kept, synced-kept     the state that counts, and the one of the synced records
 --     like-same, idle-step     nothing changes for the protocol
 --     like-server, like-server-same, like-tells, like-making     a server; what it makes
 --     like-client, like-client-same, like-leases, like-manager-same     a client, the lease manager
@@ -25,6 +25,7 @@ use Rattle.claim.specs.World.{withServer, making, withClient, withManager}
 use Rattle.claim.specs.RecordWorld.{World, Event, Server, Log, nothing, running, crashed, keptBy, callOf, calls, cutAt, crashAt, recoveredFrom, step}
 use Rattle.claim.specs.RecordProvisos.{markOf, lengthOf}
 use Rattle.claim.specs.RecordClaim.{stateGiven}
+use Rattle.claim.specs.RecordFence.{syncedState}
 use Rattle.proof_records.specs.Likeness.{entriesIn, placeOf}
 use Rattle.proof_records.specs.Worlds.{Running, LogLike, Replayed, ServerLike, Started, WorldLike}
 use lib.Dec.{eqb}
@@ -127,7 +128,7 @@ log-marked K t mark size h s w =
       within = w;
     }
 
--- ---- at the end
+-- ---- states that count
 
 module _ (plan : List ℕ) (es : List Event) where
   -- a server that counts: it runs, or it has a log that recovery is tried on
@@ -144,6 +145,13 @@ module _ (plan : List ℕ) (es : List Event) where
   given-kept nothing log e r = let z : _≡_ {A = ℕ} 0 1 = cc in absurd (omega arith)
   given-kept (running st g) log e r = (st, refl)
   given-kept (crashed g k mark) log e r = let q : g ≡ log = cc in rw q r
+
+  -- what is synced is what a crash at the mark would keep
+  pub synced-kept : (s : Server) (st : State) → syncedState plan es s ≡ some st → (log : Log) × (keptBy s ≡ some log) × (recoveredFrom plan (cutAt (markOf s) log) ≡ some st)
+  unfolding syncedState keptBy markOf
+  synced-kept nothing st e = let z : _≡_ {A = ℕ} 0 1 = cc in absurd (omega arith)
+  synced-kept (running x log) st e = (log, refl, e)
+  synced-kept (crashed log k mark) st e = (log, refl, e)
 
 module _ {plan : List PlanEntry} {w : World} {v : W.World} (l : WorldLike plan w v) where
   pub like-same : WorldLike plan w (W.step v W.same)

@@ -82,6 +82,14 @@ pub record Executed (w : World) (c p : ℕ) (v : Versions) (room : ℕ) (q : Req
   pub no-packet : callOf state log room (decision (request v bytes)) .made ≡ []
   pub parsed : parsePacket bytes ≡ Requested q
 
+-- a client's change that issues nothing
+abbrev pub NoIssue : W.ClientChange → Type 0
+NoIssue (W.starts t) = Unit {0}
+NoIssue (W.issues d op p a) = ⊥
+NoIssue (W.resends d c) = Unit {0}
+NoIssue (W.receives d i p r) = Unit {0}
+NoIssue (W.relets d t) = Unit {0}
+
 -- a change that demand 3 does not read
 abbrev pub Plain : W.Change → Type 0
 Plain W.same = Unit {0}
@@ -90,7 +98,7 @@ Plain (W.server c (W.writes a)) = NoExecution a
 Plain (W.server c (W.syncs m)) = Unit {0}
 Plain (W.server c (W.crashes j)) = ⊥
 Plain (W.tells c p) = Unit {0}
-Plain (W.client x k) = Unit {0}
+Plain (W.client x k) = NoIssue k
 Plain (W.leases m p) = Unit {0}
 
 -- an event that demand 3 does not read: a request that executes nothing, an issue or a receive refused, a crash of nothing
@@ -119,7 +127,8 @@ pub data Matched (w : World) (v v′ : W.World) : Event → W.Change → Type 0 
   executed : (c p : ℕ) (vs : Versions) (room : ℕ) (q : Request) (r : ResultZ) → Executed w c p vs room q
       → Matched w v v′ (R.request c p vs room) (W.server c (W.writes (S.executed (vs (q .command .op)) (q .command) (q .done) r)))
   cut : (c b j : ℕ) → Cut v v′ c b → Matched w v v′ (R.crash c b) (W.server c (W.crashes j))
-  issued : (x op p a : ℕ) (d : Client) → w .clients x ≡ some d → Matched w v v′ (R.issue x op p a) (W.client x (W.issues d op p a))
+  issued : (x op p a : ℕ) (d : Client) (q : Request) → w .clients x ≡ some d → issueOf d op p a .answer ≡ Asked q
+      → Matched w v v′ (R.issue x op p a) (W.client x (W.issues d op p a))
   received : (x p : ℕ) (d : Client) (b : List ℕ) (r : ResultPacket) → w .clients x ≡ some d → packet w p ≡ some b → receiveOf d b .answer ≡ Completed r
       → Matched w v v′ (R.receive x p) (W.client x (W.receives d (record { client = r .client; call = r .call }) (r .point) (resultMeant (r .result))))
   other : (e : Event) (a : W.Change) → Quiet w e → Plain a → Matched w v v′ e a
