@@ -76,32 +76,44 @@ module _ (plan : List ℕ) {r : R.World} {b : B.World} (l : WorldAlike (planOf p
       go false e s = let k : R.recoverOf [] g ≡ none = refl in apart (cc)
 
   -- an event without provisos of its own
+  free : (e : R.Event) → 5 ≤ kind e → RP.Typed e → Provided plan r e
+  unfolding kind
+  free e k t =
+      record {
+        typed = t;
+        founds = λ c p n st q z. absurd (omega (arith, k, ap kind q));
+        recovers = λ c p log st q x z. absurd (omega (arith, k, ap kind q));
+        crashes = λ c n q. absurd (omega (arith, k, ap kind q));
+        starts = λ p bs q x z. absurd (omega (arith, k, ap kind q));
+      }
+
+  -- and neither crash, request nor issue
   plain : (y : B.Event) (e : R.Event) → kind e ≡ 5 → RP.Typed e → Decodes plan r b y e
   unfolding kind
   plain y e k t =
       record {
-        provided =
-            record {
-              typed = t;
-              founds = λ c p n st q z. absurd (omega (arith, k, ap kind q));
-              recovers = λ c p log st q x z. absurd (omega (arith, k, ap kind q));
-              crashes = λ c n q. absurd (omega (arith, k, ap kind q));
-              starts = λ p bs q x z. absurd (omega (arith, k, ap kind q));
-            };
+        provided = free e (omega (arith, k)) t;
         crashes = λ c n q. absurd (omega (arith, k, ap kind q));
         requests = λ c p vs room q. absurd (omega (arith, k, ap kind q));
+        issues = λ x op p n q. absurd (omega (arith, k, ap kind q));
       }
 
-  -- no crash and no request, with these provisos
+  -- no crash, request or issue, with these provisos
   bare : (y : B.Event) (e : R.Event) → ((c k : ℕ) → e ≡ R.crash c k → ⊥) → ((c p : ℕ) (vs : Versions) (room : ℕ) → e ≡ R.request c p vs room → ⊥)
-      → Provided plan r e → Decodes plan r b y e
-  bare y e f g P = record { provided = P; crashes = λ c k q. absurd (f c k q); requests = λ c p vs room q. absurd (g c p vs room q) }
+      → ((x op p n : ℕ) → e ≡ R.issue x op p n → ⊥) → Provided plan r e → Decodes plan r b y e
+  bare y e f g h P =
+      record {
+        provided = P;
+        crashes = λ c k q. absurd (f c k q);
+        requests = λ c p vs room q. absurd (g c p vs room q);
+        issues = λ x op p n q. absurd (h x op p n q);
+      }
 
   pub decodes : (y : B.Event) → Allowed plan b y → Decodes plan r b y (decoded b y)
   unfolding decoded kind RP.Typed BP.Typed
   decodes (B.found c state log p n) a =
       let P : List ℕ = planIf (foundOf state log p n) p in
-      bare _ _ (λ d k q. apart (cc)) (λ d x vs room q. apart (cc))
+      bare _ _ (λ d k q. apart (cc)) (λ d x vs room q. apart (cc)) (λ x op d k q. apart (cc))
       (record {
         typed = plan-bytes (foundOf state log p n) p (a .typed .1);
         founds =
@@ -135,6 +147,7 @@ module _ (plan : List ℕ) {r : R.World} {b : B.World} (l : WorldAlike (planOf p
             let m : vs ≡ us = cc in
             let k : room ≡ roomOf (b .servers c) u (u .out) resultSize = cc in
             (u, rw (i, j, m) refl, rw i at k);
+        issues = λ x op d k q. apart (cc);
       }
   decodes (B.fetch c x n u) a = plain _ _ refl (room-counted u (u .out) resultSize (b .servers c) (a .typed))
   decodes (B.sync c m u) a = plain _ _ refl (room-counted u [] 0 (b .servers c) (a .typed))
@@ -146,7 +159,7 @@ module _ (plan : List ℕ) {r : R.World} {b : B.World} (l : WorldAlike (planOf p
   decodes (B.release c p u) a = plain _ _ refl (room-counted u [] 0 (b .servers c) (a .typed))
   decodes (B.recover c state log p) a =
       let P : List ℕ = planIf (recoverOf state log p) p in
-      bare _ _ (λ d k q. apart (cc)) (λ d x vs room q. apart (cc))
+      bare _ _ (λ d k q. apart (cc)) (λ d x vs room q. apart (cc)) (λ x op d k q. apart (cc))
       (record {
         typed = tt;
         founds = λ d x k st q z. apart (cc);
@@ -172,9 +185,10 @@ module _ (plan : List ℕ) {r : R.World} {b : B.World} (l : WorldAlike (planOf p
             };
         crashes = λ d k q. let i : c ≡ d = cc in let j : n ≡ k = cc in rw (i, j) refl;
         requests = λ d x vs room q. apart (cc);
+        issues = λ y op d k q. apart (cc);
       }
   decodes (B.start p) a =
-      bare _ _ (λ d k q. apart (cc)) (λ d x vs room q. apart (cc))
+      bare _ _ (λ d k q. apart (cc)) (λ d x vs room q. apart (cc)) (λ x op d k q. apart (cc))
       (record {
         typed = tt;
         founds = λ d x k st q z. apart (cc);
@@ -182,7 +196,19 @@ module _ (plan : List ℕ) {r : R.World} {b : B.World} (l : WorldAlike (planOf p
         crashes = λ d k q. apart (cc);
         starts = λ x bs q e s. let i : x ≡ p = cc in same-client l (startOf bs .client .client) ∙ a .starts p bs refl (sym (same-packet l p) ∙ (rw i at e)) s;
       })
-  decodes (B.issue x op p n) a = plain _ _ refl (a .typed)
+  decodes (B.issue x op p n) a =
+      record {
+        provided = free _ (omega arith) (a .typed);
+        crashes = λ d k q. apart (cc);
+        requests = λ d y vs room q. apart (cc);
+        issues =
+            λ y o d k q.
+            let i : x ≡ y = cc in
+            let j : op ≡ o = cc in
+            let m : p ≡ d = cc in
+            let t : n ≡ k = cc in
+            rw (i, j, m, t) refl;
+      }
   decodes (B.resend x c) a = plain _ _ refl (a .typed)
   decodes (B.receive x p) a = plain _ _ refl (a .typed)
   decodes (B.open·lease n span) a = plain _ _ refl (a .typed)

@@ -1,8 +1,9 @@
 -- Demand 3 over bytes, from demand 3 over states and log records: what issues, completes or survives over bytes does so over records, what
 -- survives over records survives over bytes, and the servers count with the same states at the end.
---     issues-here, completes-here
+--     issues-here, issues-there, completes-here
+--     executes-here, executes-there
 --     survives-here, survives-there
---     same-final, recovers-end
+--     same-given, same-final, recovers-end
 --     from-records
 -- Assumes nothing.
 use Prim.Native.Nat.{ℕ, suc, _≤_}
@@ -51,6 +52,14 @@ request-left : (vs : Versions) (t : Lent) → Counted t → (b : List ℕ) → B
 unfolding decision output outputSize operated
 request-left vs t ok b h K = call-left (request vs b) h t ok K .answer
 
+-- a server counts with the same state in both worlds
+pub same-given : (plan : List ℕ) (ys : List B.Event) (es : List R.Event) (c : ℕ) {x : R.Server} {y : B.Server} → ServerAlike (planOf plan) c x y
+    → BC.stateGiven plan ys y ≡ RC.stateGiven plan es x
+unfolding RC.stateGiven BC.stateGiven
+same-given plan ys es c nothing = refl
+same-given plan ys es c (running K) = ap some (K .loads)
+same-given plan ys es c (crashed K) = recovered-either plan c (K .number) (K .keeps)
+
 module _ (plan : List ℕ) (ys : List B.Event) (P : BP.Provisos plan ys) where
   abbrev r : ℕ → R.World
   r n = R.after (schedule ys) n
@@ -61,7 +70,7 @@ module _ (plan : List ℕ) (ys : List B.Event) (P : BP.Provisos plan ys) where
   client-here : (n x : ℕ) → r n .clients x ≡ b n .clients x
   client-here n x = same-client (both-at plan ys P n .alike) x
 
-  packet-here : (n p : ℕ) → packet (r n) p ≡ packet (b n) p
+  pub packet-here : (n p : ℕ) → packet (r n) p ≡ packet (b n) p
   packet-here n p = same-packet (both-at plan ys P n .alike) p
 
   made-bytes : (n p : ℕ) (x : List ℕ) → packet (b n) p ≡ some x → Bytes x
@@ -80,6 +89,22 @@ module _ (plan : List ℕ) (ys : List B.Event) (P : BP.Provisos plan ys) where
         event = at-here plan ys P n (B.issue (i .client) (i .op) (i .point) (i .argument)) (i .event);
         state = i .state;
         started = client-here n (i .client) ∙ i .started;
+        asked = i .asked;
+        answer = i .answer;
+        its = i .its;
+      }
+
+  pub issues-there : (n : ℕ) (k : List Command) → RC.Issues plan (schedule ys) n k → BC.Issues plan ys n k
+  issues-there n k i =
+      let e = at-back plan ys P n (R.issue (i .client) (i .op) (i .point) (i .argument)) (i .event) in
+      record {
+        client = i .client;
+        op = i .op;
+        point = i .point;
+        argument = i .argument;
+        event = subst (BP.At plan ys n) (e .2 .issues (i .client) (i .op) (i .point) (i .argument) refl) (e .1);
+        state = i .state;
+        started = sym (client-here n (i .client)) ∙ i .started;
         asked = i .asked;
         answer = i .answer;
         its = i .its;
@@ -108,7 +133,7 @@ module _ (plan : List ℕ) (ys : List B.Event) (P : BP.Provisos plan ys) where
   unfolding BP.Typed
   counted n c p vs t a = P .typed n (B.request c p vs t) a
 
-  executes-here : (n c : ℕ) (k : Marked) → BC.Executes plan ys n c k → RC.Executes plan (schedule ys) n c k
+  pub executes-here : (n c : ℕ) (k : Marked) → BC.Executes plan ys n c k → RC.Executes plan (schedule ys) n c k
   unfolding decoded
   executes-here n c k x =
       let u = running-here (both-at plan ys P n .alike .servers c) (x .state) (x .log) (x .up) in
@@ -190,13 +215,8 @@ module _ (plan : List ℕ) (ys : List B.Event) (P : BP.Provisos plan ys) where
   -- ---- the end
 
   same-final : (c : ℕ) → BC.finalState plan ys c ≡ RC.finalState plan (schedule ys) c
-  unfolding RC.finalState BC.finalState RC.stateGiven BC.stateGiven
-  same-final c = go (end-alike plan ys P .servers c)
-    where
-      go : {x : R.Server} {y : B.Server} → ServerAlike (planOf plan) c x y → BC.stateGiven plan ys y ≡ RC.stateGiven plan (schedule ys) x
-      go nothing = refl
-      go (running K) = ap some (K .loads)
-      go (crashed K) = recovered-either plan c (K .number) (K .keeps)
+  unfolding RC.finalState BC.finalState
+  same-final c = same-given plan ys (schedule ys) c (end-alike plan ys P .servers c)
 
   recovers-end : BC.Recovers plan ys
   recovers-end c kept mark = go (end-alike plan ys P .servers c)

@@ -13,3 +13,4 @@ pub mod FromRecords
 pub mod Holders
 pub mod NotVacuous
 pub mod Demand3
+pub mod Fence

@@ -29,9 +29,10 @@ pub record Allowed (plan : List ℕ) (w : B.World) (y : B.Event) : Type 0 where
   pub crashes : (c k : ℕ) → y ≡ B.crash c k → (BP.markOf (w .servers c) ≤ k) × (k ≤ BP.lengthOf (w .servers c))
   pub starts : (p : ℕ) (b : List ℕ) → y ≡ B.start p → packet w p ≡ some b → startOf b .answer ≡ Running → w .clients (startOf b .client .client) ≡ none
 
--- the event e over records of the event y over bytes: its provisos; a crash is that crash, a request that request
+-- the event e over records of the event y over bytes: its provisos; a crash is that crash, a request that request, an issue that issue
 pub record Decodes (plan : List ℕ) (r : R.World) (b : B.World) (y : B.Event) (e : R.Event) : Type 0 where
   pub provided : Provided plan r e
   pub crashes : (c k : ℕ) → e ≡ R.crash c k → y ≡ B.crash c k
   pub requests : (c p : ℕ) (vs : Versions) (room : ℕ) → e ≡ R.request c p vs room
       → (t : Lent) × (y ≡ B.request c p vs t) × (room ≡ roomOf (b .servers c) t (t .out) resultSize)
+  pub issues : (x op p a : ℕ) → e ≡ R.issue x op p a → y ≡ B.issue x op p a

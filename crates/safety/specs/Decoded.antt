@@ -58,7 +58,7 @@ decodedFrom w (y ∷ ys) = decoded w y ∷ decodedFrom (B.step w y) ys
 abbrev pub schedule : List B.Event → List R.Event
 schedule ys = decodedFrom B.emptyWorld ys
 
--- the events with provisos of their own, and requests; 5 is every other one
+-- the events with provisos of their own, requests and issues; 5 is every other one
 unfoldable pub kind : R.Event → ℕ
 kind (R.found c plan n) = 0
 kind (R.request c p vs room) = 1
@@ -73,7 +73,7 @@ kind (R.release c p room) = 5
 kind (R.recover c plan) = 2
 kind (R.crash c k) = 3
 kind (R.start p) = 4
-kind (R.issue x op p a) = 5
+kind (R.issue x op p a) = 6
 kind (R.resend x c) = 5
 kind (R.receive x p) = 5
 kind (R.open·lease t span) = 5
