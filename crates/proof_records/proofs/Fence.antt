@@ -1,7 +1,7 @@
 -- The fence over states and log records, from the protocol's: each event is one change, and what is fenced off over records is so in the run.
 --     held-within              a held point is one of the points
 --     fenced-there             a client fenced off from a point
---     fence-from-protocol
+--     fence-from-protocol, fence-records
 -- Assumes nothing.
 use Prim.Native.Nat.{ℕ, _≤_}
 use mathlib.Core.Path.{_≡_, refl, sym, _∙_, ap, subst}
@@ -20,6 +20,7 @@ use Rattle.proof_protocol.specs.Servers as S
 use Rattle.proof_protocol.specs.World as W
 use Rattle.proof_protocol.specs.Allowed.{Made}
 use Rattle.proof_protocol.specs.Fence as P
+use Rattle.proof_protocol.proofs.Fence.{fenced}
 use Rattle.claim.specs.World.{packet}
 use Rattle.claim.specs.Fence.{NoticedIn}
 use Rattle.claim.specs.RecordWorld.{World, Event, emptyWorld}
@@ -85,3 +86,6 @@ unfolding P.Fence RF.Fence
 fence-from-protocol H plan es ok =
     let r = followed plan es ok in
     fences-here plan es (r .0) (r .1) (H (planOf plan) (r .0) (run-of (r .1)))
+
+pub fence-records : RF.Fence
+fence-records = fence-from-protocol fenced
