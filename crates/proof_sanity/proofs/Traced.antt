@@ -1,5 +1,7 @@
 -- What the trace of a schedule says of it.
---     provisos-kept            events that pass their tests keep the provisos
+--     provisos-from            a schedule whose events pass their tests keeps the provisos
+--     provisos-kept            so does one whose trace says so
+--     done-world               an event run once
 --     call-at                  what is seen of event n
 --     end-at                   what is seen at the end
 --     kept-after               crashes past an event keep enough
@@ -150,7 +152,7 @@ request-world c v l (running state log) (some b) w e = rw e
 request-world c v l (crashed kept mark) none w e = refl
 request-world c v l (crashed kept mark) (some b) w e = rw e
 
-done-world : (w : World) (e : Event) → done w e .world ≡ step w e
+pub done-world : (w : World) (e : Event) → done w e .world ≡ step w e
 unfolding done step
 done-world w (found c state log p n) = refl
 done-world w (request c p v l) = request-world c v l (w .servers c) (packet w p) w refl
@@ -171,6 +173,46 @@ done-world w (receive x p) = refl
 done-world w (open·lease t span) = refl
 done-world w (renew x t span) = refl
 done-world w (query x t) = refl
+
+-- ---- the provisos
+
+-- of a schedule whose every event passes its tests
+module _ (plan : List ℕ) (es : List Event) (passed : (n : ℕ) (x : Event) → getElem? es n ≡ some x → (typedOk x && keepsOk plan (after es n) x) ≡ true) where
+  keeps-at : (n : ℕ) (x : Event) → getElem? es n ≡ some x → keepsOk plan (after es n) x ≡ true
+  keeps-at n x q = and-right (typedOk x) (keepsOk plan (after es n) x) (passed n x q)
+
+  found-at : (n c : ℕ) (state log q : List ℕ) (k : ℕ) → getElem? es n ≡ some (found c state log q k) → (q ≡ plan) × (k ≡ c) × (after es n .servers c ≡ nothing)
+  unfolding keepsOk
+  found-at n c state log q k a =
+      three (sameBytes q plan) (eqb k c) (isNothing (after es n .servers c)) (same-bytes q plan) (eqb-true k c) (is-nothing (after es n .servers c)) (keeps-at n _ a)
+
+  recover-at : (n c : ℕ) (state log q : List ℕ) → getElem? es n ≡ some (recover c state log q) → (q ≡ plan) × (keptBy (after es n .servers c) ≡ some log)
+  unfolding keepsOk
+  recover-at n c state log q a =
+      both (sameBytes q plan) (keptIs log (keptBy (after es n .servers c))) (same-bytes q plan) (kept-is log (keptBy (after es n .servers c))) (keeps-at n _ a)
+
+  crash-at : (n c k : ℕ) → getElem? es n ≡ some (crash c k) → (markOf (after es n .servers c) ≤ k) × (k ≤ lengthOf (after es n .servers c))
+  unfolding keepsOk
+  crash-at n c k a =
+      both (leb (markOf (after es n .servers c)) k) (leb k (lengthOf (after es n .servers c))) (leb-true _ _) (leb-true _ _) (keeps-at n (crash c k) a)
+
+  start-at : (n k : ℕ) (b : List ℕ) → getElem? es n ≡ some (start k) → packet (after es n) k ≡ some b → after es n .clients (startOf b .client .client) ≡ none
+  unfolding keepsOk
+  start-at n k b a q = starts-new (after es n) (packet (after es n) k) b (keeps-at n (start k) a) q
+
+  pub provisos-from : Provisos plan es
+  unfolding At
+  provisos-from =
+      record {
+        typed = λ n x q. typed-ok x (and-left (typedOk x) (keepsOk plan (after es n) x) (passed n x q));
+        one-plan = λ n c state log q k a z. found-at n c state log q k a .0;
+        plan-again = λ n c state log q a z. recover-at n c state log q a .0;
+        own-number = λ n c state log q k a z. found-at n c state log q k a .1;
+        founded-once = λ n c state log q k a z. found-at n c state log q k a .2;
+        crash-keeps = λ n c k a. crash-at n c k a;
+        recovery-uses = λ n c state log q a z. recover-at n c state log q a .1;
+        started-once = λ n k b a q z. start-at n k b a q;
+      }
 
 module _ (plan : List ℕ) (p : ℕ) where
   row-from : (w : World) (es : List Event) (n : ℕ) (e : Event) → getElem? es n ≡ some e
@@ -201,48 +243,9 @@ module _ (plan : List ℕ) (p : ℕ) where
     unfolding run
     end-at = sym (end-from emptyWorld es) ∙ ap (λ (y : Trace). y .end) e
 
-    -- ---- the provisos
-
-    module _ (h : every (λ r. r .ok) (t .rows) ≡ true) where
-      passed : (n : ℕ) (x : Event) → getElem? es n ≡ some x → (typedOk x && keepsOk plan (after es n) x) ≡ true
-      unfolding seenAt seenWith
-      passed n x q = every-row (λ r. r .ok) (t .rows) h n (seenAt plan (after es n) x) (row-at n x q)
-
-      keeps-at : (n : ℕ) (x : Event) → getElem? es n ≡ some x → keepsOk plan (after es n) x ≡ true
-      keeps-at n x q = and-right (typedOk x) (keepsOk plan (after es n) x) (passed n x q)
-
-      found-at : (n c : ℕ) (state log q : List ℕ) (k : ℕ) → getElem? es n ≡ some (found c state log q k) → (q ≡ plan) × (k ≡ c) × (after es n .servers c ≡ nothing)
-      unfolding keepsOk
-      found-at n c state log q k a =
-          three (sameBytes q plan) (eqb k c) (isNothing (after es n .servers c)) (same-bytes q plan) (eqb-true k c) (is-nothing (after es n .servers c)) (keeps-at n _ a)
-
-      recover-at : (n c : ℕ) (state log q : List ℕ) → getElem? es n ≡ some (recover c state log q) → (q ≡ plan) × (keptBy (after es n .servers c) ≡ some log)
-      unfolding keepsOk
-      recover-at n c state log q a =
-          both (sameBytes q plan) (keptIs log (keptBy (after es n .servers c))) (same-bytes q plan) (kept-is log (keptBy (after es n .servers c))) (keeps-at n _ a)
-
-      crash-at : (n c k : ℕ) → getElem? es n ≡ some (crash c k) → (markOf (after es n .servers c) ≤ k) × (k ≤ lengthOf (after es n .servers c))
-      unfolding keepsOk
-      crash-at n c k a =
-          both (leb (markOf (after es n .servers c)) k) (leb k (lengthOf (after es n .servers c))) (leb-true _ _) (leb-true _ _) (keeps-at n (crash c k) a)
-
-      start-at : (n k : ℕ) (b : List ℕ) → getElem? es n ≡ some (start k) → packet (after es n) k ≡ some b → after es n .clients (startOf b .client .client) ≡ none
-      unfolding keepsOk
-      start-at n k b a q = starts-new (after es n) (packet (after es n) k) b (keeps-at n (start k) a) q
-
-      pub provisos-kept : Provisos plan es
-      unfolding At
-      provisos-kept =
-          record {
-            typed = λ n x q. typed-ok x (and-left (typedOk x) (keepsOk plan (after es n) x) (passed n x q));
-            one-plan = λ n c state log q k a z. found-at n c state log q k a .0;
-            plan-again = λ n c state log q a z. recover-at n c state log q a .0;
-            own-number = λ n c state log q k a z. found-at n c state log q k a .1;
-            founded-once = λ n c state log q k a z. found-at n c state log q k a .2;
-            crash-keeps = λ n c k a. crash-at n c k a;
-            recovery-uses = λ n c state log q a z. recover-at n c state log q a .1;
-            started-once = λ n k b a q z. start-at n k b a q;
-          }
+    pub provisos-kept : every (λ r. r .ok) (t .rows) ≡ true → Provisos plan es
+    unfolding seenAt seenWith
+    provisos-kept h = provisos-from plan es (λ n x q. every-row (λ r. r .ok) (t .rows) h n (seenAt plan (after es n) x) (row-at n x q))
 
 -- ---- crashes
 
@@ -378,7 +381,7 @@ down-of p (crashed b m) kept mark e = cc
 
 -- ---- requests
 
-answer-of : (v : Versions) (l : Lent) (s : Server) (o : Option (List ℕ)) (a : Answer) → requestAnswer v l s o ≡ some a → Answered v l s o a
+pub answer-of : (v : Versions) (l : Lent) (s : Server) (o : Option (List ℕ)) (a : Answer) → requestAnswer v l s o ≡ some a → Answered v l s o a
 unfolding requestAnswer
 answer-of v l nothing o a e = impossible e
 answer-of v l (running state log) none a e = impossible e

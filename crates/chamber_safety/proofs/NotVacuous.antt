@@ -1,0 +1,68 @@
+-- The lock's theorem speaks of something: the schedule of Handed keeps every proviso. Controller 1 starts, opens the upper gate and is lost; its successor
+-- starts and opens the lower gate. Both openings survive.
+--     not-vacuous
+-- Assumes nothing.
+use Prim.Native.Nat.{ℕ, suc}
+use mathlib.Core.Path.{_≡_, refl, ap, _∙_}
+use mathlib.Core.Bool.{true}
+use mathlib.Core.List.{List}
+use mathlib.Core.Logic.{inl, inr}
+use lib.IntN.{pos}
+use Rattle.model.specs.declared.Command.{Command}
+use Rattle.model.specs.Tables.{every}
+use Rattle.model.specs.Plan.{planOf}
+use Rattle.model.specs.Versions.{today}
+use Rattle.model.specs.Sequential.{ReadingZ, markedBy, opened}
+use Rattle.model.specs.Yard.{yardPlan}
+use Rattle.model_laws.specs.Opened.{openNumbers, openTables, openPlan, openBook}
+use Rattle.claim.specs.World.{Event, after}
+use Rattle.claim.specs.Provisos.{lengthOf}
+use Rattle.claim.specs.Claim.{Executes, SurvivesAt}
+use Rattle.proof_sanity.specs.Trace.{keepsMany}
+use Rattle.chamber_claim.specs.Safe.{events, Begins, IsGate, LockProvisos}
+use Rattle.chamber_safety.specs.Kept.{cutOk}
+use Rattle.chamber_safety.specs.Handed.{lockPoints, noticeNumber, lentAll, upperOpened, lowerOpened, handed, looks}
+use Rattle.chamber_safety.proofs.Kept.{lock-provisos, begins-there, executes-there, crash-keeps}
+use Rattle.chamber_safety.proofs.Computed.{handed-passes}
+
+abbrev es : List Event
+es = events yardPlan lockPoints handed
+
+-- all points of the plan fall back to 0
+falls-to : (opened (planOf yardPlan) 10 .value ≡ pos 0) × (opened (planOf yardPlan) 11 .value ≡ pos 0)
+unfolding openNumbers openTables openPlan openBook yardPlan
+falls-to = (refl, refl)
+
+provisos : LockProvisos yardPlan lockPoints handed
+provisos = lock-provisos yardPlan lockPoints 0 noticeNumber handed looks handed-passes fall
+  where
+    fall : (p : ℕ) → IsGate yardPlan lockPoints handed p → opened (planOf yardPlan) p .value ≡ pos 0
+    fall p (inl z) = rw z (falls-to .0)
+    fall p (inr z) = rw z (falls-to .1)
+
+-- there is no crash
+stands : (n : ℕ) (k : Command) → Executes yardPlan es n 0 (markedBy today k) → SurvivesAt yardPlan es n (markedBy today k)
+unfolding handed every cutOk keepsMany
+stands n k e = record { server = 0; executes = e; kept = λ j b h a. crash-keeps yardPlan lockPoints handed 0 (lengthOf (after es (suc n) .servers 0)) refl j b a }
+
+upper-opened : SurvivesAt yardPlan es 32 (markedBy today upperOpened)
+unfolding handed looks
+upper-opened = stands 32 upperOpened (executes-there yardPlan lockPoints 0 noticeNumber handed looks handed-passes 32 0 13 today lentAll upperOpened refl refl)
+
+lower-opened : SurvivesAt yardPlan es 62 (markedBy today lowerOpened)
+unfolding handed looks
+lower-opened = stands 62 lowerOpened (executes-there yardPlan lockPoints 0 noticeNumber handed looks handed-passes 62 0 26 today lentAll lowerOpened refl refl)
+
+pub not-vacuous : LockProvisos yardPlan lockPoints handed
+    × Begins yardPlan lockPoints handed 3 1
+    × SurvivesAt yardPlan es 32 (markedBy today upperOpened)
+    × Begins yardPlan lockPoints handed 38 3
+    × SurvivesAt yardPlan es 62 (markedBy today lowerOpened)
+unfolding handed looks
+not-vacuous = (
+  provisos,
+  begins-there yardPlan lockPoints 0 noticeNumber handed looks handed-passes 3 0 1 refl refl,
+  upper-opened,
+  begins-there yardPlan lockPoints 0 noticeNumber handed looks handed-passes 38 15 3 refl refl,
+  lower-opened,
+)
