@@ -86,7 +86,7 @@ issue-asked d op p a q s = go (issue-case d op p a)
         let g : requestFor (asking d op p a) (newCall d op p a) ≡ q = cc in
         (ap (λ (x : SendAnswer). x .client) e, ap (λ (x : Request). x .command) (sym g))
 
-resend-same : (d : Client) (c : ℕ) → resendOf d c .client ≡ d
+pub resend-same : (d : Client) (c : ℕ) → resendOf d c .client ≡ d
 unfolding resendOf notSent sent
 resend-same d c = choose (λ (a : SendAnswer). a .client ≡ d) (isOpen d c) (λ _. refl) (λ _. refl)
 

@@ -1,0 +1,4 @@
+-- The lock's theorem. Orders: places of an order and the book at them. Commands: what an accepted command and a start passed. Controllers: the
+-- controllers along a schedule. Safe: the theorem.
+pub mod Orders
+pub mod Commands
