@@ -2,3 +2,4 @@
 -- controllers along a schedule. Safe: the theorem.
 pub mod Orders
 pub mod Commands
+pub mod Controllers

@@ -1,5 +1,6 @@
 -- Clients along a run of the kernel.
 --     issue-case, receive-case          the exits of issue and receive, as far as the calls go
+--     first-under                       no open call is before the first open one
 --     after-step, at-once               a world after one event more; event n is one event
 --     becomes                           what an event makes of a client
 --     issue-after, receive-after, start-after    the client after a call of it
@@ -15,10 +16,11 @@ use mathlib.Core.List.{List, [], _∷_}
 use mathlib.Core.Logic.{_⊎_, inl, inr}
 use mathlib.Core.Option.{Option, none, some}
 use native.Mathlib.Omega.{arith}
-use lib.ListN.{take, getElem?}
-use lib.Dec.{eqb, leb}
-use borrow.Author.Tests.{eqb-true, eq-eqb, leb-true, leb-false}
+use lib.ListN.{take, getD, getElem?}
+use lib.Dec.{eqb, leb, ltb}
+use borrow.Author.Tests.{eqb-true, eq-eqb, leb-true, leb-false, ltb-true, ltb-false}
 use Rattle.model_laws.proofs.Tests.{choose}
+use Rattle.model.specs.declared.OpenCall.{OpenCall}
 use Rattle.model.specs.declared.Client.{Client}
 use Rattle.model.specs.declared.Command.{Command}
 use Rattle.model.specs.declared.Request.{Request}
@@ -35,7 +37,7 @@ use Rattle.model.specs.Choice.{pick}
 use Rattle.model.specs.Limits.{last32, callWindow}
 use Rattle.model.specs.Refusals.{malformed, windowFull, numbersOut, noRefusal}
 use Rattle.model.specs.Packets.{parsePacket, commandOk}
-use Rattle.model.specs.Clients.{firstOpen, isOpen, isOwn, closed, withCalls, withLease, withCall, newCall, requestFor, notSent, sent, notReceived, startOf, issueOf, resendOf, receiveOf, receiveWith, receiveResult, receiveRefusal, receiveGrant, sentBytes}
+use Rattle.model.specs.Clients.{noCall, placeOf, callAt, leastOpen, firstOpen, isOpen, isOwn, closed, withCalls, withLease, withCall, newCall, requestFor, notSent, sent, notReceived, startOf, issueOf, resendOf, receiveOf, receiveWith, receiveResult, receiveRefusal, receiveGrant, sentBytes}
 use Rattle.model.specs.Operations.{After}
 use Rattle.claim.specs.World.{World, WorldOf, Server, nothing, running, crashed, Lent, Event, found, request, fetch, sync, notice, give, image, take·image, receipt, release, recover, crash, start, issue, resend, receive, open·lease, renew, query, withServer, withClient, withManager, making, calls, callsOn, foundAs, crashAt, startsAs, startsOn, sends, receives, told, packet, step, emptyWorld, runFrom, run, after}
 use Rattle.claim.specs.Provisos.{At, Provisos}
@@ -89,6 +91,31 @@ issue-asked d op p a q s = go (issue-case d op p a)
 pub resend-same : (d : Client) (c : ℕ) → resendOf d c .client ≡ d
 unfolding resendOf notSent sent
 resend-same d c = choose (λ (a : SendAnswer). a .client ≡ d) (isOpen d c) (λ _. refl) (λ _. refl)
+
+-- the first open call is no later than any open one
+lesser-under : (c n : ℕ) → (pick (leb 1 c && ltb c n) c n ≤ n) × (1 ≤ c → pick (leb 1 c && ltb c n) c n ≤ c)
+lesser-under c n = go (leb 1 c) refl (ltb c n) refl
+  where
+    go : (u : Bool) → leb 1 c ≡ u → (v : Bool) → ltb c n ≡ v → (pick (u && v) c n ≤ n) × (1 ≤ c → pick (u && v) c n ≤ c)
+    go true e true f = let h = ltb-true c n f in (omega arith, λ _. omega arith)
+    go true e false f = let h = ltb-false c n f in (omega arith, λ _. h)
+    go false e v f = let h = leb-false 1 c e in (omega arith, λ g. absurd (omega arith))
+
+least-under : (n : ℕ) (ks : List OpenCall) → leastOpen n ks ≤ n
+unfolding leastOpen
+least-under n [] = omega arith
+least-under n (k ∷ ks) = let h = least-under (pick (leb 1 (k .call) && ltb (k .call) n) (k .call) n) ks in omega (arith, lesser-under (k .call) n .0)
+
+least-each : (n : ℕ) (ks : List OpenCall) (i : ℕ) → 1 ≤ getD ks i noCall .call → leastOpen n ks ≤ getD ks i noCall .call
+unfolding leastOpen
+least-each n [] i h = absurd (omega arith)
+least-each n (k ∷ ks) zero h =
+    let u = least-under (pick (leb 1 (k .call) && ltb (k .call) n) (k .call) n) ks in let l = lesser-under (k .call) n .1 h in omega arith
+least-each n (k ∷ ks) (suc i) h = least-each (pick (leb 1 (k .call) && ltb (k .call) n) (k .call) n) ks i h
+
+pub first-under : (d : Client) (c : ℕ) → 1 ≤ c → callAt d c .call ≡ c → firstOpen d ≤ c
+unfolding firstOpen callAt
+first-under d c h e = let l = least-each (d .next) (d .calls) (placeOf c) (omega arith) in omega arith
 
 -- only a result changes the open calls
 pub data ReceiveCase (d : Client) (b : List ℕ) : Type 0 where
