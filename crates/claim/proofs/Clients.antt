@@ -1,5 +1,6 @@
 -- Clients along a run of the kernel.
 --     issue-case, receive-case          the exits of issue and receive, as far as the calls go
+--     start-fresh                       a started client: 16 places, the next number 1
 --     first-under                       no open call is before the first open one
 --     after-step, at-once               a world after one event more; event n is one event
 --     becomes                           what an event makes of a client
@@ -16,7 +17,7 @@ use mathlib.Core.List.{List, [], _∷_}
 use mathlib.Core.Logic.{_⊎_, inl, inr}
 use mathlib.Core.Option.{Option, none, some}
 use native.Mathlib.Omega.{arith}
-use lib.ListN.{take, getD, getElem?}
+use lib.ListN.{length, take, getD, getElem?}
 use lib.Dec.{eqb, leb, ltb}
 use borrow.Author.Tests.{eqb-true, eq-eqb, leb-true, leb-false, ltb-true, ltb-false}
 use Rattle.model_laws.proofs.Tests.{choose}
@@ -27,17 +28,18 @@ use Rattle.model.specs.declared.Request.{Request}
 use Rattle.model.specs.declared.ResultPacket.{ResultPacket}
 use Rattle.model.specs.declared.Packet.{Packet}
 use Rattle.model.specs.declared.Packet.the-variants.{Malformed, Requested, Resulted, Refused, Receipted, Noticed, Granted}
+use Rattle.model.specs.declared.Grant.{Grant}
 use Rattle.model.specs.declared.Started.{Started}
 use Rattle.model.specs.declared.Started.the-variants.{NotStarted, Running}
 use Rattle.model.specs.declared.Sent.the-variants.{NotSent, Asked}
 use Rattle.model.specs.declared.Received.the-variants.{NotReceived, Completed, Denied, Extended}
 use Rattle.model.specs.declared.SendAnswer.{SendAnswer}
 use Rattle.model.specs.declared.ReceiveAnswer.{ReceiveAnswer}
-use Rattle.model.specs.Choice.{pick}
+use Rattle.model.specs.Choice.{pick, orElse}
 use Rattle.model.specs.Limits.{last32, callWindow}
 use Rattle.model.specs.Refusals.{malformed, windowFull, numbersOut, noRefusal}
-use Rattle.model.specs.Packets.{parsePacket, commandOk}
-use Rattle.model.specs.Clients.{noCall, placeOf, callAt, leastOpen, firstOpen, isOpen, isOwn, closed, withCalls, withLease, withCall, newCall, requestFor, notSent, sent, notReceived, startOf, issueOf, resendOf, receiveOf, receiveWith, receiveResult, receiveRefusal, receiveGrant, sentBytes}
+use Rattle.model.specs.Packets.{parsePacket, commandOk, asGrant}
+use Rattle.model.specs.Clients.{noCall, placeOf, callAt, leastOpen, firstOpen, isOpen, isOwn, closed, withCalls, withLease, withCall, newCall, requestFor, notSent, sent, notReceived, notStarted, started as begunBy, startOf, startWith, issueOf, resendOf, receiveOf, receiveWith, receiveResult, receiveRefusal, receiveGrant, sentBytes}
 use Rattle.model.specs.Operations.{After}
 use Rattle.claim.specs.World.{World, WorldOf, Server, nothing, running, crashed, Lent, Event, found, request, fetch, sync, notice, give, image, take·image, receipt, release, recover, crash, start, issue, resend, receive, open·lease, renew, query, withServer, withClient, withManager, making, calls, callsOn, foundAs, crashAt, startsAs, startsOn, sends, receives, told, packet, step, emptyWorld, runFrom, run, after}
 use Rattle.claim.specs.Provisos.{At, Provisos}
@@ -47,6 +49,14 @@ pub impossible : {A : Type 0} → _≡_ {A = ℕ} 0 1 → A
 impossible e = absurd (omega arith)
 
 -- ---- one client
+
+pub start-fresh : (b : List ℕ) → startOf b .answer ≡ Running → (length (startOf b .client .calls) ≡ callWindow) × (startOf b .client .next ≡ 1)
+unfolding startOf startWith
+start-fresh b = go (asGrant (parsePacket b))
+  where
+    go : (g : Option Grant) → orElse g notStarted begunBy .answer ≡ Running → (length (orElse g notStarted begunBy .client .calls) ≡ callWindow) × (orElse g notStarted begunBy .client .next ≡ 1)
+    go none e = impossible cc
+    go (some g) e = (refl, refl)
 
 abbrev pub asking : Client → ℕ → ℕ → ℕ → Client
 asking d op p a = withCall d (newCall d op p a)
