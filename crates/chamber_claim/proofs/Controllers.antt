@@ -3,9 +3,8 @@
 --     begins-none, begins-after    a start: the client was not there, the controller is
 --     lock-step                    what an event makes of a controller
 --     held                         what holds of a controller after n events: `Held`
---     stays                        a controller stays
---     all-done                     when a controller's command is issued, those before it are completed
---     succeeded                    who started earlier is fenced off from both gates when the later one starts
+--     none-open                    when a controller's command is issued, those before it are completed
+--     there-on, begun-at           a controller is there from its start on
 -- Assumes nothing.
 use Prim.Native.Nat.{ℕ, zero, suc, _<_, _≤_}
 use mathlib.Core.Path.{_≡_, refl, sym, _∙_, ap, subst}
@@ -55,12 +54,12 @@ module _ (plan : List ℕ) (s : LockPoints) (ls : List LockEvent) where
   abbrev pub world : ℕ → World
   world n = after (events plan s ls) n
 
-  abbrev AtKernel : ℕ → Event → Type 0
+  abbrev pub AtKernel : ℕ → Event → Type 0
   AtKernel n e = At plan (events plan s ls) n e
 
   -- ---- events
 
-  at-lock-once : (n : ℕ) (o e : LockEvent) → AtLock plan s ls n o → AtLock plan s ls n e → o ≡ e
+  pub at-lock-once : (n : ℕ) (o e : LockEvent) → AtLock plan s ls n o → AtLock plan s ls n e → o ≡ e
   unfolding AtLock
   at-lock-once n o e h k = let q : some o ≡ some e = sym h ∙ k in cc
 
@@ -72,7 +71,7 @@ module _ (plan : List ℕ) (s : LockPoints) (ls : List LockEvent) where
   unfolding At AtLock eventAt
   kernel-event n o h = rw (site-world (lockProduct s) ls n) at (event-there (lockProduct s) ls n o h)
 
-  lock-after : (n : ℕ) (o : LockEvent) → AtLock plan s ls n o → lockAt plan s ls (suc n) ≡ lockAfter s (world n) (lockAt plan s ls n) o
+  pub lock-after : (n : ℕ) (o : LockEvent) → AtLock plan s ls n o → lockAt plan s ls (suc n) ≡ lockAfter s (world n) (lockAt plan s ls n) o
   unfolding AtLock stepSite
   lock-after n o h =
       ap (λ (z : Site (lockProduct s)). z .parts) (site-step (lockProduct s) ls n o h) ∙ ap (λ (w : World). lockAfter s w (lockAt plan s ls n) o) (site-world (lockProduct s) ls n)
@@ -235,7 +234,7 @@ module _ (plan : List ℕ) (s : LockPoints) (ls : List LockEvent) where
 
   -- ---- starts
 
-  begins-event : (n x : ℕ) (b : Begins plan s ls n x) → (AtKernel n (start (b .number))) × (packet (world n) (b .number) ≡ some (b .bytes))
+  pub begins-event : (n x : ℕ) (b : Begins plan s ls n x) → (AtKernel n (start (b .number))) × (packet (world n) (b .number) ≡ some (b .bytes))
   unfolding lockEvent startEvent unlessRefused
   begins-event n x b =
       let d : packet (world n) (b .number) ≡ some (b .bytes) = rw (site-world (lockProduct s) ls n) at (b .delivered) in
@@ -246,7 +245,7 @@ module _ (plan : List ℕ) (s : LockPoints) (ls : List LockEvent) where
   unfolding newChamber
   begins-client n x b = ap (λ (z : Chamber). z .client .client) (sym (started s (b .bytes) (b .answer) .2)) ∙ b .its
 
-  begins-after : (n x : ℕ) (b : Begins plan s ls n x) → (lockAt plan s ls (suc n) .controllers x ≡ some (startIn (b .bytes) s .chamber)) × (lockAt plan s ls (suc n) .latest ≡ some x)
+  pub begins-after : (n x : ℕ) (b : Begins plan s ls n x) → (lockAt plan s ls (suc n) .controllers x ≡ some (startIn (b .bytes) s .chamber)) × (lockAt plan s ls (suc n) .latest ≡ some x)
   unfolding lockAfter startsOn startsAs withController
   begins-after n x b =
       let d = begins-event n x b .1 in
@@ -277,14 +276,14 @@ module _ (plan : List ℕ) (s : LockPoints) (ls : List LockEvent) where
     pub value : result .value ≡ g .value
     pub completes : Completes plan (events plan s ls) at (read ∷ []) (one (resultMeant result))
 
-  abbrev callOf : Command → OpenCall
+  abbrev pub callOf : Command → OpenCall
   callOf k = record { call = k .call; op = k .op; point = k .point; argument = k .argument }
 
   -- k is open among the calls
-  abbrev OpenIn : List OpenCall → Command → Type 0
+  abbrev pub OpenIn : List OpenCall → Command → Type 0
   OpenIn ks k = (1 ≤ k .call) × (getD ks (placeOf (k .call)) noCall ≡ callOf k)
 
-  abbrev IssuedBy : ℕ → ℕ → Command → Type 0
+  abbrev pub IssuedBy : ℕ → ℕ → Command → Type 0
   IssuedBy x j k = Issues plan (events plan s ls) j (k ∷ []) × (k .client ≡ x)
 
   pub record Held (n x : ℕ) (ch : Chamber) : Type 0 where
@@ -315,7 +314,7 @@ module _ (plan : List ℕ) (s : LockPoints) (ls : List LockEvent) where
   done-on r = record { at = r .at; soon = let h = r .soon in omega arith; result = r .result; completes = r .completes }
 
   -- an event before n, or n
-  last-or : (j n : ℕ) → j < suc n → (j < n) ⊎ (j ≡ n)
+  pub last-or : (j n : ℕ) → j < suc n → (j < n) ⊎ (j ≡ n)
   last-or j n h = go (ltb j n) refl
     where
       go : (b : Bool) → ltb j n ≡ b → (j < n) ⊎ (j ≡ n)
@@ -436,6 +435,18 @@ module _ (plan : List ℕ) (s : LockPoints) (ls : List LockEvent) where
           done = λ j k h i. let u = after-begin n x j k b i in absurd (omega arith);
         })
 
+    -- when a command of a controller is issued, those before it are completed
+    pub none-open : (n x op p a : ℕ) (c : Commands n x op p a) → Held n x (c .chamber) → (j : ℕ) (k : Command) → j < n → IssuedBy x j k → Done n k
+    none-open n x op p a c h j k l i = go (h .done j k l i)
+      where
+        go : Done n k ⊎ OpenIn (c .chamber .client .calls) k → Done n k
+        go (inl f) = f
+        go (inr f) =
+            let u = first-under (c .chamber .client) (k .call) (f .0) (unfold callAt in (ap (λ (z : OpenCall). z .call) (f .1))) in
+            let v = issued-below plan (events plan s ls) kernels j n k (c .chamber .client) (i .0) l (ap (world n .clients) (i .1) ∙ h .client) in
+            let w = passed (c .chamber) op p a (c .request) (c .answer) .free in
+            absurd (omega arith)
+
     held-asked : (n x op p a : ℕ) (c : Commands n x op p a) → Held n x (c .chamber) → Held (suc n) x (issueIn (c .chamber) op p a .chamber)
     unfolding withCall withCalls newCall readAt
     held-asked n x op p a c h =
@@ -476,15 +487,7 @@ module _ (plan : List ℕ) (s : LockPoints) (ls : List LockEvent) where
 
         done : Passed (c .chamber) op p a (c .request) → (issueOf (c .chamber .client) op p a .client ≡ asking (c .chamber .client) op p a) × (c .request .command ≡ commandOf (c .chamber .client) op p a)
             → (j : ℕ) (k : Command) → IssuedBy x j k → (j < n) ⊎ (j ≡ n) → Done (suc n) k ⊎ OpenIn (asking (c .chamber .client) op p a .calls) k
-        done t i j k m (inl l) = inl (done-on (none-open t j k m l (h .done j k l m)))
-          where
-            none-open : Passed (c .chamber) op p a (c .request) → (j : ℕ) (k : Command) → IssuedBy x j k → j < n → Done n k ⊎ OpenIn (c .chamber .client .calls) k → Done n k
-            none-open t j k m l (inl f) = f
-            none-open t j k m l (inr f) =
-                let u = first-under (c .chamber .client) (k .call) (f .0) (unfold callAt in (ap (λ (z : OpenCall). z .call) (f .1))) in
-                let v = below j k m l in
-                let w = t .free in
-                absurd (omega arith)
+        done t i j k m (inl l) = inl (done-on (none-open n x op p a c h j k l m))
         done t i j k m (inr l) =
             let e = is t (i .1) k (subst (λ (z : ℕ). IssuedBy x z k) l m) in
             let d = c .chamber .client in
