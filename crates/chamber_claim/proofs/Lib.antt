@@ -4,3 +4,4 @@ pub mod Orders
 pub mod Commands
 pub mod Controllers
 pub mod Successors
+pub mod Safe
