@@ -9,6 +9,7 @@ use model::Started;
 pub const LOCK_POINTS: usize = 5;
 
 // The points of a lock. The upper gate stands between levels 1 and 2, the lower between 2 and 3.
+#[repr(C)]
 pub struct LockPoints {
     pub upper: u8,
     pub lower: u8,
@@ -18,6 +19,7 @@ pub struct LockPoints {
 }
 
 // A point's latest completed read; call 0: none yet.
+#[repr(C)]
 pub struct LatestRead {
     pub call: u32,
     pub value: u32,
@@ -25,6 +27,7 @@ pub struct LatestRead {
 }
 
 // moved: the call number of the last set or part issued, 0: none. reads: by role, in the order of the points.
+#[repr(C)]
 pub struct Chamber {
     pub client: Client,
     pub points: LockPoints,

@@ -56,7 +56,7 @@ pub struct ReceiveChange {
 
 // ---- open calls
 
-fn no_call() -> OpenCall
+pub fn no_call() -> OpenCall
     ensures { λ r. ⌜ r ≡ noCall ⌝ }
 {
     OpenCall {
@@ -73,7 +73,7 @@ pub fn place_of(c: u32) -> usize
     (c % constants::CALL_WINDOW_U32) as usize
 }
 
-fn call_at(d: Client, c: u32) -> OpenCall
+pub fn call_at(d: Client, c: u32) -> OpenCall
     ensures { λ r. ⌜ r ≡ callAt d c ⌝ }
 {
     let ks = d.calls;
@@ -103,7 +103,7 @@ fn least_open(n: u32, ks: [OpenCall; CALL_WINDOW]) -> u32
     least
 }
 
-fn first_open(d: Client) -> u32
+pub fn first_open(d: Client) -> u32
     ensures { λ r. ⌜ (r ≡ firstOpen d) × (length (d .calls) ≡ callWindow) ⌝ }
 {
     let ks = d.calls;

@@ -1,0 +1,2 @@
+-- Laws that the proofs of `chamber` cite, and laws and cases of the definitions.
+pub mod Answers
