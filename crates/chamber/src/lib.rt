@@ -339,12 +339,13 @@ pub fn resend(ch: Chamber, call: u32) -> ChamberSend
     let e = s.client;
     let answer = s.answer;
     let points = ch.points;
+    let moved = ch.moved;
     let reads = ch.reads;
     ChamberSend {
         chamber: Chamber {
             client: e,
             points,
-            moved: ch.moved,
+            moved,
             reads,
         },
         answer,

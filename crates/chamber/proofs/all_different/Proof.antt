@@ -1,8 +1,8 @@
 -- `chamber::all_different` meets its contract.
 -- Assumes nothing.
-use mathlib.Core.Path.{refl}
-use mathlib.Core.Bool.{not}
-use lib.Dec.{eqb}
+use mathlib.Core.Path.{_≡_, refl}
+use mathlib.Core.Bool.{true, _&&_}
+use Prim.Native.Nat.{ℕ}
 use Rattle.model.specs.Tables.{every}
 use Rattle.chamber.proofs.Answers.{and-true}
 use Rattle.chamber_claim.specs.Chamber.{allDifferent, isOther}
@@ -11,7 +11,10 @@ use Rattle.chamber.proofs.all_different.Tie as tie
 
 returns : tie.Need-returns
 unfolding every isOther allDifferent
-returns c = let s = c .before .before .before .before .before .before .before .before .before .before .args .s in rw (and-true (not (eqb (s .level3) (s .upper))), and-true (not (eqb (s .level3) (s .lower))), and-true (not (eqb (s .level3) (s .level1))), and-true (not (eqb (s .level3) (s .level2))), and-true (not (eqb (s .level3) (s .level2)))) refl
+returns c =
+    let s = c .before .before .before .before .before .before .before .before .before .before .args .s in
+    let last : (p : ℕ) → (isOther p (s .level3) && true) ≡ isOther p (s .level3) = λ p. and-true (isOther p (s .level3)) in
+    rw (last (s .upper), last (s .lower), last (s .level1), last (s .level2), last (s .level2)) refl
 
 pub all-different-spec : {M : Type 1} → statement M
 all-different-spec = tie.close (tie.spec returns)

@@ -9,7 +9,10 @@ use Rattle.chamber.proofs.reads_with.Tie as tie
 
 returns : tie.Need-returns
 unfolding readsWith
-returns c = rw (← c .before .before .before .before .before .before .before .call-at .ensures, c .before .before .before .before .before .if1 .taken, ← c .before .before .role-in .ensures, ← c .before .read-by .ensures) (c .stored .ensures)
+returns c =
+    let role = c .before .before in
+    let test = role .before .before .before in
+    rw (← test .before .before .call-at .ensures, test .if1 .taken, ← role .role-in .ensures, ← c .before .read-by .ensures) (c .stored .ensures)
 
 returns-2 : tie.Need-returns-2
 unfolding readsWith
