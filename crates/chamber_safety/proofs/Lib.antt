@@ -1,3 +1,4 @@
 pub mod Kept
 pub mod Computed
 pub mod NotVacuous
+pub mod Locks
