@@ -11,12 +11,14 @@ PICTURE = 'docs/pictures/house.svg'
 PRODUCT = [
     ('programs and C interfaces', lambda n: n in ('yard', 'kernel', 'client_c') or n.endswith('_c')),
     ('simulator', lambda n: n.startswith('simulator')),
+    ('above the kernel: the lock chamber controller', lambda n: n == 'chamber'),
     ('parties beside the server', lambda n: n in ('client', 'leases')),
     ('server: calls, decisions, changes', lambda n: n.startswith('server_')),
     ('state: tables in the lent buffer', lambda n: n.startswith('state_')),
     ('format: packets, images, log', lambda n: n.startswith('format_')),
 ]
 PROOF = [
+    ('the lock, on the promises below', lambda n: n in ('chamber_claim', 'chamber_safety')),
     ('safety: demand 3', lambda n: n == 'safety'),
     ('proof: layers under it', lambda n: n.startswith('proof_')),
     ('claim: demand 3 stated', lambda n: n.startswith('claim')),

@@ -13,12 +13,11 @@ use Rattle.model.specs.Limits.{readOp, setOp, stepOp, reportOp, faultOp, partOp
 use Rattle.model.specs.Refusals.{noRefusal, malformed, windowFull, numbersOut, notSafe}
 use Rattle.model.specs.Packets.{grantBytes, resultBytes}
 use Rattle.model.specs.Clients.{noCall, startNumber, sendNumber}
-use Rattle.model_laws.specs.Opened.{Opens, openNumbers, openTables, openRules, openPackets, openClients}
 use Rattle.chamber_claim.specs.declared.LockPoints.{LockPoints}
 use Rattle.chamber_claim.specs.declared.Chamber.{Chamber}
 use Rattle.chamber_claim.specs.declared.ChamberSend.{ChamberSend}
-use Rattle.chamber_claim.specs.Chamber.{roleIn, isOther, allDifferent, isPoint, pointsOk, opOk, readAt, isOpening, validGate, validLevel, near, closedSeen, levelsSeen, clear, mayOpen}
-use Rattle.chamber_claim.specs.Chamber.{newChamber, noChamber, notStartedIn, startedIn, startIn, notSentIn, movedBy, sentIn, issueIn, readBy, readsWith, readsBy, receiveIn}
+use Rattle.chamber_claim.specs.Chamber.{newChamber, startIn, issueIn, receiveIn}
+use Rattle.chamber_claim.proofs.Opened.{openChamber}
 
 -- ---- runs
 
@@ -215,22 +214,10 @@ starts =
 
 -- ---- computed
 
-unfoldable pub openReads : Opens
-unfolding roleIn opOk readAt isOpening validGate validLevel near closedSeen levelsSeen clear mayOpen
-openReads = tt
-
-unfoldable pub openStarts : Opens
-unfolding openNumbers openTables openRules openPackets openClients isOther allDifferent isPoint pointsOk newChamber noChamber notStartedIn startedIn startIn
-openStarts = tt
-
-unfoldable pub openChamber : Opens
-unfolding openStarts openReads notSentIn movedBy sentIn issueIn readBy readsWith readsBy receiveIn
-openChamber = tt
-
 pub chamber-cases : map runs cases ≡ map awaited cases
 unfolding openChamber cases runs awaited numbers hears new late
 chamber-cases = refl
 
 pub start-cases : map started starts ≡ map wanted starts
-unfolding openStarts starts started wanted
+unfolding openChamber starts started wanted
 start-cases = refl

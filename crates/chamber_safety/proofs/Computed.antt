@@ -10,27 +10,11 @@ use Rattle.claim.specs.Above as Above
 use Rattle.claim.proofs.Opened.{openWorld}
 use Rattle.model_laws.specs.Opened.{Opens}
 use Rattle.proof_sanity.specs.Trace as Trace
-use Rattle.chamber_claim.specs.Chamber as Chamber
 use Rattle.chamber_claim.specs.Lock as Lock
+use Rattle.chamber_claim.proofs.Opened.{openChamber}
 use Rattle.chamber_safety.specs.Kept as Kept
 use Rattle.chamber_safety.specs.Kept.{passes}
 use Rattle.chamber_safety.specs.Handed.{lockPoints, noticeNumber, handed, looks}
-
-unfoldable openReads : Opens
-unfolding Chamber.roleIn Chamber.isOther Chamber.allDifferent Chamber.isPoint Chamber.pointsOk Chamber.opOk Chamber.readAt Chamber.isOpening Chamber.validGate
-openReads = tt
-
-unfoldable openStarts : Opens
-unfolding openReads Chamber.validLevel Chamber.near Chamber.closedSeen Chamber.levelsSeen Chamber.clear Chamber.mayOpen Chamber.newChamber Chamber.noChamber
-openStarts = tt
-
-unfoldable openChamber : Opens
-unfolding openStarts Chamber.notStartedIn Chamber.startedIn Chamber.startIn
-openChamber = tt
-
-unfoldable openCalls : Opens
-unfolding Chamber.notSentIn Chamber.movedBy Chamber.sentIn Chamber.issueIn Chamber.resendIn Chamber.readBy Chamber.readsWith Chamber.readsBy Chamber.receiveIn
-openCalls = tt
 
 unfoldable openLockEvents : Opens
 unfolding Lock.noLock Lock.withController Lock.unlessRefused Lock.startEvent Lock.unlessNotSent Lock.issueEvent Lock.ifThere Lock.lockEvent Lock.startsAs
@@ -57,5 +41,5 @@ unfolding openLooks Kept.doneSilently Kept.sameCommand Kept.asksFor Kept.packetA
 openKept = tt
 
 pub handed-passes : passes yardPlan lockPoints 0 noticeNumber (Above.emptySite (Lock.lockProduct lockPoints)) handed looks ≡ true
-unfolding openWorld openChamber openCalls openLock openTests openKept handed looks
+unfolding openWorld openChamber openLock openTests openKept handed looks
 handed-passes = refl
