@@ -5,40 +5,37 @@
 --     gate-op, closed-seen     its op is read, set or part; an opening saw the other gate closed, since the last set or part
 --     asked-chamber, heard-same, ended-chamber, again-same     the controller after it
 -- Assumes nothing.
-use Prim.Native.Nat.{ℕ, zero, suc, _<_, _≤_}
-use mathlib.Core.Path.{_≡_, refl, sym, _∙_, ap, subst}
+use Prim.Native.Nat.{ℕ, zero, _<_, _≤_}
+use mathlib.Core.Path.{_≡_, refl, sym, _∙_, ap}
 use mathlib.Core.Bool.{Bool, true, false, _&&_, _||_, not}
 use mathlib.Core.List.{List, [], _∷_}
 use native.Mathlib.Omega.{arith}
 use lib.Dec.{eqb, leb, ltb}
-use lib.ListN.{getD, set}
 use borrow.Author.Tests.{eqb-true, eqb-false, eq-eqb, ne-eqb, ltb-true, ltb-false, not-true, not-false}
-use Rattle.model.specs.declared.Client.{Client}
-use Rattle.model.specs.declared.Command.{Command}
 use Rattle.model.specs.declared.Request.{Request}
 use Rattle.model.specs.declared.ResultPacket.{ResultPacket}
 use Rattle.model.specs.declared.Started.{Started}
 use Rattle.model.specs.declared.Started.the-variants.{NotStarted, Running}
-use Rattle.model.specs.declared.Sent.{Sent}
 use Rattle.model.specs.declared.Sent.the-variants.{NotSent, Asked}
 use Rattle.model.specs.declared.Received.{Received}
 use Rattle.model.specs.declared.Received.the-variants.{NotReceived, Completed, Denied, Extended}
 use Rattle.model.specs.declared.SendAnswer.{SendAnswer}
-use Rattle.model.specs.declared.ReceiveAnswer.{ReceiveAnswer}
 use Rattle.model.specs.Choice.{pick}
 use Rattle.model.specs.Numbers.{half}
 use Rattle.model.specs.Limits.{readOp, setOp, partOp}
 use Rattle.model.specs.Refusals.{malformed, windowFull, notSafe}
 use Rattle.model.specs.Packets.{commandOk}
 use Rattle.model.specs.Tables.{every}
-use Rattle.model.specs.Clients.{callAt, closed, firstOpen, startOf, notSent, sent, issueOf, resendOf, receiveOf, withLease}
+use Rattle.model.specs.Clients.{closed, firstOpen, startOf, notSent, sent, issueOf, receiveOf, withLease}
 use Rattle.model_laws.proofs.Tests.{and-left, and-right, choose}
-use Rattle.claim.proofs.Clients.{impossible, asking, commandOf, IssueCase, issue-case, issue-asked, resend-same}
+use Rattle.claim.proofs.Clients.{impossible, asking, IssueCase, issue-case, issue-asked, resend-same}
 use Rattle.chamber_claim.specs.declared.LockPoints.{LockPoints}
 use Rattle.chamber_claim.specs.declared.LatestRead.{LatestRead}
 use Rattle.chamber_claim.specs.declared.Chamber.{Chamber}
 use Rattle.chamber_claim.specs.declared.ChamberSend.{ChamberSend}
-use Rattle.chamber_claim.specs.Chamber.{upperGate, lowerGate, lowerLevel, pointList, roleIn, isOther, allDifferent, isPoint, pointsOk, opOk, readAt, isOpening, validGate, closedSeen, levelsSeen, clear, mayOpen, newChamber, notStartedIn, startedIn, startIn, notSentIn, movedBy, sentIn, issueIn, resendIn, readsWith, readsBy, receiveIn}
+use Rattle.chamber_claim.specs.Chamber.{upperGate, lowerGate, lowerLevel, pointList, roleIn, isOther, allDifferent, isPoint, pointsOk, opOk, readAt, isOpening, validGate, closedSeen}
+use Rattle.chamber_claim.specs.Chamber.{levelsSeen, clear, mayOpen, newChamber, notStartedIn, startedIn, startIn, notSentIn, movedBy, sentIn, issueIn, resendIn, readsWith, readsBy}
+use Rattle.chamber_claim.specs.Chamber.{receiveIn}
 use Rattle.chamber_claim.proofs.Orders.{GateOp}
 
 -- ---- start
@@ -156,51 +153,47 @@ pub record Passed (ch : Chamber) (op p a : ℕ) (q : Request) : Type 0 where
   pub leaves : issueIn ch op p a .chamber
       ≡ record { client = asking (ch .client) op p a; points = ch .points; moved = pick (eqb op readOp) (ch .moved) (ch .client .next); reads = ch .reads }
 
-module _ (ch : Chamber) (op p a : ℕ) where
-  data IssueInCase : Type 0 where
-    refused : (n : ℕ) → issueIn ch op p a ≡ notSentIn ch n → IssueInCase
-    issued : opOk (roleIn (ch .points) p) op ≡ true → ch .client .next ≤ firstOpen (ch .client) → (isOpening op a ≡ true → mayOpen ch (roleIn (ch .points) p) ≡ true)
-        → issueIn ch op p a ≡ sentIn ch op (issueOf (ch .client) op p a) → IssueInCase
+unless-not : (i m : Bool) → (i && not m) ≡ false → i ≡ true → m ≡ true
+unless-not true m e h = not-false m e
+unless-not false m e h = impossible cc
 
-  issue-in-case : IssueInCase
+module _ (ch : Chamber) (op p a : ℕ) where
+  data IssueInCase : ChamberSend → Type 0 where
+    refused : (n : ℕ) → IssueInCase (notSentIn ch n)
+    issued : opOk (roleIn (ch .points) p) op ≡ true → ch .client .next ≤ firstOpen (ch .client) → (isOpening op a ≡ true → mayOpen ch (roleIn (ch .points) p) ≡ true)
+        → IssueInCase (sentIn ch op (issueOf (ch .client) op p a))
+
+  issue-in-case : IssueInCase (issueIn ch op p a)
   unfolding issueIn
   issue-in-case =
-      go (commandOk op p a) (opOk (roleIn (ch .points) p) op) (ltb (firstOpen (ch .client)) (ch .client .next)) (isOpening op a) (mayOpen ch (roleIn (ch .points) p)) refl refl refl refl refl
-    where
-      go : (c o l i y : Bool) → commandOk op p a ≡ c → opOk (roleIn (ch .points) p) op ≡ o → ltb (firstOpen (ch .client)) (ch .client .next) ≡ l → isOpening op a ≡ i
-          → mayOpen ch (roleIn (ch .points) p) ≡ y → IssueInCase
-      go false o l i y e f g h j = refused malformed (rw e refl)
-      go true false l i y e f g h j = refused malformed (rw (e, f) refl)
-      go true true true i y e f g h j = refused windowFull (rw (e, f, g) refl)
-      go true true false true false e f g h j = refused notSafe (rw (e, f, g, h, j) refl)
-      go true true false true true e f g h j = issued f (ltb-false _ _ g) (λ _. j) (rw (e, f, g, h, j) refl)
-      go true true false false y e f g h j = issued f (ltb-false _ _ g) (λ z. let k : false ≡ true = sym h ∙ z in impossible cc) (rw (e, f, g, h) refl)
+      choose IssueInCase _ (λ _. refused malformed)
+      (λ e. choose IssueInCase _ (λ _. refused windowFull)
+      (λ f. choose IssueInCase _ (λ _. refused notSafe)
+      (λ g. issued (and-right (commandOk op p a) (opOk (roleIn (ch .points) p) op) (not-false _ e)) (ltb-false _ _ f) (unless-not (isOpening op a) (mayOpen ch (roleIn (ch .points) p)) g))))
 
   pub passed : (q : Request) → issueIn ch op p a .answer ≡ Asked q → Passed ch op p a q
   unfolding notSentIn sentIn movedBy
-  passed q e = go issue-in-case
+  passed q e = go issue-in-case refl
     where
-      go : IssueInCase → Passed ch op p a q
-      go (refused n f) = let k : NotSent n ≡ Asked q = ap (λ (z : ChamberSend). z .answer) (sym f) ∙ e in impossible cc
-      go (issued o l y f) =
-          let k : issueOf (ch .client) op p a .answer ≡ Asked q = ap (λ (z : ChamberSend). z .answer) (sym f) ∙ e in
+      go : {z : ChamberSend} → IssueInCase z → z ≡ issueIn ch op p a → Passed ch op p a q
+      go (refused n) f = let k : NotSent n ≡ Asked q = ap (λ (z : ChamberSend). z .answer) f ∙ e in impossible cc
+      go (issued o l y) f =
+          let k : issueOf (ch .client) op p a .answer ≡ Asked q = ap (λ (z : ChamberSend). z .answer) f ∙ e in
           let i = issue-asked (ch .client) op p a q k in
-          record { op-is = gate-op _ op o; free = l; safe = y; as-client = k; leaves = ap (λ (z : ChamberSend). z .chamber) f ∙ rw (k, i .0, i .1) refl }
+          record { op-is = gate-op _ op o; free = l; safe = y; as-client = k; leaves = ap (λ (z : ChamberSend). z .chamber) (sym f) ∙ rw (k, i .0, i .1) refl }
 
   -- a refusal leaves the controller
   pub refused-same : (n : ℕ) → issueIn ch op p a .answer ≡ NotSent n → issueIn ch op p a .chamber ≡ ch
   unfolding notSentIn sentIn movedBy notSent sent
-  refused-same n e = go issue-in-case
+  refused-same n = go issue-in-case
     where
-      by-client : IssueCase (ch .client) op p a → issueIn ch op p a ≡ sentIn ch op (issueOf (ch .client) op p a) → issueIn ch op p a .chamber ≡ ch
-      by-client (IssueCase.refused m g) f = ap (λ (z : ChamberSend). z .chamber) f ∙ rw g refl
-      by-client (IssueCase.issued g) f =
-          let h : issueIn ch op p a .answer ≡ issueOf (ch .client) op p a .answer = ap (λ (z : ChamberSend). z .answer) f in
-          let k : sent _ _ .answer ≡ NotSent n = ap (λ (z : SendAnswer). z .answer) (sym g) ∙ sym h ∙ e in impossible cc
-
-      go : IssueInCase → issueIn ch op p a .chamber ≡ ch
-      go (refused m f) = ap (λ (z : ChamberSend). z .chamber) f
-      go (issued o l y f) = by-client (issue-case (ch .client) op p a) f
+      go : {z : ChamberSend} → IssueInCase z → z .answer ≡ NotSent n → z .chamber ≡ ch
+      go (refused m) e = refl
+      go (issued o l y) e = by-client (issue-case (ch .client) op p a)
+        where
+          by-client : IssueCase (ch .client) op p a → sentIn ch op (issueOf (ch .client) op p a) .chamber ≡ ch
+          by-client (IssueCase.refused m g) = rw g refl
+          by-client (IssueCase.issued g) = let k : sent _ _ .answer ≡ NotSent n = ap (λ (z : SendAnswer). z .answer) (sym g) ∙ e in impossible cc
 
 -- ---- resend and receive
 

@@ -4,28 +4,29 @@
 --     book-step, book-past    the book one place on
 --     answered                a result is the book's at a place
 --     other-value             an entry leaves other points
+--     read-opens-none         a read is no opening
 --     gate-value              a value 0 stays under read, set and part, but for an opening
 --     read-value              a read answers the value
 -- Assumes nothing.
 use Prim.Native.Nat.{ℕ, zero, suc, _<_}
 use mathlib.Core.Path.{_≡_, refl, sym, _∙_, ap, subst}
-use mathlib.Core.Bool.{Bool, true, false, _&&_, _||_, not}
+use mathlib.Core.Bool.{Bool, true, false, _||_}
 use mathlib.Core.List.{List, [], _∷_, List·Memᴰ·head, List·Memᴰ·tail, List·Memᴰ·not-nil, List·Memᴰ·cases-cons, List·Memᴰ·eq-of-singleton}
 use mathlib.Core.Logic.{_⊎_, inl, inr}
-use mathlib.Core.Option.{Option, none, some}
+use mathlib.Core.Option.{none, some}
 use native.Mathlib.Omega.{arith}
 use lib.Dec.{eqb}
 use lib.IntN.{pos}
 use lib.ListN.{take, getElem?}
-use borrow.Author.Tests.{eqb-true, eqb-false}
+use borrow.Author.Tests.{eqb-true, eqb-false, ne-eqb}
 use Rattle.model.specs.declared.PlanEntry.{PlanEntry}
 use Rattle.model.specs.declared.Command.{Command}
 use Rattle.model.specs.declared.CommandResult.{CommandResult}
-use Rattle.model.specs.Choice.{pick}
 use Rattle.model.specs.Numbers.{half, signed}
 use Rattle.model.specs.Plan.{entryAt}
-use Rattle.model.specs.Limits.{readOp, setOp, partOp, carriedOut, outOfRange, valid}
-use Rattle.model.specs.Sequential.{Marked, OrderEntry, single, parts, commands, EntryResult, one, ResultZ, resultZ, EntryZ, ReadingZ, Book, resultMeant, afterZ, entryZ, inRangeZ, setZ, readZ, ruleZ, answerZ, entered, answerTo, bookWith, bookAfter, Answers, here, later}
+use Rattle.model.specs.Limits.{readOp, setOp, partOp}
+use Rattle.model.specs.Sequential.{Marked, OrderEntry, single, parts, commands, EntryResult, one, ResultZ, EntryZ, ReadingZ, Book, resultMeant, afterZ, entryZ, inRangeZ, setZ, readZ, ruleZ}
+use Rattle.model.specs.Sequential.{answerZ, answerTo, bookWith, bookAfter, Answers, here, later}
 use Rattle.model_laws.proofs.Tests.{choose}
 use Rattle.model_laws.proofs.Book.{untouched, single-here}
 use Rattle.claim.specs.Claim.{_∈_, Once, none-left, one-more, Before}
@@ -96,6 +97,19 @@ before-places o i j k m p q b =
 abbrev pub GateOp : ℕ → Type 0
 GateOp op = (eqb op readOp || (eqb op setOp || eqb op partOp)) ≡ true
 
+-- a part, and a set but to 0, is an opening; a read is none
+part-opens : (op a : ℕ) → op ≡ partOp → isOpening op a ≡ true
+unfolding isOpening
+part-opens op a e = rw e refl
+
+set-opens : (op a : ℕ) → op ≡ setOp → (a ≡ half → ⊥) → isOpening op a ≡ true
+unfolding isOpening
+set-opens op a e f = rw (e, ne-eqb a half f) refl
+
+pub read-opens-none : (op a : ℕ) → op ≡ readOp → isOpening op a ≡ true → ⊥
+unfolding isOpening
+read-opens-none op a e h = let k : false ≡ true = rw e at h in impossible cc
+
 module _ (plan : List PlanEntry) where
   pub book-step : (b : Book) (order : List OrderEntry) (k : ℕ) (e : OrderEntry) → getElem? order k ≡ some e
       → bookAfter plan b (take (suc k) order) ≡ bookWith plan (bookAfter plan b (take k order)) e
@@ -123,19 +137,19 @@ module _ (plan : List PlanEntry) where
 
     rule-value : (e : EntryZ) (r : ReadingZ) → GateOp (m .command .op) → isOpening (m .command .op) (m .command .argument) ≡ false → r .value ≡ pos 0
         → ruleZ (m .version) e (m .command .op) (signed (m .command .argument)) r .value ≡ pos 0
-    unfolding isOpening ruleZ readZ setZ signed
-    rule-value e r g n z = go (eqb (m .command .op) readOp) (eqb (m .command .op) setOp) (eqb (m .command .op) partOp) (eqb (m .command .argument) half) refl refl refl refl g n
+    unfolding ruleZ readZ setZ signed
+    rule-value e r g n z = go (eqb (m .command .op) readOp) refl (eqb (m .command .op) setOp) refl (eqb (m .command .op) partOp) refl (eqb (m .command .argument) half) refl g
       where
-        go : (u v w t : Bool) → eqb (m .command .op) readOp ≡ u → eqb (m .command .op) setOp ≡ v → eqb (m .command .op) partOp ≡ w → eqb (m .command .argument) half ≡ t
-            → (u || (v || w)) ≡ true → (w || (v && not t)) ≡ false
-            → ruleZ (m .version) e (m .command .op) (signed (m .command .argument)) r .value ≡ pos 0
-        go true v w t p q x y g n = rw p z
-        go false true w true p q x y g n =
-            rw (p, q, eqb-true (m .command .argument) half y) (choose (λ (a : ResultZ). a .value ≡ pos 0) (inRangeZ e (pos 0)) (λ _. refl) (λ _. z))
-        go false true true false p q x y g n = impossible cc
-        go false true false false p q x y g n = impossible cc
-        go false false true t p q x y g n = impossible cc
-        go false false false t p q x y g n = impossible cc
+        no-opening : {A : Type 0} → isOpening (m .command .op) (m .command .argument) ≡ true → A
+        no-opening h = let k : true ≡ false = sym h ∙ n in impossible cc
+
+        go : (u : Bool) → eqb (m .command .op) readOp ≡ u → (v : Bool) → eqb (m .command .op) setOp ≡ v → (w : Bool) → eqb (m .command .op) partOp ≡ w → (t : Bool)
+            → eqb (m .command .argument) half ≡ t → (u || (v || w)) ≡ true → ruleZ (m .version) e (m .command .op) (signed (m .command .argument)) r .value ≡ pos 0
+        go true p v q w x t y k = rw p z
+        go false p true q w x true y k = rw (p, q, eqb-true (m .command .argument) half y) (choose (λ (a : ResultZ). a .value ≡ pos 0) (inRangeZ e (pos 0)) (λ _. refl) (λ _. z))
+        go false p true q w x false y k = no-opening (set-opens _ _ (eqb-true _ _ q) (eqb-false _ _ y))
+        go false p false q true x t y k = no-opening (part-opens _ _ (eqb-true _ _ x))
+        go false p false q false x t y k = impossible cc
 
     pub gate-value : (p : ℕ) → (m .command .point ≡ p → GateOp (m .command .op)) → b p .value ≡ pos 0
         → (bookWith plan b (single m) p .value ≡ pos 0) ⊎ ((m .command .point ≡ p) × (isOpening (m .command .op) (m .command .argument) ≡ true))

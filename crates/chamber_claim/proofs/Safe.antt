@@ -25,18 +25,19 @@ use Rattle.model.specs.Limits.{readOp}
 use Rattle.model.specs.Plan.{planOf}
 use Rattle.model.specs.Packets.{parsePacket}
 use Rattle.model.specs.Sequential.{Marked, markedBy, OrderEntry, single, one, ReadingZ, Book, resultMeant, opened, answerTo, bookWith, bookAfter}
-use Rattle.claim.specs.World.{issue, after, packet}
+use Rattle.claim.specs.World.{Event, issue, after, packet}
 use Rattle.claim.specs.Claim.{Issues, Completes, Executes, SurvivesAt, Explains}
 use Rattle.claim.specs.Fence.{Fenced, Fences}
-use Rattle.claim.proofs.Clients.{impossible, at-once, issue-one, issue-rises}
+use Rattle.claim.proofs.Clients.{at-once, issue-one, issue-rises}
 use Rattle.chamber_claim.specs.declared.LockPoints.{LockPoints}
-use Rattle.chamber_claim.specs.declared.Chamber.{Chamber}
 use Rattle.chamber_claim.specs.Chamber.{isOpening, roleIn, mayOpen, readAt, pointsOk}
 use Rattle.chamber_claim.specs.Lock.{LockEvent, kernel}
 use Rattle.chamber_claim.specs.Safe.{OneClosed, events, lockAt, AtLock, Begins, IsGate, LockProvisos, ChamberSafe}
-use Rattle.chamber_claim.proofs.Orders.{Stands, GateOp, place-of, one-command, part-of, is-part, its-commands, before-places, book-step, book-past, answered, other-value, gate-value, read-value}
-use Rattle.chamber_claim.proofs.Commands.{Gates, up, down, gates-differ, Closed, closed-seen, Passed, passed}
-use Rattle.chamber_claim.proofs.Controllers.{Commands, Done, Seen, Held, held, after-begin, there-on, begun-at}
+use Rattle.chamber_claim.proofs.Orders.{Stands, GateOp, place-of, one-command, part-of, is-part, its-commands, before-places, book-step, book-past, answered, other-value, read-opens-none}
+use Rattle.chamber_claim.proofs.Orders.{gate-value, read-value}
+use Rattle.chamber_claim.proofs.Commands.{Gates, up, down, gates-differ, Closed, closed-seen, passed}
+use Rattle.chamber_claim.proofs.Frame.{Commands}
+use Rattle.chamber_claim.proofs.Controllers.{Done, ReadBy, Seen, Held, held, after-begin, there-on, begun-at}
 use Rattle.chamber_claim.proofs.Successors.{begins-points, same-begin, succeeded, issue-by, all-done}
 
 compare : (a b : ℕ) → (a < b) ⊎ ((a ≡ b) ⊎ (b < a))
@@ -46,11 +47,6 @@ compare a b = go (ltb a b) refl (ltb b a) refl
     go true e v f = inl (ltb-true a b e)
     go false e true f = inr (inr (ltb-true b a f))
     go false e false f = let h = ltb-false a b e in let k = ltb-false b a f in inr (inl (omega arith))
-
--- a read is no opening
-read-opens-none : (op a : ℕ) → op ≡ readOp → isOpening op a ≡ true → ⊥
-unfolding isOpening
-read-opens-none op a e h = let k : false ≡ true = rw e at h in impossible cc
 
 module _ (s : LockPoints) where
   flip : {g g' : ℕ} → Gates s g g' → Gates s g' g
@@ -75,6 +71,9 @@ executes-one plan s ls n c d j m x y =
 
 module _ (plan : List ℕ) (s : LockPoints) (ls : List LockEvent) (pr : LockProvisos plan s ls) (fences : Fences plan (events plan s ls)) (order : List OrderEntry)
     (explains : Explains plan (events plan s ls) order) where
+  abbrev es : List Event
+  es = events plan s ls
+
   -- the book at a place, and a point's value in it
   abbrev bookAt : ℕ → Book
   bookAt k = bookAfter (planOf plan) (opened (planOf plan)) (take k order)
@@ -89,21 +88,21 @@ module _ (plan : List ℕ) (s : LockPoints) (ls : List LockEvent) (pr : LockProv
   -- an entry of the order was issued, then executed
   record Ran (m : Marked) : Type 0 where
     time : ℕ
-    survives : SurvivesAt plan (events plan s ls) time m
+    survives : SurvivesAt plan es time m
     event : ℕ
     soon : event < time
-    issues : Issues plan (events plan s ls) event (m .command ∷ [])
+    issues : Issues plan es event (m .command ∷ [])
 
   ran : (k : ℕ) (m : Marked) → Stands order k m → Ran m
   ran k m h =
       let v = explains .survivors (single m) .1 (place-of order k (single m) h) in
       let e = part-of m (v .part) (v .among) in
-      let t : SurvivesAt plan (events plan s ls) (v .at) m = subst (SurvivesAt plan (events plan s ls) (v .at)) e (v .survives) in
+      let t : SurvivesAt plan es (v .at) m = subst (SurvivesAt plan es (v .at)) e (v .survives) in
       let i = fences .issued (v .at) (t .server) m (t .executes) in
       record { time = v .at; survives = t; event = i .0; soon = i .1; issues = i .2 }
 
   -- by `real-time` and `sequence`
-  by-time : (i j n : ℕ) (k m : Marked) → Stands order i k → Stands order j m → Done plan s ls n (k .command) → Issues plan (events plan s ls) n (m .command ∷ []) → i < j
+  by-time : (i j n : ℕ) (k m : Marked) → Stands order i k → Stands order j m → Done plan s ls n (k .command) → Issues plan es n (m .command ∷ []) → i < j
   by-time i j n k m p q d e =
       before-places (explains .once) i j k m p q
       (explains .real-time (d .at) n (single k) (single m) (d .result) (rw (its-commands k) at (d .completes)) (rw (its-commands m) at e) (d .soon) (place-of order i _ p) (place-of order j _ q))
@@ -179,9 +178,9 @@ module _ (plan : List ℕ) (s : LockPoints) (ls : List LockEvent) (pr : LockProv
           (passed (p .command .chamber) _ _ _ (p .command .request) (p .command .answer) .safe (o .opening)))
 
       -- r, read as the book answers it at the place j, where its entry e stands
-      entered : (c : Closed s (p .command .chamber) g') (r : Seen plan s ls (p .its .event) (m .command .client) (c .role) (readAt (p .command .chamber) (c .role))) (j : ℕ) (e : Marked)
-          → Stands order j e → e .command ≡ r .read → answerTo (planOf plan) (bookAt j) (single e) ≡ one (resultMeant (r .result)) → Read m p g'
-      entered c r j e st q a =
+      entered : (c : Closed s (p .command .chamber) g') (r : ReadBy plan s ls (m .command .client) (c .role) (readAt (p .command .chamber) (c .role))) → r .at < p .its .event
+          → (j : ℕ) (e : Marked) → Stands order j e → e .command ≡ r .read → answerTo (planOf plan) (bookAt j) (single e) ≡ one (resultMeant (r .result)) → Read m p g'
+      entered c r soon j e st q a =
           let on : e .command .point ≡ g' = ap (λ (z : Command). z .point) q ∙ c .is (r .read .point) (r .role) in
           let op : e .command .op ≡ readOp = ap (λ (z : Command). z .op) q ∙ r .op in
           record {
@@ -196,21 +195,22 @@ module _ (plan : List ℕ) (s : LockPoints) (ls : List LockEvent) (pr : LockProv
             done =
                 record {
                   at = r .at;
-                  soon = r .soon;
+                  soon = soon;
                   result = one (resultMeant (r .result));
-                  completes = subst (λ (z : Command). Completes plan (events plan s ls) (r .at) (z ∷ []) (one (resultMeant (r .result)))) (sym q) (r .completes);
+                  completes = subst (λ (z : Command). Completes plan es (r .at) (z ∷ []) (one (resultMeant (r .result)))) (sym q) (r .completes);
                 };
           }
 
       go : Closed s (p .command .chamber) g' → Read m p g'
-      go c = seen c (h .reads (c .role) (omega (arith, c .fresh)))
+      go c = seen (h .reads (c .role) (omega (arith, c .fresh)))
         where
-          seen : (c : Closed s (p .command .chamber) g') → Seen plan s ls (p .its .event) (m .command .client) (c .role) (readAt (p .command .chamber) (c .role)) → Read m p g'
-          seen c r =
-              let a = answered (planOf plan) (explains .results (r .at) (r .read ∷ []) (one (resultMeant (r .result))) (r .completes)) in
-              let e = one-command (a .1) (r .read) (a .3) in
-              entered c r (a .0) (e .0) (a .2 ∙ ap some (e .1)) (e .2) (rw (e .1) at (a .4))
+          seen : Seen plan s ls (p .its .event) (m .command .client) (c .role) (readAt (p .command .chamber) (c .role)) → Read m p g'
+          seen r =
+              let a = answered (planOf plan) (explains .results (r .0 .at) (r .0 .read ∷ []) (one (resultMeant (r .0 .result))) (r .0 .completes)) in
+              let e = one-command (a .1) (r .0 .read) (a .3) in
+              entered c (r .0) (r .1) (a .0) (e .0) (a .2 ∙ ap some (e .1)) (e .2) (rw (e .1) at (a .4))
 
+  -- m is O at the place k, y is Y at l, r is R
   module _ (k l : ℕ) (m y : Marked) {g g' : ℕ} (o : Opens k m g g') (w : Opens l y g' g) (p : Opener m) (q : Opener y) (r : Read m p g') (low : r .place ≤ l) (high : l < k) where
     rr : Ran (r .marked)
     rr = ran (r .place) (r .marked) (r .stands)
@@ -224,12 +224,13 @@ module _ (plan : List ℕ) (s : LockPoints) (ls : List LockEvent) (pr : LockProv
       where
         later : rr .event < q .its .event → (q .its .event < p .its .event) ⊎ ((q .its .event ≡ p .its .event) ⊎ (p .its .event < q .its .event)) → ⊥
         later h (inl b) =
-            let u = held plan s ls pr (p .its .event) _ (p .command .chamber) (p .command .there) .moves (q .its .event) (y .command) b (q .its .issues, sym e) (λ z. read-opens-none _ _ z (w .opening)) in
-            let v = issue-rises plan (events plan s ls) (pr .kernels) (rr .event) (q .its .event) (r .marked .command) (y .command) (rr .issues) (q .its .issues) (r .by ∙ e) h in
+            let c = held plan s ls pr (p .its .event) _ (p .command .chamber) (p .command .there) in
+            let u = c .moves (q .its .event) (y .command) b (q .its .issues, sym e) (λ z. read-opens-none _ _ z (w .opening)) in
+            let v = issue-rises plan es (pr .kernels) (rr .event) (q .its .event) (r .marked .command) (y .command) (rr .issues) (q .its .issues) (r .by ∙ e) h in
             let f = r .fresh in
             omega arith
         later h (inr (inl b)) =
-            let u = issue-one plan (events plan s ls) (p .its .event) (m .command) (y .command) (p .its .issues) (subst (λ (z : ℕ). Issues plan (events plan s ls) z (y .command ∷ [])) b (q .its .issues)) in
+            let u = issue-one plan es (p .its .event) (m .command) (y .command) (p .its .issues) (subst (λ (z : ℕ). Issues plan es z (y .command ∷ [])) b (q .its .issues)) in
             apart s (begins-points plan s ls _ _ (p .begins)) (o .gates) (sym (o .on) ∙ ap (λ (z : Command). z .point) u ∙ w .on)
         later h (inr (inr b)) =
             let d = all-done plan s ls pr (q .its .event) (y .command) (q .command .chamber) (q .its .issues) (q .command .there) (p .its .event) (m .command) b (p .its .issues) e in
@@ -240,14 +241,15 @@ module _ (plan : List ℕ) (s : LockPoints) (ls : List LockEvent) (pr : LockProv
         first (inl b) =
             let a = after-begin plan s ls pr (p .start) (m .command .client) (rr .event) (r .marked .command) (p .begins) (rr .issues, r .by) in
             let c = there-on plan s ls pr (p .start) (rr .event) (m .command .client) (p .begins) a in
-            let d = all-done plan s ls pr (rr .event) (r .marked .command) (c .0) (rr .issues) (ap (lockAt plan s ls (rr .event) .controllers) (r .by) ∙ c .1) (q .its .event) (y .command) b (q .its .issues) (sym (r .by ∙ e)) in
+            let g : lockAt plan s ls (rr .event) .controllers (r .marked .command .client) ≡ some (c .0) = ap (lockAt plan s ls (rr .event) .controllers) (r .by) ∙ c .1 in
+            let d = all-done plan s ls pr (rr .event) (r .marked .command) (c .0) (rr .issues) g (q .its .event) (y .command) b (q .its .issues) (sym (r .by ∙ e)) in
             let f = by-time l (r .place) (rr .event) y (r .marked) (w .stands) (r .stands) d (rr .issues) in
             omega arith
         first (inr (inl b)) =
-            not-read (issue-one plan (events plan s ls) (rr .event) (r .marked .command) (y .command) (rr .issues) (subst (λ (z : ℕ). Issues plan (events plan s ls) z (y .command ∷ [])) b (q .its .issues)))
+            not-read (issue-one plan es (rr .event) (r .marked .command) (y .command) (rr .issues) (subst (λ (z : ℕ). Issues plan es z (y .command ∷ [])) b (q .its .issues)))
         first (inr (inr b)) = later b (compare (q .its .event) (p .its .event))
 
-    -- y's controller started first: it is fenced off from g' before R was issued
+    -- Y's controller started first: it is fenced off from g' before R was issued
     fenced-before : q .start < p .start → ⊥
     fenced-before h = go (compare (q .its .time) (rr .time))
       where
@@ -257,7 +259,7 @@ module _ (plan : List ℕ) (s : LockPoints) (ls : List LockEvent) (pr : LockProv
         go : (q .its .time < rr .time) ⊎ ((q .its .time ≡ rr .time) ⊎ (rr .time < q .its .time)) → ⊥
         go (inl b) = let f = in-sequence l (r .place) y (r .marked) (w .stands) (r .stands) (q .its) rr b on in omega arith
         go (inr (inl b)) =
-            let t = subst (λ (z : ℕ). SurvivesAt plan (events plan s ls) z y) b (q .its .survives) in
+            let t = subst (λ (z : ℕ). SurvivesAt plan es z y) b (q .its .survives) in
             not-read (ap (λ (z : Marked). z .command) (executes-one plan s ls (rr .time) _ _ (r .marked) y (rr .survives .executes) (t .executes)))
         go (inr (inr b)) =
             let f = succeeded plan s ls pr (q .start) (p .start) _ _ (q .begins) (p .begins) h in
@@ -265,11 +267,11 @@ module _ (plan : List ℕ) (s : LockPoints) (ls : List LockEvent) (pr : LockProv
             let c = rr .soon in
             fences .fence (f .0) (y .command .client) g' (f .2 g' (gate-is (w .gates))) (q .its .time) _ y (omega (arith, f .1)) (q .its .survives .executes) refl (w .on)
 
-    -- x's controller started first: O was executed before y's controller read g
+    -- O's controller started first: O was executed before Y's controller read g
     fenced-after : p .start < q .start → ⊥
     fenced-after h = go (ltb (p .its .time) (f .0)) refl
       where
-        f : (n : ℕ) × (n ≤ q .start) × ((z : ℕ) → IsGate plan s ls z → Fenced plan (events plan s ls) n (m .command .client) z)
+        f : (n : ℕ) × (n ≤ q .start) × ((z : ℕ) → IsGate plan s ls z → Fenced plan es n (m .command .client) z)
         f = succeeded plan s ls pr (p .start) (q .start) _ _ (p .begins) (q .begins) h
 
         go : (b : Bool) → ltb (p .its .time) (f .0) ≡ b → ⊥

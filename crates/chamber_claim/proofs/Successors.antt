@@ -7,7 +7,7 @@
 -- Assumes nothing.
 use Prim.Native.Nat.{ℕ, zero, suc, _<_, _≤_}
 use mathlib.Core.Path.{_≡_, refl, sym, _∙_, ap, subst}
-use mathlib.Core.Bool.{Bool, true, false}
+use mathlib.Core.Bool.{true}
 use mathlib.Core.List.{List, [], _∷_}
 use mathlib.Core.Logic.{_⊎_, inl, inr}
 use mathlib.Core.Option.{Option, none, some}
@@ -21,16 +21,23 @@ use Rattle.claim.specs.Claim.{Issues}
 use Rattle.claim.specs.Fence.{Fenced}
 use Rattle.claim.specs.Above.{Site}
 use Rattle.claim.proofs.Above.{site-world, site-past}
-use Rattle.claim.proofs.Clients.{impossible, issue-is, issuer}
+use Rattle.claim.proofs.Clients.{issue-is, issuer}
 use Rattle.chamber_claim.specs.declared.LockPoints.{LockPoints}
 use Rattle.chamber_claim.specs.declared.Chamber.{Chamber}
-use Rattle.chamber_claim.specs.Chamber.{pointsOk, startIn, issueIn, resendIn, receiveIn}
+use Rattle.chamber_claim.specs.Chamber.{pointsOk, startIn}
 use Rattle.chamber_claim.specs.Lock.{LockEvent, kernel, begin, command, again, hear, Lock, withController, startsAs, startsOn, changes, hears, lockAfter, lockProduct}
 use Rattle.chamber_claim.specs.Safe.{events, lockAt, AtLock, Begins, IsGate, LockProvisos}
 use Rattle.chamber_claim.proofs.Commands.{started}
-use Rattle.chamber_claim.proofs.Controllers.{world, AtKernel, at-lock-once, lock-after, Commands, issue-from, begins-event, begins-after, Done, IssuedBy, Held, last-or, held, none-open}
+use Rattle.chamber_claim.proofs.Frame.{last-or, world, at-lock-once, lock-after, Commands, issue-from, begins-after}
+use Rattle.chamber_claim.proofs.Controllers.{Done, held, none-open}
 
 module _ (plan : List ℕ) (s : LockPoints) (ls : List LockEvent) where
+  abbrev es : List Event
+  es = events plan s ls
+
+  abbrev lock : ℕ → Lock
+  lock n = lockAt plan s ls n
+
   pub begins-points : (n x : ℕ) → Begins plan s ls n x → pointsOk s ≡ true
   begins-points n x b = started s (b .bytes) (b .answer) .0
 
@@ -43,7 +50,7 @@ module _ (plan : List ℕ) (s : LockPoints) (ls : List LockEvent) where
       sym (b .its) ∙ ap (λ (z : List ℕ). startIn z s .chamber .client .client) h ∙ c .its
 
   -- the controller that started last is another only by a start
-  latest-step : (n : ℕ) → ((y : ℕ) × Begins plan s ls n y) ⊎ (lockAt plan s ls (suc n) .latest ≡ lockAt plan s ls n .latest)
+  latest-step : (n : ℕ) → ((y : ℕ) × Begins plan s ls n y) ⊎ (lock (suc n) .latest ≡ lock n .latest)
   unfolding AtLock
   latest-step n = at (getElem? ls n) refl
     where
@@ -56,73 +63,73 @@ module _ (plan : List ℕ) (s : LockPoints) (ls : List LockEvent) where
       heard x (some b) l = unfold hears in (change x _ _ l)
 
       starts : (j : ℕ) → AtLock plan s ls n (begin j) → (o : Option (List ℕ)) → packet (world plan s ls n) j ≡ o
-          → ((y : ℕ) × Begins plan s ls n y) ⊎ (startsOn s o (lockAt plan s ls n) .latest ≡ lockAt plan s ls n .latest)
+          → ((y : ℕ) × Begins plan s ls n y) ⊎ (startsOn s o (lock n) .latest ≡ lock n .latest)
       starts j h none e = inr (unfold startsOn in refl)
       starts j h (some b) e = by (startIn b s .answer) refl
         where
-          by : (t : Started) → startIn b s .answer ≡ t → ((y : ℕ) × Begins plan s ls n y) ⊎ (startsOn s (some b) (lockAt plan s ls n) .latest ≡ lockAt plan s ls n .latest)
+          by : (t : Started) → startIn b s .answer ≡ t → ((y : ℕ) × Begins plan s ls n y) ⊎ (startsOn s (some b) (lock n) .latest ≡ lock n .latest)
           by (NotStarted m) q = inr (unfold startsOn startsAs in (rw q refl))
           by Running q = inl (_, record { number = j; event = h; bytes = b; delivered = rw (site-world (lockProduct s) ls n) e; answer = q; its = refl })
 
-      of : (o : LockEvent) → AtLock plan s ls n o → ((y : ℕ) × Begins plan s ls n y) ⊎ (lockAfter s (world plan s ls n) (lockAt plan s ls n) o .latest ≡ lockAt plan s ls n .latest)
+      of : (o : LockEvent) → AtLock plan s ls n o → ((y : ℕ) × Begins plan s ls n y) ⊎ (lockAfter s (world plan s ls n) (lock n) o .latest ≡ lock n .latest)
       of (kernel e) h = inr (unfold lockAfter in refl)
       of (begin j) h = unfold lockAfter in (starts j h (packet (world plan s ls n) j) refl)
       of (command x op p a) h = inr (unfold lockAfter in (change x _ _ _))
       of (again x c) h = inr (unfold lockAfter in (change x _ _ _))
       of (hear x j) h = inr (unfold lockAfter in (heard x _ _))
 
-      at : (o : Option LockEvent) → getElem? ls n ≡ o → ((y : ℕ) × Begins plan s ls n y) ⊎ (lockAt plan s ls (suc n) .latest ≡ lockAt plan s ls n .latest)
+      at : (o : Option LockEvent) → getElem? ls n ≡ o → ((y : ℕ) × Begins plan s ls n y) ⊎ (lock (suc n) .latest ≡ lock n .latest)
       at none e = inr (ap (λ (z : Site (lockProduct s)). z .parts .latest) (site-past (lockProduct s) ls n e))
       at (some o) e = go (of o e)
         where
-          go : ((y : ℕ) × Begins plan s ls n y) ⊎ (lockAfter s (world plan s ls n) (lockAt plan s ls n) o .latest ≡ lockAt plan s ls n .latest)
-              → ((y : ℕ) × Begins plan s ls n y) ⊎ (lockAt plan s ls (suc n) .latest ≡ lockAt plan s ls n .latest)
+          go : ((y : ℕ) × Begins plan s ls n y) ⊎ (lockAfter s (world plan s ls n) (lock n) o .latest ≡ lock n .latest)
+              → ((y : ℕ) × Begins plan s ls n y) ⊎ (lock (suc n) .latest ≡ lock n .latest)
           go (inl b) = inl b
           go (inr q) = inr (ap (λ (z : Lock). z .latest) (lock-after plan s ls n o e) ∙ q)
 
   -- after n events x is fenced off from both gates
   abbrev FencedOff : ℕ → ℕ → Type 0
-  FencedOff n x = (p : ℕ) → IsGate plan s ls p → Fenced plan (events plan s ls) n x p
+  FencedOff n x = (p : ℕ) → IsGate plan s ls p → Fenced plan es n x p
 
   module _ (pr : LockProvisos plan s ls) where
-    latest-or : (b x : ℕ) → Begins plan s ls b x → (n : ℕ) → b < n → (lockAt plan s ls n .latest ≡ some x) ⊎ ((m : ℕ) × (m < n) × FencedOff m x)
+    latest-or : (b x : ℕ) → Begins plan s ls b x → (n : ℕ) → b < n → (lock n .latest ≡ some x) ⊎ ((m : ℕ) × (m < n) × FencedOff m x)
     latest-or b x h zero l = absurd (omega arith)
-    latest-or b x h (suc n) l = go (last-or plan s ls b n l) (λ k. latest-or b x h n k)
+    latest-or b x h (suc n) l = go (last-or b n l) (λ k. latest-or b x h n k)
       where
-        more : (lockAt plan s ls n .latest ≡ some x) ⊎ ((m : ℕ) × (m < n) × FencedOff m x) → (lockAt plan s ls (suc n) .latest ≡ some x) ⊎ ((m : ℕ) × (m < suc n) × FencedOff m x)
+        more : (lock n .latest ≡ some x) ⊎ ((m : ℕ) × (m < n) × FencedOff m x) → (lock (suc n) .latest ≡ some x) ⊎ ((m : ℕ) × (m < suc n) × FencedOff m x)
         more (inr f) = inr (f .0, omega (arith, f .1), f .2)
         more (inl e) = next (latest-step n)
           where
-            next : ((y : ℕ) × Begins plan s ls n y) ⊎ (lockAt plan s ls (suc n) .latest ≡ lockAt plan s ls n .latest)
-                → (lockAt plan s ls (suc n) .latest ≡ some x) ⊎ ((m : ℕ) × (m < suc n) × FencedOff m x)
+            next : ((y : ℕ) × Begins plan s ls n y) ⊎ (lock (suc n) .latest ≡ lock n .latest)
+                → (lock (suc n) .latest ≡ some x) ⊎ ((m : ℕ) × (m < suc n) × FencedOff m x)
             next (inl y) = inr (n, omega arith, λ p g. pr .successor n x (y .0) p (y .1) e g)
             next (inr q) = inl (q ∙ e)
 
-        go : (b < n) ⊎ (b ≡ n) → (b < n → (lockAt plan s ls n .latest ≡ some x) ⊎ ((m : ℕ) × (m < n) × FencedOff m x))
-            → (lockAt plan s ls (suc n) .latest ≡ some x) ⊎ ((m : ℕ) × (m < suc n) × FencedOff m x)
+        go : (b < n) ⊎ (b ≡ n) → (b < n → (lock n .latest ≡ some x) ⊎ ((m : ℕ) × (m < n) × FencedOff m x))
+            → (lock (suc n) .latest ≡ some x) ⊎ ((m : ℕ) × (m < suc n) × FencedOff m x)
         go (inl k) ih = more (ih k)
-        go (inr k) ih = inl (subst (λ (z : ℕ). lockAt plan s ls (suc z) .latest ≡ some x) k (begins-after plan s ls b x h .1))
+        go (inr k) ih = inl (subst (λ (z : ℕ). lock (suc z) .latest ≡ some x) k (begins-after plan s ls b x h .1))
 
     pub succeeded : (a b x y : ℕ) → Begins plan s ls a x → Begins plan s ls b y → a < b → (m : ℕ) × (m ≤ b) × FencedOff m x
     succeeded a b x y h k l = go (latest-or a x h b l)
       where
-        go : (lockAt plan s ls b .latest ≡ some x) ⊎ ((m : ℕ) × (m < b) × FencedOff m x) → (m : ℕ) × (m ≤ b) × FencedOff m x
+        go : (lock b .latest ≡ some x) ⊎ ((m : ℕ) × (m < b) × FencedOff m x) → (m : ℕ) × (m ≤ b) × FencedOff m x
         go (inl e) = (b, omega arith, λ p g. pr .successor b x y p k e g)
         go (inr f) = (f .0, omega (arith, f .1), f .2)
 
     -- an issue is another's, or a command of the controller of its client
-    pub issue-by : (n : ℕ) (k : Command) → Issues plan (events plan s ls) n (k ∷ [])
+    pub issue-by : (n : ℕ) (k : Command) → Issues plan es n (k ∷ [])
         → AtLock plan s ls n (kernel (issue (k .client) (k .op) (k .point) (k .argument))) ⊎ Commands plan s ls n (k .client) (k .op) (k .point) (k .argument)
     issue-by n k i =
-        let e = issue-is plan (events plan s ls) n k i in
-        let x : i .client ≡ k .client = issuer plan (events plan s ls) n k i in
+        let e = issue-is plan es n k i in
+        let x : i .client ≡ k .client = issuer plan es n k i in
         let o : i .op ≡ k .op = ap (λ (z : Command). z .op) (sym e) in
         let p : i .point ≡ k .point = ap (λ (z : Command). z .point) (sym e) in
         let a : i .argument ≡ k .argument = ap (λ (z : Command). z .argument) (sym e) in
         issue-from plan s ls n _ _ _ _ (rw (x, o, p, a) at (i .event))
 
-    pub all-done : (n : ℕ) (k : Command) (ch : Chamber) → Issues plan (events plan s ls) n (k ∷ []) → lockAt plan s ls n .controllers (k .client) ≡ some ch
-        → (j : ℕ) (l : Command) → j < n → Issues plan (events plan s ls) j (l ∷ []) → l .client ≡ k .client → Done plan s ls n l
+    pub all-done : (n : ℕ) (k : Command) (ch : Chamber) → Issues plan es n (k ∷ []) → lock n .controllers (k .client) ≡ some ch
+        → (j : ℕ) (l : Command) → j < n → Issues plan es j (l ∷ []) → l .client ≡ k .client → Done plan s ls n l
     all-done n k ch i e j l h m q = go (issue-by n k i)
       where
         go : AtLock plan s ls n (kernel (issue (k .client) (k .op) (k .point) (k .argument))) ⊎ Commands plan s ls n (k .client) (k .op) (k .point) (k .argument) → Done plan s ls n l

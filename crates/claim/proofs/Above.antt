@@ -14,9 +14,8 @@ use lib.ListN.{take, getElem?}
 use lib.Dec.{eqb}
 use borrow.Author.Tests.{eqb-true}
 use Rattle.model.specs.declared.Client.{Client}
-use Rattle.model.specs.Choice.{pick}
 use Rattle.model.specs.Clients.{isOpen, notSent, resendOf, sentBytes}
-use Rattle.claim.specs.World.{World, Event, withClient, making, sends, step, emptyWorld, runFrom, run, after}
+use Rattle.claim.specs.World.{World, Event, withClient, making, sends, step, runFrom, run, after}
 use Rattle.claim.specs.Above.{quiet, Product, Site, eventAt, stepSite, emptySite, runSite, eventsFrom, events, siteAfter}
 
 module _ (made : Product) where

@@ -14,7 +14,6 @@ use Prim.Native.Nat.{ℕ, zero, suc, _+_, _≤_, _<_}
 use mathlib.Core.Path.{_≡_, refl, sym, _∙_, ap, subst}
 use mathlib.Core.Bool.{Bool, true, false, _&&_}
 use mathlib.Core.List.{List, [], _∷_}
-use mathlib.Core.Logic.{_⊎_, inl, inr}
 use mathlib.Core.Option.{Option, none, some}
 use native.Mathlib.Omega.{arith}
 use lib.ListN.{length, take, getD, getElem?}
@@ -32,16 +31,18 @@ use Rattle.model.specs.declared.Grant.{Grant}
 use Rattle.model.specs.declared.Started.{Started}
 use Rattle.model.specs.declared.Started.the-variants.{NotStarted, Running}
 use Rattle.model.specs.declared.Sent.the-variants.{NotSent, Asked}
-use Rattle.model.specs.declared.Received.the-variants.{NotReceived, Completed, Denied, Extended}
+use Rattle.model.specs.declared.Received.the-variants.{Completed}
 use Rattle.model.specs.declared.SendAnswer.{SendAnswer}
-use Rattle.model.specs.declared.ReceiveAnswer.{ReceiveAnswer}
 use Rattle.model.specs.Choice.{pick, orElse}
 use Rattle.model.specs.Limits.{last32, callWindow}
 use Rattle.model.specs.Refusals.{malformed, windowFull, numbersOut, noRefusal}
 use Rattle.model.specs.Packets.{parsePacket, commandOk, asGrant}
-use Rattle.model.specs.Clients.{noCall, placeOf, callAt, leastOpen, firstOpen, isOpen, isOwn, closed, withCalls, withLease, withCall, newCall, requestFor, notSent, sent, notReceived, notStarted, started as begunBy, startOf, startWith, issueOf, resendOf, receiveOf, receiveWith, receiveResult, receiveRefusal, receiveGrant, sentBytes}
+use Rattle.model.specs.Clients.{noCall, placeOf, callAt, leastOpen, firstOpen, isOpen, isOwn, closed, withCalls, withLease, withCall, newCall, requestFor, notSent, sent, notReceived, notStarted}
+use Rattle.model.specs.Clients.{started as begunBy, startOf, startWith, issueOf, resendOf, receiveOf, receiveWith, receiveResult, receiveRefusal, receiveGrant}
 use Rattle.model.specs.Operations.{After}
-use Rattle.claim.specs.World.{World, WorldOf, Server, nothing, running, crashed, Lent, Event, found, request, fetch, sync, notice, give, image, take·image, receipt, release, recover, crash, start, issue, resend, receive, open·lease, renew, query, withServer, withClient, withManager, making, calls, callsOn, foundAs, crashAt, startsAs, startsOn, sends, receives, told, packet, step, emptyWorld, runFrom, run, after}
+use Rattle.claim.specs.World.{World, WorldOf, Server, nothing, running, crashed, Lent, Event, found, request, fetch, sync, notice, give, image, take·image, receipt, release, recover, crash}
+use Rattle.claim.specs.World.{start, issue, resend, receive, open·lease, renew, query, withServer, withClient, withManager, making, calls, callsOn, foundAs, crashAt, startsAs, startsOn}
+use Rattle.claim.specs.World.{sends, receives, told, packet, step, emptyWorld, runFrom, run, after}
 use Rattle.claim.specs.Provisos.{At, Provisos}
 use Rattle.claim.specs.Claim.{Issues}
 
