@@ -1,9 +1,9 @@
 -- What a start and a command of a controller passed, and what they leave.
---     started                  a start that is not refused
---     gates-differ, role-..    the points of a lock and their roles
---     passed, refused-same     a command that is issued, or refused
---     gate-op, closed-seen     its op is read, set or part; an opening saw the other gate closed, since the last set or part
---     asked-chamber, heard-same, ended-chamber, again-same     the controller after it
+--     started                     a start that is not refused
+--     gates-differ                the gates are two points
+--     closed-seen                 an opening saw the other gate closed, since the last set or part
+--     passed, refused-same        a command that is issued, or refused
+--     again-same, heard-same, ended-chamber    the controller after a resend and a receive
 -- Assumes nothing.
 use Prim.Native.Nat.{ℕ, zero, _<_, _≤_}
 use mathlib.Core.Path.{_≡_, refl, sym, _∙_, ap}
@@ -53,6 +53,26 @@ started s b e = go (pointsOk s) refl (startOf b .answer) refl e
 
 -- ---- the gates
 
+-- a chain of roles: the first two
+abbrev chain : Bool → Bool → Bool → Bool → Bool → ℕ
+chain u v w x y = pick u 0 (pick v 1 (pick w 2 (pick x 3 (pick y 4 5))))
+
+chain-upper : (u v w x y : Bool) → chain u v w x y ≡ 0 → u ≡ true
+chain-upper true v w x y e = refl
+chain-upper false true w x y e = absurd (omega arith)
+chain-upper false false true x y e = absurd (omega arith)
+chain-upper false false false true y e = absurd (omega arith)
+chain-upper false false false false true e = absurd (omega arith)
+chain-upper false false false false false e = absurd (omega arith)
+
+chain-lower : (u v w x y : Bool) → chain u v w x y ≡ 1 → v ≡ true
+chain-lower true v w x y e = absurd (omega arith)
+chain-lower false true w x y e = refl
+chain-lower false false true x y e = absurd (omega arith)
+chain-lower false false false true y e = absurd (omega arith)
+chain-lower false false false false true e = absurd (omega arith)
+chain-lower false false false false false e = absurd (omega arith)
+
 module _ (s : LockPoints) where
   -- a gate, and the other one
   pub data Gates : ℕ → ℕ → Type 0 where
@@ -74,26 +94,6 @@ module _ (s : LockPoints) where
   role-lower : pointsOk s ≡ true → roleIn s (s .lower) ≡ lowerGate
   unfolding roleIn
   role-lower e = rw (ne-eqb (s .lower) (s .upper) (λ q. gates-differ e (sym q)), eq-eqb (s .lower) (s .lower) refl)
-
-  -- a chain of roles: the first two
-  abbrev chain : Bool → Bool → Bool → Bool → Bool → ℕ
-  chain u v w x y = pick u 0 (pick v 1 (pick w 2 (pick x 3 (pick y 4 5))))
-
-  chain-upper : (u v w x y : Bool) → chain u v w x y ≡ 0 → u ≡ true
-  chain-upper true v w x y e = refl
-  chain-upper false true w x y e = absurd (omega arith)
-  chain-upper false false true x y e = absurd (omega arith)
-  chain-upper false false false true y e = absurd (omega arith)
-  chain-upper false false false false true e = absurd (omega arith)
-  chain-upper false false false false false e = absurd (omega arith)
-
-  chain-lower : (u v w x y : Bool) → chain u v w x y ≡ 1 → v ≡ true
-  chain-lower true v w x y e = absurd (omega arith)
-  chain-lower false true w x y e = refl
-  chain-lower false false true x y e = absurd (omega arith)
-  chain-lower false false false true y e = absurd (omega arith)
-  chain-lower false false false false true e = absurd (omega arith)
-  chain-lower false false false false false e = absurd (omega arith)
 
   upper-role : (p : ℕ) → roleIn s p ≡ upperGate → p ≡ s .upper
   unfolding roleIn

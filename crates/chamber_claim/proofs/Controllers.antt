@@ -43,6 +43,31 @@ use Rattle.chamber_claim.proofs.Commands.{started, Passed, passed, hear
 use Rattle.chamber_claim.proofs.Frame.{last-or, world, AtKernel, kernel-event, Commands, issue-from, receive-from, Spares, LockStep, same, born, commanding, hearing, lock-step}
 use Rattle.chamber_claim.proofs.Frame.{begins-event, begins-client, begins-after}
 
+abbrev pub callOf : Command → OpenCall
+callOf k = record { call = k .call; op = k .op; point = k .point; argument = k .argument }
+
+-- k is open among the calls
+abbrev pub OpenIn : List OpenCall → Command → Type 0
+OpenIn ks k = (1 ≤ k .call) × (getD ks (placeOf (k .call)) noCall ≡ callOf k)
+
+-- a stored read, or the one that was there
+set-either : {A : Type 0} (l : List A) (j : ℕ) (v : A) (i : ℕ) (z : A) → ((i ≡ j) × (getD (set l j v) i z ≡ v)) ⊎ (getD (set l j v) i z ≡ getD l i z)
+set-either [] j v i z = inr refl
+set-either (a ∷ l) zero v zero z = inl (refl, refl)
+set-either (a ∷ l) zero v (suc i) z = inr refl
+set-either (a ∷ l) (suc j) v zero z = inr refl
+set-either (a ∷ l) (suc j) v (suc i) z = go (set-either l j v i z)
+  where
+    go : ((i ≡ j) × (getD (set l j v) i z ≡ v)) ⊎ (getD (set l j v) i z ≡ getD l i z) → ((suc i ≡ suc j) × (getD (set l j v) i z ≡ v)) ⊎ (getD (set l j v) i z ≡ getD l i z)
+    go (inl e) = inl (ap suc (e .0), e .1)
+    go (inr e) = inr e
+
+-- a new controller has read nothing
+unread : (n i : ℕ) → getD (replicate n noRead) i noRead ≡ noRead
+unread zero i = refl
+unread (suc n) zero = refl
+unread (suc n) (suc i) = unread n i
+
 module _ (plan : List ℕ) (s : LockPoints) (ls : List LockEvent) where
   abbrev es : List Event
   es = events plan s ls
@@ -75,16 +100,11 @@ module _ (plan : List ℕ) (s : LockPoints) (ls : List LockEvent) where
   abbrev pub Seen : ℕ → ℕ → ℕ → LatestRead → Type 0
   Seen n x i g = (r : ReadBy x i g) × (r .at < n)
 
-  abbrev pub callOf : Command → OpenCall
-  callOf k = record { call = k .call; op = k .op; point = k .point; argument = k .argument }
-
-  -- k is open among the calls
-  abbrev pub OpenIn : List OpenCall → Command → Type 0
-  OpenIn ks k = (1 ≤ k .call) × (getD ks (placeOf (k .call)) noCall ≡ callOf k)
-
+  -- event j issues k, of client x
   abbrev pub IssuedBy : ℕ → ℕ → Command → Type 0
   IssuedBy x j k = Issues plan es j (k ∷ []) × (k .client ≡ x)
 
+  -- the controller of x after n events
   pub record Held (n x : ℕ) (ch : Chamber) : Type 0 where
     pub client : world plan s ls n .clients x ≡ some (ch .client)
     pub points : ch .points ≡ s
@@ -122,18 +142,6 @@ module _ (plan : List ℕ) (s : LockPoints) (ls : List LockEvent) where
       further : (k : Command) {j : ℕ} → IssuedBy x j k → Done n k ⊎ OpenIn (ch .client .calls) k → Done (suc n) k ⊎ OpenIn (c .client .calls) k
       further k i (inl f) = inl (done-on f)
       further k i (inr f) = o k (i .1) f
-
-  -- a stored read, or the one that was there
-  set-either : {A : Type 0} (l : List A) (j : ℕ) (v : A) (i : ℕ) (z : A) → ((i ≡ j) × (getD (set l j v) i z ≡ v)) ⊎ (getD (set l j v) i z ≡ getD l i z)
-  set-either [] j v i z = inr refl
-  set-either (a ∷ l) zero v zero z = inl (refl, refl)
-  set-either (a ∷ l) zero v (suc i) z = inr refl
-  set-either (a ∷ l) (suc j) v zero z = inr refl
-  set-either (a ∷ l) (suc j) v (suc i) z = go (set-either l j v i z)
-    where
-      go : ((i ≡ j) × (getD (set l j v) i z ≡ v)) ⊎ (getD (set l j v) i z ≡ getD l i z) → ((suc i ≡ suc j) × (getD (set l j v) i z ≡ v)) ⊎ (getD (set l j v) i z ≡ getD l i z)
-      go (inl e) = inl (ap suc (e .0), e .1)
-      go (inr e) = inr e
 
   module _ (pr : LockProvisos plan s ls) where
     begins-none : (n x : ℕ) → Begins plan s ls n x → world plan s ls n .clients x ≡ none
@@ -186,11 +194,6 @@ module _ (plan : List ℕ) (s : LockPoints) (ls : List LockEvent) where
             let y : some (ch .client) ≡ none = sym (h .client) ∙ z in impossible cc
         unchanged (asked op p a d k g) = absurd (no-issue n x ch e f op p a k)
         unchanged (heard p d b k g q) = absurd (no-receive n x ch e f p b k q)
-
-    unread : (n i : ℕ) → getD (replicate n noRead) i noRead ≡ noRead
-    unread zero i = refl
-    unread (suc n) zero = refl
-    unread (suc n) (suc i) = unread n i
 
     held-born : (n x : ℕ) (b : Begins plan s ls n x) → Held (suc n) x (startIn (b .bytes) s .chamber)
     unfolding newChamber readAt

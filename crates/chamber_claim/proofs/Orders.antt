@@ -1,5 +1,6 @@
 -- Places of an order, and the book at them.
 --     place-in, place-of      an entry of an order has a place
+--     one-command, part-of, is-part, its-commands    an entry has one command
 --     one-place               an id has one place;  before-places   what stands before has the lesser place
 --     book-step, book-past    the book one place on
 --     answered                a result is the book's at a place

@@ -58,12 +58,12 @@ module _ (s : LockPoints) where
   apart ok down e = gates-differ s ok (sym e)
 
 -- an event executes one command
-executes-one : (plan : List ℕ) (s : LockPoints) (ls : List LockEvent) (n c d : ℕ) (j m : Marked) → Executes plan (events plan s ls) n c j → Executes plan (events plan s ls) n d m → j ≡ m
-executes-one plan s ls n c d j m x y =
-    let e = at-once plan (events plan s ls) n _ _ (x .event) (y .event) in
+executes-one : (plan : List ℕ) (es : List Event) (n c d : ℕ) (j m : Marked) → Executes plan es n c j → Executes plan es n d m → j ≡ m
+executes-one plan es n c d j m x y =
+    let e = at-once plan es n _ _ (x .event) (y .event) in
     let p : x .number ≡ y .number = cc in
     let v : x .versions ≡ y .versions = cc in
-    let b : some (x .bytes) ≡ some (y .bytes) = sym (x .delivered) ∙ ap (packet (after (events plan s ls) n)) p ∙ y .delivered in
+    let b : some (x .bytes) ≡ some (y .bytes) = sym (x .delivered) ∙ ap (packet (after es n)) p ∙ y .delivered in
     let f : x .bytes ≡ y .bytes = cc in
     let q : Requested (x .asked) ≡ Requested (y .asked) = sym (x .parsed) ∙ ap parsePacket f ∙ y .parsed in
     let r : x .asked ≡ y .asked = cc in
@@ -260,7 +260,7 @@ module _ (plan : List ℕ) (s : LockPoints) (ls : List LockEvent) (pr : LockProv
         go (inl b) = let f = in-sequence l (r .place) y (r .marked) (w .stands) (r .stands) (q .its) rr b on in omega arith
         go (inr (inl b)) =
             let t = subst (λ (z : ℕ). SurvivesAt plan es z y) b (q .its .survives) in
-            not-read (ap (λ (z : Marked). z .command) (executes-one plan s ls (rr .time) _ _ (r .marked) y (rr .survives .executes) (t .executes)))
+            not-read (ap (λ (z : Marked). z .command) (executes-one plan es (rr .time) _ _ (r .marked) y (rr .survives .executes) (t .executes)))
         go (inr (inr b)) =
             let f = succeeded plan s ls pr (q .start) (p .start) _ _ (q .begins) (p .begins) h in
             let a = after-begin plan s ls pr (p .start) (m .command .client) (rr .event) (r .marked .command) (p .begins) (rr .issues, r .by) in

@@ -2,8 +2,8 @@
 --     begins-points     a controller's points passed the test of start
 --     same-begin        an event starts one controller
 --     succeeded         who started earlier is fenced off from both gates when the later one starts
---     commanded         an issue of a controller's client is a command of the controller
---     all-done          those before it are completed
+--     issue-by          an issue is another's, or a command of the controller of its client
+--     all-done          when a controller's command is issued, those before it are completed
 -- Assumes nothing.
 use Prim.Native.Nat.{ℕ, zero, suc, _<_, _≤_}
 use mathlib.Core.Path.{_≡_, refl, sym, _∙_, ap, subst}
