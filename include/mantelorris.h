@@ -46,7 +46,7 @@ extern "C" {
 /* The version of this header and, by mantelorris_version(), of the library: major * 65,536 + minor. The major number changes with a layout that
  * an older program would misread (packets, images, log, state); the minor one with what is added. */
 #define MANTELORRIS_VERSION_MAJOR 1
-#define MANTELORRIS_VERSION_MINOR 1
+#define MANTELORRIS_VERSION_MINOR 2
 #define MANTELORRIS_VERSION ((uint32_t)MANTELORRIS_VERSION_MAJOR << 16 | MANTELORRIS_VERSION_MINOR)
 
 /* least lengths of slices; a plan has exactly its length */

@@ -9,7 +9,7 @@ ghost use Rattle.model.specs.Operations.{wordOf, foundOf, requestOf, fetchOf, s
 ghost use Rattle.kernel.specs.Interface.{version, returned, inC};
 
 // The interface's version, major * 65,536 + minor.
-const VERSION: u32 = 65537;
+const VERSION: u32 = 65538;
 
 #[no_mangle]
 pub extern "C" fn mantelorris_version() -> u32
