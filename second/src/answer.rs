@@ -1,5 +1,5 @@
 //! Paper 01, "Operations and their numbers": the nineteen refusals and the
-//! answer of a cabinet call.
+//! answer of a cabinet call. Request 2 of paper 02 adds the twentieth.
 
 /// By the paper's numbers.
 #[derive(Clone, Copy, PartialEq, Eq, Debug)]
@@ -42,10 +42,12 @@ pub enum Refusal {
     LeasesFull = 18,
     /// State not sound, or log slice shorter than its recorded length.
     NotSound = 19,
+    /// An opening of a gate whose conditions fail.
+    NotClear = 20,
 }
 
 impl Refusal {
-    pub const ALL: [Refusal; 19] = [
+    pub const ALL: [Refusal; 20] = [
         Refusal::Malformed,
         Refusal::TooShort,
         Refusal::NotHeld,
@@ -65,6 +67,7 @@ impl Refusal {
         Refusal::Unknown,
         Refusal::LeasesFull,
         Refusal::NotSound,
+        Refusal::NotClear,
     ];
 
     pub fn number(self) -> u32 {

@@ -16,6 +16,19 @@ pub struct OpenCall {
     pub argument: i32,
 }
 
+impl OpenCall {
+    /// A command as a request may carry it.
+    pub fn new(op: u32, point: u32, argument: i32) -> Option<OpenCall> {
+        let op = Op::from_byte(u8::try_from(op).ok()?)?;
+        let ok = (point as usize) < POINTS && op.accepts(argument);
+        ok.then_some(OpenCall {
+            op,
+            point: point as u8,
+            argument,
+        })
+    }
+}
+
 #[derive(Clone, PartialEq, Eq, Debug)]
 pub struct Client {
     pub client: u32,
@@ -66,7 +79,7 @@ impl Client {
         point: u32,
         argument: i32,
     ) -> Result<[u8; REQUEST_LEN], Refusal> {
-        let command = command(op, point, argument).ok_or(Refusal::Malformed)?;
+        let command = OpenCall::new(op, point, argument).ok_or(Refusal::Malformed)?;
         if self.next - self.first >= WINDOW {
             return Err(Refusal::WindowFull);
         }
@@ -148,14 +161,4 @@ impl Client {
 
 fn slot(call: u32) -> usize {
     (call % WINDOW) as usize
-}
-
-fn command(op: u32, point: u32, argument: i32) -> Option<OpenCall> {
-    let op = Op::from_byte(u8::try_from(op).ok()?)?;
-    let ok = (point as usize) < POINTS && op.accepts(argument);
-    ok.then_some(OpenCall {
-        op,
-        point: point as u8,
-        argument,
-    })
 }

@@ -1,5 +1,7 @@
 //! Servers with one planted fault ("Where builders go astray"), for tests of the
 //! checker only. A fault stands around the calls of a sound server, never in them.
+//! Those of request 2 (paper 02) stand around a controller, its successor's start,
+//! the other desks and the office.
 
 use crate::answer::Answer;
 use crate::packet::{parse_request, WINDOW};
@@ -10,6 +12,10 @@ use crate::record::{
 use crate::rule::{apply, Rules, INVALID, STOPPED};
 use crate::server::Server;
 use std::ops::{Deref, DerefMut};
+
+mod lock;
+
+pub use lock::{renew, seen, FaultyChamber};
 
 #[derive(Clone, Copy, PartialEq, Eq, Debug)]
 pub enum Fault {
@@ -37,6 +43,36 @@ pub enum Fault {
     StepToOtherEnd,
     /// A step past an end makes the quality invalid.
     StepLosesQuality,
+    /// A take does not raise the heard time; recovery does.
+    TakeWithoutHeard,
+    /// An opening does not need a read of the other gate.
+    OtherGateNotRead,
+    /// An opening needs that read, whatever its value.
+    OtherGateValueNotTested,
+    /// An opening's reads may be older than the last set or part.
+    ReadsOfAnyAge,
+    /// They may be older than one of the other gate.
+    SinceOwnGateOnly,
+    /// They may be older than a part.
+    PartNotLast,
+    /// A part is issued as set 0 is.
+    PartNoOpening,
+    /// A controller does not wait for its open command.
+    SeveralOpen,
+    /// A successor starts at any time.
+    SuccessorAtAnyTime,
+    /// It starts when the holders have the heard time, synced or not.
+    HeardNotSynced,
+    /// It starts although a gate is being moved.
+    GateBeingMoved,
+    /// It starts when the upper gate's holder has the heard time.
+    OneGateOnly,
+    /// It looks for the heard time at each gate's home.
+    HomeForHolder,
+    /// A desk that is no controller commands gates as other points.
+    OtherDeskMovesGate,
+    /// The office renews a lease that has ended.
+    RenewEnded,
 }
 
 /// A server, or one with a fault around the calls that stand here; the others are the
@@ -131,6 +167,16 @@ impl Faulty {
         let heard = self.server.heard;
         let answer = self.server.notice(len, log, packet);
         if self.fault == Some(Fault::NoticeWithoutHeard) {
+            self.server.heard = heard;
+        }
+        answer
+    }
+
+    /// Take as a program of the given rules answers it.
+    pub fn take_by(&mut self, rules: Rules, len: usize, log: &mut [u8], image: &[u8]) -> Answer {
+        let heard = self.server.heard;
+        let answer = self.server.take_by(rules, len, log, image);
+        if self.fault == Some(Fault::TakeWithoutHeard) {
             self.server.heard = heard;
         }
         answer

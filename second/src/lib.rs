@@ -6,11 +6,13 @@
 
 pub mod answer;
 pub mod bytes;
+pub mod chamber;
 pub mod checker;
 pub mod client;
 pub mod faults;
 pub mod image;
 pub mod leases;
+pub mod lock;
 pub mod packet;
 pub mod plan;
 pub mod random;

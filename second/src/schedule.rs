@@ -10,10 +10,12 @@ use crate::plan::Plan;
 mod commands;
 mod crashes;
 mod generate;
+mod lock;
 mod moves;
 mod renewal;
 
 pub use generate::{generate, ISSUES_MAX};
+pub use lock::{generate_lock, LockSchedule};
 pub(crate) use renewal::rules_in_step;
 pub use renewal::{generate_renewed, Renewed};
 
@@ -37,6 +39,8 @@ pub enum Which {
     Any(u32),
     /// Any at all.
     Astray(u32),
+    /// The latest of the apt kind that opens no gate.
+    LatestHarmless,
 }
 
 #[derive(Clone, Copy, PartialEq, Eq, Debug)]
@@ -156,7 +160,45 @@ pub enum Call {
         desk: u8,
         wait: u32,
     },
+    /// Start of a lock's controller.
+    StartController {
+        packet: Which,
+    },
+    /// What a controller does next to open a gate: it resends its open command,
+    /// closes the other gate, reads what is to be read, or issues the opening.
+    Toward {
+        desk: u8,
+        gate: u8,
+        op: u8,
+        argument: i32,
+        manner: Manner,
+    },
+    /// A request for an opening by any controller, or by one that has a successor.
+    LateOpening {
+        at: Party,
+        number: u32,
+        lost: bool,
+    },
 }
+
+/// How a controller is used.
+#[derive(Clone, Copy, PartialEq, Eq, Debug)]
+pub enum Manner {
+    Careful,
+    /// It does not wait for its open command.
+    Impatient,
+    /// The other gate is not read.
+    OtherUnread,
+    /// The other gate is read and not closed.
+    OtherNotClosed,
+}
+
+/// Numbers of desks by their role at the time: the last one started that is no
+/// controller, the last controller started, and from `LOST` on the others, the
+/// latest first.
+pub const LATEST_DESK: u8 = 199;
+pub const CONTROLLER: u8 = 255;
+pub const LOST: u8 = 200;
 
 #[derive(Clone, Copy, PartialEq, Eq, Debug)]
 pub struct Step {

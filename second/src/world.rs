@@ -5,8 +5,8 @@
 //! cabinet before it is founded or between its crash and a recovery, a second
 //! founding, a second desk of one client number.
 
+use crate::chamber::LockPoints;
 use crate::checker::{check_marked, Command, Violation};
-use crate::client::Client;
 use crate::faults::{Fault, Faulty};
 use crate::leases::LeaseManager;
 use crate::packet::{GRANT, REFUSAL, RESULT};
@@ -20,8 +20,13 @@ mod at_servers;
 mod choice;
 mod counts;
 mod crashes;
+mod desk;
+mod lock;
 
 pub use counts::Counts;
+pub use lock::{minimise_lock, run_lock, LockRun};
+
+use desk::Desk;
 
 /// Byte that fills what nobody wrote.
 const FILL: u8 = 0xA5;
@@ -109,10 +114,8 @@ fn run_world(mut world: World) -> Run {
         world.step(step);
     }
     world.count_left_crashed();
-    let (commands, marks) = (world.commands(), world.marks());
-    let result = check_marked(&schedule.plan, &commands, &marks, &world.finals());
     Run {
-        result,
+        result: world.check(),
         counts: world.counts,
         trace: world.trace,
     }
@@ -149,7 +152,11 @@ pub struct World<'a> {
     options: Options,
     plan: [u8; PLAN_LEN],
     cabinets: Vec<Cabinet>,
-    desks: Vec<Client>,
+    desks: Vec<Desk>,
+    /// The points of a lock, and its controllers among the desks in the order of
+    /// their starts.
+    lock: Option<LockPoints>,
+    controllers: Vec<usize>,
     office: LeaseManager,
     clock: u32,
     /// All packets and images made, and their places by kind.
@@ -188,6 +195,8 @@ impl<'a> World<'a> {
             plan: write_plan(&schedule.plan),
             cabinets: (0..schedule.cabinets).map(cabinet).collect(),
             desks: Vec::new(),
+            lock: None,
+            controllers: Vec::new(),
             office: LeaseManager::new(),
             clock: 0,
             pool: Vec::new(),
@@ -199,6 +208,12 @@ impl<'a> World<'a> {
             counts: Counts::default(),
             trace: Vec::new(),
         }
+    }
+
+    /// Demand 3.
+    fn check(&self) -> Result<(), Violation> {
+        let (commands, marks) = (self.commands(), self.marks());
+        check_marked(&self.schedule.plan, &commands, &marks, &self.finals())
     }
 
     pub fn step(&mut self, step: &Step) {
@@ -235,6 +250,15 @@ impl<'a> World<'a> {
             Call::Open { wait, span } => self.open(wait, span),
             Call::Renew { desk, wait, span } => self.renew(desk, wait, span),
             Call::Query { desk, wait } => self.query(desk, wait),
+            Call::StartController { packet } => self.start_controller(packet),
+            Call::Toward {
+                desk,
+                gate,
+                op,
+                argument,
+                manner,
+            } => self.toward(desk, gate, (op, argument), manner),
+            Call::LateOpening { at, number, lost } => self.late_opening(at, number, lost),
         }
     }
 

@@ -29,6 +29,7 @@ fn refusals_have_the_papers_numbers() {
         (Refusal::HeldHere, 13),
         (Refusal::WindowFull, 15),
         (Refusal::NotSound, 19),
+        (Refusal::NotClear, 20),
     ];
     for (refusal, number) in some {
         assert_eq!(refusal.number(), number);

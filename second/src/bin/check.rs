@@ -1,9 +1,9 @@
 //! Runs random schedules and checks demand 3 after each.
 //! Arguments: number of schedules (10,000), seed, and 1 for servers that are
-//! renewed in the schedule.
+//! renewed in the schedule or 2 for a lock and its gates.
 
-use second::schedule::{generate, generate_renewed, Renewed};
-use second::world::{minimise_renewed, run_renewed, Counts, Options};
+use second::schedule::{generate, generate_lock, generate_renewed, Renewed};
+use second::world::{minimise_lock, minimise_renewed, run_lock, run_renewed, Counts, Options};
 use std::process::ExitCode;
 use std::time::Instant;
 
@@ -16,18 +16,19 @@ fn main() -> ExitCode {
         Some(text) => text.parse().ok(),
         None => Some(default),
     };
-    let (Some(count), Some(seed), Some(renewed)) = (number(COUNT), number(SEED), number(0)) else {
-        eprintln!("usage: check [schedules [seed [renewed]]]");
+    let (Some(count), Some(seed), Some(kind)) = (number(COUNT), number(SEED), number(0)) else {
+        eprintln!("usage: check [schedules [seed [kind]]]");
         return ExitCode::FAILURE;
     };
-    let make = match renewed {
-        0 => |seed| Renewed::today(&generate(seed)),
-        _ => generate_renewed,
+    let check_one = match kind {
+        0 => |seed| check_one(seed, |seed| Renewed::today(&generate(seed))),
+        1 => |seed| check_one(seed, generate_renewed),
+        _ => check_lock,
     };
     let begin = Instant::now();
     let mut counts = Counts::default();
     for i in 0..count {
-        match check_one(seed.wrapping_add(i), make) {
+        match check_one(seed.wrapping_add(i)) {
             Some(more) => counts.add(&more),
             None => return ExitCode::FAILURE,
         }
@@ -56,6 +57,26 @@ fn check_one(seed: u64, make: fn(u64) -> Renewed) -> Option<Counts> {
         println!("renewals before steps {:?}", shorter.places);
         let shorter = run_renewed(&shorter, options);
         println!("shortened: {:?}", shorter.result);
+        for line in shorter.trace {
+            println!("{line}");
+        }
+        return None;
+    }
+    Some(found.counts)
+}
+
+/// The same with a lock and its gates.
+fn check_lock(seed: u64) -> Option<Counts> {
+    let schedule = generate_lock(seed);
+    let found = run_lock(&schedule, Options::default());
+    if found.demand3.is_err() || found.both_away() {
+        println!("schedule {seed}: {:?}, {:?}", found.demand3, found.orders);
+        let options = Options {
+            trace: true,
+            ..Options::default()
+        };
+        let shorter = run_lock(&minimise_lock(&schedule, options), options);
+        println!("shortened: {:?}", shorter.orders);
         for line in shorter.trace {
             println!("{line}");
         }

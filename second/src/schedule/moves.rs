@@ -6,6 +6,10 @@ use super::{Call, Party, Which};
 impl Generator {
     pub(super) fn move_point(&mut self) {
         let point = self.point();
+        self.move_this(point);
+    }
+
+    pub(super) fn move_this(&mut self, point: u8) {
         let destination = self.cabinet();
         let at = Party::Apt;
         self.add(Call::Give {
@@ -35,6 +39,10 @@ impl Generator {
     /// giver for the sync.
     pub(super) fn carry_on_move(&mut self) {
         let point = self.point();
+        self.carry_on_this(point);
+    }
+
+    pub(super) fn carry_on_this(&mut self, point: u8) {
         let at = Party::Apt;
         self.add(Call::Image { at, point });
         self.sync_all(80);

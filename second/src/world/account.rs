@@ -50,11 +50,7 @@ impl World<'_> {
     /// Value and quality of each point at its holder. A crashed cabinet
     /// counts with the state that recover gives.
     pub fn finals(&self) -> Finals {
-        let servers: Vec<Server> = self
-            .cabinets
-            .iter()
-            .filter_map(|c| self.final_state(c))
-            .collect();
+        let servers = self.final_states();
         let mut finals = [None; POINTS];
         for (point, entry) in self.schedule.plan.entries.iter().enumerate() {
             let holder = holder(&servers, point, entry.home);
@@ -63,23 +59,32 @@ impl World<'_> {
         finals
     }
 
+    /// The states of the founded cabinets.
+    pub(super) fn final_states(&self) -> Vec<Server> {
+        let states = self.cabinets.iter().map(|c| self.final_state(c));
+        states.flatten().collect()
+    }
+
     fn final_state(&self, c: &Cabinet) -> Option<Server> {
         match c.phase {
             Phase::New => None,
             Phase::Running => Some(Server::clone(&c.server)),
-            Phase::Crashed { kept, .. } => {
-                let mut server = Faulty::new(self.options.fault);
-                let answer = server.recover(STATE_LEN, &c.log[..kept as usize], &self.plan);
-                assert_eq!(answer.number, 0, "a kept log recovers");
-                Some(Server::clone(&server))
-            }
+            Phase::Crashed { kept, .. } => Some(self.recovered(c, kept)),
         }
+    }
+
+    /// The state that recover gives from the log's first bytes.
+    pub(super) fn recovered(&self, c: &Cabinet, kept: u64) -> Server {
+        let mut server = Faulty::new(self.options.fault);
+        let answer = server.recover(STATE_LEN, &c.log[..kept as usize], &self.plan);
+        assert_eq!(answer.number, 0, "a kept log recovers");
+        Server::clone(&server)
     }
 }
 
 /// The server where the point's move number is greatest, the taker before the
 /// giver; its home where that number is 0.
-fn holder(servers: &[Server], point: usize, home: u8) -> Option<&Server> {
+pub(super) fn holder(servers: &[Server], point: usize, home: u8) -> Option<&Server> {
     let number = |s: &Server| s.points[point].move_number;
     let greatest = servers.iter().map(number).max()?;
     if greatest == 0 {

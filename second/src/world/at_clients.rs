@@ -1,10 +1,11 @@
 //! Calls at desks and at the office.
 
-use super::{World, DESK_PACKETS};
+use super::{Desk, World, DESK_PACKETS};
 use crate::answer::Refusal;
 use crate::bytes::get_u32;
 use crate::checker::Command;
 use crate::client::{Client, Received};
+use crate::faults;
 use crate::packet::{parse_grant, GRANT};
 use crate::rule::Op;
 use crate::schedule::{Party, Which};
@@ -29,20 +30,28 @@ impl World<'_> {
         let Some(number) = self.pick(packet, &[GRANT]) else {
             return;
         };
-        let packet = &self.pool[number];
-        let client = parse_grant(packet).map(|g| g.client);
-        if self.desks.iter().any(|d| Some(d.client) == client) {
+        if self.has_desk(number) {
             return;
         }
-        let answer = Client::start(packet).map(|desk| self.desks.push(desk));
+        let answer = Client::start(&self.pool[number]);
+        let answer = answer.map(|client| self.desks.push(Desk::Plain(client)));
         self.tally(&answer);
         self.note(|| format!("start packet {} -> {answer:?}", number + 1));
+    }
+
+    /// The packet's client has a desk already.
+    pub(super) fn has_desk(&self, packet: usize) -> bool {
+        let client = parse_grant(&self.pool[packet]).map(|g| g.client);
+        self.desks.iter().any(|d| Some(d.client) == client)
     }
 
     pub(super) fn issue(&mut self, desk: u8, op: u8, point: u8, argument: i32) {
         let Some(index) = self.desk(desk) else {
             return;
         };
+        if self.excluded(index, op, point) {
+            return;
+        }
         let desk = &mut self.desks[index];
         let before = desk.clone();
         let (client, call) = (desk.client, desk.next);
@@ -50,6 +59,7 @@ impl World<'_> {
         assert!(answer.is_ok() || *desk == before, "a refusal leaves a desk");
         self.tally(&answer);
         let made = answer.map(|packet| {
+            self.count_issue(index, op, argument);
             self.commands.push(Command {
                 client,
                 call,
@@ -133,7 +143,7 @@ impl World<'_> {
         };
         let time = self.time(wait);
         let client = self.desks[index].client;
-        let answer = self.office.renew(client, time, span);
+        let answer = faults::renew(self.options.fault, &mut self.office, (client, time, span));
         self.tally(&answer);
         let made = answer.map(|packet| self.keep(&packet));
         self.note(|| format!("renew client {client} span {span} -> {made:?}"));

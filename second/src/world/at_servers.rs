@@ -57,9 +57,12 @@ impl World<'_> {
     }
 
     pub(super) fn request(&mut self, at: Party, packet: Which, flaw: Flaw) {
-        let Some(number) = self.pick(packet, &[REQUEST]) else {
-            return;
-        };
+        if let Some(number) = self.pick(packet, &[REQUEST]) {
+            self.request_packet(at, number, flaw);
+        }
+    }
+
+    pub(super) fn request_packet(&mut self, at: Party, number: usize, flaw: Flaw) {
         let apt = match self.pool[number][0] {
             REQUEST => self.holder(self.pool[number][2]),
             _ => self.last,
@@ -99,6 +102,7 @@ impl World<'_> {
         });
         self.counts.executed += 1;
         self.counts.executed_old += u64::from(self.rules(cabinet) != Rules::TODAY);
+        self.count_opened(packet, cabinet);
         match self.last_outcome(cabinet) {
             (Op::Step, 1) => self.counts.steps_refused += 1,
             (Op::Step, STOPPED) => self.counts.steps_stopped += 1,
@@ -236,6 +240,8 @@ impl World<'_> {
             0 => {
                 let source = usize::from(image[6]);
                 self.counts.takes += 1;
+                let gate = self.lock.is_some_and(|l| l.is_gate(image[4]));
+                self.counts.gate_takes += u64::from(gate);
                 self.counts.takes_across += u64::from(self.rules(source) != rules);
             }
             1 if image.starts_with(&IMAGE_MAGIC) => self.counts.images_too_new += 1,

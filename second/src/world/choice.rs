@@ -1,9 +1,9 @@
 //! Which packet and which party a step means.
 
-use super::{Cabinet, Phase, World, IMAGE};
+use super::{Cabinet, Desk, Phase, World, IMAGE};
 use crate::image::IMAGE_MAGIC;
 use crate::plan::POINTS;
-use crate::schedule::{Party, Which};
+use crate::schedule::{Party, Which, CONTROLLER, LATEST_DESK, LOST};
 use crate::server::{Hold, Point};
 
 impl World<'_> {
@@ -26,6 +26,13 @@ impl World<'_> {
         match which {
             Which::Latest => latest(),
             Which::Astray(n) => modulo(n, self.pool.len()),
+            Which::LatestHarmless => {
+                let harmless = |list: &Vec<usize>| {
+                    let mut list = list.iter().rev().copied();
+                    list.find(|&n| !self.is_opening(n))
+                };
+                lists().filter_map(harmless).max()
+            }
             Which::Any(n) => {
                 let mut index = modulo(n, lists().map(Vec::len).sum())?;
                 for list in lists() {
@@ -104,7 +111,16 @@ impl World<'_> {
     }
 
     pub(super) fn desk(&self, number: u8) -> Option<usize> {
-        modulo(u32::from(number), self.desks.len())
+        match number {
+            CONTROLLER => self.controllers.last().copied(),
+            LOST.. => {
+                let (_, lost) = self.controllers.split_last()?;
+                let back = modulo(u32::from(number - LOST), lost.len())?;
+                Some(lost[lost.len() - 1 - back])
+            }
+            LATEST_DESK => (self.desks.iter()).rposition(|d| matches!(d, Desk::Plain(_))),
+            _ => modulo(u32::from(number), self.desks.len()),
+        }
     }
 }
 
@@ -113,6 +129,6 @@ fn given(point: &Point) -> Option<u32> {
     matches!(point.hold, Hold::Given { .. }).then_some(point.move_number)
 }
 
-fn modulo(number: u32, count: usize) -> Option<usize> {
+pub(super) fn modulo(number: u32, count: usize) -> Option<usize> {
     (count > 0).then(|| number as usize % count)
 }

@@ -28,7 +28,19 @@ pub struct Counts {
     pub images_too_new: u64,
     pub releases: u64,
     pub gone: u64,
-    pub refusals: [u64; 20],
+    pub refusals: [u64; 21],
+    /// Controllers started, and starts put off until the proviso holds.
+    pub controllers: u64,
+    pub put_off: u64,
+    /// Commands issued by controllers that have a successor.
+    pub issued_lost: u64,
+    /// Openings issued, and those executed with the gate away from 0 after them.
+    pub openings: u64,
+    pub opened: u64,
+    /// Late requests for openings, and those refused as their lease has ended.
+    pub late_openings: u64,
+    pub late_refused: u64,
+    pub gate_takes: u64,
 }
 
 impl Counts {
@@ -51,6 +63,14 @@ impl Counts {
         self.images_too_new += other.images_too_new;
         self.releases += other.releases;
         self.gone += other.gone;
+        self.controllers += other.controllers;
+        self.put_off += other.put_off;
+        self.issued_lost += other.issued_lost;
+        self.openings += other.openings;
+        self.opened += other.opened;
+        self.late_openings += other.late_openings;
+        self.late_refused += other.late_refused;
+        self.gate_takes += other.gate_takes;
         for (sum, n) in self.refusals.iter_mut().zip(other.refusals) {
             *sum += n;
         }
