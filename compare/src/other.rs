@@ -7,8 +7,11 @@ use second::client::{Client, Received};
 use second::leases::LeaseManager;
 use second::packet::{parse_packet, Packet};
 
-/// What stands for 0 where a signed number is kept as x + 2^31.
-const HALF: u32 = 1 << 31;
+/// A signed number kept as x + 2^31.
+#[inline]
+pub fn unsigned(number: i32) -> u32 {
+    (number as u32).wrapping_add(1 << 31)
+}
 
 // ---- the client
 
@@ -27,7 +30,7 @@ pub fn client_fields(client: &Client) -> proved::Client {
                 call,
                 op: open.op as u8,
                 point: open.point,
-                argument: (open.argument as u32).wrapping_add(HALF),
+                argument: unsigned(open.argument),
             };
         }
     }
@@ -66,17 +69,22 @@ pub fn sent(answer: Result<[u8; 24], Refusal>) -> SendReply {
     }
 }
 
+#[inline]
+pub fn receive(client: &mut Client, packet: &[u8]) -> ReceiveReply {
+    received(packet, client.receive(packet))
+}
+
 /// The second program names neither call nor point of a refusal, nor the point
 /// of a result: these are the packet's.
 #[inline]
-pub fn receive(client: &mut Client, packet: &[u8]) -> ReceiveReply {
+pub fn received(packet: &[u8], answer: Result<Received, Refusal>) -> ReceiveReply {
     let (call, point) = match parse_packet(packet) {
         Some(Packet::Result(p)) => (p.call, p.point),
         Some(Packet::Refusal(p)) => (p.call, p.point),
         _ => (0, 0),
     };
     let none = ReceiveReply::default();
-    match client.receive(packet) {
+    match answer {
         Ok(Received::Result { call, effect }) => ReceiveReply {
             kind: 2,
             call,

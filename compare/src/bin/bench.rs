@@ -3,8 +3,9 @@
 //! rounds; the sides take turns, and neither is inlined into the loop.
 
 use compare::kernel::Call;
-use compare::{other, proved, states};
+use compare::{chamber, other, proved, states};
 use second::answer::Refusal;
+use second::chamber::Chamber;
 use second::client::{Client, Received};
 use second::image::IMAGE_MAX;
 use second::leases::LeaseManager;
@@ -271,6 +272,162 @@ fn leases_in_use(mut have: proved::LeaseManager, mut want: LeaseManager) {
         },
     );
     row("lease manager: query", times);
+}
+
+// ---- the controller of a lock chamber
+
+const LOCK: [u32; 5] = [10, 20, 31, 32, 33];
+
+/// A controller of both programs. The proved calls take and give it by value.
+#[derive(Clone)]
+struct Chambers {
+    have: chamber::Chamber,
+    want: Chamber,
+}
+
+impl Chambers {
+    fn start(grant: &[u8]) -> Chambers {
+        Chambers {
+            have: chamber::Chamber::start(grant, LOCK).chamber,
+            want: Chamber::start(grant, LOCK).expect("a grant and five points"),
+        }
+    }
+
+    fn issued(&self, op: u32, point: u32, argument: i32) -> Chambers {
+        let mut now = self.clone();
+        let have = now.have.issue(op, point, argument);
+        let want = chamber_issue(&mut now.want, op, point, argument);
+        assert_eq!(have.reply, want);
+        now.have = have.chamber;
+        now
+    }
+
+    fn received(&self, packet: &[u8]) -> Chambers {
+        let mut now = self.clone();
+        now.have = now.have.receive(packet).chamber;
+        now.want.receive(packet).expect("an open call");
+        assert_eq!(now.have, chamber::fields(&now.want));
+        now
+    }
+
+    /// A read of the point up to its result 0, valid.
+    fn read(&self, point: u32) -> Chambers {
+        let open = self.issued(0, point, 0);
+        open.received(&read_result(self.want.client.next, point))
+    }
+}
+
+fn read_result(call: u32, point: u32) -> Vec<u8> {
+    let reply = Reply {
+        outcome: 0,
+        point: point as u8,
+        quality: 0,
+        client: 7,
+        call,
+        value: 0,
+    };
+    write_result(&reply).to_vec()
+}
+
+fn chambers() {
+    let grant = write_grant(&Grant {
+        client: 7,
+        lease_end: 1000,
+    });
+    let times = measure(
+        1,
+        || {
+            black_box(chamber::Chamber::start(black_box(&grant), LOCK));
+        },
+        || {
+            let _ = black_box(chamber_start(black_box(&grant), LOCK));
+        },
+    );
+    row("chamber: start", times);
+    let fresh = Chambers::start(&grant);
+    let [upper, lower, level1, level2, _] = LOCK;
+    let ready = fresh.read(lower).read(level1).read(level2);
+    chamber_issues("a read", &fresh, (0, upper, 0), 0);
+    chamber_issues("an opening", &ready, (1, upper, 40), 0);
+    chamber_issues("refused with 20", &ready, (1, lower, 40), 20);
+    let open = fresh.issued(0, upper, 0);
+    let times = measure(
+        1,
+        || {
+            black_box(black_box(open.have).resend(1));
+        },
+        || {
+            black_box(chamber_resend(black_box(&open.want), 1));
+        },
+    );
+    row("chamber: resend", times);
+    let refusal = write_refusal(&RefusalPacket {
+        number: 7,
+        point: upper as u8,
+        client: 7,
+        call: 1,
+    });
+    chamber_receives("a read", &open, &read_result(1, upper));
+    chamber_receives("a refusal", &open, &refusal);
+    chamber_receives("a grant", &open, &grant);
+}
+
+fn chamber_issues(
+    name: &str,
+    base: &Chambers,
+    (op, point, argument): (u32, u32, i32),
+    number: u32,
+) {
+    assert_eq!(base.have.issue(op, point, argument).reply.number, number);
+    let mut now = base.want.clone();
+    let times = measure(
+        1,
+        || {
+            black_box(black_box(base.have).issue(black_box(op), point, argument));
+        },
+        || {
+            now.clone_from(&base.want);
+            black_box(chamber_issue(&mut now, black_box(op), point, argument));
+            black_box(&now);
+        },
+    );
+    row(&format!("chamber: issue, {name}"), times);
+}
+
+fn chamber_receives(name: &str, base: &Chambers, packet: &[u8]) {
+    let mut now = base.want.clone();
+    let times = measure(
+        1,
+        || {
+            black_box(black_box(base.have).receive(black_box(packet)));
+        },
+        || {
+            now.clone_from(&base.want);
+            let _ = black_box(chamber_receive(&mut now, black_box(packet)));
+            black_box(&now);
+        },
+    );
+    row(&format!("chamber: receive {name}"), times);
+}
+
+#[inline(never)]
+fn chamber_start(grant: &[u8], points: [u32; 5]) -> Result<Chamber, Refusal> {
+    Chamber::start(grant, points)
+}
+
+#[inline(never)]
+fn chamber_issue(c: &mut Chamber, op: u32, point: u32, argument: i32) -> proved::SendReply {
+    other::sent(c.issue(op, point, argument))
+}
+
+#[inline(never)]
+fn chamber_resend(c: &Chamber, call: u32) -> proved::SendReply {
+    other::sent(c.resend(call))
+}
+
+#[inline(never)]
+fn chamber_receive(c: &mut Chamber, packet: &[u8]) -> Result<Received, Refusal> {
+    c.receive(packet)
 }
 
 // ---- the calls of a server
@@ -551,5 +708,6 @@ fn main() {
     println!("{:<34} {:>9} {:>9} {:>7}", "", "proved", "second", "ratio");
     clients();
     leases();
+    chambers();
     calls();
 }

@@ -1,5 +1,6 @@
 //! The proved code, through its calls in C, against the second program.
 
+mod chamber;
 mod client;
 mod command;
 mod image_state;

@@ -1,0 +1,522 @@
+//! The controller of a lock chamber: random sequences of calls, the same answers, packets
+//! and fields after every step. Its reads are often those that an opening needs, or miss
+//! one condition alone.
+
+use compare::tally::{runs, seed, Tally};
+use compare::{chamber, inputs, other};
+use second::answer::Refusal;
+use second::chamber::{is_opening, levels_beside, other_gate, Chamber, LatestRead, GATES};
+use second::packet::{parse_packet, write_grant, write_packet, Grant, Packet};
+use second::random::Random;
+use second::rule::Op;
+
+const CLASSES: [&str; 52] = [
+    "start",
+    "start: 1, packet",
+    "start: 1, point over 63",
+    "start: 1, same points",
+    "issue: a read of a gate",
+    "issue: a read of a level",
+    "issue: set 0",
+    "issue: an opening of the upper gate",
+    "issue: an opening of the lower gate",
+    "issue: an opening by part",
+    "issue: an opening, levels 5 apart",
+    "issue: an opening, the second level read first",
+    "issue: 1, op",
+    "issue: 1, point",
+    "issue: 1, argument",
+    "issue: 1, point not of the lock",
+    "issue: 1, op not for a gate",
+    "issue: 1, op not for a level",
+    "issue: 15",
+    "issue: 15, an opening whose conditions fail",
+    "issue: 20, other gate not read",
+    "issue: 20, other gate read before the last set or part",
+    "issue: 20, other gate not 0",
+    "issue: 20, other gate invalid",
+    "issue: 20, level not read",
+    "issue: 20, level read before the other gate",
+    "issue: 20, level invalid",
+    "issue: 20, levels 6 apart",
+    "issue: 20, levels apart by 2^31 or more",
+    "issue: 20, levels apart",
+    "issue: 20, several conditions",
+    "issue: 20, numbers spent",
+    "issue: 16",
+    "issue: 16, an opening",
+    "resend",
+    "resend: 17, not yet issued",
+    "resend: 17, closed",
+    "resend: 17, call 0",
+    "receive: a read",
+    "receive: a set or part",
+    "receive: a read with an outcome over 0",
+    "receive: a refusal",
+    "receive: a later lease end",
+    "receive: the same lease end",
+    "receive: 1, malformed",
+    "receive: 1, request, receipt or notice",
+    "receive: 17, other client",
+    "receive: 17, not yet issued",
+    "receive: 17, closed",
+    "receive: 17, other point",
+    "receive: 17, earlier lease end",
+    "receive: 17, other point of the lock",
+];
+
+/// A controller of both programs.
+struct Pair {
+    have: chamber::Chamber,
+    want: Chamber,
+    /// Around which the levels lie.
+    level: i32,
+}
+
+impl Pair {
+    /// Started by the same grant; some near their last numbers.
+    fn start(random: &mut Random, tally: &mut Tally) -> Pair {
+        loop {
+            let grant = Grant {
+                client: inputs::at_least_1(random),
+                lease_end: inputs::number(random),
+            };
+            let mut packet = write_grant(&grant).to_vec();
+            if random.chance(20) {
+                let kind = 1 + random.below(6);
+                packet = write_packet(&inputs::packet_of_kind(random, kind));
+                inputs::damage(random, &mut packet);
+            }
+            let points = five(random);
+            let reply = chamber::Chamber::start(&packet, points);
+            let (want, number) = chamber::start(&packet, points);
+            assert_eq!(reply.number, number, "start {packet:02x?} {points:?}");
+            let Some(want) = want else {
+                let grant = matches!(parse_packet(&packet), Some(Packet::Grant(_)));
+                tally.meet(match points.iter().any(|&p| p > 63) {
+                    _ if !grant => "start: 1, packet",
+                    true => "start: 1, point over 63",
+                    false => "start: 1, same points",
+                });
+                continue;
+            };
+            tally.meet("start");
+            let level = match random.below(3) {
+                0 => inputs::signed(random),
+                1 => *random.pick(&[i32::MIN, i32::MAX]),
+                _ => random.between(-10, 10),
+            };
+            let mut pair = Pair {
+                have: reply.chamber,
+                want,
+                level,
+            };
+            pair.compare("start");
+            if random.chance(40) {
+                pair.skip_to(u32::MAX - random.below(40));
+            }
+            return pair;
+        }
+    }
+
+    /// As if all calls below `next` had been issued and closed.
+    fn skip_to(&mut self, next: u32) {
+        self.have.client.next = next;
+        self.want.client.next = next;
+        self.want.client.first = next;
+    }
+
+    fn compare(&self, step: &str) {
+        assert_eq!(self.have, chamber::fields(&self.want), "{step}");
+    }
+
+    /// Mostly the open call, else one near it.
+    fn call(&self, random: &mut Random) -> u32 {
+        let (first, next) = (self.want.client.first, self.want.client.next);
+        match random.below(16) {
+            0 => 0,
+            1 => next.saturating_add(random.below(3)),
+            2 => first.saturating_sub(1 + random.below(20)),
+            3 => inputs::number(random),
+            _ => first,
+        }
+    }
+
+    // Issue.
+
+    fn issue(&mut self, random: &mut Random, tally: &mut Tally) {
+        let (op, point, argument) = match random.below(100) {
+            0..=9 => self.any_command(random),
+            10..=69 => self.next_toward(random),
+            70..=84 => self.opening(random),
+            _ => self.small_command(random),
+        };
+        let before = self.want.clone();
+        let have = self.have.issue(op, point, argument);
+        let want = other::sent(self.want.issue(op, point, argument));
+        let text = format!("issue {op} {point} {argument} at {before:?}");
+        assert_eq!(have.reply, want, "{text}");
+        self.have = have.chamber;
+        if have.reply.number == 1 {
+            tally.meet(malformed_class(&before, op, point, argument));
+        } else {
+            let op = Op::from_byte(op as u8).expect("an op");
+            issue_classes(&before, have.reply.number, op, point as u8, argument, tally);
+        }
+    }
+
+    /// Any op on any point, of the lock or not.
+    fn any_command(&self, random: &mut Random) -> (u32, u32, i32) {
+        let (op, argument) = inputs::op_argument(random);
+        let (op, point) = (op as u32, self.any_point(random));
+        match random.below(6) {
+            0 => (6 + random.below(600), point, argument),
+            1 => (op, 64 + random.below(600), argument),
+            2 => (op, point, inputs::signed(random)),
+            3 => (inputs::number(random), inputs::number(random), argument),
+            4 => (op, random.below(64), argument),
+            _ => (op, point, argument),
+        }
+    }
+
+    fn any_point(&self, random: &mut Random) -> u32 {
+        u32::from(*random.pick(&self.want.points.numbers()))
+    }
+
+    /// A read, set 0, or an opening, at any of the points that admit it.
+    fn small_command(&self, random: &mut Random) -> (u32, u32, i32) {
+        let gate = self.gate_point(random);
+        match random.below(4) {
+            0 => (Op::Set as u32, gate, 0),
+            1 => (Op::Part as u32, gate, random.between(0, 1000)),
+            _ => (Op::Read as u32, self.any_point(random), 0),
+        }
+    }
+
+    fn gate_point(&self, random: &mut Random) -> u32 {
+        let place = *random.pick(&GATES);
+        u32::from(self.want.points.numbers()[place])
+    }
+
+    fn opening(&self, random: &mut Random) -> (u32, u32, i32) {
+        let gate = self.gate_point(random);
+        match random.chance(60) {
+            true => (Op::Set as u32, gate, inputs::signed(random)),
+            false => (Op::Part as u32, gate, random.between(0, 1000)),
+        }
+    }
+
+    /// The read that an opening lacks, or the opening.
+    fn next_toward(&self, random: &mut Random) -> (u32, u32, i32) {
+        let gate = GATES[(self.want.client.client % 2) as usize];
+        let other = other_gate(gate);
+        let mut levels = levels_beside(gate);
+        if random.chance(50) {
+            levels.reverse();
+        }
+        let since = |place: usize, call: u32| self.want.reads[place].is_none_or(|r| r.call <= call);
+        let gate_read = self.want.reads[other].map_or(0, |r| r.call);
+        let missing = match since(other, self.want.moved) {
+            true => Some(other),
+            false => levels.into_iter().find(|&level| since(level, gate_read)),
+        };
+        let missing = missing.filter(|_| random.chance(93));
+        match missing {
+            Some(place) => (
+                Op::Read as u32,
+                u32::from(self.want.points.numbers()[place]),
+                0,
+            ),
+            None => {
+                let (op, _, argument) = self.opening(random);
+                (op, u32::from(self.want.points.numbers()[gate]), argument)
+            }
+        }
+    }
+
+    // Resend.
+
+    fn resend(&mut self, random: &mut Random, tally: &mut Tally) {
+        let call = self.call(random);
+        let have = self.have.resend(call);
+        let want = other::sent(self.want.resend(call));
+        assert_eq!(have.reply, want, "resend {call}");
+        self.have = have.chamber;
+        tally.meet(match have.reply.number {
+            0 => "resend",
+            _ if call == 0 => "resend: 17, call 0",
+            _ if call >= self.want.client.next => "resend: 17, not yet issued",
+            _ => "resend: 17, closed",
+        });
+    }
+
+    // Receive.
+
+    /// A packet to this controller, or a hostile one.
+    fn packet(&self, random: &mut Random, bytes: &mut Vec<u8>) {
+        let client = match random.below(25) {
+            0 => inputs::at_least_1(random),
+            _ => self.want.client.client,
+        };
+        let call = self.call(random);
+        let point = match self.want.client.open_call(call) {
+            Some(open) if random.chance(95) => open.point,
+            _ if random.chance(50) => self.any_point(random) as u8,
+            _ => random.below(64) as u8,
+        };
+        let kind = match random.below(20) {
+            0 => 1 + random.below(6),
+            1..=2 => 3,
+            3..=4 => 6,
+            _ => 2,
+        };
+        let mut packet = inputs::packet_of_kind(random, kind);
+        match &mut packet {
+            Packet::Request(p) => p.client = client,
+            Packet::Result(p) => {
+                (p.client, p.call, p.point) = (client, call, point);
+                (p.value, p.quality) = self.found(random, point);
+                if random.chance(80) {
+                    p.outcome = 0;
+                }
+            }
+            Packet::Refusal(p) => (p.client, p.call, p.point) = (client, call, point),
+            Packet::Receipt(p) => p.point = point,
+            Packet::Notice(p) => p.client = client,
+            Packet::Grant(p) => {
+                let end = self.want.client.lease_end;
+                p.client = client;
+                p.lease_end = match random.below(4) {
+                    0 => end,
+                    1 => end.saturating_sub(random.below(3)),
+                    2 => end.saturating_add(random.below(1000)),
+                    _ => p.lease_end,
+                };
+            }
+        }
+        *bytes = write_packet(&packet);
+        match random.below(25) {
+            0 | 1 => inputs::damage(random, bytes),
+            2 => inputs::string(random, 30, bytes),
+            _ => {}
+        }
+    }
+
+    /// Value and quality of a point: gates often 0, levels often close together.
+    fn found(&self, random: &mut Random, point: u8) -> (i32, u8) {
+        let quality = u8::from(random.chance(8));
+        let value = match (self.want.points.is_gate(point), random.below(20)) {
+            (_, 0) => inputs::signed(random),
+            (true, 1) => *random.pick(&[1, -1, i32::MIN, i32::MAX]),
+            (true, _) => 0,
+            (false, 1) => *random.pick(&[i32::MIN, i32::MAX]),
+            (false, 2..=9) => self.level.saturating_add(*random.pick(&[-6, -5, 5, 6])),
+            (false, _) => self.level.saturating_add(random.between(-3, 3)),
+        };
+        (value, quality)
+    }
+
+    fn receive(&mut self, random: &mut Random, tally: &mut Tally, bytes: &mut Vec<u8>) {
+        self.packet(random, bytes);
+        let before = self.want.clone();
+        let have = self.have.receive(bytes);
+        let want = chamber::receive(&mut self.want, bytes);
+        assert_eq!(have.reply, want, "receive {bytes:02x?} at {before:?}");
+        self.have = have.chamber;
+        let have = have.reply;
+        tally.meet(match (have.kind, parse_packet(bytes)) {
+            (2, _) => match before.client.open_call(have.call).map(|c| c.op) {
+                Some(Op::Read) if have.outcome > 0 => "receive: a read with an outcome over 0",
+                Some(Op::Read) => "receive: a read",
+                _ => "receive: a set or part",
+            },
+            (3, _) => "receive: a refusal",
+            (6, _) if have.lease > before.client.lease_end => "receive: a later lease end",
+            (6, _) => "receive: the same lease end",
+            (_, None) => "receive: 1, malformed",
+            (_, Some(packet)) => refusal_class(&before, have.number, &packet),
+        });
+    }
+}
+
+/// Mostly five different points; else two are the same, or one is over 63.
+fn five(random: &mut Random) -> [u32; 5] {
+    let mut points = [0; 5];
+    for i in 0..5 {
+        points[i] = random.below(64);
+        while points[..i].contains(&points[i]) {
+            points[i] = random.below(64);
+        }
+    }
+    let place = random.below(5) as usize;
+    match random.below(10) {
+        0 => points[place] = *random.pick(&[64, 65, 255, 256, 319, u32::MAX]),
+        1 => points[place] = points[random.below(5) as usize],
+        2 => points[place] = points[place].wrapping_add(256 * (1 + random.below(3))),
+        _ => {}
+    }
+    points
+}
+
+fn malformed_class(c: &Chamber, op: u32, point: u32, argument: i32) -> &'static str {
+    let known = u8::try_from(op).ok().and_then(Op::from_byte);
+    let place = u8::try_from(point).ok().and_then(|p| c.points.place(p));
+    match (known, place) {
+        (None, _) => "issue: 1, op",
+        _ if point > 63 => "issue: 1, point",
+        (Some(op), _) if !op.accepts(argument) => "issue: 1, argument",
+        (_, None) => "issue: 1, point not of the lock",
+        (_, Some(place)) if GATES.contains(&place) => "issue: 1, op not for a gate",
+        _ => "issue: 1, op not for a level",
+    }
+}
+
+fn issue_classes(c: &Chamber, number: u32, op: Op, point: u8, argument: i32, tally: &mut Tally) {
+    let opening = is_opening(op, argument);
+    let place = c.points.place(point).expect("a point of the lock");
+    let failing = match opening {
+        true => conditions_that_fail(c, place),
+        false => Vec::new(),
+    };
+    let gate = GATES.contains(&place);
+    match number {
+        0 if !opening => tally.meet(match op {
+            Op::Read if gate => "issue: a read of a gate",
+            Op::Read => "issue: a read of a level",
+            _ => "issue: set 0",
+        }),
+        0 => {
+            assert!(failing.is_empty());
+            opening_classes(c, op, place, tally);
+        }
+        15 if failing.is_empty() => tally.meet("issue: 15"),
+        15 => tally.meet("issue: 15, an opening whose conditions fail"),
+        20 if c.client.next == u32::MAX => tally.meet("issue: 20, numbers spent"),
+        20 => match failing[..] {
+            [] => panic!("20 where all conditions hold"),
+            [one] => tally.meet(one),
+            _ => tally.meet("issue: 20, several conditions"),
+        },
+        16 if opening => tally.meet("issue: 16, an opening"),
+        16 => tally.meet("issue: 16"),
+        _ => panic!("issue: {number}"),
+    }
+}
+
+fn opening_classes(c: &Chamber, op: Op, gate: usize, tally: &mut Tally) {
+    let read = |place: usize| c.reads[place].expect("read");
+    let [one, two] = levels_beside(gate).map(read);
+    tally.meet(match gate {
+        0 => "issue: an opening of the upper gate",
+        _ => "issue: an opening of the lower gate",
+    });
+    if op == Op::Part {
+        tally.meet("issue: an opening by part");
+    }
+    if one.value.abs_diff(two.value) == 5 {
+        tally.meet("issue: an opening, levels 5 apart");
+    }
+    if two.call < one.call {
+        tally.meet("issue: an opening, the second level read first");
+    }
+}
+
+/// The conditions of an opening that fail, one by one.
+fn conditions_that_fail(c: &Chamber, gate: usize) -> Vec<&'static str> {
+    let mut failing = Vec::new();
+    let other = c.reads[other_gate(gate)];
+    let levels = levels_beside(gate).map(|place| c.reads[place]);
+    match other {
+        None => failing.push("issue: 20, other gate not read"),
+        Some(r) => {
+            if r.call <= c.moved {
+                failing.push("issue: 20, other gate read before the last set or part");
+            }
+            if r.value != 0 {
+                failing.push("issue: 20, other gate not 0");
+            }
+            if r.quality != 0 {
+                failing.push("issue: 20, other gate invalid");
+            }
+        }
+    }
+    for level in levels {
+        level_that_fails(other, level, &mut failing);
+    }
+    if let [Some(one), Some(two)] = levels {
+        let apart = (i64::from(one.value) - i64::from(two.value)).abs();
+        match apart {
+            0..=5 => {}
+            6 => failing.push("issue: 20, levels 6 apart"),
+            0x8000_0000.. => failing.push("issue: 20, levels apart by 2^31 or more"),
+            _ => failing.push("issue: 20, levels apart"),
+        }
+    }
+    failing
+}
+
+fn level_that_fails(
+    other: Option<LatestRead>,
+    level: Option<LatestRead>,
+    failing: &mut Vec<&'static str>,
+) {
+    let Some(read) = level else {
+        failing.push("issue: 20, level not read");
+        return;
+    };
+    if other.is_some_and(|o| read.call <= o.call) {
+        failing.push("issue: 20, level read before the other gate");
+    }
+    if read.quality != 0 {
+        failing.push("issue: 20, level invalid");
+    }
+}
+
+fn refusal_class(c: &Chamber, number: u32, packet: &Packet) -> &'static str {
+    let client = &c.client;
+    let (to, call, point) = match packet {
+        Packet::Result(p) => (p.client, p.call, p.point),
+        Packet::Refusal(p) => (p.client, p.call, p.point),
+        Packet::Grant(p) if p.client == client.client => return "receive: 17, earlier lease end",
+        Packet::Grant(p) => (p.client, 1, 0),
+        _ => return "receive: 1, request, receipt or notice",
+    };
+    assert_eq!(number, Refusal::Unknown.number());
+    match client.open_call(call) {
+        _ if to != client.client => "receive: 17, other client",
+        Some(_) if c.points.place(point).is_some() => "receive: 17, other point of the lock",
+        Some(_) => "receive: 17, other point",
+        None if call >= client.next => "receive: 17, not yet issued",
+        None => "receive: 17, closed",
+    }
+}
+
+#[test]
+fn chamber_controller() {
+    let mut random = Random::new(seed());
+    let mut tally = Tally::new("chamber", &CLASSES);
+    let mut pair = Pair::start(&mut random, &mut tally);
+    let mut bytes = Vec::new();
+    for _ in 0..runs() {
+        let step = match random.below(100) {
+            0..=44 => {
+                pair.issue(&mut random, &mut tally);
+                "issue"
+            }
+            45..=52 => {
+                pair.resend(&mut random, &mut tally);
+                "resend"
+            }
+            53..=97 => {
+                pair.receive(&mut random, &mut tally, &mut bytes);
+                "receive"
+            }
+            _ => {
+                pair = Pair::start(&mut random, &mut tally);
+                "start"
+            }
+        };
+        pair.compare(step);
+    }
+    tally.finish();
+}
