@@ -1,6 +1,6 @@
 #!/usr/bin/env bash
 # make demo: a host with a file as its card, a desk, and a line between them that loses, repeats and delays; the host is killed and started again
-# while commands are under way. Prints what was sent, lost, repeated and carried out.
+# while commands are under way. Prints what was sent, lost, repeated and carried out. Then a lock with its controller.
 set -eu
 cd "$(dirname "$0")/.."
 commands=${COMMANDS:-600}
@@ -8,7 +8,7 @@ port=${PORT:-$((21000 + $$ % 20000))}
 work=$(mktemp -d)
 bg=()
 trap 'kill -9 "${bg[@]}" 2>/dev/null || true; rm -rf "$work"' EXIT
-for p in host desk relay; do cc -std=gnu11 -O2 -Wall -Wextra -Idist examples/$p.c dist/libmantelorris.a -o "$work/$p"; done
+for p in host desk relay lock; do cc -std=gnu11 -O2 -Wall -Wextra -Idist examples/$p.c dist/libmantelorris.a -o "$work/$p"; done
 "$work/relay" "$port" $((port + 1)) >"$work/line" & relay=$!
 bg+=("$relay")
 "$work/desk" "$port" "$commands" >"$work/desk.out" & desk=$!
@@ -27,3 +27,6 @@ kill "$relay"
 wait "$relay" || true
 cat "$work/desk.out" "$work/line"
 echo "host: killed with SIGKILL $starts times; the card now: $("$work/host" "$work/card")"
+echo
+echo "a lock: its controller fills, opens, closes and empties the chamber, is lost on the way, and has a successor"
+"$work/lock"

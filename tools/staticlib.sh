@@ -3,7 +3,7 @@
 # `rt staticlib` checks its crate anew, as a static library and not as an rlib; here one that was made of the crate as it is now is
 # kept. One at a time: two runs of rt in one repository disturb each other.
 set -eu
-[ $# != 0 ] || set -- client_c kernel
+[ $# != 0 ] || set -- client_c chamber_c kernel
 cd "$(dirname "$0")/.."
 tools/progress.py rt check "$@"
 for name in "$@"; do

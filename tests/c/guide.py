@@ -76,12 +76,12 @@ def sizes():
 def memory():
     names = {'state, for each server': 'MANTELORRIS_STATE_SIZE', 'plan': 'MANTELORRIS_PLAN_SIZE', 'output of request and fetch': 'MANTELORRIS_REPLY_SIZE',
              'output of receipt': 'MANTELORRIS_RECEIPT_SIZE', 'output of image': 'MANTELORRIS_IMAGE_SIZE', 'client struct': 'sizeof(struct mantelorris_client)',
-             'lease manager struct': 'sizeof(struct mantelorris_lease_manager)'}
+             'lease manager struct': 'sizeof(struct mantelorris_lease_manager)', 'lock chamber controller struct': 'sizeof(struct mantelorris_chamber)'}
     rows = table('what | bytes')
     lines = ['_Static_assert(%s == %s, "%s");' % (names[what], n, what) for what, n in rows]
     lines += ['_Static_assert(_Alignof(struct mantelorris_client) == _Alignof(uint32_t) && _Alignof(struct mantelorris_lease_manager) == _Alignof(uint32_t), "");']
     path = os.path.join(WORK, 'memory.c')
-    open(path, 'w').write('#include "mantelorris_client.h"\n' + '\n'.join(lines) + '\nint main(void) { return 0; }\n')
+    open(path, 'w').write('#include "mantelorris_chamber.h"\n' + '\n'.join(lines) + '\nint main(void) { return 0; }\n')
     count('%d sizes of slices and structs' % len(rows), ran(built(path, 'memory'))[0] or len(rows) != len(names))
     wrong = [row for row in table('log space | commands') if (int(row[0]) - 8) // 28 != int(row[1])]
     count('how many commands a log holds', wrong)

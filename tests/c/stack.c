@@ -4,6 +4,7 @@
 #define _GNU_SOURCE
 #include "mantelorris.h"
 #include "mantelorris_client.h"
+#include "mantelorris_chamber.h"
 #include <stdio.h>
 #include <stdlib.h>
 #include <string.h>
@@ -20,6 +21,9 @@ static uint64_t answer;
 static uint32_t point, other, client_number, call_number, at_server;
 static uint64_t mark;
 static struct mantelorris_client client;
+static struct mantelorris_chamber chamber;
+static uint32_t lock_op, lock_point;
+static int32_t lock_argument;
 static struct mantelorris_lease_manager manager;
 
 static ucontext_t here, there;
@@ -63,6 +67,27 @@ static void open_lease(void) { told(mantelorris_open(&manager, 1, 600)); }
 static void renew(void) { told(mantelorris_renew(&manager, client_number, 2, 600)); }
 static void query(void) { told(mantelorris_query(&manager, client_number, (uint32_t)mark)); }
 
+static void chamber_start(void) {
+    struct mantelorris_chamber_start_reply r = mantelorris_chamber_start(packet, packet_length, 10, 11, 20, 21, point);
+    chamber = r.chamber;
+    answer = r.number;
+}
+static void chamber_issue(void) {
+    struct mantelorris_chamber_send_reply r = mantelorris_chamber_issue(chamber, lock_op, lock_point, lock_argument);
+    chamber = r.chamber;
+    keep(r.reply);
+}
+static void chamber_resend(void) {
+    struct mantelorris_chamber_send_reply r = mantelorris_chamber_resend(chamber, call_number);
+    chamber = r.chamber;
+    keep(r.reply);
+}
+static void chamber_receive(void) {
+    struct mantelorris_chamber_receive_reply r = mantelorris_chamber_receive(chamber, packet, packet_length);
+    chamber = r.chamber;
+    answer = r.reply.number;
+}
+
 /* ---- measured */
 
 static struct row {
@@ -77,6 +102,8 @@ static struct row {
     ROW("receipt", receipt, BOUND_RECEIPT), ROW("release", release, BOUND_RELEASE), ROW("recover", recover, BOUND_RECOVER),
     ROW("start", start, BOUND_START), ROW("issue", issue, BOUND_ISSUE), ROW("resend", resend, BOUND_RESEND), ROW("receive", receive, BOUND_RECEIVE),
     ROW("leases", leases, BOUND_LEASES), ROW("open", open_lease, BOUND_OPEN), ROW("renew", renew, BOUND_RENEW), ROW("query", query, BOUND_QUERY),
+    ROW("chamber_start", chamber_start, BOUND_CHAMBER_START), ROW("chamber_issue", chamber_issue, BOUND_CHAMBER_ISSUE),
+    ROW("chamber_resend", chamber_resend, BOUND_CHAMBER_RESEND), ROW("chamber_receive", chamber_receive, BOUND_CHAMBER_RECEIVE),
 };
 enum { ROWS = sizeof rows / sizeof *rows };
 
@@ -209,6 +236,45 @@ static void finish(void) {
     expect(request, MANTELORRIS_NOT_SOUND);
 }
 
+/* a lock: every answer of its controller, up to an opening */
+static void lock_command(uint32_t op, uint32_t at, int32_t argument, uint32_t number) {
+    lock_op = op;
+    lock_point = at;
+    lock_argument = argument;
+    expect(chamber_issue, number);
+    if (number) return;
+    call_number = mantelorris_packet_call(packet);
+    expect(chamber_issue, MANTELORRIS_WINDOW_FULL);
+    expect(chamber_resend, 0);
+    uint8_t result[MANTELORRIS_REPLY_SIZE] = {2, 0, (uint8_t)at, 0};
+    memcpy(result + 4, packet + 4, 8); /* client and call */
+    put32(result + 12, op == MANTELORRIS_READ ? 0 : (uint32_t)argument);
+    memcpy(packet, result, sizeof result);
+    packet_length = sizeof result;
+    expect(chamber_receive, 0);
+    expect(chamber_receive, MANTELORRIS_UNKNOWN);
+    expect(chamber_resend, MANTELORRIS_UNKNOWN);
+}
+
+static void lock(void) {
+    expect(leases, 0);
+    expect(open_lease, 0);
+    point = 20;
+    expect(chamber_start, MANTELORRIS_MALFORMED);
+    point = 22;
+    expect(chamber_start, 0);
+    packet_length = 3;
+    expect(chamber_receive, MANTELORRIS_MALFORMED);
+    lock_command(MANTELORRIS_STEP, 10, 1, MANTELORRIS_MALFORMED);
+    lock_command(MANTELORRIS_SET, 10, 40, MANTELORRIS_NOT_SAFE);
+    lock_command(MANTELORRIS_SET, 11, 0, 0);
+    lock_command(MANTELORRIS_READ, 11, 0, 0);
+    lock_command(MANTELORRIS_READ, 20, 0, 0);
+    lock_command(MANTELORRIS_READ, 21, 0, 0);
+    lock_command(MANTELORRIS_SET, 10, 40, 0);
+    lock_command(MANTELORRIS_PART, 11, 500, MANTELORRIS_NOT_SAFE);
+}
+
 int main(void) {
     for (int p = 0; p < MANTELORRIS_POINTS; p++) {
         put32(plan + 16 * p, (uint32_t)-1000);
@@ -218,6 +284,7 @@ int main(void) {
     serve();
     move();
     finish();
+    lock();
     int bad = 0;
     for (size_t i = 0; i < ROWS; i++) {
         printf("%-8s %6zu bytes at the most in %u calls; the guide says %zu\n", rows[i].name, rows[i].most, rows[i].times, rows[i].bound);
