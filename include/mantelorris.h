@@ -122,7 +122,8 @@ enum mantelorris_kind {
     X(NUMBER_SPENT, 16, "number spent")          /* a move, call, client or time number is at its greatest */ \
     X(UNKNOWN, 17, "unknown")                    /* no such call, client or lease */ \
     X(LEASES_FULL, 18, "leases full")            /* lease manager: 32 leases run */ \
-    X(NOT_SOUND, 19, "not sound")                /* the state is not sound, or the log slice is shorter than its recorded length */
+    X(NOT_SOUND, 19, "not sound")                /* the state is not sound, or the log slice is shorter than its recorded length */ \
+    X(NOT_SAFE, 20, "not safe")                  /* lock chamber controller: the reads do not allow to open the gate */
 
 enum mantelorris_refusal {
     MANTELORRIS_OK = 0,

@@ -2,11 +2,10 @@
 --     chamber-cases     runs of commands with their results: which command passes, and which refusal the last one gets
 --     start-cases       points and packets that start takes, and those that it refuses
 -- Assumes nothing.
-use Prim.Native.Nat.{ℕ, suc, _+_, _-_}
+use Prim.Native.Nat.{ℕ, _+_, _-_}
 use mathlib.Core.Path.{_≡_, refl}
 use mathlib.Core.List.{List, [], _∷_, _++_, map}
 use lib.ListN.{length, replicate}
-use Rattle.model.specs.declared.Sent.{Sent}
 use Rattle.model.specs.declared.Sent.the-variants.{NotSent, Asked}
 use Rattle.model.specs.Numbers.{half, word}
 use Rattle.model.specs.Limits.{readOp, setOp, stepOp, reportOp, faultOp, partOp, carriedOut, valid, invalid, lastPoint, last32, callWindow}

@@ -37,7 +37,7 @@ const CHAMBER_LEVEL: usize = 3;
 
 const LOWER_LEVEL: usize = 4;
 
-// At most this far apart.
+// Levels at most this far apart let a gate be opened between them.
 const LEVEL_STEP: u64 = 5;
 
 // The role of a point; the number of roles where it has none.
@@ -226,7 +226,7 @@ fn no_chamber() -> Chamber
     new_chamber(s, d)
 }
 
-fn not_started(n: u32) -> ChamberStart
+pub fn not_started(n: u32) -> ChamberStart
     ensures { λ r. ⌜ r ≡ notStartedIn n ⌝ }
 {
     let ch = no_chamber();
@@ -266,7 +266,7 @@ pub fn start(packet: &[u8], points: LockPoints) -> ChamberStart
 
 // ---- issue
 
-fn not_sent(ch: Chamber, n: u32) -> ChamberSend
+pub fn not_sent(ch: Chamber, n: u32) -> ChamberSend
     ensures { λ r. ⌜ r ≡ notSentIn ch n ⌝ }
 {
     ChamberSend {

@@ -2,7 +2,7 @@
 --     reply-none, reply-request      what issue and resend give
 --     lease-none, lease-grant, lease-notice      what the lease manager gives
 --     leases-change                  and what is stored in it
---     past-byte      such a command is malformed, so issue refuses it with 1
+--     command-past, past-byte      such a command is malformed, so issue refuses it with 1
 --     both-under     and the test for it
 --     sends-past, sends-change, receives-change      what is stored and replied makes the answer
 --     start-reply    what start gives is made of its numbers
@@ -79,16 +79,19 @@ leases-change m c (under, whole) e = rw e (ap (λ (x : LeaseAnswer). leaseReply 
 
 -- ---- an op or a point past a byte
 
-pub past-byte : (d : Client) (op point a : ℕ) → (ltb 255 op || ltb 255 point) ≡ true → record { client = d; answer = NotSent malformed } ≡ issueOf d op point a
-unfolding issueOf notSent
-past-byte d op point a e = refused (commandOk op point a) refl
+pub command-past : (op point a : ℕ) → (ltb 255 op || ltb 255 point) ≡ true → commandOk op point a ≡ false
+command-past op point a e = go (commandOk op point a) refl
   where
     under : CommandParts op point a → (ltb 255 op || ltb 255 point) ≡ false
     under c = let o = c .op in let p = c .point in rw (le-ltb 255 op (omega arith), le-ltb 255 point (omega arith)) refl
 
-    refused : (b : Bool) → commandOk op point a ≡ b → record { client = d; answer = NotSent malformed } ≡ issueOf d op point a
-    refused true f = absurd (false≢true (sym (under (command-parts op point a f)) ∙ e))
-    refused false f = rw f refl
+    go : (b : Bool) → commandOk op point a ≡ b → commandOk op point a ≡ false
+    go true f = absurd (false≢true (sym (under (command-parts op point a f)) ∙ e))
+    go false f = f
+
+pub past-byte : (d : Client) (op point a : ℕ) → (ltb 255 op || ltb 255 point) ≡ true → record { client = d; answer = NotSent malformed } ≡ issueOf d op point a
+unfolding issueOf notSent
+past-byte d op point a e = rw (command-past op point a e) refl
 
 pub both-under : (op point : ℕ) → (ltb 255 op || ltb 255 point) ≡ false → (op < 256) × (point < 256)
 both-under op point e = go (ltb 255 op) (ltb 255 point) refl refl e

@@ -89,7 +89,7 @@ pub struct Leasing {
     pub reply: LeaseReply,
 }
 
-fn send_reply(a: Sent) -> SendReply
+pub fn send_reply(a: Sent) -> SendReply
     ensures { λ r. ⌜ r ≡ sendReply a ⌝ }
 {
     match a {
@@ -128,7 +128,7 @@ fn empty_reply(number: u32) -> ReceiveReply
     }
 }
 
-fn receive_reply(a: Received) -> ReceiveReply
+pub fn receive_reply(a: Received) -> ReceiveReply
     ensures { λ r. ⌜ r ≡ receiveReply a ⌝ }
 {
     let mut s = empty_reply(constants::NO_REFUSAL);

@@ -1,0 +1,2 @@
+-- Laws that the proofs of `chamber_c` cite.
+pub mod Past
