@@ -9,7 +9,7 @@ ROOT = pathlib.Path(__file__).resolve().parent.parent
 
 # crate::module::function -> why it stays without a caller
 ALLOWED = {
-    name: "by value, for a host in Rattle; C is given what a call changes" for name in ("client::start", "leases::open_lease", "leases::renew", "leases::query")
+    name: "by value, for a host in Rattle; C is given what a call changes" for name in ("leases::open_lease", "leases::renew", "leases::query")
 }
 
 HEAD = re.compile(r"^(?P<indent> *)(?P<pub>pub )?(?P<extern>extern \"C\" )?fn (?P<name>\w+)", re.M)

@@ -20,6 +20,7 @@ ENTRY = {
     'server_recover': 'recover',
     'client': 'start issue resend receive',
     'leases': 'open_lease renew query',
+    'chamber': 'start issue resend receive',
     'simulator_text': 'line_of',
     'simulator': 'simulate',
 }

@@ -6,7 +6,7 @@ import html, os, subprocess, sys, tempfile
 os.chdir(os.path.join(os.path.dirname(os.path.abspath(__file__)), '..'))
 PICTURE = 'docs/pictures/fence.svg'
 LANES = [('lost', 'controller 1'), ('next', 'controller 3'), ('cabinet', 'cabinet'), ('manager', 'lease manager')]
-LEFT, LANE, PANEL, TOP, ROW = 70, 125, 520, 84, 30
+LEFT, LANE, PANEL, TOP, ROW = 70, 130, 560, 84, 30
 
 
 def said():
@@ -54,13 +54,20 @@ def drawn(runs):
                 svg.append('<circle cx="%d" cy="%d" r="3" fill="#345"/>' % (lane[event[1]], y))
                 text(lane[event[1]] + 7, y - 4, event[2])
             elif event[0] == 'go':
-                left[event[1]] = (lane[event[2]], y)
-                text(lane[event[2]] + 7, y - 4, event[3], ' fill="#064"')
+                x = lane[event[2]]
+                left[event[1]] = (x, y)
+                if event[2] == LANES[-1][0]:
+                    text(x - 7, y - 6, event[3], ' text-anchor="end" fill="#064"')
+                else:
+                    text(x + 7, y - 4, event[3], ' fill="#064"')
             elif event[0] == 'in':
                 x, began = left[event[1]]
                 colour = '#b00' if event[1] == 'A' and both else '#345'
-                svg.append('<line x1="%d" y1="%d" x2="%d" y2="%d" stroke="%s" marker-end="url(#tip)"/>' % (x, began, lane[event[2]], y, colour))
-                text(lane[event[2]] + 7, y + 4, event[3], ' fill="%s"' % colour)
+                to = lane[event[2]]
+                # the late packet waits at the left, then arrives
+                way = [(x, began), (x - 24, began + 10), (x - 24, y - 10), (to, y)] if event[1] == 'A' else [(x, began), (to, y)]
+                svg.append('<polyline points="%s" fill="none" stroke="%s" marker-end="url(#tip)"/>' % (' '.join('%d,%d' % p for p in way), colour))
+                text(to + 7, y + (16 if x > to else 4), event[3], ' fill="%s"' % colour)
             else:
                 text(x0 + 20, bottom + 30, 'upper gate at %s, lower gate at %s%s' % (event[1], event[2], ': both open' if both else ''),
                      ' font-weight="bold" fill="%s"' % ('#b00' if both else '#060'))

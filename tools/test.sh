@@ -105,6 +105,7 @@ tests compare -- --nocapture
 sed -nE 's/^\.*(compare [^:]*: seed [0-9]+, [0-9]+ in [0-9.]+ s):.*/   \1/p' "$logs/compare"
 part client-in-c tests/c/client.sh; count $?
 part link-in-c tests/c/link.sh; count $?
+part lock-in-c tests/c/lock.sh; count $?
 part earlier-logs tests/logs/run.sh; count $?
 part power-cuts tests/c/power.py; count $?
 grep -E '^(seed|[0-9]+ starts|line:)' "$logs/power-cuts" | sed 's/^/   /'
