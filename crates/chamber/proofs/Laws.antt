@@ -15,6 +15,8 @@ use native.Mathlib.Omega.{arith}
 use lib.Dec.{ltb, leb}
 use borrow.Author.Tests.{not-true}
 use Rattle.model_laws.proofs.Tests.{and-left, and-right}
+use Rattle.model_laws.proofs.Clients.{ReceiveCase, receive-case}
+use Rattle.model_laws.proofs.Clients as client
 use Rattle.model.specs.declared.Client.{Client}
 use Rattle.model.specs.declared.Request.{Request}
 use Rattle.model.specs.declared.Started.{Started}
@@ -25,8 +27,6 @@ use Rattle.model.specs.Limits.{callWindow, last32}
 use Rattle.model.specs.Packets.{commandOk, parsePacket}
 use Rattle.model.specs.Refusals.{malformed, windowFull, notSafe}
 use Rattle.model.specs.Clients.{firstOpen, notSent, sent, startOf, issueOf, resendOf, notReceived, receiveOf, sendNumber}
-use Rattle.client.proofs.Steps.{ReceiveCase, receive-case}
-use Rattle.client.proofs.Kept as client
 use Rattle.chamber_claim.specs.declared.LockPoints.{LockPoints}
 use Rattle.chamber_claim.specs.declared.Chamber.{Chamber}
 use Rattle.chamber_claim.specs.declared.ChamberSend.{ChamberSend}

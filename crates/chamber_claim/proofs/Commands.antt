@@ -19,16 +19,15 @@ use Rattle.model.specs.declared.Started.the-variants.{NotStarted, Running}
 use Rattle.model.specs.declared.Sent.the-variants.{NotSent, Asked}
 use Rattle.model.specs.declared.Received.{Received}
 use Rattle.model.specs.declared.Received.the-variants.{NotReceived, Completed, Denied, Extended}
-use Rattle.model.specs.declared.SendAnswer.{SendAnswer}
 use Rattle.model.specs.Choice.{pick}
 use Rattle.model.specs.Numbers.{half}
 use Rattle.model.specs.Limits.{readOp, setOp, partOp}
 use Rattle.model.specs.Refusals.{malformed, windowFull, notSafe}
 use Rattle.model.specs.Packets.{commandOk}
 use Rattle.model.specs.Tables.{every}
-use Rattle.model.specs.Clients.{closed, firstOpen, startOf, notSent, sent, issueOf, receiveOf, withLease}
-use Rattle.model_laws.proofs.Tests.{and-left, and-right, choose}
-use Rattle.claim.proofs.Clients.{impossible, asking, IssueCase, issue-case, issue-asked, resend-same}
+use Rattle.model.specs.Clients.{closed, firstOpen, startOf, issueOf, receiveOf, withLease}
+use Rattle.model_laws.proofs.Tests.{and-left, and-right, choose, impossible}
+use Rattle.model_laws.proofs.Clients.{asking, issue-asked, issue-command, issue-refused, resend-same}
 use Rattle.chamber_claim.specs.declared.LockPoints.{LockPoints}
 use Rattle.chamber_claim.specs.declared.LatestRead.{LatestRead}
 use Rattle.chamber_claim.specs.declared.Chamber.{Chamber}
@@ -179,21 +178,18 @@ module _ (ch : Chamber) (op p a : ℕ) where
       go (refused n) f = let k : NotSent n ≡ Asked q = ap (λ (z : ChamberSend). z .answer) f ∙ e in impossible cc
       go (issued o l y) f =
           let k : issueOf (ch .client) op p a .answer ≡ Asked q = ap (λ (z : ChamberSend). z .answer) f ∙ e in
-          let i = issue-asked (ch .client) op p a q k in
-          record { op-is = gate-op _ op o; free = l; safe = y; as-client = k; leaves = ap (λ (z : ChamberSend). z .chamber) (sym f) ∙ rw (k, i .0, i .1) refl }
+          let s = issue-asked (ch .client) op p a q k .after in
+          let i = issue-command (ch .client) op p a q k in
+          record { op-is = gate-op _ op o; free = l; safe = y; as-client = k; leaves = ap (λ (z : ChamberSend). z .chamber) (sym f) ∙ rw (k, s, i) refl }
 
   -- a refusal leaves the controller
   pub refused-same : (n : ℕ) → issueIn ch op p a .answer ≡ NotSent n → issueIn ch op p a .chamber ≡ ch
-  unfolding notSentIn sentIn movedBy notSent sent
+  unfolding notSentIn sentIn movedBy
   refused-same n = go issue-in-case
     where
       go : {z : ChamberSend} → IssueInCase z → z .answer ≡ NotSent n → z .chamber ≡ ch
       go (refused m) e = refl
-      go (issued o l y) e = by-client (issue-case (ch .client) op p a)
-        where
-          by-client : IssueCase (ch .client) op p a → sentIn ch op (issueOf (ch .client) op p a) .chamber ≡ ch
-          by-client (IssueCase.refused m g) = rw g refl
-          by-client (IssueCase.issued g) = let k : sent _ _ .answer ≡ NotSent n = ap (λ (z : SendAnswer). z .answer) (sym g) ∙ e in impossible cc
+      go (issued o l y) e = rw (e, issue-refused (ch .client) op p a n e) refl
 
 -- ---- resend and receive
 

@@ -7,12 +7,12 @@
 -- Assumes nothing.
 use Prim.Native.Nat.{ℕ, zero, suc, _<_, _≤_}
 use mathlib.Core.Path.{_≡_, refl, sym, _∙_, ap, subst}
-use mathlib.Core.Bool.{Bool, true, false, _&&_}
+use mathlib.Core.Bool.{Bool, true, false}
 use mathlib.Core.List.{List, [], _∷_}
 use mathlib.Core.Logic.{_⊎_, inl, inr}
 use mathlib.Core.Option.{Option, none, some}
 use native.Mathlib.Omega.{arith}
-use lib.Dec.{eqb, leb, ltb}
+use lib.Dec.{eqb, ltb}
 use lib.ListN.{length, getD, set, replicate, length-set}
 use lib.Seq.{getD-set-same, getD-set-other}
 use borrow.Author.Tests.{eqb-true, eqb-false, ne-eqb, ltb-true, ltb-false}
@@ -26,13 +26,14 @@ use Rattle.model.specs.declared.ReceiveAnswer.{ReceiveAnswer}
 use Rattle.model.specs.Choice.{pick}
 use Rattle.model.specs.Limits.{readOp, callWindow}
 use Rattle.model.specs.Sequential.{EntryResult, one, resultMeant}
-use Rattle.model.specs.Clients.{noCall, placeOf, callAt, isOpen, isOwn, withCalls, withCall, withLease, newCall, closed, startOf, issueOf, receiveOf}
-use Rattle.model_laws.proofs.Tests.{and-left, and-right, choose}
+use Rattle.model.specs.Packets.{parsePacket}
+use Rattle.model.specs.Clients.{noCall, placeOf, callAt, withCalls, withCall, withLease, newCall, closed, startOf, notReceived, receiveOf}
+use Rattle.model_laws.proofs.Tests.{choose, impossible}
+use Rattle.model_laws.proofs.Clients.{open-from, asking, commandOf, issue-asked, issue-command, start-fresh, Own, ReceiveCase, receive-case}
 use Rattle.claim.specs.World.{Event, issue, receive, packet}
 use Rattle.claim.specs.Claim.{Issues, Completes, commandAt}
 use Rattle.claim.specs.Above.{siteAfter, emptySite, runSite}
-use Rattle.claim.proofs.Clients.{impossible, asking, commandOf, ReceiveCase, receive-case, issue-asked, at-once, Becomes, still, begun, asked, heard, becomes, issue-after, receive-after}
-use Rattle.claim.proofs.Clients.{start-after, own-number, clients-on, issuer, issue-one, issued-below, start-fresh, first-under}
+use Rattle.claim.proofs.Clients.{at-once, Becomes, still, begun, asked, heard, becomes, issue-after, receive-after, start-after, own-number, clients-on, issuer, issue-one, issued-below}
 use Rattle.chamber_claim.specs.declared.LockPoints.{LockPoints}
 use Rattle.chamber_claim.specs.declared.LatestRead.{LatestRead}
 use Rattle.chamber_claim.specs.declared.Chamber.{Chamber}
@@ -231,13 +232,10 @@ module _ (plan : List ℕ) (s : LockPoints) (ls : List LockEvent) where
           go : Done n k ⊎ OpenIn (client .calls) k → Done n k
           go (inl f) = f
           go (inr f) =
-              let u = first-under client (k .call) (f .0) (unfold callAt in (ap (λ (z : OpenCall). z .call) (f .1))) in
+              let u = open-from client (k .call) (record { from = f .0; at = unfold callAt in (ap (λ (z : OpenCall). z .call) (f .1)) }) in
               let v = below j k l i in
               let w = tests .free in
               absurd (omega arith)
-
-      asks : (issueOf client op p a .client ≡ asking client op p a) × (c .request .command ≡ commandOf client op p a)
-      asks = issue-asked client op p a (c .request) (tests .as-client)
 
       asks-event : AtKernel plan s ls n (issue x op p a)
       unfolding lockEvent issueEvent unlessNotSent
@@ -257,7 +255,7 @@ module _ (plan : List ℕ) (s : LockPoints) (ls : List LockEvent) where
             started = h .client;
             asked = c .request;
             answer = tests .as-client;
-            its = ap (λ (z : Command). z ∷ []) (asks .1);
+            its = ap (λ (z : Command). z ∷ []) (issue-command client op p a (c .request) (tests .as-client));
           })
 
       asked-moves : (j : ℕ) (k : Command) → IssuedBy x j k → (k .op ≡ readOp → ⊥) → (j < n) ⊎ (j ≡ n) → k .call ≤ pick (eqb op readOp) (c .chamber .moved) (client .next)
@@ -281,7 +279,7 @@ module _ (plan : List ℕ) (s : LockPoints) (ls : List LockEvent) where
       held-asked =
           subst (Held (suc n) x) (sym (tests .leaves))
           (record {
-            client = issue-after plan es n x op p a client asks-event (h .client) ∙ ap some (asks .0);
+            client = issue-after plan es n x op p a client asks-event (h .client) ∙ ap some (issue-asked client op p a (c .request) (tests .as-client) .after);
             points = h .points;
             places = length-set (client .calls) (placeOf (client .next)) (newCall client op p a) ∙ h .places;
             numbered = omega arith;
@@ -309,17 +307,9 @@ module _ (plan : List ℕ) (s : LockPoints) (ls : List LockEvent) where
           subst (Held (suc n) x) (sym (heard-same ch b lease e f))
           (held-on n x ch _ h no-command (heard-client ∙ ap some e) refl refl refl refl (λ i g. seen-on (h .reads i g)) (λ k _ o. inr o))
 
-      module _ (r : ResultPacket) (own : isOwn (ch .client) (r .client) (r .call) (r .point) ≡ true)
+      module _ (r : ResultPacket) (own : Own (ch .client) (r .client) (r .call) (r .point))
           (e : receiveOf (ch .client) b ≡ record { client = closed (ch .client) (r .call); answer = Completed r }) where
-        -- the call that the result ends
-        open-call : (callAt (ch .client) (r .call) .call ≡ r .call) × (callAt (ch .client) (r .call) .point ≡ r .point)
-        unfolding isOwn isOpen
-        open-call =
-            let d = ch .client in
-            let f = and-right (eqb (r .client) (d .client)) (isOpen d (r .call) && eqb (callAt d (r .call) .point) (r .point)) own in
-            let g = and-left (isOpen d (r .call)) (eqb (callAt d (r .call) .point) (r .point)) f in
-            (eqb-true _ _ (and-right (leb 1 (r .call)) _ g), eqb-true _ _ (and-right (isOpen d (r .call)) (eqb (callAt d (r .call) .point) (r .point)) f))
-
+        -- the call that the result ends is completed
         ends : Completes plan es n (commandAt (ch .client) (r .call) ∷ []) (one (resultMeant (r .result)))
         ends =
             record {
@@ -357,9 +347,9 @@ module _ (plan : List ℕ) (s : LockPoints) (ls : List LockEvent) where
                   record {
                     read = commandAt (ch .client) (r .call);
                     by = number-is;
-                    number = open-call .0;
+                    number = own .open-call .at;
                     op = eqb-true _ _ t;
-                    role = rw (open-call .1, ← h .points) (sym (q .0));
+                    role = rw (own .point-is, ← h .points) (sym (q .0));
                     at = n;
                     result = r .result;
                     value = refl;
@@ -386,7 +376,7 @@ module _ (plan : List ℕ) (s : LockPoints) (ls : List LockEvent) where
                 apart q =
                     let f : callAt (ch .client) (r .call) ≡ callOf k = ap (λ (i : ℕ). getD (ch .client .calls) i noCall) (sym q) ∙ o .1 in
                     let g : callAt (ch .client) (r .call) .call ≡ k .call = ap (λ (z : OpenCall). z .call) f in
-                    eqb-false _ _ t (sym g ∙ open-call .0)
+                    eqb-false _ _ t (sym g ∙ own .open-call .at)
 
         held-ended : Held (suc n) x (receiveIn ch b .chamber)
         unfolding closed withCalls readAt
@@ -396,11 +386,14 @@ module _ (plan : List ℕ) (s : LockPoints) (ls : List LockEvent) where
             ended-reads ended-calls)
 
       held-heard : Held (suc n) x (receiveIn ch b .chamber)
-      held-heard = go (receive-case (ch .client) b)
+      unfolding receiveOf notReceived withLease
+      held-heard = go (receive-case (ch .client) (parsePacket b))
         where
-          go : ReceiveCase (ch .client) b → Held (suc n) x (receiveIn ch b .chamber)
-          go (ReceiveCase.kept lease e f) = held-kept lease e f
-          go (ReceiveCase.ended r o e) = held-ended r o e
+          go : ReceiveCase (ch .client) (parsePacket b) → Held (suc n) x (receiveIn ch b .chamber)
+          go (ReceiveCase.refused m e) = held-kept (ch .client .lease) (rw e refl) (λ r. rw e (λ z. impossible cc))
+          go (ReceiveCase.completed r p o e) = held-ended r o e
+          go (ReceiveCase.denied q p o e) = held-kept (ch .client .lease) (rw e refl) (λ r. rw e (λ z. impossible cc))
+          go (ReceiveCase.extended g p o l e) = held-kept (g .lease) (rw e refl) (λ r. rw e (λ z. impossible cc))
 
     pub held : (n x : ℕ) (ch : Chamber) → lock n .controllers x ≡ some ch → Held n x ch
     unfolding siteAfter runSite emptySite noLock

@@ -19,12 +19,11 @@ use Rattle.model.specs.declared.Started.the-variants.{NotStarted, Running}
 use Rattle.model.specs.declared.Sent.{Sent}
 use Rattle.model.specs.declared.Sent.the-variants.{NotSent, Asked}
 use Rattle.model.specs.Clients.{startOf}
-use Rattle.model_laws.proofs.Tests.{choose}
+use Rattle.model_laws.proofs.Tests.{choose, impossible}
 use Rattle.claim.specs.World.{World, Event, start, issue, resend, receive, packet, after}
 use Rattle.claim.specs.Provisos.{At}
 use Rattle.claim.specs.Above.{Site, eventAt, stepSite}
 use Rattle.claim.proofs.Above.{site-world, event-there, event-from, site-step, site-past}
-use Rattle.claim.proofs.Clients.{impossible}
 use Rattle.chamber_claim.specs.declared.LockPoints.{LockPoints}
 use Rattle.chamber_claim.specs.declared.Chamber.{Chamber}
 use Rattle.chamber_claim.specs.Chamber.{newChamber, startIn, issueIn, resendIn, receiveIn}

@@ -28,11 +28,10 @@ use Rattle.model.specs.Plan.{entryAt}
 use Rattle.model.specs.Limits.{readOp, setOp, partOp}
 use Rattle.model.specs.Sequential.{Marked, OrderEntry, single, parts, commands, EntryResult, one, ResultZ, EntryZ, ReadingZ, Book, resultMeant, afterZ, entryZ, inRangeZ, setZ, readZ, ruleZ}
 use Rattle.model.specs.Sequential.{answerZ, answerTo, bookWith, bookAfter, Answers, here, later}
-use Rattle.model_laws.proofs.Tests.{choose}
+use Rattle.model_laws.proofs.Tests.{choose, impossible}
 use Rattle.model_laws.proofs.Book.{untouched, single-here}
 use Rattle.claim.specs.Claim.{_∈_, Once, none-left, one-more, Before}
 use Rattle.claim.specs.Claim as Claim
-use Rattle.claim.proofs.Clients.{impossible}
 use Rattle.chamber_claim.specs.Chamber.{isOpening}
 
 -- ---- places

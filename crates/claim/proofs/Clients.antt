@@ -1,171 +1,36 @@
 -- Clients along a run of the kernel.
---     issue-case, receive-case          the exits of issue and receive, as far as the calls go
---     start-fresh                       a started client: 16 places, the next number 1
---     first-under                       no open call is before the first open one
 --     after-step, at-once               a world after one event more; event n is one event
 --     becomes                           what an event makes of a client
 --     issue-after, receive-after, start-after    the client after a call of it
 --     own-number                        a client's number is the one that names it
 --     clients-on                        a client stays, and its next number never falls
---     issue-is                          what an issue issues: the client's next number
+--     issue-is, issuer                  what an issue issues: the client's next number
 --     issued-below, issue-rises, issue-one       numbers rise by events; an event issues one command
 -- Assumes nothing.
-use Prim.Native.Nat.{ℕ, zero, suc, _+_, _≤_, _<_}
+use Prim.Native.Nat.{ℕ, zero, suc, _≤_, _<_}
 use mathlib.Core.Path.{_≡_, refl, sym, _∙_, ap, subst}
-use mathlib.Core.Bool.{Bool, true, false, _&&_}
+use mathlib.Core.Bool.{Bool, true, false}
 use mathlib.Core.List.{List, [], _∷_}
 use mathlib.Core.Option.{Option, none, some}
 use native.Mathlib.Omega.{arith}
-use lib.ListN.{length, take, getD, getElem?}
-use lib.Dec.{eqb, leb, ltb}
-use borrow.Author.Tests.{eqb-true, eq-eqb, leb-true, leb-false, ltb-true, ltb-false}
-use Rattle.model_laws.proofs.Tests.{choose}
-use Rattle.model.specs.declared.OpenCall.{OpenCall}
+use lib.ListN.{take, getElem?}
+use lib.Dec.{eqb, leb}
+use borrow.Author.Tests.{eqb-true, eq-eqb, leb-true, leb-false}
 use Rattle.model.specs.declared.Client.{Client}
 use Rattle.model.specs.declared.Command.{Command}
-use Rattle.model.specs.declared.Request.{Request}
-use Rattle.model.specs.declared.ResultPacket.{ResultPacket}
-use Rattle.model.specs.declared.Packet.{Packet}
-use Rattle.model.specs.declared.Packet.the-variants.{Malformed, Requested, Resulted, Refused, Receipted, Noticed, Granted}
-use Rattle.model.specs.declared.Grant.{Grant}
 use Rattle.model.specs.declared.Started.{Started}
 use Rattle.model.specs.declared.Started.the-variants.{NotStarted, Running}
-use Rattle.model.specs.declared.Sent.the-variants.{NotSent, Asked}
-use Rattle.model.specs.declared.Received.the-variants.{Completed}
-use Rattle.model.specs.declared.SendAnswer.{SendAnswer}
-use Rattle.model.specs.Choice.{pick, orElse}
-use Rattle.model.specs.Limits.{last32, callWindow}
-use Rattle.model.specs.Refusals.{malformed, windowFull, numbersOut, noRefusal}
-use Rattle.model.specs.Packets.{parsePacket, commandOk, asGrant}
-use Rattle.model.specs.Clients.{noCall, placeOf, callAt, leastOpen, firstOpen, isOpen, isOwn, closed, withCalls, withLease, withCall, newCall, requestFor, notSent, sent, notReceived, notStarted}
-use Rattle.model.specs.Clients.{started as begunBy, startOf, startWith, issueOf, resendOf, receiveOf, receiveWith, receiveResult, receiveRefusal, receiveGrant}
+use Rattle.model.specs.Refusals.{noRefusal}
+use Rattle.model.specs.Packets.{parsePacket}
+use Rattle.model.specs.Clients.{startOf, issueOf, resendOf, receiveOf}
 use Rattle.model.specs.Operations.{After}
+use Rattle.model_laws.proofs.Tests.{choose, impossible}
+use Rattle.model_laws.proofs.Clients.{commandOf, issue-command, issue-next, issue-keeps, receive-next, resend-same}
 use Rattle.claim.specs.World.{World, WorldOf, Server, nothing, running, crashed, Lent, Event, found, request, fetch, sync, notice, give, image, take·image, receipt, release, recover, crash}
 use Rattle.claim.specs.World.{start, issue, resend, receive, open·lease, renew, query, withServer, withClient, withManager, making, calls, callsOn, foundAs, crashAt, startsAs, startsOn}
 use Rattle.claim.specs.World.{sends, receives, told, packet, step, emptyWorld, runFrom, run, after}
 use Rattle.claim.specs.Provisos.{At, Provisos}
 use Rattle.claim.specs.Claim.{Issues}
-
-pub impossible : {A : Type 0} → _≡_ {A = ℕ} 0 1 → A
-impossible e = absurd (omega arith)
-
--- ---- one client
-
-pub start-fresh : (b : List ℕ) → startOf b .answer ≡ Running → (length (startOf b .client .calls) ≡ callWindow) × (startOf b .client .next ≡ 1)
-unfolding startOf startWith
-start-fresh b = go (asGrant (parsePacket b))
-  where
-    go : (g : Option Grant) → orElse g notStarted begunBy .answer ≡ Running → (length (orElse g notStarted begunBy .client .calls) ≡ callWindow) × (orElse g notStarted begunBy .client .next ≡ 1)
-    go none e = impossible cc
-    go (some g) e = (refl, refl)
-
-abbrev pub asking : Client → ℕ → ℕ → ℕ → Client
-asking d op p a = withCall d (newCall d op p a)
-
-pub data IssueCase (d : Client) (op p a : ℕ) : Type 0 where
-  refused : (n : ℕ) → issueOf d op p a ≡ notSent d n → IssueCase d op p a
-  issued : issueOf d op p a ≡ sent (asking d op p a) (newCall d op p a) → IssueCase d op p a
-
-pub issue-case : (d : Client) (op p a : ℕ) → IssueCase d op p a
-unfolding issueOf
-issue-case d op p a = go (commandOk op p a) (leb (firstOpen d + callWindow) (d .next)) (leb last32 (d .next)) refl refl refl
-  where
-    go : (u v w : Bool) → commandOk op p a ≡ u → leb (firstOpen d + callWindow) (d .next) ≡ v → leb last32 (d .next) ≡ w → IssueCase d op p a
-    go false v w e f g = refused malformed (rw e refl)
-    go true true w e f g = refused windowFull (rw (e, f) refl)
-    go true false true e f g = refused numbersOut (rw (e, f, g) refl)
-    go true false false e f g = issued (rw (e, f, g) refl)
-
-issue-keeps : (d : Client) (op p a : ℕ) → (issueOf d op p a .client .client ≡ d .client) × (d .next ≤ issueOf d op p a .client .next)
-unfolding notSent sent withCall withCalls
-issue-keeps d op p a = go (issue-case d op p a)
-  where
-    go : IssueCase d op p a → (issueOf d op p a .client .client ≡ d .client) × (d .next ≤ issueOf d op p a .client .next)
-    go (IssueCase.refused n e) = rw e (refl, omega arith)
-    go (IssueCase.issued e) = rw e (refl, omega arith)
-
--- the command that an issue asks for
-abbrev pub commandOf : Client → ℕ → ℕ → ℕ → Command
-commandOf d op p a = record { client = d .client; call = d .next; op = op; point = p; argument = a }
-
-pub issue-asked : (d : Client) (op p a : ℕ) (q : Request) → issueOf d op p a .answer ≡ Asked q → (issueOf d op p a .client ≡ asking d op p a) × (q .command ≡ commandOf d op p a)
-unfolding notSent sent requestFor newCall withCall withCalls
-issue-asked d op p a q s = go (issue-case d op p a)
-  where
-    go : IssueCase d op p a → (issueOf d op p a .client ≡ asking d op p a) × (q .command ≡ commandOf d op p a)
-    go (IssueCase.refused n e) = let f : NotSent n ≡ Asked q = ap (λ (x : SendAnswer). x .answer) (sym e) ∙ s in impossible cc
-    go (IssueCase.issued e) =
-        let f : Asked (requestFor (asking d op p a) (newCall d op p a)) ≡ Asked q = ap (λ (x : SendAnswer). x .answer) (sym e) ∙ s in
-        let g : requestFor (asking d op p a) (newCall d op p a) ≡ q = cc in
-        (ap (λ (x : SendAnswer). x .client) e, ap (λ (x : Request). x .command) (sym g))
-
-pub resend-same : (d : Client) (c : ℕ) → resendOf d c .client ≡ d
-unfolding resendOf notSent sent
-resend-same d c = choose (λ (a : SendAnswer). a .client ≡ d) (isOpen d c) (λ _. refl) (λ _. refl)
-
--- the first open call is no later than any open one
-lesser-under : (c n : ℕ) → (pick (leb 1 c && ltb c n) c n ≤ n) × (1 ≤ c → pick (leb 1 c && ltb c n) c n ≤ c)
-lesser-under c n = go (leb 1 c) refl (ltb c n) refl
-  where
-    go : (u : Bool) → leb 1 c ≡ u → (v : Bool) → ltb c n ≡ v → (pick (u && v) c n ≤ n) × (1 ≤ c → pick (u && v) c n ≤ c)
-    go true e true f = let h = ltb-true c n f in (omega arith, λ _. omega arith)
-    go true e false f = let h = ltb-false c n f in (omega arith, λ _. h)
-    go false e v f = let h = leb-false 1 c e in (omega arith, λ g. absurd (omega arith))
-
-least-under : (n : ℕ) (ks : List OpenCall) → leastOpen n ks ≤ n
-unfolding leastOpen
-least-under n [] = omega arith
-least-under n (k ∷ ks) = let h = least-under (pick (leb 1 (k .call) && ltb (k .call) n) (k .call) n) ks in omega (arith, lesser-under (k .call) n .0)
-
-least-each : (n : ℕ) (ks : List OpenCall) (i : ℕ) → 1 ≤ getD ks i noCall .call → leastOpen n ks ≤ getD ks i noCall .call
-unfolding leastOpen
-least-each n [] i h = absurd (omega arith)
-least-each n (k ∷ ks) zero h =
-    let u = least-under (pick (leb 1 (k .call) && ltb (k .call) n) (k .call) n) ks in let l = lesser-under (k .call) n .1 h in omega arith
-least-each n (k ∷ ks) (suc i) h = least-each (pick (leb 1 (k .call) && ltb (k .call) n) (k .call) n) ks i h
-
-pub first-under : (d : Client) (c : ℕ) → 1 ≤ c → callAt d c .call ≡ c → firstOpen d ≤ c
-unfolding firstOpen callAt
-first-under d c h e = let l = least-each (d .next) (d .calls) (placeOf c) (omega arith) in omega arith
-
--- only a result changes the open calls
-pub data ReceiveCase (d : Client) (b : List ℕ) : Type 0 where
-  kept : (lease : ℕ) → receiveOf d b .client ≡ withLease d lease → ((r : ResultPacket) → receiveOf d b .answer ≡ Completed r → ⊥) → ReceiveCase d b
-  ended : (r : ResultPacket) → isOwn d (r .client) (r .call) (r .point) ≡ true
-      → receiveOf d b ≡ record { client = closed d (r .call); answer = Completed r } → ReceiveCase d b
-
-pub receive-case : (d : Client) (b : List ℕ) → ReceiveCase d b
-unfolding receiveOf receiveWith receiveResult receiveRefusal receiveGrant notReceived withLease
-receive-case d b = go (parsePacket b) refl
-  where
-    go : (p : Packet) → parsePacket b ≡ p → ReceiveCase d b
-    go Malformed e = kept (d .lease) (rw e refl) (λ r. rw e (λ z. impossible cc))
-    go (Requested q) e = kept (d .lease) (rw e refl) (λ r. rw e (λ z. impossible cc))
-    go (Receipted q) e = kept (d .lease) (rw e refl) (λ r. rw e (λ z. impossible cc))
-    go (Noticed q) e = kept (d .lease) (rw e refl) (λ r. rw e (λ z. impossible cc))
-    go (Resulted q) e = cases (isOwn d (q .client) (q .call) (q .point)) refl
-      where
-        cases : (u : Bool) → isOwn d (q .client) (q .call) (q .point) ≡ u → ReceiveCase d b
-        cases true f = ended q f (rw (e, f) refl)
-        cases false f = kept (d .lease) (rw (e, f) refl) (λ r. rw (e, f) (λ z. impossible cc))
-    go (Refused q) e = cases (isOwn d (q .client) (q .call) (q .point)) refl
-      where
-        cases : (u : Bool) → isOwn d (q .client) (q .call) (q .point) ≡ u → ReceiveCase d b
-        cases true f = kept (d .lease) (rw (e, f) refl) (λ r. rw (e, f) (λ z. impossible cc))
-        cases false f = kept (d .lease) (rw (e, f) refl) (λ r. rw (e, f) (λ z. impossible cc))
-    go (Granted g) e = cases (eqb (g .client) (d .client) && leb (d .lease) (g .lease)) refl
-      where
-        cases : (u : Bool) → (eqb (g .client) (d .client) && leb (d .lease) (g .lease)) ≡ u → ReceiveCase d b
-        cases true f = kept (g .lease) (rw (e, f) refl) (λ r. rw (e, f) (λ z. impossible cc))
-        cases false f = kept (d .lease) (rw (e, f) refl) (λ r. rw (e, f) (λ z. impossible cc))
-
-receive-keeps : (d : Client) (b : List ℕ) → (receiveOf d b .client .client ≡ d .client) × (d .next ≤ receiveOf d b .client .next)
-unfolding withLease closed withCalls
-receive-keeps d b = go (receive-case d b)
-  where
-    go : ReceiveCase d b → (receiveOf d b .client .client ≡ d .client) × (d .next ≤ receiveOf d b .client .next)
-    go (ReceiveCase.kept l e f) = rw e (refl, omega arith)
-    go (ReceiveCase.ended r o e) = rw e (refl, omega arith)
 
 -- ---- one event of a server or of the lease manager leaves the clients
 
@@ -315,19 +180,19 @@ module _ (plan : List ℕ) (es : List Event) where
   -- ---- numbers
 
   pub own-number : (n x : ℕ) (d : Client) → after es n .clients x ≡ some d → d .client ≡ x
-  unfolding after run runFrom emptyWorld
+  unfolding after run runFrom emptyWorld receiveOf
   own-number zero x d e = impossible cc
   own-number (suc n) x d e = go (λ c. own-number n x c) (becomes n x) e
     where
       go : ((c : Client) → after es n .clients x ≡ some c → c .client ≡ x) → {o : Option Client} → Becomes n x o → o ≡ some d → d .client ≡ x
       go ih still f = ih d f
       go ih (begun p b h f r q) g = let k : startOf b .client ≡ d = cc in subst (λ (z : Client). z .client ≡ x) k q
-      go ih (asked op p a c h f) g = let k : issueOf c op p a .client ≡ d = cc in subst (λ (z : Client). z .client ≡ x) k (issue-keeps c op p a .0 ∙ ih c f)
-      go ih (heard p c b h f q) g = let k : receiveOf c b .client ≡ d = cc in subst (λ (z : Client). z .client ≡ x) k (receive-keeps c b .0 ∙ ih c f)
+      go ih (asked op p a c h f) g = let k : issueOf c op p a .client ≡ d = cc in subst (λ (z : Client). z .client ≡ x) k (issue-keeps c op p a .1 ∙ ih c f)
+      go ih (heard p c b h f q) g = let k : receiveOf c b .client ≡ d = cc in subst (λ (z : Client). z .client ≡ x) k (receive-next c (parsePacket b) .1 ∙ ih c f)
 
   -- an issue takes the next number
   pub issue-is : (n : ℕ) (k : Command) (i : Issues plan es n (k ∷ [])) → k ≡ commandOf (i .state) (i .op) (i .point) (i .argument)
-  issue-is n k i = let q : i .asked .command ∷ [] ≡ k ∷ [] = i .its in let r : i .asked .command ≡ k = cc in sym r ∙ issue-asked _ _ _ _ _ (i .answer) .1
+  issue-is n k i = let q : i .asked .command ∷ [] ≡ k ∷ [] = i .its in let r : i .asked .command ≡ k = cc in sym r ∙ issue-command _ _ _ _ _ (i .answer)
 
   pub issuer : (n : ℕ) (k : Command) (i : Issues plan es n (k ∷ [])) → i .client ≡ k .client
   issuer n k i = sym (ap (λ (z : Command). z .client) (issue-is n k i) ∙ own-number n (i .client) (i .state) (i .started))
@@ -345,15 +210,19 @@ module _ (plan : List ℕ) (es : List Event) where
 
   module _ (provisos : Provisos plan es) where
     next-kept : (n x : ℕ) (d : Client) → after es n .clients x ≡ some d → (c : Client) × (after es (suc n) .clients x ≡ some c) × (d .next ≤ c .next)
+    unfolding receiveOf
     next-kept n x d e = go (becomes n x)
       where
+        same : {c : Client} → after es n .clients x ≡ some c → d ≡ c
+        same {c} f = let g : some d ≡ some c = sym e ∙ f in cc
+
         go : {o : Option Client} → Becomes n x o → (c : Client) × (o ≡ some c) × (d .next ≤ c .next)
         go still = (d, e, omega arith)
         go (begun p b h f r q) =
             let z : after es n .clients x ≡ none = subst (λ (y : ℕ). after es n .clients y ≡ none) q (provisos .started-once n p b h f r) in
             let y : some d ≡ none = sym e ∙ z in impossible cc
-        go (asked op p a c h f) = let g : some d ≡ some c = sym e ∙ f in let k : d ≡ c = cc in (_, refl, subst (λ (z : Client). z .next ≤ issueOf c op p a .client .next) (sym k) (issue-keeps c op p a .1))
-        go (heard p c b h f q) = let g : some d ≡ some c = sym e ∙ f in let k : d ≡ c = cc in (_, refl, subst (λ (z : Client). z .next ≤ receiveOf c b .client .next) (sym k) (receive-keeps c b .1))
+        go (asked op p a c h f) = (_, refl, let k = ap (λ (z : Client). z .next) (same f) in omega (arith, issue-keeps c op p a .0))
+        go (heard p c b h f q) = (_, refl, let k = ap (λ (z : Client). z .next) (same f) in omega (arith, receive-next c (parsePacket b) .0))
 
     pub clients-on : (n m x : ℕ) (d : Client) → n ≤ m → after es n .clients x ≡ some d → (c : Client) × (after es m .clients x ≡ some c) × (d .next ≤ c .next)
     clients-on n zero x d h e = (d, subst (λ (k : ℕ). after es k .clients x ≡ some d) (omega arith) e, omega arith)
@@ -369,17 +238,13 @@ module _ (plan : List ℕ) (es : List Event) where
 
     -- what was issued has a number below the next
     pub issued-below : (n m : ℕ) (k : Command) (d : Client) → Issues plan es n (k ∷ []) → n < m → after es m .clients (k .client) ≡ some d → k .call < d .next
-    unfolding withCall withCalls
     issued-below n m k d i h e =
-        let s : after es (suc n) .clients (i .client) ≡ some (asking (i .state) (i .op) (i .point) (i .argument)) =
-        issue-after n _ _ _ _ _ (i .event) (i .started) ∙ ap some (issue-asked _ _ _ _ _ (i .answer) .0) in
-        let c = clients-on (suc n) m (i .client) _ h s in
+        let c = clients-on (suc n) m (i .client) _ h (issue-after n _ _ _ _ _ (i .event) (i .started)) in
         let f : some (c .0) ≡ some d = sym (c .1) ∙ ap (after es m .clients) (issuer n k i) ∙ e in
         let g : c .0 ≡ d = cc in
-        let j : suc (i .state .next) ≤ c .0 .next = c .2 in
         let l : c .0 .next ≡ d .next = ap (λ (z : Client). z .next) g in
         let o : k .call ≡ i .state .next = ap (λ (z : Command). z .call) (issue-is n k i) in
-        omega arith
+        omega (arith, c .2, issue-next _ _ _ _ _ (i .answer) .1)
 
     -- numbers rise by events
     pub issue-rises : (n m : ℕ) (k l : Command) → Issues plan es n (k ∷ []) → Issues plan es m (l ∷ []) → k .client ≡ l .client → n < m → k .call < l .call

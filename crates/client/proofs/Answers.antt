@@ -15,6 +15,8 @@ use lib.ListN.{length, set}
 use lib.Seq.{set-getD}
 use borrow.Author.Tests.{le-leb, lt-leb, leb-true, eqb-true}
 use Rattle.model_laws.proofs.Tests.{and-left, and-right}
+use Rattle.model_laws.proofs.Least.{least-opened}
+use Rattle.model_laws.proofs.Clients.{place-under}
 use Rattle.model.specs.declared.OpenCall.{OpenCall}
 use Rattle.model.specs.declared.Client.{Client}
 use Rattle.model.specs.declared.Request.{Request}
@@ -32,8 +34,6 @@ use Rattle.model.specs.Clients.{withLease, closed, isOwn, notReceived, receiveR
 use Rattle.model.specs.Refusals.{unknown, malformed, windowFull, numbersOut}
 use Rattle.model.specs.Limits.{callWindow, last32}
 use Rattle.client.specs.Changes.{requestWith, issued, received}
-use Rattle.client.proofs.Least.{least-opened}
-use Rattle.client.proofs.Open.{place-under}
 
 pub same-call : (d : Client) (c : ℕ) {k : OpenCall} → k ≡ callAt d c → set (d .calls) (placeOf c) k ≡ d .calls
 unfolding callAt

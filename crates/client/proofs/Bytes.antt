@@ -16,6 +16,7 @@ use Rattle.model_laws.specs.Fits.{RequestFits, packetFits, IsPacket}
 use Rattle.model_laws.proofs.Tests.{and-left}
 use Rattle.model_laws.proofs.Commands.{command-parts}
 use Rattle.model_laws.proofs.Packets.{packet-back, packet-found}
+use Rattle.model_laws.proofs.Clients.{first-under, issue-asked, resend-asked}
 use Rattle.model.specs.declared.OpenCall.{OpenCall}
 use Rattle.model.specs.declared.Client.{Client}
 use Rattle.model.specs.declared.Request.{Request}
@@ -26,8 +27,8 @@ use Rattle.model.specs.declared.Sent.the-variants.{Asked}
 use Rattle.model.specs.Packets.{commandOk, requestOk, grantOk, requestBytes, packetBytes, parsePacket}
 use Rattle.model.specs.Clients.{callAt, withCalls, withCall, newCall, requestFor, startWith, startOf, issueOf, resendOf, receiveOf}
 use Rattle.client.specs.WellFormed.{WellFormed}
-use Rattle.client.proofs.Open.{open-below, first-under}
-use Rattle.client.proofs.Kept.{start-well, receive-well, issue-well, issue-asked, issue-ok, resend-asked, resend-ok}
+use Rattle.client.proofs.Open.{open-below}
+use Rattle.client.proofs.Kept.{start-well, receive-well, issue-well, issue-ok, resend-ok}
 
 pub command-fits : (op point a : ℕ) → commandOk op point a ≡ true → (op < 256) × (point < 256) × (a < 4294967296)
 command-fits op point a e =
@@ -46,7 +47,7 @@ request-fits {d} w k b ok =
       point = f .1;
       client = omega (arith, w .client-within);
       call = omega (arith, w .next-within);
-      done = omega (arith, w .next-within, first-under w);
+      done = omega (arith, w .next-within, first-under d);
       lease = omega (arith, w .lease-within);
       argument = f .2;
     }

@@ -1,6 +1,5 @@
 -- What the operations keep of a client.
---     start-well, issue-well, resend-same, receive-well    a client is kept well formed
---     issue-next, receive-next     call numbers rise: issue takes next and raises it by 1, nothing else changes it
+--     start-well, issue-well, receive-well      a client is kept well formed
 --     issue-opens, issue-stays, issue-only      issue opens next alone; the others stay open, with their data
 --     receive-stays, receive-only  an open call stays open, with its data, until a result of it is received
 --     receive-lease                the lease end never falls
@@ -17,7 +16,9 @@ use lib.ListN.{length, getD, set, replicate, length-set, getD-replicate}
 use lib.Seq.{getD-set-same, getD-set-other}
 use borrow.Author.Tests.{eqb-true, eqb-false, le-leb}
 use Rattle.model_laws.specs.Fits.{GrantFits, packetFits}
-use Rattle.model_laws.proofs.Tests.{and-both}
+use Rattle.model_laws.proofs.Tests.{and-both, impossible}
+use Rattle.model_laws.proofs.Least.{least-over}
+use Rattle.model_laws.proofs.Clients.{Open, place-under, first-under, first-each, open-from, IssueCase, issue-case, Own, ReceiveCase, receive-case, issue-asked, resend-asked}
 use Rattle.model.specs.declared.OpenCall.{OpenCall}
 use Rattle.model.specs.declared.Client.{Client}
 use Rattle.model.specs.declared.Request.{Request}
@@ -25,19 +26,14 @@ use Rattle.model.specs.declared.ResultPacket.{ResultPacket}
 use Rattle.model.specs.declared.Grant.{Grant}
 use Rattle.model.specs.declared.Packet.{Packet}
 use Rattle.model.specs.declared.Packet.the-variants.{Resulted, Granted}
-use Rattle.model.specs.declared.Sent.the-variants.{NotSent, Asked}
+use Rattle.model.specs.declared.Sent.the-variants.{Asked}
 use Rattle.model.specs.declared.Received.the-variants.{Completed}
-use Rattle.model.specs.declared.SendAnswer.{SendAnswer}
 use Rattle.model.specs.declared.ReceiveAnswer.{ReceiveAnswer}
 use Rattle.model.specs.Packets.{commandOk, idOk, doneOk, requestOk}
 use Rattle.model.specs.Clients.{noCall, placeOf, callAt, firstOpen, withCalls, withLease, closed, requestFor, startWith, newCall, withCall, notSent, sent, issueOf, resendOf, notReceived, receiveWith}
 use Rattle.model.specs.Limits.{callWindow, last32, lastInWindow}
-use Rattle.model.specs.Refusals.{unknown}
-use Rattle.client.specs.WellFormed.{WellFormed, callIn}
-use Rattle.client.proofs.Least.{least-over, least-each}
-use Rattle.client.proofs.Open.{Open, open-from, open-below, first-under, first-from, place-under, issued-at, issued-keeps, issued-next}
-use Rattle.client.proofs.Open.{issued-open, issued-only, closed-off, closed-keeps, closed-open, closed-only}
-use Rattle.client.proofs.Steps.{IssueCase, ResendCase, ReceiveCase, Own, issue-case, resend-case, receive-case}
+use Rattle.client.specs.WellFormed.{WellFormed}
+use Rattle.client.proofs.Open.{open-below, first-from, issued-at, issued-keeps, issued-next, issued-open, issued-only, closed-off, closed-keeps, closed-open, closed-only}
 
 -- ---- start
 
@@ -75,80 +71,12 @@ set-each P ks j k i h f g = go (eqb i j) refl
         subst (λ (n : ℕ). P (getD (set ks n k) i noCall)) q (subst P (sym (getD-set-same ks i k noCall h)) (f q))
     go false e = subst P (sym (getD-set-other ks j i k noCall (eqb-false i j e))) g
 
--- ---- statements
+-- ---- a packet is received
 
 -- an open call stays open, with its data, until a result of it is received
 pub data Stays (d : Client) (p : Packet) (c : ℕ) : Type 0 where
   stays : Open (receiveWith d p .client) c → callAt (receiveWith d p .client) c ≡ callAt d c → Stays d p c
   ends : (r : ResultPacket) → p ≡ Resulted r → r .call ≡ c → receiveWith d p .answer ≡ Completed r → Stays d p c
-
--- what an issue that is not refused does
-pub record Issues (d : Client) (op point a : ℕ) (q : Request) : Type 0 where
-  pub ok : commandOk op point a ≡ true
-  pub room : d .next < firstOpen d + callWindow
-  pub left : d .next < last32
-  pub after : issueOf d op point a .client ≡ withCall d (newCall d op point a)
-  pub asks : q ≡ requestFor (withCall d (newCall d op point a)) (newCall d op point a)
-
--- what a resend that is not refused does
-pub record Resends (d : Client) (c : ℕ) (q : Request) : Type 0 where
-  pub open-call : Open d c
-  pub asks : q ≡ requestFor d (callAt d c)
-
--- ---- refused or not
-
-pub issue-asked : (d : Client) (op point a : ℕ) (q : Request) → issueOf d op point a .answer ≡ Asked q → Issues d op point a q
-unfolding notSent sent
-issue-asked d op point a q s = go (issue-case d op point a)
-  where
-    go : IssueCase d op point a → Issues d op point a q
-    go (IssueCase.refused n e) = let f : NotSent n ≡ Asked q = ap (λ (x : SendAnswer). x .answer) (sym e) ∙ s in let z : _≡_ {A = ℕ} 0 1 = cc in absurd (omega arith)
-    go (IssueCase.issued ok room left e) =
-        let f : Asked (requestFor (withCall d (newCall d op point a)) (newCall d op point a)) ≡ Asked q = ap (λ (x : SendAnswer). x .answer) (sym e) ∙ s in
-        record { ok = ok; room = room; left = left; after = ap (λ (x : SendAnswer). x .client) e; asks = cc }
-
-pub issue-refused : (d : Client) (op point a n : ℕ) → issueOf d op point a .answer ≡ NotSent n → issueOf d op point a .client ≡ d
-unfolding notSent sent
-issue-refused d op point a n s = go (issue-case d op point a)
-  where
-    go : IssueCase d op point a → issueOf d op point a .client ≡ d
-    go (IssueCase.refused m e) = ap (λ (x : SendAnswer). x .client) e
-    go (IssueCase.issued ok room left e) =
-        let f : Asked (requestFor (withCall d (newCall d op point a)) (newCall d op point a)) ≡ NotSent n = ap (λ (x : SendAnswer). x .answer) (sym e) ∙ s in
-        let z : _≡_ {A = ℕ} 0 1 = cc in absurd (omega arith)
-
-pub resend-asked : (d : Client) (c : ℕ) (q : Request) → resendOf d c .answer ≡ Asked q → Resends d c q
-unfolding notSent sent
-resend-asked d c q s = go (resend-case d c)
-  where
-    go : ResendCase d c → Resends d c q
-    go (ResendCase.refused e) = let f : NotSent unknown ≡ Asked q = ap (λ (x : SendAnswer). x .answer) (sym e) ∙ s in let z : _≡_ {A = ℕ} 0 1 = cc in absurd (omega arith)
-    go (ResendCase.resent o e) = let f : Asked (requestFor d (callAt d c)) ≡ Asked q = ap (λ (x : SendAnswer). x .answer) (sym e) ∙ s in record { open-call = o; asks = cc }
-
-pub resend-same : (d : Client) (c : ℕ) → resendOf d c .client ≡ d
-unfolding notSent sent
-resend-same d c = go (resend-case d c)
-  where
-    go : ResendCase d c → resendOf d c .client ≡ d
-    go (ResendCase.refused e) = ap (λ (x : SendAnswer). x .client) e
-    go (ResendCase.resent o e) = ap (λ (x : SendAnswer). x .client) e
-
--- ---- numbers
-
--- call numbers rise: an issue that is not refused takes next, and the next one is 1 more; nothing else changes it
-pub issue-next : (d : Client) (op point a : ℕ) (q : Request) → issueOf d op point a .answer ≡ Asked q → (q .command .call ≡ d .next) × (issueOf d op point a .client .next ≡ suc (d .next))
-unfolding requestFor newCall withCall withCalls
-issue-next d op point a q s = let i = issue-asked d op point a q s in (ap (λ (x : Request). x .command .call) (i .asks), ap (λ (x : Client). x .next) (i .after))
-
-pub receive-next : (d : Client) (p : Packet) → (receiveWith d p .client .next ≡ d .next) × (receiveWith d p .client .client ≡ d .client)
-unfolding notReceived closed withCalls withLease
-receive-next d p = go (receive-case d p)
-  where
-    go : ReceiveCase d p → (receiveWith d p .client .next ≡ d .next) × (receiveWith d p .client .client ≡ d .client)
-    go (ReceiveCase.refused n e) = rw e (refl, refl)
-    go (ReceiveCase.completed r q o e) = rw e (refl, refl)
-    go (ReceiveCase.denied r q o e) = rw e (refl, refl)
-    go (ReceiveCase.extended g q o l e) = rw e (refl, refl)
 
 -- the lease end never falls
 pub receive-lease : (d : Client) (p : Packet) → d .lease ≤ receiveWith d p .client .lease
@@ -165,10 +93,6 @@ module _ {d : Client} (w : WellFormed d) where
   inside : (i : ℕ) → i < callWindow → i < length (d .calls)
   inside i h = omega (arith, w .places)
 
-  first-each : (i : ℕ) → i < callWindow → 1 ≤ callIn d i .call → firstOpen d ≤ callIn d i .call
-  unfolding firstOpen
-  first-each i h p = least-each (d .next) (d .calls) i (inside i h) p
-
   -- ---- a new call
 
   module _ (k : OpenCall) (new : k .call ≡ d .next) (ok : commandOk (k .op) (k .point) (k .argument) ≡ true) (room : d .next < firstOpen d + callWindow) (left : d .next < last32) where
@@ -181,7 +105,7 @@ module _ {d : Client} (w : WellFormed d) where
         each : (i : ℕ) → i < callWindow → 1 ≤ getD (set (d .calls) (placeOf (k .call)) k) i noCall .call → suc (d .next) - callWindow ≤ getD (set (d .calls) (placeOf (k .call)) k) i noCall .call
         each i h =
             set-each (λ (x : OpenCall). 1 ≤ x .call → suc (d .next) - callWindow ≤ x .call) (d .calls) (placeOf (k .call)) k i (inside i h)
-            (λ _ _. omega arith) (λ p. let f = first-each i h p in omega arith)
+            (λ _ _. omega arith) (λ p. let f = first-each d i p in omega arith)
 
     pub with-call-well : WellFormed (withCall d k)
     unfolding withCall withCalls
@@ -204,13 +128,13 @@ module _ {d : Client} (w : WellFormed d) where
     closed-over : firstOpen d ≤ firstOpen (closed d c)
     unfolding firstOpen closed withCalls
     closed-over =
-        least-over (firstOpen d) (d .next) (set (d .calls) (placeOf c) noCall) (first-under w)
+        least-over (firstOpen d) (d .next) (set (d .calls) (placeOf c) noCall) (first-under d)
         (λ i h p. each i (omega (arith, w .places, length-set (d .calls) (placeOf c) noCall)) p)
       where
         each : (i : ℕ) → i < callWindow → 1 ≤ getD (set (d .calls) (placeOf c) noCall) i noCall .call → firstOpen d ≤ getD (set (d .calls) (placeOf c) noCall) i noCall .call
         each i h =
             set-each (λ (x : OpenCall). 1 ≤ x .call → firstOpen d ≤ x .call) (d .calls) (placeOf c) noCall i (inside i h)
-            (λ _ q. absurd (omega arith)) (first-each i h)
+            (λ _ q. absurd (omega arith)) (first-each d i)
 
     pub closed-well : WellFormed (closed d c)
     unfolding closed withCalls
@@ -340,12 +264,12 @@ module _ {d : Client} (w : WellFormed d) where
       told e = ap (λ (x : ReceiveAnswer). x .answer) (sym e) ∙ s
 
       go : ReceiveCase d p → Open (receiveWith d p .client) (r .call) → ⊥
-      go (ReceiveCase.refused n e) = let f = told e in let z : _≡_ {A = ℕ} 0 1 = cc in absurd (omega arith)
+      go (ReceiveCase.refused n e) = let f = told e in impossible cc
       go (ReceiveCase.completed r′ q own e) =
           let f = told e in let z : r′ ≡ r = cc in
           rw e (subst (λ (x : ResultPacket). Open (closed d (r′ .call)) (x .call) → ⊥) z (closed-off w (r′ .call) (own .open-call)))
-      go (ReceiveCase.denied r′ q own e) = let f = told e in let z : _≡_ {A = ℕ} 0 1 = cc in absurd (omega arith)
-      go (ReceiveCase.extended g q k l e) = let f = told e in let z : _≡_ {A = ℕ} 0 1 = cc in absurd (omega arith)
+      go (ReceiveCase.denied r′ q own e) = let f = told e in impossible cc
+      go (ReceiveCase.extended g q k l e) = let f = told e in impossible cc
 
   -- ---- a request that is sent
 
@@ -355,7 +279,7 @@ module _ {d : Client} (w : WellFormed d) where
   sent-ok c o =
       let at = o .at in
       let f = first-from w in
-      let u : firstOpen d ≤ callAt d c .call = omega (arith, open-from w c o) in
+      let u : firstOpen d ≤ callAt d c .call = omega (arith, open-from d c o) in
       let b : callAt d c .call ≤ firstOpen d + lastInWindow = omega (arith, open-below w c o, w .window) in
       let p : 1 ≤ callAt d c .call = omega (arith, o .from) in
       and-both (commandOk (callAt d c .op) (callAt d c .point) (callAt d c .argument)) _ (command c o)

@@ -1,9 +1,7 @@
 -- Laws that the proofs of `client` cite, and laws of the definitions for other crates.
 pub mod Places
 pub mod Answers
-pub mod Least
 pub mod Open
-pub mod Steps
 pub mod Kept
 pub mod Bytes
 pub mod Others

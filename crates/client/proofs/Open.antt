@@ -1,8 +1,7 @@
 -- Open calls of a well-formed client.
---     open-is, is-open-of     what it is for a call to be open
 --     open-once               a call is open at one place only
---     open-from, open-below, open-within    an open call is from the first open one, below next, and next is at most 16 over it
---     none-under              no call under the first open one, and none from next on, is open
+--     open-below, open-within    an open call is below next, and next is at most 16 over it
+--     none-over               no call from next on is open
 --     first-found             the first open call is next, where none is open, or is open
 --     first-from              it is from 1
 --     apart                   an open call and next stand at two places, while next is less than 16 over the first open one
@@ -14,43 +13,17 @@ use mathlib.Core.Bool.{Bool, true, false}
 use mathlib.Core.Logic.{_⊎_, inl, inr}
 use Prim.Native.Nat.{ℕ, _+_, _≤_, _<_}
 use native.Mathlib.Omega.{arith}
-use lib.Dec.{eqb, leb}
+use lib.Dec.{eqb}
 use lib.ListN.{length, getD, set}
 use lib.Seq.{getD-set-same, getD-set-other}
-use borrow.Author.Tests.{leb-true, eqb-true, eqb-false, le-leb, eq-eqb}
-use Rattle.model_laws.proofs.Tests.{and-left, and-right, and-both}
+use borrow.Author.Tests.{eqb-true, eqb-false}
+use Rattle.model_laws.proofs.Least.{least-over, least-found, Found}
+use Rattle.model_laws.proofs.Clients.{Open, not-open, place-under, open-from}
 use Rattle.model.specs.declared.OpenCall.{OpenCall}
 use Rattle.model.specs.declared.Client.{Client}
 use Rattle.model.specs.Clients.{noCall, placeOf, callAt, isOpen, firstOpen, withCalls, withCall, closed}
 use Rattle.model.specs.Limits.{callWindow}
 use Rattle.client.specs.WellFormed.{WellFormed, callIn}
-use Rattle.client.proofs.Least.{least-under, least-each, least-over, least-found, Found}
-
--- ---- what it is to be open
-
-pub record Open (d : Client) (c : ℕ) : Type 0 where
-  pub from : 1 ≤ c
-  pub at : callAt d c .call ≡ c
-
-pub open-is : (d : Client) (c : ℕ) → isOpen d c ≡ true → Open d c
-unfolding isOpen
-open-is d c e = record { from = leb-true 1 c (and-left (leb 1 c) _ e); at = eqb-true _ _ (and-right (leb 1 c) _ e) }
-
-pub is-open-of : (d : Client) (c : ℕ) → Open d c → isOpen d c ≡ true
-unfolding isOpen
-is-open-of d c o = and-both (leb 1 c) _ (le-leb 1 c (o .from)) (eq-eqb _ _ (o .at))
-
--- a test that is not true
-pub not-open : (d : Client) (c : ℕ) → (Open d c → ⊥) → isOpen d c ≡ false
-not-open d c f = go (isOpen d c) refl
-  where
-    go : (b : Bool) → isOpen d c ≡ b → isOpen d c ≡ false
-    go true e = absurd (f (open-is d c e))
-    go false e = e
-
-pub place-under : (c : ℕ) → placeOf c < callWindow
-unfolding placeOf
-place-under c = omega arith
 
 -- ---- a well-formed client
 
@@ -61,30 +34,15 @@ module _ {d : Client} (w : WellFormed d) where
   pub open-once : (i j : ℕ) → i < callWindow → j < callWindow → 1 ≤ callIn d i .call → callIn d i .call ≡ callIn d j .call → i ≡ j
   open-once i j h k p e = sym (w .placed i h p) ∙ ap placeOf e ∙ w .placed j k (omega arith)
 
-  pub open-from : (c : ℕ) → Open d c → firstOpen d ≤ c
-  unfolding firstOpen callAt
-  open-from c o =
-      let p = place-under c in
-      let f = o .at in
-      let h = least-each (d .next) (d .calls) (placeOf c) (omega (arith, w .places)) (omega (arith, o .from)) in
-      omega arith
-
   pub open-below : (c : ℕ) → Open d c → c < d .next
   unfolding callAt
   open-below c o = let f = o .at in let h = w .below (placeOf c) (place-under c) in omega arith
 
   pub open-within : (c : ℕ) → Open d c → d .next ≤ c + callWindow
-  open-within c o = let h = open-from c o in omega (arith, w .window)
-
-  pub none-under : (c : ℕ) → c < firstOpen d → isOpen d c ≡ false
-  none-under c h = not-open d c (λ o. let k = open-from c o in omega arith)
+  open-within c o = let h = open-from d c o in omega (arith, w .window)
 
   pub none-over : (c : ℕ) → d .next ≤ c → isOpen d c ≡ false
   none-over c h = not-open d c (λ o. let k = open-below c o in omega arith)
-
-  pub first-under : firstOpen d ≤ d .next
-  unfolding firstOpen
-  first-under = least-under (d .next) (d .calls)
 
   pub first-from : 1 ≤ firstOpen d
   unfolding firstOpen
@@ -105,7 +63,7 @@ module _ {d : Client} (w : WellFormed d) where
   module _ (room : d .next < firstOpen d + callWindow) (k : OpenCall) (new : k .call ≡ d .next) where
     pub apart : (c : ℕ) → Open d c → placeOf c ≡ placeOf (k .call) → ⊥
     unfolding placeOf
-    apart c o e = let f = open-from c o in let b = open-below c o in omega arith
+    apart c o e = let f = open-from d c o in let b = open-below c o in omega arith
 
     pub issued-at : callAt (withCall d k) (d .next) ≡ k
     unfolding callAt withCall withCalls

@@ -14,3 +14,5 @@ pub mod States
 pub mod Stores
 pub mod Loops
 pub mod Ands
+pub mod Least
+pub mod Clients

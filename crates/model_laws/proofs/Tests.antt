@@ -1,8 +1,11 @@
--- Tests: those joined by && taken apart and put together, and what holds on both sides of a choice.
+-- Tests: those joined by && taken apart and put together, what holds on both sides of a choice, and what follows from a case that cannot be.
+--     and-left, and-right, and-both, joined-all, all-joined, choose, impossible
 -- Assumes nothing.
+use Prim.Native.Nat.{ℕ}
 use mathlib.Core.Path.{_≡_, refl}
 use mathlib.Core.Bool.{Bool, true, false, _&&_, false≢true}
 use mathlib.Core.List.{List, [], _∷_}
+use native.Mathlib.Omega.{arith}
 use Rattle.model.specs.Choice.{pick}
 use Rattle.model_laws.specs.Bytes.{All, joined}
 
@@ -32,3 +35,6 @@ all-joined (t ∷ u ∷ us) f = and-both t (joined (u ∷ us)) (f .0) (all-joine
 pub choose : {A : Type 0} (P : A → Type 0) (t : Bool) {a b : A} → (t ≡ true → P a) → (t ≡ false → P b) → P (pick t a b)
 choose P true f g = f refl
 choose P false f g = g refl
+
+pub impossible : {A : Type 0} → _≡_ {A = ℕ} 0 1 → A
+impossible e = absurd (omega arith)

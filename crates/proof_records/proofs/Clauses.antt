@@ -25,7 +25,7 @@ use Rattle.model.specs.Sequential.{Marked, EntryResult, ResultZ, resultMeant}
 use Rattle.model.specs.Packets.{parsePacket}
 use Rattle.model.specs.Clients.{issueOf, receiveOf}
 use Rattle.model_invariants.specs.Calls.{decision}
-use Rattle.client.proofs.Kept.{issue-asked}
+use Rattle.model_laws.proofs.Clients.{issue-asked}
 use Rattle.proof_protocol.specs.Servers as S
 use Rattle.proof_protocol.specs.World as W
 use Rattle.proof_protocol.specs.Explains as X

@@ -28,10 +28,9 @@ use Rattle.model.specs.Clients.{startOf, startWith, issueOf, resendOf, receiveO
 use Rattle.model_laws.specs.Fits.{IsPacket, RequestFits, GrantFits, NoticeFits}
 use Rattle.model_laws.proofs.Tests.{and-both}
 use Rattle.model_laws.proofs.Commands.{command-parts}
+use Rattle.model_laws.proofs.Clients.{is-open-of, Own, ReceiveCase, receive-case, issue-asked, issue-refused, resend-asked, resend-same}
 use Rattle.client.specs.WellFormed.{WellFormed}
-use Rattle.client.proofs.Open.{is-open-of}
-use Rattle.client.proofs.Steps.{Own, ReceiveCase, receive-case}
-use Rattle.client.proofs.Kept.{start-well, issue-well, issue-asked, issue-refused, resend-asked, resend-same, receive-well}
+use Rattle.client.proofs.Kept.{start-well, issue-well, receive-well}
 use Rattle.client.proofs.Bytes.{issue-packet, resend-packet}
 use Rattle.model_invariants.specs.Sound.{GoodRequest}
 use Rattle.proof_protocol.specs.Servers as S

@@ -33,9 +33,10 @@ use Rattle.model_laws.specs.Bytes.{Bytes, All}
 use Rattle.model_laws.specs.Fits.{IsPacket}
 use Rattle.model_laws.proofs.Numbers.{bytes-nil}
 use Rattle.model_laws.proofs.Packets.{packet-bytes}
+use Rattle.model_laws.proofs.Clients.{resend-same}
 use Rattle.model_laws.proofs.Tables.{all-append}
 use Rattle.client.specs.WellFormed.{WellFormed}
-use Rattle.client.proofs.Kept.{issue-well, resend-same}
+use Rattle.client.proofs.Kept.{issue-well}
 use Rattle.client.proofs.Bytes.{issue-packet, resend-packet, receive-kept, start-kept}
 use Rattle.leases.specs.WellFormed.{LeaseCall, givenTime, answerOf}
 use Rattle.leases.specs.WellFormed as Leases

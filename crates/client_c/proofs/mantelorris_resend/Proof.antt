@@ -46,7 +46,7 @@ use Rattle.model.specs.declared.OpenCall.{OpenCall}
 use Rattle.client_c.specs.declared.SendReply.{SendReply}
 use Rattle.model.specs.Clients.{noCall, placeOf, callAt, resendOf}
 use Rattle.model.specs.Limits.{callWindow}
-use Rattle.client.proofs.Kept.{resend-same}
+use Rattle.model_laws.proofs.Clients.{resend-same}
 use Rattle.client_c.specs.Replies.{sendReply}
 use Rattle.model.proofs.Client as T
 use Rattle.model.proofs.Client.Laws as T′

@@ -5,15 +5,14 @@
 --     least-found     it is the number that stands for none, or an open call
 --     least-opened    the number that stands for none, opened at a free place, leaves it as it is
 -- Assumes nothing.
-use mathlib.Core.Path.{_≡_, refl, sym, _∙_, ap, subst}
+use mathlib.Core.Path.{_≡_, refl, _∙_, ap}
 use mathlib.Core.Bool.{Bool, true, false, _&&_}
 use mathlib.Core.List.{List, [], _∷_}
 use mathlib.Core.Logic.{_⊎_, inl, inr}
 use Prim.Native.Nat.{ℕ, zero, suc, _≤_, _<_}
 use native.Mathlib.Omega.{arith}
-use native.Mathlib.Nat.{le-of-suc-le-suc, not-suc-le-zero}
 use lib.Dec.{leb, ltb, eqb}
-use lib.ListN.{length, getD, set, length-set}
+use lib.ListN.{length, getD, set}
 use lib.Seq.{getD-set-same, getD-set-other}
 use borrow.Author.Tests.{leb-true, leb-false, ltb-true, ltb-false, eqb-true, eqb-false}
 use Rattle.model.specs.declared.OpenCall.{OpenCall}
@@ -42,11 +41,11 @@ unfolding leastOpen
 least-under n [] = omega arith
 least-under n (k ∷ ks) = let h = least-under (lesser (k .call) n) ks in let l = lesser-is (k .call) n .under in omega arith
 
-pub least-each : (n : ℕ) (ks : List OpenCall) (i : ℕ) → i < length ks → 1 ≤ getD ks i noCall .call → leastOpen n ks ≤ getD ks i noCall .call
+pub least-each : (n : ℕ) (ks : List OpenCall) (i : ℕ) → 1 ≤ getD ks i noCall .call → leastOpen n ks ≤ getD ks i noCall .call
 unfolding leastOpen
-least-each n [] i h p = absurd (not-suc-le-zero h)
-least-each n (k ∷ ks) zero h p = let u = least-under (lesser (k .call) n) ks in let l = lesser-is (k .call) n .each p in omega arith
-least-each n (k ∷ ks) (suc i) h p = least-each (lesser (k .call) n) ks i (le-of-suc-le-suc h) p
+least-each n [] i p = absurd (omega arith)
+least-each n (k ∷ ks) zero p = let u = least-under (lesser (k .call) n) ks in let l = lesser-is (k .call) n .each p in omega arith
+least-each n (k ∷ ks) (suc i) p = least-each (lesser (k .call) n) ks i p
 
 pub least-over : (m n : ℕ) (ks : List OpenCall) → m ≤ n → ((i : ℕ) → i < length ks → 1 ≤ getD ks i noCall .call → m ≤ getD ks i noCall .call) → m ≤ leastOpen n ks
 unfolding leastOpen
@@ -93,14 +92,14 @@ least-opened n ks i k h free is from = let a = least-over (leastOpen n ks) (suc 
         go true e = let u = least-under n ks in let v = ap (λ (x : ℕ). getD (set ks i k) x noCall .call) (eqb-true j i e) ∙ here in omega arith
         go false e =
             let v = other j (eqb-false j i e) in
-            let u = least-each n ks j (subst (λ (m : ℕ). j < m) (length-set ks i k) l) (omega arith) in
+            let u = least-each n ks j (omega arith) in
             omega arith
 
     under : (leastOpen n ks ≡ n) ⊎ Found n ks → leastOpen (suc n) (set ks i k) ≤ leastOpen n ks
-    under (inl e) = let u = least-each (suc n) (set ks i k) i (subst (λ (m : ℕ). i < m) (sym (length-set ks i k)) h) (omega (arith, here)) in omega (arith, here)
+    under (inl e) = let u = least-each (suc n) (set ks i k) i (omega (arith, here)) in omega (arith, here)
     under (inr f) =
         let v = other (f .place) (λ e. let z = ap (λ (x : ℕ). getD ks x noCall .call) e in let g = f .from in omega arith) in
         let g = f .from in
-        let u = least-each (suc n) (set ks i k) (f .place) (subst (λ (m : ℕ). f .place < m) (sym (length-set ks i k)) (f .inside)) (omega arith) in
+        let u = least-each (suc n) (set ks i k) (f .place) (omega arith) in
         let w = f .is in
         omega arith
