@@ -4,7 +4,7 @@
 --     resend-as-client, receive-as-client     always
 --     issue-not-safe      20 just where the command is one that the lock takes, none is open, and it is an opening that the reads do not allow
 --     start-refused       a refused start leaves no controller
---     issue-refused, resend-same, receive-refused     a refusal leaves the controller as it was
+--     receive-refused     a refusal leaves the controller as it was; of issue and resend chamber_claim says so (Commands: refused-same, again-same)
 -- Assumes nothing.
 use mathlib.Core.Path.{_≡_, refl, sym, ap, _∙_}
 use mathlib.Core.Bool.{Bool, true, false, _&&_, not}
@@ -15,8 +15,7 @@ use native.Mathlib.Omega.{arith}
 use lib.Dec.{ltb, leb}
 use borrow.Author.Tests.{not-true}
 use Rattle.model_laws.proofs.Tests.{and-left, and-right}
-use Rattle.model_laws.proofs.Clients.{ReceiveCase, receive-case}
-use Rattle.model_laws.proofs.Clients as client
+use Rattle.model_laws.proofs.Clients.{ReceiveCase, receive-case, issue-asked}
 use Rattle.model.specs.declared.Client.{Client}
 use Rattle.model.specs.declared.Request.{Request}
 use Rattle.model.specs.declared.Started.{Started}
@@ -29,8 +28,8 @@ use Rattle.model.specs.Refusals.{malformed, windowFull, notSafe}
 use Rattle.model.specs.Clients.{firstOpen, notSent, sent, startOf, issueOf, resendOf, notReceived, receiveOf, sendNumber}
 use Rattle.chamber_claim.specs.declared.LockPoints.{LockPoints}
 use Rattle.chamber_claim.specs.declared.Chamber.{Chamber}
-use Rattle.chamber_claim.specs.declared.ChamberSend.{ChamberSend}
-use Rattle.chamber_claim.specs.Chamber.{roleIn, opOk, isOpening, mayOpen, pointsOk, movedBy, readsBy}
+use Rattle.chamber_claim.specs.Chamber.{roleIn, opOk, isOpening, mayOpen, pointsOk, readsBy}
+use Rattle.chamber_claim.proofs.Commands.{passed}
 use Rattle.chamber_claim.specs.Chamber.{noChamber, notStartedIn, startedIn, startIn, notSentIn, sentIn, issueIn, resendIn, receiveIn}
 
 -- the command is one that the lock takes: test 1
@@ -48,7 +47,7 @@ pub data IssueExit (ch : Chamber) (op point a : ℕ) : Type 0 where
   busy : takes ch op point a ≡ true → isBusy ch ≡ true → issueIn ch op point a ≡ notSentIn ch windowFull → IssueExit ch op point a
   unsafe : takes ch op point a ≡ true → isBusy ch ≡ false → (isOpening op a && not (mayOpen ch (roleIn (ch .points) point))) ≡ true
       → issueIn ch op point a ≡ notSentIn ch notSafe → IssueExit ch op point a
-  passed : takes ch op point a ≡ true → isBusy ch ≡ false → (isOpening op a && not (mayOpen ch (roleIn (ch .points) point))) ≡ false
+  allowed : takes ch op point a ≡ true → isBusy ch ≡ false → (isOpening op a && not (mayOpen ch (roleIn (ch .points) point))) ≡ false
       → issueIn ch op point a ≡ sentIn ch op (issueOf (ch .client) op point a) → IssueExit ch op point a
 
 pub issue-exit : (ch : Chamber) (op point a : ℕ) → IssueExit ch op point a
@@ -59,23 +58,16 @@ issue-exit ch op point a = go (takes ch op point a) (isBusy ch) (isOpening op a 
     go false v w p q r = untaken p (rw p refl)
     go true true w p q r = busy p q (rw (p, q) refl)
     go true false true p q r = unsafe p q r (rw (p, q, r) refl)
-    go true false false p q r = passed p q r (rw (p, q, r) refl)
+    go true false false p q r = allowed p q r (rw (p, q, r) refl)
 
 -- ---- as the client
-
-pub asked-not : {n : ℕ} {q : Request} → NotSent n ≡ Asked q → ⊥
-asked-not e = let z : _≡_ {A = ℕ} 0 1 = cc in omega arith
 
 pub issue-as-client : (ch : Chamber) (op point a : ℕ) {q : Request} → issueIn ch op point a .answer ≡ Asked q
     → (issueIn ch op point a .answer ≡ issueOf (ch .client) op point a .answer)
     × (issueIn ch op point a .chamber .client ≡ issueOf (ch .client) op point a .client)
-unfolding notSentIn sentIn
-issue-as-client ch op point a e = elim (issue-exit ch op point a) [
-  | untaken p is ↦ absurd (asked-not (sym (ap (λ (s : ChamberSend). s .answer) is) ∙ e))
-  | busy p q is ↦ absurd (asked-not (sym (ap (λ (s : ChamberSend). s .answer) is) ∙ e))
-  | unsafe p q r is ↦ absurd (asked-not (sym (ap (λ (s : ChamberSend). s .answer) is) ∙ e))
-  | passed p q r is ↦ (ap (λ (s : ChamberSend). s .answer) is, ap (λ (s : ChamberSend). s .chamber .client) is)
-]
+issue-as-client ch op point a {q} e =
+    let k = passed ch op point a q e in
+    (e ∙ sym (k .as-client), ap (λ (c : Chamber). c .client) (k .leaves) ∙ sym (issue-asked (ch .client) op point a q (k .as-client) .after))
 
 pub resend-as-client : (ch : Chamber) (c : ℕ)
     → (resendIn ch c .answer ≡ resendOf (ch .client) c .answer) × (resendIn ch c .chamber .client ≡ resendOf (ch .client) c .client)
@@ -119,7 +111,7 @@ module _ (ch : Chamber) (op point a : ℕ) where
       opening = and-left (isOpening op a) _ r;
       not-clear = not-true _ (and-right (isOpening op a) _ r);
     }
-    | passed p q r is ↦ absurd (client-not (ch .client) op point a (rw is at e))
+    | allowed p q r is ↦ absurd (client-not (ch .client) op point a (rw is at e))
   ]
 
   not-safe-then : NotSafe ch op point a → issueIn ch op point a .answer ≡ NotSent notSafe
@@ -139,19 +131,6 @@ start-refused packet s e = go (pointsOk s) (startOf packet .answer) refl refl
     go false a p q = rw p refl
     go true (NotStarted m) p q = rw (p, q) refl
     go true Running p q = let e′ = rw (p, q) at e in let z : _≡_ {A = ℕ} 0 1 = cc in absurd (omega arith)
-
-pub issue-refused : (ch : Chamber) (op point a : ℕ) {n : ℕ} → issueIn ch op point a .answer ≡ NotSent n → issueIn ch op point a .chamber ≡ ch
-unfolding notSentIn sentIn movedBy
-issue-refused ch op point a {n} e = elim (issue-exit ch op point a) [
-  | untaken p is ↦ rw is refl
-  | busy p q is ↦ rw is refl
-  | unsafe p q r is ↦ rw is refl
-  | passed p q r is ↦ let f : issueOf (ch .client) op point a .answer ≡ NotSent n = rw is at e in rw (is, f, client.issue-refused (ch .client) op point a n f) refl
-]
-
-pub resend-same : (ch : Chamber) (c : ℕ) → resendIn ch c .chamber ≡ ch
-unfolding resendIn
-resend-same ch c = rw (client.resend-same (ch .client) c) refl
 
 pub receive-refused : (ch : Chamber) (packet : List ℕ) {n : ℕ} → receiveIn ch packet .answer ≡ NotReceived n → receiveIn ch packet .chamber ≡ ch
 unfolding receiveIn receiveOf readsBy notReceived
