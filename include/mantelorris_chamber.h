@@ -9,7 +9,7 @@
  * Commands. Read any of the five; set or part (MANTELORRIS_PART) a gate. One command is open at a time: send its packet, and again
  * (mantelorris_chamber_resend) until its result comes; then the next one. Only a result ends a command, a refusal packet does not.
  *
- * Opening. Any set or part of a gate is an opening, part 0 too; set 0 is none and is taken always. Before an opening, and since the
+ * Opening. Any set or part of a gate is an opening, part 0 too; set 0 is none and needs no reads. Before an opening, and since the
  * last set or part that was issued, on either gate, read
  *     1. the other gate: 0 and valid
  *     2. after it the two levels that adjoin the gate to open, in any order: both valid, at most 5 apart

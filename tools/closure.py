@@ -1,6 +1,7 @@
 #!/usr/bin/env python3
-"""closure.py [-v]: what a reader has to believe for demand 3. Follows names from `Demand3` through the definitions of claim and model (a name that stands twice
-counts twice, an operator by its signs) and counts the lines of what is reached, comments, imports and blank lines aside. -v lists the definitions of these files that are not reached."""
+"""closure.py [-v] [CLAIM]: what a reader has to believe for demand 3, or for another claim (Fence, ChamberSafe). Follows names from the claim through the definitions of claim and
+model, and of chamber_claim (a name that stands twice counts twice, an operator by its signs), and counts the lines of what is reached, comments, imports and blank lines aside. -v lists the
+definitions of these files that are not reached."""
 import glob, os, re, sys
 
 HEAD = re.compile(r'^( {0,2})((?:(?:abbrev|unfoldable|pub|data|record)\s+)+)([^\s:(){}=]+)')
@@ -31,10 +32,18 @@ def definitions(path):
     return out
 
 
+# beside model and demand 3's own files
+CLAIMS = {'Demand3': [], 'Fence': ['claim/specs/Fence'], 'ChamberSafe': ['claim/specs/Fence', 'claim/specs/Above', 'chamber_claim/specs/Chamber', 'chamber_claim/specs/Lock', 'chamber_claim/specs/Safe']}
+
+
 def main():
+    claim = next((a for a in sys.argv[1:] if a != '-v'), 'Demand3')
+    if claim not in CLAIMS:
+        sys.exit('no claim %s; there are %s' % (claim, ', '.join(CLAIMS)))
     os.chdir(os.path.join(os.path.dirname(os.path.abspath(__file__)), '..'))
     files = [f for f in sorted(glob.glob('crates/model/specs/*.antt')) if not re.search(r'/(Yard|Letters|Lib)\.antt$', f)]
     files += ['crates/claim/specs/%s.antt' % name for name in ('World', 'Provisos', 'Claim')]
+    files += ['crates/%s.antt' % name for name in CLAIMS[claim]]
     every = [d for f in files for d in definitions(f)]
     named = {}
     for d in every:
@@ -44,7 +53,7 @@ def main():
             m = re.match(r'\s+(?:pub )?([^\s:]+) :', line)
             if m:
                 named.setdefault(m[1], []).append(d)
-    todo, reached = ['Demand3'], []
+    todo, reached = [claim], []
     while todo:
         for d in named.get(todo.pop(), ()):
             if d not in reached:
