@@ -31,46 +31,47 @@ def panels(text):
     return out
 
 
+def panel(title, events, x0, svg):
+    """one run, its lanes from x0 on"""
+    text = lambda x, y, s, more='': svg.append('<text x="%d" y="%d"%s>%s</text>' % (x, y, more, html.escape(s)))
+    lane = {name: x0 + LEFT + LANE * i for i, (name, _) in enumerate(LANES)}
+    both = events[-1][1] != '0' and events[-1][2] != '0'
+    bottom = TOP + ROW * (len(events) - 1)
+    text(x0 + 20, 24, title, ' font-size="15" font-weight="bold"')
+    for name, shown in LANES:
+        text(lane[name], 54, shown, ' text-anchor="middle" fill="#555"')
+        svg.append('<line x1="%d" y1="62" x2="%d" y2="%d" stroke="#bbb"/>' % (lane[name], lane[name], bottom))
+    left = {}
+    for i, event in enumerate(events):
+        y = TOP + ROW * i
+        if event[0] == 'at':
+            svg.append('<circle cx="%d" cy="%d" r="3" fill="#345"/>' % (lane[event[1]], y))
+            text(lane[event[1]] + 7, y - 4, event[2])
+        elif event[0] == 'go':
+            x = lane[event[2]]
+            left[event[1]] = (x, y)
+            last = event[2] == LANES[-1][0]
+            text(x - 7 if last else x + 7, y - 6 if last else y - 4, event[3], ' text-anchor="end" fill="#064"' if last else ' fill="#064"')
+        elif event[0] == 'in':
+            x, began = left[event[1]]
+            to, colour = lane[event[2]], '#b00' if event[1] == 'A' and both else '#345'
+            # the late packet waits at the left, then arrives
+            way = [(x, began), (x - 24, began + 10), (x - 24, y - 10), (to, y)] if event[1] == 'A' else [(x, began), (to, y)]
+            svg.append('<polyline points="%s" fill="none" stroke="%s" marker-end="url(#tip)"/>' % (' '.join('%d,%d' % p for p in way), colour))
+            text(to + 7, y + (16 if x > to else 4), event[3], ' fill="%s"' % colour)
+        else:
+            text(x0 + 20, bottom + 30, 'upper gate at %s, lower gate at %s%s' % (event[1], event[2], ': both open' if both else ''),
+                 ' font-weight="bold" fill="%s"' % ('#b00' if both else '#060'))
+
+
 def drawn(runs):
     rows = max(len(events) for _, events in runs)
     width, height = PANEL * len(runs), TOP + ROW * rows + 50
     svg = ['<svg xmlns="http://www.w3.org/2000/svg" viewBox="0 0 %d %d" font-family="sans-serif" font-size="12">' % (width, height),
            '<defs><marker id="tip" viewBox="0 0 8 8" refX="8" refY="4" markerWidth="8" markerHeight="8" orient="auto"><path d="M0,0 L8,4 L0,8 z" fill="#345"/></marker></defs>',
            '<rect width="%d" height="%d" fill="white"/>' % (width, height)]
-    text = lambda x, y, s, more='': svg.append('<text x="%d" y="%d"%s>%s</text>' % (x, y, more, html.escape(s)))
     for k, (title, events) in enumerate(runs):
-        x0 = PANEL * k
-        lane = {name: x0 + LEFT + LANE * i for i, (name, _) in enumerate(LANES)}
-        both = events[-1][1] != '0' and events[-1][2] != '0'
-        text(x0 + 20, 24, title, ' font-size="15" font-weight="bold"')
-        bottom = TOP + ROW * (len(events) - 1)
-        for name, shown in LANES:
-            text(lane[name], 54, shown, ' text-anchor="middle" fill="#555"')
-            svg.append('<line x1="%d" y1="62" x2="%d" y2="%d" stroke="#bbb"/>' % (lane[name], lane[name], bottom))
-        left = {}
-        for i, event in enumerate(events):
-            y = TOP + ROW * i
-            if event[0] == 'at':
-                svg.append('<circle cx="%d" cy="%d" r="3" fill="#345"/>' % (lane[event[1]], y))
-                text(lane[event[1]] + 7, y - 4, event[2])
-            elif event[0] == 'go':
-                x = lane[event[2]]
-                left[event[1]] = (x, y)
-                if event[2] == LANES[-1][0]:
-                    text(x - 7, y - 6, event[3], ' text-anchor="end" fill="#064"')
-                else:
-                    text(x + 7, y - 4, event[3], ' fill="#064"')
-            elif event[0] == 'in':
-                x, began = left[event[1]]
-                colour = '#b00' if event[1] == 'A' and both else '#345'
-                to = lane[event[2]]
-                # the late packet waits at the left, then arrives
-                way = [(x, began), (x - 24, began + 10), (x - 24, y - 10), (to, y)] if event[1] == 'A' else [(x, began), (to, y)]
-                svg.append('<polyline points="%s" fill="none" stroke="%s" marker-end="url(#tip)"/>' % (' '.join('%d,%d' % p for p in way), colour))
-                text(to + 7, y + (16 if x > to else 4), event[3], ' fill="%s"' % colour)
-            else:
-                text(x0 + 20, bottom + 30, 'upper gate at %s, lower gate at %s%s' % (event[1], event[2], ': both open' if both else ''),
-                     ' font-weight="bold" fill="%s"' % ('#b00' if both else '#060'))
+        panel(title, events, PANEL * k, svg)
     svg.append('</svg>')
     return '\n'.join(svg) + '\n'
 

@@ -1,6 +1,5 @@
-//! Paper 02, request 2: the controller of a lock chamber, a desk that drives an
-//! upper and a lower gate and reads three levels, with its start, issue, resend
-//! and receive. It has one command open at a time, so its reads are completed
+//! Paper 02, request 2: the controller of a lock chamber, a desk for two gates and
+//! three levels, with its start, issue, resend and receive. It has one command open at a time, so its reads are completed
 //! in the order of their calls.
 
 use crate::answer::Refusal;

@@ -1,6 +1,6 @@
-//! Paper 02, request 2: when a lost controller's successor may start, and what
-//! is to be shown: at no place in the order of surviving commands are both gates
-//! away from 0.
+//! Paper 02, request 2: when a lost controller's successor may start, and the claim
+//! about a lock: nowhere in an order of what survives is the upper gate away from 0
+//! together with the lower one.
 //!
 //! The order is any that keeps each point's sequence of surviving executions and
 //! puts a command completed before another was issued first. `check_orders`
@@ -31,8 +31,8 @@ pub struct Seat {
     pub synced_heard: u32,
 }
 
-/// A gate at its holder (the server with the greatest move number; of giver and
-/// taker, the taker; at 0 its home) and at its home.
+/// A gate at its holder (where its move number is greatest, or the home while that is
+/// 0; a taker comes before its giver) and at its home.
 #[derive(Clone, Copy, PartialEq, Eq, Debug, Default)]
 pub struct GateSeats {
     pub holder: Seat,
@@ -48,8 +48,8 @@ pub struct Proviso {
 }
 
 impl Proviso {
-    /// No gate is being moved, and each one's holder has a synced heard time not
-    /// under that of the old client's notice.
+    /// Both gates are held, by servers whose synced heard time has reached the old
+    /// client's notice.
     pub fn holds(&self) -> bool {
         let reached = |seat: Seat| self.notice.is_some_and(|time| seat.synced_heard >= time);
         self.gates

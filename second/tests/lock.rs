@@ -1,5 +1,5 @@
-//! Request 2 of paper 02 over random schedules: at no place in the order of
-//! surviving commands are both gates away from 0. Faults planted in the
+//! Request 2 of paper 02 over random schedules: no order of what survives has both
+//! gates of the lock open anywhere. Faults planted in the
 //! controller, in its successor's start, in other desks, in the office and in
 //! the servers are found.
 

@@ -73,9 +73,8 @@ static struct mantelorris_chamber controller(uint32_t now) {
 
 enum notice { NOT_HEARD, NOT_SAVED, SAVED };
 
-static void run(const char *title, enum notice kind) {
-    uint8_t out[MANTELORRIS_REPLY_SIZE];
-    printf("panel %s\n", title);
+/* a cabinet with three equal levels, reported by a desk of its own, and the controller that will be lost */
+static struct mantelorris_chamber set_up(void) {
     memset(plan, 0, sizeof plan);
     for (int p = 0; p < MANTELORRIS_POINTS; p++) plan[16 * p + 5] = 4; /* every point from 0 to 1024 */
     must(mantelorris_found(state, sizeof state, space, sizeof space, plan, sizeof plan, 0) == 0, "found");
@@ -84,33 +83,43 @@ static void run(const char *title, enum notice kind) {
     struct mantelorris_lease_reply g = mantelorris_open(&manager, 0, 2 * LEASE);
     struct mantelorris_client crew = mantelorris_start(g.packet, g.length).client;
     for (uint32_t p = LEVEL1; p <= LEVEL3; p++) report(&crew, p, 200);
+    return lost;
+}
 
-    completed(&lost, MANTELORRIS_SET, LOWER, 0);
-    completed(&lost, MANTELORRIS_READ, LOWER, 0);
-    completed(&lost, MANTELORRIS_READ, LEVEL1, 0);
-    completed(&lost, MANTELORRIS_READ, LEVEL2, 0);
+/* a gate set to 0 and read, then the two levels that an opening of the other gate asks for */
+static void close_and_look(struct mantelorris_chamber *lock, uint32_t gate, uint32_t first, uint32_t second) {
+    completed(lock, MANTELORRIS_SET, gate, 0);
+    completed(lock, MANTELORRIS_READ, gate, 0);
+    completed(lock, MANTELORRIS_READ, first, 0);
+    completed(lock, MANTELORRIS_READ, second, 0);
+}
+
+static void notify(uint32_t client, enum notice kind) {
+    struct mantelorris_lease_reply notice = mantelorris_query(&manager, client, LEASE);
+    must(notice.kind == MANTELORRIS_KIND_NOTICE, "notice");
+    if (kind == NOT_HEARD) return;
+    printf("go N manager lease ended at %d\n", LEASE);
+    must(mantelorris_notice(state, sizeof state, space, sizeof space, notice.packet, notice.length) == 0, "notice");
+    if (kind == SAVED) save();
+    printf("in N cabinet heard time %d, %s\n", LEASE, kind == SAVED ? "saved" : "not saved");
+}
+
+static void run(const char *title, enum notice kind) {
+    uint8_t out[MANTELORRIS_REPLY_SIZE];
+    printf("panel %s\n", title);
+    struct mantelorris_chamber lost = set_up();
+    close_and_look(&lost, LOWER, LEVEL1, LEVEL2);
     printf("at lost lower gate 0, levels equal\n");
     struct mantelorris_send_reply late = issued(&lost, MANTELORRIS_SET, UPPER, OPEN);
     printf("go A lost open the upper gate\nat lost is lost\n");
-
-    struct mantelorris_lease_reply notice = mantelorris_query(&manager, lost.client.client, LEASE);
-    must(notice.kind == MANTELORRIS_KIND_NOTICE, "notice");
-    if (kind != NOT_HEARD) {
-        printf("go N manager lease ended at %d\n", LEASE);
-        must(mantelorris_notice(state, sizeof state, space, sizeof space, notice.packet, notice.length) == 0, "notice");
-        if (kind == SAVED) save();
-        printf("in N cabinet heard time %d, %s\n", LEASE, kind == SAVED ? "saved" : "not saved");
-    }
+    notify(lost.client.client, kind);
     struct mantelorris_chamber next = controller(LEASE);
     printf("at next starts\n");
     if (kind == NOT_SAVED) {
         must(mantelorris_recover(state, sizeof state, space, mantelorris_mark(state), plan, sizeof plan) == 0, "recover");
         printf("at cabinet power cut, recovers\n");
     }
-    completed(&next, MANTELORRIS_SET, UPPER, 0);
-    completed(&next, MANTELORRIS_READ, UPPER, 0);
-    completed(&next, MANTELORRIS_READ, LEVEL2, 0);
-    completed(&next, MANTELORRIS_READ, LEVEL3, 0);
+    close_and_look(&next, UPPER, LEVEL2, LEVEL3);
     printf("at next upper gate 0, levels equal\ngo B next open the lower gate\n");
     completed(&next, MANTELORRIS_SET, LOWER, OPEN);
     printf("in B cabinet carried out\n");

@@ -2,9 +2,9 @@
 //! and fields after every step. Its reads are often those that an opening needs, or miss
 //! one condition alone.
 
-use compare::tally::{runs, seed, Tally};
+use crate::desk::{drive, refusal_class, resend_class, Calls, Shares};
+use compare::tally::Tally;
 use compare::{chamber, inputs, other};
-use second::answer::Refusal;
 use second::chamber::{is_opening, levels_beside, other_gate, Chamber, LatestRead, GATES};
 use second::packet::{parse_packet, write_grant, write_packet, Grant, Packet};
 use second::random::Random;
@@ -242,12 +242,7 @@ impl Pair {
         let want = other::sent(self.want.resend(call));
         assert_eq!(have.reply, want, "resend {call}");
         self.have = have.chamber;
-        tally.meet(match have.reply.number {
-            0 => "resend",
-            _ if call == 0 => "resend: 17, call 0",
-            _ if call >= self.want.client.next => "resend: 17, not yet issued",
-            _ => "resend: 17, closed",
-        });
+        tally.meet(resend_class(&self.want.client, call, have.reply.number));
     }
 
     // Receive.
@@ -334,7 +329,15 @@ impl Pair {
             (6, _) if have.lease > before.client.lease_end => "receive: a later lease end",
             (6, _) => "receive: the same lease end",
             (_, None) => "receive: 1, malformed",
-            (_, Some(packet)) => refusal_class(&before, have.number, &packet),
+            (_, Some(packet)) => {
+                let points = before.points;
+                refusal_class(&before.client, have.number, &packet, |point| {
+                    match points.place(point) {
+                        Some(_) => "receive: 17, other point of the lock",
+                        None => "receive: 17, other point",
+                    }
+                })
+            }
         });
     }
 }
@@ -472,51 +475,19 @@ fn level_that_fails(
     }
 }
 
-fn refusal_class(c: &Chamber, number: u32, packet: &Packet) -> &'static str {
-    let client = &c.client;
-    let (to, call, point) = match packet {
-        Packet::Result(p) => (p.client, p.call, p.point),
-        Packet::Refusal(p) => (p.client, p.call, p.point),
-        Packet::Grant(p) if p.client == client.client => return "receive: 17, earlier lease end",
-        Packet::Grant(p) => (p.client, 1, 0),
-        _ => return "receive: 1, request, receipt or notice",
-    };
-    assert_eq!(number, Refusal::Unknown.number());
-    match client.open_call(call) {
-        _ if to != client.client => "receive: 17, other client",
-        Some(_) if c.points.place(point).is_some() => "receive: 17, other point of the lock",
-        Some(_) => "receive: 17, other point",
-        None if call >= client.next => "receive: 17, not yet issued",
-        None => "receive: 17, closed",
-    }
-}
-
 #[test]
 fn chamber_controller() {
-    let mut random = Random::new(seed());
-    let mut tally = Tally::new("chamber", &CLASSES);
-    let mut pair = Pair::start(&mut random, &mut tally);
-    let mut bytes = Vec::new();
-    for _ in 0..runs() {
-        let step = match random.below(100) {
-            0..=44 => {
-                pair.issue(&mut random, &mut tally);
-                "issue"
-            }
-            45..=52 => {
-                pair.resend(&mut random, &mut tally);
-                "resend"
-            }
-            53..=97 => {
-                pair.receive(&mut random, &mut tally, &mut bytes);
-                "receive"
-            }
-            _ => {
-                pair = Pair::start(&mut random, &mut tally);
-                "start"
-            }
-        };
-        pair.compare(step);
-    }
-    tally.finish();
+    let shares = Shares {
+        issues: 45,
+        resends: 8,
+        starts: 2,
+    };
+    let calls = Calls {
+        start: Pair::start,
+        issue: Pair::issue,
+        resend: Pair::resend,
+        receive: Pair::receive,
+        compare: Pair::compare,
+    };
+    drive("chamber", &CLASSES, shares, calls);
 }

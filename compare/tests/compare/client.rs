@@ -1,10 +1,10 @@
 //! The client: random sequences of calls, the same answers, packets and fields
 //! after every step.
 
+use crate::desk::{drive, refusal_class, resend_class, Calls, Shares};
 use compare::inputs;
-use compare::tally::{runs, seed, Tally};
+use compare::tally::Tally;
 use compare::{other, proved};
-use second::answer::Refusal;
 use second::client::Client;
 use second::packet::{parse_packet, write_grant, write_packet, Grant, Packet};
 use second::random::Random;
@@ -131,12 +131,7 @@ impl Pair {
         let have = self.have.resend(call);
         let want = other::sent(self.want.resend(call));
         assert_eq!(have, want, "resend {call}");
-        tally.meet(match have.number {
-            0 => "resend",
-            _ if call == 0 => "resend: 17, call 0",
-            _ if call >= self.want.next => "resend: 17, not yet issued",
-            _ => "resend: 17, closed",
-        });
+        tally.meet(resend_class(&self.want, call, have.number));
     }
 
     /// A packet to this client, or a hostile one.
@@ -193,54 +188,26 @@ impl Pair {
             (6, _) if have.lease > before.lease_end => "receive: a later lease end",
             (6, _) => "receive: the same lease end",
             (_, None) => "receive: 1, malformed",
-            (_, Some(packet)) => refusal_class(&before, have.number, &packet),
+            (_, Some(packet)) => refusal_class(&before, have.number, &packet, |_| {
+                "receive: 17, other point"
+            }),
         });
-    }
-}
-
-fn refusal_class(client: &Client, number: u32, packet: &Packet) -> &'static str {
-    let (to, call) = match packet {
-        Packet::Result(p) => (p.client, p.call),
-        Packet::Refusal(p) => (p.client, p.call),
-        Packet::Grant(p) if p.client == client.client => return "receive: 17, earlier lease end",
-        Packet::Grant(p) => (p.client, 1),
-        _ => return "receive: 1, request, receipt or notice",
-    };
-    assert_eq!(number, Refusal::Unknown.number());
-    match client.open_call(call) {
-        _ if to != client.client => "receive: 17, other client",
-        Some(_) => "receive: 17, other point",
-        None if call >= client.next => "receive: 17, not yet issued",
-        None => "receive: 17, closed",
     }
 }
 
 #[test]
 fn client() {
-    let mut random = Random::new(seed());
-    let mut tally = Tally::new("client", &CLASSES);
-    let mut pair = Pair::start(&mut random, &mut tally);
-    let mut bytes = Vec::new();
-    for _ in 0..runs() {
-        let step = match random.below(100) {
-            0..=37 => {
-                pair.issue(&mut random, &mut tally);
-                "issue"
-            }
-            38..=50 => {
-                pair.resend(&mut random, &mut tally);
-                "resend"
-            }
-            51..=98 => {
-                pair.receive(&mut random, &mut tally, &mut bytes);
-                "receive"
-            }
-            _ => {
-                pair = Pair::start(&mut random, &mut tally);
-                "start"
-            }
-        };
-        pair.compare(step);
-    }
-    tally.finish();
+    let shares = Shares {
+        issues: 38,
+        resends: 13,
+        starts: 1,
+    };
+    let calls = Calls {
+        start: Pair::start,
+        issue: Pair::issue,
+        resend: Pair::resend,
+        receive: Pair::receive,
+        compare: Pair::compare,
+    };
+    drive("client", &CLASSES, shares, calls);
 }

@@ -3,6 +3,7 @@
 mod chamber;
 mod client;
 mod command;
+mod desk;
 mod image_state;
 mod images;
 mod kernel;

@@ -1,4 +1,4 @@
--- The lock chamber controller: a client (paper: desk) that drives an upper and a lower gate and reads three levels. It has one command open
+-- The lock chamber controller: a client (paper: desk) for the two gates of a lock, an upper and a lower one, and its three levels. It has one command open
 -- at a time, so its calls complete in the order of their numbers: "since" and "in this order" are `<` between call numbers, and
 -- nothing is ever cleared. A refusal leaves the controller as it was.
 -- Assumes nothing.
@@ -108,7 +108,7 @@ levelStep = 5
 unfoldable pub near : ℕ → ℕ → Bool
 near x y = leb x (y + levelStep) && leb y (x + levelStep)
 
--- "since its last set or part: the other gate 0 and valid"
+-- read "since its last set or part", and what was read of the other gate: "0 and valid"
 unfoldable pub closedSeen : Chamber → LatestRead → Bool
 closedSeen ch g = ltb (ch .moved) (g .call) && (eqb (g .value) half && validGate (g .quality))
 
