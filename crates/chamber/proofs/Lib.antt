@@ -1,4 +1,3 @@
--- Laws that the proofs of `chamber` cite, and laws and cases of the definitions.
+-- Laws that the proofs of `chamber` cite, and laws of the definitions.
 pub mod Answers
 pub mod Laws
-pub mod Cases
