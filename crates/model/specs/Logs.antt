@@ -1,4 +1,4 @@
--- The log: a head and records, appended one after the other. Recovery walks the records first, then replays them.
+-- The log: a head and records, appended one after the other. Recovery finds the ends of all records first, then replays them.
 -- Assumes nothing.
 use Prim.Native.Nat.{ℕ, zero, suc, _+_}
 use mathlib.Core.Bool.{Bool, true, false, _&&_, _||_}
@@ -148,33 +148,50 @@ recordAt s =
     (pick (eqb (byteAt s 0) takeKind) (pick (zeros3At s 1) (takeParsed (parseImage (take (le32At s 4) (drop takeHead s)))) none)
     (pick (eqb (byteAt s 0) releaseKind) (pick (zeroAt s 2 && (zeroAt s 3 && releaseOk (releaseAt s))) (some (released (releaseAt s))) none) none))))
 
--- ---- the walk over all records
+-- ---- the first walk: the ends of the records, by their kinds and lengths alone
+
+-- the ends of the whole records of the log's rest s, which starts at place k; none where a kind or an image's length is off its layout.
+-- An incomplete last record has no end. Each record has at least 8 bytes, so that the length is fuel enough
+unfoldable pub walkEnds : ℕ → ℕ → List ℕ → Option (List ℕ)
+walkEnds zero k s = some []
+walkEnds (suc n) k [] = some []
+walkEnds (suc n) k (b ∷ s) =
+    elim (extentOf (b ∷ s)) [
+      | off ↦ none
+      | cut ↦ some []
+      | spans m ↦ elim (walkEnds n (k + m) (drop m (b ∷ s))) [ none ↦ none | some es ↦ some ((k + m) ∷ es) ]
+    ]
+
+-- of a log; none where its head is off its layout, too
+unfoldable pub endsOf : List ℕ → Option (List ℕ)
+endsOf log = elim (headOk log) [ true ↦ walkEnds (length log) headSize (drop headSize log) | false ↦ none ]
+
+-- the last of the ends behind place k, k where there is none
+unfoldable pub lastOf : ℕ → List ℕ → ℕ
+lastOf k [] = k
+lastOf k (e ∷ es) = lastOf e es
+
+-- the first walk by itself: the end of the last whole record, none for 14
+unfoldable pub wholeEnd : List ℕ → Option ℕ
+wholeEnd log = elim (endsOf log) [ none ↦ none | some es ↦ some (lastOf headSize es) ]
+
+-- ---- the records between the ends
 
 -- a log record with its end: the log's length once it is appended
 pub record Entry : Type 0 where
   pub item : LogRecord
   pub end : ℕ
 
--- the records of the log's rest s, which starts at place k; none if one breaks its layout; an incomplete last one is dropped.
--- Each record has at least 8 bytes, so that the length is fuel enough
-unfoldable pub walk : ℕ → ℕ → List ℕ → Option (List Entry)
-walk zero k s = some []
-walk (suc n) k [] = some []
-walk (suc n) k (b ∷ s) =
-    elim (extentOf (b ∷ s)) [
-      | off ↦ none
-      | cut ↦ some []
-      | spans m ↦
-          elim (recordAt (b ∷ s)) [
-            | none ↦ none
-            | some r ↦ elim (walk n (k + m) (drop m (b ∷ s))) [ none ↦ none | some es ↦ some (record { item = r; end = k + m } ∷ es) ]
-          ]
+-- from place k on; none if one breaks its layout
+unfoldable pub entriesTo : List ℕ → ℕ → List ℕ → Option (List Entry)
+entriesTo log k [] = some []
+entriesTo log k (e ∷ es) =
+    elim (recordAt (drop k log)) [
+      | none ↦ none
+      | some r ↦ elim (entriesTo log e es) [ none ↦ none | some xs ↦ some (record { item = r; end = e } ∷ xs) ]
     ]
 
-unfoldable pub entriesOf : List ℕ → Option (List Entry)
-entriesOf log = walk (length log) headSize (drop headSize log)
-
--- the bytes of entries, and the end of the last of them
+-- the bytes of entries
 unfoldable pub entriesBytes : List Entry → List ℕ
 entriesBytes [] = []
 entriesBytes (e ∷ es) = recordBytes (e .item) ++ entriesBytes es

@@ -10,6 +10,7 @@ use lib.ListN.{length}
 use lib.Dec.{eqb, leb, ltb}
 use Rattle.model.specs.declared.PlanEntry.{PlanEntry}
 use Rattle.model.specs.declared.Answer.{Answer}
+use Rattle.model.specs.declared.LogEnd.{LogEnd}
 use Rattle.model.specs.Choice.{pick, Decision, refuse, deny, reply, append, marks, _if_else_, passed, isPassed, unlessRefused}
 use Rattle.model.specs.Numbers.{word}
 use Rattle.model.specs.Refusals.{malformed, tooShort, badLog, unsound, noRefusal}
@@ -19,7 +20,7 @@ use Rattle.model.specs.Versions.{Versions}
 use Rattle.model.specs.Plan.{planOk, planOf}
 use Rattle.model.specs.Packets.{parsePacket}
 use Rattle.model.specs.Images.{parseImage}
-use Rattle.model.specs.Logs.{LogRecord, Entry, headBytes, headOk, headServer, recordBytes, recordSize, entriesOf}
+use Rattle.model.specs.Logs.{LogRecord, Entry, headBytes, headServer, recordBytes, recordSize, endsOf, wholeEnd, entriesTo}
 use Rattle.model.specs.States.{State, load, stateBytes, sound}
 use Rattle.model.specs.Apply.{applyRecord, apply, founded, withMark}
 use Rattle.model.specs.Decisions.{Decided, onRequest, onFetch, onSync, onNotice, onGive, onImage, onTake, onReceipt, onRelease, follows}
@@ -140,9 +141,13 @@ unfoldable pub recoveredAll : State → Option (List Entry) → Option State
 recoveredAll st none = none
 recoveredAll st (some es) = recovered st es
 
+-- the records of a log replayed on a state, in two walks: the ends of all of them, then the records between the ends; none for 14
+unfoldable pub recoveredOn : State → List ℕ → Option State
+recoveredOn st log = elim (endsOf log) [ none ↦ none | some es ↦ recoveredAll st (entriesTo log headSize es) ]
+
 -- the state that a kept log gives, none for 14
 unfoldable pub recoveredState : List PlanEntry → List ℕ → Option State
-recoveredState plan log = elim (headOk log) [ true ↦ recoveredAll (founded plan (headServer log)) (entriesOf log) | false ↦ none ]
+recoveredState plan log = recoveredOn (founded plan (headServer log)) log
 
 unfoldable pub settleRecovered : List ℕ → List ℕ → Option State → After
 settleRecovered state log none = settle state log [] (refuse badLog)
@@ -158,3 +163,8 @@ recoverRefusal states good =
 unfoldable pub recoverOf : List ℕ → List ℕ → List ℕ → After
 recoverOf state log plan =
     leftUnless (recoverRefusal (length state) (planOk plan)) state log (settleRecovered state log (recoveredState (planOf plan) log))
+
+-- ---- the first walk by itself (kept log): 14, else the end of the last whole record
+
+unfoldable pub logEndOf : List ℕ → LogEnd
+logEndOf log = elim (wholeEnd log) [ none ↦ record { refusal = badLog; end = 0 } | some e ↦ record { refusal = noRefusal; end = e } ]

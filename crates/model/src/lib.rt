@@ -175,6 +175,13 @@ pub struct Answer {
     pub wrote: u32,
 }
 
+// The answer of the first walk over a log: the refusal's number, 0 for none, and the end of the last whole record (0 where refused).
+#[repr(C)]
+pub struct LogEnd {
+    pub refusal: u32,
+    pub end: u64,
+}
+
 // ---- the client (paper: desk)
 
 // An open call; call 0 is a free place.

@@ -9,6 +9,8 @@ pub mod Commands
 pub mod Images
 pub mod Windows
 pub mod Logs
+pub mod Ends
+pub mod TwoWalks
 pub mod Plans
 pub mod States
 pub mod Stores

@@ -35,11 +35,12 @@ use Rattle.model.specs.Packets.{noticeAt, noticeOk, noticeBytes}
 use Rattle.model.specs.Images.{Image, parseImage, imageBytes, imageLength}
 use Rattle.model.specs.Logs.{logMagic, headBytes, headServer, headOk, LogRecord, executed, gone, gave, took, released, executedAt, executedOk}
 use Rattle.model.specs.Logs.{executedBytes, giveAt, giveOk, giveBytes, takeBytes, releaseAt, releaseOk, releaseBytes, recordBytes, recordSize, Extent}
-use Rattle.model.specs.Logs.{off, cut, spans, within, takeExtent, extentOf, takeParsed, recordAt, Entry, walk, entriesOf, entriesBytes}
+use Rattle.model.specs.Logs.{off, cut, spans, within, takeExtent, extentOf, takeParsed, recordAt, Entry, entriesBytes}
 use Rattle.model.specs.Limits.{lastServer, leastImage, greatestImage, headSize, executedSize, giveSize, takeHead, releaseSize}
 use Rattle.model.specs.Limits.{executedKind, giveKind, goneKind, goneSize, releaseKind, takeKind}
 use Rattle.model_laws.specs.Bytes.{Bytes, All}
 use Rattle.model_laws.specs.Fits.{ExecutedFits, IsImage, recordFits, recordOk, IsRecord, EntryFrom, EntriesFrom, entriesFrom, lastEnd, Incomplete, Walked}
+use Rattle.model_laws.specs.OneWalk.{walk, entriesOf}
 use Rattle.model_laws.proofs.Tests.{and-left, and-right, joined-all, all-joined, choose}
 use Rattle.model_laws.proofs.Numbers.{part-join, le32-digits, quad-again, le32-again, le32-is, signed-again, le32-below, signed-below, le32-take}
 use Rattle.model_laws.proofs.Numbers.{flip-flip, zero-at, zeros3-at, bytes-drop, bytes-take, bytes-quad, bytes-le32, bytes-signed32, bytes-run}
@@ -392,16 +393,16 @@ module _ (s : List ℕ) (h : Bytes s) (m : ℕ) (ext : extentOf s ≡ spans m) (
 -- ---- the walk over entries that were written
 
 -- one step of the walk, by what it meets
-stepWalk : ℕ → LogRecord → Option (List Entry) → Option (List Entry)
+unfoldable pub stepWalk : ℕ → LogRecord → Option (List Entry) → Option (List Entry)
 stepWalk end r w = elim w [ none ↦ none | some es ↦ some (record { item = r; end = end } ∷ es) ]
 
-stepRecord : ℕ → Option LogRecord → Option (List Entry) → Option (List Entry)
+unfoldable pub stepRecord : ℕ → Option LogRecord → Option (List Entry) → Option (List Entry)
 stepRecord end o w = elim o [ none ↦ none | some r ↦ stepWalk end r w ]
 
-stepExtent : ℕ → ℕ → List ℕ → Extent → Option (List Entry)
+unfoldable pub stepExtent : ℕ → ℕ → List ℕ → Extent → Option (List Entry)
 stepExtent n k s x = elim x [ off ↦ none | cut ↦ some [] | spans m ↦ stepRecord (k + m) (recordAt s) (walk n (k + m) (drop m s)) ]
 
-walk-cons : (n k b : ℕ) (s : List ℕ) → walk (suc n) k (b ∷ s) ≡ stepExtent n k (b ∷ s) (extentOf (b ∷ s))
+pub walk-cons : (n k b : ℕ) (s : List ℕ) → walk (suc n) k (b ∷ s) ≡ stepExtent n k (b ∷ s) (extentOf (b ∷ s))
 unfolding walk stepExtent stepRecord stepWalk
 walk-cons n k b s = refl
 

@@ -3,3 +3,5 @@ pub mod Codec
 pub mod Fits
 pub mod Layout
 pub mod Opened
+pub mod OneWalk
+pub mod Heads

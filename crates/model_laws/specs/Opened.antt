@@ -8,11 +8,11 @@ use Rattle.model.specs.Plan.{planEntryOf, planEntryBytes, planEntryOk, planRowO
 use Rattle.model.specs.Rules.{argumentRange, inArguments, argumentOk, sumInRange, setRule, stepRule, reportRule, faultRule, partRule, ruleOf}
 use Rattle.model.specs.Packets.{packetLength, idOk, doneOk, commandOk, outcomeOk, requestAt, requestOk, requestBytes, resultAt, resultOk, resultBytes, refusalAt, refusalOk, refusalBytes, receiptAt, receiptOk, receiptBytes, noticeAt, noticeOk, noticeBytes, grantAt, grantOk, grantBytes, whole, parseRequest, parseResult, parseRefusal, parseReceipt, parseNotice, parseGrant, parsePacket, packetBytes, asRequest, asReceipt, asNotice}
 use Rattle.model.specs.Images.{floorOfBytes, floorBytes, imageEntryOf, imageEntryBytes, floorOf, inWindow, clientsAscend, idBefore, idsAscend, floorOk, imageEntryOk, imageHeadOf, imageAt, imageFramed, imageParts, imageHeadOk, entryRowOk, imageTablesOk, imageOk, parseImage, entryInRange, imageInRange, imageLength, imageHeadBytes, imageBytes}
-use Rattle.model.specs.Logs.{headBytes, headServer, headOk, executedAt, executedOk, executedBytes, giveAt, giveOk, giveBytes, takeBytes, releaseAt, releaseOk, releaseBytes, recordBytes, recordSize, within, takeExtent, extentOf, takeParsed, recordAt, walk, entriesOf, entriesBytes}
+use Rattle.model.specs.Logs.{headBytes, headServer, headOk, executedAt, executedOk, executedBytes, giveAt, giveOk, giveBytes, takeBytes, releaseAt, releaseOk, releaseBytes, recordBytes, recordSize, within, takeExtent, extentOf, takeParsed, recordAt, walkEnds, endsOf, lastOf, wholeEnd, entriesTo, entriesBytes}
 use Rattle.model.specs.States.{pointAt, isHeld, isGiven, isSynced, pointOf, pointBytes, completionOf, completionBytes, clientsIn, recordsIn, load, stateHeadBytes, padded, stateBytes, endOk, notGiven, originOk, absentOk, heldOk, givenOk, statusOk, pointOk, pointsOk, keepsRecords, completionOk, isId, idsDiffer, endsFrom, stateFramed, pointRowOk, stateOk, sound}
 use Rattle.model.specs.Apply.{raise, mergeFloors, isNotClient, staysOver, staysOverFloors, isOfOther, isOnOther, executedPoint, completion, applyExecuted, applyGone, gavePoint, applyGave, tookPoint, takenRecord, applyTook, releasedPoint, applyReleased, applyRecord, apply, foundedPoint, founded, replayFrom, replay, withMark}
 use Rattle.model.specs.Decisions.{orMalformed, find, requestRefusal, resultOfRecord, sameCommand, heldRefusal, onHeld, resultFor, executedFor, newRefusal, onNew, onId, decideRequest, denying, onRequest, fetchRefusal, onFetched, onFetch, syncRefusal, onSync, noticeRefusal, decideNotice, onNotice, placesBad, giveRefusal, onGive, isOnPoint, entryOfRecord, insertEntry, sortEntries, imageFor, imageRefusal, onImage, freeFor, takeRefusal, takeTests, decideTake, onTake, receiptRefusal, onReceipt, releaseRefusal, decideRelease, onRelease, isNone, follows}
-use Rattle.model.specs.Operations.{short, unfit, freeIn, stored, settle, lentRefusal, lent, leftUnless, foundRefusal, foundOf, requestOf, fetchOf, syncOf, noticeOf, giveOf, imageOf, takeOf, receiptOf, releaseOf, recovered, recoveredAll, recoveredState, settleRecovered, recoverRefusal, recoverOf}
+use Rattle.model.specs.Operations.{short, unfit, freeIn, stored, settle, lentRefusal, lent, leftUnless, foundRefusal, foundOf, requestOf, fetchOf, syncOf, noticeOf, giveOf, imageOf, takeOf, receiptOf, releaseOf, recovered, recoveredAll, recoveredOn, recoveredState, settleRecovered, recoverRefusal, recoverOf, logEndOf}
 use Rattle.model.specs.Clients.{placeOf, callAt, isOpen, leastOpen, firstOpen, withCalls, withLease, closed, requestFor, startWith, startOf, newCall, withCall, notSent, sent, issueOf, resendOf, isOwn, notReceived, receiveResult, receiveRefusal, receiveGrant, receiveWith, receiveOf, startNumber, sendNumber, receiveNumber, brought, sentBytes}
 use Rattle.model.specs.Leases.{timeAt, endedAt, runningAt, leaseEnd, isTaken, withNewLease, extended, spanOk, manager, notTold, granted, openOf, renewOf, queryOf, toldNumber, toldBytes}
 use Rattle.model.specs.Sequential.{entryZ, readingMeant, resultMeant, afterZ, inRangeZ, quotientDown, readZ, setZ, pastEndZ, stepZ, reportZ, faultZ, partZ, ruleZ, opened, answerZ, entered, bookWith, bookAfter}
@@ -70,7 +70,7 @@ unfolding executedAt executedOk executedBytes giveAt giveOk giveBytes takeBytes 
 openRecords = tt
 
 unfoldable pub openLogs : Opens
-unfolding openRecords headBytes headServer headOk within takeExtent extentOf takeParsed recordAt walk entriesOf entriesBytes
+unfolding openRecords headBytes headServer headOk within takeExtent extentOf takeParsed recordAt walkEnds endsOf lastOf wholeEnd entriesTo entriesBytes
 openLogs = tt
 
 -- States: layout, soundness
@@ -106,11 +106,11 @@ openDecisions = tt
 
 -- Operations: what they share, the calls
 unfoldable pub openSettling : Opens
-unfolding short unfit freeIn stored settle lentRefusal lent leftUnless recovered recoveredAll recoveredState settleRecovered
+unfolding short unfit freeIn stored settle lentRefusal lent leftUnless recovered recoveredAll recoveredOn recoveredState settleRecovered
 openSettling = tt
 
 unfoldable pub openOperations : Opens
-unfolding openSettling foundRefusal foundOf requestOf fetchOf syncOf noticeOf giveOf imageOf takeOf receiptOf releaseOf recoverRefusal recoverOf
+unfolding openSettling foundRefusal foundOf requestOf fetchOf syncOf noticeOf giveOf imageOf takeOf receiptOf releaseOf recoverRefusal recoverOf logEndOf
 openOperations = tt
 
 -- Clients: what they share, the calls
