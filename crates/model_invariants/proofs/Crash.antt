@@ -20,14 +20,16 @@ use Rattle.model.specs.declared.PlanEntry.{PlanEntry}
 use Rattle.model.specs.Numbers.{word, byteAt, zeros3At}
 use Rattle.model.specs.Limits.{headSize, lastServer}
 use Rattle.model.specs.Tables.{keep}
-use Rattle.model.specs.Logs.{Entry, recordSize, headBytes, headServer, headOk, entriesBytes, entriesOf}
+use Rattle.model.specs.Logs.{Entry, recordSize, headBytes, headServer, headOk, entriesBytes}
 use Rattle.model.specs.States.{State}
 use Rattle.model.specs.Apply.{apply, founded, replayFrom}
-use Rattle.model.specs.Operations.{recoveredAll, recoveredState}
+use Rattle.model.specs.Operations.{recoveredAll, recoveredOn, recoveredState}
 use Rattle.model_laws.specs.Bytes.{Bytes}
+use Rattle.model_laws.specs.OneWalk.{entriesOf}
 use Rattle.model_laws.specs.Fits.{EntryFrom, EntriesFrom, lastEnd, Incomplete, Walked}
 use Rattle.model_laws.proofs.Tests.{joined-all}
 use Rattle.model_laws.proofs.Logs.{head-server, head-back, head-length, entries-length, from-append, entries-back, entries-take, cut-split, entries-are}
+use Rattle.model_laws.proofs.TwoWalks.{recovered-on, recovered-off}
 use Rattle.model_invariants.specs.Sound.{Sound}
 use Rattle.model_invariants.specs.History
 use Rattle.model_invariants.specs.History.{GoodPlan, StartBy, Start, entryFor, DecidedBy, DecidedFrom, next, RecoveredSound}
@@ -43,7 +45,7 @@ unfolding lastEnd
 last-append k [] e = refl
 last-append k (x ∷ es) e = last-append (x .end) es e
 
-from-end : (st : State) (es : List Entry) → replayFrom st es .size ≡ lastEnd (st .size) es
+pub from-end : (st : State) (es : List Entry) → replayFrom st es .size ≡ lastEnd (st .size) es
 unfolding replayFrom lastEnd apply
 from-end st [] = refl
 from-end st (e ∷ es) = from-end (apply st e) es ∙ ap (λ (k : ℕ). lastEnd k es) (apply-size (e .item) (e .end) st)
@@ -89,7 +91,9 @@ module _ {P : ℕ → Type 0} {st : State} (s : StartBy P st) where
 pub head-recovers : (plan : List PlanEntry) (n : ℕ) (rest : List ℕ) → n ≤ lastServer
     → recoveredState plan (headBytes n ++ rest) ≡ recoveredAll (founded plan n) (entriesOf (headBytes n ++ rest))
 unfolding recoveredState
-head-recovers plan n rest h = rw (head-back n rest h, recoveredState, head-server n rest)
+head-recovers plan n rest h =
+    let log : List ℕ = headBytes n ++ rest in
+    ap (λ (x : ℕ). recoveredOn (founded plan x) log) (head-server n rest) ∙ recovered-on log (founded plan n) (head-back n rest h)
 
 -- what a crash keeps of it has that head
 head-kept : (n : ℕ) (c : ℕ) (s : List ℕ) → headSize ≤ c → take c (headBytes n ++ s) ≡ headBytes n ++ take (c - headSize) s
@@ -137,8 +141,12 @@ recovered-from {st} s log now l b z e = go (entriesOf log) refl e
 pub recovered-bytes : (plan : List PlanEntry) (log : List ℕ) (st : State) → GoodPlan plan → Bytes log → length log < word * word
     → recoveredState plan log ≡ some st → RecoveredSound log st
 unfolding recoveredState
-recovered-bytes plan log st g b z e = go (headOk log) refl e
+recovered-bytes plan log st g b z e = go (headOk log) refl
   where
-    go : (a : Bool) → headOk log ≡ a → elim a [ true ↦ recoveredAll (founded plan (headServer log)) (entriesOf log) | false ↦ none ] ≡ some st → RecoveredSound log st
-    go true a r = recovered-from (founded-start plan (headServer log) g (head-limit log a)) log st (head-length log a) b z r
-    go false a r = let y : _≡_ {A = ℕ} 0 1 = cc in absurd (omega arith)
+    go : (a : Bool) → headOk log ≡ a → RecoveredSound log st
+    go true a =
+        recovered-from (founded-start plan (headServer log) g (head-limit log a)) log st (head-length log a) b z (sym (recovered-on log (founded plan (headServer log)) a) ∙ e)
+    go false a =
+        let n : none ≡ some st = sym (recovered-off log (founded plan (headServer log)) a) ∙ e in
+        let y : _≡_ {A = ℕ} 0 1 = cc in
+        absurd (omega arith)

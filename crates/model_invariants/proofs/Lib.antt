@@ -9,6 +9,7 @@ pub mod Recovery
 pub mod Images
 pub mod Formats
 pub mod Crash
+pub mod FirstWalk
 pub mod Loaded
 pub mod Calls
 pub mod Running
