@@ -10,10 +10,10 @@ use mathlib.Core.List.{List}
 use native.Mathlib.Omega.{arith}
 use lib.ListN.{take}
 use Rattle.model.specs.Plan.{planOf}
-use Rattle.model.specs.Logs.{headOk}
+use Rattle.model.specs.Logs.{headOk, endsOf}
 use Rattle.model.specs.States.{State}
 use Rattle.model.specs.Apply.{founded}
-use Rattle.model.specs.Operations.{recoveredState}
+use Rattle.model.specs.Operations.{recoveredOn, recoveredState}
 use Rattle.claim.specs.World as B
 use Rattle.claim.specs.Provisos as BP
 use Rattle.claim.specs.Fence.{NoticedIn}
@@ -38,7 +38,7 @@ recovered-synced plan c {log} {mark = mark} number K = recovered-either plan c {
 pub same-synced : (plan : List ℕ) (ys : List B.Event) (es : List R.Event) (c : ℕ) {x : R.Server} {y : B.Server} → ServerAlike (planOf plan) c x y
     → BF.syncedState plan ys y ≡ RF.syncedState plan es x
 unfolding BF.syncedState BF.syncedPart RF.syncedState
-same-synced plan ys es c nothing = unfold recoveredState headOk in refl
+same-synced plan ys es c nothing = unfold recoveredState recoveredOn endsOf headOk in refl
 same-synced plan ys es c (running {log = log} K) =
     recovered-synced plan c (K .number) (holds-kept (K .holds)) ∙ ap (λ (st : State). R.recoveredFrom plan (R.cutAt (st .mark) log)) (K .loads)
 same-synced plan ys es c (crashed K) = recovered-synced plan c (K .number) (K .keeps)
