@@ -1,5 +1,7 @@
 //! Paper 01, "Log": the head and the five kinds of records, read and written.
+//! Request 3 of paper 02: the walk that finds the ends of a log's records.
 
+use crate::answer::Refusal;
 use crate::bytes::{all_zero, get_i32, get_u32, put_i32, put_u32};
 use crate::image::{IMAGE_MAX, IMAGE_MIN};
 use crate::packet::{cabinet_ok, point_ok, window_ok};
@@ -89,29 +91,56 @@ pub fn parse_head(log: &[u8]) -> Option<u8> {
     ok.then(|| log[4])
 }
 
-pub fn parse_record(log: &[u8], at: usize) -> Parsed<'_> {
+/// The first walk of recovery by itself: the end of the last whole record (of the
+/// head if there is none). It reads the head, the kinds and the image lengths alone,
+/// and refuses when one of these is off; an incomplete last record has no end.
+pub fn whole_end(log: &[u8]) -> Result<usize, Refusal> {
+    walk(log, |_| {})
+}
+
+/// All that the first walk finds: the ends of the whole records, in order.
+pub(crate) fn record_ends(log: &[u8]) -> Result<Vec<usize>, Refusal> {
+    let mut ends = Vec::new();
+    walk(log, |end| ends.push(end))?;
+    Ok(ends)
+}
+
+fn walk(log: &[u8], mut found: impl FnMut(usize)) -> Result<usize, Refusal> {
+    parse_head(log).ok_or(Refusal::BadLog)?;
+    let mut at = HEAD_LEN;
+    while let Some(end) = record_end(log, at)? {
+        found(end);
+        at = end;
+    }
+    Ok(at)
+}
+
+/// The end of the record at a place; nothing if the log ends before the record does.
+fn record_end(log: &[u8], at: usize) -> Result<Option<usize>, Refusal> {
     let rest = log.get(at..).unwrap_or(&[]);
     let Some(&kind) = rest.first() else {
-        return Parsed::Incomplete;
+        return Ok(None);
     };
     let len = match kind {
         EXECUTED => EXECUTED_LEN,
         GONE => GONE_LEN,
         GIVE => GIVE_LEN,
-        TAKE if rest.len() < TAKE_HEAD_LEN => return Parsed::Incomplete,
-        TAKE => match take_len(rest) {
-            Some(len) => len,
-            None => return Parsed::Broken,
-        },
+        TAKE if rest.len() < TAKE_HEAD_LEN => return Ok(None),
+        TAKE => take_len(rest).ok_or(Refusal::BadLog)?,
         RELEASE => RELEASE_LEN,
-        _ => return Parsed::Broken,
+        _ => return Err(Refusal::BadLog),
     };
-    if rest.len() < len {
-        return Parsed::Incomplete;
-    }
-    match parse_whole(kind, &rest[..len]) {
-        Some(record) => Parsed::Whole(record, at + len),
-        None => Parsed::Broken,
+    Ok((len <= rest.len()).then_some(at + len))
+}
+
+pub fn parse_record(log: &[u8], at: usize) -> Parsed<'_> {
+    match record_end(log, at) {
+        Err(_) => Parsed::Broken,
+        Ok(None) => Parsed::Incomplete,
+        Ok(Some(end)) => match parse_whole(&log[at..end]) {
+            Some(record) => Parsed::Whole(record, end),
+            None => Parsed::Broken,
+        },
     }
 }
 
@@ -123,8 +152,9 @@ fn take_len(b: &[u8]) -> Option<usize> {
         .then_some(TAKE_HEAD_LEN + image_len)
 }
 
-fn parse_whole(kind: u8, b: &[u8]) -> Option<Record<'_>> {
-    match kind {
+/// The record that fills the slice.
+pub(crate) fn parse_whole(b: &[u8]) -> Option<Record<'_>> {
+    match *b.first()? {
         EXECUTED => parse_executed(b).map(Record::Executed),
         GONE => parse_gone(b).map(Record::Gone),
         GIVE => parse_give(b).map(Record::Give),

@@ -1,11 +1,14 @@
-//! Recovery from every prefix of logs of random runs, and from damaged logs.
+//! Recovery from every prefix of logs of random runs.
 
 mod common;
+mod logs;
 
 use common::*;
+use logs::*;
+use second::answer::Refusal;
 use second::bytes::{get_i32, get_u32};
-use second::plan::{write_plan, Plan};
-use second::random::Random;
+use second::plan::Plan;
+use second::record::whole_end;
 use second::schedule::generate;
 use second::server::{Hold, Server, STATE_LEN};
 use second::world::{Options, World};
@@ -16,21 +19,12 @@ const SCHEDULES: u64 = 250;
 /// The states of one cabinet by its log's length.
 type States = BTreeMap<usize, Server>;
 
-fn recover(log: &[u8], plan: &Plan) -> Option<Server> {
-    let mut server = Server::new();
-    let answer = server.recover(STATE_LEN, log, &write_plan(plan));
-    match answer.number {
-        0 => Some(server),
-        14 => None,
-        number => panic!("recover answers {number}"),
-    }
-}
-
 /// Every prefix gives the state that the operations left at the end of its
-/// last whole record, with the mark there.
+/// last whole record, with the mark there; the first walk gives that end.
 fn assert_prefixes(log: &[u8], states: &States, plan: &Plan) {
     for k in 0..8 {
         assert!(recover(&log[..k], plan).is_none());
+        assert_eq!(whole_end(&log[..k]), Err(Refusal::BadLog));
     }
     let length = *states.keys().last().expect("a founded log");
     for k in 8..=length {
@@ -41,6 +35,7 @@ fn assert_prefixes(log: &[u8], states: &States, plan: &Plan) {
             ..state.clone()
         };
         assert!(recovered == expected, "prefix of {k} bytes");
+        assert_eq!(whole_end(&log[..k]), Ok(end));
     }
 }
 
@@ -127,12 +122,7 @@ impl Model {
 
     fn replay(&mut self, mut b: &[u8]) {
         while let Some(&kind) = b.first() {
-            let len = match kind {
-                1 => 28,
-                2 => 12,
-                4 => 8 + get_u32(b, 4) as usize,
-                _ => 8,
-            };
+            let len = plain_len(b).expect("a good kind and image length");
             self.apply(kind, &b[..len]);
             b = &b[len..];
         }
@@ -263,35 +253,6 @@ fn state_is_the_replay_of_the_log() {
         }
     }
     assert!(takes > 500);
-}
-
-/// A damaged log gives 14 and leaves the state, or a sound state.
-#[test]
-fn damaged_logs() {
-    let mut random = Random::new(6);
-    let (mut read, mut refused) = (0, 0);
-    for seed in 5000..5400 {
-        let schedule = generate(seed);
-        let mut world = World::new(&schedule, Options::default());
-        schedule.steps.iter().for_each(|step| world.step(step));
-        let Some(server) = world.server(0) else {
-            continue;
-        };
-        let log = &world.log(0)[..server.length as usize];
-        for _ in 0..20 {
-            let mut bad = log.to_vec();
-            let at = random.below(bad.len() as u32) as usize;
-            bad[at] = random.next_u32() as u8;
-            match recover(&bad, &schedule.plan) {
-                Some(server) => {
-                    assert!(server.sound() && server.length <= bad.len() as u64);
-                    read += 1;
-                }
-                None => refused += 1,
-            }
-        }
-    }
-    assert!(read > 100 && refused > 100);
 }
 
 /// After a recovery all whole records are synced.

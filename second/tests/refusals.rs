@@ -3,8 +3,10 @@
 //! that a refusal leaves everything lent as found.
 
 mod common;
+mod logs;
 
 use common::*;
+use logs::*;
 use second::answer::{Answer, Refusal};
 use second::bytes::put_u32;
 use second::client::{Client, Received};
@@ -733,51 +735,6 @@ fn recover_number(log: &[u8]) -> u32 {
     }
     assert_eq!(answer.written, 0);
     answer.number
-}
-
-fn log_of(records: &[Vec<u8>]) -> Vec<u8> {
-    [vec![write_head(0).to_vec()], records.to_vec()]
-        .concat()
-        .concat()
-}
-
-fn executed(client: u32, call: u32, done: u32, point: u8, value: i32) -> Executed {
-    Executed {
-        op: Op::Set,
-        point,
-        outcome: 0,
-        client,
-        call,
-        done,
-        argument: 1,
-        value,
-        quality: 0,
-    }
-}
-
-fn executed_bytes(client: u32, call: u32, done: u32, point: u8, value: i32) -> Vec<u8> {
-    write_executed(&executed(client, call, done, point, value)).to_vec()
-}
-
-fn give_bytes(point: u8, destination: u8, move_number: u32) -> Vec<u8> {
-    write_give(&Give {
-        point,
-        destination,
-        move_number,
-    })
-    .to_vec()
-}
-
-fn release_bytes(point: u8, move_number: u32) -> Vec<u8> {
-    write_release(&Release { point, move_number }).to_vec()
-}
-
-fn gone_bytes(client: u32) -> Vec<u8> {
-    write_gone(&Gone { client, time: 5 }).to_vec()
-}
-
-fn take_bytes(image: &[u8]) -> Vec<u8> {
-    write_record(&Record::Take(image))
 }
 
 #[test]

@@ -87,25 +87,6 @@ fn random_packet(random: &mut Random) -> Packet {
     }
 }
 
-/// Changes, cuts or lengthens the bytes.
-fn damage(random: &mut Random, bytes: &[u8]) -> Vec<u8> {
-    let mut bytes = bytes.to_vec();
-    match random.below(8) {
-        0 => bytes.truncate(random.below(bytes.len() as u32 + 1) as usize),
-        1 => bytes.extend((0..=random.below(9)).map(|_| random.next_u32() as u8)),
-        _ => {
-            for _ in 0..=random.below(2) {
-                let at = random.below(bytes.len() as u32) as usize;
-                bytes[at] = match random.chance(50) {
-                    true => random.below(8) as u8,
-                    false => random.next_u32() as u8,
-                };
-            }
-        }
-    }
-    bytes
-}
-
 #[test]
 fn packets() {
     let mut random = Random::new(1);
@@ -303,11 +284,7 @@ fn images() {
 /// 32 clients of 16 records: 10,544 bytes; it is taken and given on whole.
 #[test]
 fn longest_image() {
-    let floors: Vec<Floor> = (1..=32).map(|client| floor(client, 5)).collect();
-    let mut records = Vec::new();
-    for client in 1..=32 {
-        records.extend((5..=20).map(|call| moved(client, call)));
-    }
+    let (floors, records) = longest_parts();
     let bytes = image(&head(40, 0, 1, 1), &floors, &records);
     assert_eq!(bytes.len(), IMAGE_MAX);
     let mut rig = Rig::new(0, 8 + 8 + IMAGE_MAX + 8);

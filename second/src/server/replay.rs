@@ -1,11 +1,12 @@
-//! Paper 01, "Log": what each record changes, and the replay of a kept log.
+//! Paper 01, "Log": what each record changes, and the replay of a kept log in the
+//! two walks of request 3 (paper 02).
 
 use super::{Completion, Hold, Point, Server, Taken, STATE_LEN};
 use crate::answer::{Answer, Refusal};
 use crate::image::{parse_image, Floor, Image, CLIENTS_MAX};
 use crate::plan::{parse_plan, Plan};
 use crate::record::{
-    parse_head, parse_record, Executed, Give, Gone, Parsed, Record, Release, HEAD_LEN,
+    parse_head, parse_whole, record_ends, Executed, Give, Gone, Record, Release, HEAD_LEN,
 };
 
 impl Server {
@@ -124,8 +125,9 @@ impl Server {
         }
     }
 
-    /// Tests a whole record against the state, then applies it.
-    pub(crate) fn follow(&mut self, record: &Record, end: u64) -> Option<()> {
+    /// Tests a whole record that ends at `end` against the state, then applies it;
+    /// nothing if it cannot follow.
+    pub fn follow(&mut self, record: &Record, end: u64) -> Option<()> {
         match record {
             Record::Executed(r) => {
                 self.test_executed(r)?;
@@ -166,20 +168,16 @@ impl Server {
 }
 
 /// The state of a log's whole records; nothing if one is broken or cannot
-/// follow. An incomplete last record is dropped.
+/// follow. The ends of all records are known before the first is read.
 fn replay(log: &[u8], plan: Plan) -> Option<Server> {
+    let ends = record_ends(log).ok()?;
     let mut server = Server::new();
     server.reset(plan, parse_head(log)?);
     let mut at = HEAD_LEN;
-    loop {
-        match parse_record(log, at) {
-            Parsed::Whole(record, end) => {
-                server.follow(&record, end as u64)?;
-                at = end;
-            }
-            Parsed::Incomplete => break,
-            Parsed::Broken => return None,
-        }
+    for end in ends {
+        let record = parse_whole(&log[at..end])?;
+        server.follow(&record, end as u64)?;
+        at = end;
     }
     server.length = at as u64;
     server.mark = at as u64;

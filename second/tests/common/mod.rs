@@ -7,6 +7,7 @@ use second::packet::{
     write_notice, write_receipt, write_request, Notice, Receipt, Request, REQUEST_LEN,
 };
 use second::plan::{write_plan, Entry, Plan, PLAN_LEN};
+use second::random::Random;
 use second::rule::Op;
 use second::server::{Server, STATE_LEN};
 
@@ -238,5 +239,38 @@ pub fn image(head: &ImageHead, floors: &[Floor], records: &[Moved]) -> Vec<u8> {
         &mut bytes,
     );
     bytes.truncate(len);
+    bytes
+}
+
+/// Floors and records of a longest image: 32 clients of 16 records.
+pub fn longest_parts() -> (Vec<Floor>, Vec<Moved>) {
+    let floors = (1..=32).map(|client| floor(client, 5));
+    let of_client = |client| (5..=20).map(move |call| moved(client, call));
+    (floors.collect(), (1..=32).flat_map(of_client).collect())
+}
+
+/// Cuts or lengthens the bytes, inserts or drops some, or changes one or two.
+pub fn damage(random: &mut Random, bytes: &[u8]) -> Vec<u8> {
+    let mut bytes = bytes.to_vec();
+    let len = bytes.len() as u32;
+    let at = random.below(len) as usize;
+    let some: Vec<u8> = (0..=random.below(9))
+        .map(|_| random.next_u32() as u8)
+        .collect();
+    match random.below(8) {
+        0 => bytes.truncate(random.below(len + 1) as usize),
+        1 => bytes.extend(some),
+        2 => drop(bytes.splice(at..at, some)),
+        3 => drop(bytes.drain(at..(at + some.len()).min(bytes.len()))),
+        _ => {
+            for _ in 0..=random.below(2) {
+                let at = random.below(len) as usize;
+                bytes[at] = match random.chance(50) {
+                    true => random.below(8) as u8,
+                    false => random.next_u32() as u8,
+                };
+            }
+        }
+    }
     bytes
 }
