@@ -1,5 +1,5 @@
-//! Names the folder of the static libraries: MANTELORRIS_STATICLIB, or where `rt staticlib` writes them. Compiles the plain pass in C
-//! that the benchmark holds the state's test to, with `cc -O3`.
+//! Names the folder of the static libraries: MANTELORRIS_STATICLIB, or where `rt staticlib` writes them. Compiles the plain passes in C
+//! that the benchmark holds the proved code to, with `cc -O3`.
 
 use std::env;
 use std::path::{Path, PathBuf};

@@ -2,9 +2,21 @@
 //! include/mantelorris.h, and one call on either program.
 
 use second::answer::Answer;
+use second::record::whole_end;
 use second::server::Server;
 
+/// The answer of the first walk over a log: a refusal's number, 0 for none, and the end
+/// of the last whole record.
+#[repr(C)]
+#[derive(Clone, Copy, Debug, PartialEq, Eq)]
+pub struct LogEnd {
+    pub number: u32,
+    pub end: u64,
+}
+
 mod c {
+    use super::LogEnd;
+
     #[link(name = "kernel", kind = "static")]
     extern "C" {
         pub fn mantelorris_found(
@@ -101,6 +113,7 @@ mod c {
             plan: *const u8,
             plan_len: usize,
         ) -> u64;
+        pub fn mantelorris_log_end(log: *const u8, log_len: usize) -> LogEnd;
     }
 }
 
@@ -261,6 +274,26 @@ pub fn recover(state: &mut [u8], log: &[u8], plan: &[u8]) -> Answer {
             plan.len(),
         )
     })
+}
+
+#[inline(never)]
+pub fn log_end(log: &[u8]) -> LogEnd {
+    unsafe { c::mantelorris_log_end(log.as_ptr(), log.len()) }
+}
+
+/// The second program's, in the same form.
+#[inline(never)]
+pub fn second_log_end(log: &[u8]) -> LogEnd {
+    match whole_end(log) {
+        Ok(end) => LogEnd {
+            number: 0,
+            end: end as u64,
+        },
+        Err(refusal) => LogEnd {
+            number: refusal as u32,
+            end: 0,
+        },
+    }
 }
 
 /// A call with its arguments, lent memory aside.

@@ -9,6 +9,7 @@
 pub mod chamber;
 pub mod inputs;
 pub mod kernel;
+pub mod long;
 pub mod other;
 pub mod pair;
 pub mod proved;

@@ -2,7 +2,8 @@
 //! same inputs and outputs, in the same run. Each is the best of several
 //! rounds; the sides take turns, and neither is inlined into the loop.
 
-use compare::kernel::Call;
+use compare::kernel::{self, Call};
+use compare::long::{self, Long};
 use compare::{chamber, other, proved, states};
 use second::answer::Refusal;
 use second::chamber::Chamber;
@@ -22,11 +23,23 @@ use std::time::{Duration, Instant};
 /// Many short rounds: one that another program disturbs is not the best.
 const ROUNDS: u32 = 100;
 const ROUND: Duration = Duration::from_micros(300);
+/// For passes of many milliseconds.
+const LONG_ROUNDS: u32 = 10;
+
 /// Nanoseconds per item of one pass, over rounds of equal work on both sides.
-fn measure(items: u64, mut have: impl FnMut(), mut want: impl FnMut()) -> (f64, f64) {
+fn measure(items: u64, have: impl FnMut(), want: impl FnMut()) -> (f64, f64) {
+    measure_in(ROUNDS, items, have, want)
+}
+
+fn measure_in(
+    rounds: u32,
+    items: u64,
+    mut have: impl FnMut(),
+    mut want: impl FnMut(),
+) -> (f64, f64) {
     let passes = passes_of(&mut have).max(passes_of(&mut want));
     let (mut best_have, mut best_want) = (f64::MAX, f64::MAX);
-    for _ in 0..ROUNDS {
+    for _ in 0..rounds {
         best_have = best_have.min(round(passes, &mut have));
         best_want = best_want.min(round(passes, &mut want));
     }
@@ -437,6 +450,7 @@ mod c {
     #[link(name = "pass", kind = "static")]
     extern "C" {
         pub fn plain_pass(bytes: *const u8, words: usize) -> i32;
+        pub fn plain_ends(log: *const u8, length: usize) -> usize;
     }
 }
 
@@ -703,6 +717,67 @@ fn recovers(base: &Both, records: f64) {
     row(&format!("recover, per record of {records}"), times);
 }
 
+// ---- both walks over long logs
+
+/// A plain loop in C over the heads of a log's records.
+fn plain_ends(log: &[u8]) -> usize {
+    unsafe { c::plain_ends(log.as_ptr(), log.len()) }
+}
+
+/// The first walk by itself, to the loop in C.
+fn first_walk(name: &str, long: &Long) -> f64 {
+    let log = &long.log;
+    assert_eq!(kernel::log_end(log).end, plain_ends(log) as u64);
+    let times = measure(
+        long.records,
+        || {
+            black_box(kernel::log_end(black_box(log)));
+        },
+        || {
+            black_box(plain_ends(black_box(log)));
+        },
+    );
+    row(&format!("first walk to a C loop, {name}"), times);
+    times.0
+}
+
+/// Recovery, to the second program's.
+fn both_walks(name: &str, long: &Long) -> f64 {
+    let (mut state, mut server) = (vec![0; STATE_LEN], Server::new());
+    let times = measure_in(
+        LONG_ROUNDS,
+        long.records,
+        || {
+            black_box(kernel::recover(
+                &mut state,
+                black_box(&long.log),
+                &long.plan,
+            ));
+        },
+        || {
+            black_box(server.recover(STATE_LEN, black_box(&long.log), &long.plan));
+        },
+    );
+    row(&format!("recover, {name}"), times);
+    times.0
+}
+
+/// Per record, over logs of 1 MB and 16 MB; and how much more a record of the longer one takes.
+fn walks() {
+    println!("{:<34} {:>9} {:>9} {:>7}", "per record", "", "", "");
+    let kinds: [(&str, fn(usize) -> Long); 2] =
+        [("commands", long::executed), ("all kinds", long::mixed)];
+    for (name, make) in kinds {
+        let (short, long) = (make(1 << 20), make(16 << 20));
+        let first = first_walk(&format!("1 MB, {name}"), &short);
+        let last = first_walk(&format!("16 MB, {name}"), &long);
+        row(&format!("first walk, 16 MB to 1 MB, {name}"), (last, first));
+        let first = both_walks(&format!("1 MB, {name}"), &short);
+        let last = both_walks(&format!("16 MB, {name}"), &long);
+        row(&format!("recover, 16 MB to 1 MB, {name}"), (last, first));
+    }
+}
+
 fn main() {
     println!("nanoseconds per call, best of {ROUNDS} rounds");
     println!("{:<34} {:>9} {:>9} {:>7}", "", "proved", "second", "ratio");
@@ -710,4 +785,5 @@ fn main() {
     leases();
     chambers();
     calls();
+    walks();
 }

@@ -1,7 +1,10 @@
-//! The eleven calls of a server, in lockstep with the second program: random
-//! worlds of servers, clients and a lease manager, with packets late, repeated,
-//! astray and damaged, short slices, full logs, moves and crashes. Each call has
-//! the same answer, output, log and state on both sides, byte by byte.
+//! The eleven calls of a server, in lockstep with the second program, and the
+//! first walk over each log: random worlds of servers, clients and a lease
+//! manager, with packets late, repeated, astray and damaged, short slices, full
+//! logs, moves and crashes. Each call has the same answer, output, log and state
+//! on both sides, byte by byte.
+
+mod logs;
 
 use compare::inputs::{self, Tables};
 use compare::kernel::Call;
@@ -18,7 +21,6 @@ use second::packet::{
 };
 use second::plan::{write_plan, Entry, Plan};
 use second::random::Random;
-use second::record::{parse_head, parse_record, Parsed, HEAD_LEN};
 use second::rule::Op;
 use second::server::{Hold, Server, STATE_LEN};
 
@@ -26,7 +28,7 @@ const LOG_LEN: usize = 48_000;
 const OUT_LEN: usize = IMAGE_MAX + 8;
 
 /// A call and its number; a number that has several causes by its cause.
-const CLASSES: [&str; 78] = [
+const CLASSES: [&str; 81] = [
     "found: 0",
     "found: 1",
     "found: 2",
@@ -104,6 +106,9 @@ const CLASSES: [&str; 78] = [
     "recover: 14, head",
     "recover: 14, layout",
     "recover: 14, record cannot follow",
+    "log end: 0, recovered",
+    "log end: 0, not recovered",
+    "log end: 14",
     "damaged state: 19",
 ];
 
@@ -135,30 +140,6 @@ fn class(call: &Call, answer: Answer, server: &Server) -> String {
         },
         (_, number) => format!("{}: {number}", call.name()),
     }
-}
-
-/// Why recovery refuses a log.
-fn broken(log: &[u8]) -> &'static str {
-    if parse_head(log).is_none() {
-        return "recover: 14, head";
-    }
-    let mut at = HEAD_LEN;
-    loop {
-        match parse_record(log, at) {
-            Parsed::Whole(_, end) => at = end,
-            Parsed::Incomplete => return "recover: 14, record cannot follow",
-            Parsed::Broken => return "recover: 14, layout",
-        }
-    }
-}
-
-/// The places of a log's whole records, and its end.
-fn places(log: &[u8]) -> Vec<usize> {
-    let mut places = vec![HEAD_LEN];
-    while let Parsed::Whole(_, end) = parse_record(log, *places.last().expect("a place")) {
-        places.push(end);
-    }
-    places
 }
 
 // ---- a world
@@ -639,75 +620,6 @@ impl World {
         } else if self.pairs[i].length() < kept {
             tally.meet("recover: 0, incomplete record");
         }
-    }
-
-    /// Recovery of a log, on memory of its own.
-    fn recovered(&mut self, log: &[u8], tally: &mut Tally) -> Answer {
-        let junk = self.random.next_u32() as u8;
-        let pair = &mut self.scratch;
-        pair.state[..STATE_END].fill(junk);
-        pair.before.copy_from_slice(&pair.state);
-        pair.server = Server::new();
-        pair.log = log.to_vec();
-        pair.server_log = log.to_vec();
-        pair.room = log.len();
-        let call = Call::Recover(self.plan_bytes.clone());
-        let answer = pair.run(&call, &mut self.outputs);
-        match answer.number {
-            14 => tally.meet(broken(log)),
-            _ => tally.meet(&class(&call, answer, &self.scratch.server)),
-        }
-        answer
-    }
-
-    /// A log with a record's field or other bytes changed, or with whole records
-    /// left out, repeated, exchanged or of another server.
-    fn damaged_log(&mut self, tally: &mut Tally) {
-        let i = self.any();
-        let mut log = self.pairs[i].log[..self.pairs[i].length()].to_vec();
-        let places = places(&log);
-        let records = places.len() as u32 - 1;
-        match self.random.below(10) {
-            0 => log[self.random.below(8) as usize] ^= 1 << self.random.below(8),
-            1 => log.truncate(self.random.below(9) as usize),
-            2 => inputs::damage(&mut self.random, &mut log),
-            3 | 8 | 9 if records >= 1 => {
-                let n = self.random.below(records) as usize;
-                self.change_field(&mut log[places[n]..places[n + 1]]);
-            }
-            4 if records >= 1 => {
-                let n = self.random.below(records) as usize;
-                log.drain(places[n]..places[n + 1]);
-            }
-            5 if records >= 1 => {
-                let n = self.random.below(records) as usize;
-                let again = log[places[n]..places[n + 1]].to_vec();
-                log.extend(again);
-            }
-            6 if records >= 2 => {
-                let n = self.random.below(records - 1) as usize;
-                let middle = places[n + 1] - places[n];
-                log[places[n]..places[n + 2]].rotate_left(middle);
-            }
-            _ => {
-                let j = self.any();
-                let other = self.pairs[j].log[..self.pairs[j].length()].to_vec();
-                let from = *self.random.pick(&self::places(&other));
-                log.extend_from_slice(&other[from..]);
-            }
-        }
-        if self.recovered(&log, tally).number == 0 {
-            tally.meet("recover: 0, damaged log");
-        }
-    }
-
-    /// One of the first seven numbers of a record.
-    fn change_field(&mut self, record: &mut [u8]) {
-        let fields = record.len().min(28) as u32 / 4;
-        let at = 4 * self.random.below(fields) as usize;
-        let by = *self.random.pick(&[1, u32::MAX, 1 << 31]);
-        let four = get_u32(record, at).wrapping_add(by);
-        put_u32(record, at, four);
     }
 
     /// A buffer that no call leaves: every call on it is refused, and changes
