@@ -78,9 +78,15 @@ static void start(void) {
         card_append(0, MANTELORRIS_LOG_HEAD);
         return;
     }
+    struct mantelorris_log_end_reply whole = mantelorris_log_end(log_space, kept);
+    if (whole.number) {
+        fprintf(stderr, "log: %s: the card is damaged, or it is no log\n", mantelorris_refusal_name(whole.number));
+        exit(1);
+    }
     uint64_t a = mantelorris_recover(state, sizeof state, log_space, kept, plan, sizeof plan);
     if (mantelorris_number(a)) {
-        fprintf(stderr, "recover: %s: the card is not a log of this plan\n", mantelorris_refusal_name(mantelorris_number(a)));
+        fprintf(stderr, "recover: %s: whole records up to byte %llu, and they are not a log of this plan\n",
+                mantelorris_refusal_name(mantelorris_number(a)), (unsigned long long)whole.end);
         exit(1);
     }
     card_cut((size_t)mantelorris_length(state));

@@ -27,6 +27,11 @@
  * counts as synced. Until recover has answered 0, call nothing else; after a refusal call it again.
  * Recover without a crash (another program takes over) is lent the log up to its recorded length, which the card must have.
  *
+ * Log end. Recover walks the log twice: it finds the ends of all records, then it replays them. mantelorris_log_end is the first walk by itself, on
+ * a log alone, without a state and without a plan: the end of the last whole record, which is the length that recover will record; or
+ * MANTELORRIS_BAD_LOG where the head, a record's kind or an image's length is off its layout, which recover refuses too. It looks at nothing else in a
+ * record, so recover may still refuse a log that has an end.
+ *
  * Moving a point. Giver: give, sync, image. Taker: take (the image), sync, receipt. Giver: release (the receipt). Images and receipts may be
  * lost, late or repeated: make them again as often as is needed. Until release the giver keeps the point's completion records.
  *
@@ -46,7 +51,7 @@ extern "C" {
 /* The version of this header and, by mantelorris_version(), of the library: major * 65,536 + minor. The major number changes with a layout that
  * an older program would misread (packets, images, log, state); the minor one with what is added. */
 #define MANTELORRIS_VERSION_MAJOR 1
-#define MANTELORRIS_VERSION_MINOR 2
+#define MANTELORRIS_VERSION_MINOR 3
 #define MANTELORRIS_VERSION ((uint32_t)MANTELORRIS_VERSION_MAJOR << 16 | MANTELORRIS_VERSION_MINOR)
 
 /* least lengths of slices; a plan has exactly its length */
@@ -117,7 +122,7 @@ enum mantelorris_kind {
     X(BAD_DESTINATION, 11, "bad destination")    /* give to this server; an image for another one */ \
     X(OLD_MOVE, 12, "old move")                  /* an image's move is not above the own one; a receipt's is below the given one */ \
     X(HELD_HERE, 13, "held here")                /* take of a point that is held here, or of an id held for another point */ \
-    X(BAD_LOG, 14, "bad log")                    /* recover: the log breaks a layout, or a record cannot follow */ \
+    X(BAD_LOG, 14, "bad log")                    /* recover, log_end: the log breaks a layout; recover: or a record cannot follow */ \
     X(WINDOW_FULL, 15, "window full")            /* client: sixteen numbers from its first open call are used */ \
     X(NUMBER_SPENT, 16, "number spent")          /* a move, call, client or time number is at its greatest */ \
     X(UNKNOWN, 17, "unknown")                    /* no such call, client or lease */ \
@@ -176,6 +181,15 @@ uint64_t mantelorris_release(uint8_t *state, size_t state_length, uint8_t *log, 
 /* the state of a kept log; the log slice is exactly what was kept */
 uint64_t mantelorris_recover(uint8_t *state, size_t state_length, const uint8_t *log, size_t log_length, const uint8_t *plan,
                              size_t plan_length);
+
+/* number is MANTELORRIS_OK or MANTELORRIS_BAD_LOG; end is 8 or more, 0 where refused */
+struct mantelorris_log_end_reply {
+    uint32_t number;
+    uint64_t end;
+};
+
+/* the end of a log's last whole record; the log slice is exactly what was kept */
+struct mantelorris_log_end_reply mantelorris_log_end(const uint8_t *log, size_t log_length);
 
 /* ---- what an answer says */
 

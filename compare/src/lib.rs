@@ -4,7 +4,8 @@
 //! `kernel`, `proved` and `chamber` call the static libraries of the proved code, `other` is
 //! the second program's client and lease manager in their terms. `pair` is a server of
 //! both, called in lockstep; `states` makes servers and their buffers, `inputs`
-//! random, damaged and well-formed bytes; `tally` counts what a test met.
+//! random, damaged and well-formed bytes, `long` long logs; `tally` counts what a test
+//! met.
 
 pub mod chamber;
 pub mod inputs;

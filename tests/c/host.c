@@ -138,7 +138,10 @@ static void save(struct server *s) {
  * is dropped, and the card's next write begins at the recorded length. */
 static void restart(struct server *s) {
     memcpy(s->log, s->card.bytes, s->card.length);
+    struct mantelorris_log_end_reply whole = mantelorris_log_end(s->log, s->card.length);
+    expect("log end", whole.number, 0);
     expect("recover", mantelorris_recover(s->state, sizeof s->state, s->log, s->card.length, plan, sizeof plan), 0);
+    expect("log end: recover's length", whole.end, mantelorris_length(s->state));
     s->card.length = log_length(s);
     expect("recover: mark", mantelorris_mark(s->state), log_length(s));
 }
@@ -440,6 +443,7 @@ static void not_founded(void) {
     refused("request: not founded", mantelorris_request(s->state, sizeof s->state, s->log, LOG_SPACE, desks[0].old, 24, out, sizeof out),
             MANTELORRIS_NOT_SOUND);
     refused("recover: no log", mantelorris_recover(s->state, sizeof s->state, NULL, 0, plan, sizeof plan), MANTELORRIS_BAD_LOG);
+    refused("log end: no log", mantelorris_log_end(NULL, 0).number, MANTELORRIS_BAD_LOG);
     refused("recover: plan", mantelorris_recover(s->state, sizeof s->state, s->log, 8, plan, 0), MANTELORRIS_MALFORMED);
 }
 

@@ -131,6 +131,18 @@ def cuts(host, log):
     return wrong, tried
 
 
+def refused(host, log):
+    """a card with a bad kind, and one with an op that there is not: the host says which it is, and leaves the card as it was"""
+    path = os.path.join(WORK, 'damaged')
+    for at, byte, want in ((8, 9, 'log: bad log: the card is damaged'), (9, 9, 'recover: bad log: whole records up to byte %d,' % len(log))):
+        bad = log[:at] + bytes([byte]) + log[at + 1:]
+        open(path, 'wb').write(bad)
+        ran = subprocess.run([host, path], capture_output=True, text=True)
+        if ran.returncode != 1 or want not in ran.stderr or open(path, 'rb').read() != bad:
+            return 'byte %d: exit %d, %s%s, and %s is due' % (at, ran.returncode, ran.stdout, ran.stderr, want)
+    return ''
+
+
 def main():
     print('seed %d' % SEED)
     subprocess.run(['tools/lib.sh'], stdout=subprocess.DEVNULL, check=True)
@@ -149,6 +161,9 @@ def main():
     if not wrong:
         bad, tried = cuts(host, open(seen['card'], 'rb').read())
         count('a card cut at each of %d bytes starts with its whole records%s' % (tried, ': ' + bad if bad else ''), not bad)
+        log = open(seen['card'], 'rb').read()
+        bad = refused(host, log[:whole_records(log)[-1][0]])
+        count('a damaged card is refused, and left as it was%s' % (': ' + bad if bad else ''), not bad)
     # each with one in how many calls on the card is struck
     faults = {
         'mark_before_write': (60, ['    card_append(mark, length);\n', '    waits = 0;\n}'], ['', '    waits = 0;\n    card_append(mark, length);\n}']),

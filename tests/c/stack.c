@@ -44,6 +44,7 @@ static void take(void) { answer = mantelorris_take(st(), sizeof state[0], lg(), 
 static void receipt(void) { answer = mantelorris_receipt(st(), sizeof state[0], lg(), LOG, point, out, sizeof out); }
 static void release(void) { answer = mantelorris_release(st(), sizeof state[0], lg(), LOG, packet, packet_length); }
 static void recover(void) { answer = mantelorris_recover(st(), sizeof state[0], lg(), (size_t)mark, plan, sizeof plan); }
+static void log_end(void) { answer = mantelorris_log_end(lg(), (size_t)mark).number; }
 static void start(void) {
     struct mantelorris_start_reply r = mantelorris_start(packet, packet_length);
     client = r.client;
@@ -100,6 +101,7 @@ static struct row {
     ROW("found", found, BOUND_FOUND), ROW("request", request, BOUND_REQUEST), ROW("fetch", fetch, BOUND_FETCH), ROW("sync", sync_log, BOUND_SYNC),
     ROW("notice", notice, BOUND_NOTICE), ROW("give", give, BOUND_GIVE), ROW("image", make_image, BOUND_IMAGE), ROW("take", take, BOUND_TAKE),
     ROW("receipt", receipt, BOUND_RECEIPT), ROW("release", release, BOUND_RELEASE), ROW("recover", recover, BOUND_RECOVER),
+    ROW("log_end", log_end, BOUND_LOG_END),
     ROW("start", start, BOUND_START), ROW("issue", issue, BOUND_ISSUE), ROW("resend", resend, BOUND_RESEND), ROW("receive", receive, BOUND_RECEIVE),
     ROW("leases", leases, BOUND_LEASES), ROW("open", open_lease, BOUND_OPEN), ROW("renew", renew, BOUND_RENEW), ROW("query", query, BOUND_QUERY),
     ROW("chamber_start", chamber_start, BOUND_CHAMBER_START), ROW("chamber_issue", chamber_issue, BOUND_CHAMBER_ISSUE),
@@ -207,6 +209,7 @@ static void move(void) {
     memcpy(packet, out, MANTELORRIS_RECEIPT_SIZE);
     packet_length = MANTELORRIS_RECEIPT_SIZE;
     mark = mantelorris_length(st());
+    expect(log_end, 0);
     expect(recover, 0);
     at_server = 0;
 }
@@ -218,6 +221,7 @@ static void finish(void) {
     expect(recover, 0);
     lg()[8] = 9;
     expect(recover, MANTELORRIS_BAD_LOG);
+    expect(log_end, MANTELORRIS_BAD_LOG);
     lg()[8] = 1;
     mark++;
     expect(recover, 0);
