@@ -188,6 +188,14 @@ struct mantelorris_log_end_reply {
     uint64_t end;
 };
 
+/* the layouts that the library has */
+#if defined(__cplusplus)
+#define MANTELORRIS_HAS_SIZE(type, size) static_assert(sizeof(type) == (size), #type)
+#else
+#define MANTELORRIS_HAS_SIZE(type, size) _Static_assert(sizeof(type) == (size), #type)
+#endif
+MANTELORRIS_HAS_SIZE(struct mantelorris_log_end_reply, 16);
+
 /* the end of a log's last whole record; the log slice is exactly what was kept */
 struct mantelorris_log_end_reply mantelorris_log_end(const uint8_t *log, size_t log_length);
 

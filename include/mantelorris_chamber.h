@@ -86,18 +86,12 @@ struct mantelorris_chamber_send_reply mantelorris_chamber_resend(struct mantelor
 struct mantelorris_chamber_receive_reply mantelorris_chamber_receive(struct mantelorris_chamber chamber, const uint8_t *packet, size_t length);
 
 /* the layouts that the library has */
-#if defined(__cplusplus)
-#define MANTELORRIS_HAS_SIZE(type, size) static_assert(sizeof(type) == (size), #type)
-#else
-#define MANTELORRIS_HAS_SIZE(type, size) _Static_assert(sizeof(type) == (size), #type)
-#endif
 MANTELORRIS_HAS_SIZE(struct mantelorris_lock_points, 5);
 MANTELORRIS_HAS_SIZE(struct mantelorris_latest_read, 12);
 MANTELORRIS_HAS_SIZE(struct mantelorris_chamber, 276);
 MANTELORRIS_HAS_SIZE(struct mantelorris_chamber_start_reply, 280);
 MANTELORRIS_HAS_SIZE(struct mantelorris_chamber_send_reply, 312);
 MANTELORRIS_HAS_SIZE(struct mantelorris_chamber_receive_reply, 300);
-#undef MANTELORRIS_HAS_SIZE
 
 #ifdef __cplusplus
 }

@@ -92,11 +92,6 @@ struct mantelorris_lease_reply mantelorris_renew(struct mantelorris_lease_manage
 struct mantelorris_lease_reply mantelorris_query(struct mantelorris_lease_manager *manager, uint32_t client, uint32_t time);
 
 /* the layouts that the library has */
-#if defined(__cplusplus)
-#define MANTELORRIS_HAS_SIZE(type, size) static_assert(sizeof(type) == (size), #type)
-#else
-#define MANTELORRIS_HAS_SIZE(type, size) _Static_assert(sizeof(type) == (size), #type)
-#endif
 MANTELORRIS_HAS_SIZE(struct mantelorris_open_call, 12);
 MANTELORRIS_HAS_SIZE(struct mantelorris_client, 204);
 MANTELORRIS_HAS_SIZE(struct mantelorris_start_reply, 208);
@@ -105,7 +100,6 @@ MANTELORRIS_HAS_SIZE(struct mantelorris_receive_reply, 24);
 MANTELORRIS_HAS_SIZE(struct mantelorris_lease, 8);
 MANTELORRIS_HAS_SIZE(struct mantelorris_lease_manager, 264);
 MANTELORRIS_HAS_SIZE(struct mantelorris_lease_reply, 24);
-#undef MANTELORRIS_HAS_SIZE
 
 #ifdef __cplusplus
 }

@@ -10,7 +10,7 @@ ENTRY = {
     'format_packet_writer': 'request_packet notice_packet grant_packet',
     'format_commands': 'plan_ok checked_rule',
     'format_image_reader': 'image_ok image_read',
-    'format_log_ends': 'head_ok extent_at',
+    'format_log_ends': 'head_ok extent_at log_end',
     'state_soundness': 'state_ok',
     'server_memory': 'lent_refusal',
     'server_fetch': 'fetch sync notice',
@@ -35,7 +35,7 @@ LEAF_CRATES += 'simulator_store simulator_delivery simulator_client simulator_se
 LEAVES = {
     'format_commands': 'plan_entry plan_row_ok',
     'format_image_reader': 'values_in_range',
-    'format_log_ends': 'head_server',
+    'format_log_ends': 'head_server size_at',
     'format_log_reader': 'record_at',
     'server_memory': 'free_in reply',
     'server_found': 'found_state',
