@@ -17,6 +17,7 @@ use second::packet::{
 use second::plan::{write_plan, Entry, Plan};
 use second::rule::Op;
 use second::server::{Server, STATE_LEN};
+use std::arch::x86_64::{_mm_clflush, _mm_mfence};
 use std::hint::black_box;
 use std::time::{Duration, Instant};
 
@@ -724,20 +725,38 @@ fn plain_ends(log: &[u8]) -> usize {
     unsafe { c::plain_ends(log.as_ptr(), log.len()) }
 }
 
-/// The first walk by itself, to the loop in C.
+/// Out of every cache, as a log is that was just read from a card.
+fn flush(bytes: &[u8]) {
+    for line in bytes.chunks(64) {
+        unsafe { _mm_clflush(line.as_ptr()) };
+    }
+    unsafe { _mm_mfence() };
+}
+
+/// Nanoseconds per record of one pass over a log that is in memory alone.
+fn measure_flushed(long: &Long, mut pass: impl FnMut()) -> f64 {
+    let mut best = f64::MAX;
+    for _ in 0..ROUNDS {
+        flush(&long.log);
+        best = best.min(round(1, &mut pass));
+    }
+    best / long.records as f64
+}
+
+/// The first walk by itself, to the loop in C: the log in a cache, then in memory alone. Gives the time of the latter.
 fn first_walk(name: &str, long: &Long) -> f64 {
     let log = &long.log;
     assert_eq!(kernel::log_end(log).end, plain_ends(log) as u64);
-    let times = measure(
-        long.records,
-        || {
-            black_box(kernel::log_end(black_box(log)));
-        },
-        || {
-            black_box(plain_ends(black_box(log)));
-        },
-    );
-    row(&format!("first walk to a C loop, {name}"), times);
+    let mut have = || {
+        black_box(kernel::log_end(black_box(log)));
+    };
+    let mut want = || {
+        black_box(plain_ends(black_box(log)));
+    };
+    let times = measure(long.records, &mut have, &mut want);
+    row(&format!("first walk to C, {name}, cached"), times);
+    let times = (measure_flushed(long, have), measure_flushed(long, want));
+    row(&format!("first walk to C, {name}"), times);
     times.0
 }
 
