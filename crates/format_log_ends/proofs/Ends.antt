@@ -2,23 +2,28 @@
 --     spans-some, spans-whole       a whole record has a kind, and its bytes are there
 --     spans-take                    a whole take, by its image's length
 --     take-off, take-rest           a take's extent by its image's length
---     from-spans, from-inside       the same of the record at a place of the log
+--     from-spans, from-inside, from-head     the same of the record at a place of the log
+--     size-by                       its size, by its kind
 -- Assumes nothing.
 use Prim.Native.Nat.{ℕ, _+_, _≤_}
-use mathlib.Core.Path.{_≡_}
+use mathlib.Core.Path.{_≡_, sym, ap, _∙_}
 use mathlib.Core.Bool.{Bool, true, false, _||_}
 use mathlib.Core.List.{List, [], _∷_}
 use native.Mathlib.Omega.{arith}
 use borrow.Author.Tests.{le-ltb}
+use native.Mathlib.Nat.{add-zero}
 use lib.ListN.{length, drop, length-drop}
+use lib.Seq.{getD-drop}
 use lib.Dec.{eqb, leb, ltb}
 use Rattle.model.specs.Numbers.{byteAt, le32At}
-use Rattle.model.specs.Limits.{leastImage, greatestImage, executedKind, goneKind, giveKind, takeKind, releaseKind}
+use Rattle.model.specs.Limits.{leastImage, greatestImage, headSize, executedKind, goneKind, giveKind, takeKind, releaseKind}
 use Rattle.model.specs.Limits.{executedSize, goneSize, giveSize, takeHead, releaseSize}
 use Rattle.model.specs.Logs.{Extent, off, spans, within, takeExtent, extentOf}
-use Rattle.model_laws.proofs.Tests.{choose}
+use Rattle.model_laws.proofs.Tests.{choose, impossible}
+use Rattle.model_laws.proofs.Numbers.{le32-drop}
 use Rattle.model_laws.proofs.Logs.{within-spans, take-spans}
-use Rattle.format_log_ends.specs.Answers.{extentFrom}
+use Rattle.model_laws.proofs.Ends.{spans-least}
+use Rattle.format_log_ends.specs.Answers.{extentFrom, WholeAt, sizeFrom}
 
 pub spans-some : (s : List ℕ) (n : ℕ) → extentOf s ≡ spans n → 1 ≤ length s
 unfolding extentOf
@@ -63,3 +68,33 @@ from-inside log at n e =
     let s : List ℕ = drop at log in
     let f : extentOf s ≡ spans n = from-spans log at n e in
     omega (arith, spans-some s n f, spans-whole s n f, length-drop at log)
+
+pub from-head : (log : List ℕ) (at : ℕ) → WholeAt log at → at + headSize ≤ length log
+from-head log at w = omega (arith, from-inside log at (w .size) (w .whole), spans-least (drop at log) (w .size) (from-spans log at (w .size) (w .whole)))
+
+-- ---- sizes
+
+module _ (log : List ℕ) (at n : ℕ) (e : extentOf (drop at log) ≡ spans n) where
+  abbrev kind : ℕ
+  kind = byteAt (drop at log) 0
+
+  size-release : eqb kind executedKind ≡ false → eqb kind goneKind ≡ false → eqb kind giveKind ≡ false → eqb kind takeKind ≡ false → n ≡ releaseSize
+  unfolding extentOf
+  size-release a b c d =
+      choose (λ x. x ≡ spans n → n ≡ releaseSize) (eqb kind releaseKind) (λ k f. within-spans (drop at log) releaseSize n f .0) (λ k f. impossible (cc))
+      (rw (a, b, c, d) at e)
+
+  size-kinds : n ≡ sizeFrom log at
+  unfolding extentOf sizeFrom
+  size-kinds =
+      let s : List ℕ = drop at log in
+      let k : kind ≡ byteAt log at = getD-drop at log 0 0 ∙ ap (byteAt log) (add-zero at) in
+      rw (← k, ← le32-drop at log 4)
+      (choose (λ m. n ≡ m) (eqb kind executedKind) (λ a. within-spans s executedSize n (rw a at e) .0)
+      (λ a. choose (λ m. n ≡ m) (eqb kind goneKind) (λ b. within-spans s goneSize n (rw (a, b) at e) .0)
+      (λ b. choose (λ m. n ≡ m) (eqb kind giveKind) (λ c. within-spans s giveSize n (rw (a, b, c) at e) .0)
+      (λ c. choose (λ m. n ≡ m) (eqb kind takeKind) (λ d. take-spans s n (rw (a, b, c, d) at e) .0)
+      (λ d. size-release a b c d)))))
+
+pub size-by : (log : List ℕ) (at : ℕ) → WholeAt log at → {r : ℕ} → r ≡ sizeFrom log at → extentFrom log at ≡ spans r
+size-by log at w q = w .whole ∙ ap spans (size-kinds log at (w .size) (from-spans log at (w .size) (w .whole)) ∙ sym q)

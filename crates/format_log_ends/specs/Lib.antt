@@ -1,2 +1,3 @@
 -- What the contracts of `format_log_ends` cite.
 pub mod Answers
+pub mod Walked

@@ -1,11 +1,14 @@
 // The log's head, and where its records end.
+use model::LogEnd;
 use model::constants;
 ghost use mathlib.Core.Path.{_≡_};
 ghost use Prim.Native.Nat.{_≤_};
 ghost use lib.ListN.{length};
 ghost use Rattle.model.specs.Limits.{headSize};
-ghost use Rattle.model.specs.Logs.{headServer, headOk, within, takeExtent, extentOf};
-ghost use Rattle.format_log_ends.specs.Answers.{extentMeans, extentFrom};
+ghost use Rattle.model.specs.Logs.{headServer, headOk, spans, within, takeExtent, extentOf};
+ghost use Rattle.model.specs.Operations.{logEndOf};
+ghost use Rattle.format_log_ends.specs.Answers.{extentMeans, extentFrom, WholeAt};
+ghost use Rattle.format_log_ends.specs.Walked.{logEnd, endFrom};
 
 // Where a record ends: its layout is broken, it is incomplete, or it spans that many bytes, all there.
 pub enum Extent {
@@ -87,4 +90,58 @@ pub fn extent_at(log: &[u8], at: usize) -> Extent
         return Extent::Cut;
     }
     extent_of(&log[at..])
+}
+
+// The size of the whole record at a place of the log.
+pub fn size_at(log: &[u8], at: usize) -> usize
+    requires { ⌜ WholeAt (now log) at ⌝ }
+    ensures { λ r. ⌜ extentFrom (now (log .entry)) at ≡ spans r ⌝ }
+{
+    match log[at] {
+        constants::EXECUTED_KIND => constants::EXECUTED_SIZE,
+        constants::GONE_KIND => constants::GONE_SIZE,
+        constants::GIVE_KIND => constants::GIVE_SIZE,
+        constants::TAKE_KIND => {
+            constants::TAKE_HEAD + format_numbers::read_u32(log, at + 4) as usize
+        }
+        _ => constants::RELEASE_SIZE,
+    }
+}
+
+// ---- the first walk
+
+// The refusal's number, 0 for none, and the end.
+fn answered(refusal: u32, end: usize) -> LogEnd
+    ensures { λ r. ⌜ r ≡ logEnd refusal end ⌝ }
+{
+    LogEnd {
+        refusal,
+        end: end as u64,
+    }
+}
+
+// From the end of a log's head on.
+fn records_end(log: &[u8]) -> LogEnd
+    ensures { λ r. ⌜ r ≡ endFrom (now (log .entry)) headSize ⌝ }
+{
+    let mut at = constants::HEAD_SIZE;
+    loop {
+        let extent = extent_at(log, at);
+        match extent {
+            Extent::Off => return answered(constants::BAD_LOG, 0),
+            Extent::Cut => return answered(constants::NO_REFUSAL, at),
+            Extent::Spans(n) => at += n,
+        }
+    }
+}
+
+// The end of a log's last whole record, by the kinds and image lengths of its records alone; 14 where one of them, or the head, is off
+// its layout.
+pub fn log_end(log: &[u8]) -> LogEnd
+    ensures { λ r. ⌜ r ≡ logEndOf (now (log .entry)) ⌝ }
+{
+    if !head_ok(log) {
+        return answered(constants::BAD_LOG, 0);
+    }
+    records_end(log)
 }

@@ -3,7 +3,7 @@
 --     joinEnd, ends-cons            one step of the walk
 --     ends-none, ends-cut, ends-off     where it ends
 --     ends-whole                    a whole record, and the walk from its end on
---     ends-behind                   the last end lies behind the first place, but where there is none
+--     ends-behind                   no end lies before the first place
 --     extent-alike, ends-alike      the walk sees kinds and lengths alone
 -- Assumes nothing.
 use Prim.Native.Nat.{ℕ, zero, suc, _+_, _≤_, _<_}
@@ -20,7 +20,7 @@ use Rattle.model.specs.Numbers.{byteAt, le32At}
 use Rattle.model.specs.Logs.{Extent, off, cut, spans, within, takeExtent, extentOf, walkEnds, lastOf}
 use Rattle.model.specs.Limits.{executedSize, headSize, executedKind, giveKind, giveSize, goneKind, goneSize, releaseKind, releaseSize, takeKind}
 use Rattle.model_laws.specs.Heads.{SameHeads}
-use Rattle.model_laws.proofs.Tests.{choose}
+use Rattle.model_laws.proofs.Tests.{choose, impossible}
 use Rattle.model_laws.proofs.Logs.{within-spans, take-spans}
 
 pub spans-least : (s : List ℕ) (n : ℕ) → extentOf s ≡ spans n → headSize ≤ n
@@ -101,6 +101,30 @@ ends-whole zero k m (b ∷ s) p l e = absurd (omega arith)
 ends-whole (suc n) k m (b ∷ s) p l e =
     ends-cons n k b s m e
     ∙ ap (joinEnd (k + m)) (ends-fuel n (suc n) (k + m) (drop m (b ∷ s)) (omega (arith, length-drop m (b ∷ s), spans-least (b ∷ s) m e)) (omega (arith, length-drop m (b ∷ s))))
+
+-- ---- the last end
+
+behind-none : (k : ℕ) (es : List ℕ) → some [] ≡ some es → k ≤ lastOf k es
+unfolding lastOf
+behind-none k es e = let q : [] ≡ es = cc in rw (← q) (omega arith)
+
+module _ (n : ℕ) (below : (k : ℕ) (s es : List ℕ) → walkEnds n k s ≡ some es → k ≤ lastOf k es) where
+  behind-join : (k m : ℕ) (s es : List ℕ) (w : Option (List ℕ)) → walkEnds n (k + m) s ≡ w → joinEnd (k + m) w ≡ some es → k ≤ lastOf k es
+  unfolding joinEnd lastOf
+  behind-join k m s es none p e = impossible (cc)
+  behind-join k m s es (some fs) p e = let q : (k + m) ∷ fs ≡ es = cc in rw (← q) (omega (arith, below (k + m) s fs p))
+
+  behind-extent : (k b : ℕ) (s es : List ℕ) (x : Extent) → extentOf (b ∷ s) ≡ x → onExtent n k (b ∷ s) x ≡ some es → k ≤ lastOf k es
+  unfolding onExtent
+  behind-extent k b s es off x e = impossible (cc)
+  behind-extent k b s es cut x e = behind-none k es e
+  behind-extent k b s es (spans m) x e = behind-join k m (drop m (b ∷ s)) es (walkEnds n (k + m) (drop m (b ∷ s))) refl e
+
+pub ends-behind : (n k : ℕ) (s es : List ℕ) → walkEnds n k s ≡ some es → k ≤ lastOf k es
+unfolding walkEnds
+ends-behind zero k s es e = behind-none k es e
+ends-behind (suc n) k [] es e = behind-none k es e
+ends-behind (suc n) k (b ∷ s) es e = behind-extent n (ends-behind n) k b s es (extentOf (b ∷ s)) refl (sym (ends-step n k b s refl) ∙ e)
 
 -- ---- the walk sees kinds and lengths alone
 
