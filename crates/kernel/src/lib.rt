@@ -1,15 +1,17 @@
 // The C interface: the calls of a server over its lent slices (include/mantelorris.h). Each answers one word of 64 bits: the low 32 bits
-// are 0 or the refusal's number, the high 32 bits the number of bytes written to the output.
+// are 0 or the refusal's number, the high 32 bits the number of bytes written to the output; log end, over a log alone, answers a number and
+// an end of 64 bits.
 use model::Answer;
+use model::LogEnd;
 use model::constants;
 ghost use mathlib.Core.Path.{_≡_};
 ghost use mathlib.Core.List.{[]};
 ghost use Rattle.model.specs.Versions.{today};
-ghost use Rattle.model.specs.Operations.{wordOf, foundOf, requestOf, fetchOf, syncOf, noticeOf, giveOf, imageOf, takeOf, receiptOf, releaseOf, recoverOf};
+ghost use Rattle.model.specs.Operations.{wordOf, foundOf, requestOf, fetchOf, syncOf, noticeOf, giveOf, imageOf, takeOf, receiptOf, releaseOf, recoverOf, logEndOf};
 ghost use Rattle.kernel.specs.Interface.{version, returned, inC};
 
 // The interface's version, major * 65,536 + minor.
-const VERSION: u32 = 65538;
+const VERSION: u32 = 65539;
 
 #[no_mangle]
 pub extern "C" fn mantelorris_version() -> u32
@@ -131,4 +133,12 @@ pub extern "C" fn mantelorris_recover(state: &mut [u8], log: &[u8], plan: &[u8])
     ensures { λ r. ⌜ returned r (now (state .exit)) (now (log .entry)) [] ≡ inC (recoverOf (now (state .entry)) (now (log .entry)) (now (plan .entry))) ⌝ }
 {
     word_of(server_recover::recover(state, log, plan))
+}
+
+// The end of the last whole record of a kept log: the first of recover's two walks.
+#[no_mangle]
+pub extern "C" fn mantelorris_log_end(log: &[u8]) -> LogEnd
+    ensures { λ r. ⌜ r ≡ logEndOf (now (log .entry)) ⌝ }
+{
+    format_log_ends::log_end(log)
 }

@@ -1,4 +1,4 @@
 -- Laws that the proofs of `server_recover` cite.
-pub mod Walks
+pub mod SecondWalk
 pub mod Steps
 pub mod Rebuilding

@@ -1,6 +1,6 @@
 -- The whole recovery: founding, all records, the mark; and the operation.
 --     begun, ended-standing         founding leaves a sound state at the head's end; so do all records
---     no-head, no-replay, rebuilt-done     what rebuilding answers
+--     no-ends, no-replay, rebuilt-done     what rebuilding answers
 --     recover-refused, long-passed, plan-passed, recover-no, recover-done     the answers of the operation
 -- Assumes nothing.
 use Prim.Native.Nat.{ℕ, _≤_}
@@ -16,10 +16,10 @@ use Rattle.model.specs.Limits.{stateSize, headSize}
 use Rattle.model.specs.Refusals.{malformed, tooShort, badLog, noRefusal}
 use Rattle.model.specs.Tables.{written}
 use Rattle.model.specs.Plan.{planOk, planOf}
-use Rattle.model.specs.Logs.{headOk, headServer, entriesOf}
+use Rattle.model.specs.Logs.{headOk, headServer, endsOf}
 use Rattle.model.specs.States.{State, load, stateBytes, stateEnd}
 use Rattle.model.specs.Apply.{founded, withMark}
-use Rattle.model.specs.Operations.{after, answerOf, settle, stored, leftUnless, recoveredState, settleRecovered, recoverRefusal, recoverOf}
+use Rattle.model.specs.Operations.{after, answerOf, settle, stored, leftUnless, recoveredOn, recoveredState, settleRecovered, recoverRefusal, recoverOf}
 use Rattle.model_laws.specs.Bytes.{Bytes}
 use Rattle.model_laws.specs.Fits.{StateFits}
 use Rattle.model_laws.proofs.Refused.{if-passed}
@@ -31,8 +31,9 @@ use Rattle.model_invariants.proofs.Kept.{founded-sound}
 use Rattle.model_invariants.proofs.Crash.{head-limit}
 use Rattle.model_invariants.proofs.Loaded.{plan-good}
 use Rattle.state_rows.proofs.Chains.{canonical-stored, load-stored, fits-mark}
+use Rattle.format_log_ends.specs.Walked.{endsFrom}
 use Rattle.server_replay.specs.Standing.{Standing}
-use Rattle.server_recover.specs.Remaining.{remaining, Ended}
+use Rattle.server_recover.specs.Remaining.{remainingTo, remaining, Ended}
 use Rattle.server_recover.specs.Rebuilt.{Begun, rebuilt, recoveredBytes}
 
 pub ended-standing : (log : List ℕ) (at : ℕ) (st : State) (s : List ℕ) {t : Bool} → Ended log at st s t → t ≡ true → Standing s
@@ -46,13 +47,18 @@ module _ (log plan : List ℕ) where
   abbrev first : State
   first = founded (planOf plan) (headServer log)
 
-  from-head : headOk log ≡ true → recoveredState (planOf plan) log ≡ remaining log headSize first
-  unfolding remaining entriesOf recoveredState
-  from-head k = rw (k, recoveredState)
+  by-ends : (w : Option (List ℕ)) → endsOf log ≡ w → recoveredState (planOf plan) log ≡ remainingTo log headSize first w
+  unfolding recoveredState recoveredOn remainingTo
+  by-ends none e = rw (e, recoveredOn)
+  by-ends (some es) e = rw (e, recoveredOn)
 
-  pub no-head : (s : List ℕ) → headOk log ≡ false → rebuilt false s ≡ recoveredBytes (recoveredState (planOf plan) log)
-  unfolding rebuilt recoveredBytes recoveredState
-  no-head s k = rw (k, recoveredState)
+  from-head : headOk log ≡ true → recoveredState (planOf plan) log ≡ remaining log headSize first
+  unfolding remaining endsOf
+  from-head k = by-ends (endsFrom log headSize) (rw (k, endsOf))
+
+  pub no-ends : (s : List ℕ) → endsOf log ≡ none → rebuilt false s ≡ recoveredBytes (recoveredState (planOf plan) log)
+  unfolding rebuilt recoveredBytes remainingTo
+  no-ends s e = rw (by-ends none e)
 
   module _ (s : List ℕ) (long : length s ≡ stateEnd) (b : Bytes plan) (ok : planOk plan ≡ true) (k : headOk log ≡ true) {s1 : List ℕ} (e : s1 ≡ stored s first) where
     first-sound : Sound first

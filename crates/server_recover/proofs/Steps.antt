@@ -1,7 +1,7 @@
 -- One record of a log on the state in a buffer.
 --     said, ready, image-part       what a record's answer says; it is ready to be replayed; a take's image at its place
 --     broken-by, replayed-by        what replaying it leaves
---     off-from, cut-from, stops, goes     one step of a recovery
+--     stops, goes                   one step of the second walk
 --     On, on-..                     all steps, one after the other
 -- Assumes nothing.
 use Prim.Native.Nat.{ℕ, _+_, _-_, _*_, _≤_, _<_}
@@ -14,7 +14,7 @@ use lib.ListN.{length, drop}
 use Rattle.model.specs.Choice.{pick}
 use Rattle.model.specs.Numbers.{word}
 use Rattle.model.specs.Images.{imageOk}
-use Rattle.model.specs.Logs.{LogRecord, took, off, cut, spans, recordAt, recordSize}
+use Rattle.model.specs.Logs.{LogRecord, took, spans, recordAt}
 use Rattle.model.specs.States.{State, load}
 use Rattle.model.specs.Apply.{applyRecord}
 use Rattle.model.specs.Decisions.{follows}
@@ -29,17 +29,15 @@ use Rattle.model_invariants.proofs.Recovery.{apply-size}
 use Rattle.format_log_reader.specs.declared.Span.{Span}
 use Rattle.format_log_reader.specs.declared.Record.{Record}
 use Rattle.format_log_reader.specs.declared.Record.the-variants.{Took}
-use Rattle.format_log_ends.specs.declared.Extent.{Extent}
-use Rattle.format_log_ends.specs.declared.Extent.the-variants.{Off, Cut, Spans}
-use Rattle.format_log_ends.specs.Answers.{extentMeans, extentFrom}
+use Rattle.format_log_ends.specs.Answers.{extentFrom}
+use Rattle.format_log_ends.specs.Walked.{endAt, endFrom}
 use Rattle.format_log_reader.specs.Answers.{imageIn, spanIn, recordMeans, ImagePlaced, Parsed}
 use Rattle.format_log_ends.proofs.Ends.{from-spans, from-inside}
+use Rattle.format_log_ends.proofs.Walked.{ends-reached, end-after}
 use Rattle.server_replay.specs.Standing.{Standing, Ready, replayed}
 use Rattle.server_replay.proofs.Rooms.{ready-standing}
-use Rattle.server_recover.specs.Remaining.{remaining, imageBetween, recordFollows, recordReplayed, StandsAt, Goes, Stepped, Ended}
-use Rattle.server_recover.specs.declared.Step.{Step}
-use Rattle.server_recover.specs.declared.Step.the-variants.{Done, Off as NotOk, Next}
-use Rattle.server_recover.proofs.Walks.{spans-least, remaining-cut, remaining-off, remaining-broken, remaining-next, remaining-stops}
+use Rattle.server_recover.specs.Remaining.{remaining, imageBetween, recordFollows, recordReplayed, RecordReplayedBy, StandsAt, Ended}
+use Rattle.server_recover.proofs.SecondWalk.{remaining-done, remaining-broken, remaining-next, remaining-stops}
 
 -- ---- what stands at a place
 
@@ -89,18 +87,10 @@ module _ (s log : List ℕ) (at end : ℕ) where
 
 -- ---- one step
 
-module _ (s log : List ℕ) (at : ℕ) {x : Extent} (m : extentMeans x ≡ extentFrom log at) where
-  pub off-from : x ≡ Off → Stepped log at s s NotOk
-  unfolding extentMeans
-  off-from e = record { found = remaining-off log at (load s) (sym m ∙ ap extentMeans e) }
-
-  pub cut-from : x ≡ Cut → Stepped log at s s Done
-  unfolding extentMeans
-  cut-from e = record { found = (refl, remaining-cut log at (load s) (sym m ∙ ap extentMeans e)) }
-
-  pub spans-from : {n : ℕ} → x ≡ Spans n → extentFrom log at ≡ spans n
-  unfolding extentMeans
-  spans-from e = sym m ∙ ap extentMeans e
+-- the same state is recovered from the next place
+record Goes (log : List ℕ) (at : ℕ) (s s' : List ℕ) (m : ℕ) : Type 0 where
+  pub stands : StandsAt s' m
+  pub same : remaining log at (load s) ≡ remaining log m (load s')
 
 module _ (s log : List ℕ) (at n : ℕ) (e : extentFrom log at ≡ spans n) {t : Bool} (f : t ≡ recordFollows (load s) (recordAt (drop at log))) where
   followed : (r : LogRecord) → recordAt (drop at log) ≡ some r → recordFollows (load s) (recordAt (drop at log)) ≡ follows (load s) r
@@ -116,15 +106,15 @@ module _ (s log : List ℕ) (at n : ℕ) (e : extentFrom log at ≡ spans n) {t 
   unfolding recordReplayed replayed
   changed r q y = rw (q, ← y)
 
-  pub stops : (s' : List ℕ) → t ≡ false → Stepped log at s s' NotOk
-  stops s' p = record { found = go (recordAt (drop at log)) refl }
+  stops : t ≡ false → remaining log at (load s) ≡ none
+  stops p = go (recordAt (drop at log)) refl
     where
       go : (o : Option LogRecord) → recordAt (drop at log) ≡ o → remaining log at (load s) ≡ none
       go none q = remaining-broken log at (load s) n e q
       go (some r) q = remaining-stops log at (load s) n e r q (sym (f ∙ followed r q) ∙ p)
 
-  pub goes : {s' : List ℕ} → StandsAt s at → Bytes log → length log < word * word → t ≡ true → s' ≡ recordReplayed (recordAt (drop at log)) (at + n) s → Stepped log at s s' (Next (at + n))
-  goes {s'} w b z p c = record { found = go (recordAt (drop at log)) refl }
+  goes : {s' : List ℕ} → StandsAt s at → Bytes log → length log < word * word → t ≡ true → s' ≡ recordReplayed (recordAt (drop at log)) (at + n) s → Goes log at s s' (at + n)
+  goes {s'} w b z p c = go (recordAt (drop at log)) refl
     where
       with : (r : LogRecord) → recordAt (drop at log) ≡ some r → true ≡ follows (load s) r → s' ≡ stored s (applyRecord r (at + n) (load s)) → Goes log at s s' (at + n)
       with r q y k =
@@ -132,8 +122,6 @@ module _ (s log : List ℕ) (at n : ℕ) (e : extentFrom log at ≡ spans n) {t 
           let d = ready-standing s r (at + n) (ready s log at n r w b e q) (omega arith) y k in
           record {
             stands = record { standing = d .0; place = ap (λ (v : State). v .size) (d .1) ∙ apply-size r (at + n) (load s) };
-            after = omega (arith, spans-least (drop at log) n (from-spans log at n e));
-            inside = l;
             same = remaining-next log at (load s) n e r q (sym y) ∙ ap (remaining log (at + n)) (sym (d .1));
           }
 
@@ -145,30 +133,25 @@ module _ (s log : List ℕ) (at n : ℕ) (e : extentFrom log at ≡ spans n) {t 
 
 -- ---- all steps
 
--- the buffer s₀ became s, at a place of the log: the same state is recovered from there
-pub record On (log s₀ s : List ℕ) (at : ℕ) : Type 0 where
+-- the buffer s₀ became s, at a place of the log: the last end is the same from there, and so is the state that is recovered
+pub record On (log s₀ s : List ℕ) (end at : ℕ) : Type 0 where
   pub stands : StandsAt s at
   pub long : length s ≡ length s₀
+  pub last : endFrom log at ≡ endAt end
   pub same : remaining log headSize (load s₀) ≡ remaining log at (load s)
 
-pub on-start : (log s : List ℕ) → StandsAt s headSize → On log s s headSize
-on-start log s w = record { stands = w; long = refl; same = refl }
+pub on-start : (log s : List ℕ) (end : ℕ) → StandsAt s headSize → endFrom log headSize ≡ endAt end → On log s s end headSize
+on-start log s end w e = record { stands = w; long = refl; last = e; same = refl }
 
-module _ {log s₀ s s' : List ℕ} {at : ℕ} {x : Step} (o : On log s₀ s at) (d : Stepped log at s s' x) where
-  pub on-next : {m : ℕ} → x ≡ Next m → length s' ≡ length s → On log s₀ s' m
-  on-next {m} e l =
-      let g : Goes log at s s' m = rw e at (d .found) in
-      record { stands = g .stands; long = l ∙ o .long; same = o .same ∙ g .same }
+module _ {log s₀ s : List ℕ} {end at : ℕ} (o : On log s₀ s end at) where
+  pub on-done : end ≤ at → Ended log headSize (load s₀) s true
+  on-done h = record { found = (o .stands .standing, o .same ∙ remaining-done log at (load s) (ends-reached log at end (o .last) h)) }
 
-  pub on-less : {m : ℕ} → x ≡ Next m → length log - m < length log - at
-  on-less {m} e =
-      let g : Goes log at s s' m = rw e at (d .found) in
-      omega (arith, g .after, g .inside)
+  module _ {n : ℕ} (e : extentFrom log at ≡ spans n) {s' : List ℕ} {t : Bool} (d : RecordReplayedBy (recordAt (drop at log)) (at + n) s s' t) where
+    pub on-stop : t ≡ false → Ended log headSize (load s₀) s' false
+    on-stop p = record { found = o .same ∙ stops s log at n e (d .0) p }
 
-  pub on-done : x ≡ Done → Ended log headSize (load s₀) s' true
-  on-done e =
-      let g : (s' ≡ s) × (remaining log at (load s) ≡ some (load s)) = rw e at (d .found) in
-      record { found = rw (g .0) (o .stands .standing, o .same ∙ g .1) }
-
-  pub on-off : x ≡ NotOk → Ended log headSize (load s₀) s' false
-  on-off e = let g : remaining log at (load s) ≡ none = rw e at (d .found) in record { found = o .same ∙ g }
+    pub on-next : Bytes log → length log < word * word → t ≡ true → length s' ≡ length s → On log s₀ s' end (at + n)
+    on-next b z p l =
+        let g : Goes log at s s' (at + n) = goes s log at n e (d .0) (o .stands) b z p (d .1) in
+        record { stands = g .stands; long = l ∙ o .long; last = end-after log at end (o .last) n e; same = o .same ∙ g .same }

@@ -1,5 +1,4 @@
 // Recover: the state that a kept log gives.
-use format_log_ends::Extent;
 use format_log_reader::Record;
 use model::Answer;
 use model::constants;
@@ -18,16 +17,10 @@ ghost use Rattle.model.specs.Operations.{after, recoveredState, recoverOf};
 ghost use Rattle.model.specs.Limits.{headSize};
 ghost use Rattle.model_laws.specs.Bytes.{part};
 ghost use Rattle.format_log_ends.specs.Answers.{extentFrom};
+ghost use Rattle.format_log_ends.specs.Walked.{endAt, endFrom};
 ghost use Rattle.server_replay.specs.Standing.{Ready, ReplayedBy};
-ghost use Rattle.server_recover.specs.Remaining.{imageBetween, RecordReplayedBy, StandsAt, Stepped, Ended};
+ghost use Rattle.server_recover.specs.Remaining.{imageBetween, RecordReplayedBy, StandsAt, Ended};
 ghost use Rattle.server_recover.specs.Rebuilt.{Begun, rebuilt, recoveredBytes};
-
-// What one step of a recovery finds: no further record, one that breaks its layout or cannot follow, or the next place.
-pub enum Step {
-    Done,
-    Off,
-    Next(usize),
-}
 
 // ---- one record
 
@@ -58,38 +51,20 @@ fn replay_record(s: &mut [u8], log: &[u8], at: usize, n: usize) -> bool
 
 // ---- the log
 
-// One step, from a place of the log.
-fn advance(s: &mut [u8], log: &[u8], at: usize) -> Step
-    requires { ⌜ StandsAt (now s) at ⌝ }
-    ensures { λ r. ⌜ Stepped (now (log .entry)) at (now (s .entry)) (now (s .exit)) r ⌝ }
-{
-    let extent = format_log_ends::extent_at(log, at);
-    match extent {
-        Extent::Off => Step::Off,
-        Extent::Cut => Step::Done,
-        Extent::Spans(n) => {
-            if !replay_record(s, log, at, n) {
-                return Step::Off;
-            }
-            Step::Next(at + n)
-        }
-    }
-}
-
-// Every record of the log, from its head's end on.
-fn replay_log(s: &mut [u8], log: &[u8]) -> bool
-    requires { ⌜ StandsAt (now s) headSize ⌝ }
+// The second walk: the records of the log, from its head's end to the end of the last whole one.
+fn replay_log(s: &mut [u8], log: &[u8], end: usize) -> bool
+    requires { ⌜ StandsAt (now s) headSize × (endFrom (now log) headSize ≡ endAt end) ⌝ }
     ensures { λ r. ⌜ Ended (now (log .entry)) headSize (load (now (s .entry))) (now (s .exit)) r ⌝ }
 {
     let mut at = constants::HEAD_SIZE;
-    loop {
-        let next = advance(s, log, at);
-        match next {
-            Step::Done => return true,
-            Step::Off => return false,
-            Step::Next(m) => at = m,
+    while at < end {
+        let n = format_log_ends::size_at(log, at);
+        if !replay_record(s, log, at, n) {
+            return false;
         }
+        at += n;
     }
+    true
 }
 
 // ---- the operation
@@ -108,11 +83,12 @@ fn rebuild(work: &mut [u8], log: &[u8], plan: &[u8]) -> bool
     requires { ⌜ (length (now work) ≡ stateEnd) × (planOk (now plan) ≡ true) ⌝ }
     ensures { λ r. ⌜ rebuilt r (now (work .exit)) ≡ recoveredBytes (recoveredState (planOf (now (plan .entry))) (now (log .entry))) ⌝ }
 {
-    if !format_log_ends::head_ok(log) {
+    let found = format_log_ends::log_end(log);
+    if found.refusal != constants::NO_REFUSAL {
         return false;
     }
     begin(work, log, plan);
-    if !replay_log(work, log) {
+    if !replay_log(work, log, found.end as usize) {
         return false;
     }
     let size = state::size_of(work);

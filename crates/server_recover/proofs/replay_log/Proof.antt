@@ -1,45 +1,53 @@
 -- `server_recover::replay_log` meets its contract.
 -- Assumes nothing.
 use Prim.Native.Nat.{_-_}
-use lib.ListN.{length}
+use native.Mathlib.Omega.{arith}
 use borrow.Author.Needs.{needs}
-use Rattle.server_recover.proofs.Steps.{On, on-start, on-next, on-less, on-done, on-off}
+use borrow.Author.Tests.{not-true, not-false}
+use Rattle.model_laws.proofs.Ends.{spans-least}
+use Rattle.format_log_ends.proofs.Ends.{from-spans, from-inside}
+use Rattle.format_log_ends.proofs.Walked.{whole-before}
+use Rattle.server_recover.proofs.Steps.{On, on-start, on-done, on-stop, on-next}
 use Rattle.server_recover.proofs.replay_log.Statement.{statement}
 use Rattle.server_recover.proofs.replay_log.Tie as tie
 
 abbrev Inv-loop : tie.InvT-loop
-Inv-loop s₀ log at₀ s at = On log s₀ s at
+Inv-loop s₀ log end at₀ s at = On log s₀ s end at
 
 abbrev μ-loop : tie.MeasureT-loop
-μ-loop s₀ log at₀ s at = length log - at
+μ-loop s₀ log end at₀ s at = end - at
 
 loop-holds : tie.Need-loop-holds Inv-loop μ-loop
-loop-holds c = on-start _ _ (c .before .before .pre)
+loop-holds c = let start = c .before .before in on-start _ _ _ (start .pre .0) (start .pre .1)
 
-advance-requires : tie.Need-advance-requires Inv-loop μ-loop
-advance-requires c κs = c .before .loop .inv .stands
+size-at-requires : tie.Need-size-at-requires Inv-loop μ-loop
+size-at-requires c κs = whole-before _ _ _ (c .before .loop .inv .last) (omega arith)
+
+replay-record-requires : tie.Need-replay-record-requires Inv-loop μ-loop
+replay-record-requires c κs = (c .before .before .before .loop .inv .stands, c .before .size-at .ensures)
 
 returns : tie.Need-returns Inv-loop μ-loop
 returns c =
-    let at-advance = c .before .before .before .before in
-    let at-loop = at-advance .before .before in
-    on-done (at-loop .loop .inv) (at-advance .advance .ensures) (c .enum-told .given .1)
+    let at-replay-record = c .before .before .before in
+    let at-size-at = at-replay-record .before .before in
+    on-stop (at-size-at .before .before .loop .inv) (at-size-at .size-at .ensures) (at-replay-record .replay-record .ensures) (not-true _ (c .if1 .taken))
 
-returns-2 : tie.Need-returns-2 Inv-loop μ-loop
-returns-2 c =
-    let at-advance = c .before .before .before .before in
-    let at-loop = at-advance .before .before in
-    on-off (at-loop .loop .inv) (at-advance .advance .ensures) (c .enum-told2 .given .1)
+add-at : tie.Need-add-at Inv-loop μ-loop
+add-at c = omega (arith, from-inside _ _ _ (c .before .before .before .before .before .size-at .ensures))
 
 loop-less : tie.Need-loop-less Inv-loop μ-loop
-loop-less c =
-    let at-next = c .before in
-    let at-advance = at-next .before .before .before .before in
-    let at-loop = at-advance .before .before in
-    on-less (at-loop .loop .inv) (at-advance .advance .ensures) (at-next .next .given .1)
+loop-less c = omega (arith, spans-least _ _ (from-spans _ _ _ (c .before .before .before .before .before .size-at .ensures)))
 
 loop-again : tie.Need-loop-again Inv-loop μ-loop
-loop-again c = on-next (c .before .before .before .before .before .before .before .loop .inv) (c .before .before .before .before .before .advance .ensures) (c .before .next .given .1) (search needs)
+loop-again c =
+    let at-replay-record = c .before .before .before in
+    let at-size-at = at-replay-record .before .before in
+    let at-loop = at-size-at .before .before in
+    on-next (at-loop .loop .inv) (at-size-at .size-at .ensures) (at-replay-record .replay-record .ensures)
+    (λ i. at-loop .before .shared-slice-known .given i .fits) (omega arith) (not-false _ (c .if1 .left)) (search needs)
+
+returns-2 : tie.Need-returns-2 Inv-loop μ-loop
+returns-2 c = on-done (c .before .loop .inv) (omega arith)
 
 pub replay-log-spec : {M : Type 1} → statement M
 replay-log-spec =
@@ -48,13 +56,12 @@ replay-log-spec =
     Inv-loop
     μ-loop
     loop-holds
-    advance-requires
-    (λ c. search needs)
+    size-at-requires
+    replay-record-requires
     (λ c. search needs)
     returns
-    (λ c. search needs)
-    (λ c. search needs)
-    returns-2
-    (λ c. search needs)
+    add-at
     loop-less
-    loop-again)
+    loop-again
+    (λ c. search needs)
+    returns-2)
