@@ -11,7 +11,6 @@ use mathlib.Core.List.{List}
 use mathlib.Core.Option.{Option, none, some}
 use native.Mathlib.Omega.{arith}
 use lib.ListN.{length, drop}
-use Rattle.model.specs.Choice.{pick}
 use Rattle.model.specs.Numbers.{word}
 use Rattle.model.specs.Images.{imageOk}
 use Rattle.model.specs.Logs.{LogRecord, took, spans, recordAt}
@@ -34,7 +33,7 @@ use Rattle.format_log_ends.specs.Walked.{endAt, endFrom}
 use Rattle.format_log_reader.specs.Answers.{imageIn, spanIn, recordMeans, ImagePlaced, Parsed}
 use Rattle.format_log_ends.proofs.Ends.{from-spans, from-inside}
 use Rattle.format_log_ends.proofs.Walked.{ends-reached, end-after}
-use Rattle.server_replay.specs.Standing.{Standing, Ready, replayed}
+use Rattle.server_replay.specs.Standing.{Ready, replayed}
 use Rattle.server_replay.proofs.Rooms.{ready-standing}
 use Rattle.server_recover.specs.Remaining.{remaining, imageBetween, recordFollows, recordReplayed, RecordReplayedBy, StandsAt, Ended}
 use Rattle.server_recover.proofs.SecondWalk.{remaining-done, remaining-broken, remaining-next, remaining-stops}
