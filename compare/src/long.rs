@@ -136,10 +136,10 @@ fn hand(giver: &mut One, taker: &mut One) {
     giver.call(Call::Release(receipt));
 }
 
-/// Commands alone.
-pub fn executed(bytes: usize) -> Long {
+/// Commands alone, the clients in turn.
+pub fn executed(bytes: usize, seed: u64) -> Long {
     let mut plant = Plant::new(bytes);
-    let mut client = 0;
+    let mut client = seed as u32;
     while plant.first.length() + MARGIN < bytes {
         client = client % CLIENTS + 1;
         plant.request(client);
@@ -148,8 +148,8 @@ pub fn executed(bytes: usize) -> Long {
 }
 
 /// All five kinds of records in no order: of 20 steps 16 are commands, 3 end a lease, one exchanges a point.
-pub fn mixed(bytes: usize) -> Long {
-    let (mut plant, mut random) = (Plant::new(bytes), Random::new(1));
+pub fn mixed(bytes: usize, seed: u64) -> Long {
+    let (mut plant, mut random) = (Plant::new(bytes), Random::new(seed));
     while plant.first.length() + MARGIN < bytes {
         let client = 1 + random.below(CLIENTS);
         match random.below(20) {

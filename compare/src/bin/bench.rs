@@ -17,7 +17,6 @@ use second::packet::{
 use second::plan::{write_plan, Entry, Plan};
 use second::rule::Op;
 use second::server::{Server, STATE_LEN};
-use std::arch::x86_64::{_mm_clflush, _mm_mfence};
 use std::hint::black_box;
 use std::time::{Duration, Instant};
 
@@ -725,75 +724,72 @@ fn plain_ends(log: &[u8]) -> usize {
     unsafe { c::plain_ends(log.as_ptr(), log.len()) }
 }
 
-/// Out of every cache, as a log is that was just read from a card.
-fn flush(bytes: &[u8]) {
-    for line in bytes.chunks(64) {
-        unsafe { _mm_clflush(line.as_ptr()) };
-    }
-    unsafe { _mm_mfence() };
+fn records(logs: &[Long]) -> u64 {
+    logs.iter().map(|long| long.records).sum()
 }
 
-/// Nanoseconds per record of one pass over a log that is in memory alone.
-fn measure_flushed(long: &Long, mut pass: impl FnMut()) -> f64 {
-    let mut best = f64::MAX;
-    for _ in 0..ROUNDS {
-        flush(&long.log);
-        best = best.min(round(1, &mut pass));
+/// The first walk by itself, to the loop in C.
+fn first_walk(name: &str, logs: &[Long]) -> f64 {
+    for long in logs {
+        assert_eq!(kernel::log_end(&long.log).end, plain_ends(&long.log) as u64);
     }
-    best / long.records as f64
-}
-
-/// The first walk by itself, to the loop in C: the log in a cache, then in memory alone. Gives the time of the latter.
-fn first_walk(name: &str, long: &Long) -> f64 {
-    let log = &long.log;
-    assert_eq!(kernel::log_end(log).end, plain_ends(log) as u64);
-    let mut have = || {
-        black_box(kernel::log_end(black_box(log)));
-    };
-    let mut want = || {
-        black_box(plain_ends(black_box(log)));
-    };
-    let times = measure(long.records, &mut have, &mut want);
-    row(&format!("first walk to C, {name}, cached"), times);
-    let times = (measure_flushed(long, have), measure_flushed(long, want));
-    row(&format!("first walk to C, {name}"), times);
+    let times = measure(
+        records(logs),
+        || {
+            for long in logs {
+                black_box(kernel::log_end(black_box(&long.log)));
+            }
+        },
+        || {
+            for long in logs {
+                black_box(plain_ends(black_box(&long.log)));
+            }
+        },
+    );
+    row(&format!("ends of {name}"), times);
     times.0
 }
 
 /// Recovery, to the second program's.
-fn both_walks(name: &str, long: &Long) -> f64 {
+fn both_walks(name: &str, logs: &[Long]) -> f64 {
     let (mut state, mut server) = (vec![0; STATE_LEN], Server::new());
     let times = measure_in(
         LONG_ROUNDS,
-        long.records,
+        records(logs),
         || {
-            black_box(kernel::recover(
-                &mut state,
-                black_box(&long.log),
-                &long.plan,
-            ));
+            for long in logs {
+                let log = black_box(&long.log);
+                black_box(kernel::recover(&mut state, log, &long.plan));
+            }
         },
         || {
-            black_box(server.recover(STATE_LEN, black_box(&long.log), &long.plan));
+            for long in logs {
+                let log = black_box(&long.log);
+                black_box(server.recover(STATE_LEN, log, &long.plan));
+            }
         },
     );
-    row(&format!("recover, {name}"), times);
+    row(&format!("recover {name}"), times);
     times.0
 }
 
-/// Per record, over logs of 1 MB and 16 MB; and how much more a record of the longer one takes.
+/// Per record, sixteen logs of 1 MB and one of 16 MB: as many bytes for the caches and as many kinds to foresee; and how much more
+/// a record of the long one takes.
 fn walks() {
-    println!("{:<34} {:>9} {:>9} {:>7}", "per record", "", "", "");
-    let kinds: [(&str, fn(usize) -> Long); 2] =
+    println!("per record; ends: the first walk by itself, beside a loop in C");
+    let kinds: [(&str, fn(usize, u64) -> Long); 2] =
         [("commands", long::executed), ("all kinds", long::mixed)];
     for (name, make) in kinds {
-        let (short, long) = (make(1 << 20), make(16 << 20));
-        let first = first_walk(&format!("1 MB, {name}"), &short);
-        let last = first_walk(&format!("16 MB, {name}"), &long);
-        row(&format!("first walk, 16 MB to 1 MB, {name}"), (last, first));
-        let first = both_walks(&format!("1 MB, {name}"), &short);
-        let last = both_walks(&format!("16 MB, {name}"), &long);
-        row(&format!("recover, 16 MB to 1 MB, {name}"), (last, first));
+        let short: Vec<Long> = (0..16).map(|seed| make(1 << 20, seed)).collect();
+        let long = [make(16 << 20, 16)];
+        for (what, walk) in [
+            ("ends", first_walk as fn(&str, &[Long]) -> f64),
+            ("recover", both_walks),
+        ] {
+            let first = walk(&format!("1 MB, {name}"), &short);
+            let last = walk(&format!("16 MB, {name}"), &long);
+            row(&format!("{what}, 16 MB to 1 MB, {name}"), (last, first));
+        }
     }
 }
 

@@ -203,7 +203,7 @@ const CUT: [&str; 4] = [
 fn all_cuts() {
     let mut tally = Tally::new("all cuts", &CUT);
     let mut seeds = Random::new(seed());
-    for _ in 0..(runs() / 50_000).max(1) {
+    for _ in 0..(runs() / 5_000).max(1) {
         let mut world = after_steps(seeds.next_u64(), 150);
         let log = world.log_of(0);
         let ends = places(&log);
