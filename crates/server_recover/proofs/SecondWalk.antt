@@ -6,7 +6,7 @@
 use Prim.Native.Nat.{ℕ, _+_}
 use mathlib.Core.Path.{_≡_, refl, ap, _∙_}
 use mathlib.Core.Bool.{true, false}
-use mathlib.Core.List.{List, [], _∷_}
+use mathlib.Core.List.{List, []}
 use mathlib.Core.Option.{Option, none, some}
 use lib.ListN.{drop}
 use Rattle.model.specs.Logs.{LogRecord, Entry, spans, recordAt, entriesTo}
@@ -14,6 +14,7 @@ use Rattle.model.specs.States.{State}
 use Rattle.model.specs.Apply.{applyRecord, apply}
 use Rattle.model.specs.Decisions.{follows}
 use Rattle.model.specs.Operations.{recovered, recoveredAll}
+use Rattle.model_laws.proofs.Logs.{stepWalk}
 use Rattle.model_laws.proofs.Ends.{joinEnd}
 use Rattle.format_log_ends.specs.Answers.{extentFrom}
 use Rattle.format_log_ends.specs.Walked.{endsFrom}
@@ -23,10 +24,6 @@ use Rattle.server_recover.specs.Remaining.{remainingTo, remaining}
 pub remaining-done : (log : List ℕ) (at : ℕ) (st : State) → endsFrom log at ≡ some [] → remaining log at st ≡ some st
 unfolding remaining remainingTo entriesTo recoveredAll recovered
 remaining-done log at st e = ap (remainingTo log at st) e
-
--- an entry before the others
-joins : LogRecord → ℕ → Option (List Entry) → Option (List Entry)
-joins r end w = elim w [ none ↦ none | some xs ↦ some (record { item = r; end = end } ∷ xs) ]
 
 module _ (log : List ℕ) (at : ℕ) (st : State) (n : ℕ) (e : extentFrom log at ≡ spans n) where
   step : remaining log at st ≡ remainingTo log at st (joinEnd (at + n) (endsFrom log (at + n)))
@@ -42,15 +39,15 @@ module _ (log : List ℕ) (at : ℕ) (st : State) (n : ℕ) (e : extentFrom log 
       on (some es) = rw (q, entriesTo)
 
   module _ (r : LogRecord) (q : recordAt (drop at log) ≡ some r) where
-    with : (es : List ℕ) → remainingTo log at st (joinEnd (at + n) (some es)) ≡ recoveredAll st (joins r (at + n) (entriesTo log (at + n) es))
-    unfolding remainingTo joinEnd entriesTo joins
+    with : (es : List ℕ) → remainingTo log at st (joinEnd (at + n) (some es)) ≡ recoveredAll st (stepWalk (at + n) r (entriesTo log (at + n) es))
+    unfolding remainingTo joinEnd entriesTo stepWalk
     with es = rw (q, entriesTo)
 
     pub remaining-next : follows st r ≡ true → remaining log at st ≡ remaining log (at + n) (applyRecord r (at + n) st)
-    unfolding remaining remainingTo joinEnd joins recoveredAll recovered apply
+    unfolding remaining remainingTo joinEnd stepWalk recoveredAll recovered apply
     remaining-next f = step ∙ on (endsFrom log (at + n))
       where
-        then : (w : Option (List Entry)) → recoveredAll st (joins r (at + n) w) ≡ recoveredAll (applyRecord r (at + n) st) w
+        then : (w : Option (List Entry)) → recoveredAll st (stepWalk (at + n) r w) ≡ recoveredAll (applyRecord r (at + n) st) w
         then none = refl
         then (some xs) = rw (f, recovered)
 
@@ -59,10 +56,10 @@ module _ (log : List ℕ) (at : ℕ) (st : State) (n : ℕ) (e : extentFrom log 
         on (some es) = with es ∙ then (entriesTo log (at + n) es)
 
     pub remaining-stops : follows st r ≡ false → remaining log at st ≡ none
-    unfolding remainingTo joinEnd joins recoveredAll recovered
+    unfolding remainingTo joinEnd stepWalk recoveredAll recovered
     remaining-stops f = step ∙ on (endsFrom log (at + n))
       where
-        then : (w : Option (List Entry)) → recoveredAll st (joins r (at + n) w) ≡ none
+        then : (w : Option (List Entry)) → recoveredAll st (stepWalk (at + n) r w) ≡ none
         then none = refl
         then (some xs) = rw (f, recovered)
 
