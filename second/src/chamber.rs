@@ -3,8 +3,8 @@
 //! in the order of their calls.
 
 use crate::answer::Refusal;
-use crate::client::{Client, OpenCall, Received};
-use crate::packet::{parse_result, REQUEST_LEN};
+use crate::client::{Client, Made, OpenCall, Received};
+use crate::packet::parse_result;
 use crate::plan::POINTS;
 use crate::rule::{Effect, Op, VALID};
 
@@ -103,12 +103,7 @@ impl Chamber {
         })
     }
 
-    pub fn issue(
-        &mut self,
-        op: u32,
-        point: u32,
-        argument: i32,
-    ) -> Result<[u8; REQUEST_LEN], Refusal> {
+    pub fn issue(&mut self, op: u32, point: u32, argument: i32) -> Made {
         let command = OpenCall::new(op, point, argument).ok_or(Refusal::Malformed)?;
         let place = self.points.place(command.point);
         let place = place.ok_or(Refusal::Malformed)?;
@@ -129,7 +124,7 @@ impl Chamber {
         Ok(packet)
     }
 
-    pub fn resend(&self, call: u32) -> Result<[u8; REQUEST_LEN], Refusal> {
+    pub fn resend(&self, call: u32) -> Made {
         self.client.resend(call)
     }
 

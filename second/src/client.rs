@@ -53,6 +53,9 @@ pub enum Received {
     Grant(u32),
 }
 
+/// What issue and resend give: a request's packet, or a refusal.
+pub type Made = Result<[u8; REQUEST_LEN], Refusal>;
+
 impl Client {
     /// Start.
     pub fn start(packet: &[u8]) -> Result<Client, Refusal> {
@@ -73,12 +76,7 @@ impl Client {
         self.open[slot(call)]
     }
 
-    pub fn issue(
-        &mut self,
-        op: u32,
-        point: u32,
-        argument: i32,
-    ) -> Result<[u8; REQUEST_LEN], Refusal> {
+    pub fn issue(&mut self, op: u32, point: u32, argument: i32) -> Made {
         let command = OpenCall::new(op, point, argument).ok_or(Refusal::Malformed)?;
         if self.next - self.first >= WINDOW {
             return Err(Refusal::WindowFull);
@@ -92,7 +90,7 @@ impl Client {
         Ok(self.packet(call, &command))
     }
 
-    pub fn resend(&self, call: u32) -> Result<[u8; REQUEST_LEN], Refusal> {
+    pub fn resend(&self, call: u32) -> Made {
         let command = self.open_call(call).ok_or(Refusal::Unknown)?;
         Ok(self.packet(call, &command))
     }

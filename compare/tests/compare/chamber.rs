@@ -2,11 +2,11 @@
 //! and fields after every step. Its reads are often those that an opening needs, or miss
 //! one condition alone.
 
-use crate::desk::{drive, refusal_class, resend_class, Calls, Shares};
+use crate::desk::{address, drive, grant, refusal_class, resend_class, Calls, Shares};
 use compare::tally::Tally;
 use compare::{chamber, inputs, other};
 use second::chamber::{is_opening, levels_beside, other_gate, Chamber, LatestRead, GATES};
-use second::packet::{parse_packet, write_grant, write_packet, Grant, Packet};
+use second::packet::{parse_packet, write_packet, Packet};
 use second::random::Random;
 use second::rule::Op;
 
@@ -77,16 +77,7 @@ impl Pair {
     /// Started by the same grant; some near their last numbers.
     fn start(random: &mut Random, tally: &mut Tally) -> Pair {
         loop {
-            let grant = Grant {
-                client: inputs::at_least_1(random),
-                lease_end: inputs::number(random),
-            };
-            let mut packet = write_grant(&grant).to_vec();
-            if random.chance(20) {
-                let kind = 1 + random.below(6);
-                packet = write_packet(&inputs::packet_of_kind(random, kind));
-                inputs::damage(random, &mut packet);
-            }
+            let packet = grant(random, 20);
             let points = five(random);
             let reply = chamber::Chamber::start(&packet, points);
             let (want, number) = chamber::start(&packet, points);
@@ -249,12 +240,12 @@ impl Pair {
 
     /// A packet to this controller, or a hostile one.
     fn packet(&self, random: &mut Random, bytes: &mut Vec<u8>) {
-        let client = match random.below(25) {
-            0 => inputs::at_least_1(random),
-            _ => self.want.client.client,
-        };
+        let mut to = self.want.client.clone();
+        if random.below(25) == 0 {
+            to.client = inputs::at_least_1(random);
+        }
         let call = self.call(random);
-        let point = match self.want.client.open_call(call) {
+        let point = match to.open_call(call) {
             Some(open) if random.chance(95) => open.point,
             _ if random.chance(50) => self.any_point(random) as u8,
             _ => random.below(64) as u8,
@@ -266,27 +257,11 @@ impl Pair {
             _ => 2,
         };
         let mut packet = inputs::packet_of_kind(random, kind);
-        match &mut packet {
-            Packet::Request(p) => p.client = client,
-            Packet::Result(p) => {
-                (p.client, p.call, p.point) = (client, call, point);
-                (p.value, p.quality) = self.found(random, point);
-                if random.chance(80) {
-                    p.outcome = 0;
-                }
-            }
-            Packet::Refusal(p) => (p.client, p.call, p.point) = (client, call, point),
-            Packet::Receipt(p) => p.point = point,
-            Packet::Notice(p) => p.client = client,
-            Packet::Grant(p) => {
-                let end = self.want.client.lease_end;
-                p.client = client;
-                p.lease_end = match random.below(4) {
-                    0 => end,
-                    1 => end.saturating_sub(random.below(3)),
-                    2 => end.saturating_add(random.below(1000)),
-                    _ => p.lease_end,
-                };
+        address(random, &mut packet, &to, call, point);
+        if let Packet::Result(p) = &mut packet {
+            (p.value, p.quality) = self.found(random, point);
+            if random.chance(80) {
+                p.outcome = 0;
             }
         }
         *bytes = write_packet(&packet);

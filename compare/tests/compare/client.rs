@@ -1,12 +1,12 @@
 //! The client: random sequences of calls, the same answers, packets and fields
 //! after every step.
 
-use crate::desk::{drive, refusal_class, resend_class, Calls, Shares};
+use crate::desk::{address, drive, grant, refusal_class, resend_class, Calls, Shares};
 use compare::inputs;
 use compare::tally::Tally;
 use compare::{other, proved};
 use second::client::Client;
-use second::packet::{parse_packet, write_grant, write_packet, Grant, Packet};
+use second::packet::{parse_packet, write_packet};
 use second::random::Random;
 
 const CLASSES: [&str; 23] = [
@@ -45,16 +45,7 @@ impl Pair {
     /// Started by the same grant; some near their last numbers.
     fn start(random: &mut Random, tally: &mut Tally) -> Pair {
         loop {
-            let grant = Grant {
-                client: inputs::at_least_1(random),
-                lease_end: inputs::number(random),
-            };
-            let mut packet = write_grant(&grant).to_vec();
-            if random.chance(30) {
-                let kind = 1 + random.below(6);
-                packet = write_packet(&inputs::packet_of_kind(random, kind));
-                inputs::damage(random, &mut packet);
-            }
+            let packet = grant(random, 30);
             let reply = proved::Client::start(&packet);
             let (client, number) = other::start(&packet);
             assert_eq!(reply.number, number, "start {packet:02x?}");
@@ -136,12 +127,12 @@ impl Pair {
 
     /// A packet to this client, or a hostile one.
     fn packet(&self, random: &mut Random, bytes: &mut Vec<u8>) {
-        let client = match random.below(20) {
-            0 => inputs::at_least_1(random),
-            _ => self.want.client,
-        };
+        let mut to = self.want.clone();
+        if random.below(20) == 0 {
+            to.client = inputs::at_least_1(random);
+        }
         let call = self.call(random);
-        let point = match self.want.open_call(call) {
+        let point = match to.open_call(call) {
             Some(open) if random.chance(95) => open.point,
             _ => random.below(64) as u8,
         };
@@ -152,22 +143,7 @@ impl Pair {
             _ => 2,
         };
         let mut packet = inputs::packet_of_kind(random, kind);
-        match &mut packet {
-            Packet::Request(p) => p.client = client,
-            Packet::Result(p) => (p.client, p.call, p.point) = (client, call, point),
-            Packet::Refusal(p) => (p.client, p.call, p.point) = (client, call, point),
-            Packet::Receipt(p) => p.point = point,
-            Packet::Notice(p) => p.client = client,
-            Packet::Grant(p) => {
-                p.client = client;
-                p.lease_end = match random.below(4) {
-                    0 => self.want.lease_end,
-                    1 => self.want.lease_end.saturating_sub(random.below(3)),
-                    2 => self.want.lease_end.saturating_add(random.below(1000)),
-                    _ => p.lease_end,
-                };
-            }
-        }
+        address(random, &mut packet, &to, call, point);
         *bytes = write_packet(&packet);
         match random.below(20) {
             0 | 1 => inputs::damage(random, bytes),

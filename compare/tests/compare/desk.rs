@@ -1,10 +1,11 @@
 //! What the comparisons of the client and of the lock's controller share: random sequences of
 //! their four calls, and the classes of what both answer alike.
 
+use compare::inputs;
 use compare::tally::{runs, seed, Tally};
 use second::answer::Refusal;
 use second::client::Client;
-use second::packet::Packet;
+use second::packet::{write_grant, write_packet, Grant, Packet};
 use second::random::Random;
 
 /// The calls of a pair of desks, one of each program.
@@ -47,6 +48,43 @@ pub fn drive<P>(test: &'static str, classes: &'static [&'static str], of: Shares
         (calls.compare)(&pair, step);
     }
     tally.finish();
+}
+
+/// A grant, or in so many of 100 cases a damaged packet of any kind.
+pub fn grant(random: &mut Random, damaged: u32) -> Vec<u8> {
+    if random.chance(damaged) {
+        let kind = 1 + random.below(6);
+        let mut packet = write_packet(&inputs::packet_of_kind(random, kind));
+        inputs::damage(random, &mut packet);
+        return packet;
+    }
+    let grant = Grant {
+        client: inputs::at_least_1(random),
+        lease_end: inputs::number(random),
+    };
+    write_grant(&grant).to_vec()
+}
+
+/// Makes a packet one to this client, on a call and a point; a grant often ends near the lease end
+/// that the client has.
+pub fn address(random: &mut Random, packet: &mut Packet, to: &Client, call: u32, point: u8) {
+    let (client, end) = (to.client, to.lease_end);
+    match packet {
+        Packet::Request(p) => p.client = client,
+        Packet::Result(p) => (p.client, p.call, p.point) = (client, call, point),
+        Packet::Refusal(p) => (p.client, p.call, p.point) = (client, call, point),
+        Packet::Receipt(p) => p.point = point,
+        Packet::Notice(p) => p.client = client,
+        Packet::Grant(p) => {
+            p.client = client;
+            p.lease_end = match random.below(4) {
+                0 => end,
+                1 => end.saturating_sub(random.below(3)),
+                2 => end.saturating_add(random.below(1000)),
+                _ => p.lease_end,
+            };
+        }
+    }
 }
 
 /// Of a resend: the call, and the number that it was answered with.

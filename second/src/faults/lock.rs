@@ -4,9 +4,10 @@
 use super::Fault;
 use crate::answer::Refusal;
 use crate::chamber::{levels_beside, other_gate, Chamber, LatestRead, GATES};
+use crate::client::Made;
 use crate::leases::{Lease, LeaseManager};
 use crate::lock::Proviso;
-use crate::packet::{GRANT_LEN, REQUEST_LEN, WINDOW};
+use crate::packet::{GRANT_LEN, WINDOW};
 use crate::rule::{Op, VALID};
 use std::ops::{Deref, DerefMut};
 
@@ -43,12 +44,7 @@ impl FaultyChamber {
     }
 
     /// The controller decides by a view of its own memory; what it does then is kept.
-    pub fn issue(
-        &mut self,
-        op: u32,
-        point: u32,
-        argument: i32,
-    ) -> Result<[u8; REQUEST_LEN], Refusal> {
+    pub fn issue(&mut self, op: u32, point: u32, argument: i32) -> Made {
         let place = u8::try_from(point).ok().and_then(|p| self.points.place(p));
         let gate = place.filter(|place| GATES.contains(place));
         let mut view = self.view(op, gate);

@@ -1,9 +1,8 @@
 //! A desk of a schedule: a client, or a controller of a lock.
 
 use crate::answer::Refusal;
-use crate::client::{Client, Received};
+use crate::client::{Client, Made, Received};
 use crate::faults::FaultyChamber;
-use crate::packet::REQUEST_LEN;
 use std::ops::Deref;
 
 #[derive(Clone, PartialEq, Eq, Debug)]
@@ -24,19 +23,14 @@ impl Deref for Desk {
 }
 
 impl Desk {
-    pub(super) fn issue(
-        &mut self,
-        op: u32,
-        point: u32,
-        argument: i32,
-    ) -> Result<[u8; REQUEST_LEN], Refusal> {
+    pub(super) fn issue(&mut self, op: u32, point: u32, argument: i32) -> Made {
         match self {
             Desk::Plain(client) => client.issue(op, point, argument),
             Desk::Controller(chamber) => chamber.issue(op, point, argument),
         }
     }
 
-    pub(super) fn resend(&self, call: u32) -> Result<[u8; REQUEST_LEN], Refusal> {
+    pub(super) fn resend(&self, call: u32) -> Made {
         match self {
             Desk::Plain(client) => client.resend(call),
             Desk::Controller(chamber) => chamber.resend(call),
