@@ -9,7 +9,7 @@ use crate::plan::Entry;
 use crate::record::{
     parse_executed, parse_record, write_executed, Executed, Parsed, Record, EXECUTED_LEN, HEAD_LEN,
 };
-use crate::rule::{apply, Rules, INVALID, STOPPED};
+use crate::rule::{apply_by, Op, PartRule, Rules, INVALID, STOPPED};
 use crate::server::Server;
 use std::ops::{Deref, DerefMut};
 
@@ -37,12 +37,14 @@ pub enum Fault {
     FloorNotTested,
     /// Recover tests the log, then gives the state of a server just founded.
     RecoverToFounding,
-    /// Recover works results out by today's rules instead of reading them.
+    /// Recover works results out by its program's rules instead of reading them.
     RecoverWorksOut,
     /// A step past an end puts the value at the other end.
     StepToOtherEnd,
     /// A step past an end makes the quality invalid.
     StepLosesQuality,
+    /// A part to the nearest rounds every exact half up.
+    PartHalfUp,
     /// A take does not raise the heard time; recovery does.
     TakeWithoutHeard,
     /// An opening does not need a read of the other gate.
@@ -132,19 +134,13 @@ impl Faulty {
                 let id = parse_request(packet).map_or((0, 0), |r| (r.client, r.call));
                 without_floor(server, id, request)
             }
-            Some(Fault::StepToOtherEnd) => {
+            fault => {
                 let answer = request(server);
-                change_stopped(server, log, answer, |r, entry| {
-                    r.value = other_end(entry, r.value);
-                });
+                if let Some(change) = wrong_rule(fault, rules) {
+                    change_executed(server, log, answer, change);
+                }
                 answer
             }
-            Some(Fault::StepLosesQuality) => {
-                let answer = request(server);
-                change_stopped(server, log, answer, |r, _| r.quality = INVALID);
-                answer
-            }
-            _ => request(server),
         }
     }
 
@@ -197,14 +193,19 @@ impl Faulty {
         view.image(len, log, point, out)
     }
 
-    /// The kept log is the whole slice.
-    pub fn recover(&mut self, len: usize, log: &[u8], plan: &[u8]) -> Answer {
+    /// Recover by a program of the given rules, which make no difference without
+    /// a fault. The kept log is the whole slice.
+    pub fn recover_by(&mut self, rules: Rules, len: usize, log: &[u8], plan: &[u8]) -> Answer {
         let server = &mut self.server;
         match self.fault {
             Some(Fault::FloorNotTested) => {
                 recover_with(server, len, log, plan, follow_without_floor)
             }
-            Some(Fault::RecoverWorksOut) => recover_with(server, len, log, plan, follow_worked_out),
+            Some(Fault::RecoverWorksOut) => {
+                recover_with(server, len, log, plan, |server, record, end| {
+                    follow_worked_out(rules, server, record, end)
+                })
+            }
             Some(Fault::RecoverToFounding) => {
                 let answer = server.recover(len, log, plan);
                 if answer == Answer::DONE {
@@ -217,29 +218,52 @@ impl Faulty {
     }
 }
 
-fn other_end(entry: &Entry, end: i32) -> i32 {
-    match end == entry.low {
-        true => entry.high,
-        false => entry.low,
+/// What a fault in a rule changes in the record of a command.
+fn wrong_rule(fault: Option<Fault>, rules: Rules) -> Option<fn(&mut Executed, &Entry)> {
+    match fault? {
+        Fault::StepToOtherEnd => Some(to_other_end),
+        Fault::StepLosesQuality => Some(lose_quality),
+        Fault::PartHalfUp if rules.part == PartRule::Nearest => Some(half_up),
+        _ => None,
     }
 }
 
-/// Changes what a request left that stopped a step: its record in the log, its
-/// completion record and the point.
-fn change_stopped(
+fn to_other_end(record: &mut Executed, entry: &Entry) {
+    if record.outcome == STOPPED {
+        record.value = match record.value == entry.low {
+            true => entry.high,
+            false => entry.low,
+        };
+    }
+}
+
+fn lose_quality(record: &mut Executed, _: &Entry) {
+    if record.outcome == STOPPED {
+        record.quality = INVALID;
+    }
+}
+
+fn half_up(record: &mut Executed, entry: &Entry) {
+    let product = (i64::from(entry.high) - i64::from(entry.low)) * i64::from(record.argument);
+    if record.op == Op::Part && product % 1000 == 500 {
+        record.value = (i64::from(entry.low) + product / 1000 + 1) as i32;
+    }
+}
+
+/// Changes what a request left that executed a command: its record in the log,
+/// its completion record and the point.
+fn change_executed(
     server: &mut Server,
     log: &mut [u8],
     answer: Answer,
-    change: impl FnOnce(&mut Executed, &Entry),
+    change: fn(&mut Executed, &Entry),
 ) {
     if answer != Answer::DONE {
         return;
     }
     let end = server.length as usize;
     let bytes = &mut log[end - EXECUTED_LEN..end];
-    let Some(mut record) = parse_executed(bytes).filter(|r| r.outcome == STOPPED) else {
-        return;
-    };
+    let mut record = parse_executed(bytes).expect("the record of the request");
     let entry = server.plan.entry(record.point);
     change(&mut record, entry);
     bytes.copy_from_slice(&write_executed(&record));
@@ -283,7 +307,7 @@ fn recover_with(
     len: usize,
     log: &[u8],
     plan: &[u8],
-    follow: fn(&mut Server, Record, u64) -> Option<()>,
+    follow: impl Fn(&mut Server, Record, u64) -> Option<()>,
 ) -> Answer {
     let mut new = Server::new();
     let answer = new.recover(len, log.get(..HEAD_LEN).unwrap_or(log), plan);
@@ -308,10 +332,15 @@ fn follow_without_floor(server: &mut Server, record: Record, end: u64) -> Option
     without_floor(server, id, |s| s.follow(&record, end))
 }
 
-fn follow_worked_out(server: &mut Server, mut record: Record, end: u64) -> Option<()> {
+fn follow_worked_out(
+    rules: Rules,
+    server: &mut Server,
+    mut record: Record,
+    end: u64,
+) -> Option<()> {
     if let Record::Executed(r) = &mut record {
         let (point, entry) = (server.point(r.point), server.plan.entry(r.point));
-        let effect = apply(r.op, r.argument, entry, point.value, point.quality);
+        let effect = apply_by(rules, r.op, r.argument, entry, point.value, point.quality);
         (r.outcome, r.value, r.quality) = (effect.outcome, effect.value, effect.quality);
     }
     server.follow(&record, end)

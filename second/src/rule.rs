@@ -1,5 +1,6 @@
 //! Paper 01, "Points and commands": the rules of the six ops. Request 1 of
-//! paper 02 changed the rule of step; both versions of it stand here.
+//! paper 02 changed the rule of step and request 4 that of part; both versions
+//! of each stand here.
 
 use crate::plan::Entry;
 
@@ -61,21 +62,40 @@ pub enum StepRule {
     Stop,
 }
 
+/// Versions of op 5's rule: how the quotient is rounded.
+#[derive(Clone, Copy, PartialEq, Eq, Hash, Debug, Default)]
+pub enum PartRule {
+    Down,
+    /// To the nearest; an exact half to the even quotient.
+    #[default]
+    Nearest,
+}
+
 /// The version of each op's rule that a program executes by. An op that is
 /// not named here has one version, so these make no difference to it.
 #[derive(Clone, Copy, PartialEq, Eq, Hash, Debug, Default)]
 pub struct Rules {
     pub step: StepRule,
+    pub part: PartRule,
 }
 
 impl Rules {
     /// Before request 1 of paper 02.
     pub const OLD: Rules = Rules {
         step: StepRule::Refuse,
+        part: PartRule::Down,
+    };
+    /// From request 1 on, before request 4.
+    pub const BETWEEN: Rules = Rules {
+        step: StepRule::Stop,
+        part: PartRule::Down,
     };
     pub const TODAY: Rules = Rules {
         step: StepRule::Stop,
+        part: PartRule::Nearest,
     };
+    /// Those of all programs, the first program's first.
+    pub const ALL: [Rules; 3] = [Rules::OLD, Rules::BETWEEN, Rules::TODAY];
 
     /// Greatest outcome that a program of these rules knows.
     pub fn outcome_max(self) -> u8 {
@@ -129,7 +149,7 @@ pub fn apply_by(
         }
         Op::Report if entry.contains(argument) => assign(argument),
         Op::Report | Op::Fault => fall_back(entry),
-        Op::Part => assign(part(entry, argument)),
+        Op::Part => assign(part(rules.part, entry, argument)),
     }
 }
 
@@ -162,10 +182,16 @@ fn step(rule: StepRule, entry: &Entry, value: i32, argument: i32) -> (u8, i32) {
     }
 }
 
-/// low + (high - low) * a / 1000, rounded down. The product is not negative,
-/// so the division of integers rounds down.
-fn part(entry: &Entry, argument: i32) -> i32 {
+/// low + (high - low) * a / 1000, the quotient rounded by the rule. The
+/// product is not negative, so the division of integers rounds down; it has
+/// 42 bits at the most.
+fn part(rule: PartRule, entry: &Entry, argument: i32) -> i32 {
     let low = i64::from(entry.low);
-    let span = i64::from(entry.high) - low;
-    (low + span * i64::from(argument) / 1000) as i32
+    let product = (i64::from(entry.high) - low) * i64::from(argument);
+    let (down, rest) = (product / 1000, product % 1000);
+    let up = match rule {
+        PartRule::Down => false,
+        PartRule::Nearest => rest > 500 || (rest == 500 && down % 2 == 1),
+    };
+    (low + down + i64::from(up)) as i32
 }

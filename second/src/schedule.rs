@@ -17,7 +17,7 @@ mod renewal;
 pub use generate::{generate, ISSUES_MAX};
 pub use lock::{generate_lock, LockSchedule};
 pub(crate) use renewal::rules_in_step;
-pub use renewal::{generate_renewed, Renewed};
+pub use renewal::{generate_renewed, Places, Renewed};
 
 /// A cabinet or a desk.
 #[derive(Clone, Copy, PartialEq, Eq, Debug)]

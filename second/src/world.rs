@@ -12,7 +12,7 @@ use crate::leases::LeaseManager;
 use crate::packet::{GRANT, REFUSAL, RESULT};
 use crate::plan::{write_plan, PLAN_LEN};
 use crate::rule::Rules;
-use crate::schedule::{rules_in_step, Call, Renewed, Schedule, Step};
+use crate::schedule::{rules_in_step, Call, Places, Renewed, Schedule, Step};
 
 mod account;
 mod at_clients;
@@ -147,8 +147,8 @@ pub fn minimise_renewed(renewed: &Renewed, options: Options) -> Renewed {
 
 pub struct World<'a> {
     schedule: &'a Schedule,
-    /// For each server, the number of steps before its renewal.
-    renewals: &'a [usize],
+    /// The places of each server's renewals.
+    renewals: &'a [Places],
     options: Options,
     plan: [u8; PLAN_LEN],
     cabinets: Vec<Cabinet>,
@@ -182,7 +182,11 @@ impl<'a> World<'a> {
         World::with_renewals(&renewed.schedule, &renewed.places, options)
     }
 
-    fn with_renewals(schedule: &'a Schedule, renewals: &'a [usize], options: Options) -> World<'a> {
+    fn with_renewals(
+        schedule: &'a Schedule,
+        renewals: &'a [Places],
+        options: Options,
+    ) -> World<'a> {
         let cabinet = |_| Cabinet {
             phase: Phase::New,
             server: Faulty::new(options.fault),

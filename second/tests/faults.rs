@@ -85,6 +85,11 @@ fn step_that_loses_the_quality() {
     assert_found(Fault::StepLosesQuality);
 }
 
+#[test]
+fn part_that_rounds_halves_up() {
+    assert_found(Fault::PartHalfUp);
+}
+
 /// A shortened schedule still violates, and is no longer than the first.
 #[test]
 fn shortened_schedules_still_violate() {

@@ -1,11 +1,12 @@
-//! The cases that paper 01 spells out: the yard's whole case and the P cases.
+//! The cases that paper 01 spells out: the yard's whole case and the P cases,
+//! with what requests 1 and 4 of paper 02 changed and added.
 
 mod common;
 
 use common::*;
 use second::packet::{parse_request, write_request, Request};
 use second::random::Random;
-use second::rule::{apply, Effect, Op};
+use second::rule::{apply, Op};
 use second::simulator::run;
 
 fn lines(lines: &[&str]) -> String {
@@ -246,14 +247,6 @@ fn random_line(random: &mut Random) -> String {
     }
 }
 
-fn effect(outcome: u8, value: i32, quality: u8) -> Effect {
-    Effect {
-        outcome,
-        value,
-        quality,
-    }
-}
-
 #[test]
 fn p_cases_of_the_ops() {
     let cases = [
@@ -266,7 +259,9 @@ fn p_cases_of_the_ops() {
         (Op::Fault, 0, 5, 0, effect(3, 0, 1)),
         (Op::Part, 0, 5, 0, effect(0, -100, 0)),
         (Op::Part, 333, 5, 1, effect(0, 266, 0)),
-        (Op::Part, 5, 5, 1, effect(0, -95, 0)),
+        (Op::Part, 5, 5, 1, effect(0, -94, 0)),
+        (Op::Part, 15, 5, 0, effect(0, -84, 0)),
+        (Op::Part, 1000, 5, 1, effect(0, 1000, 0)),
     ];
     for (op, argument, value, quality, expected) in cases {
         assert_eq!(apply(op, argument, &RANGE, value, quality), expected);
@@ -290,7 +285,8 @@ fn ops_beyond_the_p_cases() {
         (Op::Report, 9, 4, 1, effect(0, 9, 0)),
         (Op::Fault, 0, 4, 0, effect(3, 3, 1)),
         (Op::Part, 1000, 4, 0, effect(0, i32::MAX, 0)),
-        (Op::Part, 999, 4, 0, effect(0, 2_143_188_679, 0)),
+        (Op::Part, 999, 4, 0, effect(0, 2_143_188_680, 0)),
+        (Op::Part, 500, 4, 0, effect(0, 0, 0)),
         (Op::Part, 0, 4, 0, effect(0, i32::MIN, 0)),
     ];
     for (op, argument, value, quality, expected) in cases {

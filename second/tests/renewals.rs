@@ -1,142 +1,52 @@
 //! Demand 3 with servers that are renewed one at a time: each executes by the
-//! old rules first and by today's after its renewal, and the book runs each
-//! command by the rules that it was executed by.
+//! first program's rules, then by those of the next, then by today's, and the
+//! book runs each command by the rules that it was executed by.
 
 mod common;
+mod renewing;
 mod search;
 
-use common::*;
-use second::checker::{check, check_marked, Violation};
+use renewing::*;
+use second::checker::Violation;
 use second::faults::Fault;
 use second::plan::write_plan;
-use second::rule::Rules;
-use second::schedule::{
-    generate, generate_renewed, Call, Flaw, Keep, Mark, Party, Renewed, Schedule, Step, Which,
-};
+use second::rule::{PartRule, Rules};
+use second::schedule::{generate, generate_renewed, Keep, Renewed};
 use second::server::{Server, STATE_LEN};
 use second::world::{minimise_renewed, run, run_renewed, Counts, Options, World};
 
 const FIRST_SEED: u64 = 3_000_000;
 const SCHEDULES: u64 = 5_000;
-/// Schedules in which a fault is found at the latest.
-const SOON: u64 = 200;
-const POINT: u8 = 5;
 const OLD: Rules = Rules::OLD;
+const BETWEEN: Rules = Rules::BETWEEN;
 const TODAY: Rules = Rules::TODAY;
-
-const APT: Party = Party::Apt;
-const SYNC: Call = Call::Sync {
-    at: APT,
-    mark: Mark::All,
-};
-const REQUEST: Call = Call::Request {
-    at: APT,
-    packet: Which::Latest,
-};
-const RECEIVE: Call = Call::Receive {
-    desk: APT,
-    packet: Which::Latest,
-};
-const RECOVER: Call = Call::Recover { at: APT };
-const TAKE: Call = Call::Take {
-    at: APT,
-    image: Which::Latest,
-};
 
 // Call by call.
 
-fn found(number: u8) -> Call {
-    let at = Party::Number(number);
-    Call::Found { at }
-}
-
-/// Two servers founded, one desk started.
-fn begin() -> Vec<Call> {
-    let packet = Which::Latest;
-    let open = Call::Open { wait: 0, span: 100 };
-    vec![found(0), found(1), open, Call::Start { packet }]
-}
-
-fn issue(op: u8, argument: i32) -> Call {
-    Call::Issue {
-        desk: 0,
-        op,
-        point: POINT,
-        argument,
-    }
-}
-
-/// A command up to the receipt of its result.
-fn complete(op: u8, argument: i32) -> Vec<Call> {
-    let again = [SYNC, REQUEST, RECEIVE];
-    [&[issue(op, argument), REQUEST], &again[..]].concat()
-}
-
-fn crash(keep: Keep) -> Call {
-    Call::Crash { at: APT, keep }
-}
-
-/// The point up to its image for another server.
-fn give_to(destination: u8) -> Vec<Call> {
-    let (at, point) = (APT, POINT);
-    let give = Call::Give {
-        at,
-        point,
-        destination,
-    };
-    vec![give, SYNC, Call::Image { at, point }]
-}
-
-fn schedule(calls: &[Vec<Call>]) -> Schedule {
-    let flaw = Flaw::None;
-    let calls = calls.iter().flatten();
-    Schedule {
-        plan: plan(),
-        cabinets: 2,
-        log_len: 2000,
-        steps: calls.map(|&call| Step { call, flaw }).collect(),
-    }
-}
-
-/// Server 0 is renewed between the calls; server 1 runs today's program.
-fn renewed_between(before: &[Vec<Call>], after: &[Vec<Call>]) -> Renewed {
-    let place = before.iter().map(Vec::len).sum();
-    Renewed {
-        schedule: schedule(&[before, after].concat()),
-        places: vec![place, 0],
-    }
-}
-
-/// Runs the schedule; the marked book explains it.
-fn explained(renewed: &Renewed) -> World<'_> {
-    let options = Options {
-        verify: true,
-        ..Options::default()
-    };
-    let mut world = World::new_renewed(renewed, options);
-    let steps = &renewed.schedule.steps;
-    steps.iter().for_each(|step| world.step(step));
-    assert_eq!(marked(&world, renewed), Ok(()));
-    world
-}
-
-fn marked(world: &World, renewed: &Renewed) -> Result<(), Violation> {
-    let plan = &renewed.schedule.plan;
-    check_marked(plan, &world.commands(), &world.marks(), &world.finals())
-}
-
-/// All commands run by today's rules.
-fn unmarked(world: &World, renewed: &Renewed) -> Result<(), Violation> {
-    let plan = &renewed.schedule.plan;
-    check(plan, &world.commands(), &world.finals())
-}
-
-/// Outcome and value that the desk received for each command.
-fn results(world: &World) -> Vec<Option<(u8, i32)>> {
-    let effects = world.commands().into_iter().map(|c| c.completed);
-    effects
-        .map(|e| e.map(|(_, effect)| (effect.outcome, effect.value)))
-        .collect()
+/// Each program in turn at one server: its steps past an end and its parts.
+#[test]
+fn through_all_programs() {
+    let calls = [complete(1, 990), complete(2, 20), complete(5, 5)];
+    let first = [&[begin()][..], &calls].concat();
+    let renewed = renewed_after([&first, &calls, &calls]);
+    let world = explained(&renewed);
+    let expected = [
+        [(0, 990), (1, 990), (0, -95)].map(Some),
+        [(0, 990), (4, 1000), (0, -95)].map(Some),
+        [(0, 990), (4, 1000), (0, -94)].map(Some),
+    ];
+    assert_eq!(results(&world), expected.concat());
+    let marks = [[OLD; 3], [BETWEEN; 3], [TODAY; 3]];
+    assert_eq!(world.marks(), marks.concat());
+    assert_eq!(world.finals()[usize::from(POINT)], Some((-94, 0)));
+    let counts = run_renewed(&renewed, Options::default()).counts;
+    let executed = [
+        counts.executed,
+        counts.executed_old,
+        counts.executed_between,
+    ];
+    assert_eq!(executed, [9, 3, 3]);
+    assert_eq!((counts.parts_down, counts.parts_up), (2, 1));
 }
 
 /// The state that the old program left is the new one's first.
@@ -153,7 +63,7 @@ fn renewed_with_its_state() {
     assert_eq!(world.finals()[usize::from(POINT)], Some((-100, 0)));
 }
 
-/// Without a renewal, in all steps by today's program or by the old one.
+/// Without a renewal, in all steps by today's program or by the first one.
 #[test]
 fn never_renewed() {
     let calls = [begin(), complete(1, 990), complete(2, 20)];
@@ -236,15 +146,15 @@ fn image_waits_for_the_renewal() {
 #[test]
 fn places_without_some_steps() {
     let renewed = Renewed {
-        places: vec![0, 3, 5, 9],
+        places: vec![[0, 3], [5, 9]],
         ..Renewed::today(&schedule(&[begin(), complete(1, 1)]))
     };
     let places = |from, to| renewed.without(from..to).places;
-    assert_eq!(places(0, 0), [0, 3, 5, 9]);
-    assert_eq!(places(0, 2), [0, 1, 3, 7]);
-    assert_eq!(places(2, 6), [0, 2, 2, 5]);
-    assert_eq!(places(5, 9), [0, 3, 5, 5]);
-    assert_eq!(places(0, 9), [0, 0, 0, 0]);
+    assert_eq!(places(0, 0), [[0, 3], [5, 9]]);
+    assert_eq!(places(0, 2), [[0, 1], [3, 7]]);
+    assert_eq!(places(2, 6), [[0, 2], [2, 5]]);
+    assert_eq!(places(5, 9), [[0, 3], [5, 5]]);
+    assert_eq!(places(0, 9), [[0, 0], [0, 0]]);
     assert_eq!(renewed.without(2..6).schedule.steps.len(), 5);
 }
 
@@ -252,10 +162,14 @@ fn places_without_some_steps() {
 
 /// What the new rules and the renewals bring about happens often.
 fn assert_eventful(counts: &Counts, schedules: u64) {
-    assert!(counts.executed_old > 2 * schedules);
-    assert!(counts.executed > counts.executed_old + 2 * schedules);
+    let executed_today = counts.executed - counts.executed_old - counts.executed_between;
+    for executed in [counts.executed_old, counts.executed_between, executed_today] {
+        assert!(executed > 2 * schedules);
+    }
     assert!(counts.steps_refused > schedules / 4);
     assert!(counts.steps_stopped > schedules / 4);
+    assert!(counts.parts_down > schedules / 4);
+    assert!(counts.parts_up > schedules / 4);
     assert!(counts.completed > 2 * schedules);
     assert!(counts.crashes > schedules);
     assert!(counts.lost > schedules / 10);
@@ -266,7 +180,7 @@ fn assert_eventful(counts: &Counts, schedules: u64) {
     assert!(counts.gone > schedules / 4);
 }
 
-/// Today's program recovers the logs that both programs wrote.
+/// Today's program recovers the logs that all programs wrote.
 fn assert_recovers(world: &World, renewed: &Renewed) {
     let plan = write_plan(&renewed.schedule.plan);
     for cabinet in 0..usize::from(renewed.schedule.cabinets) {
@@ -297,28 +211,28 @@ fn no_violation_with_renewals() {
     assert_eventful(&counts, SCHEDULES);
 }
 
-/// A server that is not renewed by the end runs the old program throughout;
-/// renewals are spread over the schedules.
+/// A server that is not renewed by the end runs the first program throughout;
+/// renewals are in order, and spread over the schedules.
 #[test]
 fn renewals_are_spread() {
-    let (mut first_half, mut second_half) = (0, 0);
+    // Counted by renewal and by half of the schedule.
+    let mut halves = [[0; 2]; 2];
     for seed in FIRST_SEED..FIRST_SEED + 500 {
         let renewed = generate_renewed(seed);
         let count = renewed.schedule.steps.len();
         assert_eq!(renewed.places.len(), usize::from(renewed.schedule.cabinets));
-        for &place in &renewed.places {
-            assert!(place <= count);
-            match place < count / 2 {
-                true => first_half += 1,
-                false => second_half += 1,
+        for places in &renewed.places {
+            assert!(places.is_sorted() && places[1] <= count);
+            for (halves, &place) in halves.iter_mut().zip(places) {
+                halves[usize::from(place >= count / 2)] += 1;
             }
         }
     }
-    assert!(first_half > 500 && second_half > 500);
+    assert!(halves.as_flattened().iter().all(|&number| number > 300));
 }
 
 #[test]
-fn logs_of_both_programs_recover() {
+fn logs_of_all_programs_recover() {
     for seed in FIRST_SEED..FIRST_SEED + 1000 {
         let renewed = generate_renewed(seed);
         let mut world = World::new_renewed(&renewed, Options::default());
@@ -328,21 +242,13 @@ fn logs_of_both_programs_recover() {
     }
 }
 
-/// A checker that runs the book by one version alone does not explain the
-/// schedules, whichever it is; the marks do.
+/// A checker that runs the book by one program's rules alone does not explain
+/// the schedules, whichever it is; the marks do.
 #[test]
 fn marks_ignored() {
-    for only in [TODAY, OLD] {
-        let unexplained = (0..SOON).find(|i| {
-            let renewed = generate_renewed(FIRST_SEED + i);
-            let world = explained(&renewed);
-            let marks = vec![only; world.commands().len()];
-            let plan = &renewed.schedule.plan;
-            let found = check_marked(plan, &world.commands(), &marks, &world.finals());
-            matches!(found, Err(Violation::NoOrder { .. }))
-        });
-        let found = unexplained.expect("an unexplained schedule");
-        println!("{only:?} alone: found after {} schedules", found + 1);
+    for only in Rules::ALL {
+        let found = first_unexplained(FIRST_SEED, generate_renewed, |_| only);
+        println!("{only:?} alone: found after {found} schedules");
     }
     let unexplained = (0..SOON).find(|i| {
         let renewed = generate_renewed(FIRST_SEED + i);
@@ -351,30 +257,21 @@ fn marks_ignored() {
     assert!(unexplained.is_some());
 }
 
-fn violates(seed: u64, fault: Option<Fault>) -> bool {
-    let options = Options {
-        fault,
-        ..Options::default()
-    };
-    let found = run_renewed(&generate_renewed(seed), options).result;
-    matches!(
-        found,
-        Err(Violation::NoOrder { .. } | Violation::Lost { .. })
-    )
-}
-
 fn found_soon(fault: Fault) -> u64 {
-    search::first_violation(FIRST_SEED..FIRST_SEED + SOON, fault, violates)
+    search::first_violation(FIRST_SEED..FIRST_SEED + SOON, fault, |seed, fault| {
+        violates(&generate_renewed(seed), fault)
+    })
 }
 
 #[test]
 fn faults_in_the_rule() {
     found_soon(Fault::StepToOtherEnd);
     found_soon(Fault::StepLosesQuality);
+    found_soon(Fault::PartHalfUp);
 }
 
-/// A recovery that works results out goes wrong on old records, and on these
-/// alone. The shortened schedule still shows it.
+/// A recovery that works results out goes wrong on records of an earlier
+/// program, and on these alone. The shortened schedule still shows it.
 #[test]
 fn recovery_works_results_out() {
     let fault = Some(Fault::RecoverWorksOut);
@@ -391,4 +288,100 @@ fn recovery_works_results_out() {
     for seed in FIRST_SEED..FIRST_SEED + 500 {
         assert_eq!(run(&generate(seed), options).result, Ok(()), "seed {seed}");
     }
+}
+
+// Part alone: the programs of these schedules differ in nothing else.
+
+/// The servers run the second program first, then today's.
+fn generate_from_second(seed: u64) -> Renewed {
+    generate_renewed(seed).from_second_program()
+}
+
+#[test]
+fn no_violation_from_the_second_program() {
+    let options = Options {
+        verify: true,
+        ..Options::default()
+    };
+    let mut counts = Counts::default();
+    for seed in FIRST_SEED..FIRST_SEED + 2000 {
+        let found = run_renewed(&generate_from_second(seed), options);
+        assert_eq!(found.result, Ok(()), "seed {seed}");
+        counts.add(&found.counts);
+    }
+    assert_eq!((counts.executed_old, counts.steps_refused), (0, 0));
+    assert_eq!(counts.images_too_new, 0);
+    assert!(counts.executed_between > 4000 && counts.executed > 8000);
+    assert!(counts.parts_down > 500 && counts.parts_up > 500);
+    assert!(counts.takes_across > 500);
+}
+
+/// A book that runs all parts by one version of their rule, and steps by their
+/// marks, does not explain the schedules.
+#[test]
+fn marks_of_part_ignored() {
+    for part in [PartRule::Down, PartRule::Nearest] {
+        let other = |rules| Rules { part, ..rules };
+        let three = first_unexplained(FIRST_SEED, generate_renewed, other);
+        let two = first_unexplained(FIRST_SEED, generate_from_second, other);
+        println!("{part:?} alone: found after {three} and {two} schedules");
+    }
+}
+
+/// A crash before the renewal: a part that it removed is executed again, by
+/// today's rule; one that it kept has the old result.
+#[test]
+fn part_between_crash_and_recovery() {
+    let late = vec![issue(5, 5), REQUEST];
+    let again = [vec![RECOVER, REQUEST, SYNC, REQUEST, RECEIVE]];
+    for (keep, mark, value) in [(Keep::Synced, TODAY, -94), (Keep::All, BETWEEN, -95)] {
+        let second = [begin(), complete(1, 990), late.clone(), vec![crash(keep)]];
+        let renewed = renewed_after([&[], &second, &again]);
+        let world = explained(&renewed);
+        assert_eq!(world.marks(), [BETWEEN, mark]);
+        assert_eq!(results(&world)[1], Some((0, value)));
+        assert_eq!(unmarked(&world, &renewed).is_ok(), mark == TODAY);
+    }
+}
+
+/// Parts at a server of the second program, at one of today's, and back; their
+/// images are taken both ways, with outcome 4 in them too.
+#[test]
+fn parts_moved_between_programs() {
+    let calls = [
+        begin(),
+        complete(5, 5),
+        give_to(1),
+        vec![TAKE],
+        complete(5, 5),
+        complete(2, 2000),
+        give_to(0),
+        vec![TAKE],
+        complete(5, 995),
+        complete(5, 999),
+    ];
+    let renewed = renewed_after([&[], &calls, &[]]);
+    let world = explained(&renewed);
+    let expected = [(0, -95), (0, -94), (4, 1000), (0, 994), (0, 998)];
+    assert_eq!(results(&world), expected.map(Some));
+    assert_eq!(world.marks(), [BETWEEN, TODAY, TODAY, BETWEEN, BETWEEN]);
+    let counts = run_renewed(&renewed, Options::default()).counts;
+    assert_eq!((counts.takes, counts.takes_across), (2, 2));
+    assert_eq!(counts.images_too_new, 0);
+}
+
+/// A recovery that works parts out by its own program's rule.
+#[test]
+fn recovery_works_parts_out() {
+    let seeds = FIRST_SEED..FIRST_SEED + SOON;
+    search::first_violation(seeds, Fault::RecoverWorksOut, |seed, fault| {
+        violates(&generate_from_second(seed), fault)
+    });
+    let before = [begin(), complete(5, 5), vec![crash(Keep::All)]];
+    let renewed = renewed_after([&[], &before, &[vec![RECOVER], complete(0, 0)]]);
+    assert!(violates(&renewed, Some(Fault::RecoverWorksOut)));
+    assert!(!violates(&renewed, None));
+    // The program that executed them may work them out.
+    let never = renewed_after([&[], &[&before[..], &[vec![RECOVER]]].concat(), &[]]);
+    assert!(!violates(&never, Some(Fault::RecoverWorksOut)));
 }

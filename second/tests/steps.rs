@@ -12,29 +12,12 @@ use second::packet::{
 };
 use second::plan::Entry;
 use second::record::{parse_executed, write_executed, Executed, EXECUTED_LEN, HEAD_LEN};
-use second::rule::{apply, apply_by, Effect, Op, Rules};
+use second::rule::{apply, apply_by, Op, Rules};
 use second::sequential::SequentialSpec;
 use second::server::{Server, STATE_LEN};
 use second::simulator;
 
 const POINT: u8 = 5;
-
-fn range(low: i32, high: i32) -> Entry {
-    Entry {
-        low,
-        high,
-        fallback: low,
-        home: 0,
-    }
-}
-
-fn effect(outcome: u8, value: i32, quality: u8) -> Effect {
-    Effect {
-        outcome,
-        value,
-        quality,
-    }
-}
 
 /// Outcome and value of a step on a valid point; the quality stays.
 fn stepped(rules: Rules, entry: &Entry, value: i32, argument: i32) -> (u8, i32) {
@@ -110,10 +93,10 @@ fn least_and_greatest_arguments() {
     assert_eq!(today(&below, least, greatest), (4, least + 1));
 }
 
-/// Quality 1 is tested before the range, by both rules.
+/// Quality 1 is tested before the range, by all programs.
 #[test]
 fn quality_first() {
-    for rules in [Rules::OLD, Rules::TODAY] {
+    for rules in Rules::ALL {
         for argument in [i32::MIN, -1, 0, 1, i32::MAX] {
             for value in [-100, 3, 1000] {
                 let found = apply_by(rules, Op::Step, argument, &RANGE, value, 1);
@@ -137,20 +120,21 @@ fn all_steps_in_small_ranges() {
                     _ => ((0, sum), (0, sum)),
                 };
                 assert_eq!(stepped(Rules::OLD, &entry, value, argument), old);
+                assert_eq!(stepped(Rules::BETWEEN, &entry, value, argument), new);
                 assert_eq!(today(&entry, value, argument), new);
             }
         }
     }
 }
 
-/// The rules of the other ops have one version.
+/// The version of step's rule makes no difference to the other ops.
 #[test]
 fn other_ops_do_not_differ() {
     for op in [Op::Read, Op::Set, Op::Report, Op::Fault, Op::Part] {
         for argument in (-1200..=1200).filter(|&a| op.accepts(a)) {
             for quality in [0, 1] {
                 let by = |rules| apply_by(rules, op, argument, &RANGE, 40, quality);
-                assert_eq!(by(Rules::OLD), by(Rules::TODAY));
+                assert_eq!(by(Rules::OLD), by(Rules::BETWEEN));
                 assert_eq!(apply(op, argument, &RANGE, 40, quality), by(Rules::TODAY));
             }
         }
@@ -160,8 +144,7 @@ fn other_ops_do_not_differ() {
 #[test]
 fn default_rules_are_todays() {
     assert_eq!(Rules::default(), Rules::TODAY);
-    assert_eq!(Rules::OLD.outcome_max(), 3);
-    assert_eq!(Rules::TODAY.outcome_max(), 4);
+    assert_eq!(Rules::ALL.map(Rules::outcome_max), [3, 4, 4]);
     let mut book = SequentialSpec::new(plan());
     book.set(POINT, 999, 0);
     assert_eq!(book.clone().run(Op::Step, POINT, 2), effect(4, 1000, 0));
@@ -180,27 +163,14 @@ fn step(client: u32, call: u32, argument: i32) -> [u8; REQUEST_LEN] {
 fn rig_after_step(rules: Rules) -> Rig {
     let mut rig = Rig::new(0, 2000);
     for packet in [set(1, 1, POINT, 990), step(1, 2, 20)] {
-        rig.expect(0, 0, |s, log, out| {
-            s.request_by(rules, STATE_LEN, log, &packet, out)
-        });
+        rig.execute_by(rules, &packet);
     }
     rig
-}
-
-fn result(rig: &mut Rig, call: u32) -> (u8, i32, u8) {
-    let bytes = rig.fetch(0, 16, 1, call);
-    let reply = parse_result(&bytes).expect("a result");
-    (reply.outcome, reply.value, reply.quality)
 }
 
 fn value_and_quality(server: &Server) -> (i32, u8) {
     let point = server.point(POINT);
     (point.value, point.quality)
-}
-
-fn last_record(rig: &Rig) -> Executed {
-    let end = rig.server.length as usize;
-    parse_executed(&rig.log[end - EXECUTED_LEN..end]).expect("a record")
 }
 
 /// The outcome in state, record and result, before and after a recovery; a
@@ -209,12 +179,12 @@ fn last_record(rig: &Rig) -> Executed {
 fn outcome_4_in_state_log_and_result() {
     let mut rig = rig_after_step(Rules::TODAY);
     assert_eq!(value_and_quality(&rig.server), (1000, 0));
-    let record = last_record(&rig);
+    let record = rig.last_record();
     assert_eq!((record.op, record.outcome), (Op::Step, 4));
     assert_eq!((record.argument, record.value), (20, 1000));
     rig.sync_all();
     for _ in 0..2 {
-        assert_eq!(result(&mut rig, 2), (4, 1000, 0));
+        assert_eq!(rig.result(2), effect(4, 1000, 0));
         let bytes = rig.request(0, 16, &step(1, 2, 20));
         assert_eq!(bytes[..4], [2, 4, POINT, 0]);
     }
@@ -223,11 +193,11 @@ fn outcome_4_in_state_log_and_result() {
     let before = rig.server.clone();
     rig.expect(0, 0, |s, _, _| s.recover(STATE_LEN, &log, &plan_bytes()));
     assert_eq!(rig.server, before);
-    assert_eq!(result(&mut rig, 2), (4, 1000, 0));
+    assert_eq!(rig.result(2), effect(4, 1000, 0));
     // Past the other end.
     rig.execute(&step(1, 3, i32::MIN));
     rig.sync_all();
-    assert_eq!(result(&mut rig, 3), (4, -100, 0));
+    assert_eq!(rig.result(3), effect(4, -100, 0));
 }
 
 /// Request is request_by with today's rules.
@@ -244,9 +214,9 @@ fn request_is_by_todays_rules() {
 fn old_rule_at_a_cabinet() {
     let mut rig = rig_after_step(Rules::OLD);
     assert_eq!(value_and_quality(&rig.server), (990, 0));
-    assert_eq!(last_record(&rig).outcome, 1);
+    assert_eq!(rig.last_record().outcome, 1);
     rig.sync_all();
-    assert_eq!(result(&mut rig, 2), (1, 990, 0));
+    assert_eq!(rig.result(2), effect(1, 990, 0));
 }
 
 // What is written and read.
@@ -302,7 +272,7 @@ fn outcomes_of_executed_records() {
     for outcome in 0..=255 {
         let record = Executed {
             outcome,
-            ..last_record(&rig_after_step(Rules::TODAY))
+            ..rig_after_step(Rules::TODAY).last_record()
         };
         let bytes = write_executed(&record);
         let expected = (outcome <= 4).then_some(record);
@@ -355,7 +325,7 @@ fn outcomes_of_a_sound_state() {
 #[test]
 fn outcomes_of_a_kept_log() {
     let rig = rig_after_step(Rules::TODAY);
-    let whole = &rig.log[..rig.server.length as usize];
+    let whole = rig.whole_log();
     assert!(recover(whole).is_some());
     let outcome_at = HEAD_LEN + EXECUTED_LEN + 3;
     let mut bad = whole.to_vec();
@@ -395,10 +365,10 @@ fn outcome_4_moves_with_the_point() {
     let mut taker = Rig::new(1, 2000);
     taker.take(0, &image);
     taker.sync_all();
-    assert_eq!(result(&mut taker, 2), (4, 1000, 0));
+    assert_eq!(taker.result(2), effect(4, 1000, 0));
     let bytes = taker.request(0, 16, &step(1, 2, 20));
     assert_eq!(bytes[..4], [2, 4, POINT, 0]);
-    let log = &taker.log[..taker.server.length as usize];
+    let log = taker.whole_log();
     assert_eq!(recover(log), Some(taker.server));
 }
 
@@ -461,13 +431,13 @@ fn old_log_recovers() {
     };
     assert_eq!(rig.server, expected);
     assert_eq!(value_and_quality(&rig.server), (990, 0));
-    assert_eq!(result(&mut rig, 2), (1, 990, 0));
+    assert_eq!(rig.result(2), effect(1, 990, 0));
     let bytes = rig.request(0, 16, &step(1, 2, 20));
     assert_eq!(bytes[..4], [2, 1, POINT, 0]);
     rig.execute(&step(1, 3, 20));
     rig.sync_all();
-    assert_eq!(result(&mut rig, 3), (4, 1000, 0));
-    let log = &rig.log[..rig.server.length as usize];
+    assert_eq!(rig.result(3), effect(4, 1000, 0));
+    let log = rig.whole_log();
     assert_eq!(recover(log), Some(rig.server));
 }
 
@@ -478,13 +448,13 @@ fn old_entry_moves() {
     giver.give(0, u32::from(POINT), 1);
     giver.sync_all();
     let image = giver.image(0, 48 + 8 + 2 * 20, u32::from(POINT));
-    for rules in [Rules::OLD, Rules::TODAY] {
+    for rules in Rules::ALL {
         let mut taker = Rig::new(1, 2000);
         taker.expect(0, 0, |s, log, _| s.take_by(rules, STATE_LEN, log, &image));
         taker.sync_all();
         assert_eq!(value_and_quality(&taker.server), (990, 0));
-        assert_eq!(result(&mut taker, 2), (1, 990, 0));
-        let log = &taker.log[..taker.server.length as usize];
+        assert_eq!(taker.result(2), effect(1, 990, 0));
+        let log = taker.whole_log();
         assert_eq!(recover(log), Some(taker.server));
     }
 }

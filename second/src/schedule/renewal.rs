@@ -1,17 +1,20 @@
-//! Servers renewed one at a time: each runs the program of the old rules up
-//! to its own place in the schedule, and today's from there on.
+//! Servers renewed one at a time: each runs the first program up to its own
+//! place in the schedule, the next one from there on, and so on up to today's.
 
 use super::{generate, Call, Flaw, Keep, Party, Schedule, Step};
 use crate::random::Random;
 use crate::rule::{Op, Rules};
 use std::ops::Range;
 
+/// The number of steps before each renewal of a server, in ascending order. Two
+/// at one place leave out the program between them.
+pub type Places = [usize; Rules::ALL.len() - 1];
+
 #[derive(Clone, PartialEq, Eq, Debug)]
 pub struct Renewed {
     pub schedule: Schedule,
-    /// For each server, the number of steps before its renewal; a server not
-    /// named here runs today's program in all steps.
-    pub places: Vec<usize>,
+    /// For each server; one not named here runs today's program in all steps.
+    pub places: Vec<Places>,
 }
 
 impl Renewed {
@@ -27,34 +30,50 @@ impl Renewed {
     /// that are left.
     pub fn without(&self, steps: Range<usize>) -> Renewed {
         let mut shorter = self.clone();
-        for place in &mut shorter.places {
+        for place in shorter.places.as_flattened_mut() {
             *place -= steps.end.min(*place) - steps.start.min(*place);
         }
         shorter.schedule.steps.drain(steps);
         shorter
     }
 
-    /// Adds the next server, renewed at a random place.
+    /// The same steps, with all servers past their first renewal from the start.
+    pub fn from_second_program(mut self) -> Renewed {
+        self.places.iter_mut().for_each(|places| places[0] = 0);
+        self
+    }
+
+    /// Adds the next server, renewed at random places.
     fn renew(&mut self, random: &mut Random) {
-        let at = Party::Number(self.places.len() as u8);
+        let server = self.places.len();
+        self.places.push(Places::default());
+        for renewal in 0..self.places[server].len() {
+            let place = self.insert_around(random, server);
+            self.places[server][renewal] = place;
+        }
+        self.places[server].sort();
+    }
+
+    /// Adds the steps around a renewal at a random place; answers its place.
+    fn insert_around(&mut self, random: &mut Random, server: usize) -> usize {
         let steps = &mut self.schedule.steps;
         let place = random.below(steps.len() as u32 + 1) as usize;
-        let (before, after) = around(random, at);
-        let count = before.len() + after.len();
-        for other in self.places.iter_mut().filter(|other| **other > place) {
+        let (before, after) = around(random, Party::Number(server as u8));
+        let (renewal, count) = (place + before.len(), before.len() + after.len());
+        let others = self.places.as_flattened_mut().iter_mut();
+        for other in others.filter(|other| **other > place) {
             *other += count;
         }
-        self.places.push(place + before.len());
         steps.splice(place..place, before.into_iter().chain(after));
+        renewal
     }
 }
 
 /// The rules of a server in a step, by the places of its renewals.
-pub(crate) fn rules_in_step(places: &[usize], server: usize, step: usize) -> Rules {
-    match places.get(server) {
-        Some(&place) if step < place => Rules::OLD,
-        _ => Rules::TODAY,
-    }
+pub(crate) fn rules_in_step(places: &[Places], server: usize, step: usize) -> Rules {
+    let renewed = |places: &Places| places.iter().filter(|&&place| place <= step).count();
+    let program = places.get(server).map(renewed);
+    program.map_or(Rules::TODAY, |program| Rules::ALL[program])
 }
 
 /// Steps right before and right after a renewal: a crash and its recovery, a
@@ -75,36 +94,40 @@ fn around(random: &mut Random, at: Party) -> (Vec<Step>, Vec<Step>) {
     }
 }
 
-/// Gives many of the issues a command at an end of the range. An op that is
-/// not known stays.
-fn go_to_the_ends(steps: &mut [Step], random: &mut Random) {
+/// Gives many of the issues a command that the programs often execute
+/// differently. An op that is not known stays.
+fn tell_programs_apart(steps: &mut [Step], random: &mut Random) {
     for step in steps {
         match &mut step.call {
             Call::Issue { op, argument, .. } if *op <= Op::Part as u8 && random.chance(60) => {
-                (*op, *argument) = at_an_end(random);
+                (*op, *argument) = by_version(random);
             }
             _ => {}
         }
     }
 }
 
-/// A part near an end, or a step that often goes past one.
-fn at_an_end(random: &mut Random) -> (u8, i32) {
-    match random.chance(35) {
-        true => (Op::Part as u8, *random.pick(&[0, 10, 990, 1000])),
-        false => {
+/// A part near an end, one at an exact half in a range of the plans, any part,
+/// or a step that often goes past an end.
+fn by_version(random: &mut Random) -> (u8, i32) {
+    let part = |argument| (Op::Part as u8, argument);
+    match random.below(20) {
+        0..=2 => part(*random.pick(&[0, 10, 990, 1000])),
+        3..=6 => part(*random.pick(&[5, 15, 25, 50, 75, 150, 985, 995])),
+        7..=10 => part(random.between(0, 1000)),
+        _ => {
             let arguments = [-1, 1, -30, 30, -2000, 2000, 0, i32::MIN, i32::MAX];
             (Op::Step as u8, *random.pick(&arguments))
         }
     }
 }
 
-/// The schedule of the seed, with more commands at the ends of the ranges and
-/// with a renewal of each server.
+/// The schedule of the seed, with more commands that tell the programs apart
+/// and with the renewals of each server.
 pub fn generate_renewed(seed: u64) -> Renewed {
     let mut renewed = Renewed::today(&generate(seed));
     let mut random = Random::new(!seed);
-    go_to_the_ends(&mut renewed.schedule.steps, &mut random);
+    tell_programs_apart(&mut renewed.schedule.steps, &mut random);
     for _ in 0..renewed.schedule.cabinets {
         renewed.renew(&mut random);
     }

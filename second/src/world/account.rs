@@ -1,6 +1,6 @@
 //! What the checker is given, and what tests look at.
 
-use super::{Cabinet, Phase, World};
+use super::{Phase, World};
 use crate::checker::{Command, Finals};
 use crate::faults::Faulty;
 use crate::plan::POINTS;
@@ -61,22 +61,23 @@ impl World<'_> {
 
     /// The states of the founded cabinets.
     pub(super) fn final_states(&self) -> Vec<Server> {
-        let states = self.cabinets.iter().map(|c| self.final_state(c));
+        let states = (0..self.cabinets.len()).map(|i| self.final_state(i));
         states.flatten().collect()
     }
 
-    fn final_state(&self, c: &Cabinet) -> Option<Server> {
-        match c.phase {
+    fn final_state(&self, cabinet: usize) -> Option<Server> {
+        match self.cabinets[cabinet].phase {
             Phase::New => None,
-            Phase::Running => Some(Server::clone(&c.server)),
-            Phase::Crashed { kept, .. } => Some(self.recovered(c, kept)),
+            Phase::Running => self.server(cabinet).cloned(),
+            Phase::Crashed { kept, .. } => Some(self.recovered(cabinet, kept)),
         }
     }
 
     /// The state that recover gives from the log's first bytes.
-    pub(super) fn recovered(&self, c: &Cabinet, kept: u64) -> Server {
+    pub(super) fn recovered(&self, cabinet: usize, kept: u64) -> Server {
         let mut server = Faulty::new(self.options.fault);
-        let answer = server.recover(STATE_LEN, &c.log[..kept as usize], &self.plan);
+        let log = &self.log(cabinet)[..kept as usize];
+        let answer = server.recover_by(self.rules(cabinet), STATE_LEN, log, &self.plan);
         assert_eq!(answer.number, 0, "a kept log recovers");
         Server::clone(&server)
     }

@@ -6,8 +6,8 @@ use crate::bytes::get_u32;
 use crate::faults::Faulty;
 use crate::image::{IMAGE_MAGIC, IMAGE_MAX};
 use crate::packet::{NOTICE, RECEIPT, RECEIPT_LEN, REQUEST, RESULT_LEN};
-use crate::record::{parse_executed, EXECUTED_LEN, HEAD_LEN};
-use crate::rule::{Op, Rules, STOPPED};
+use crate::record::{parse_executed, Executed, EXECUTED_LEN, HEAD_LEN};
+use crate::rule::{apply_by, Op, PartRule, Rules, STOPPED};
 use crate::schedule::{Flaw, Mark, Party, Which};
 use crate::server::{Server, STATE_LEN};
 
@@ -92,30 +92,49 @@ impl World<'_> {
     pub(super) fn executed(&mut self, cabinet: usize, packet: &[u8]) {
         let id = (get_u32(packet, 4), get_u32(packet, 8));
         let command = self.commands.iter().position(|c| (c.client, c.call) == id);
+        let rules = self.rules(cabinet);
         self.executions.push(Execution {
             command: command.expect("a request is made by an issue"),
             cabinet,
-            rules: self.rules(cabinet),
+            rules,
             end: self.cabinets[cabinet].server.length,
             place: self.place,
             survives: true,
         });
-        self.counts.executed += 1;
-        self.counts.executed_old += u64::from(self.rules(cabinet) != Rules::TODAY);
+        self.count_executed(cabinet, rules);
         self.count_opened(packet, cabinet);
-        match self.last_outcome(cabinet) {
-            (Op::Step, 1) => self.counts.steps_refused += 1,
-            (Op::Step, STOPPED) => self.counts.steps_stopped += 1,
+    }
+
+    fn count_executed(&mut self, cabinet: usize, rules: Rules) {
+        let record = self.last_executed(cabinet);
+        let rounded_differently = self.rounded_differently(&record);
+        let counts = &mut self.counts;
+        counts.executed += 1;
+        counts.executed_old += u64::from(rules == Rules::OLD);
+        counts.executed_between += u64::from(rules == Rules::BETWEEN);
+        match (record.op, record.outcome) {
+            (Op::Step, 1) => counts.steps_refused += 1,
+            (Op::Step, STOPPED) => counts.steps_stopped += 1,
+            (Op::Part, _) if rounded_differently => match rules.part {
+                PartRule::Down => counts.parts_down += 1,
+                PartRule::Nearest => counts.parts_up += 1,
+            },
             _ => {}
         }
     }
 
-    /// Op and outcome of the executed record at the log's end.
-    fn last_outcome(&self, cabinet: usize) -> (Op, u8) {
+    /// The executed record at the log's end.
+    fn last_executed(&self, cabinet: usize) -> Executed {
         let c = &self.cabinets[cabinet];
         let end = c.server.length as usize;
-        let record = parse_executed(&c.log[end - EXECUTED_LEN..end]);
-        record.map_or((Op::Read, 0), |r| (r.op, r.outcome))
+        parse_executed(&c.log[end - EXECUTED_LEN..end]).expect("an executed record")
+    }
+
+    /// Whether the two versions of part's rule differ for the record's argument.
+    fn rounded_differently(&self, record: &Executed) -> bool {
+        let entry = self.schedule.plan.entry(record.point);
+        let part = |rules| apply_by(rules, Op::Part, record.argument, entry, 0, 0);
+        record.op == Op::Part && part(Rules::BETWEEN) != part(Rules::TODAY)
     }
 
     /// Keeps the packet written, if any; answers its number or 0.

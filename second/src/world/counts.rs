@@ -4,11 +4,15 @@
 pub struct Counts {
     pub steps: u64,
     pub executed: u64,
-    /// Executions by the old program.
+    /// Executions by the first program and by the one before today's.
     pub executed_old: u64,
+    pub executed_between: u64,
     /// Steps past an end, by the old rule and by today's.
     pub steps_refused: u64,
     pub steps_stopped: u64,
+    /// Parts that the two rules round differently, by the old one and by today's.
+    pub parts_down: u64,
+    pub parts_up: u64,
     pub lost: u64,
     pub completed: u64,
     pub repeats: u64,
@@ -48,8 +52,11 @@ impl Counts {
         self.steps += other.steps;
         self.executed += other.executed;
         self.executed_old += other.executed_old;
+        self.executed_between += other.executed_between;
         self.steps_refused += other.steps_refused;
         self.steps_stopped += other.steps_stopped;
+        self.parts_down += other.parts_down;
+        self.parts_up += other.parts_up;
         self.lost += other.lost;
         self.completed += other.completed;
         self.repeats += other.repeats;

@@ -86,13 +86,13 @@ impl World<'_> {
 
     /// Recovers from the log's first bytes; false if it is refused.
     pub(super) fn recover_from(&mut self, cabinet: usize, kept: u64, flaw: Flaw) -> bool {
-        let plan = self.plan;
+        let (plan, rules) = (self.plan, self.rules(cabinet));
         let flaw = match flaw {
             Flaw::State => Flaw::State,
             _ => Flaw::None,
         };
         let (answer, _) = self.call(cabinet, flaw, 0, |s, len, log, _| {
-            s.recover(len, &log[..kept as usize], &plan)
+            s.recover_by(rules, len, &log[..kept as usize], &plan)
         });
         let recovered = answer.number == 0;
         assert!(recovered || flaw == Flaw::State, "a kept log recovers");

@@ -144,12 +144,12 @@ impl World<'_> {
     }
 
     fn seat(&self, gate: u8, server: &Server) -> Seat {
-        let c = &self.cabinets[usize::from(server.cabinet)];
-        let (mark, _) = c.mark_and_length();
+        let cabinet = usize::from(server.cabinet);
+        let (mark, _) = self.cabinets[cabinet].mark_and_length();
         Seat {
             holds: server.point(gate).hold == Hold::Held,
             heard: server.heard,
-            synced_heard: self.recovered(c, mark).heard,
+            synced_heard: self.recovered(cabinet, mark).heard,
         }
     }
 

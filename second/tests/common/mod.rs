@@ -4,11 +4,12 @@
 use second::answer::{Answer, Refusal};
 use second::image::{write_image, Floor, ImageHead, Moved, IMAGE_MAX};
 use second::packet::{
-    write_notice, write_receipt, write_request, Notice, Receipt, Request, REQUEST_LEN,
+    parse_result, write_notice, write_receipt, write_request, Notice, Receipt, Request, REQUEST_LEN,
 };
 use second::plan::{write_plan, Entry, Plan, PLAN_LEN};
 use second::random::Random;
-use second::rule::Op;
+use second::record::{parse_executed, Executed, EXECUTED_LEN};
+use second::rule::{Effect, Op, Rules};
 use second::server::{Server, STATE_LEN};
 
 pub const FILL: u8 = 0xA5;
@@ -32,6 +33,24 @@ pub fn plan() -> Plan {
 
 pub fn plan_bytes() -> [u8; PLAN_LEN] {
     write_plan(&plan())
+}
+
+/// A range with its low end as fallback.
+pub fn range(low: i32, high: i32) -> Entry {
+    Entry {
+        low,
+        high,
+        fallback: low,
+        home: 0,
+    }
+}
+
+pub fn effect(outcome: u8, value: i32, quality: u8) -> Effect {
+    Effect {
+        outcome,
+        value,
+        quality,
+    }
 }
 
 /// By its number in the paper.
@@ -100,6 +119,30 @@ impl Rig {
 
     pub fn execute(&mut self, packet: &[u8]) {
         self.request(0, 0, packet);
+    }
+
+    /// The same by a program of the given rules.
+    pub fn execute_by(&mut self, rules: Rules, packet: &[u8]) {
+        self.expect(0, 0, |s, log, out| {
+            s.request_by(rules, STATE_LEN, log, packet, out)
+        });
+    }
+
+    /// The result of a call of client 1, fetched.
+    pub fn result(&mut self, call: u32) -> Effect {
+        let reply = parse_result(&self.fetch(0, 16, 1, call)).expect("a result");
+        effect(reply.outcome, reply.value, reply.quality)
+    }
+
+    /// The executed record at the log's end.
+    pub fn last_record(&self) -> Executed {
+        let end = self.server.length as usize;
+        parse_executed(&self.log[end - EXECUTED_LEN..end]).expect("a record")
+    }
+
+    /// The log up to its length.
+    pub fn whole_log(&self) -> &[u8] {
+        &self.log[..self.server.length as usize]
     }
 
     pub fn fetch(&mut self, number: u32, written: usize, client: u32, call: u32) -> Vec<u8> {
