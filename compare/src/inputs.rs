@@ -166,6 +166,23 @@ pub fn entry(random: &mut Random) -> Entry {
     }
 }
 
+/// An entry with this range.
+pub fn entry_of(random: &mut Random, (low, high): (i32, i32)) -> Entry {
+    Entry {
+        low,
+        high,
+        fallback: within(random, (low, high)),
+        home: random.below(16) as u8,
+    }
+}
+
+/// A range of this width, anywhere.
+pub fn range(random: &mut Random, width: u32) -> (i32, i32) {
+    let lows = (1 << 32) - u64::from(width);
+    let low = i64::from(i32::MIN) + (random.next_u64() % lows) as i64;
+    (low as i32, (low + i64::from(width)) as i32)
+}
+
 pub fn plan(random: &mut Random) -> Plan {
     let mut plan = Plan::default();
     for e in &mut plan.entries {

@@ -110,6 +110,14 @@ impl Pair {
 
     /// The call on both sides, and all lent memory compared.
     pub fn call(&mut self, call: &Call, lent: &Lent, outputs: &mut Outputs) -> Answer {
+        let want = self.answer(call, lent, outputs);
+        self.compare(call, want);
+        want
+    }
+
+    /// The call on both sides, answers and outputs compared. For many calls that change
+    /// the state, with `compare` after them.
+    pub fn answer(&mut self, call: &Call, lent: &Lent, outputs: &mut Outputs) -> Answer {
         outputs.clear();
         let have = call.proved(
             &mut self.state[..lent.state],
@@ -126,13 +134,13 @@ impl Pair {
         assert!(outputs.have == outputs.want, "output: {call:02x?}");
         let kept = outputs.kept_past(want.written);
         assert!(kept, "past output: {call:02x?}");
-        assert!(self.log == self.server_log, "log: {call:02x?}");
-        self.compare_state(call, want);
         want
     }
 
-    /// A call refused, or one that only reads, leaves the buffer as it was.
-    fn compare_state(&mut self, call: &Call, want: Answer) {
+    /// Logs and states after this call, with its answer. A call refused, or one that only
+    /// reads, leaves the buffer as it was.
+    pub fn compare(&mut self, call: &Call, want: Answer) {
+        assert!(self.log == self.server_log, "log: {call:02x?}");
         if want.number != 0 || want.written != 0 {
             assert!(self.state == self.before, "state changed: {call:02x?}");
             return;

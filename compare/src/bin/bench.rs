@@ -637,9 +637,14 @@ fn rules() {
     let base = Both::new(0, 1, 1);
     let tested = base.times(&[Call::Sync(0)], SPACE);
     for (op, name) in (0..).zip(["read", "set", "step", "report", "fault", "part"]) {
-        let argument = if op == 0 || op == 4 { 0 } else { 40 };
+        // parts of 1,100 by 2 to 17: exact, under and over a half, both kinds of halves
+        let argument = |call| match op {
+            0 | 4 => 0,
+            5 => call as i32,
+            _ => 40,
+        };
         let list: Vec<Call> = (2..18)
-            .map(|call| request(op, 5, 1, call, call, argument))
+            .map(|call| request(op, 5, 1, call, call, argument(call)))
             .collect();
         base.tried(&list, 0);
         let times = base.times_restored(&list);
@@ -773,12 +778,14 @@ fn both_walks(name: &str, logs: &[Long]) -> f64 {
     times.0
 }
 
+/// A log of so many bytes, from a seed.
+type Make = fn(usize, u64) -> Long;
+
 /// Per record, sixteen logs of 1 MB and one of 16 MB: as many bytes for the caches and as many kinds to foresee; and how much more
 /// a record of the long one takes.
 fn walks() {
     println!("per record; ends: the first walk by itself, beside a loop in C");
-    let kinds: [(&str, fn(usize, u64) -> Long); 2] =
-        [("commands", long::executed), ("all kinds", long::mixed)];
+    let kinds: [(&str, Make); 2] = [("commands", long::executed), ("all kinds", long::mixed)];
     for (name, make) in kinds {
         let short: Vec<Long> = (0..16).map(|seed| make(1 << 20, seed)).collect();
         let long = [make(16 << 20, 16)];

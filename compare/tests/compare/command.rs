@@ -1,5 +1,7 @@
 //! The plan's test, and the rule of each op.
 
+mod parts;
+
 use compare::inputs;
 use compare::kernel::Call;
 use compare::pair::{Outputs, Pair, MALFORMED};
@@ -95,7 +97,7 @@ fn plans() {
     tally.finish();
 }
 
-const RULE_CLASSES: [&str; 19] = [
+const RULE_CLASSES: [&str; 22] = [
     "read",
     "set: outcome 0",
     "set: outcome 1",
@@ -111,8 +113,11 @@ const RULE_CLASSES: [&str; 19] = [
     "fault",
     "part: 0",
     "part: 1000",
-    "part: exact",
-    "part: rounded down",
+    parts::EXACT,
+    parts::UNDER,
+    parts::OVER,
+    parts::HALF_DOWN,
+    parts::HALF_UP,
     "argument outside its range",
     "op over 5",
 ];
@@ -120,7 +125,6 @@ const RULE_CLASSES: [&str; 19] = [
 fn rule_class(case: &Case) -> &'static str {
     let (e, op, argument) = (&case.entry, case.op, case.argument);
     let sum = i64::from(case.value) + i64::from(argument);
-    let product = (i64::from(e.high) - i64::from(e.low)) * i64::from(argument);
     match op {
         0 | 4 if argument != 0 => "argument outside its range",
         5 if !(0..=1000).contains(&argument) => "argument outside its range",
@@ -139,8 +143,7 @@ fn rule_class(case: &Case) -> &'static str {
         4 => "fault",
         5 if argument == 0 => "part: 0",
         5 if argument == 1000 => "part: 1000",
-        5 if product % 1000 == 0 => "part: exact",
-        5 => "part: rounded down",
+        5 => parts::nearest(e, argument).1,
         _ => "op over 5",
     }
 }
@@ -169,10 +172,13 @@ struct Case {
 
 impl Case {
     fn new(random: &mut Random) -> Case {
-        let entry = inputs::entry(random);
         let op = match random.below(50) {
             0 => inputs::byte(random),
             _ => random.below(6) as u8,
+        };
+        let entry = match op {
+            5 if random.chance(30) => parts::entry_of_halves(random),
+            _ => inputs::entry(random),
         };
         let value = near(random, &entry).clamp(entry.low, entry.high);
         let argument = match op {
@@ -242,6 +248,10 @@ fn rules() {
         let class = rule_class(&case);
         let refused = class == "argument outside its range" || class == "op over 5";
         assert_eq!(answer.number, u32::from(refused), "{class}");
+        if case.op == 5 && !refused {
+            let (value, _) = parts::nearest(&case.entry, case.argument);
+            assert_eq!(pair.server.point(point).value, value, "{class}");
+        }
         if !refused && random.chance(20) {
             pair.run(&Call::Sync(pair.server.length), &mut outputs);
             let answer = pair.run(&Call::Fetch(1, 1), &mut outputs);
