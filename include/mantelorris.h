@@ -51,7 +51,7 @@ extern "C" {
 /* The version of this header and, by mantelorris_version(), of the library: major * 65,536 + minor. The major number changes with a layout that
  * an older program would misread (packets, images, log, state); the minor one with what is added. */
 #define MANTELORRIS_VERSION_MAJOR 1
-#define MANTELORRIS_VERSION_MINOR 3
+#define MANTELORRIS_VERSION_MINOR 4
 #define MANTELORRIS_VERSION ((uint32_t)MANTELORRIS_VERSION_MAJOR << 16 | MANTELORRIS_VERSION_MINOR)
 
 /* least lengths of slices; a plan has exactly its length */
@@ -80,7 +80,7 @@ enum mantelorris_op {
     MANTELORRIS_STEP = 2,   /* added to the value, where the quality is valid; stops at the ends of the range */
     MANTELORRIS_REPORT = 3, /* a measured value; one outside the range makes the point invalid */
     MANTELORRIS_FAULT = 4,  /* 0: the point gets its fallback and is invalid */
-    MANTELORRIS_PART = 5    /* 0 to 1000: thousandths of the way from low to high */
+    MANTELORRIS_PART = 5    /* 0 to 1000: thousandths of the way from low to high, to the nearest unit, a half to the even quotient */
 };
 
 /* outcomes of a command that was carried out */

@@ -5,6 +5,7 @@
 answers. It follows values, logs and packets for what the answers leave out (a packet's kind, the value at a server, the bytes that a power cut
 takes), and an answer that contradicts what it follows raises `Misfit`."""
 import copy, sys
+from fractions import Fraction
 
 MOST_LINES = 60
 LOW, HIGH, FALLBACK = -100, 1000, 0
@@ -180,7 +181,7 @@ def ruled(op, argument, value, quality):
     if op == 3 and inside:
         return 0, argument, 0
     if op == 5:
-        return 0, LOW + (HIGH - LOW) * argument // 1000, 0
+        return 0, LOW + round(Fraction((HIGH - LOW) * argument, 1000)), 0  # round takes a half to the even number
     return 3, FALLBACK, 1
 
 

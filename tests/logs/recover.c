@@ -1,6 +1,6 @@
 /* recover.c: recovers the logs that write.c wrote with an earlier version of the library, with the library that it is linked with:
  *     recover FOLDER     prints the results that the servers hold then, which must be those in FOLDER/results
- * After that a command is executed on what was recovered, by today's rules. */
+ * After that commands are executed on what was recovered, by today's rules. */
 #include "plant.h"
 
 static struct server servers[2];
@@ -17,16 +17,16 @@ static void recover(const char *folder, int i, const uint8_t *plan) {
     must(mantelorris_length(s->state) == length, "every record is whole");
 }
 
-/* at 500 a step of 600 stops at 1000, and the result is shown once it is synced */
-static void step(struct server *s) {
+/* a command on point 5 under a call that no log has: the result, shown once it is synced, is this outcome and value, valid */
+static void command(struct server *s, uint32_t call, uint32_t op, int32_t argument, uint8_t outcome, int32_t value) {
     uint8_t r[MANTELORRIS_REPLY_SIZE];
-    struct mantelorris_client desk = {.client = 1, .lease = 600, .next = 13};
-    struct mantelorris_send_reply q = mantelorris_issue(&desk, MANTELORRIS_STEP, 5, 600);
-    must(q.number == 0 && ask(s, q.packet, q.length) == 0, "a step on what was recovered");
+    struct mantelorris_client desk = {.client = 1, .lease = 600, .next = call};
+    struct mantelorris_send_reply q = mantelorris_issue(&desk, op, 5, argument);
+    must(q.number == 0 && ask(s, q.packet, q.length) == 0, "a command on what was recovered");
     sync(s);
     must(mantelorris_number(mantelorris_fetch(SLICES(s), 1, q.call, r, sizeof r)) == 0, "fetch");
     struct mantelorris_receive_reply got = mantelorris_receive(&desk, r, sizeof r);
-    must(got.number == 0 && got.outcome == MANTELORRIS_OUTCOME_STOPPED && got.value == 1000 && got.quality == MANTELORRIS_VALID, "it stops at 1000");
+    must(got.number == 0 && got.outcome == outcome && got.value == value && got.quality == MANTELORRIS_VALID, "its result is by today's rule");
 }
 
 int main(int count, char **words) {
@@ -35,6 +35,7 @@ int main(int count, char **words) {
     plan_of(plan);
     for (int i = 0; i < 2; i++) recover(words[1], i, plan);
     results(stdout, servers);
-    step(&servers[1]);
+    command(&servers[1], 15, MANTELORRIS_STEP, 600, MANTELORRIS_OUTCOME_STOPPED, 1000);
+    command(&servers[1], 16, MANTELORRIS_PART, 5, MANTELORRIS_OUTCOME_DONE, -94);
     return 0;
 }

@@ -2,7 +2,8 @@
  *     write FOLDER     FOLDER/server0.log, server1.log, results
  * Run once with the library of a version that is about to change, it keeps what that version wrote; recover.c reads it with every later one.
  * Point 5 steps past both ends of its range, by small and by the greatest arguments, moves from server 0 to server 1, and steps past an end there;
- * point 6 is reported out of range and stepped while invalid. No result is acknowledged, so that every completion record stays. */
+ * point 6 is reported out of range and stepped while invalid. Both are put at parts whose product is no multiple of 1000, point 5 before its move and
+ * after it. No result is acknowledged, so that every completion record stays. */
 #include "plant.h"
 
 static struct server servers[2];
@@ -50,10 +51,12 @@ int main(int count, char **words) {
     command(0, MANTELORRIS_STEP, 5, INT32_MAX);
     command(0, MANTELORRIS_REPORT, 6, 2000);
     command(0, MANTELORRIS_STEP, 6, 1);
+    command(0, MANTELORRIS_PART, 6, 5);
+    command(0, MANTELORRIS_PART, 5, 7);
     move_point(5);
+    command(1, MANTELORRIS_PART, 5, 5);
     command(1, MANTELORRIS_STEP, 5, 600);
     command(1, MANTELORRIS_STEP, 5, 600);
-    command(1, MANTELORRIS_READ, 5, 0);
 
     for (int i = 0; i < 2; i++) {
         snprintf(path, sizeof path, "%s/server%d.log", words[1], i);

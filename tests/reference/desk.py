@@ -3,6 +3,7 @@
 example host (HOST, over UDP on 127.0.0.1:PORT, with the file CARD as its card), kill it and start it again, and read its card. Sections named are those of the reference.
 The last line is 'N passed, M failed'."""
 import os, random, signal, socket, struct, subprocess, sys, time
+from fractions import Fraction
 
 LOW, HIGH, FALLBACK = -1000000, 1000000, 0      # the plan of examples/plan.h
 READ, SET, STEP, REPORT, FAULT, PART = range(6)
@@ -55,7 +56,7 @@ def rule(op, a, was):
         return (0 if end == value + a else 4, end, quality)
     if op == FAULT:
         return (3, FALLBACK, 1)
-    return (0, LOW + (HIGH - LOW) * a // 1000, 0)
+    return (0, LOW + round(Fraction((HIGH - LOW) * a, 1000)), 0)  # round takes a half to the even number
 
 
 # ---- a lease manager of this desk's own (The lease manager), as far as it is needed here

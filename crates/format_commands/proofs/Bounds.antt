@@ -5,22 +5,24 @@
 --     sum-bounds       a sum in range is from low to high
 --     part-bounds      an argument of part is 0 to 1000
 --     part-scaled      what part divides by 1000 is at most 1000 times the range
---     part-between     a part of at most 1000 is from low to the greater of low and high
+--     nearest-most     the nearest quotient of at most s times 1000 is at most s
+--     part-between     a part of at most 1000 is from low to the greater of low and high, by each version
 -- Assumes nothing.
-use Prim.Native.Nat.{ℕ, _+_, _-_, _*_, _/_, _≤_}
+use Prim.Native.Nat.{ℕ, _+_, _-_, _*_, _/_, _%_, _≤_, _<_}
 use mathlib.Core.Path.{_≡_}
 use mathlib.Core.Bool.{true, _&&_}
 use native.Mathlib.Omega.{arith}
 use native.Mathlib.Nat.{mul-le-mul-left}
-use borrow.Author.Tests.{leb-true}
-use lib.Dec.{leb}
-use Rattle.model_laws.proofs.Tests.{and-left, and-right}
+use borrow.Author.Tests.{leb-true, ltb-true}
+use lib.Dec.{leb, ltb}
+use Rattle.model_laws.proofs.Tests.{and-left, and-right, choose}
 use Rattle.model_laws.proofs.Commands.{in-arguments}
 use Rattle.model.specs.declared.PlanEntry.{PlanEntry}
-use Rattle.model.specs.Numbers.{half}
+use Rattle.model.specs.Numbers.{half, nearest}
+use Rattle.model.specs.Versions.{Version, first, second}
 use Rattle.model.specs.Limits.{lastServer, partOp, wholePart}
 use Rattle.model.specs.Plan.{inRange, planEntryOk}
-use Rattle.model.specs.Rules.{sumInRange, argumentOk, argumentRange}
+use Rattle.model.specs.Rules.{rounded, sumInRange, argumentOk, argumentRange}
 
 -- a number between two
 pub between : (a b c d : ℕ) → (leb a b && leb c d) ≡ true → (a ≤ b) × (c ≤ d)
@@ -45,5 +47,14 @@ part-bounds a h = in-arguments (argumentRange partOp) a h
 pub part-scaled : (span : ℕ) {p : ℕ} (a : ℕ) → p ≡ a - half → argumentOk partOp a ≡ true → span * p ≤ span * wholePart
 part-scaled span a e h = let b = part-bounds a h in mul-le-mul-left span (omega arith)
 
-pub part-between : (low high p : ℕ) → p ≤ wholePart → low + (high - low) * p / wholePart ≤ low + (high - low)
-part-between low high p h = let q : (high - low) * p ≤ (high - low) * wholePart = mul-le-mul-left (high - low) h in omega arith
+pub nearest-most : (m s : ℕ) → m ≤ s * wholePart → nearest m wholePart ≤ s
+unfolding nearest
+nearest-most m s h =
+    let twice = 2 * (m % wholePart) + m / wholePart % 2 in
+    choose (λ (q : ℕ). q ≤ s) (ltb wholePart twice) (λ k. let u : wholePart < twice = ltb-true wholePart twice k in omega arith) (λ k. omega arith)
+
+pub part-between : (n : Version) (low high p : ℕ) → p ≤ wholePart → low + rounded n ((high - low) * p) wholePart ≤ low + (high - low)
+part-between first low high p h = let q : (high - low) * p ≤ (high - low) * wholePart = mul-le-mul-left (high - low) h in omega arith
+part-between second low high p h =
+    let q = nearest-most ((high - low) * p) (high - low) (mul-le-mul-left (high - low) h) in
+    omega arith

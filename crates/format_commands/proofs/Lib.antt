@@ -4,4 +4,5 @@ pub mod Checked
 pub mod Meaning
 pub mod Range
 pub mod Quotient
+pub mod Nearest
 pub mod Plan

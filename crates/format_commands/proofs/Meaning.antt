@@ -23,24 +23,24 @@ use Rattle.model.specs.declared.Reading.{Reading}
 use Rattle.model.specs.Choice.{pick}
 use Rattle.model.specs.Numbers.{half, signed}
 use Rattle.model.specs.Plan.{inRange, planEntryOk}
-use Rattle.model.specs.Rules.{sumInRange, endPast, pastEnd, setRule, stepRule, reportRule, faultRule, partRule, ruleOf, argumentRange, inArguments, argumentOk}
-use Rattle.model.specs.Sequential.{resultZ, entryZ, readingMeant, resultMeant, inRangeZ, quotientDown, readZ, setZ, pastEndZ, stepZ, reportZ, faultZ, partZ, ruleZ}
+use Rattle.model.specs.Rules.{rounded, sumInRange, endPast, pastEnd, setRule, stepRule, reportRule, faultRule, partRule, ruleOf, argumentRange, inArguments, argumentOk}
+use Rattle.model.specs.Sequential.{resultZ, entryZ, readingMeant, resultMeant, inRangeZ, quotientDown, quotientNearest, roundedZ, readZ, setZ, pastEndZ, stepZ, reportZ, faultZ, partZ, ruleZ}
 use Rattle.model.specs.Limits.{wholePart, readOp, setOp, stepOp, reportOp, faultOp, partOp, carriedOut, stopped, valid, invalid}
 use Rattle.format_commands.proofs.Bounds.{sum-bounds, part-bounds, entry-ordered}
 
 -- ---- a difference of two numbers, as an integer
 
-lt-or-ge : (a b : ℕ) → (a < b) ⊎ (b ≤ a)
+pub lt-or-ge : (a b : ℕ) → (a < b) ⊎ (b ≤ a)
 lt-or-ge a b = go (ltb a b) refl
   where
     go : (t : Bool) → ltb a b ≡ t → (a < b) ⊎ (b ≤ a)
     go true e = inl (ltb-true a b e)
     go false e = inr (ltb-false a b e)
 
-sub-pos : (a b : ℕ) → b ≤ a → subℕ a b ≡ pos (a - b)
+pub sub-pos : (a b : ℕ) → b ≤ a → subℕ a b ≡ pos (a - b)
 sub-pos a b h = rw (le-ltb a b h)
 
-sub-neg : (a b : ℕ) → a < b → subℕ a b ≡ negsuc (b - suc a)
+pub sub-neg : (a b : ℕ) → a < b → subℕ a b ≡ negsuc (b - suc a)
 sub-neg a b h = rw (lt-ltb a b h)
 
 sub-is-pos : (a b n : ℕ) → a ≡ b + n → subℕ a b ≡ pos n
@@ -158,6 +158,11 @@ pick-tie f true false e p q = cc
 pick-tie f false true e p q = cc
 pick-tie f false false e p q = q refl
 
+rounded-tie : (v : Version) (m n : ℕ) → pos (rounded v m n) ≡ roundedZ v (pos m) n
+unfolding roundedZ quotientDown quotientNearest
+rounded-tie first m n = refl
+rounded-tie second m n = refl
+
 module _ (e : PlanEntry) where
   range-tie : (a : ℕ) → inRange e a ≡ inRangeZ (entryZ e) (signed a)
   unfolding inRange inRangeZ entryZ
@@ -198,10 +203,12 @@ module _ (e : PlanEntry) where
       (λ k. let b = sum-bounds e (r .value) a k in ap (λ (v : ℤ). resultZ carriedOut v (r .quality)) (sum-kept (r .value) a (omega arith)))
       (λ k. past-tie n a r))
 
-  pub part-tie : (a : ℕ) → e .low ≤ e .high → half ≤ a → resultMeant (partRule e a) ≡ partZ (entryZ e) (signed a)
-  unfolding resultMeant partRule partZ entryZ quotientDown
-  part-tie a h k =
-      rw (diff-signed (e .high) (e .low) h, signed-pos a k) (ap (λ (v : ℤ). resultZ carriedOut v valid) (sum-pos (e .low) ((e .high - e .low) * (a - half) / wholePart)))
+  pub part-tie : (n : Version) (a : ℕ) → e .low ≤ e .high → half ≤ a → resultMeant (partRule n e a) ≡ partZ n (entryZ e) (signed a)
+  unfolding resultMeant partRule partZ entryZ
+  part-tie n a h k =
+      let m = (e .high - e .low) * (a - half) in
+      rw (diff-signed (e .high) (e .low) h, signed-pos a k)
+      (ap (λ (v : ℤ). resultZ carriedOut v valid) (sum-pos (e .low) (rounded n m wholePart) ∙ ap (λ (q : ℤ). signed (e .low) +ℤ q) (rounded-tie n m wholePart)))
 
   -- for every op: read, and ops that no command has, change nothing in both
   pub rule-tie : (v : Version) (op a : ℕ) (r : Reading) → planEntryOk e ≡ true → argumentOk op a ≡ true
@@ -215,7 +222,7 @@ module _ (e : PlanEntry) where
       (λ k. pick-tie resultMeant (eqb op faultOp) (eqb op faultOp) refl (λ k. fault-tie)
       (λ k. pick-tie resultMeant (eqb op partOp) (eqb op partOp) refl (λ k. part k) (λ k. refl))))))
     where
-      part : eqb op partOp ≡ true → resultMeant (partRule e a) ≡ partZ (entryZ e) (signed a)
+      part : eqb op partOp ≡ true → resultMeant (partRule n e a) ≡ partZ n (entryZ e) (signed a)
       part k =
           let b = entry-ordered e ok in
-          part-tie a (omega arith) (part-bounds a (subst (λ (n : ℕ). argumentOk n a ≡ true) (eqb-true op partOp k) h) .0)
+          part-tie n a (omega arith) (part-bounds a (subst (λ (n : ℕ). argumentOk n a ≡ true) (eqb-true op partOp k) h) .0)

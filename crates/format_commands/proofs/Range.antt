@@ -14,7 +14,7 @@ use Rattle.model.specs.Versions.{Version, first, second}
 use Rattle.model.specs.Limits.{lastOutcome, lastQuality, wholePart, readOp, setOp, stepOp, reportOp, faultOp, partOp, carriedOut, outOfRange, onInvalid, fellBack, stopped, valid, invalid}
 use Rattle.model.specs.Plan.{inRange, planEntryOk}
 use Rattle.model.specs.Packets.{outcomeOk}
-use Rattle.model.specs.Rules.{result, same, sumInRange, endPast, pastEnd, setRule, stepRule, reportRule, faultRule, partRule, ruleOf, argumentOk}
+use Rattle.model.specs.Rules.{rounded, result, same, sumInRange, endPast, pastEnd, setRule, stepRule, reportRule, faultRule, partRule, ruleOf, argumentOk}
 use Rattle.model_laws.proofs.Tests.{choose}
 use Rattle.format_commands.specs.Results.{ResultOk}
 use Rattle.format_commands.proofs.Bounds.{range-bounds, sum-bounds, part-bounds, part-between, entry-ordered}
@@ -55,13 +55,13 @@ module _ (e : PlanEntry) where
         (λ k. let b = sum-bounds e (r .value) a k in result-ok carriedOut (r .value + a - half) (r .quality) (omega arith) quality (omega arith) (omega arith))
         (λ k. past-ok n))
 
-    part-ok : eqb op partOp ≡ true → ResultOk e (partRule e a)
+    part-ok : (n : Version) → eqb op partOp ≡ true → ResultOk e (partRule n e a)
     unfolding partRule
-    part-ok h =
+    part-ok n h =
         let b = part-bounds a (subst (λ (n : ℕ). argumentOk n a ≡ true) (eqb-true op partOp h) argument) in
         let o = entry-ordered e ok in
-        let p = part-between (e .low) (e .high) (a - half) (omega arith) in
-        result-ok carriedOut (e .low + (e .high - e .low) * (a - half) / wholePart) valid (omega arith) (omega arith) (omega arith) (omega arith)
+        let p = part-between n (e .low) (e .high) (a - half) (omega arith) in
+        result-ok carriedOut (e .low + rounded n ((e .high - e .low) * (a - half)) wholePart) valid (omega arith) (omega arith) (omega arith) (omega arith)
 
     pub rule-in-range : (v : Version) → ResultOk e (ruleOf v e op a r)
     unfolding ruleOf setRule reportRule faultRule
@@ -71,4 +71,4 @@ module _ (e : PlanEntry) where
         (λ h. choose (ResultOk e) (eqb op stepOp) (λ h. step-ok n)
         (λ h. choose (ResultOk e) (eqb op reportOp) (λ h. choose (ResultOk e) (inRange e a) (λ k. stored-ok k) (λ k. fallback-ok))
         (λ h. choose (ResultOk e) (eqb op faultOp) (λ h. fallback-ok)
-        (λ h. choose (ResultOk e) (eqb op partOp) (λ h. part-ok h) (λ h. unchanged-ok outOfRange (omega arith)))))))
+        (λ h. choose (ResultOk e) (eqb op partOp) (λ h. part-ok n h) (λ h. unchanged-ok outOfRange (omega arith)))))))

@@ -2,14 +2,14 @@
 use model::constants;
 ghost use mathlib.Core.Path.{_≡_};
 ghost use mathlib.Core.Bool.{true};
-ghost use Prim.Native.Nat.{_+_, _-_, _≤_};
+ghost use Prim.Native.Nat.{_+_, _-_, _%_, _≤_};
 ghost use lib.ListN.{length, drop};
 ghost use Rattle.model.specs.Choice.{pick};
-ghost use Rattle.model.specs.Numbers.{half};
+ghost use Rattle.model.specs.Numbers.{half, nearest};
 ghost use Rattle.model.specs.Plan.{planEntryOf, planEntryOk, planRowOk, planOk};
 ghost use Rattle.model.specs.Versions.{second};
 ghost use Rattle.model.specs.Rules.{same, result, sumInRange, endPast, pastEnd, setRule, stepRule, reportRule, faultRule, partRule, argumentOk};
-ghost use Rattle.model.specs.Limits.{planRow, partOp, carriedOut};
+ghost use Rattle.model.specs.Limits.{planRow, partOp, wholePart, carriedOut};
 ghost use Rattle.format_commands.specs.Results.{checkedRule};
 use model::CommandResult;
 use model::PlanEntry;
@@ -178,14 +178,36 @@ fn fault_rule(e: PlanEntry) -> CommandResult
     result_of(constants::FELL_BACK, e.fallback, constants::INVALID)
 }
 
+// 1 of an odd number, 0 of an even one.
+fn last_bit(n: u64) -> u64
+    ensures { λ x. ⌜ x ≡ n % 2 ⌝ }
+{
+    n & 1
+}
+
+// low + m / 1000, the quotient to the nearest, an exact half to the even one. What is left of m is found by a product, without a second division.
+fn part_value(low: u32, m: u64) -> u64
+    ensures { λ x. ⌜ x ≡ low + nearest m wholePart ⌝ }
+{
+    let from = low as u64;
+    let q = m / constants::WHOLE_PART_U64;
+    let rest = m - constants::WHOLE_PART_U64 * q;
+    let down = from + q;
+    let odd = last_bit(q);
+    if constants::WHOLE_PART_U64 < 2 * rest + odd {
+        down + 1
+    } else {
+        down
+    }
+}
+
 fn part_rule(e: PlanEntry, a: u32) -> CommandResult
     requires { ⌜ argumentOk partOp a ≡ true ⌝ }
-    ensures { λ x. ⌜ x ≡ partRule e a ⌝ }
+    ensures { λ x. ⌜ x ≡ partRule second e a ⌝ }
 {
-    let low = e.low as u64;
-    let span = minus(e.high as u64, low);
+    let span = minus(e.high as u64, e.low as u64);
     let parts = minus(a as u64, constants::HALF_U64);
-    let v = low + span * parts / constants::WHOLE_PART_U64;
+    let v = part_value(e.low, span * parts);
     result_of(constants::CARRIED_OUT, v as u32, constants::VALID)
 }
 

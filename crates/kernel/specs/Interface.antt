@@ -4,9 +4,9 @@ use Prim.Native.Nat.{ℕ}
 use mathlib.Core.List.{List}
 use Rattle.model.specs.Operations.{After, wordOf}
 
--- the interface's version, major × 65,536 + minor: 1.3
+-- the interface's version, major × 65,536 + minor: 1.4
 abbrev pub version : ℕ
-version = 65539
+version = 65540
 
 pub record Returned : Type 0 where
   pub answer : ℕ

@@ -11,7 +11,7 @@ ghost use Rattle.model.specs.Operations.{wordOf, foundOf, requestOf, fetchOf, s
 ghost use Rattle.kernel.specs.Interface.{version, returned, inC};
 
 // The interface's version, major * 65,536 + minor.
-const VERSION: u32 = 65539;
+const VERSION: u32 = 65540;
 
 #[no_mangle]
 pub extern "C" fn mantelorris_version() -> u32

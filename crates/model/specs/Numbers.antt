@@ -5,8 +5,9 @@ use Prim.Native.Nat.{ℕ, zero, suc, _+_, _*_, _/_, _%_}
 use mathlib.Core.Bool.{Bool, true, false, _&&_}
 use mathlib.Core.List.{List, [], _∷_, _++_}
 use lib.ListN.{getD, drop}
-use lib.Dec.{eqb}
+use lib.Dec.{eqb, ltb}
 use lib.IntN.{ℤ, subℕ}
+use Rattle.model.specs.Choice.{pick}
 
 -- 2 ^ 31, which stands for 0, and 2 ^ 32
 abbrev pub half : ℕ
@@ -22,6 +23,10 @@ signed x = subℕ x half
 -- two's complement to x + 2 ^ 31, and back
 unfoldable pub flip : ℕ → ℕ
 flip x = (x + half) % word
+
+-- m / n to the nearest number, an exact half to the even one (Sequential.Nearest)
+unfoldable pub nearest : ℕ → ℕ → ℕ
+nearest m n = pick (ltb n (2 * (m % n) + m / n % 2)) (m / n + 1) (m / n)
 
 -- the byte at index i
 abbrev pub byteAt : List ℕ → ℕ → ℕ

@@ -11,7 +11,7 @@ use Rattle.model.specs.declared.Reading.{Reading}
 use Rattle.model.specs.declared.CommandResult.{CommandResult}
 use Rattle.model.specs.declared.ArgumentRange.{ArgumentRange}
 use Rattle.model.specs.Choice.{pick}
-use Rattle.model.specs.Numbers.{half}
+use Rattle.model.specs.Numbers.{half, nearest}
 use Rattle.model.specs.Plan.{inRange}
 use Rattle.model.specs.Limits.{last32, readOp, setOp, stepOp, reportOp, faultOp, partOp, wholePart, carriedOut, outOfRange, onInvalid, fellBack, stopped, valid, invalid}
 use Rattle.model.specs.Versions.{Version, first, second}
@@ -79,8 +79,13 @@ reportRule e a r = pick (inRange e a) (result carriedOut a valid) (result fellBa
 unfoldable pub faultRule : PlanEntry → CommandResult
 faultRule e = result fellBack (e .fallback) invalid
 
-unfoldable pub partRule : PlanEntry → ℕ → CommandResult
-partRule e a = result carriedOut (e .low + (e .high - e .low) * (a - half) / wholePart) valid
+-- the quotient of m by n: by the first version rounded down, by the second to the nearest
+abbrev pub rounded : Version → ℕ → ℕ → ℕ
+rounded first m n = m / n
+rounded second m n = nearest m n
+
+unfoldable pub partRule : Version → PlanEntry → ℕ → CommandResult
+partRule n e a = result carriedOut (e .low + rounded n ((e .high - e .low) * (a - half)) wholePart) valid
 
 -- by the version of the op's rule; another op is refused before (malformed)
 unfoldable pub ruleOf : Version → PlanEntry → ℕ → ℕ → Reading → CommandResult
@@ -90,4 +95,4 @@ ruleOf n e op a r =
     (pick (eqb op stepOp) (stepRule n e a r)
     (pick (eqb op reportOp) (reportRule e a r)
     (pick (eqb op faultOp) (faultRule e)
-    (pick (eqb op partOp) (partRule e a) (same outOfRange r))))))
+    (pick (eqb op partOp) (partRule n e a) (same outOfRange r))))))

@@ -2,18 +2,20 @@
 -- It knows the plan and the commands alone, nothing of servers. Each command carries the version of its op's rule
 -- that it was executed by.
 -- Assumes nothing.
-use Prim.Native.Nat.{ℕ, zero, suc, _/_}
+use Prim.Native.Nat.{ℕ, zero, suc, _/_, _≤_}
+use mathlib.Core.Path.{_≡_}
+use mathlib.Core.Logic.{_≢_}
 use mathlib.Core.Bool.{Bool, _&&_}
 use mathlib.Core.List.{List, [], _∷_, map}
 use lib.Dec.{eqb}
-use lib.IntN.{ℤ, pos, negsuc, _+ℤ_, _-ℤ_, _*ℤ_}
+use lib.IntN.{ℤ, pos, negsuc, _+ℤ_, _-ℤ_, _*ℤ_, negℤ}
 use lib.Signed.{leZ}
 use Rattle.model.specs.declared.PlanEntry.{PlanEntry}
 use Rattle.model.specs.declared.Reading.{Reading}
 use Rattle.model.specs.declared.CommandResult.{CommandResult}
 use Rattle.model.specs.declared.Command.{Command}
 use Rattle.model.specs.Choice.{pick}
-use Rattle.model.specs.Numbers.{signed}
+use Rattle.model.specs.Numbers.{signed, nearest}
 use Rattle.model.specs.Plan.{entryAt}
 use Rattle.model.specs.Limits.{readOp, setOp, stepOp, reportOp, faultOp, partOp, wholePart, carriedOut, outOfRange, onInvalid, fellBack, stopped, valid, invalid}
 use Rattle.model.specs.Versions.{Version, first, second, Versions}
@@ -62,6 +64,28 @@ unfoldable pub quotientDown : ℤ → ℕ → ℤ
 quotientDown (pos m) n = pos (m / n)
 quotientDown (negsuc m) n = negsuc (m / n)
 
+-- how far an integer is from 0, and how far two are apart
+abbrev pub absolute : ℤ → ℕ
+absolute (pos m) = m
+absolute (negsuc m) = suc m
+
+abbrev pub distance : ℤ → ℤ → ℕ
+distance x y = absolute (x -ℤ y)
+
+-- an even integer
+abbrev pub Even : ℤ → Type 0
+Even q = (k : ℤ) × (q ≡ k +ℤ k)
+
+-- q is the integer nearest to x / n: no multiple of n is nearer to x than q × n; where another is as near, q is even
+pub record Nearest (x : ℤ) (n : ℕ) (q : ℤ) : Type 0 where
+  pub near : (p : ℤ) → distance x (q *ℤ pos n) ≤ distance x (p *ℤ pos n)
+  pub even : (p : ℤ) → p ≢ q → distance x (p *ℤ pos n) ≡ distance x (q *ℤ pos n) → Even q
+
+-- that integer, computed: for every n above 0 `Nearest x n` holds of it and of no other (format_commands: Nearest)
+unfoldable pub quotientNearest : ℤ → ℕ → ℤ
+quotientNearest (pos m) n = pos (nearest m n)
+quotientNearest (negsuc m) n = negℤ (pos (nearest (suc m) n))
+
 -- ---- the six ops
 
 -- 0 read: outcome 0, no change
@@ -91,9 +115,14 @@ reportZ e a = pick (inRangeZ e a) (resultZ carriedOut a valid) (resultZ fellBack
 unfoldable pub faultZ : EntryZ → ResultZ
 faultZ e = resultZ fellBack (e .fallback) invalid
 
--- 5 part: the value that lies a thousandths of the way from low to high, rounded down; valid, outcome 0
-unfoldable pub partZ : EntryZ → ℤ → ResultZ
-partZ e a = resultZ carriedOut (e .low +ℤ quotientDown ((e .high -ℤ e .low) *ℤ a) wholePart) valid
+-- the quotient of part: by the first version rounded down, by the second to the nearest
+unfoldable pub roundedZ : Version → ℤ → ℕ → ℤ
+roundedZ first x n = quotientDown x n
+roundedZ second x n = quotientNearest x n
+
+-- 5 part: the value that lies a thousandths of the way from low to high, rounded as the version says before low is added; valid, outcome 0
+unfoldable pub partZ : Version → EntryZ → ℤ → ResultZ
+partZ n e a = resultZ carriedOut (e .low +ℤ roundedZ n ((e .high -ℤ e .low) *ℤ a) wholePart) valid
 
 -- by the version of the op's rule; commands have no other op, and one would change nothing
 unfoldable pub ruleZ : Version → EntryZ → ℕ → ℤ → ReadingZ → ResultZ
@@ -103,7 +132,7 @@ ruleZ n e op a r =
     (pick (eqb op stepOp) (stepZ n e a r)
     (pick (eqb op reportOp) (reportZ e a)
     (pick (eqb op faultOp) (faultZ e)
-    (pick (eqb op partOp) (partZ e a) (resultZ outOfRange (r .value) (r .quality)))))))
+    (pick (eqb op partOp) (partZ n e a) (resultZ outOfRange (r .value) (r .quality)))))))
 
 -- ---- the run
 

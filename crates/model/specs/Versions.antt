@@ -3,7 +3,7 @@
 use Prim.Native.Nat.{ℕ}
 use lib.Dec.{eqb}
 use Rattle.model.specs.Choice.{pick}
-use Rattle.model.specs.Limits.{stepOp}
+use Rattle.model.specs.Limits.{stepOp, partOp}
 
 -- the versions of an op's rule, in the order in which they came
 pub data Version : Type 0 where
@@ -14,6 +14,6 @@ pub data Version : Type 0 where
 abbrev pub Versions : Type 0
 Versions = ℕ → Version
 
--- this program's: of step the second, which stops at the range's end
+-- this program's: of step the second, which stops at the range's end; of part the second, which rounds to the nearest
 abbrev pub today : Versions
-today op = pick (eqb op stepOp) second first
+today op = pick (eqb op stepOp) second (pick (eqb op partOp) second first)

@@ -35,7 +35,28 @@ p-cases = (
                             search,
                             (
                               search,
-                              (search, (search, (search, (search, (search, tt))))),
+                              (
+                                search,
+                                (
+                                  search,
+                                  (
+                                    search,
+                                    (
+                                      search,
+                                      (
+                                        search,
+                                        (
+                                          search,
+                                          (
+                                            search,
+                                            (search, (search, (search, (search, (search, tt))))),
+                                          ),
+                                        ),
+                                      ),
+                                    ),
+                                  ),
+                                ),
+                              ),
                             ),
                           ),
                         ),

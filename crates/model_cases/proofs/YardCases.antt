@@ -2,7 +2,7 @@
 -- Assumes nothing.
 use mathlib.Core.Path.{_≡_, refl}
 use Rattle.model_laws.specs.Opened.{openParties, openYard}
-use Rattle.model_cases.specs.Schedules.{linesAnswers, linesSchedule, moveAnswers, moveSchedule, paperAnswers, paperSchedule, repeatAnswers, repeatSchedule, replyAnswers, replySchedule}
+use Rattle.model_cases.specs.Schedules.{linesAnswers, linesSchedule, moveAnswers, moveSchedule, paperAnswers, paperSchedule, partsAnswers, partsSchedule, repeatAnswers, repeatSchedule, replyAnswers, replySchedule}
 use Rattle.model.specs.Yard.{yardOf}
 
 pub paper-case : yardOf paperSchedule ≡ paperAnswers
@@ -16,6 +16,10 @@ lines-case = refl
 pub move-case : yardOf moveSchedule ≡ moveAnswers
 unfolding openParties openYard moveSchedule moveAnswers
 move-case = refl
+
+pub parts-case : yardOf partsSchedule ≡ partsAnswers
+unfolding openParties openYard partsSchedule partsAnswers
+parts-case = refl
 
 pub repeat-case : yardOf repeatSchedule ≡ repeatAnswers
 unfolding openParties openYard repeatSchedule repeatAnswers

@@ -11,7 +11,7 @@ use Rattle.model.specs.declared.CommandResult.{CommandResult}
 use Rattle.model.specs.declared.Request.{Request}
 use Rattle.model.specs.Choice.{Decision, refuse, deny, reply, append, marks}
 use Rattle.model.specs.Numbers.{half}
-use Rattle.model.specs.Limits.{pointCount, executedSize, setOp, stepOp, reportOp, faultOp, partOp, carriedOut, outOfRange, onInvalid, fellBack, stopped, valid, invalid}
+use Rattle.model.specs.Limits.{last32, pointCount, executedSize, setOp, stepOp, reportOp, faultOp, partOp, carriedOut, outOfRange, onInvalid, fellBack, stopped, valid, invalid}
 use Rattle.model.specs.Versions.{today}
 use Rattle.model.specs.Rules.{ruleOf}
 use Rattle.model.specs.Sequential.{EntryZ, ReadingZ, ResultZ, readingZ, resultZ, entryZ, readingMeant, resultMeant, ruleZ}
@@ -103,6 +103,16 @@ stepNarrow a o =
     command (record { low = half + 7; high = half + 7; fallback = half + 7; home = 0 }) stepOp (pos a) (half + a) (readingZ (pos 7) valid)
     (record { value = half + 7; quality = valid }) (resultZ o (pos 7) valid) (record { outcome = o; value = half + 7; quality = valid })
 
+-- part a where the range is low to high (in the kernel's numbers): value z, in the kernel's numbers k
+abbrev pub partIn : ℕ → ℕ → ℕ → ℤ → ℕ → Case
+partIn low high a z k =
+    command (record { low = low; high = high; fallback = low; home = 0 }) partOp (pos a) (half + a) (readingZ (pos 0) invalid)
+    (record { value = half; quality = invalid }) (resultZ carriedOut z valid) (record { outcome = carriedOut; value = k; quality = valid })
+
+-- the same where the range is the greatest, −2147483648 to 2147483647
+abbrev pub partWide : ℕ → ℤ → ℕ → Case
+partWide a z k = partIn 0 last32 a z k
+
 -- op, argument, value and quality before; outcome, value and quality after
 unfoldable pub cases : List Case
 cases =
@@ -121,7 +131,14 @@ cases =
     ∷ onUp faultOp 0 7 valid fellBack 0 invalid  -- fault: the same
     ∷ toDown partOp 0 0 invalid carriedOut 99 valid  -- part 0: −100
     ∷ onUp partOp 333 0 invalid carriedOut 266 valid  -- part 333: 266
-    ∷ toDown partOp 5 0 invalid carriedOut 94 valid  -- part 5: −95
+    ∷ onUp partOp 1000 0 invalid carriedOut 1000 valid  -- part 1000: 1000
+    ∷ toDown partOp 5 0 invalid carriedOut 93 valid  -- part 5, 5 and a half from low: −94
+    ∷ toDown partOp 15 0 invalid carriedOut 83 valid  -- part 15, 16 and a half from low: −84
+    ∷ partIn (half - 99) (half + 1001) 5 (negsuc 92) (half - 93)  -- where the range is −99 to 1001, part 5: −93, for the quotient is even and not the value
+    ∷ partWide 0 (negsuc 2147483647) 0  -- where the range is the greatest, part 0: −2147483648
+    ∷ partWide 1000 (pos 2147483647) last32  -- and part 1000: 2147483647
+    ∷ partWide 500 (pos 0) half  -- part 500, 2147483647 and a half from low: 0
+    ∷ partWide 300 (negsuc 858993459) 1288490188  -- part 300, 1288490188 and a half from low: −858993460
     ∷ lease 50 50 leaseOver  -- lease end 50, heard 50: 4
     ∷ lease 50 49 noRefusal  -- heard 49: passes
     ∷ window 16 1 noRefusal  -- call 16 done 1: passes

@@ -2,7 +2,7 @@
 -- unfold a name is to unfold what its own line names. `openParties` opens servers, clients and lease manager, with all that they rest on.
 -- Assumes nothing.
 use Rattle.model.specs.Choice.{unlessRefused}
-use Rattle.model.specs.Numbers.{signed, flip, le32At, le64At, le64, signedAt, zeros3At}
+use Rattle.model.specs.Numbers.{signed, nearest, flip, le32At, le64At, le64, signedAt, zeros3At}
 use Rattle.model.specs.Tables.{rows, everyRow, bytesOf, every, keep, zeros, written}
 use Rattle.model.specs.Plan.{planEntryOf, planEntryBytes, planEntryOk, planRowOk, planOk, planOf, planBytes, entryAt, inRange}
 use Rattle.model.specs.Rules.{argumentRange, inArguments, argumentOk, sumInRange, setRule, stepRule, reportRule, faultRule, partRule, ruleOf}
@@ -15,7 +15,7 @@ use Rattle.model.specs.Decisions.{orMalformed, find, requestRefusal, resultOfRe
 use Rattle.model.specs.Operations.{short, unfit, freeIn, stored, settle, lentRefusal, lent, leftUnless, foundRefusal, foundOf, requestOf, fetchOf, syncOf, noticeOf, giveOf, imageOf, takeOf, receiptOf, releaseOf, recovered, recoveredAll, recoveredOn, recoveredState, settleRecovered, recoverRefusal, recoverOf, logEndOf}
 use Rattle.model.specs.Clients.{placeOf, callAt, isOpen, leastOpen, firstOpen, withCalls, withLease, closed, requestFor, startWith, startOf, newCall, withCall, notSent, sent, issueOf, resendOf, isOwn, notReceived, receiveResult, receiveRefusal, receiveGrant, receiveWith, receiveOf, startNumber, sendNumber, receiveNumber, brought, sentBytes}
 use Rattle.model.specs.Leases.{timeAt, endedAt, runningAt, leaseEnd, isTaken, withNewLease, extended, spanOk, manager, notTold, granted, openOf, renewOf, queryOf, toldNumber, toldBytes}
-use Rattle.model.specs.Sequential.{entryZ, readingMeant, resultMeant, afterZ, inRangeZ, quotientDown, readZ, setZ, pastEndZ, stepZ, reportZ, faultZ, partZ, ruleZ, opened, answerZ, entered, bookWith, bookAfter}
+use Rattle.model.specs.Sequential.{entryZ, readingMeant, resultMeant, afterZ, inRangeZ, quotientDown, quotientNearest, readZ, setZ, pastEndZ, stepZ, reportZ, faultZ, roundedZ, partZ, ruleZ, opened, answerZ, entered, bookWith, bookAfter}
 use Rattle.model.specs.Yard.{yardPlan, yardServer, yardClient, newYard, serverOf, clientOf, withServer, withClient, withPacket, called, room, delivered, deliverTo, cutAt, cutServer, issued, receivedAt, deliverAt, receiveAt, packetAt, known, ran, runLines, isDigit, digitsFrom, atMost, numberIn, negative, positive, argumentIn, fieldsFrom, line1, line2, line3, line4, letterIn, letterLine, with1, with2, with3, with4, lineOfFields, lineOf, endLine, linesFrom, linesOf, digitsOf, shown, shownSigned, replyText, repliesText, yardOf}
 
 -- a name that opens others
@@ -24,7 +24,7 @@ Opens = Unit
 
 -- Choice and Numbers
 unfoldable pub openNumbers : Opens
-unfolding unlessRefused signed flip le32At le64At le64 signedAt zeros3At
+unfolding unlessRefused signed nearest flip le32At le64At le64 signedAt zeros3At
 openNumbers = tt
 
 -- Tables
@@ -129,7 +129,7 @@ openLeases = tt
 
 -- Sequential
 unfoldable pub openBook : Opens
-unfolding entryZ readingMeant resultMeant afterZ inRangeZ quotientDown readZ setZ pastEndZ stepZ reportZ faultZ partZ ruleZ opened answerZ entered bookWith bookAfter
+unfolding entryZ readingMeant resultMeant afterZ inRangeZ quotientDown quotientNearest readZ setZ pastEndZ stepZ reportZ faultZ roundedZ partZ ruleZ opened answerZ entered bookWith bookAfter
 openBook = tt
 
 -- Yard: its parts and steps, lines, answers
