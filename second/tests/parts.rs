@@ -12,7 +12,7 @@ use second::random::Random;
 use second::record::{parse_executed, EXECUTED_LEN, HEAD_LEN};
 use second::rule::{apply, apply_by, Op, Rules};
 use second::sequential::SequentialSpec;
-use second::server::{Server, STATE_LEN};
+use second::server::Server;
 use second::simulator;
 use std::ops::RangeInclusive;
 
@@ -111,17 +111,9 @@ fn low_equals_high() {
     }
 }
 
-/// The version of part's rule makes no difference to the other ops.
 #[test]
 fn other_ops_do_not_differ() {
-    for op in [Op::Read, Op::Set, Op::Step, Op::Report, Op::Fault] {
-        for argument in (-1200..=1200).filter(|&a| op.accepts(a)) {
-            for quality in [0, 1] {
-                let by = |rules| apply_by(rules, op, argument, &RANGE, 40, quality);
-                assert_eq!(by(Rules::BETWEEN), by(Rules::TODAY));
-            }
-        }
-    }
+    assert_differ_only_in(Op::Part, Rules::BETWEEN, Rules::TODAY);
 }
 
 #[test]
@@ -306,18 +298,10 @@ fn old_log_recovers() {
 /// Results of all programs move with the point, to a cabinet of any program.
 #[test]
 fn results_of_all_programs_move() {
-    let mut giver = rig_of_all_programs();
-    giver.give(0, u32::from(POINT), 1);
-    giver.sync_all();
-    let image = giver.image(0, 48 + 8 + 3 * 20, u32::from(POINT));
-    for rules in Rules::ALL {
-        let mut taker = Rig::new(1, 2000);
-        taker.expect(0, 0, |s, log, _| s.take_by(rules, STATE_LEN, log, &image));
+    rig_of_all_programs().move_to_each_program(u32::from(POINT), 3, |taker| {
         assert_eq!(taker.server.point(POINT).value, -94);
-        assert_results(&mut taker);
-        let recovered = recover(taker.whole_log(), &plan());
-        assert!(recovered == Some(taker.server));
-    }
+        assert_results(taker);
+    });
 }
 
 /// Commands of random programs at one cabinet, half of them parts: the book

@@ -11,7 +11,7 @@ use second::checker::Violation;
 use second::faults::Fault;
 use second::plan::write_plan;
 use second::rule::{PartRule, Rules};
-use second::schedule::{generate, generate_renewed, Keep, Renewed};
+use second::schedule::{generate, generate_renewed, Call, Keep, Renewed};
 use second::server::{Server, STATE_LEN};
 use second::world::{minimise_renewed, run, run_renewed, Counts, Options, World};
 
@@ -78,20 +78,34 @@ fn never_renewed() {
     assert_eq!(results(&world)[1], Some((1, 990)));
 }
 
-/// A step that the crash before the renewal removed is executed again, by
-/// today's rule and so marked; one that it kept has the old result.
-#[test]
-fn renewed_between_crash_and_recovery() {
-    let late = vec![issue(2, 20), REQUEST];
-    let again = vec![RECOVER, REQUEST, SYNC, REQUEST, RECEIVE];
-    for (keep, mark, result) in [(Keep::Synced, TODAY, (4, 1000)), (Keep::All, OLD, (1, 990))] {
-        let before = [begin(), complete(1, 990), late.clone(), vec![crash(keep)]];
-        let renewed = renewed_between(&before, std::slice::from_ref(&again));
+/// At 990, a command that the crash before the renewal removed is executed
+/// again, by today's rule and so marked; one that it kept has the old result.
+fn crash_before_renewal(
+    renew: fn(&Calls, &Calls) -> Renewed,
+    old: Rules,
+    command: Call,
+    [again, kept]: [(u8, i32); 2],
+) {
+    let repeat = [vec![RECOVER, REQUEST, SYNC, REQUEST, RECEIVE]];
+    for (keep, mark, result) in [(Keep::Synced, TODAY, again), (Keep::All, old, kept)] {
+        let late = vec![command, REQUEST, crash(keep)];
+        let renewed = renew(&[begin(), complete(1, 990), late], &repeat);
         let world = explained(&renewed);
-        assert_eq!(world.marks(), [OLD, mark]);
+        assert_eq!(world.marks(), [old, mark]);
         assert_eq!(results(&world)[1], Some(result));
         assert_eq!(unmarked(&world, &renewed).is_ok(), mark == TODAY);
     }
+}
+
+#[test]
+fn step_between_crash_and_recovery() {
+    crash_before_renewal(renewed_between, OLD, issue(2, 20), [(4, 1000), (1, 990)]);
+}
+
+#[test]
+fn part_between_crash_and_recovery() {
+    let values = [(0, -94), (0, -95)];
+    crash_before_renewal(renewed_from_second, BETWEEN, issue(5, 5), values);
 }
 
 /// From an old server to a renewed one and back, with steps at each.
@@ -195,18 +209,24 @@ fn assert_recovers(world: &World, renewed: &Renewed) {
     }
 }
 
-#[test]
-fn no_violation_with_renewals() {
+/// Runs so many schedules; none violates the demand.
+fn run_all(schedules: u64, make: fn(u64) -> Renewed) -> Counts {
     let options = Options {
         verify: true,
         ..Options::default()
     };
     let mut counts = Counts::default();
-    for seed in FIRST_SEED..FIRST_SEED + SCHEDULES {
-        let found = run_renewed(&generate_renewed(seed), options);
+    for seed in FIRST_SEED..FIRST_SEED + schedules {
+        let found = run_renewed(&make(seed), options);
         assert_eq!(found.result, Ok(()), "seed {seed}");
         counts.add(&found.counts);
     }
+    counts
+}
+
+#[test]
+fn no_violation_with_renewals() {
+    let counts = run_all(SCHEDULES, generate_renewed);
     println!("{SCHEDULES} schedules from seed {FIRST_SEED}: {counts:?}");
     assert_eventful(&counts, SCHEDULES);
 }
@@ -299,16 +319,7 @@ fn generate_from_second(seed: u64) -> Renewed {
 
 #[test]
 fn no_violation_from_the_second_program() {
-    let options = Options {
-        verify: true,
-        ..Options::default()
-    };
-    let mut counts = Counts::default();
-    for seed in FIRST_SEED..FIRST_SEED + 2000 {
-        let found = run_renewed(&generate_from_second(seed), options);
-        assert_eq!(found.result, Ok(()), "seed {seed}");
-        counts.add(&found.counts);
-    }
+    let counts = run_all(2000, generate_from_second);
     assert_eq!((counts.executed_old, counts.steps_refused), (0, 0));
     assert_eq!(counts.images_too_new, 0);
     assert!(counts.executed_between > 4000 && counts.executed > 8000);
@@ -328,22 +339,6 @@ fn marks_of_part_ignored() {
     }
 }
 
-/// A crash before the renewal: a part that it removed is executed again, by
-/// today's rule; one that it kept has the old result.
-#[test]
-fn part_between_crash_and_recovery() {
-    let late = vec![issue(5, 5), REQUEST];
-    let again = [vec![RECOVER, REQUEST, SYNC, REQUEST, RECEIVE]];
-    for (keep, mark, value) in [(Keep::Synced, TODAY, -94), (Keep::All, BETWEEN, -95)] {
-        let second = [begin(), complete(1, 990), late.clone(), vec![crash(keep)]];
-        let renewed = renewed_after([&[], &second, &again]);
-        let world = explained(&renewed);
-        assert_eq!(world.marks(), [BETWEEN, mark]);
-        assert_eq!(results(&world)[1], Some((0, value)));
-        assert_eq!(unmarked(&world, &renewed).is_ok(), mark == TODAY);
-    }
-}
-
 /// Parts at a server of the second program, at one of today's, and back; their
 /// images are taken both ways, with outcome 4 in them too.
 #[test]
@@ -360,7 +355,7 @@ fn parts_moved_between_programs() {
         complete(5, 995),
         complete(5, 999),
     ];
-    let renewed = renewed_after([&[], &calls, &[]]);
+    let renewed = renewed_from_second(&calls, &[]);
     let world = explained(&renewed);
     let expected = [(0, -95), (0, -94), (4, 1000), (0, 994), (0, 998)];
     assert_eq!(results(&world), expected.map(Some));
@@ -378,10 +373,10 @@ fn recovery_works_parts_out() {
         violates(&generate_from_second(seed), fault)
     });
     let before = [begin(), complete(5, 5), vec![crash(Keep::All)]];
-    let renewed = renewed_after([&[], &before, &[vec![RECOVER], complete(0, 0)]]);
+    let renewed = renewed_from_second(&before, &[vec![RECOVER], complete(0, 0)]);
     assert!(violates(&renewed, Some(Fault::RecoverWorksOut)));
     assert!(!violates(&renewed, None));
     // The program that executed them may work them out.
-    let never = renewed_after([&[], &[&before[..], &[vec![RECOVER]]].concat(), &[]]);
+    let never = renewed_from_second(&[&before[..], &[vec![RECOVER]]].concat(), &[]);
     assert!(!violates(&never, Some(Fault::RecoverWorksOut)));
 }

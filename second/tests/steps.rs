@@ -2,8 +2,10 @@
 //! outcome 4. Logs and images from before it are still read.
 
 mod common;
+mod logs;
 
 use common::*;
+use logs::recover;
 use second::answer::{Answer, Refusal};
 use second::client::{Client, Received};
 use second::image::{parse_image, Moved};
@@ -127,18 +129,9 @@ fn all_steps_in_small_ranges() {
     }
 }
 
-/// The version of step's rule makes no difference to the other ops.
 #[test]
 fn other_ops_do_not_differ() {
-    for op in [Op::Read, Op::Set, Op::Report, Op::Fault, Op::Part] {
-        for argument in (-1200..=1200).filter(|&a| op.accepts(a)) {
-            for quality in [0, 1] {
-                let by = |rules| apply_by(rules, op, argument, &RANGE, 40, quality);
-                assert_eq!(by(Rules::OLD), by(Rules::BETWEEN));
-                assert_eq!(apply(op, argument, &RANGE, 40, quality), by(Rules::TODAY));
-            }
-        }
-    }
+    assert_differ_only_in(Op::Step, Rules::OLD, Rules::BETWEEN);
 }
 
 #[test]
@@ -326,32 +319,25 @@ fn outcomes_of_a_sound_state() {
 fn outcomes_of_a_kept_log() {
     let rig = rig_after_step(Rules::TODAY);
     let whole = rig.whole_log();
-    assert!(recover(whole).is_some());
+    assert!(recover(whole, &plan()).is_some());
     let outcome_at = HEAD_LEN + EXECUTED_LEN + 3;
     let mut bad = whole.to_vec();
     assert_eq!(bad[outcome_at], 4);
     bad[outcome_at] = 5;
-    assert!(recover(&bad).is_none());
+    assert!(recover(&bad, &plan()).is_none());
 
     let mut rig = Rig::new(0, 500);
     rig.take(0, &image_with(4));
     let mut log = rig.log[..rig.server.length as usize].to_vec();
-    assert_eq!(recover(&log).map(|s| s.records), Some(rig.server.records));
+    assert_eq!(
+        recover(&log, &plan()).map(|s| s.records),
+        Some(rig.server.records)
+    );
     // The take record's head, the image up to its entries, the first entry.
     let outcome_at = HEAD_LEN + 8 + 56 + 20 + 17;
     assert_eq!(log[outcome_at], 4);
     log[outcome_at] = 5;
-    assert!(recover(&log).is_none());
-}
-
-fn recover(log: &[u8]) -> Option<Server> {
-    let mut server = Server::new();
-    let answer = server.recover(STATE_LEN, log, &plan_bytes());
-    match answer.number {
-        0 => Some(server),
-        14 => None,
-        number => panic!("recover answers {number}"),
-    }
+    assert!(recover(&log, &plan()).is_none());
 }
 
 /// The outcome moves with the point.
@@ -369,7 +355,7 @@ fn outcome_4_moves_with_the_point() {
     let bytes = taker.request(0, 16, &step(1, 2, 20));
     assert_eq!(bytes[..4], [2, 4, POINT, 0]);
     let log = taker.whole_log();
-    assert_eq!(recover(log), Some(taker.server));
+    assert_eq!(recover(log, &plan()), Some(taker.server));
 }
 
 /// A program from before the request finds outcome 4 outside its range; it
@@ -438,25 +424,16 @@ fn old_log_recovers() {
     rig.sync_all();
     assert_eq!(rig.result(3), effect(4, 1000, 0));
     let log = rig.whole_log();
-    assert_eq!(recover(log), Some(rig.server));
+    assert_eq!(recover(log, &plan()), Some(rig.server));
 }
 
 /// An image with outcome 1 on a step is taken, and its take record recovers.
 #[test]
 fn old_entry_moves() {
-    let mut giver = recovered_rig();
-    giver.give(0, u32::from(POINT), 1);
-    giver.sync_all();
-    let image = giver.image(0, 48 + 8 + 2 * 20, u32::from(POINT));
-    for rules in Rules::ALL {
-        let mut taker = Rig::new(1, 2000);
-        taker.expect(0, 0, |s, log, _| s.take_by(rules, STATE_LEN, log, &image));
-        taker.sync_all();
+    recovered_rig().move_to_each_program(u32::from(POINT), 2, |taker| {
         assert_eq!(value_and_quality(&taker.server), (990, 0));
         assert_eq!(taker.result(2), effect(1, 990, 0));
-        let log = taker.whole_log();
-        assert_eq!(recover(log), Some(taker.server));
-    }
+    });
 }
 
 // The yard.

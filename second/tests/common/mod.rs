@@ -9,7 +9,7 @@ use second::packet::{
 use second::plan::{write_plan, Entry, Plan, PLAN_LEN};
 use second::random::Random;
 use second::record::{parse_executed, Executed, EXECUTED_LEN};
-use second::rule::{Effect, Op, Rules};
+use second::rule::{apply, apply_by, Effect, Op, Rules};
 use second::server::{Server, STATE_LEN};
 
 pub const FILL: u8 = 0xA5;
@@ -54,6 +54,20 @@ pub fn effect(outcome: u8, value: i32, quality: u8) -> Effect {
 }
 
 /// By its number in the paper.
+/// Two programs between which the rule of one op changed execute every other op alike.
+pub fn assert_differ_only_in(changed: Op, one: Rules, other: Rules) {
+    let ops = (0..=Op::Part as u8).filter_map(Op::from_byte);
+    for op in ops.filter(|&op| op != changed) {
+        for argument in (-1200..=1200).filter(|&a| op.accepts(a)) {
+            for quality in [0, 1] {
+                let by = |rules| apply_by(rules, op, argument, &RANGE, 40, quality);
+                assert_eq!(by(one), by(other));
+                assert_eq!(apply(op, argument, &RANGE, 40, quality), by(Rules::TODAY));
+            }
+        }
+    }
+}
+
 pub fn refusal(number: u32) -> Refusal {
     Refusal::ALL[number as usize - 1]
 }
@@ -177,6 +191,24 @@ impl Rig {
 
     pub fn take(&mut self, number: u32, image: &[u8]) {
         self.expect(number, 0, |s, log, _| s.take(STATE_LEN, log, image));
+    }
+
+    /// The point and its records of one client, given to cabinet 1 and taken there by
+    /// each program; the taker is as `check` says, and recovers from its log.
+    pub fn move_to_each_program(&mut self, point: u32, records: usize, check: impl Fn(&mut Rig)) {
+        self.give(0, point, 1);
+        self.sync_all();
+        let image = self.image(0, 48 + 8 + 20 * records, point);
+        for rules in Rules::ALL {
+            let mut taker = Rig::new(1, 2000);
+            taker.expect(0, 0, |s, log, _| s.take_by(rules, STATE_LEN, log, &image));
+            taker.sync_all();
+            check(&mut taker);
+            let mut recovered = Server::new();
+            let answer = recovered.recover(STATE_LEN, taker.whole_log(), &plan_bytes());
+            assert_eq!(answer, Answer::DONE);
+            assert!(recovered == taker.server);
+        }
     }
 
     pub fn receipt(&mut self, number: u32, written: usize, point: u32) -> Vec<u8> {

@@ -13,6 +13,9 @@ use second::world::{run_renewed, Options, World};
 pub const SOON: u64 = 200;
 pub const POINT: u8 = 5;
 
+/// Lists of calls, one after the other.
+pub type Calls = [Vec<Call>];
+
 pub const APT: Party = Party::Apt;
 pub const SYNC: Call = Call::Sync {
     at: APT,
@@ -74,7 +77,7 @@ pub fn give_to(destination: u8) -> Vec<Call> {
     vec![give, SYNC, Call::Image { at, point }]
 }
 
-pub fn schedule(calls: &[Vec<Call>]) -> Schedule {
+pub fn schedule(calls: &Calls) -> Schedule {
     let flaw = Flaw::None;
     let calls = calls.iter().flatten();
     Schedule {
@@ -87,7 +90,7 @@ pub fn schedule(calls: &[Vec<Call>]) -> Schedule {
 
 /// Server 0 is renewed after the first list of calls and after the second;
 /// server 1 runs today's program.
-pub fn renewed_after(lists: [&[Vec<Call>]; 3]) -> Renewed {
+pub fn renewed_after(lists: [&Calls; 3]) -> Renewed {
     let [first, second, _] = lists.map(|calls| calls.iter().map(Vec::len).sum::<usize>());
     Renewed {
         schedule: schedule(&lists.concat()),
@@ -96,8 +99,13 @@ pub fn renewed_after(lists: [&[Vec<Call>]; 3]) -> Renewed {
 }
 
 /// Server 0 is renewed between the calls, from the first program to today's.
-pub fn renewed_between(before: &[Vec<Call>], after: &[Vec<Call>]) -> Renewed {
+pub fn renewed_between(before: &Calls, after: &Calls) -> Renewed {
     renewed_after([before, &[], after])
+}
+
+/// The same from the second program to today's.
+pub fn renewed_from_second(before: &Calls, after: &Calls) -> Renewed {
+    renewed_after([&[], before, after])
 }
 
 /// Runs the schedule; the marked book explains it.
