@@ -1,4 +1,4 @@
--- The quotient of part is rounded down: it is the greatest integer whose product with the divisor is at most the dividend.
+-- The quotient of part by the first version of its rule is rounded down: the greatest integer whose product with the divisor is at most the dividend.
 --     quotient-floor     quotientDown z n × n ≤ z < (quotientDown z n + 1) × n
 -- Assumes nothing.
 use Prim.Native.Nat.{ℕ, zero, suc, _+_, _*_, _/_, _≤_, _<_}
