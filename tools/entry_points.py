@@ -12,12 +12,15 @@ ENTRY = {
     'format_image_reader': 'image_ok image_read',
     'format_log_ends': 'head_ok extent_at log_end',
     'state_soundness': 'state_ok',
+    'state_restore': 'framed',
     'server_memory': 'lent_refusal',
     'server_fetch': 'fetch sync notice',
     'server_request': 'request',
     'server_moves': 'give image receipt release take',
     'server_found': 'found',
-    'server_recover': 'recover',
+    'server_recover': 'recover recover_checkpoint',
+    'server_checkpoint': 'checkpoint',
+    'server_inspect': 'place shown',
     'client': 'start issue resend receive',
     'leases': 'open_lease renew query',
     'chamber': 'start issue resend receive',
@@ -30,15 +33,18 @@ LEAF_CRATES = 'format_numbers format_fields format_image_rows format_image_write
 LEAF_CRATES += 'state_records state_clients server_apply state_image server_replay'.split()
 # crates of parts of the simulator, on memory that `new_yard` has laid out
 LEAF_CRATES += 'simulator_store simulator_delivery simulator_client simulator_server simulator_state'.split()
-# leaves elsewhere: rows at a place, what is read once an entry point has answered that it is there, what a client's call changes, of the open call at its place, and a
+# leaves elsewhere: rows at a place, what is read once an entry point has answered that it is there, places of an id, what a client's call changes, of the open call at its place, and a
 # lease stored at its place
 LEAVES = {
     'format_commands': 'plan_entry plan_row_ok',
     'format_image_reader': 'values_in_range',
     'format_log_ends': 'head_server size_at',
     'format_log_reader': 'record_at',
+    'state_checkpoint': 'write_checkpoint',
+    'state_restore': 'clients_of records_of restore restore_sound',
     'server_memory': 'free_in reply',
     'server_found': 'found_state',
+    'server_inspect': 'index_of place_of latest_in',
     'client': 'issue_change resend_answer receive_change',
     'leases': 'stored',
     'simulator_text': 'put_reply',

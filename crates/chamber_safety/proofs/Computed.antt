@@ -4,6 +4,7 @@
 use mathlib.Core.Path.{_≡_, refl}
 use mathlib.Core.Bool.{true}
 use Rattle.model.specs.Yard.{yardPlan}
+use Rattle.claim.specs.World.{storedOf}
 use Rattle.claim.specs.Claim as Claim
 use Rattle.claim.specs.Fence as Fence
 use Rattle.claim.specs.Above as Above
@@ -25,11 +26,11 @@ unfolding openLockEvents Lock.startsOn Lock.changes Lock.hears Lock.lockAfter Ab
 openLock = tt
 
 unfoldable openProvisos : Opens
-unfolding Trace.bytesOk Trace.countedOk Trace.typedOk Trace.sameBytes Trace.isNothing Trace.keptIs Trace.notStarted Trace.startsNew Trace.keepsOk
+unfolding Trace.bytesOk Trace.countedOk Trace.typedOk Trace.sameBytes Trace.isNothing Trace.keptIs Trace.beginsOk Trace.notStarted Trace.startsNew Trace.keepsOk
 openProvisos = tt
 
 unfoldable openTests : Opens
-unfolding openProvisos Trace.requestDone Trace.done Claim.stateGiven Fence.syncedPart Fence.syncedState
+unfolding openProvisos Trace.requestDone Trace.done storedOf Claim.recoveredBy Claim.stateGiven Fence.syncedPart Fence.syncedState
 openTests = tt
 
 unfoldable openLooks : Opens

@@ -1,9 +1,9 @@
 -- A lock's schedule whose events pass their tests keeps the lock's provisos, and what is looked for is there.
 --     lock-provisos
 --     begins-there, executes-there
---     crash-keeps                 what a crash keeps of a server's log
+--     no-crash                    of a schedule without crashes
 -- Assumes nothing.
-use Prim.Native.Nat.{ℕ, zero, suc, _≤_}
+use Prim.Native.Nat.{ℕ, zero, suc}
 use mathlib.Core.Path.{_≡_, refl, sym, _∙_, ap, subst}
 use mathlib.Core.Bool.{Bool, true, false, _&&_, _||_, not}
 use mathlib.Core.List.{List, [], _∷_}
@@ -33,15 +33,15 @@ use Rattle.model.specs.Packets.{parsePacket}
 use Rattle.model.specs.States.{State, pointAt, isHeld}
 use Rattle.model.specs.Refusals.{noRefusal}
 use Rattle.model.specs.Operations.{answerOf}
-use Rattle.claim.specs.World.{World, Event, request, crash, start, issue, resend, receive, Server, nothing, running, crashed, Lent, packet, step, after}
+use Rattle.claim.specs.World.{World, Event, request, crash, start, issue, resend, receive, Server, nothing, running, storing, crashed, storedOf, Lent, packet, step, after}
 use Rattle.claim.specs.Provisos.{At, Provisos}
-use Rattle.claim.specs.Claim.{Issues, Executes, stateGiven}
-use Rattle.claim.specs.Fence.{NoticedIn, FencedIn, syncedState, Fenced}
+use Rattle.claim.specs.Claim.{Issues, Executes, recoveredBy, stateGiven}
+use Rattle.claim.specs.Fence.{NoticedIn, FencedIn, syncedPart, syncedState, Fenced}
 use Rattle.claim.specs.Above.{Site, eventAt, stepSite, emptySite, runSite, siteAfter}
 use Rattle.claim.proofs.Above.{site-world, event-there, event-from}
 use Rattle.claim.proofs.Clients.{at-once, issue-is}
 use Rattle.model_laws.proofs.Tests.{and-left, and-right}
-use Rattle.proof_sanity.specs.Trace.{typedOk, keepsOk, requestAnswer, requestDone, done, keepsMany}
+use Rattle.proof_sanity.specs.Trace.{typedOk, keepsOk, requestAnswer, requestDone, done}
 use Rattle.proof_sanity.proofs.Traced.{provisos-from, done-world, done-answer, answer-of}
 use Rattle.chamber_claim.specs.declared.LockPoints.{LockPoints}
 use Rattle.chamber_claim.specs.declared.Chamber.{Chamber}
@@ -50,7 +50,7 @@ use Rattle.chamber_claim.specs.Chamber.{startIn, issueIn}
 use Rattle.chamber_claim.specs.Lock.{LockEvent, kernel, begin, command, again, hear, Lock, unlessRefused, startEvent, unlessNotSent, issueEvent, ifThere, lockEvent, lockAfter, lockProduct}
 use Rattle.chamber_claim.specs.Safe.{events, lockAt, AtLock, Begins, IsGate, LockProvisos}
 use Rattle.chamber_safety.specs.Kept.{isNone, gateOk, asideOk, heldIn, noticeIs, heardIn, successorOk, lockOk, Look, starting, executing}
-use Rattle.chamber_safety.specs.Kept.{startedAs, startsIn, doneSilently, sameCommand, asksFor, packetAsks, executesIn, beginsIn, looked, eventOk, passes, cutOk}
+use Rattle.chamber_safety.specs.Kept.{startedAs, startsIn, doneSilently, sameCommand, asksFor, packetAsks, executesIn, beginsIn, looked, eventOk, passes, noCrash, uncut}
 
 untrue : {A : Type 0} → false ≡ true → A
 untrue e = let z : _≡_ {A = ℕ} 0 1 = cc in absurd (omega arith)
@@ -99,15 +99,21 @@ heard-in x (some st) none e = untrue e
 heard-in x (some st) (some b) e = (st, b, refl, refl, e)
 
 -- the state that a server counts with does not depend on the schedule
+recovered-any : (plan : List ℕ) (es fs : List Event) (k log : List ℕ) → recoveredBy plan es k log ≡ recoveredBy plan fs k log
+unfolding recoveredBy
+recovered-any plan es fs [] log = refl
+recovered-any plan es fs (b ∷ k) log = refl
+
 given-any : (plan : List ℕ) (es fs : List Event) (s : Server) → stateGiven plan es s ≡ stateGiven plan fs s
 unfolding stateGiven
 given-any plan es fs nothing = refl
-given-any plan es fs (running state log) = refl
-given-any plan es fs (crashed kept mark) = refl
+given-any plan es fs (running k state log) = refl
+given-any plan es fs (storing k log next state tail) = refl
+given-any plan es fs (crashed k kept mark) = recovered-any plan es fs (k .checkpoint) kept
 
 synced-any : (plan : List ℕ) (es fs : List Event) (s : Server) → syncedState plan es s ≡ syncedState plan fs s
 unfolding syncedState
-synced-any plan es fs s = refl
+synced-any plan es fs s = recovered-any plan es fs (storedOf s .checkpoint) (syncedPart s)
 
 successor-is : (plan : List ℕ) (es : List Event) (s : LockPoints) (c k : ℕ) (w : World) (x p : ℕ) → successorOk plan s c k w (some x) ≡ true
     → (p ≡ s .upper) ⊎ (p ≡ s .lower) → FencedIn (stateGiven plan es) (syncedState plan es) w x p
@@ -317,6 +323,7 @@ module _ (plan : List ℕ) (s : LockPoints) (c k : ℕ) where
           versions = v;
           lent = t;
           event = kernel-at n (request d p v t) e;
+          stored = A .stored;
           state = A .state;
           log = A .log;
           up = A .up;
@@ -365,18 +372,15 @@ unfolding ifThere
 hear-keeps c b none x n e = let z : _≡_ {A = ℕ} 0 1 = cc in omega arith
 hear-keeps c b (some ch) x n e = let z : _≡_ {A = ℕ} 0 1 = cc in omega arith
 
-pub crash-keeps : (plan : List ℕ) (s : LockPoints) (ls : List LockEvent) (c m : ℕ) → every (cutOk c m) ls ≡ true → (n b : ℕ) → At plan (events plan s ls) n (crash c b) → m ≤ b
-unfolding At eventAt lockEvent cutOk keepsMany
-crash-keeps plan s ls c m h n b a =
+pub no-crash : (plan : List ℕ) (s : LockPoints) (ls : List LockEvent) → every uncut ls ≡ true → (n c b : ℕ) → At plan (events plan s ls) n (crash c b) → ⊥
+unfolding At eventAt lockEvent uncut noCrash
+no-crash plan s ls h n c b a =
     let f = event-from (lockProduct s) ls n (crash c b) a in
-    go (f .0) (every-at (cutOk c m) ls n (f .0) h (f .1)) (f .2)
+    go (f .0) (every-at uncut ls n (f .0) h (f .1)) (f .2)
   where
-    own : (not (eqb c c) || leb m b) ≡ true → m ≤ b
-    own r = leb-true m b (simp (eq-eqb c c refl) at r)
-
-    go : (o : LockEvent) → cutOk c m o ≡ true → eventAt (lockProduct s) (siteAfter (lockProduct s) ls n) o ≡ crash c b → m ≤ b
-    go (kernel e) t q = own (rw q at t)
-    go (begin p) t q = absurd (start-keeps c b s _ p q)
-    go (command x op p r) t q = absurd (issue-keeps c b _ x op p r q)
-    go (again x p) t q = absurd (again-keeps c b _ x p q)
-    go (hear x p) t q = absurd (hear-keeps c b _ x p q)
+    go : (o : LockEvent) → uncut o ≡ true → eventAt (lockProduct s) (siteAfter (lockProduct s) ls n) o ≡ crash c b → ⊥
+    go (kernel e) t q = untrue (rw q at t)
+    go (begin p) t q = start-keeps c b s _ p q
+    go (command x op p r) t q = issue-keeps c b _ x op p r q
+    go (again x p) t q = again-keeps c b _ x p q
+    go (hear x p) t q = hear-keeps c b _ x p q

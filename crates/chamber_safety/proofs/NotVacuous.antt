@@ -2,7 +2,7 @@
 -- starts and opens the lower gate. Both openings survive.
 --     not-vacuous
 -- Assumes nothing.
-use Prim.Native.Nat.{ℕ, suc}
+use Prim.Native.Nat.{ℕ}
 use mathlib.Core.Path.{_≡_, refl, ap, _∙_}
 use mathlib.Core.Bool.{true}
 use mathlib.Core.List.{List}
@@ -15,14 +15,12 @@ use Rattle.model.specs.Versions.{today}
 use Rattle.model.specs.Sequential.{ReadingZ, markedBy, opened}
 use Rattle.model.specs.Yard.{yardPlan}
 use Rattle.model_laws.specs.Opened.{openNumbers, openTables, openPlan, openBook}
-use Rattle.claim.specs.World.{Event, after}
-use Rattle.claim.specs.Provisos.{lengthOf}
+use Rattle.claim.specs.World.{Event}
 use Rattle.claim.specs.Claim.{Executes, SurvivesAt}
-use Rattle.proof_sanity.specs.Trace.{keepsMany}
 use Rattle.chamber_claim.specs.Safe.{events, Begins, IsGate, LockProvisos}
-use Rattle.chamber_safety.specs.Kept.{cutOk}
+use Rattle.chamber_safety.specs.Kept.{noCrash, uncut}
 use Rattle.chamber_safety.specs.Handed.{lockPoints, noticeNumber, lentAll, upperOpened, lowerOpened, handed, looks}
-use Rattle.chamber_safety.proofs.Kept.{lock-provisos, begins-there, executes-there, crash-keeps}
+use Rattle.chamber_safety.proofs.Kept.{lock-provisos, begins-there, executes-there, no-crash}
 use Rattle.chamber_safety.proofs.Computed.{handed-passes}
 
 abbrev es : List Event
@@ -42,8 +40,8 @@ provisos = lock-provisos yardPlan lockPoints 0 noticeNumber handed looks handed-
 
 -- there is no crash
 stands : (n : ℕ) (k : Command) → Executes yardPlan es n 0 (markedBy today k) → SurvivesAt yardPlan es n (markedBy today k)
-unfolding handed every cutOk keepsMany
-stands n k e = record { server = 0; executes = e; kept = λ j b h a. crash-keeps yardPlan lockPoints handed 0 (lengthOf (after es (suc n) .servers 0)) refl j b a }
+unfolding handed every uncut noCrash
+stands n k e = record { server = 0; executes = e; kept = λ j b h a. absurd (no-crash yardPlan lockPoints handed refl j 0 (a .kept) (a .event)) }
 
 upper-opened : SurvivesAt yardPlan es 32 (markedBy today upperOpened)
 unfolding handed looks

@@ -16,7 +16,7 @@ use Rattle.model.specs.Packets.{parsePacket}
 use Rattle.model.specs.Refusals.{noRefusal}
 use Rattle.model.specs.States.{State, pointAt, isHeld}
 use Rattle.claim.specs.World.{Event, found, request, fetch, sync, notice, give, image, take·image, receipt, release}
-use Rattle.claim.specs.World.{recover, crash, start, issue, resend, receive, open·lease, renew, query, World, packet}
+use Rattle.claim.specs.World.{recover, checkpoint, store, recover·tail, inspect, crash, start, issue, resend, receive, open·lease, renew, query, World, packet}
 use Rattle.claim.specs.Claim.{stateGiven}
 use Rattle.claim.specs.Fence.{syncedState}
 use Rattle.claim.specs.Above.{Site}
@@ -25,7 +25,7 @@ use Rattle.chamber_claim.specs.declared.Chamber.{Chamber}
 use Rattle.chamber_claim.specs.declared.ChamberStart.{ChamberStart}
 use Rattle.chamber_claim.specs.Chamber.{startIn}
 use Rattle.chamber_claim.specs.Lock.{LockEvent, kernel, begin, command, again, hear, Lock, lockEvent, lockAfter, lockProduct}
-use Rattle.proof_sanity.specs.Trace.{typedOk, keepsOk, Done, done, keepsMany}
+use Rattle.proof_sanity.specs.Trace.{typedOk, keepsOk, Done, done}
 
 -- ---- other clients
 
@@ -49,6 +49,10 @@ asideOk s l (take·image c p t) = true
 asideOk s l (receipt c p t) = true
 asideOk s l (release c p t) = true
 asideOk s l (recover c state log p) = true
+asideOk s l (checkpoint c tail t) = true
+asideOk s l (store c) = true
+asideOk s l (recover·tail c state k tail) = true
+asideOk s l (inspect c x k) = true
 asideOk s l (crash c k) = true
 asideOk s l (start p) = true
 asideOk s l (issue x op p a) = isNone (l .controllers x) && gateOk s op p
@@ -142,6 +146,10 @@ executesIn k w (take·image c p t) a = false
 executesIn k w (receipt c p t) a = false
 executesIn k w (release c p t) a = false
 executesIn k w (recover c state log p) a = false
+executesIn k w (checkpoint c tail t) a = false
+executesIn k w (store c) a = false
+executesIn k w (recover·tail c state n tail) a = false
+executesIn k w (inspect c x n) a = false
 executesIn k w (crash c n) a = false
 executesIn k w (start p) a = false
 executesIn k w (issue x op p r) a = false
@@ -178,10 +186,34 @@ passes plan s c k t (o ∷ os) (x ∷ xs) =
 
 -- ---- crashes
 
--- a crash of server c keeps m bytes or more
-unfoldable pub cutOk : ℕ → ℕ → LockEvent → Bool
-cutOk c m (kernel e) = keepsMany c m e
-cutOk c m (begin n) = true
-cutOk c m (command x op p a) = true
-cutOk c m (again x n) = true
-cutOk c m (hear x n) = true
+unfoldable pub noCrash : Event → Bool
+noCrash (found c state log p n) = true
+noCrash (request c p v t) = true
+noCrash (fetch c x k t) = true
+noCrash (sync c m t) = true
+noCrash (notice c p t) = true
+noCrash (give c p d t) = true
+noCrash (image c p t) = true
+noCrash (take·image c p t) = true
+noCrash (receipt c p t) = true
+noCrash (release c p t) = true
+noCrash (recover c state log p) = true
+noCrash (checkpoint c tail t) = true
+noCrash (store c) = true
+noCrash (recover·tail c state k tail) = true
+noCrash (inspect c x k) = true
+noCrash (crash c k) = false
+noCrash (start p) = true
+noCrash (issue x op p a) = true
+noCrash (resend x c) = true
+noCrash (receive x p) = true
+noCrash (open·lease t span) = true
+noCrash (renew x t span) = true
+noCrash (query x t) = true
+
+unfoldable pub uncut : LockEvent → Bool
+uncut (kernel e) = noCrash e
+uncut (begin n) = true
+uncut (command x op p a) = true
+uncut (again x n) = true
+uncut (hear x n) = true

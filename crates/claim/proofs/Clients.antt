@@ -24,9 +24,11 @@ use Rattle.model.specs.Refusals.{noRefusal}
 use Rattle.model.specs.Packets.{parsePacket}
 use Rattle.model.specs.Clients.{startOf, issueOf, resendOf, receiveOf}
 use Rattle.model.specs.Operations.{After}
+use Rattle.model.specs.Checkpoints.{checkpointOf}
 use Rattle.model_laws.proofs.Tests.{choose, impossible}
 use Rattle.model_laws.proofs.Clients.{commandOf, issue-command, issue-next, issue-keeps, receive-next, resend-same}
-use Rattle.claim.specs.World.{World, WorldOf, Server, nothing, running, crashed, Lent, Event, found, request, fetch, sync, notice, give, image, take·image, receipt, release, recover, crash}
+use Rattle.claim.specs.World.{World, WorldOf, Stored, Server, nothing, running, storing, crashed, Lent, lentState, lentLog, Event, found, request, fetch, sync, notice, give, image, take·image, receipt, release, recover, crash}
+use Rattle.claim.specs.World.{checkpoint, store, recover·tail, inspect, checkpoints, stores}
 use Rattle.claim.specs.World.{start, issue, resend, receive, open·lease, renew, query, withServer, withClient, withManager, making, calls, callsOn, foundAs, crashAt, startsAs, startsOn}
 use Rattle.claim.specs.World.{sends, receives, told, packet, step, emptyWorld, runFrom, run, after}
 use Rattle.claim.specs.Provisos.{At, Provisos}
@@ -42,23 +44,40 @@ making-clients (x ∷ b) w = refl
 calls-clients : (c : ℕ) (l : Lent) (f : List ℕ → List ℕ → After) (s : Server) (w : World) → calls c l f s w .clients ≡ w .clients
 unfolding calls withServer
 calls-clients c l f nothing w = refl
-calls-clients c l f (running state log) w = making-clients _ _
-calls-clients c l f (crashed log mark) w = refl
+calls-clients c l f (running k state log) w = making-clients _ _
+calls-clients c l f (storing k log next state tail) w = refl
+calls-clients c l f (crashed k log mark) w = refl
 
 on-clients : (c : ℕ) (l : Lent) (f : List ℕ → List ℕ → List ℕ → After) (b : Option (List ℕ)) (w : World) → callsOn c l f b w .clients ≡ w .clients
 unfolding callsOn
 on-clients c l f none w = refl
 on-clients c l f (some b) w = calls-clients c l (λ s g. f s g b) (w .servers c) w
 
-found-clients : (c : ℕ) (a : After) (w : World) → foundAs c a w .clients ≡ w .clients
+found-clients : (c : ℕ) (k : Stored) (a : After) (w : World) → foundAs c k a w .clients ≡ w .clients
 unfolding foundAs withServer
-found-clients c a w = choose (λ (v : World). v .clients ≡ w .clients) (eqb (a .answer .refusal) noRefusal) (λ _. refl) (λ _. refl)
+found-clients c k a w = choose (λ (v : World). v .clients ≡ w .clients) (eqb (a .answer .refusal) noRefusal) (λ _. refl) (λ _. refl)
 
 crash-clients : (c k : ℕ) (s : Server) (w : World) → crashAt c k s w .clients ≡ w .clients
 unfolding crashAt withServer
 crash-clients c k nothing w = refl
-crash-clients c k (running state log) w = refl
-crash-clients c k (crashed log mark) w = refl
+crash-clients c n (running k state log) w = refl
+crash-clients c n (storing k log next state tail) w = refl
+crash-clients c n (crashed k log mark) w = refl
+
+checkpoint-clients : (c : ℕ) (t : List ℕ) (l : Lent) (s : Server) (w : World) → checkpoints c t l s w .clients ≡ w .clients
+unfolding checkpoints withServer
+checkpoint-clients c t l nothing w = refl
+checkpoint-clients c t l (running k state log) w =
+    choose (λ (v : World). v .clients ≡ w .clients) (eqb (checkpointOf (lentState l state) (lentLog l log) (l .out) t .answer .refusal) noRefusal) (λ _. refl) (λ _. refl)
+checkpoint-clients c t l (storing k log next state tail) w = refl
+checkpoint-clients c t l (crashed k log mark) w = refl
+
+store-clients : (c : ℕ) (s : Server) (w : World) → stores c s w .clients ≡ w .clients
+unfolding stores withServer
+store-clients c nothing w = refl
+store-clients c (running k state log) w = refl
+store-clients c (storing k log next state tail) w = refl
+store-clients c (crashed k log mark) w = refl
 
 -- ---- a run
 
@@ -104,7 +123,7 @@ module _ (plan : List ℕ) (es : List Event) where
 
     step-becomes : (e : Event) → At plan es n e → Becomes n x (step (after es n) e .clients x)
     unfolding step startsOn startsAs sends receives told withClient withManager
-    step-becomes (found c state log plan k) h = as-still (found c state log plan k) (found-clients _ _ _)
+    step-becomes (found c state log plan k) h = as-still (found c state log plan k) (found-clients _ _ _ _)
     step-becomes (request c p v l) h = as-still (request c p v l) (on-clients _ _ _ _ _)
     step-becomes (fetch c y k l) h = as-still (fetch c y k l) (calls-clients _ _ _ _ _)
     step-becomes (sync c m l) h = as-still (sync c m l) (calls-clients _ _ _ _ _)
@@ -114,7 +133,11 @@ module _ (plan : List ℕ) (es : List Event) where
     step-becomes (take·image c p l) h = as-still (take·image c p l) (on-clients _ _ _ _ _)
     step-becomes (receipt c p l) h = as-still (receipt c p l) (calls-clients _ _ _ _ _)
     step-becomes (release c p l) h = as-still (release c p l) (on-clients _ _ _ _ _)
-    step-becomes (recover c state log plan) h = as-still (recover c state log plan) (found-clients _ _ _)
+    step-becomes (recover c state log plan) h = as-still (recover c state log plan) (found-clients _ _ _ _)
+    step-becomes (checkpoint c t l) h = as-still (checkpoint c t l) (checkpoint-clients _ _ _ _ _)
+    step-becomes (store c) h = as-still (store c) (store-clients _ _ _)
+    step-becomes (recover·tail c state k t) h = as-still (recover·tail c state k t) (found-clients _ _ _ _)
+    step-becomes (inspect c y k) h = as-still (inspect c y k) refl
     step-becomes (crash c k) h = as-still (crash c k) (crash-clients _ _ _ _)
     step-becomes (start p) h = go (packet (after es n) p) refl
       where

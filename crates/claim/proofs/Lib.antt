@@ -3,3 +3,4 @@ pub mod Cases
 pub mod Values
 pub mod Above
 pub mod Clients
+pub mod Stored

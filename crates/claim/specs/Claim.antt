@@ -25,10 +25,11 @@ use Rattle.model.specs.Sequential.{Marked, markedBy, OrderEntry, parts, command
 use Rattle.model.specs.Packets.{parsePacket}
 use Rattle.model.specs.States.{State, load, pointAt}
 use Rattle.model.specs.Operations.{After, answerOf, requestOf, recoveredState}
+use Rattle.model.specs.Checkpoints.{recoveredTail}
 use Rattle.model.specs.Clients.{callAt, issueOf, receiveOf}
 use Rattle.model.specs.Refusals.{noRefusal}
-use Rattle.claim.specs.World.{Event, request, crash, issue, receive, Lent, WorldOf, Server, nothing, running, crashed, run, after, packet, lentState, lentLog}
-use Rattle.claim.specs.Provisos.{Provisos, At, lengthOf}
+use Rattle.claim.specs.World.{Event, request, crash, issue, receive, Lent, WorldOf, Stored, Server, nothing, running, storing, crashed, storedOf, run, after, packet, lentState, lentLog}
+use Rattle.claim.specs.Provisos.{Provisos, At, reachOf}
 
 abbrev pub _∈_ {ℓ} : {A : Type ℓ} → A → List A → Type ℓ
 _∈_ a l = List·Memᴰ a l
@@ -159,9 +160,10 @@ module _ (plan : List ℕ) (es : List Event) where
     pub versions : Versions
     pub lent : Lent
     pub event : At plan es n (request c number versions lent)
+    pub stored : Stored
     pub state : List ℕ
     pub log : List ℕ
-    pub up : after es n .servers c ≡ running state log
+    pub up : after es n .servers c ≡ running stored state log
     pub bytes : List ℕ
     pub delivered : packet (after es n) number ≡ some bytes
     pub answer : requestOf versions (lentState lent state) (lentLog lent log) bytes (lent .out) .answer ≡ answerOf noRefusal 0
@@ -169,22 +171,34 @@ module _ (plan : List ℕ) (es : List Event) where
     pub parsed : parsePacket bytes ≡ Requested asked
     pub its : markedBy versions (asked .command) ≡ m
 
+  -- event n is a crash of server c that keeps b bytes, counted from the founding: what a checkpoint replaced is kept in it
+  pub record Crashes (n c b : ℕ) : Type 0 where
+    pub kept : ℕ
+    pub event : At plan es n (crash c kept)
+    pub reaches : b ≡ storedOf (after es n .servers c) .replaced + kept
+
   -- event n executes m, and that execution survives
   abbrev pub SurvivesAt : ℕ → Marked → Type 0
-  SurvivesAt = SurvivesAtBy Executes (λ n c b. At plan es n (crash c b)) (λ n c. lengthOf (after es n .servers c))
+  SurvivesAt = SurvivesAtBy Executes Crashes (λ n c. reachOf (after es n .servers c))
 
-  -- as long as it is down, a crashed server counts with the state that recover would give
+  -- what recovery gives by what is in force: the log, or checkpoint and tail
+  unfoldable pub recoveredBy : List ℕ → List ℕ → Option State
+  recoveredBy [] log = recoveredState (planOf plan) log
+  recoveredBy (b ∷ bs) log = recoveredTail (b ∷ bs) log
+
+  -- as long as it is down, a crashed server counts with the state that recovery would give
   unfoldable pub stateGiven : Server → Option State
   stateGiven nothing = none
-  stateGiven (running state log) = some (load state)
-  stateGiven (crashed kept mark) = recoveredState (planOf plan) kept
+  stateGiven (running k state log) = some (load state)
+  stateGiven (storing k log next state tail) = some (load state)
+  stateGiven (crashed k kept mark) = recoveredBy (k .checkpoint) kept
 
   unfoldable pub finalState : ℕ → Option State
   finalState c = stateGiven (run es .servers c)
 
   -- every server that a crash left recovers from what the crash kept
   abbrev pub Recovers : Type 0
-  Recovers = (c : ℕ) (kept : List ℕ) (mark : ℕ) → run es .servers c ≡ crashed kept mark → (st : State) × (recoveredState (planOf plan) kept ≡ some st)
+  Recovers = (c : ℕ) (k : Stored) (kept : List ℕ) (mark : ℕ) → run es .servers c ≡ crashed k kept mark → (st : State) × (recoveredBy (k .checkpoint) kept ≡ some st)
 
   -- what demand 3 reads of the schedule
   abbrev pub account : Account

@@ -11,14 +11,12 @@ use lib.ListN.{take}
 use Rattle.model.specs.declared.Command.{Command}
 use Rattle.model.specs.declared.Notice.{Notice}
 use Rattle.model.specs.declared.Packet.the-variants.{Noticed}
-use Rattle.model.specs.Plan.{planOf}
 use Rattle.model.specs.Sequential.{Marked}
 use Rattle.model.specs.Packets.{parsePacket}
 use Rattle.model.specs.States.{State, load, pointAt, isHeld}
-use Rattle.model.specs.Operations.{recoveredState}
-use Rattle.claim.specs.World.{Event, WorldOf, Server, nothing, running, crashed, after, packet}
+use Rattle.claim.specs.World.{Event, WorldOf, Server, nothing, running, storing, crashed, storedOf, after, packet}
 use Rattle.claim.specs.Provisos.{Provisos}
-use Rattle.claim.specs.Claim.{Issues, Executes, stateGiven}
+use Rattle.claim.specs.Claim.{Issues, Executes, recoveredBy, stateGiven}
 
 -- ---- of any run: servers of type S
 
@@ -55,12 +53,13 @@ pub record FencesBy (Issues : ℕ → List Command → Type 0) (Executes : ℕ �
 -- the synced part of a server's log
 unfoldable pub syncedPart : Server → List ℕ
 syncedPart nothing = []
-syncedPart (running state log) = take (load state .mark) log
-syncedPart (crashed kept mark) = take mark kept
+syncedPart (running k state log) = take (load state .mark) log
+syncedPart (storing k log next state tail) = log
+syncedPart (crashed k kept mark) = take mark kept
 
 module _ (plan : List ℕ) (es : List Event) where
   unfoldable pub syncedState : Server → Option State
-  syncedState s = recoveredState (planOf plan) (syncedPart s)
+  syncedState s = recoveredBy plan es (storedOf s .checkpoint) (syncedPart s)
 
   -- after n events client x is fenced off from point p
   abbrev pub Fenced : ℕ → ℕ → ℕ → Type 0

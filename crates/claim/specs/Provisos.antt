@@ -3,19 +3,20 @@
 --     "only the operations change state and log": `running` holds what the last call left, and a call is lent just that
 --     "the lease office keeps its state": there is one manager, and each call of it gets what the last one left
 -- Assumes nothing.
-use Prim.Native.Nat.{ℕ, _*_, _≤_, _<_}
+use Prim.Native.Nat.{ℕ, _+_, _*_, _≤_, _<_}
 use mathlib.Core.Path.{_≡_}
 use mathlib.Core.List.{List, []}
 use mathlib.Core.Option.{Option, none, some}
-use lib.ListN.{length, getD, getElem?}
+use lib.ListN.{length, take, getD, getElem?}
 use Rattle.model.specs.declared.Client.{Client}
 use Rattle.model.specs.declared.Started.the-variants.{Running}
 use Rattle.model.specs.Numbers.{word}
 use Rattle.model.specs.Operations.{After, foundOf, recoverOf}
+use Rattle.model.specs.Checkpoints.{recoverTailOf}
 use Rattle.model.specs.States.{load}
 use Rattle.model.specs.Clients.{startOf}
 use Rattle.model.specs.Refusals.{noRefusal}
-use Rattle.claim.specs.World.{Event, found, request, fetch, sync, notice, give, image, take·image, receipt, release, recover, crash, start, issue, resend, receive, open·lease, renew, query, Lent, World, Server, nothing, running, crashed, after, packet}
+use Rattle.claim.specs.World.{Event, found, request, fetch, sync, notice, give, image, take·image, receipt, release, recover, checkpoint, store, recover·tail, inspect, crash, start, issue, resend, receive, open·lease, renew, query, Lent, World, Server, nothing, running, storing, crashed, storedOf, after, packet}
 
 -- a list of bytes
 unfoldable pub Bytes : List ℕ → Type 0
@@ -39,6 +40,10 @@ Typed (take·image c p l) = Counted l
 Typed (receipt c p l) = Counted l
 Typed (release c p l) = Counted l
 Typed (recover c state log plan) = Bytes state
+Typed (checkpoint c tail l) = Counted l
+Typed (store c) = Unit
+Typed (recover·tail c state k tail) = Bytes state
+Typed (inspect c x k) = Unit
 Typed (crash c k) = Unit
 Typed (start p) = Unit
 Typed (issue x op p a) = Unit
@@ -48,22 +53,34 @@ Typed (open·lease t span) = t < word
 Typed (renew x t span) = t < word
 Typed (query x t) = t < word
 
--- the log that a running server has, or that a crash kept
+-- the log that a running server has, or that a crash kept: what recovery may use
 unfoldable pub keptBy : Server → Option (List ℕ)
 keptBy nothing = none
-keptBy (running state log) = some log
-keptBy (crashed kept mark) = some kept
+keptBy (running k state log) = some log
+keptBy (storing k log next state tail) = none
+keptBy (crashed k kept mark) = some kept
 
--- the sync mark and the length of a server's log
+-- a checkpoint is in force, and the slice begins with its bytes
+pub record Begins (checkpoint slice : List ℕ) : Type 0 where
+  pub some·bytes : 1 ≤ length checkpoint
+  pub front : take (length checkpoint) slice ≡ checkpoint
+
+-- the sync mark and the length of a server's log; all of it is synced while a checkpoint is being stored
 unfoldable pub markOf : Server → ℕ
 markOf nothing = 0
-markOf (running state log) = load state .mark
-markOf (crashed kept mark) = mark
+markOf (running k state log) = load state .mark
+markOf (storing k log next state tail) = length log
+markOf (crashed k kept mark) = mark
 
 unfoldable pub lengthOf : Server → ℕ
 lengthOf nothing = 0
-lengthOf (running state log) = length log
-lengthOf (crashed kept mark) = length kept
+lengthOf (running k state log) = length log
+lengthOf (storing k log next state tail) = length log
+lengthOf (crashed k kept mark) = length kept
+
+-- the same counted from the founding, with what checkpoints replaced
+unfoldable pub reachOf : Server → ℕ
+reachOf s = storedOf s .replaced + lengthOf s
 
 module _ (plan : List ℕ) (es : List Event) where
   -- event number n
@@ -81,11 +98,15 @@ module _ (plan : List ℕ) (es : List Event) where
     -- "and are founded once": only a refused found is called again
     pub founded-once : (n c : ℕ) (state log p : List ℕ) (k : ℕ) → At n (found c state log p k) → foundOf state log p k .answer .refusal ≡ noRefusal
         → after es n .servers c ≡ nothing
-    -- "a crash keeps a prefix of the log not shorter than its synced part"
+    -- "a crash keeps a prefix of the log not shorter than its synced part", and "the last stored checkpoint whole"
     pub crash-keeps : (n c k : ℕ) → At n (crash c k) → (markOf (after es n .servers c) ≤ k) × (k ≤ lengthOf (after es n .servers c))
-    -- "recovery uses that prefix": what the crash kept; without a crash, the log up to its recorded length (bytes past it are no log)
+    -- "recovery uses that prefix": what the crash kept; without a crash, the log up to its recorded length (bytes past it are no log). No checkpoint is
+    -- stored: recover cannot tell a tail from a whole log
     pub recovery-uses : (n c : ℕ) (state log p : List ℕ) → At n (recover c state log p) → recoverOf state log p .answer .refusal ≡ noRefusal
-        → keptBy (after es n .servers c) ≡ some log
+        → (keptBy (after es n .servers c) ≡ some log) × (storedOf (after es n .servers c) .checkpoint ≡ [])
+    -- once a checkpoint is stored, "recovery uses these two only": it, whole, and what the crash kept of its own tail
+    pub recovery-uses-both : (n c : ℕ) (state k tail : List ℕ) → At n (recover·tail c state k tail) → recoverTailOf state k tail .answer .refusal ≡ noRefusal
+        → (keptBy (after es n .servers c) ≡ some tail) × Begins (storedOf (after es n .servers c) .checkpoint) k
     -- "each client number starts one desk, once"
     pub started-once : (n p : ℕ) (b : List ℕ) → At n (start p) → packet (after es n) p ≡ some b → startOf b .answer ≡ Running
         → after es n .clients (startOf b .client .client) ≡ none

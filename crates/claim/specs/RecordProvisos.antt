@@ -4,7 +4,7 @@
 --     "recovery uses that prefix": recover works on the records that the crash kept
 --     "the lease office keeps its state": there is one manager, and each call of it gets what the last one left
 -- Assumes nothing.
-use Prim.Native.Nat.{ℕ, _*_, _≤_, _<_}
+use Prim.Native.Nat.{ℕ, _≤_, _<_}
 use mathlib.Core.Path.{_≡_}
 use mathlib.Core.List.{List}
 use mathlib.Core.Option.{none, some}
@@ -17,18 +17,19 @@ use Rattle.claim.specs.World.{packet}
 use Rattle.claim.specs.Provisos.{Bytes}
 use Rattle.claim.specs.RecordWorld.{Event, found, request, fetch, sync, notice, give, image, take·image, receipt, release, recover, crash, start, issue, resend, receive, open·lease, renew, query, Log, Server, nothing, running, crashed, foundOf, recoverOf, keptBy, after}
 
--- what the interface's types say and the conclusion needs, as over bytes
+-- what the interface's types say and the conclusion needs, as over bytes. A log's length has no bound here: with checkpoints, places counted from the
+-- founding may pass 64 bits
 unfoldable pub Typed : Event → Type 0
 Typed (found c plan n) = Bytes plan
-Typed (request c p v room) = room < word * word
-Typed (fetch c x k room) = room < word * word
-Typed (sync c m room) = room < word * word
-Typed (notice c p room) = room < word * word
-Typed (give c p d room) = room < word * word
-Typed (image c p room) = room < word * word
-Typed (take·image c p room) = room < word * word
-Typed (receipt c p room) = room < word * word
-Typed (release c p room) = room < word * word
+Typed (request c p v room) = Unit
+Typed (fetch c x k room) = Unit
+Typed (sync c m room) = Unit
+Typed (notice c p room) = Unit
+Typed (give c p d room) = Unit
+Typed (image c p room) = Unit
+Typed (take·image c p room) = Unit
+Typed (receipt c p room) = Unit
+Typed (release c p room) = Unit
 Typed (recover c plan) = Unit
 Typed (crash c k) = Unit
 Typed (start p) = Unit

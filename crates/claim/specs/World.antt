@@ -1,7 +1,7 @@
 -- All parties, run over a schedule: servers (paper: cabinets) with their bytes, clients (desks), the lease manager (lease office),
 -- and every packet and image made. Each event runs the definition that the call's contract cites.
 -- Assumes nothing.
-use Prim.Native.Nat.{ℕ, zero, suc, _+_}
+use Prim.Native.Nat.{ℕ, zero, suc, _+_, _-_}
 use mathlib.Core.Bool.{Bool, true, false}
 use mathlib.Core.List.{List, [], _∷_, _++_}
 use mathlib.Core.Option.{Option, none, some}
@@ -21,18 +21,31 @@ use Rattle.model.specs.Choice.{pick}
 use Rattle.model.specs.Versions.{Versions}
 use Rattle.model.specs.States.{State, load}
 use Rattle.model.specs.Operations.{After, foundOf, requestOf, fetchOf, syncOf, noticeOf, giveOf, imageOf, takeOf, receiptOf, releaseOf, recoverOf}
+use Rattle.model.specs.Checkpoints.{AfterCheckpoint, checkpointOf, recoverTailOf}
+use Rattle.model.specs.Limits.{headSize}
 use Rattle.model.specs.Clients.{startOf, issueOf, resendOf, receiveOf, sentBytes}
 use Rattle.model.specs.Leases.{newManager, openOf, renewOf, queryOf, toldBytes}
 use Rattle.model.specs.Refusals.{noRefusal}
 
 -- ---- parties
 
--- `running state log`: the whole state buffer, and the log up to its recorded length. `crashed kept mark`: no state, the bytes
--- that a crash kept, and the sync mark of the time before it
+-- beside its log a server has in force: the latest checkpoint that the host stored, empty as long as there was none; and the number of bytes of log
+-- records that stored checkpoints took the place of
+pub record Stored : Type 0 where
+  pub checkpoint : List ℕ
+  pub replaced : ℕ
+
+abbrev pub nothingStored : Stored
+nothingStored = record { checkpoint = []; replaced = 0 }
+
+-- `running k state log`: the whole state buffer, and the log up to its recorded length; it is the tail of k's checkpoint, if there is one.
+-- `storing k log next state tail`: a checkpoint was made and is not yet stored. In force are k and the log; with the store come next, and the
+-- state and the tail that the call left. `crashed k kept mark`: no state, the bytes that a crash kept, and the sync mark of the time before it
 pub data Server : Type 0 where
   nothing : Server
-  running : List ℕ → List ℕ → Server
-  crashed : List ℕ → ℕ → Server
+  running : Stored → List ℕ → List ℕ → Server
+  storing : Stored → List ℕ → Stored → List ℕ → List ℕ → Server
+  crashed : Stored → List ℕ → ℕ → Server
 
 -- a world whose servers are of type S: here bytes, in RecordWorld states and log records
 pub record WorldOf (S : Type 0) : Type 0 where
@@ -54,7 +67,8 @@ pub record Lent : Type 0 where
   pub tail : List ℕ
   pub out : List ℕ
 
--- the eighteen calls, with their arguments, and crashes. A packet or image is named by its number among those made, from 0
+-- the twenty-one calls, with their arguments, the storing of a checkpoint, and crashes. A packet or image is named by its number among those made,
+-- from 0
 pub data Event : Type 0 where
   found : ℕ → List ℕ → List ℕ → List ℕ → ℕ → Event  -- server, state and log buffers, plan, server number
   request : ℕ → ℕ → Versions → Lent → Event  -- server, packet, the versions its program executes by: any at any event and server
@@ -67,6 +81,10 @@ pub data Event : Type 0 where
   receipt : ℕ → ℕ → Lent → Event  -- server, point
   release : ℕ → ℕ → Lent → Event  -- server, packet
   recover : ℕ → List ℕ → List ℕ → List ℕ → Event  -- server, state buffer, kept log, plan
+  checkpoint : ℕ → List ℕ → Lent → Event  -- server, buffer of the tail's head; the output is the checkpoint's buffer
+  store : ℕ → Event  -- server: the host has stored its checkpoint with the tail's head
+  recover·tail : ℕ → List ℕ → List ℕ → List ℕ → Event  -- server, state buffer, checkpoint, kept tail
+  inspect : ℕ → ℕ → ℕ → Event  -- server, client, call
   crash : ℕ → ℕ → Event  -- server, bytes kept
   start : ℕ → Event  -- packet
   issue : ℕ → ℕ → ℕ → ℕ → Event  -- client, op, point, argument
@@ -108,28 +126,54 @@ stateBack l state a = a .state ++ drop (l .state) state
 unfoldable pub logBack : Lent → List ℕ → List ℕ → After → List ℕ
 logBack l state log a = take (load (stateBack l state a) .size) (a .log ++ drop (l .log) (log ++ l .tail))
 
--- a call of a running server: its buffers, and what it made. A server that is not running takes no call but found and recover
+-- a call of a running server: its buffers, and what it made. A server that is not running takes no call but found and the two recoveries: "until the
+-- checkpoint is stored .. the host calls nothing else"
 unfoldable pub calls : ℕ → Lent → (List ℕ → List ℕ → After) → Server → World → World
 calls c l f nothing w = w
-calls c l f (running state log) w =
+calls c l f (running k state log) w =
     let a = f (lentState l state) (lentLog l log) in
-    making (take (a .answer .wrote) (a .out)) (withServer c (running (stateBack l state a) (logBack l state log a)) w)
-calls c l f (crashed kept mark) w = w
+    making (take (a .answer .wrote) (a .out)) (withServer c (running k (stateBack l state a) (logBack l state log a)) w)
+calls c l f (storing k log next state tail) w = w
+calls c l f (crashed k kept mark) w = w
 
 -- a call of a server on a packet or image made
 unfoldable pub callsOn : ℕ → Lent → (List ℕ → List ℕ → List ℕ → After) → Option (List ℕ) → World → World
 callsOn c l f none w = w
 callsOn c l f (some b) w = calls c l (λ s g. f s g b) (w .servers c) w
 
--- found and recover: on success the server runs with what they wrote; a refusal leaves it as it was
-unfoldable pub foundAs : ℕ → After → World → World
-foundAs c a w = pick (eqb (a .answer .refusal) noRefusal) (withServer c (running (a .state) (take (load (a .state) .size) (a .log))) w) w
+-- what is in force
+unfoldable pub storedOf : Server → Stored
+storedOf nothing = nothingStored
+storedOf (running k state log) = k
+storedOf (storing k log next state tail) = k
+storedOf (crashed k kept mark) = k
 
--- a crash leaves no state and the log's first k bytes
+-- found and the two recoveries: on success the server runs with what they wrote and what is in force; a refusal leaves it as it was
+unfoldable pub foundAs : ℕ → Stored → After → World → World
+foundAs c k a w = pick (eqb (a .answer .refusal) noRefusal) (withServer c (running k (a .state) (take (load (a .state) .size) (a .log))) w) w
+
+-- a checkpoint made: it replaces the log's records, once it is stored. A refusal leaves the server as it was
+unfoldable pub checkpoints : ℕ → List ℕ → Lent → Server → World → World
+checkpoints c tail l nothing w = w
+checkpoints c tail l (running k state log) w =
+    let a = checkpointOf (lentState l state) (lentLog l log) (l .out) tail in
+    let next : Stored = record { checkpoint = take (a .answer .wrote) (a .checkpoint); replaced = k .replaced + (length log - headSize) } in
+    pick (eqb (a .answer .refusal) noRefusal) (withServer c (storing k log next (a .state ++ drop (l .state) state) (take headSize (a .tail))) w) w
+checkpoints c tail l (storing k log next state t) w = w
+checkpoints c tail l (crashed k kept mark) w = w
+
+unfoldable pub stores : ℕ → Server → World → World
+stores c nothing w = w
+stores c (running k state log) w = w
+stores c (storing k log next state tail) w = withServer c (running next state tail) w
+stores c (crashed k kept mark) w = w
+
+-- a crash leaves no state, what is in force, and the log's first n bytes; a checkpoint that is not stored yet is lost, and its log was synced whole
 unfoldable pub crashAt : ℕ → ℕ → Server → World → World
-crashAt c k nothing w = w
-crashAt c k (running state log) w = withServer c (crashed (take k log) (load state .mark)) w
-crashAt c k (crashed kept mark) w = withServer c (crashed (take k kept) mark) w
+crashAt c n nothing w = w
+crashAt c n (running k state log) w = withServer c (crashed k (take n log) (load state .mark)) w
+crashAt c n (storing k log next state tail) w = withServer c (crashed k (take n log) (length log)) w
+crashAt c n (crashed k kept mark) w = withServer c (crashed k (take n kept) mark) w
 
 -- ---- clients
 
@@ -161,7 +205,7 @@ unfoldable pub packet : {S : Type 0} → WorldOf S → ℕ → Option (List ℕ)
 packet w n = getElem? (w .made) n
 
 unfoldable pub step : World → Event → World
-step w (found c state log plan n) = foundAs c (foundOf state log plan n) w
+step w (found c state log plan n) = foundAs c nothingStored (foundOf state log plan n) w
 step w (request c p v l) = callsOn c l (λ s g b. requestOf v s g b (l .out)) (packet w p) w
 step w (fetch c x k l) = calls c l (λ s g. fetchOf s g x k (l .out)) (w .servers c) w
 step w (sync c m l) = calls c l (λ s g. syncOf s g m) (w .servers c) w
@@ -171,7 +215,11 @@ step w (image c p l) = calls c l (λ s g. imageOf s g p (l .out)) (w .servers c)
 step w (take·image c p l) = callsOn c l takeOf (packet w p) w
 step w (receipt c p l) = calls c l (λ s g. receiptOf s g p (l .out)) (w .servers c) w
 step w (release c p l) = callsOn c l releaseOf (packet w p) w
-step w (recover c state log plan) = foundAs c (recoverOf state log plan) w
+step w (recover c state log plan) = foundAs c (storedOf (w .servers c)) (recoverOf state log plan) w
+step w (checkpoint c tail l) = checkpoints c tail l (w .servers c) w
+step w (store c) = stores c (w .servers c) w
+step w (recover·tail c state k tail) = foundAs c (storedOf (w .servers c)) (recoverTailOf state k tail) w
+step w (inspect c x k) = w
 step w (crash c k) = crashAt c k (w .servers c) w
 step w (start p) = startsOn (packet w p) w
 step w (issue x op p a) = sends x (λ d. issueOf d op p a) (w .clients x) w

@@ -21,6 +21,7 @@ ghost use lib.ListN.{length};
 ghost use Rattle.model.specs.Numbers.{join32, word, le32At, le32, le64At, le64, signedAt, signed32, flip, zeroAt, zeros3At, quad};
 ghost use Rattle.model.specs.Tables.{written};
 ghost use Rattle.model.specs.Plan.{inRange};
+ghost use Rattle.model_laws.specs.Bytes.{part};
 ghost use Rattle.model.specs.Rules.{inArguments, argumentOk};
 ghost use Rattle.model.specs.Packets.{idOk, doneOk, commandOk, outcomeOk};
 
@@ -140,6 +141,14 @@ pub fn copy_bytes(out: &mut [u8], src: &[u8])
         out[i] = src[i];
         i += 1;
     }
+}
+
+// n bytes of src from a place, to a place of out.
+pub fn copy_part(out: &mut [u8], to: usize, src: &[u8], from: usize, n: usize)
+    requires { ⌜ (to + n ≤ length (now out)) × (from + n ≤ length (now src)) ⌝ }
+    ensures { λ r. ⌜ now (out .exit) ≡ written (now (out .entry)) to (part from n (now (src .entry))) ⌝ }
+{
+    copy_bytes(&mut out[to..], &src[from..from + n]);
 }
 
 // The greater of two numbers.

@@ -3,10 +3,11 @@
 use Prim.Native.Nat.{ℕ}
 use mathlib.Core.List.{List}
 use Rattle.model.specs.Operations.{After, wordOf}
+use Rattle.model.specs.Checkpoints.{AfterCheckpoint}
 
--- the interface's version, major × 65,536 + minor: 1.4
+-- the interface's version, major × 65,536 + minor: 1.5
 abbrev pub version : ℕ
-version = 65540
+version = 65541
 
 pub record Returned : Type 0 where
   pub answer : ℕ
@@ -20,3 +21,16 @@ returned r s l o = record { answer = r; state = s; log = l; out = o }
 -- an operation, in C's terms
 unfoldable pub inC : After → Returned
 inC a = returned (wordOf (a .answer)) (a .state) (a .log) (a .out)
+
+-- checkpoint, whose slices are others
+pub record CheckpointReturned : Type 0 where
+  pub answer : ℕ
+  pub state : List ℕ
+  pub checkpoint : List ℕ
+  pub tail : List ℕ
+
+abbrev pub checkpointReturned : ℕ → List ℕ → List ℕ → List ℕ → CheckpointReturned
+checkpointReturned r s c t = record { answer = r; state = s; checkpoint = c; tail = t }
+
+unfoldable pub checkpointInC : AfterCheckpoint → CheckpointReturned
+checkpointInC a = checkpointReturned (wordOf (a .answer)) (a .state) (a .checkpoint) (a .tail)

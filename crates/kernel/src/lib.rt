@@ -1,17 +1,19 @@
 // The C interface: the calls of a server over its lent slices (include/mantelorris.h). Each answers one word of 64 bits: the low 32 bits
 // are 0 or the refusal's number, the high 32 bits the number of bytes written to the output; log end, over a log alone, answers a number and
-// an end of 64 bits.
+// an end of 64 bits, and inspect a place.
 use model::Answer;
 use model::LogEnd;
+use model::Place;
 use model::constants;
 ghost use mathlib.Core.Path.{_≡_};
 ghost use mathlib.Core.List.{[]};
 ghost use Rattle.model.specs.Versions.{today};
 ghost use Rattle.model.specs.Operations.{wordOf, foundOf, requestOf, fetchOf, syncOf, noticeOf, giveOf, imageOf, takeOf, receiptOf, releaseOf, recoverOf, logEndOf};
-ghost use Rattle.kernel.specs.Interface.{version, returned, inC};
+ghost use Rattle.model.specs.Checkpoints.{checkpointOf, recoverTailOf, inspectOf};
+ghost use Rattle.kernel.specs.Interface.{version, returned, inC, checkpointReturned, checkpointInC};
 
 // The interface's version, major * 65,536 + minor.
-const VERSION: u32 = 65540;
+const VERSION: u32 = 65541;
 
 #[no_mangle]
 pub extern "C" fn mantelorris_version() -> u32
@@ -135,10 +137,49 @@ pub extern "C" fn mantelorris_recover(state: &mut [u8], log: &[u8], plan: &[u8])
     word_of(server_recover::recover(state, log, plan))
 }
 
+// The state of a checkpoint and the kept tail that follows it. The tail slice is what was kept, no more.
+#[no_mangle]
+pub extern "C" fn mantelorris_recover_checkpoint(
+    state: &mut [u8],
+    checkpoint: &[u8],
+    tail: &[u8],
+) -> u64
+    ensures { λ r. ⌜ returned r (now (state .exit)) (now (tail .entry)) [] ≡ inC (recoverTailOf (now (state .entry)) (now (checkpoint .entry)) (now (tail .entry))) ⌝ }
+{
+    word_of(server_recover::recover_checkpoint(state, checkpoint, tail))
+}
+
+// A checkpoint of the state, and the head of the tail that follows it.
+#[no_mangle]
+pub extern "C" fn mantelorris_checkpoint(
+    state: &mut [u8],
+    log: &[u8],
+    checkpoint: &mut [u8],
+    tail: &mut [u8],
+) -> u64
+    ensures { λ r. ⌜ checkpointReturned r (now (state .exit)) (now (checkpoint .exit)) (now (tail .exit)) ≡ checkpointInC (checkpointOf (now (state .entry)) (now (log .entry)) (now (checkpoint .entry)) (now (tail .entry))) ⌝ }
+{
+    word_of(server_checkpoint::checkpoint(state, log, checkpoint, tail))
+}
+
 // The end of the last whole record of a kept log: the first of recover's two walks.
 #[no_mangle]
 pub extern "C" fn mantelorris_log_end(log: &[u8]) -> LogEnd
     ensures { λ r. ⌜ r ≡ logEndOf (now (log .entry)) ⌝ }
 {
     format_log_ends::log_end(log)
+}
+
+// Where the latest bytes of a completion record lie, in the tail or in the checkpoint before it; that slice is empty before the first checkpoint.
+#[no_mangle]
+pub extern "C" fn mantelorris_inspect(
+    state: &[u8],
+    checkpoint: &[u8],
+    tail: &[u8],
+    client: u32,
+    call: u32,
+) -> Place
+    ensures { λ r. ⌜ r ≡ inspectOf (now (state .entry)) (now (checkpoint .entry)) (now (tail .entry)) client call ⌝ }
+{
+    server_inspect::place(state, checkpoint, tail, client, call)
 }

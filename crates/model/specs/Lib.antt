@@ -15,6 +15,7 @@ pub mod States
 pub mod Apply
 pub mod Decisions
 pub mod Operations
+pub mod Checkpoints
 pub mod Clients
 pub mod Leases
 pub mod Letters

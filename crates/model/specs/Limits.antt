@@ -203,3 +203,17 @@ greatestImage = leastImage + floorRow * clientCount + entryRow * recordCount
 
 abbrev pub stateSize : ℕ
 stateSize = 32768
+
+-- ---- the checkpoint: the lent buffer, the bytes of its head and pairs, of a point's and of a completion record's row
+
+abbrev pub checkpointSize : ℕ
+checkpointSize = 32768
+
+abbrev pub checkpointHead : ℕ
+checkpointHead = 44
+
+abbrev pub checkpointPoint : ℕ
+checkpointPoint = 16
+
+abbrev pub checkpointRecord : ℕ
+checkpointRecord = 20

@@ -167,9 +167,13 @@ stateBytes st =
 
 -- ---- soundness: every field in range, every limit kept, nothing that no run leaves as far as one pass tells
 
--- an end of a log record, or 0 for none
+-- an end of a log record, or 0 for none. 8, the end of the log's head, stands for any place before this log
 unfoldable pub endOk : ℕ → ℕ → Bool
-endOk size end = eqb end 0 || (ltb headSize end && leb end size)
+endOk size end = eqb end 0 || (leb headSize end && leb end size)
+
+-- the record that ends at e stands before the one that ends at f; of two before this log nothing is told
+unfoldable pub endsInOrder : ℕ → ℕ → Bool
+endsInOrder e f = ltb e f || (eqb e headSize && eqb f headSize)
 
 -- neither destination nor give
 unfoldable pub notGiven : Point → Bool
@@ -193,7 +197,7 @@ heldOk server e x = eqb (x .moveNumber) (x .takenMove) && (notGiven x && originO
 -- given or released: to another server, by the move and the log record after those of being held
 unfoldable pub givenOk : ℕ → PlanEntry → Point → Bool
 givenOk server e x =
-    eqb (x .moveNumber) (suc (x .takenMove)) && (not (eqb (x .destination) server) && (ltb (x .takeEnd) (x .giveEnd) && originOk server e x))
+    eqb (x .moveNumber) (suc (x .takenMove)) && (not (eqb (x .destination) server) && (endsInOrder (x .takeEnd) (x .giveEnd) && originOk server e x))
 
 unfoldable pub statusOk : ℕ → PlanEntry → Point → Bool
 statusOk server e x =
@@ -217,7 +221,7 @@ pointsOk server size (e ∷ es) (x ∷ xs) = pointOk server size e x && pointsOk
 unfoldable pub keepsRecords : Point → Bool
 keepsRecords x = isHeld x || isGiven x
 
--- a completion record: fields, a value in its point's range, a point held or given, an end in the log, a known client, a call from
+-- a completion record: fields, a value in its point's range, a point held or given, an end in the log or before it, a known client, a call from
 -- floor to floor + 15
 unfoldable pub completionOk : State → Completion → Bool
 completionOk st r =
@@ -227,7 +231,7 @@ completionOk st r =
     && (idOk (c .client) (c .call)
     && (inRange (entryAt (st .plan) (c .point)) (r .result .value)
     && (keepsRecords (pointAt st (c .point))
-    && (ltb headSize (r .end) && (leb (r .end) (st .size) && inWindow (floorOf (c .client) (st .floors)) (c .call)))))))
+    && (leb headSize (r .end) && (leb (r .end) (st .size) && inWindow (floorOf (c .client) (st .floors)) (c .call)))))))
 
 unfoldable pub isId : ℕ → ℕ → Completion → Bool
 isId x c r = eqb (r .command .client) x && eqb (r .command .call) c

@@ -231,6 +231,32 @@ pub const RECORDS_START: usize = FLOORS_START + FLOOR_ROW * CLIENT_COUNT;
 
 pub const STATE_END: usize = RECORDS_START + RECORD_ROW * RECORD_COUNT;
 
+// ---- the checkpoint: the buffer, the magic, the bytes of its head with the pairs, its rows, the places of its parts
+
+pub const CHECKPOINT_SIZE: usize = 32768;
+
+pub const CHECKPOINT_MAGIC: [u8; 4] = *b"WLG2";
+
+pub const CHECKPOINT_HEAD: usize = 44;
+
+pub const CHECKPOINT_POINT: usize = 16;
+
+pub const CHECKPOINT_RECORD: usize = 20;
+
+pub const PLAN_PART: usize = CHECKPOINT_HEAD;
+
+pub const POINTS_PART: usize = PLAN_PART + PLAN_SIZE;
+
+pub const CLIENTS_PART: usize = POINTS_PART + CHECKPOINT_POINT * POINT_COUNT;
+
+// ---- what holds a completion record's bytes
+
+pub const IN_RECORD: u32 = 1;
+
+pub const IN_IMAGE: u32 = 2;
+
+pub const IN_CHECKPOINT: u32 = 3;
+
 // ---- refusals: 0 for none, or the number
 
 pub const NO_REFUSAL: u32 = 0;

@@ -182,6 +182,16 @@ pub struct LogEnd {
     pub end: u64,
 }
 
+// Where the bytes of a completion record lie: the refusal's number, 0 for none; what holds them, 1 a log record, 2 an entry of an image in the
+// log, 3 an entry of the checkpoint; from start to end of the tail (1, 2) or of the checkpoint (3). All 0 but the number where refused.
+#[repr(C)]
+pub struct Place {
+    pub refusal: u32,
+    pub source: u32,
+    pub start: usize,
+    pub end: usize,
+}
+
 // ---- the client (paper: desk)
 
 // An open call; call 0 is a free place.

@@ -2,6 +2,7 @@
 --     lent-elim, found-elim, recover-elim     what a call comes to, case by case
 --     operated-is         a call of an operation carries out what it decides
 --     decision-allowed    it appends only what some operation decides, and sets only a mark within the log
+--     sets-mark           only sync sets a mark
 --     call-sound          number 0: the buffer passes the test of soundness
 --     call-bytes          state and log stay bytes
 --     call-kept           a call on a sound buffer, refused or not, leaves a sound buffer
@@ -272,6 +273,27 @@ decision-allowed (receipt point) state log h = quiet-kept state log (onReceipt (
 decision-allowed (release packet) state log h =
     only-kept state log (onRelease (load state) (freeIn state log) (parsePacket packet)) (only-release (load state) (freeIn state log) (parsePacket packet))
     (on-release (load state) (freeIn state log) packet h)
+
+-- only sync sets a mark
+no-mark : {A : LogRecord → Type 0} {d : Decided} {m : ℕ} → Only A NoMark d → d ≡ marks m → ⊥
+unfolding NoMark
+no-mark refuses e = let z : _≡_ {A = ℕ} 0 1 = cc in omega arith
+no-mark denies e = let z : _≡_ {A = ℕ} 0 1 = cc in omega arith
+no-mark replies e = let z : _≡_ {A = ℕ} 0 1 = cc in omega arith
+no-mark (appends a) e = let z : _≡_ {A = ℕ} 0 1 = cc in omega arith
+no-mark (sets h) e = h
+
+pub sets-mark : (o : Operation) (st : State) (free m : ℕ) → decision o st free ≡ marks m → (k : ℕ) × (o ≡ sync k)
+unfolding decision
+sets-mark (request v packet) st free m e = absurd (no-mark (only-request v st free (parsePacket packet)) e)
+sets-mark (fetch client call) st free m e = absurd (no-mark (fetch-only st client call) e)
+sets-mark (sync mark) st free m e = (mark, refl)
+sets-mark (notice packet) st free m e = absurd (no-mark (only-notice st free (parsePacket packet)) e)
+sets-mark (give point destination) st free m e = absurd (no-mark (only-give st free point destination) e)
+sets-mark (image point) st free m e = absurd (no-mark (only-image st point) e)
+sets-mark (takeIn img) st free m e = absurd (no-mark (only-take st free (parseImage img)) e)
+sets-mark (receipt point) st free m e = absurd (no-mark (only-receipt st point) e)
+sets-mark (release packet) st free m e = absurd (no-mark (only-release st free (parsePacket packet)) e)
 
 -- ---- every call leaves a sound state
 

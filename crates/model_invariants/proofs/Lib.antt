@@ -11,5 +11,13 @@ pub mod Formats
 pub mod Crash
 pub mod FirstWalk
 pub mod Loaded
+pub mod Checkpoints
+pub mod Restored
 pub mod Calls
 pub mod Running
+pub mod Placed
+pub mod Seen
+pub mod Fronts
+pub mod TailEquals
+pub mod Latest
+pub mod Shown

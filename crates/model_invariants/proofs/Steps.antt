@@ -11,7 +11,7 @@ use native.Mathlib.Omega.{arith}
 use lib.ListN.{length, getD, set, length-set}
 use lib.Seq.{getD-set-same, getD-set-other}
 use lib.Dec.{eqb, leb}
-use borrow.Author.Tests.{eqb-true, leb-true, not-true}
+use borrow.Author.Tests.{eqb-true, leb-true, lt-ltb, not-true}
 use Rattle.model.specs.declared.PlanEntry.{PlanEntry}
 use Rattle.model.specs.declared.Floor.{Floor}
 use Rattle.model.specs.declared.Point.{Point}
@@ -28,7 +28,7 @@ use Rattle.model.specs.Plan.{entryAt}
 use Rattle.model.specs.Packets.{commandOk, outcomeOk, idOk, doneOk}
 use Rattle.model.specs.Images.{Image, floorOf, imageLength}
 use Rattle.model.specs.Logs.{executedOk}
-use Rattle.model.specs.States.{State, pointAt, noPoint, absent as absentStatus, held as heldStatus, given as givenStatus, releasedStatus}
+use Rattle.model.specs.States.{State, pointAt, noPoint, endsInOrder, absent as absentStatus, held as heldStatus, given as givenStatus, releasedStatus}
 use Rattle.model.specs.Apply
 use Rattle.model.specs.Apply.{raise, mergeFloors, isNotClient, staysOver, staysOverFloors, isOfOther, isOnOther, completion, takenRecord, applyExecuted, applyGone, applyGave, applyTook, applyReleased, withMark}
 use Rattle.model_laws.specs.Bytes.{All}
@@ -344,6 +344,10 @@ sound-gone st n S G z =
 
 -- ---- give
 
+later-ends : (e f : ℕ) → e < f → endsInOrder e f ≡ true
+unfolding endsInOrder
+later-ends e f h = rw (lt-ltb e f h)
+
 gave-point : (server size : ℕ) (e : PlanEntry) (g : Give) (q : Point) → GoodPoint server size e q → q .status ≡ heldStatus → q .takeEnd < size → g .destination ≤ lastServer
     → g .destination ≢ server → g .moveNumber ≡ suc (q .moveNumber) → g .moveNumber < word → headSize < size → GoodPoint server size e (Apply.gavePoint g size q)
 unfolding Apply.gavePoint
@@ -353,7 +357,7 @@ gave-point server size e g q h s u d o n f l =
       quality = h .quality;
       destination = d;
       value = h .value;
-      giveEnd = record { past = λ (k : size ≢ 0). l; within = omega arith };
+      giveEnd = record { past = λ (k : size ≢ 0). omega (arith, l); within = omega arith };
       takeEnd = h .takeEnd;
       standing =
           record {
@@ -361,7 +365,7 @@ gave-point server size e g q h s u d o n f l =
             held = λ (k : _≡_ {A = ℕ} givenStatus heldStatus). absurd (omega arith);
             given = λ (k : givenStatus ≤ givenStatus). omega (arith, h .standing .held s);
             away = λ (k : givenStatus ≤ givenStatus). o;
-            ended = λ (k : givenStatus ≤ givenStatus). u;
+            ended = λ (k : givenStatus ≤ givenStatus). later-ends (q .takeEnd) size u;
             stays = λ (k : givenStatus < givenStatus). absurd (omega arith);
             unended = λ (k : givenStatus < givenStatus). absurd (omega arith);
             origin = λ (k : heldStatus ≤ givenStatus). h .standing .origin (omega arith);
@@ -486,7 +490,7 @@ took-point server end e i G v n l =
       destination = omega arith;
       value = v;
       giveEnd = record { past = λ (k : _≢_ {A = ℕ} 0 0). absurd (k refl); within = omega arith };
-      takeEnd = record { past = λ (k : end ≢ 0). l; within = omega arith };
+      takeEnd = record { past = λ (k : end ≢ 0). omega (arith, l); within = omega arith };
       standing =
           record {
             absent = λ (k : _≡_ {A = ℕ} heldStatus absentStatus). absurd (omega arith);

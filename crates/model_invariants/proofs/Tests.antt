@@ -28,7 +28,7 @@ use Rattle.model.specs.Tables.{every}
 use Rattle.model.specs.Plan.{planEntryOk, inRange, entryAt, noEntry}
 use Rattle.model.specs.Packets.{commandOk, outcomeOk, idOk}
 use Rattle.model.specs.Images.{floorOf, floorOk, inWindow, clientsAscend}
-use Rattle.model.specs.States.{State, pointAt, noPoint, isHeld, isGiven, endOk, notGiven, originOk, absentOk, heldOk, givenOk, statusOk, pointOk, pointsOk, keepsRecords, completionOk, isId, idsDiffer, endsFrom, stateOk, absent as absentStatus, held as heldStatus, given as givenStatus, releasedStatus}
+use Rattle.model.specs.States.{State, pointAt, noPoint, isHeld, isGiven, endOk, endsInOrder, notGiven, originOk, absentOk, heldOk, givenOk, statusOk, pointOk, pointsOk, keepsRecords, completionOk, isId, idsDiffer, endsFrom, stateOk, absent as absentStatus, held as heldStatus, given as givenStatus, releasedStatus}
 use Rattle.model_laws.specs.Bytes.{All}
 use Rattle.model_laws.specs.Fits.{FloorFits, PlanEntryFits, PointFits, CompletionFits, StateFits}
 use Rattle.model_laws.proofs.Tests.{and-left, and-right, and-both, joined-all, all-joined}
@@ -88,21 +88,21 @@ pub good-end : (size end : ℕ) → endOk size end ≡ true → GoodEnd size end
 unfolding endOk
 good-end size end h = go (eqb end 0) refl h
   where
-    go : (b : Bool) → eqb end 0 ≡ b → (b || (ltb headSize end && leb end size)) ≡ true → GoodEnd size end
+    go : (b : Bool) → eqb end 0 ≡ b → (b || (leb headSize end && leb end size)) ≡ true → GoodEnd size end
     go true e k =
         let z : end ≡ 0 = eqb-true _ _ e in
         record { past = λ (n : end ≢ 0). absurd (n z); within = omega arith }
     go false e k =
-        let a = split (ltb headSize end) (leb end size) k in
-        record { past = λ (n : end ≢ 0). ltb-true _ _ (a .0); within = leb-true _ _ (a .1) }
+        let a = split (leb headSize end) (leb end size) k in
+        record { past = λ (n : end ≢ 0). leb-true _ _ (a .0); within = leb-true _ _ (a .1) }
 
 pub end-good : (size end : ℕ) → GoodEnd size end → endOk size end ≡ true
 unfolding endOk
 end-good size end g = go (eqb end 0) refl
   where
-    go : (b : Bool) → eqb end 0 ≡ b → (b || (ltb headSize end && leb end size)) ≡ true
+    go : (b : Bool) → eqb end 0 ≡ b → (b || (leb headSize end && leb end size)) ≡ true
     go true e = refl
-    go false e = and-both (ltb headSize end) (leb end size) (lt-ltb _ _ (g .past (eqb-no _ _ e))) (le-leb _ _ (g .within))
+    go false e = and-both (leb headSize end) (leb end size) (le-leb _ _ (g .past (eqb-no _ _ e))) (le-leb _ _ (g .within))
 
 -- where a point came from
 origin-of : (server : ℕ) (e : PlanEntry) (x : Point) → originOk server e x ≡ true → Origin server (e .home) (x .takenMove) (x .takeEnd)
@@ -186,13 +186,13 @@ held-standing server e x s h =
 given-standing : (server : ℕ) (e : PlanEntry) (x : Point) → givenStatus ≤ x .status → givenOk server e x ≡ true → Standing server e x
 unfolding givenOk
 given-standing server e x s h =
-    let a = joined-all (eqb (x .moveNumber) (suc (x .takenMove)) ∷ not (eqb (x .destination) server) ∷ ltb (x .takeEnd) (x .giveEnd) ∷ originOk server e x ∷ []) h in
+    let a = joined-all (eqb (x .moveNumber) (suc (x .takenMove)) ∷ not (eqb (x .destination) server) ∷ endsInOrder (x .takeEnd) (x .giveEnd) ∷ originOk server e x ∷ []) h in
     record {
       absent = λ (k : x .status ≡ absentStatus). absurd (omega arith);
       held = λ (k : x .status ≡ heldStatus). absurd (omega arith);
       given = λ (k : givenStatus ≤ x .status). eqb-true _ _ (a .0);
       away = λ (k : givenStatus ≤ x .status). eqb-no _ _ (not-true _ (a .1 .0));
-      ended = λ (k : givenStatus ≤ x .status). ltb-true _ _ (a .1 .1 .0);
+      ended = λ (k : givenStatus ≤ x .status). a .1 .1 .0;
       stays = λ (k : x .status < givenStatus). absurd (omega arith);
       unended = λ (k : x .status < givenStatus). absurd (omega arith);
       origin = λ (k : heldStatus ≤ x .status). origin-of server e x (a .1 .1 .1 .0);
@@ -242,8 +242,8 @@ of-standing server e x g = go (eqb (x .status) absentStatus) (eqb (x .status) he
         (of-origin server e x (g .origin (omega arith))))
     go false false p q =
         let l : givenStatus ≤ x .status = past-held (x .status) (eqb-no _ _ p) (eqb-no _ _ q) in
-        all-joined (eqb (x .moveNumber) (suc (x .takenMove)) ∷ not (eqb (x .destination) server) ∷ ltb (x .takeEnd) (x .giveEnd) ∷ originOk server e x ∷ [])
-        (eq-eqb _ _ (g .given l), (not-of-false _ (ne-eqb _ _ (g .away l)), (lt-ltb _ _ (g .ended l), (of-origin server e x (g .origin (omega arith)), tt))))
+        all-joined (eqb (x .moveNumber) (suc (x .takenMove)) ∷ not (eqb (x .destination) server) ∷ endsInOrder (x .takeEnd) (x .giveEnd) ∷ originOk server e x ∷ [])
+        (eq-eqb _ _ (g .given l), (not-of-false _ (ne-eqb _ _ (g .away l)), (g .ended l, (of-origin server e x (g .origin (omega arith)), tt))))
 
 -- the latest taken move is not above the move number
 taken-low : (server : ℕ) (e : PlanEntry) (x : Point) → Standing server e x → x .takenMove ≤ x .moveNumber
@@ -391,7 +391,7 @@ keeps-test x k = go (eqb (x .status) heldStatus) refl
 abbrev completionTests : State → Completion → List Bool
 completionTests st r =
     commandOk (r .command .op) (r .command .point) (r .command .argument) ∷ outcomeOk (r .result .outcome) (r .result .quality) ∷ (leb 1 (r .command .client) && leb 1 (r .command .call))
-    ∷ inRange (entryAt (st .plan) (r .command .point)) (r .result .value) ∷ keepsRecords (pointAt st (r .command .point)) ∷ ltb headSize (r .end) ∷ leb (r .end) (st .size)
+    ∷ inRange (entryAt (st .plan) (r .command .point)) (r .result .value) ∷ keepsRecords (pointAt st (r .command .point)) ∷ leb headSize (r .end) ∷ leb (r .end) (st .size)
     ∷ inWindow (floorOf (r .command .client) (st .floors)) (r .command .call) ∷ []
 
 -- what the test of a completion record says
@@ -415,7 +415,7 @@ good-completion st r h f =
             client-fits = f .client;
             call-fits = f .call;
             value = in-range (entryAt (st .plan) (r .command .point)) (r .result .value) (t .1 .1 .1 .0);
-            past = ltb-true _ _ (t .1 .1 .1 .1 .1 .0);
+            past = leb-true _ _ (t .1 .1 .1 .1 .1 .0);
             within = leb-true _ _ (t .1 .1 .1 .1 .1 .1 .0);
           };
       kept = keeps (pointAt st (r .command .point)) (t .1 .1 .1 .1 .0);
@@ -437,7 +437,7 @@ completion-good st r p =
             (
               keeps-test (pointAt st (r .command .point)) (p .kept),
               (
-                lt-ltb _ _ (g .past),
+                le-leb _ _ (g .past),
                 (le-leb _ _ (g .within), (window-in (floorOf (r .command .client) (st .floors)) (r .command .call) (p .window), tt)),
               ),
             ),

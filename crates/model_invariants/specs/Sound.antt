@@ -23,7 +23,7 @@ use Rattle.model.specs.Plan.{entryAt}
 use Rattle.model.specs.Packets.{commandOk, outcomeOk, requestOk}
 use Rattle.model.specs.Images.{Image, floorOf}
 use Rattle.model.specs.Logs.{LogRecord, executed, gone, gave, took, released, executedOk}
-use Rattle.model.specs.States.{State, pointAt, absent as absentStatus, held as heldStatus, given as givenStatus, releasedStatus}
+use Rattle.model.specs.States.{State, pointAt, endsInOrder, absent as absentStatus, held as heldStatus, given as givenStatus, releasedStatus}
 use Rattle.model_laws.specs.Bytes.{All}
 
 -- ---- parts
@@ -40,9 +40,9 @@ pub record Ranged (e : PlanEntry) (v : ℕ) : Type 0 where
   pub low : e .low ≤ v
   pub high : v ≤ e .high
 
--- 0, or past the log's head and not past its end
+-- 0, or not under the log's head and not past its end
 pub record GoodEnd (size end : ℕ) : Type 0 where
-  pub past : end ≢ 0 → headSize < end
+  pub past : end ≢ 0 → headSize ≤ end
   pub within : end ≤ size
 
 -- never taken: founded here; else the take has an end
@@ -66,7 +66,7 @@ pub record Standing (server : ℕ) (e : PlanEntry) (x : Point) : Type 0 where
   pub held : x .status ≡ heldStatus → x .moveNumber ≡ x .takenMove
   pub given : givenStatus ≤ x .status → x .moveNumber ≡ suc (x .takenMove)
   pub away : givenStatus ≤ x .status → x .destination ≢ server
-  pub ended : givenStatus ≤ x .status → x .takeEnd < x .giveEnd
+  pub ended : givenStatus ≤ x .status → endsInOrder (x .takeEnd) (x .giveEnd) ≡ true
   pub stays : x .status < givenStatus → x .destination ≡ 0
   pub unended : x .status < givenStatus → x .giveEnd ≡ 0
   pub origin : heldStatus ≤ x .status → Origin server (e .home) (x .takenMove) (x .takeEnd)
@@ -117,7 +117,7 @@ pub record GoodCompletion (plan : List PlanEntry) (size : ℕ) (r : Completion) 
   pub client-fits : r .command .client < word
   pub call-fits : r .command .call < word
   pub value : Ranged (entryAt plan (r .command .point)) (r .result .value)
-  pub past : headSize < r .end
+  pub past : headSize ≤ r .end
   pub within : r .end ≤ size
 
 -- its call against its client's floor

@@ -13,6 +13,9 @@ pub mod Ends
 pub mod TwoWalks
 pub mod Plans
 pub mod States
+pub mod Fronts
+pub mod Checkpoints
+pub mod Restored
 pub mod Stores
 pub mod Loops
 pub mod Ands

@@ -638,7 +638,7 @@ completion-window st r e =
     let c = r .command in
     joined-all
     (commandOk (c .op) (c .point) (c .argument) ∷ outcomeOk (r .result .outcome) (r .result .quality) ∷ idOk (c .client) (c .call)
-    ∷ inRange (entryAt (st .plan) (c .point)) (r .result .value) ∷ keepsRecords (pointAt st (r .command .point)) ∷ ltb headSize (r .end) ∷ leb (r .end) (st .size)
+    ∷ inRange (entryAt (st .plan) (c .point)) (r .result .value) ∷ keepsRecords (pointAt st (r .command .point)) ∷ leb headSize (r .end) ∷ leb (r .end) (st .size)
     ∷ inWindow (floorOf (c .client) (st .floors)) (c .call) ∷ []) e .1 .1 .1 .1 .1 .1 .1 .0
 
 pub state-records : (st : State) → stateOk st ≡ true → length (st .records) ≤ callWindow * length (st .floors)

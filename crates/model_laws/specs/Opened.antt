@@ -9,7 +9,7 @@ use Rattle.model.specs.Rules.{argumentRange, inArguments, argumentOk, sumInRang
 use Rattle.model.specs.Packets.{packetLength, idOk, doneOk, commandOk, outcomeOk, requestAt, requestOk, requestBytes, resultAt, resultOk, resultBytes, refusalAt, refusalOk, refusalBytes, receiptAt, receiptOk, receiptBytes, noticeAt, noticeOk, noticeBytes, grantAt, grantOk, grantBytes, whole, parseRequest, parseResult, parseRefusal, parseReceipt, parseNotice, parseGrant, parsePacket, packetBytes, asRequest, asReceipt, asNotice}
 use Rattle.model.specs.Images.{floorOfBytes, floorBytes, imageEntryOf, imageEntryBytes, floorOf, inWindow, clientsAscend, idBefore, idsAscend, floorOk, imageEntryOk, imageHeadOf, imageAt, imageFramed, imageParts, imageHeadOk, entryRowOk, imageTablesOk, imageOk, parseImage, entryInRange, imageInRange, imageLength, imageHeadBytes, imageBytes}
 use Rattle.model.specs.Logs.{headBytes, headServer, headOk, executedAt, executedOk, executedBytes, giveAt, giveOk, giveBytes, takeBytes, releaseAt, releaseOk, releaseBytes, recordBytes, recordSize, within, takeExtent, extentOf, takeParsed, recordAt, walkEnds, endsOf, lastOf, wholeEnd, entriesTo, entriesBytes}
-use Rattle.model.specs.States.{pointAt, isHeld, isGiven, isSynced, pointOf, pointBytes, completionOf, completionBytes, clientsIn, recordsIn, load, stateHeadBytes, padded, stateBytes, endOk, notGiven, originOk, absentOk, heldOk, givenOk, statusOk, pointOk, pointsOk, keepsRecords, completionOk, isId, idsDiffer, endsFrom, stateFramed, pointRowOk, stateOk, sound}
+use Rattle.model.specs.States.{pointAt, isHeld, isGiven, isSynced, pointOf, pointBytes, completionOf, completionBytes, clientsIn, recordsIn, load, stateHeadBytes, padded, stateBytes, endOk, endsInOrder, notGiven, originOk, absentOk, heldOk, givenOk, statusOk, pointOk, pointsOk, keepsRecords, completionOk, isId, idsDiffer, endsFrom, stateFramed, pointRowOk, stateOk, sound}
 use Rattle.model.specs.Apply.{raise, mergeFloors, isNotClient, staysOver, staysOverFloors, isOfOther, isOnOther, executedPoint, completion, applyExecuted, applyGone, gavePoint, applyGave, tookPoint, takenRecord, applyTook, releasedPoint, applyReleased, applyRecord, apply, foundedPoint, founded, replayFrom, replay, withMark}
 use Rattle.model.specs.Decisions.{orMalformed, find, requestRefusal, resultOfRecord, sameCommand, heldRefusal, onHeld, resultFor, executedFor, newRefusal, onNew, onId, decideRequest, denying, onRequest, fetchRefusal, onFetched, onFetch, syncRefusal, onSync, noticeRefusal, decideNotice, onNotice, placesBad, giveRefusal, onGive, isOnPoint, entryOfRecord, insertEntry, sortEntries, imageFor, imageRefusal, onImage, freeFor, takeRefusal, takeTests, decideTake, onTake, receiptRefusal, onReceipt, releaseRefusal, decideRelease, onRelease, isNone, follows}
 use Rattle.model.specs.Operations.{short, unfit, freeIn, stored, settle, lentRefusal, lent, leftUnless, foundRefusal, foundOf, requestOf, fetchOf, syncOf, noticeOf, giveOf, imageOf, takeOf, receiptOf, releaseOf, recovered, recoveredAll, recoveredOn, recoveredState, settleRecovered, recoverRefusal, recoverOf, logEndOf}
@@ -79,7 +79,7 @@ unfolding pointAt isHeld isGiven isSynced isId pointOf pointBytes completionOf c
 openLayout = tt
 
 unfoldable pub openStates : Opens
-unfolding openLayout endOk notGiven originOk absentOk heldOk givenOk statusOk pointOk pointsOk keepsRecords completionOk idsDiffer endsFrom stateFramed pointRowOk stateOk sound
+unfolding openLayout endOk endsInOrder notGiven originOk absentOk heldOk givenOk statusOk pointOk pointsOk keepsRecords completionOk idsDiffer endsFrom stateFramed pointRowOk stateOk sound
 openStates = tt
 
 -- Apply: parts, whole records

@@ -1,34 +1,64 @@
 -- The schedules of Moved and Forgetting, run.
---     trace-is, crash-trace-is     what is seen of them
+--     trace-is, crash-trace-is, store-trace-is     what is seen of them
 --     kept-recovers                what the crash keeps is recovered
+--     stored-recovers, head-alone     what is stored, with the tail's head, is recovered; the head alone gives the founding state
 -- Assumes nothing.
 use mathlib.Core.Path.{_≡_, refl}
 use mathlib.Core.Option.{some}
 use Rattle.model.specs.Plan.{planOf}
-use Rattle.model.specs.Apply.{apply, founded}
+use Rattle.model.specs.Apply.{founded}
 use Rattle.model.specs.Operations.{recoveredState}
 use Rattle.model.specs.Yard.{yardPlan}
-use Rattle.model.specs.Logs.{executed}
-use Rattle.claim.specs.World.{emptyWorld}
+use Rattle.model.specs.Logs.{headBytes}
+use Rattle.model.specs.States.{endsInOrder}
+use Rattle.model.specs.Checkpoints as Checkpoints
+use Rattle.model.specs.Checkpoints.{rebased, checkpointBytes, recoveredTail}
+use Rattle.claim.specs.World.{emptyWorld, storedOf, checkpoints, stores}
+use Rattle.claim.specs.Provisos.{reachOf}
 use Rattle.model_laws.specs.Opened.{Opens}
 use Rattle.claim.proofs.Opened.{openWorld}
-use Rattle.proof_sanity.specs.Trace.{bytesOk, countedOk, typedOk, sameBytes, isNothing, keptIs, notStarted, startsNew, keepsOk, requestDone, done, callWith, seenWith, standsAt, endSeen, traceFrom, keepsMany}
-use Rattle.proof_sanity.specs.Moved.{schedule, rowsSeen, traceSeen, settingDone}
-use Rattle.proof_sanity.specs.Forgetting.{setAndCrash, keptWhole, setAndCrashSeen}
+use Rattle.proof_sanity.specs.Trace.{bytesOk, countedOk, typedOk, sameBytes, isNothing, keptIs, beginsOk, notStarted, startsNew, keepsOk, requestDone, done, callWith, seenWith, standsAt, endSeen, traceFrom, keepsMany}
+use Rattle.proof_sanity.specs.Moved.{takenState, schedule, rowsSeen, traceSeen}
+use Rattle.proof_sanity.specs.Forgetting.{setState, setAndCrash, keptWhole, setAndCrashSeen, setAndStore, setAndStoreSeen}
+
+-- checkpoint and tail
+unfoldable openRebased : Opens
+unfolding endsInOrder Checkpoints.placedPoint Checkpoints.placedRecord Checkpoints.placed Checkpoints.endBefore Checkpoints.rebased
+openRebased = tt
+
+unfoldable openLayout : Opens
+unfolding Checkpoints.pairsBytes Checkpoints.pointFront Checkpoints.recordFront Checkpoints.checkpointBytes Checkpoints.clientsOf Checkpoints.recordsOf Checkpoints.pointWhole Checkpoints.recordWhole Checkpoints.fronts Checkpoints.restored
+openLayout = tt
+
+unfoldable openCheckpoints : Opens
+unfolding openRebased openLayout Checkpoints.checkpointFramed Checkpoints.checkpointState Checkpoints.checkpointRefusal Checkpoints.checkpointOf Checkpoints.recoveredTail Checkpoints.recoverTailRefusal Checkpoints.recoverTailOf
+openCheckpoints = tt
 
 -- what is seen of a run
 unfoldable openTrace : Opens
-unfolding openWorld bytesOk countedOk typedOk sameBytes isNothing keptIs notStarted startsNew keepsOk requestDone done callWith seenWith standsAt endSeen traceFrom keepsMany
+unfolding openWorld openCheckpoints storedOf checkpoints stores reachOf bytesOk countedOk typedOk sameBytes isNothing keptIs beginsOk notStarted startsNew keepsOk requestDone done callWith seenWith standsAt endSeen traceFrom keepsMany
 openTrace = tt
 
 pub trace-is : traceFrom yardPlan 5 emptyWorld schedule ≡ traceSeen
-unfolding openTrace schedule rowsSeen traceSeen
+unfolding openTrace takenState schedule rowsSeen traceSeen
 trace-is = refl
 
 pub crash-trace-is : traceFrom yardPlan 5 emptyWorld setAndCrash ≡ setAndCrashSeen
 unfolding openTrace setAndCrash setAndCrashSeen
 crash-trace-is = refl
 
-pub kept-recovers : recoveredState (planOf yardPlan) keptWhole ≡ some (apply (founded (planOf yardPlan) 0) (record { item = executed settingDone; end = 36 }))
-unfolding openTrace setAndCrash setAndCrashSeen
+pub store-trace-is : traceFrom yardPlan 5 emptyWorld setAndStore ≡ setAndStoreSeen
+unfolding openTrace setState setAndStore setAndStoreSeen
+store-trace-is = refl
+
+pub kept-recovers : recoveredState (planOf yardPlan) keptWhole ≡ some setState
+unfolding openTrace setState
 kept-recovers = refl
+
+pub stored-recovers : recoveredTail (checkpointBytes setState) (headBytes 0) ≡ some (rebased setState)
+unfolding openTrace setState
+stored-recovers = refl
+
+pub head-alone : recoveredState (planOf yardPlan) (headBytes 0) ≡ some (founded (planOf yardPlan) 0)
+unfolding openTrace
+head-alone = refl

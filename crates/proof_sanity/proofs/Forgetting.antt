@@ -1,74 +1,49 @@
--- The server that executes well and recovers to the founding state breaks demand 3: no order explains the schedule of Forgetting, which keeps
--- every proviso, since the value at the holder is not the book's.
---     crash-provisos           the schedule keeps the provisos
---     only-setting             one command survives
---     crash-book               what the book says of point 5 after it
---     crash-holder             the holder of point 5, with its fallback
---     values-broken, not-explained
+-- The two servers of Forgetting break demand 3: no order explains their schedules, which keep every proviso, since the value at the holder is not
+-- the book's.
+--     crash-book               what the book says of point 5 after commands of which each is the set
+--     values-broken            so the founding state at the holder is not explained
+--     crash-provisos, not-explained     the server that recovers to the founding state
+--     store-provisos, store-completed, store-recovers, checkpoint-not-explained     the one that forgets the checkpoint
 -- Assumes nothing.
 use Prim.Native.Nat.{ℕ, zero, suc, _+_}
+use mathlib.Core.Bool.{true}
 use mathlib.Core.Path.{_≡_, refl, sym, ap, _∙_, subst}
 use mathlib.Core.List.{List, [], _∷_, List·Memᴰ, List·Memᴰ·head, List·Memᴰ·tail}
 use mathlib.Core.Logic.{_↔_}
-use mathlib.Core.Option.{none, some}
+use mathlib.Core.Option.{Option, none, some}
 use native.Mathlib.Omega.{arith}
 use lib.Dec.{lit<}
 use Rattle.model.specs.declared.Command.{Command}
 use Rattle.model.specs.declared.Request.{Request}
 use Rattle.model.specs.declared.Packet.the-variants.{Requested}
+use Rattle.model.specs.declared.Received.the-variants.{Completed}
 use Rattle.model.specs.Numbers.{half, signed, flip, le32At, signedAt, zeros3At}
 use Rattle.model.specs.Tables.{rows, bytesOf, every}
 use Rattle.model.specs.Plan.{planEntryOf, planEntryBytes, planOf, planBytes, entryAt}
 use Rattle.model.specs.Rules.{argumentRange, inArguments, argumentOk}
-use Rattle.model.specs.Packets.{packetLength, idOk, doneOk, commandOk, requestAt, requestOk, requestBytes, whole, parseRequest, parsePacket}
+use Rattle.model.specs.Packets.{packetLength, idOk, doneOk, commandOk, requestAt, requestOk, requestBytes, resultBytes, whole, parseRequest, parsePacket}
 use Rattle.model.specs.Logs.{headBytes, headServer}
 use Rattle.model.specs.States.{State, pointAt}
 use Rattle.model.specs.Apply.{foundedPoint, founded}
 use Rattle.model.specs.Versions.{Version, today}
-use Rattle.model.specs.Sequential.{OrderEntry, single, parts, bookWith, markedBy, Marked, ReadingZ, Book, readingMeant, opened, bookAfter, entered, answerZ, afterZ, ruleZ, setZ, inRangeZ, entryZ}
+use Rattle.model.specs.Sequential.{one, resultMeant, OrderEntry, single, parts, bookWith, markedBy, Marked, ReadingZ, Book, readingMeant, opened, bookAfter, entered, answerZ, afterZ, ruleZ, setZ, inRangeZ, entryZ}
+use Rattle.model.specs.Checkpoints.{rebased, checkpointBytes}
+use Rattle.model.specs.Clients.{placeOf, callAt, receiveOf}
 use Rattle.model.specs.Yard.{yardPlan}
+use Rattle.model_laws.specs.Opened.{openNumbers, openPackets, openClients}
 use Rattle.model.specs.Limits.{valid, invalid}
-use Rattle.claim.specs.World.{sync, nothing, crashed, run, after}
-use Rattle.claim.specs.Provisos.{lengthOf, At, Provisos}
-use Rattle.claim.specs.Claim.{readingAt, Executes, SurvivesAt, SurvivesBy, HolderBy, ExplainedBy}
-use Rattle.proof_sanity.specs.Trace.{Call, callSeen, asksOnly, keptIs, sameBytes, keepsMany, below, Ended, endSeen, callWith, done}
-use Rattle.proof_sanity.specs.Moved.{setting, settingAsked, lentAll, asks}
-use Rattle.proof_sanity.specs.Forgetting.{foundingState, givenBy, finalForgetting, forgetting, setAndCrash, keptWhole, setAndCrashSeen}
-use Rattle.proof_sanity.proofs.Traced.{call-at, end-at, down-of, provisos-kept, kept-after, untouched, executes-seen, executes-only}
-use Rattle.proof_sanity.proofs.Computed.{crash-trace-is, kept-recovers}
-
--- ---- the schedule
-
-pub crash-provisos : Provisos yardPlan setAndCrash
-unfolding setAndCrashSeen every
-crash-provisos = provisos-kept yardPlan 5 setAndCrash setAndCrashSeen crash-trace-is refl
+use Rattle.claim.specs.World.{Event, sync, receive, nothingStored, Server, nothing, crashed, emptyWorld, run}
+use Rattle.claim.specs.Provisos.{At, Provisos}
+use Rattle.claim.specs.Claim.{commandAt, readingAt, Executes, SurvivesAt, Completes, SurvivesBy, HolderBy, ExplainedBy, Account, recoveredBy, stateGiven, finalState}
+use Rattle.proof_sanity.specs.Trace.{Call, Seen, callSeen, asksOnly, keptIs, sameBytes, keepsMany, below, Ended, endSeen, Trace, traceFrom, callWith, done}
+use Rattle.proof_sanity.specs.Moved.{setting, settingResult, settingAsked, settingAnswer, lentAll, asks, setter}
+use Rattle.proof_sanity.specs.Forgetting.{foundingState, givenBy, tailOnly, counting, afterSet, rowsAfterSet, setState, setAndCrash, keptWhole, setAndCrashSeen, setAndStore, setStored, setAndStoreSeen}
+use Rattle.proof_sanity.proofs.Traced.{call-at, end-at, down-of, provisos-kept, untouched, survives-seen, completes-seen, executes-only}
+use Rattle.proof_sanity.proofs.Computed.{crash-trace-is, store-trace-is, kept-recovers, stored-recovers, head-alone}
 
 parsed : parsePacket (requestBytes settingAsked) ≡ Requested settingAsked
 unfolding flip le32At signedAt zeros3At packetLength argumentRange inArguments argumentOk idOk doneOk commandOk requestAt requestOk requestBytes whole parseRequest parsePacket
 parsed = refl
-
--- event 4 executes the command, and it survives
-set-survives : SurvivesAt yardPlan setAndCrash 4 (markedBy today setting)
-unfolding At setAndCrash setAndCrashSeen callSeen callWith done every keepsMany
-set-survives =
-    record {
-      server = 0;
-      executes = executes-seen yardPlan setAndCrash 4 0 1 8 today lentAll settingAsked refl parsed (call-at yardPlan 5 setAndCrash setAndCrashSeen crash-trace-is 4 (asks 0 1) _ refl refl);
-      kept =
-          λ m b h e.
-          let z : lengthOf (after setAndCrash 5 .servers 0) ≡ 36
-          = ap (λ (x : Call). x .size) (call-at yardPlan 5 setAndCrash setAndCrashSeen crash-trace-is 5 (sync 0 36 lentAll) _ refl refl) in
-          rw z (kept-after 0 36 4 setAndCrash refl m b h e);
-    }
-
--- and no other is executed
-pub only-setting : (n c : ℕ) (k : Marked) → Executes yardPlan setAndCrash n c k → k .command ≡ setting
-unfolding setAndCrashSeen every asksOnly keptIs sameBytes requestBytes flip
-only-setting n c k E =
-    let b = executes-only yardPlan setAndCrash 5 setAndCrashSeen crash-trace-is (requestBytes settingAsked) refl n c k E in
-    let q : Requested (E .asked) ≡ Requested settingAsked = sym (E .parsed) ∙ ap parsePacket b ∙ parsed in
-    let r : E .asked ≡ settingAsked = cc in
-    ap (λ (x : Marked). x .command) (sym (E .its)) ∙ ap (λ (x : Request). x .command) r
 
 -- ---- the book
 
@@ -112,64 +87,132 @@ crash-book (List·Memᴰ·tail {x = x} {xs = xs} i) h b = first-set x xs h b
 some-same : {A : Type 0} {a b : A} → some a ≡ some b → a ≡ b
 some-same e = cc
 
-is-crashed : run setAndCrash .servers 0 ≡ crashed keptWhole 36
-unfolding endSeen setAndCrashSeen
-is-crashed = down-of 5 (run setAndCrash .servers 0) keptWhole 36 (ap (λ (x : Ended). x .first) (end-at yardPlan 5 setAndCrash setAndCrashSeen crash-trace-is))
-
-final-first : finalForgetting yardPlan setAndCrash 0 ≡ some (founded (planOf yardPlan) 0)
-unfolding finalForgetting givenBy foundingState headServer headBytes
-final-first = rw (is-crashed, kept-recovers)
-
-no-other : (d : ℕ) (st : State) → finalForgetting yardPlan setAndCrash (suc d) ≡ some st → ⊥
-unfolding finalForgetting givenBy setAndCrash every below
-no-other d st q =
-    let n : run setAndCrash .servers (suc d) ≡ nothing = untouched (suc d) 1 (omega arith) setAndCrash refl in
-    let e : none ≡ some st = sym (ap (givenBy yardPlan) n) ∙ q in
-    let z : _≡_ {A = ℕ} 0 1 = cc in
-    omega arith
-
-founded-only : (d : ℕ) (st : State) → finalForgetting yardPlan setAndCrash d ≡ some st → founded (planOf yardPlan) 0 ≡ st
-founded-only zero st q = some-same (sym final-first ∙ q)
-founded-only (suc d) st q = absurd (no-other d st q)
-
 at-home : entryAt (planOf yardPlan) 5 .home ≡ 0
 unfolding yardPlan rows bytesOf flip le32At signedAt planEntryOf planEntryBytes planOf planBytes entryAt
 at-home = refl
-
-pub crash-holder : HolderBy yardPlan (forgetting yardPlan setAndCrash) 5 0 (founded (planOf yardPlan) 0)
-crash-holder =
-    record {
-      founded = final-first;
-      greatest = λ d other q. rw (sym (founded-only d other q)) (omega arith);
-      taker = λ d other q z. rw (sym (founded-only d other q)) (omega arith);
-      home = λ z. at-home;
-    }
 
 quality-lost : readingMeant (readingAt (pointAt (founded (planOf yardPlan) 0) 5)) .quality ≡ invalid
 unfolding yardPlan rows bytesOf flip le32At signedAt planEntryOf planEntryBytes planOf planBytes readingMeant readingAt pointAt founded foundedPoint
 quality-lost = refl
 
--- ---- no order explains it
+-- ---- schedules that begin with the set: `rs` and `x` are what is seen of the rest
 
--- whatever order has just the surviving commands: the value and quality at the holder are not the book's
-pub values-broken : (order : List OrderEntry) → ((e : OrderEntry) → SurvivesBy yardPlan (forgetting yardPlan setAndCrash) e ↔ List·Memᴰ e order)
-    → readingMeant (readingAt (pointAt (founded (planOf yardPlan) 0) 5)) ≡ bookAfter (planOf yardPlan) (opened (planOf yardPlan)) order 5 → ⊥
-unfolding readingMeant parts
-values-broken order s e =
-    let m : Marked = markedBy today setting in
-    let i : List·Memᴰ (single m) order = s (single m) .0 (record { part = m; among = List·Memᴰ·head refl; at = 4; survives = set-survives }) in
-    let h : (o : OrderEntry) → List·Memᴰ o order → Sets o = λ o j. only o (s o .1 j) in
-    let q = ap (λ (x : ReadingZ). x .quality) (e ∙ crash-book i h (opened (planOf yardPlan))) in
-    omega (arith, q, quality-lost)
-  where
-    only : (o : OrderEntry) → SurvivesBy yardPlan (forgetting yardPlan setAndCrash) o → Sets o
-    only (single n) S k (List·Memᴰ·head q) =
-        let x = S .survives in
-        let z : S .part ≡ n = sole (S .among) in
-        ap (λ (y : Marked). y .command) (q ∙ sym z) ∙ only-setting (S .at) (x .server) (S .part) (x .executes)
+module _ (es : List Event) (rs : List Seen) (x : Ended) (is : traceFrom yardPlan 5 emptyWorld (afterSet es) ≡ record { rows = rowsAfterSet rs; end = x }) where
+  abbrev seen : Trace
+  seen = record { rows = rowsAfterSet rs; end = x }
+
+  provisos : every (λ (r : Seen). r .ok) rs ≡ true → Provisos yardPlan (afterSet es)
+  unfolding every
+  provisos h = provisos-kept yardPlan 5 (afterSet es) seen is h
+
+  -- event 4 executes the command, and it survives
+  set-survives : every (keepsMany 0 36) rs ≡ true → SurvivesAt yardPlan (afterSet es) 4 (markedBy today setting)
+  unfolding At callSeen callWith done every keepsMany
+  set-survives h =
+      survives-seen yardPlan (afterSet es) 5 seen is 4 0 1 8 36 today lentAll settingAsked refl parsed (call-at yardPlan 5 (afterSet es) seen is 4 (asks 0 1) _ refl refl)
+      (ap (λ (y : Call). y .size) (call-at yardPlan 5 (afterSet es) seen is 5 (sync 0 36 lentAll) _ refl refl)) h
+
+  -- and no other is executed
+  only-setting : every (asksOnly (requestBytes settingAsked)) rs ≡ true → (n c : ℕ) (k : Marked) → Executes yardPlan (afterSet es) n c k → k .command ≡ setting
+  unfolding every asksOnly keptIs sameBytes requestBytes flip
+  only-setting h n c k E =
+      let b = executes-only yardPlan (afterSet es) 5 seen is (requestBytes settingAsked) h n c k E in
+      let q : Requested (E .asked) ≡ Requested settingAsked = sym (E .parsed) ∙ ap parsePacket b ∙ parsed in
+      let r : E .asked ≡ settingAsked = cc in
+      ap (λ (y : Marked). y .command) (sym (E .its)) ∙ ap (λ (y : Request). y .command) r
+
+  -- the server counts with the founding state, and there is no other
+  module _ (given : Server → Option State) (none-given : given nothing ≡ none) (first : given (run (afterSet es) .servers 0) ≡ some (founded (planOf yardPlan) 0))
+      (kept : every (keepsMany 0 36) rs ≡ true) (only : every (asksOnly (requestBytes settingAsked)) rs ≡ true) (home : every (below 1) es ≡ true) where
+    abbrev told : Account
+    told = counting yardPlan (afterSet es) given
+
+    no-other : (d : ℕ) (st : State) → told .final (suc d) ≡ some st → ⊥
+    unfolding every below
+    no-other d st q =
+        let n : run (afterSet es) .servers (suc d) ≡ nothing = untouched (suc d) 1 (omega arith) (afterSet es) home in
+        let e : none ≡ some st = sym none-given ∙ ap given (sym n) ∙ q in
+        let z : _≡_ {A = ℕ} 0 1 = cc in
+        omega arith
+
+    founded-only : (d : ℕ) (st : State) → told .final d ≡ some st → founded (planOf yardPlan) 0 ≡ st
+    founded-only zero st q = some-same (sym first ∙ q)
+    founded-only (suc d) st q = absurd (no-other d st q)
+
+    holder : HolderBy yardPlan told 5 0 (founded (planOf yardPlan) 0)
+    holder =
+        record {
+          founded = first;
+          greatest = λ d other q. rw (sym (founded-only d other q)) (omega arith);
+          taker = λ d other q z. rw (sym (founded-only d other q)) (omega arith);
+          home = λ z. at-home;
+        }
+
+    -- whatever order has just the surviving commands: the value and quality at the holder are not the book's
+    pub values-broken : (order : List OrderEntry) → ((e : OrderEntry) → SurvivesBy yardPlan told e ↔ List·Memᴰ e order)
+        → readingMeant (readingAt (pointAt (founded (planOf yardPlan) 0) 5)) ≡ bookAfter (planOf yardPlan) (opened (planOf yardPlan)) order 5 → ⊥
+    unfolding readingMeant parts
+    values-broken order s e =
+        let m : Marked = markedBy today setting in
+        let i : List·Memᴰ (single m) order = s (single m) .0 (record { part = m; among = List·Memᴰ·head refl; at = 4; survives = set-survives kept }) in
+        let h : (o : OrderEntry) → List·Memᴰ o order → Sets o = λ o j. own o (s o .1 j) in
+        let q = ap (λ (y : ReadingZ). y .quality) (e ∙ crash-book i h (opened (planOf yardPlan))) in
+        omega (arith, q, quality-lost)
       where
-        sole : {y : Marked} → List·Memᴰ y (n ∷ []) → y ≡ n
-        sole (List·Memᴰ·head p) = p
+        own : (o : OrderEntry) → SurvivesBy yardPlan told o → Sets o
+        own (single n) S k (List·Memᴰ·head q) =
+            let y = S .survives in
+            let z : S .part ≡ n = sole (S .among) in
+            ap (λ (y : Marked). y .command) (q ∙ sym z) ∙ only-setting only (S .at) (y .server) (S .part) (y .executes)
+          where
+            sole : {y : Marked} → List·Memᴰ y (n ∷ []) → y ≡ n
+            sole (List·Memᴰ·head p) = p
 
-pub not-explained : (order : List OrderEntry) → ExplainedBy yardPlan (forgetting yardPlan setAndCrash) order → ⊥
-not-explained order E = values-broken order (E .survivors) (E .values 5 0 (founded (planOf yardPlan) 0) (lit< tt) crash-holder)
+    no-order : (order : List OrderEntry) → ExplainedBy yardPlan told order → ⊥
+    no-order order E = values-broken order (E .survivors) (E .values 5 0 (founded (planOf yardPlan) 0) (lit< tt) holder)
+
+-- ---- recovery to the founding state
+
+pub crash-provisos : Provisos yardPlan setAndCrash
+unfolding setAndCrash setAndCrashSeen every
+crash-provisos = provisos _ _ _ crash-trace-is refl
+
+pub not-explained : (order : List OrderEntry) → ExplainedBy yardPlan (counting yardPlan setAndCrash (givenBy yardPlan)) order → ⊥
+unfolding setAndCrash setAndCrashSeen endSeen givenBy foundingState recoveredBy headServer headBytes every keepsMany asksOnly below
+not-explained = no-order _ _ _ crash-trace-is (givenBy yardPlan) refl first refl refl refl
+  where
+    first : givenBy yardPlan (run setAndCrash .servers 0) ≡ some (founded (planOf yardPlan) 0)
+    first =
+        let s = down-of 5 (run setAndCrash .servers 0) nothingStored keptWhole 36 (ap (λ (y : Ended). y .first) (end-at yardPlan 5 setAndCrash setAndCrashSeen crash-trace-is)) in
+        rw (s, kept-recovers)
+
+-- ---- recovery that forgets the checkpoint
+
+pub store-provisos : Provisos yardPlan setAndStore
+unfolding setAndStore setAndStoreSeen every
+store-provisos = provisos _ _ _ store-trace-is refl
+
+received : receiveOf setter (resultBytes settingAnswer) .answer ≡ Completed settingAnswer
+unfolding openNumbers openPackets openClients
+received = refl
+
+-- event 7 completes the command
+pub store-completed : Completes yardPlan setAndStore 7 (setting ∷ []) (one (resultMeant settingResult))
+unfolding At setAndStore setAndStoreSeen commandAt callAt placeOf
+store-completed = completes-seen yardPlan setAndStore 7 1 2 setter settingAnswer refl received (call-at yardPlan 5 setAndStore setAndStoreSeen store-trace-is 7 (receive 1 2) _ refl refl)
+
+store-down : run setAndStore .servers 0 ≡ crashed setStored (headBytes 0) 8
+unfolding endSeen setAndStoreSeen
+store-down = down-of 5 (run setAndStore .servers 0) setStored (headBytes 0) 8 (ap (λ (y : Ended). y .first) (end-at yardPlan 5 setAndStore setAndStoreSeen store-trace-is))
+
+-- the true server recovers what it had
+pub store-recovers : finalState yardPlan setAndStore 0 ≡ some (rebased setState)
+unfolding finalState stateGiven recoveredBy checkpointBytes
+store-recovers = rw store-down stored-recovers
+
+pub checkpoint-not-explained : (order : List OrderEntry) → ExplainedBy yardPlan (counting yardPlan setAndStore (tailOnly yardPlan)) order → ⊥
+unfolding setAndStore setAndStoreSeen tailOnly every keepsMany asksOnly below keptIs sameBytes requestBytes flip
+checkpoint-not-explained = no-order _ _ _ store-trace-is (tailOnly yardPlan) refl first refl refl refl
+  where
+    first : tailOnly yardPlan (run setAndStore .servers 0) ≡ some (founded (planOf yardPlan) 0)
+    first = rw store-down head-alone

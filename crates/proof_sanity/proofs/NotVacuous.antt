@@ -1,14 +1,19 @@
--- The claim speaks of something: the schedule of Moved, with a move, two crashes and recoveries, a lease end and a late repeat, keeps all its
--- provisos. Two commands survive and are completed, the first before the second is issued, and point 5 has a holder at move 1.
+-- The claim speaks of something: the schedule of Moved, with a move, crashes and recoveries from logs and from a checkpoint with its tail, a lease
+-- end and a late repeat, keeps all its provisos. Four commands survive and are completed, the first before the second is issued, one of them executed
+-- before the checkpoint and one on its tail; and point 5 has a holder at move 1.
 --     not-vacuous
 -- Assumes nothing.
 use Prim.Native.Nat.{ℕ, zero, suc, _+_, _≤_}
 use mathlib.Core.Path.{_≡_, refl, sym, ap, _∙_, subst}
-use mathlib.Core.Option.{none, some}
+use mathlib.Core.Bool.{true}
+use mathlib.Core.Option.{Option, none, some}
 use native.Mathlib.Omega.{arith}
 use lib.Dec.{lit≤, lit<}
-use lib.ListN.{getElem?}
+use lib.ListN.{drop, getElem?}
+use Rattle.model.specs.declared.Client.{Client}
 use Rattle.model.specs.declared.Point.{Point}
+use Rattle.model.specs.declared.Request.{Request}
+use Rattle.model.specs.declared.ResultPacket.{ResultPacket}
 use Rattle.model.specs.declared.Packet.the-variants.{Requested}
 use Rattle.model.specs.declared.Received.the-variants.{Completed}
 use Rattle.model.specs.declared.Sent.the-variants.{Asked}
@@ -23,13 +28,13 @@ use Rattle.model.specs.States.{State, load, pointAt}
 use Rattle.model.specs.Operations.{answerOf}
 use Rattle.model.specs.Clients.{placeOf, callAt, issueOf, receiveOf}
 use Rattle.model.specs.Yard.{yardPlan}
-use Rattle.claim.specs.World.{Event, request, sync, give, crash, issue, receive, nothing, packet, run, after}
-use Rattle.claim.specs.Provisos.{lengthOf, At, Provisos}
-use Rattle.claim.specs.Claim.{commandAt, Executes, SurvivesAt, Completes, Issues, stateGiven, finalState, Holder}
-use Rattle.proof_sanity.specs.Trace.{Call, Seen, requestAnswer, callSeen, up, standsAt, Ended, endSeen, keepsMany, below, callWith, done}
+use Rattle.claim.specs.World.{Event, request, sync, give, crash, issue, receive, Stored, nothingStored, nothing, storedOf, packet, run, after}
+use Rattle.claim.specs.Provisos.{reachOf, At, Provisos}
+use Rattle.claim.specs.Claim.{commandAt, Executes, Crashes, SurvivesAt, Completes, Issues, stateGiven, finalState, Holder}
+use Rattle.proof_sanity.specs.Trace.{Cut, Call, Seen, requestAnswer, callSeen, up, standsAt, Ended, endSeen, keepsMany, below, callWith, done}
 use Rattle.model_laws.specs.Opened.{openNumbers, openRules, openPackets, openClients}
-use Rattle.proof_sanity.specs.Moved.{setting, stepping, settingResult, steppingResult, settingAsked, steppingAsked, settingAnswer, steppingAnswer, lentAll, asks, schedule, setter, stepper, newStepper, giverPoint, takerPoint, rowsSeen, traceSeen}
-use Rattle.proof_sanity.proofs.Traced.{call-at, end-at, provisos-kept, kept-after, untouched, up-of, executes-seen, done-answer}
+use Rattle.proof_sanity.specs.Moved.{setting, stepCommand, stepping, settingResult, stepResult, steppingResult, settingAsked, stepAsked, settingAnswer, stepAnswer, lentAll, firstStored, asks, schedule, idle, setter, stepper, answering, giverPoint, takerPoint, rowsSeen, traceSeen}
+use Rattle.proof_sanity.proofs.Traced.{call-at, end-at, provisos-kept, untouched, up-of, executes-seen, survives-seen, completes-seen, done-answer}
 use Rattle.proof_sanity.proofs.Computed.{trace-is}
 
 some-same : {A : Type 0} {a b : A} → some a ≡ some b → a ≡ b
@@ -46,53 +51,70 @@ unfolding traceSeen rowsSeen every
 provisos = provisos-kept yardPlan 5 schedule traceSeen trace-is refl
 
 -- the packets and the clients, by themselves
-parsed : (parsePacket (requestBytes settingAsked) ≡ Requested settingAsked) × (parsePacket (requestBytes steppingAsked) ≡ Requested steppingAsked)
+abbrev Parses : Request → Type 0
+Parses q = parsePacket (requestBytes q) ≡ Requested q
+
+parsed : Parses settingAsked × Parses (stepAsked 1) × Parses (stepAsked 2) × Parses (stepAsked 3)
 unfolding openNumbers openRules openPackets
-parsed = (refl, refl)
+parsed = (refl, refl, refl, refl)
 
-received : (receiveOf setter (resultBytes settingAnswer) .answer ≡ Completed settingAnswer) × (receiveOf stepper (resultBytes steppingAnswer) .answer ≡ Completed steppingAnswer)
+abbrev Gets : Client → ResultPacket → Type 0
+Gets d r = receiveOf d (resultBytes r) .answer ≡ Completed r
+
+received : Gets setter settingAnswer × Gets (stepper 1) (stepAnswer 1) × Gets (stepper 2) (stepAnswer 2) × Gets (stepper 3) (stepAnswer 3)
 unfolding openNumbers openPackets openClients
-received = (refl, refl)
+received = (refl, refl, refl, refl)
 
-issued : issueOf newStepper 2 5 (half + 1) .answer ≡ Asked steppingAsked
+issued : issueOf (idle 2 1000 1) 2 5 (half + 1) .answer ≡ Asked (stepAsked 1)
 unfolding openRules openPackets openClients
 issued = refl
+
+-- event n executes q at server c and survives: its log then reaches `reach`, and no later crash keeps less
+survives : (n c p size reach : ℕ) (q : Request) → At yardPlan schedule n (asks c p) → Parses q → callSeen (after schedule n) (asks c p) ≡ answering size (requestBytes q) 0 0 .call
+    → reachOf (after schedule (suc n) .servers c) ≡ reach → every (keepsMany c reach) (drop (suc n) rowsSeen) ≡ true → SurvivesAt yardPlan schedule n (markedBy today (q .command))
+unfolding traceSeen
+survives n c p size reach q a b s r h = survives-seen yardPlan schedule 5 traceSeen trace-is n c p size reach today lentAll q a b s r h
 
 set-survives : SurvivesAt yardPlan schedule 7 (markedBy today setting)
 unfolding At schedule rowsSeen callSeen callWith done every keepsMany
 set-survives =
-    record {
-      server = 0;
-      executes = executes-seen yardPlan schedule 7 0 2 8 today lentAll settingAsked refl (parsed .0) (row 7 (asks 0 2) _ refl refl);
-      kept =
-          λ m b h e.
-          let z : lengthOf (after schedule 8 .servers 0) ≡ 36 = ap (λ (x : Call). x .size) (row 8 (sync 0 36 lentAll) _ refl refl) in
-          rw z (kept-after 0 36 7 schedule refl m b h e);
-    }
+    survives 7 0 2 8 36 settingAsked refl (parsed .0) (row 7 (asks 0 2) _ refl refl) (ap (λ (x : Call). x .size) (row 8 (sync 0 36 lentAll) _ refl refl)) refl
 
 step-survives : SurvivesAt yardPlan schedule 15 (markedBy today stepping)
 unfolding At schedule rowsSeen callSeen callWith done every keepsMany
 step-survives =
-    record {
-      server = 0;
-      executes = executes-seen yardPlan schedule 15 0 4 36 today lentAll steppingAsked refl (parsed .1) (row 15 (asks 0 4) _ refl refl);
-      kept =
-          λ m b h e.
-          let z : lengthOf (after schedule 16 .servers 0) ≡ 64 = ap (λ (x : Call). x .size) (row 16 (give 0 5 1 lentAll) _ refl refl) in
-          rw z (kept-after 0 64 15 schedule refl m b h e);
-    }
+    survives 15 0 4 36 64 (stepAsked 1) refl (parsed .1) (row 15 (asks 0 4) _ refl refl) (ap (λ (x : Call). x .size) (row 16 (give 0 5 1 lentAll) _ refl refl)) refl
+
+-- the crash that follows keeps 8 bytes, and the checkpoint
+before-survives : SurvivesAt yardPlan schedule 30 (markedBy today (stepCommand 2))
+unfolding At schedule rowsSeen callSeen callWith done every keepsMany
+before-survives =
+    survives 30 1 10 132 160 (stepAsked 2) refl (parsed .2) (row 30 (asks 1 10) _ refl refl) (ap (λ (x : Call). x .size) (row 31 (sync 1 160 lentAll) _ refl refl)) refl
+
+tail-survives : SurvivesAt yardPlan schedule 39 (markedBy today (stepCommand 3))
+unfolding At schedule rowsSeen callSeen callWith done every keepsMany
+tail-survives =
+    survives 39 1 12 160 188 (stepAsked 3) refl (parsed .3) (row 39 (asks 1 12) _ refl refl) (ap (λ (x : Call). x .size) (row 40 (sync 1 36 lentAll) _ refl refl)) refl
+
+-- event 13 keeps 50 bytes, counted from the founding
+first-cut : Crashes yardPlan schedule 13 0 50
+unfolding At schedule rowsSeen callSeen callWith done
+first-cut =
+    let own : Option Cut → ℕ = λ o. elim o [ none ↦ 0 | some x ↦ x .reach ] in
+    record { kept = 50; event = refl; reaches = sym (ap (λ (x : Call). own (x .cut)) (row 13 (crash 0 50) _ refl refl)) }
 
 -- its first execution is cut off by the crash
 step-cut : Executes yardPlan schedule 12 0 (markedBy today stepping) × (SurvivesAt yardPlan schedule 12 (markedBy today stepping) → ⊥)
 unfolding At schedule rowsSeen callSeen callWith done
-step-cut = (executes-seen yardPlan schedule 12 0 4 36 today lentAll steppingAsked refl (parsed .1) (row 12 (asks 0 4) _ refl refl), cut)
+step-cut = (executes-seen yardPlan schedule 12 0 4 36 today lentAll (stepAsked 1) refl (parsed .1) (row 12 (asks 0 4) _ refl refl), cut)
   where
     cut : SurvivesAt yardPlan schedule 12 (markedBy today stepping) → ⊥
     cut s =
         let q : some (asks 0 4) ≡ some (request (s .server) (s .executes .number) (s .executes .versions) (s .executes .lent)) = s .executes .event in
         let z : s .server ≡ 0 = cc in
-        let k : lengthOf (after schedule 13 .servers 0) ≤ 50 = subst (λ (d : ℕ). lengthOf (after schedule 13 .servers d) ≤ 50) z (s .kept 13 50 (lit< tt) (rw z refl)) in
-        let n : lengthOf (after schedule 13 .servers 0) ≡ 64 = ap (λ (x : Call). x .size) (row 13 (crash 0 50) _ refl refl) in
+        let cut-here : Crashes yardPlan schedule 13 (s .server) 50 = rw z first-cut in
+        let k : reachOf (after schedule 13 .servers 0) ≤ 50 = subst (λ (d : ℕ). reachOf (after schedule 13 .servers d) ≤ 50) z (s .kept 13 50 (lit< tt) cut-here) in
+        let n : reachOf (after schedule 13 .servers 0) ≡ 64 = ap (λ (x : Call). x .size) (row 13 (crash 0 50) _ refl refl) in
         omega (arith, k, n)
 
 -- server 1 refuses the late repeat of the first with 4
@@ -102,40 +124,20 @@ late-repeat =
     sym (done-answer 1 today lentAll (after schedule 26 .servers 1) (packet (after schedule 26) 2) (after schedule 26)) ∙ ap (λ (x : Call). x .answer) (row 26 (asks 1 2) _ refl refl)
 
 set-completed : Completes yardPlan schedule 10 (setting ∷ []) (one (resultMeant settingResult))
-unfolding At schedule rowsSeen callSeen callWith done commandAt callAt placeOf
-set-completed =
-    let s = row 10 (receive 1 3) _ refl refl in
-    record {
-      client = 1;
-      number = 3;
-      event = refl;
-      state = setter;
-      started = ap (λ (x : Call). x .client) s;
-      bytes = resultBytes settingAnswer;
-      delivered = ap (λ (x : Call). x .packet) s;
-      received = settingAnswer;
-      answer = received .0;
-      its = refl;
-      result = refl;
-    }
+unfolding At schedule rowsSeen commandAt callAt placeOf
+set-completed = completes-seen yardPlan schedule 10 1 3 setter settingAnswer refl (received .0) (row 10 (receive 1 3) _ refl refl)
 
 step-completed : Completes yardPlan schedule 23 (stepping ∷ []) (one (resultMeant steppingResult))
-unfolding At schedule rowsSeen callSeen callWith done commandAt callAt placeOf
-step-completed =
-    let s = row 23 (receive 2 6) _ refl refl in
-    record {
-      client = 2;
-      number = 6;
-      event = refl;
-      state = stepper;
-      started = ap (λ (x : Call). x .client) s;
-      bytes = resultBytes steppingAnswer;
-      delivered = ap (λ (x : Call). x .packet) s;
-      received = steppingAnswer;
-      answer = received .1;
-      its = refl;
-      result = refl;
-    }
+unfolding At schedule rowsSeen commandAt callAt placeOf
+step-completed = completes-seen yardPlan schedule 23 2 6 (stepper 1) (stepAnswer 1) refl (received .1) (row 23 (receive 2 6) _ refl refl)
+
+before-completed : Completes yardPlan schedule 37 (stepCommand 2 ∷ []) (one (resultMeant (stepResult 2)))
+unfolding At schedule rowsSeen commandAt callAt placeOf
+before-completed = completes-seen yardPlan schedule 37 2 11 (stepper 2) (stepAnswer 2) refl (received .2) (row 37 (receive 2 11) _ refl refl)
+
+tail-completed : Completes yardPlan schedule 45 (stepCommand 3 ∷ []) (one (resultMeant (stepResult 3)))
+unfolding At schedule rowsSeen commandAt callAt placeOf
+tail-completed = completes-seen yardPlan schedule 45 2 13 (stepper 3) (stepAnswer 3) refl (received .3) (row 45 (receive 2 13) _ refl refl)
 
 step-issued : Issues yardPlan schedule 11 (stepping ∷ [])
 unfolding At schedule rowsSeen callSeen callWith done
@@ -146,28 +148,28 @@ step-issued =
       point = 5;
       argument = half + 1;
       event = refl;
-      state = newStepper;
+      state = idle 2 1000 1;
       started = ap (λ (x : Call). x .client) (row 11 (issue 2 2 5 (half + 1)) _ refl refl);
-      asked = steppingAsked;
+      asked = stepAsked 1;
       answer = issued;
       its = refl;
     }
 
 -- ---- the holder
 
-giver : standsAt 5 (run schedule .servers 0) ≡ up giverPoint 0
+giver : standsAt 5 (run schedule .servers 0) ≡ up nothingStored giverPoint 0
 unfolding endSeen traceSeen
 giver = ap (λ (x : Ended). x .first) (end-at yardPlan 5 schedule traceSeen trace-is)
 
-taker : standsAt 5 (run schedule .servers 1) ≡ up takerPoint 20
+taker : standsAt 5 (run schedule .servers 1) ≡ up firstStored takerPoint 20
 unfolding endSeen traceSeen
 taker = ap (λ (x : Ended). x .second) (end-at yardPlan 5 schedule traceSeen trace-is)
 
 -- the point of a server that counts
-final-point : (c : ℕ) (x : Point) (h : ℕ) → standsAt 5 (run schedule .servers c) ≡ up x h → (st : State) → finalState yardPlan schedule c ≡ some st → pointAt st 5 ≡ x
+final-point : (c : ℕ) (k : Stored) (x : Point) (h : ℕ) → standsAt 5 (run schedule .servers c) ≡ up k x h → (st : State) → finalState yardPlan schedule c ≡ some st → pointAt st 5 ≡ x
 unfolding finalState stateGiven
-final-point c x h e st q =
-    let s = up-of 5 (run schedule .servers c) x h e in
+final-point c k x h e st q =
+    let s = up-of 5 (run schedule .servers c) k x h e in
     let z : load (s .0) ≡ st = some-same (sym (ap (stateGiven yardPlan schedule) (s .2)) ∙ q) in
     subst (λ (y : State). pointAt y 5 ≡ x) z (s .3)
 
@@ -182,14 +184,14 @@ no-other d st q =
 
 -- both servers stand at move 1, and server 1 took the point there
 move-of : (d : ℕ) (st : State) → finalState yardPlan schedule d ≡ some st → (pointAt st 5 .moveNumber ≡ 1) × (pointAt st 5 .takenMove ≤ 1)
-move-of zero st q = let z = final-point 0 giverPoint 0 giver st q in (ap (λ (x : Point). x .moveNumber) z, rw z (lit≤ tt))
-move-of (suc zero) st q = let z = final-point 1 takerPoint 20 taker st q in (ap (λ (x : Point). x .moveNumber) z, rw z (lit≤ tt))
+move-of zero st q = let z = final-point 0 nothingStored giverPoint 0 giver st q in (ap (λ (x : Point). x .moveNumber) z, rw z (lit≤ tt))
+move-of (suc zero) st q = let z = final-point 1 firstStored takerPoint 20 taker st q in (ap (λ (x : Point). x .moveNumber) z, rw z (lit≤ tt))
 move-of (suc (suc d)) st q = absurd (no-other d st q)
 
 holder : (st : State) × Holder yardPlan schedule 5 1 st × (pointAt st 5 ≡ takerPoint) × (st .heard ≡ 20)
 unfolding finalState stateGiven
 holder =
-    let s = up-of 5 (run schedule .servers 1) takerPoint 20 taker in
+    let s = up-of 5 (run schedule .servers 1) firstStored takerPoint 20 taker in
     let e : finalState yardPlan schedule 1 ≡ some (load (s .0)) = ap (stateGiven yardPlan schedule) (s .2) in (
       load (s .0),
       record {
@@ -202,8 +204,14 @@ holder =
       s .4,
     )
 
+-- the checkpoint is in force at the end: that of event 41 was lost
+in-force : storedOf (run schedule .servers 1) ≡ firstStored
+unfolding storedOf
+in-force = ap storedOf (up-of 5 (run schedule .servers 1) firstStored takerPoint 20 taker .2)
+
 -- events 7 and 15 execute the two commands and survive, events 10 and 23 complete them, and event 11 issues the second; event 12 executes
--- it first, and is cut off; event 26 is the late repeat
+-- it first, and is cut off; event 26 is the late repeat. Event 30 executes before the checkpoint that event 33 stores, event 39 on its tail; events 37 and 45
+-- complete these
 pub not-vacuous : Provisos yardPlan schedule
     × SurvivesAt yardPlan schedule 7 (markedBy today setting)
     × Completes yardPlan schedule 10 (setting ∷ []) (one (resultMeant settingResult))
@@ -213,4 +221,24 @@ pub not-vacuous : Provisos yardPlan schedule
     × (Executes yardPlan schedule 12 0 (markedBy today stepping) × (SurvivesAt yardPlan schedule 12 (markedBy today stepping) → ⊥))
     × (requestAnswer today lentAll (after schedule 26 .servers 1) (packet (after schedule 26) 2) ≡ some (answerOf 4 refusalSize))
     × ((st : State) × Holder yardPlan schedule 5 1 st × (pointAt st 5 ≡ takerPoint) × (st .heard ≡ 20))
-not-vacuous = (provisos, set-survives, set-completed, step-issued, step-survives, step-completed, step-cut, late-repeat, holder)
+    × SurvivesAt yardPlan schedule 30 (markedBy today (stepCommand 2))
+    × Completes yardPlan schedule 37 (stepCommand 2 ∷ []) (one (resultMeant (stepResult 2)))
+    × SurvivesAt yardPlan schedule 39 (markedBy today (stepCommand 3))
+    × Completes yardPlan schedule 45 (stepCommand 3 ∷ []) (one (resultMeant (stepResult 3)))
+    × (storedOf (run schedule .servers 1) ≡ firstStored)
+not-vacuous = (
+  provisos,
+  set-survives,
+  set-completed,
+  step-issued,
+  step-survives,
+  step-completed,
+  step-cut,
+  late-repeat,
+  holder,
+  before-survives,
+  before-completed,
+  tail-survives,
+  tail-completed,
+  in-force,
+)

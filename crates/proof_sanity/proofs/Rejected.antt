@@ -3,6 +3,7 @@
 -- asked of the state in them but that it is sound, so each theorem holds of reachable and unreachable states alike.
 --     served-after-sync     a server that stays at 7 after sync
 --     recovered-keeps       one that recovers to the founding state; recovered-same, recovered-later: recovery loses nothing of the log kept
+--     resumed               one that forgets its checkpoint
 --     own-result            one that echoes its first result; own-results-differ: two ids, two packets
 --     places-and-space      one that says 8 or 9 with places and space free; it holds of all slices, ready or not
 --     not-refuses-all       one that refuses all
@@ -12,12 +13,12 @@
 use Prim.Native.Nat.{ℕ, _+_, _-_, _*_, _≤_, _<_}
 use mathlib.Core.Path.{_≡_, refl, sym, ap, _∙_, subst}
 use mathlib.Core.Bool.{Bool, true, false, _&&_}
-use mathlib.Core.List.{List, [], _∷_, _++_, append-assoc}
-use mathlib.Core.Option.{Option, none, some}
+use mathlib.Core.List.{List, [], _∷_, _++_, append-assoc, append-nil}
+use mathlib.Core.Option.{Option, none, some, Option·map}
 use mathlib.Core.Logic.{_≢_, _⊎_, inl, inr}
 use native.Mathlib.Omega.{arith}
-use lib.ListN.{length, take}
-use lib.Seq.{take-take}
+use lib.ListN.{length, take, drop}
+use lib.Seq.{take-take, take-append-seam}
 use lib.Dec.{eqb, leb, ltb, lit≤}
 use borrow.Author.Tests.{eqb-true, eqb-false, ne-eqb, le-ltb, lt-leb, le-leb}
 use Rattle.model.specs.Versions.{today}
@@ -32,25 +33,28 @@ use Rattle.model.specs.declared.Packet.the-variants.{Malformed, Requested, Resu
 use Rattle.model.specs.Choice.{refuse, reply, append, isPassed, unlessRefused}
 use Rattle.model.specs.Refusals
 use Rattle.model.specs.Numbers.{word}
-use Rattle.model.specs.Limits.{lastServer, clientCount, stateSize, headSize, resultSize, executedSize, setOp, carriedOut, valid}
+use Rattle.model.specs.Limits.{lastServer, clientCount, stateSize, headSize, checkpointSize, resultSize, executedSize, setOp, carriedOut, valid}
 use Rattle.model.specs.Tables.{written, keep}
 use Rattle.model.specs.Plan.{planOk, planOf, entryAt, inRange}
 use Rattle.model.specs.Rules.{ruleOf, setRule}
 use Rattle.model.specs.Packets.{parsePacket, asRequest, resultBytes}
 use Rattle.model.specs.Images.{floorOf, notKnown}
-use Rattle.model.specs.Logs.{Entry, executed, recordSize, headBytes, recordBytes, entriesBytes}
+use Rattle.model.specs.Logs.{Entry, executed, recordSize, headBytes, headServer, recordBytes, entriesBytes}
 use Rattle.model.specs.States.{State, load, pointAt}
 use Rattle.model.specs.Apply.{completion, executedPoint, applyExecuted, founded, withMark, apply, replayFrom}
 use Rattle.model.specs.Decisions.{Decided, orMalformed, find, sameCommand, resultOfRecord, onHeld, resultFor, executedFor, onNew, onId, decideRequest, denying, onRequest}
-use Rattle.model.specs.Operations.{After, answerOf, after, freeIn, stored, settle, leftUnless, foundRefusal, foundOf, requestOf, syncOf, recoverRefusal, recoverOf, settleRecovered, recoveredState}
+use Rattle.model.specs.Operations.{After, answerOf, after, short, unfit, freeIn, stored, settle, leftUnless, foundRefusal, foundOf, requestOf, syncOf, recoverRefusal, recoverOf, settleRecovered, recoveredState}
+use Rattle.model.specs.Checkpoints.{placedRecord, placed, endBefore, rebased, checkpointBytes, checkpointState, AfterCheckpoint, checkpointRefusal, checkpointOf, recoveredTail, recoverTailRefusal, recoverTailOf}
 use Rattle.model_laws.specs.Bytes.{Bytes}
 use Rattle.model_laws.specs.Fits.{Incomplete, EntriesFrom, lastEnd}
 use Rattle.model_laws.proofs.Tests.{choose}
 use Rattle.model_laws.proofs.Tables.{keep-append}
-use Rattle.model_laws.proofs.Written.{take-written-run, length-written}
-use Rattle.model_laws.proofs.Logs.{record-length}
-use Rattle.model_invariants.specs.Sound.{GoodCompletion}
+use Rattle.model_laws.proofs.Written.{take-written-run, length-written, written-front}
+use Rattle.model_laws.proofs.Logs.{record-length, head-back}
+use Rattle.model_laws.proofs.TwoWalks.{recovered-on}
+use Rattle.model_invariants.specs.Sound.{Sound, GoodCompletion}
 use Rattle.model_invariants.specs.Passed.{Admits, FirstRequest}
+use Rattle.model_invariants.specs.History as History
 use Rattle.model_invariants.specs.History.{GoodPlan, Start}
 use Rattle.model_invariants.specs.Calls.{Holds, request, decidedOn, entriesAfter, operated}
 use Rattle.model_invariants.proofs.Floors.{eqb-same}
@@ -64,7 +68,10 @@ use Rattle.model_invariants.proofs.Calls.{lent-elim}
 use Rattle.model_invariants.proofs.Formats.{parsed-request}
 use Rattle.model_invariants.proofs.Running.{holds-size, operation-holds}
 use Rattle.model_invariants.proofs.Loaded.{plan-good, stored-load}
-use Rattle.proof_sanity.specs.Ready.{Ready, Asks, Changed, Own, answeredWith, Served, Regained, Begins}
+use Rattle.model_invariants.proofs.Placed.{find-placed}
+use Rattle.model_invariants.proofs.Checkpoints.{rebased-point, rebased-sound64, checkpoint-back, checkpoint-fits}
+use Rattle.model_invariants.proofs.Restored.{checkpoint-size}
+use Rattle.proof_sanity.specs.Ready.{Ready, Asks, Changed, Own, answeredWith, Served, Regained, Resumed, Begins}
 use Rattle.proof_sanity.proofs.Calls.{result-front, request-point, request-replied, packet-read, request-is, request-held, ready-sound, ready-stored, sync-all, ready-synced, synced-loads, executed-passed, executed-result, executed-space, executed-sound, executed-loads, executed-ready, executed-found, executed-point, executed-admitted}
 
 and-no : (a : Bool) {b : Bool} → b ≡ false → (a && b) ≡ false
@@ -404,6 +411,73 @@ module _ (plan : List PlanEntry) (n : ℕ) (g : GoodPlan plan) (h : n ≤ lastSe
       = ap (λ (y : State). replayFrom y (keep t fs)) (H .same) ∙ replay-mark (load state .mark) (replayFrom (founded plan n) es) (keep t fs)
       ∙ ap (withMark (load state .mark)) (sym (ap (replayFrom (founded plan n)) k ∙ replay-on (founded plan n) es (keep t fs))) in
       (ap (λ (y : After). y .answer) e, ld ∙ ap (λ (y : ℕ). withMark y rp) (sym (ap (λ (y : State). y .size) ld)) ∙ ap (withMark (load (recoverOf fresh (take c log₂) p .state) .size)) (sym w))
+
+-- ---- a server that forgets its checkpoint
+
+front : (s b : List ℕ) → length b ≤ length s → take (length b) (written s 0 b) ≡ b
+front s b l = rw (written-front s b l) (take-append-seam b (drop (length b) s))
+
+module _ (st : State) (S : Sound st) where
+  -- a checkpoint and the tail's head give what the checkpoint keeps
+  resumes : recoveredTail (checkpointBytes st) (headBytes (st .server)) ≡ some (rebased st)
+  unfolding recoveredTail headBytes headServer rebased placed entriesBytes replayFrom
+  resumes =
+      let n = st .server in
+      let back : checkpointState (checkpointBytes st) ≡ some (rebased st) = rw append-nil at (checkpoint-back st S []) in
+      let start : Start (rebased st) = record { sound = rebased-sound64 st S; empty = checkpoint-size (checkpointBytes st) (rebased st) back } in
+      rw (back, eqb-same n) (recovered-on (headBytes n) (rebased st) (head-back n [] (S .server)) ∙ log-recovers start n [] [] History.none tt)
+
+-- a checkpoint of whatever synced state, and recovery from its bytes and the tail's head
+module _ {state log out : List ℕ} (R : Ready state log out) (all : load state .mark ≡ load state .size) (checkpoint tail fresh : List ℕ) (l : checkpointSize ≤ length checkpoint)
+    (h : headSize ≤ length tail) (f : stateSize ≤ length fresh) where
+  abbrev was : State
+  was = load state
+
+  abbrev made : AfterCheckpoint
+  made =
+      record {
+        answer = answerOf Refusals.noRefusal (length (checkpointBytes was));
+        state = stored state (rebased was);
+        checkpoint = written checkpoint 0 (checkpointBytes was);
+        tail = written tail 0 (headBytes (was .server));
+      }
+
+  checkpoint-is : checkpointOf state log checkpoint tail ≡ made
+  unfolding checkpointOf checkpointRefusal short unfit
+  checkpoint-is =
+      rw (le-ltb (length state) stateSize (R .long), le-ltb (length checkpoint) checkpointSize l, le-ltb (length tail) headSize h, R .safe, le-ltb (length log) (was .size) (R .recorded), le-ltb (was .mark) (was .size) (omega (arith, all)))
+
+  abbrev again : After
+  again = recoverTailOf fresh (take (made .answer .wrote) (made .checkpoint)) (take headSize (made .tail))
+
+  recovery-is : again ≡ after (answerOf Refusals.noRefusal 0) (stored fresh (rebased was)) (headBytes (was .server)) []
+  unfolding headBytes recoverTailOf recoverTailRefusal leftUnless settleRecovered rebased placed withMark
+  recovery-is =
+      let S = ready-sound R in
+      let k : take (length (checkpointBytes was)) (written checkpoint 0 (checkpointBytes was)) ≡ checkpointBytes was = front checkpoint (checkpointBytes was) (omega (arith, checkpoint-fits was S, l)) in
+      let t : take headSize (written tail 0 (headBytes (was .server))) ≡ headBytes (was .server) = front tail (headBytes (was .server)) h in
+      let m : withMark (rebased was .size) (rebased was) ≡ rebased was = ap (λ (y : ℕ). withMark (endBefore y) (rebased was)) (sym all) in
+      rw (k, t, le-ltb (length fresh) stateSize f, resumes was S, m)
+
+  loads-left : load (made .state) ≡ rebased was
+  loads-left = stored-load state (rebased was) (rebased-sound64 was (ready-sound R)) (omega (arith, R .long))
+
+  loads-again : load (again .state) ≡ rebased was
+  loads-again = ap (λ (y : After). load (y .state)) recovery-is ∙ stored-load fresh (rebased was) (rebased-sound64 was (ready-sound R)) (omega (arith, f))
+
+  pub resumed : Resumed state (checkpointOf state log checkpoint tail)
+      (recoverTailOf fresh (take (checkpointOf state log checkpoint tail .answer .wrote) (checkpointOf state log checkpoint tail .checkpoint))
+      (take headSize (checkpointOf state log checkpoint tail .tail)))
+  unfolding rebased placed
+  resumed =
+      rw checkpoint-is
+      (record {
+        made = refl;
+        answer = ap (λ (y : After). y .answer) recovery-is;
+        same = loads-again ∙ sym loads-left;
+        holds = λ x c k e. ap (λ (y : State). find x c (y .records)) loads-again ∙ find-placed endBefore x c (was .records) ∙ ap (Option·map (placedRecord endBefore)) e;
+        points = λ p. ap (λ (y : State). pointAt y p) loads-again ∙ rebased-point was p;
+      })
 
 -- ---- "one that refuses all (2)"
 

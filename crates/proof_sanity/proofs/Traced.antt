@@ -8,6 +8,8 @@
 --     untouched                a server that no event names is not founded
 --     up-of, down-of           a server that is seen running, or crashed
 --     executes-seen            a request seen to answer 0 and no packet executes its command
+--     survives-seen            .. and survives where later crashes keep enough
+--     completes-seen           a result that is seen received completes its command
 --     executes-only            where all requests that were answered had one packet, nothing else is executed
 -- Assumes nothing.
 use Prim.Native.Nat.{ℕ, zero, suc, _≤_, _<_}
@@ -16,7 +18,7 @@ use mathlib.Core.Bool.{Bool, true, false, _&&_, _||_, not}
 use mathlib.Core.List.{List, [], _∷_}
 use mathlib.Core.Option.{Option, none, some}
 use native.Mathlib.Omega.{arith}
-use lib.ListN.{take, drop, getElem?}
+use lib.ListN.{length, take, drop, getElem?}
 use lib.Dec.{eqb, leb, ltb}
 use borrow.Author.Tests.{eqb-true, leb-true, ltb-true, eq-eqb, ne-eqb}
 use Rattle.model.specs.declared.Answer.{Answer}
@@ -24,13 +26,16 @@ use Rattle.model.specs.declared.Client.{Client}
 use Rattle.model.specs.declared.Started.the-variants.{NotStarted, Running}
 use Rattle.model.specs.Tables.{every}
 use Rattle.model.specs.Versions.{Versions}
-use Rattle.model.specs.Sequential.{Marked, markedBy}
+use Rattle.model.specs.Sequential.{Marked, markedBy, one, resultMeant}
 use Rattle.model.specs.declared.Request.{Request}
+use Rattle.model.specs.declared.ResultPacket.{ResultPacket}
 use Rattle.model.specs.declared.Packet.the-variants.{Requested}
-use Rattle.model.specs.Packets.{parsePacket, requestBytes}
-use Rattle.claim.specs.Claim.{Executes}
+use Rattle.model.specs.declared.Received.the-variants.{Completed}
+use Rattle.model.specs.Packets.{parsePacket, requestBytes, resultBytes}
+use Rattle.claim.specs.Claim.{commandAt, Executes, Crashes, SurvivesAt, Completes}
 use Rattle.model.specs.Operations.{After, answerOf, requestOf}
-use Rattle.model.specs.Clients.{startOf}
+use Rattle.model.specs.Checkpoints.{checkpointOf}
+use Rattle.model.specs.Clients.{startOf, receiveOf}
 use Rattle.model.specs.declared.LeaseAnswer.{LeaseAnswer}
 use Rattle.model.specs.declared.Point.{Point}
 use Rattle.model.specs.declared.SendAnswer.{SendAnswer}
@@ -38,12 +43,13 @@ use Rattle.model.specs.declared.StartAnswer.{StartAnswer}
 use Rattle.model.specs.declared.Started.{Started}
 use Rattle.model.specs.States.{load, pointAt}
 use Rattle.model.specs.Refusals.{noRefusal}
-use Rattle.claim.specs.World.{withServer, withClient, withManager, making, calls, callsOn, foundAs, crashAt, startsAs, startsOn, sends, receives, told, step, packet}
-use Rattle.claim.specs.World.{Event, found, request, fetch, sync, notice, give, image, take·image, receipt, release, recover, crash, start, issue, resend, receive, open·lease, renew, query, Lent, World, Server, nothing, running, crashed, lentState, lentLog, packet, step, emptyWorld, runFrom, run, after}
-use Rattle.claim.specs.Provisos.{Bytes, Counted, Typed, keptBy, markOf, lengthOf, At, Provisos}
+use Rattle.claim.specs.World.{withServer, withClient, withManager, making, calls, callsOn, foundAs, checkpoints, stores, crashAt, startsAs, startsOn, sends, receives, told, step, packet}
+use Rattle.claim.specs.World.{Event, found, request, fetch, sync, notice, give, image, take·image, receipt, release, recover, checkpoint, store, recover·tail, inspect, crash, start, issue, resend, receive, open·lease, renew, query}
+use Rattle.claim.specs.World.{Lent, World, Stored, Server, nothing, running, storing, crashed, storedOf, lentState, lentLog, packet, step, emptyWorld, runFrom, run, after}
+use Rattle.claim.specs.Provisos.{Bytes, Counted, Typed, keptBy, Begins, markOf, lengthOf, reachOf, At, Provisos}
 use Rattle.model_laws.proofs.Tests.{choose, and-left, and-right}
 use Rattle.model_laws.proofs.Numbers.{bytes-nil, bytes-cons}
-use Rattle.proof_sanity.specs.Trace.{asksOnly, bytesOk, countedOk, typedOk, sameBytes, isNothing, keptIs, notStarted, startsNew, keepsOk, Call, Seen, requestAnswer, callSeen, seenAt, endSeen, Trace, traceFrom, keepsMany, below, Answered, up, down, standsAt, requestDone, done, callWith, seenWith}
+use Rattle.proof_sanity.specs.Trace.{asksOnly, bytesOk, countedOk, typedOk, sameBytes, isNothing, keptIs, beginsOk, notStarted, startsNew, keepsOk, Call, Seen, requestAnswer, callSeen, seenAt, endSeen, Trace, traceFrom, keepsMany, below, Answered, up, down, standsAt, requestDone, done, callWith, seenWith}
 
 impossible : {A B : Type 0} {a : B} → none ≡ some a → A
 impossible e = let z : _≡_ {A = ℕ} 0 1 = cc in absurd (omega arith)
@@ -83,6 +89,10 @@ typed-ok (take·image c p l) h = counted-ok l h
 typed-ok (receipt c p l) h = counted-ok l h
 typed-ok (release c p l) h = counted-ok l h
 typed-ok (recover c state log plan) h = bytes-ok state h
+typed-ok (checkpoint c tail l) h = counted-ok l h
+typed-ok (store c) h = tt
+typed-ok (recover·tail c state k tail) h = bytes-ok state h
+typed-ok (inspect c x k) h = tt
 typed-ok (crash c k) h = tt
 typed-ok (start p) h = tt
 typed-ok (issue x op p a) h = tt
@@ -107,13 +117,20 @@ same-bytes (a ∷ s) (b ∷ t) e =
 is-nothing : (s : Server) → isNothing s ≡ true → s ≡ nothing
 unfolding isNothing
 is-nothing nothing e = refl
-is-nothing (running state log) e = untrue e
-is-nothing (crashed kept mark) e = untrue e
+is-nothing (running k state log) e = untrue e
+is-nothing (storing k log next state tail) e = untrue e
+is-nothing (crashed k kept mark) e = untrue e
 
 kept-is : (log : List ℕ) (o : Option (List ℕ)) → keptIs log o ≡ true → o ≡ some log
 unfolding keptIs
 kept-is log none e = untrue e
 kept-is log (some s) e = ap some (same-bytes s log e)
+
+begins-ok : (k s : List ℕ) → beginsOk k s ≡ true → Begins k s
+unfolding beginsOk
+begins-ok k s e =
+    let t = both (leb 1 (length k)) (sameBytes (take (length k) s) k) (leb-true _ _) (same-bytes _ _) e in
+    record { some·bytes = t .0; front = t .1 }
 
 is-none : (o : Option Client) → notStarted o ≡ true → o ≡ none
 unfolding notStarted
@@ -134,23 +151,32 @@ every-row t [] h n r e = impossible e
 every-row t (x ∷ rs) h zero r e = let z : x ≡ r = cc in ap t (sym z) ∙ and-left (t x) (every t rs) h
 every-row t (x ∷ rs) h (suc n) r e = every-row t rs (and-right (t x) (every t rs) h) n r e
 
+every-past : (t : Seen → Bool) (n : ℕ) (rs : List Seen) → every t (drop (suc n) rs) ≡ true → (m : ℕ) (r : Seen) → n < m → getElem? rs m ≡ some r → t r ≡ true
+every-past t n [] h m r l e = impossible e
+every-past t n (x ∷ rs) h zero r l e = absurd (omega arith)
+every-past t zero (x ∷ rs) h (suc m) r l e = every-row t rs h m r e
+every-past t (suc n) (x ∷ rs) h (suc m) r l e = every-past t n rs h m r (omega arith) e
+
 -- a request is computed once for both
 pub done-answer : (c : ℕ) (v : Versions) (l : Lent) (s : Server) (o : Option (List ℕ)) (w : World) → requestDone c v l s o w .answer ≡ requestAnswer v l s o
 unfolding requestDone requestAnswer
 done-answer c v l nothing o w = refl
-done-answer c v l (running state log) none w = refl
-done-answer c v l (running state log) (some b) w = refl
-done-answer c v l (crashed kept mark) o w = refl
+done-answer c v l (running k state log) none w = refl
+done-answer c v l (running k state log) (some b) w = refl
+done-answer c v l (storing k log next state tail) o w = refl
+done-answer c v l (crashed k kept mark) o w = refl
 
 request-world : (c : ℕ) (v : Versions) (l : Lent) (s : Server) (o : Option (List ℕ)) (w : World) → w .servers c ≡ s
     → requestDone c v l s o w .world ≡ callsOn c l (λ t g b. requestOf v t g b (l .out)) o w
 unfolding requestDone callsOn calls
 request-world c v l nothing none w e = refl
 request-world c v l nothing (some b) w e = rw e
-request-world c v l (running state log) none w e = refl
-request-world c v l (running state log) (some b) w e = rw e
-request-world c v l (crashed kept mark) none w e = refl
-request-world c v l (crashed kept mark) (some b) w e = rw e
+request-world c v l (running k state log) none w e = refl
+request-world c v l (running k state log) (some b) w e = rw e
+request-world c v l (storing k log next state tail) none w e = refl
+request-world c v l (storing k log next state tail) (some b) w e = rw e
+request-world c v l (crashed k kept mark) none w e = refl
+request-world c v l (crashed k kept mark) (some b) w e = rw e
 
 pub done-world : (w : World) (e : Event) → done w e .world ≡ step w e
 unfolding done step
@@ -165,6 +191,10 @@ done-world w (take·image c p l) = refl
 done-world w (receipt c p l) = refl
 done-world w (release c p l) = refl
 done-world w (recover c state log p) = refl
+done-world w (checkpoint c tail l) = refl
+done-world w (store c) = refl
+done-world w (recover·tail c state k tail) = refl
+done-world w (inspect c x k) = refl
 done-world w (crash c k) = refl
 done-world w (start p) = refl
 done-world w (issue x op p a) = refl
@@ -186,10 +216,19 @@ module _ (plan : List ℕ) (es : List Event) (passed : (n : ℕ) (x : Event) →
   found-at n c state log q k a =
       three (sameBytes q plan) (eqb k c) (isNothing (after es n .servers c)) (same-bytes q plan) (eqb-true k c) (is-nothing (after es n .servers c)) (keeps-at n _ a)
 
-  recover-at : (n c : ℕ) (state log q : List ℕ) → getElem? es n ≡ some (recover c state log q) → (q ≡ plan) × (keptBy (after es n .servers c) ≡ some log)
+  recover-at : (n c : ℕ) (state log q : List ℕ) → getElem? es n ≡ some (recover c state log q)
+      → (q ≡ plan) × (keptBy (after es n .servers c) ≡ some log) × (storedOf (after es n .servers c) .checkpoint ≡ [])
   unfolding keepsOk
   recover-at n c state log q a =
-      both (sameBytes q plan) (keptIs log (keptBy (after es n .servers c))) (same-bytes q plan) (kept-is log (keptBy (after es n .servers c))) (keeps-at n _ a)
+      let s = after es n .servers c in
+      three (sameBytes q plan) (keptIs log (keptBy s)) (sameBytes (storedOf s .checkpoint) []) (same-bytes q plan) (kept-is log (keptBy s)) (same-bytes _ []) (keeps-at n _ a)
+
+  tail-at : (n c : ℕ) (state k tail : List ℕ) → getElem? es n ≡ some (recover·tail c state k tail)
+      → (keptBy (after es n .servers c) ≡ some tail) × Begins (storedOf (after es n .servers c) .checkpoint) k
+  unfolding keepsOk
+  tail-at n c state k tail a =
+      let s = after es n .servers c in
+      both (keptIs tail (keptBy s)) (beginsOk (storedOf s .checkpoint) k) (kept-is tail (keptBy s)) (begins-ok _ k) (keeps-at n _ a)
 
   crash-at : (n c k : ℕ) → getElem? es n ≡ some (crash c k) → (markOf (after es n .servers c) ≤ k) × (k ≤ lengthOf (after es n .servers c))
   unfolding keepsOk
@@ -210,7 +249,8 @@ module _ (plan : List ℕ) (es : List Event) (passed : (n : ℕ) (x : Event) →
         own-number = λ n c state log q k a z. found-at n c state log q k a .1;
         founded-once = λ n c state log q k a z. found-at n c state log q k a .2;
         crash-keeps = λ n c k a. crash-at n c k a;
-        recovery-uses = λ n c state log q a z. recover-at n c state log q a .1;
+        recovery-uses = λ n c state log q a z. (recover-at n c state log q a .1, recover-at n c state log q a .2);
+        recovery-uses-both = λ n c state k tail a z. tail-at n c state k tail a;
         started-once = λ n k b a q z. start-at n k b a q;
       }
 
@@ -247,25 +287,16 @@ module _ (plan : List ℕ) (p : ℕ) where
     unfolding seenAt seenWith
     provisos-kept h = provisos-from plan es (λ n x q. every-row (λ r. r .ok) (t .rows) h n (seenAt plan (after es n) x) (row-at n x q))
 
--- ---- crashes
+    -- ---- crashes
 
-pub kept-after : (c k n : ℕ) (es : List Event) → every (keepsMany c k) (drop (suc n) es) ≡ true → (m b : ℕ) → n < m → getElem? es m ≡ some (crash c b) → k ≤ b
-unfolding every keepsMany
-kept-after c k n [] h m b l e = impossible e
-kept-after c k n (x ∷ es) h zero b l e = absurd (omega arith)
-kept-after c k zero (x ∷ es) h (suc m) b l e = first es m h e
-  where
-    first : (xs : List Event) (i : ℕ) → every (keepsMany c k) xs ≡ true → getElem? xs i ≡ some (crash c b) → k ≤ b
-    first [] i g q = impossible q
-    first (y ∷ ys) zero g q =
-        let z : y ≡ crash c b = cc in
-        let t : keepsMany c k (crash c b) ≡ true = ap (keepsMany c k) (sym z) ∙ and-left (keepsMany c k y) (every (keepsMany c k) ys) g in
-        leb-true k b (own t)
+    pub kept-after : (c k n : ℕ) → every (keepsMany c k) (drop (suc n) (t .rows)) ≡ true → (m b : ℕ) → n < m → Crashes plan es m c b → k ≤ b
+    unfolding At seenAt seenWith callWith keepsMany
+    kept-after c k n h m b l C =
+        let r = every-past (keepsMany c k) n (t .rows) h m (seenAt plan (after es m) (crash c (C .kept))) l (row-at m (crash c (C .kept)) (C .event)) in
+        rw (C .reaches) (own _ r)
       where
-        own : (not (eqb c c) || leb k b) ≡ true → leb k b ≡ true
-        own r = simp (eq-eqb c c refl) at r
-    first (y ∷ ys) (suc i) g q = first ys i (and-right (keepsMany c k y) (every (keepsMany c k) ys) g) q
-kept-after c k (suc n) (x ∷ es) h (suc m) b l e = kept-after c k n es h m b (omega arith) e
+        own : (x : ℕ) → (not (eqb c c) || leb k x) ≡ true → k ≤ x
+        own x r = leb-true k x (simp (eq-eqb c c refl) at r)
 
 -- ---- servers that no event names
 
@@ -282,23 +313,40 @@ module _ (d : ℕ) where
   calls-other : (c : ℕ) (l : Lent) (f : List ℕ → List ℕ → After) (s : Server) (w : World) → eqb d c ≡ false → calls c l f s w .servers d ≡ w .servers d
   unfolding calls
   calls-other c l f nothing w h = refl
-  calls-other c l f (running state log) w h = making-servers _ _ d ∙ with-other c d _ w h
-  calls-other c l f (crashed kept mark) w h = refl
+  calls-other c l f (running k state log) w h = making-servers _ _ d ∙ with-other c d _ w h
+  calls-other c l f (storing k log next state tail) w h = refl
+  calls-other c l f (crashed k kept mark) w h = refl
 
   on-other : (c : ℕ) (l : Lent) (f : List ℕ → List ℕ → List ℕ → After) (o : Option (List ℕ)) (w : World) → eqb d c ≡ false → callsOn c l f o w .servers d ≡ w .servers d
   unfolding callsOn
   on-other c l f none w h = refl
   on-other c l f (some b) w h = calls-other c l _ (w .servers c) w h
 
-  found-other : (c : ℕ) (a : After) (w : World) → eqb d c ≡ false → foundAs c a w .servers d ≡ w .servers d
+  found-other : (c : ℕ) (k : Stored) (a : After) (w : World) → eqb d c ≡ false → foundAs c k a w .servers d ≡ w .servers d
   unfolding foundAs
-  found-other c a w h = choose (λ (x : World). x .servers d ≡ w .servers d) (eqb (a .answer .refusal) noRefusal) (λ z. with-other c d _ w h) (λ z. refl)
+  found-other c k a w h = choose (λ (x : World). x .servers d ≡ w .servers d) (eqb (a .answer .refusal) noRefusal) (λ z. with-other c d _ w h) (λ z. refl)
 
-  crash-other : (c k : ℕ) (s : Server) (w : World) → eqb d c ≡ false → crashAt c k s w .servers d ≡ w .servers d
+  crash-other : (c n : ℕ) (s : Server) (w : World) → eqb d c ≡ false → crashAt c n s w .servers d ≡ w .servers d
   unfolding crashAt
-  crash-other c k nothing w h = refl
-  crash-other c k (running state log) w h = with-other c d _ w h
-  crash-other c k (crashed kept mark) w h = with-other c d _ w h
+  crash-other c n nothing w h = refl
+  crash-other c n (running k state log) w h = with-other c d _ w h
+  crash-other c n (storing k log next state tail) w h = with-other c d _ w h
+  crash-other c n (crashed k kept mark) w h = with-other c d _ w h
+
+  checkpoint-other : (c : ℕ) (t : List ℕ) (l : Lent) (s : Server) (w : World) → eqb d c ≡ false → checkpoints c t l s w .servers d ≡ w .servers d
+  unfolding checkpoints
+  checkpoint-other c t l nothing w h = refl
+  checkpoint-other c t l (running k state log) w h =
+      choose (λ (x : World). x .servers d ≡ w .servers d) (eqb (checkpointOf (lentState l state) (lentLog l log) (l .out) t .answer .refusal) noRefusal) (λ z. with-other c d _ w h) (λ z. refl)
+  checkpoint-other c t l (storing k log next state tail) w h = refl
+  checkpoint-other c t l (crashed k kept mark) w h = refl
+
+  store-other : (c : ℕ) (s : Server) (w : World) → eqb d c ≡ false → stores c s w .servers d ≡ w .servers d
+  unfolding stores
+  store-other c nothing w h = refl
+  store-other c (running k state log) w h = refl
+  store-other c (storing k log next state tail) w h = with-other c d _ w h
+  store-other c (crashed k kept mark) w h = refl
 
   as-servers : (a : StartAnswer) (w : World) → startsAs a w .servers d ≡ w .servers d
   unfolding startsAs withClient
@@ -334,7 +382,7 @@ module _ (d : ℕ) where
 
     step-other : (w : World) (e : Event) → below k e ≡ true → step w e .servers d ≡ w .servers d
     unfolding step below
-    step-other w (found c state log p n) h = found-other c _ w (other c h)
+    step-other w (found c state log p n) h = found-other c _ _ w (other c h)
     step-other w (request c p v t) h = on-other c t _ (packet w p) w (other c h)
     step-other w (fetch c x n t) h = calls-other c t _ (w .servers c) w (other c h)
     step-other w (sync c m t) h = calls-other c t _ (w .servers c) w (other c h)
@@ -344,7 +392,11 @@ module _ (d : ℕ) where
     step-other w (take·image c p t) h = on-other c t _ (packet w p) w (other c h)
     step-other w (receipt c p t) h = calls-other c t _ (w .servers c) w (other c h)
     step-other w (release c p t) h = on-other c t _ (packet w p) w (other c h)
-    step-other w (recover c state log p) h = found-other c _ w (other c h)
+    step-other w (recover c state log p) h = found-other c _ _ w (other c h)
+    step-other w (checkpoint c t l) h = checkpoint-other c t l (w .servers c) w (other c h)
+    step-other w (store c) h = store-other c (w .servers c) w (other c h)
+    step-other w (recover·tail c state n t) h = found-other c _ _ w (other c h)
+    step-other w (inspect c x n) h = refl
     step-other w (crash c b) h = crash-other c b (w .servers c) w (other c h)
     step-other w (start p) h = starts-servers (packet w p) w
     step-other w (issue x op p a) h = sends-servers x _ (w .clients x) w
@@ -366,32 +418,35 @@ module _ (d : ℕ) where
 
 -- ---- at the end
 
-pub up-of : (p : ℕ) (s : Server) (x : Point) (h : ℕ) → standsAt p s ≡ up x h
-    → (state : List ℕ) × (log : List ℕ) × (s ≡ running state log) × (pointAt (load state) p ≡ x) × (load state .heard ≡ h)
+pub up-of : (p : ℕ) (s : Server) (k : Stored) (x : Point) (h : ℕ) → standsAt p s ≡ up k x h
+    → (state : List ℕ) × (log : List ℕ) × (s ≡ running k state log) × (pointAt (load state) p ≡ x) × (load state .heard ≡ h)
 unfolding standsAt
-up-of p nothing x h e = let z : _≡_ {A = ℕ} 0 1 = cc in absurd (omega arith)
-up-of p (running state log) x h e = (state, log, refl, cc, cc)
-up-of p (crashed kept mark) x h e = let z : _≡_ {A = ℕ} 0 1 = cc in absurd (omega arith)
+up-of p nothing k x h e = let z : _≡_ {A = ℕ} 0 1 = cc in absurd (omega arith)
+up-of p (running j state log) k x h e = let z : j ≡ k = cc in (state, log, rw z refl, cc, cc)
+up-of p (storing j log next state tail) k x h e = let z : _≡_ {A = ℕ} 0 1 = cc in absurd (omega arith)
+up-of p (crashed j kept mark) k x h e = let z : _≡_ {A = ℕ} 0 1 = cc in absurd (omega arith)
 
-pub down-of : (p : ℕ) (s : Server) (kept : List ℕ) (mark : ℕ) → standsAt p s ≡ down kept mark → s ≡ crashed kept mark
+pub down-of : (p : ℕ) (s : Server) (k : Stored) (kept : List ℕ) (mark : ℕ) → standsAt p s ≡ down k kept mark → s ≡ crashed k kept mark
 unfolding standsAt
-down-of p nothing kept mark e = let z : _≡_ {A = ℕ} 0 1 = cc in absurd (omega arith)
-down-of p (running state log) kept mark e = let z : _≡_ {A = ℕ} 0 1 = cc in absurd (omega arith)
-down-of p (crashed b m) kept mark e = cc
+down-of p nothing k kept mark e = let z : _≡_ {A = ℕ} 0 1 = cc in absurd (omega arith)
+down-of p (running h state log) k kept mark e = let z : _≡_ {A = ℕ} 0 1 = cc in absurd (omega arith)
+down-of p (storing h log next state tail) k kept mark e = let z : _≡_ {A = ℕ} 0 1 = cc in absurd (omega arith)
+down-of p (crashed h b m) k kept mark e = cc
 
 -- ---- requests
 
 pub answer-of : (v : Versions) (l : Lent) (s : Server) (o : Option (List ℕ)) (a : Answer) → requestAnswer v l s o ≡ some a → Answered v l s o a
 unfolding requestAnswer
 answer-of v l nothing o a e = impossible e
-answer-of v l (running state log) none a e = impossible e
-answer-of v l (running state log) (some b) a e = record { state = state; log = log; up = refl; bytes = b; packet = refl; answer = cc }
-answer-of v l (crashed kept mark) o a e = impossible e
+answer-of v l (running k state log) none a e = impossible e
+answer-of v l (running k state log) (some b) a e = record { stored = k; state = state; log = log; up = refl; bytes = b; packet = refl; answer = cc }
+answer-of v l (storing k log next state tail) o a e = impossible e
+answer-of v l (crashed k kept mark) o a e = impossible e
 
 module _ (plan : List ℕ) (es : List Event) where
   -- a request that is executed
   pub executes-seen : (n c p size : ℕ) (v : Versions) (l : Lent) (q : Request) → At plan es n (request c p v l) → parsePacket (requestBytes q) ≡ Requested q
-      → callSeen (after es n) (request c p v l) ≡ record { client = none; packet = some (requestBytes q); size = size; answer = some (answerOf noRefusal 0) }
+      → callSeen (after es n) (request c p v l) ≡ record { client = none; packet = some (requestBytes q); size = size; answer = some (answerOf noRefusal 0); cut = none }
       → Executes plan es n c (markedBy v (q .command))
   unfolding callSeen callWith done
   executes-seen n c p size v l q e parsed s =
@@ -404,6 +459,7 @@ module _ (plan : List ℕ) (es : List Event) where
         versions = v;
         lent = l;
         event = e;
+        stored = A .stored;
         state = A .state;
         log = A .log;
         up = A .up;
@@ -417,6 +473,37 @@ module _ (plan : List ℕ) (es : List Event) where
     where
       some-list : {a b : List ℕ} → some a ≡ some b → a ≡ b
       some-list h = cc
+
+  -- and that survives
+  pub survives-seen : (p : ℕ) (t : Trace) → traceFrom plan p emptyWorld es ≡ t → (n c m size reach : ℕ) (v : Versions) (l : Lent) (q : Request) → At plan es n (request c m v l)
+      → parsePacket (requestBytes q) ≡ Requested q
+      → callSeen (after es n) (request c m v l) ≡ record { client = none; packet = some (requestBytes q); size = size; answer = some (answerOf noRefusal 0); cut = none }
+      → reachOf (after es (suc n) .servers c) ≡ reach → every (keepsMany c reach) (drop (suc n) (t .rows)) ≡ true → SurvivesAt plan es n (markedBy v (q .command))
+  survives-seen p t e n c m size reach v l q a parsed s r h =
+      record {
+        server = c;
+        executes = executes-seen n c m size v l q a parsed s;
+        kept = λ j b i x. rw r (kept-after plan p es t e c reach n h j b i x);
+      }
+
+  pub completes-seen : (n x p : ℕ) (d : Client) (r : ResultPacket) → At plan es n (receive x p) → receiveOf d (resultBytes r) .answer ≡ Completed r
+      → callSeen (after es n) (receive x p) ≡ record { client = some d; packet = some (resultBytes r); size = 0; answer = none; cut = none }
+      → Completes plan es n (commandAt d (r .call) ∷ []) (one (resultMeant (r .result)))
+  unfolding callSeen callWith done
+  completes-seen n x p d r a answer s =
+      record {
+        client = x;
+        number = p;
+        event = a;
+        state = d;
+        started = ap (λ (y : Call). y .client) s;
+        bytes = resultBytes r;
+        delivered = ap (λ (y : Call). y .packet) s;
+        received = r;
+        answer = answer;
+        its = refl;
+        result = refl;
+      }
 
   -- where every request that was answered had the packet b, nothing else is executed
   pub executes-only : (p : ℕ) (t : Trace) → traceFrom plan p emptyWorld es ≡ t → (b : List ℕ) → every (asksOnly b) (t .rows) ≡ true

@@ -1,63 +1,82 @@
--- The rejected server that executes well and recovers to the founding state: what demand 3 reads of a schedule with it. Recover is called in
--- no event of the schedule below, so that the run is that of the server of `model`; but a crash is its last event, and the server counts with
--- what its own Recover gives.
+-- Two rejected servers that execute well: one recovers to the founding state, the other recovers from the tail alone and forgets the checkpoint.
+-- What demand 3 reads of a schedule with them: neither recovery is called in an event of the schedules below, so that the run is that of the server of `model`;
+-- but a crash is their last event, and the server counts with what its own recovery gives.
 -- Assumes nothing.
 use Prim.Native.Nat.{ℕ, _+_}
 use mathlib.Core.List.{List, [], _∷_, _++_}
 use mathlib.Core.Option.{Option, none, some}
 use lib.ListN.{replicate}
 use Rattle.model.specs.Numbers.{half}
+use Rattle.model.specs.Limits.{headSize, resultSize}
 use Rattle.model.specs.Plan.{planOf}
-use Rattle.model.specs.Packets.{requestBytes, grantBytes}
-use Rattle.model.specs.Logs.{headBytes, headServer, executedBytes}
+use Rattle.model.specs.Packets.{requestBytes, resultBytes, grantBytes}
+use Rattle.model.specs.Logs.{executed, headBytes, headServer, executedBytes}
 use Rattle.model.specs.States.{State, load}
-use Rattle.model.specs.Apply.{founded}
+use Rattle.model.specs.Apply.{apply, founded}
+use Rattle.model.specs.Checkpoints.{checkpointBytes}
 use Rattle.model.specs.Operations.{recoveredState}
 use Rattle.model.specs.Yard.{yardPlan}
-use Rattle.model.specs.Clients.{noCall}
-use Rattle.claim.specs.World.{Event, found, open·lease, start, issue, sync, crash, Server, nothing, running, crashed, run}
-use Rattle.claim.specs.Claim.{Account, account}
-use Rattle.proof_sanity.specs.Trace.{off, down, Ended, Trace}
-use Rattle.proof_sanity.specs.Moved.{settingAsked, settingDone, newState, lentAll, asks, clientWith, atServer, onPacket, answering, atClient, atManager}
+use Rattle.claim.specs.World.{Event, found, open·lease, start, issue, receive, sync, checkpoint, store, crash, Stored, nothingStored, Server, nothing, running, storing, crashed, run}
+use Rattle.claim.specs.Claim.{Account, account, recoveredBy}
+use Rattle.proof_sanity.specs.Trace.{Seen, off, down, Ended, Trace}
+use Rattle.proof_sanity.specs.Moved.{settingAsked, settingAnswer, settingDone, newState, lentAll, lentCheckpoint, asks, idle, setter, atServer, onPacket, answering, crashing, atClient, atManager}
 
--- ---- its Recover accepts what the true one accepts, and gives the founding state
+-- ---- the states that they count with
 
+-- the first accepts what the true one accepts, and gives the founding state
 unfoldable pub foundingState : List ℕ → List ℕ → Option State → Option State
 foundingState plan kept none = none
 foundingState plan kept (some st) = some (founded (planOf plan) (headServer kept))
 
 unfoldable pub givenBy : List ℕ → Server → Option State
 givenBy plan nothing = none
-givenBy plan (running state log) = some (load state)
-givenBy plan (crashed kept mark) = foundingState plan kept (recoveredState (planOf plan) kept)
+givenBy plan (running k state log) = some (load state)
+givenBy plan (storing k log next state tail) = some (load state)
+givenBy plan (crashed k kept mark) = foundingState plan kept (recoveredBy plan [] (k .checkpoint) kept)
+
+-- the second takes the tail for the whole log
+unfoldable pub tailOnly : List ℕ → Server → Option State
+tailOnly plan nothing = none
+tailOnly plan (running k state log) = some (load state)
+tailOnly plan (storing k log next state tail) = some (load state)
+tailOnly plan (crashed k kept mark) = recoveredState (planOf plan) kept
 
 module _ (plan : List ℕ) (es : List Event) where
-  unfoldable pub finalForgetting : ℕ → Option State
-  finalForgetting c = givenBy plan (run es .servers c)
-
   -- the true account but for the states at the end
-  abbrev pub forgetting : Account
-  forgetting =
+  abbrev pub counting : (Server → Option State) → Account
+  counting given =
       record {
         Issues = account plan es .Issues;
         Completes = account plan es .Completes;
         SurvivesAt = account plan es .SurvivesAt;
-        final = finalForgetting;
+        final = λ c. given (run es .servers c);
         Recovers = account plan es .Recovers;
       }
 
--- ---- a client sets point 5 to 40; its record is synced, and the server crashes
+-- ---- a client sets point 5 to 40, and its record is synced
+
+abbrev pub afterSet : List Event → List Event
+afterSet es =
+    found 0 newState (replicate 8 0) yardPlan 0 ∷ open·lease 0 10 ∷ start 0 ∷ issue 1 1 5 (half + 40) ∷ asks 0 1 ∷ sync 0 36 lentAll ∷ es
+
+abbrev pub rowsAfterSet : List Seen → List Seen
+rowsAfterSet rs =
+    atServer 0
+    ∷ atManager
+    ∷ onPacket 0 (grantBytes (record { client = 1; lease = 10 }))
+    ∷ atClient (idle 1 10 1) none
+    ∷ answering 8 (requestBytes settingAsked) 0 0
+    ∷ atServer 36
+    ∷ rs
+
+-- the server's state then
+unfoldable pub setState : State
+setState = apply (founded (planOf yardPlan) 0) (record { item = executed settingDone; end = 36 })
+
+-- ---- the server crashes
 
 unfoldable pub setAndCrash : List Event
-setAndCrash =
-    found 0 newState (replicate 8 0) yardPlan 0
-    ∷ open·lease 0 10
-    ∷ start 0
-    ∷ issue 1 1 5 (half + 40)
-    ∷ asks 0 1
-    ∷ sync 0 36 lentAll
-    ∷ crash 0 36
-    ∷ []
+setAndCrash = afterSet (crash 0 36 ∷ [])
 
 abbrev pub keptWhole : List ℕ
 keptWhole = headBytes 0 ++ executedBytes settingDone
@@ -65,14 +84,28 @@ keptWhole = headBytes 0 ++ executedBytes settingDone
 unfoldable pub setAndCrashSeen : Trace
 setAndCrashSeen =
     record {
+      rows = rowsAfterSet (crashing 36 0 36 ∷ []);
+      end = record { first = down nothingStored keptWhole 36; second = off };
+    }
+
+-- ---- the client receives its result; a checkpoint is made and stored, and the server crashes with nothing of the tail but its head
+
+unfoldable pub setAndStore : List Event
+setAndStore = afterSet (asks 0 1 ∷ receive 1 2 ∷ checkpoint 0 (replicate headSize 0) lentCheckpoint ∷ store 0 ∷ crash 0 8 ∷ [])
+
+abbrev pub setStored : Stored
+setStored = record { checkpoint = checkpointBytes setState; replaced = 28 }
+
+unfoldable pub setAndStoreSeen : Trace
+setAndStoreSeen =
+    record {
       rows =
-          atServer 0
-          ∷ atManager
-          ∷ onPacket 0 (grantBytes (record { client = 1; lease = 10 }))
-          ∷ atClient (clientWith 1 10 1 noCall) none
-          ∷ answering 8 (requestBytes settingAsked) 0 0
+          rowsAfterSet
+          (answering 36 (requestBytes settingAsked) 0 resultSize
+          ∷ atClient setter (some (resultBytes settingAnswer))
           ∷ atServer 36
           ∷ atServer 36
-          ∷ [];
-      end = record { first = down keptWhole 36; second = off };
+          ∷ crashing 36 0 36
+          ∷ []);
+      end = record { first = down setStored (headBytes 0) 8; second = off };
     }

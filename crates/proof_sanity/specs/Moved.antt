@@ -1,9 +1,11 @@
 -- A schedule over bytes with everything that demand 3 speaks of. Client 1 sets point 5 to 40 and receives the result; then client 2 issues a
 -- step by 1. Its first execution is cut off by a crash inside its record, the second survives. The point moves to server 1, which crashes and
 -- recovers from the take; there client 2 receives its result. The lease of client 1 ends, server 1 gets the notice, and refuses the late
--- repeat of client 1's request. Server 0 releases the point.
+-- repeat of client 1's request. Server 0 releases the point. Client 2 steps again. Server 1 makes a checkpoint, which is stored, crashes with
+-- nothing of the tail but its head, recovers from both, and answers out of the checkpoint. A third step is executed on the tail; the next
+-- checkpoint is lost by a crash before it is stored, and the server recovers from the first one and its tail; there client 2 gets its result.
 -- Assumes nothing.
-use Prim.Native.Nat.{ℕ, _+_}
+use Prim.Native.Nat.{ℕ, suc, _+_, _-_}
 use mathlib.Core.Bool.{true}
 use mathlib.Core.List.{List, [], _∷_, _++_}
 use mathlib.Core.Option.{Option, none, some}
@@ -18,50 +20,62 @@ use Rattle.model.specs.declared.ResultPacket.{ResultPacket}
 use Rattle.model.specs.declared.Point.{Point}
 use Rattle.model.specs.Versions.{today}
 use Rattle.model.specs.Numbers.{half}
-use Rattle.model.specs.Limits.{stateSize, greatestImage, resultSize, refusalSize, noticeKind, setOp, stepOp, carriedOut, valid}
+use Rattle.model.specs.Limits.{stateSize, headSize, checkpointSize, greatestImage, resultSize, refusalSize, noticeKind, setOp, stepOp, carriedOut, valid}
 use Rattle.model.specs.Packets.{requestBytes, resultBytes, receiptBytes, noticeBytes, grantBytes}
 use Rattle.model.specs.Images.{Image, imageBytes}
-use Rattle.model.specs.Logs.{headBytes, executedBytes, takeBytes}
-use Rattle.model.specs.States.{held, releasedStatus}
+use Rattle.model.specs.Tables.{written}
+use Rattle.model.specs.Logs.{executed, gone, took, headBytes, executedBytes, takeBytes}
+use Rattle.model.specs.States.{State, held, releasedStatus}
+use Rattle.model.specs.Apply.{founded, replayFrom}
+use Rattle.model.specs.Checkpoints.{checkpointBytes}
+use Rattle.model.specs.Plan.{planOf}
+use Rattle.model.specs.declared.Notice.{Notice}
 use Rattle.model.specs.Operations.{answerOf}
 use Rattle.model.specs.Clients.{noCall}
 use Rattle.model.specs.Yard.{yardPlan}
-use Rattle.claim.specs.World.{Event, found, request, sync, notice, give, image, take·image, receipt, release, recover, crash, start, issue, receive, open·lease, query, Lent}
+use Rattle.claim.specs.World.{Event, found, request, sync, notice, give, image, take·image, receipt, release, recover, checkpoint, store, recover·tail, crash, start, issue, receive, open·lease, query, Lent, Stored, nothingStored}
 use Rattle.proof_sanity.specs.Trace.{Call, Seen, up, Ended, Trace}
 
--- ---- the two commands
+-- ---- the commands
 
 abbrev pub setting : Command
 setting = record { client = 1; call = 1; op = setOp; point = 5; argument = half + 40 }
 
+-- call c of client 2, the steps
+abbrev pub stepCommand : ℕ → Command
+stepCommand c = record { client = 2; call = c; op = stepOp; point = 5; argument = half + 1 }
+
 abbrev pub stepping : Command
-stepping = record { client = 2; call = 1; op = stepOp; point = 5; argument = half + 1 }
+stepping = stepCommand 1
 
 abbrev pub settingResult : CommandResult
 settingResult = record { outcome = carriedOut; value = half + 40; quality = valid }
 
+abbrev pub stepResult : ℕ → CommandResult
+stepResult c = record { outcome = carriedOut; value = half + (40 + c); quality = valid }
+
 abbrev pub steppingResult : CommandResult
-steppingResult = record { outcome = carriedOut; value = half + 41; quality = valid }
+steppingResult = stepResult 1
 
 -- as requests, with the lease ends 10 and 1000, and their result packets
 abbrev pub settingAsked : Request
 settingAsked = record { command = setting; done = 1; lease = 10 }
 
-abbrev pub steppingAsked : Request
-steppingAsked = record { command = stepping; done = 1; lease = 1000 }
+abbrev pub stepAsked : ℕ → Request
+stepAsked c = record { command = stepCommand c; done = c; lease = 1000 }
 
 abbrev pub settingAnswer : ResultPacket
 settingAnswer = record { client = 1; call = 1; point = 5; result = settingResult }
 
-abbrev pub steppingAnswer : ResultPacket
-steppingAnswer = record { client = 2; call = 1; point = 5; result = steppingResult }
+abbrev pub stepAnswer : ℕ → ResultPacket
+stepAnswer c = record { client = 2; call = c; point = 5; result = stepResult c }
 
 -- in the log
 abbrev pub settingDone : Executed
 settingDone = record { command = setting; done = 1; result = settingResult }
 
-abbrev pub steppingDone : Executed
-steppingDone = record { command = stepping; done = 1; result = steppingResult }
+abbrev pub stepDone : ℕ → Executed
+stepDone c = record { command = stepCommand c; done = c; result = stepResult c }
 
 -- the image of point 5 on its way to server 1
 abbrev pub movedImage : Image
@@ -81,6 +95,10 @@ movedImage =
           ∷ [];
     }
 
+-- the notice of client 1's end
+abbrev pub setterGone : Notice
+setterGone = record { client = 1; time = 20 }
+
 -- ---- the schedule
 
 abbrev pub newState : List ℕ
@@ -93,12 +111,32 @@ lentAll = record { state = stateSize; log = 200; tail = replicate 200 0; out = r
 abbrev pub lentImage : Lent
 lentImage = record { state = stateSize; log = 200; tail = replicate 200 0; out = replicate greatestImage 0 }
 
--- what the crashes keep: 50 of server 0's 64 bytes, all 120 of server 1's
+-- for a checkpoint
+abbrev pub lentCheckpoint : Lent
+lentCheckpoint = record { state = stateSize; log = 200; tail = replicate 200 0; out = replicate checkpointSize 0 }
+
+-- what the crashes keep: 50 of server 0's 64 bytes, all 120 of server 1's; of its tail the head, then all 36 bytes
 abbrev pub keptFirst : List ℕ
-keptFirst = take 50 (headBytes 0 ++ (executedBytes settingDone ++ executedBytes steppingDone))
+keptFirst = take 50 (headBytes 0 ++ (executedBytes settingDone ++ executedBytes (stepDone 1)))
 
 abbrev pub keptSecond : List ℕ
 keptSecond = headBytes 1 ++ takeBytes movedImage
+
+abbrev pub keptTail : List ℕ
+keptTail = headBytes 1 ++ executedBytes (stepDone 3)
+
+-- the checkpoint that is stored: server 1 has taken the point, got the notice, and executed the second step
+unfoldable pub takenState : State
+takenState =
+    replayFrom (founded (planOf yardPlan) 1)
+    (record { item = took movedImage; end = 120 } ∷ record { item = gone setterGone; end = 132 } ∷ record { item = executed (stepDone 2); end = 160 } ∷ [])
+
+abbrev pub storedBytes : List ℕ
+storedBytes = checkpointBytes takenState
+
+-- it replaces the log's 152 bytes of records
+abbrev pub firstStored : Stored
+firstStored = record { checkpoint = storedBytes; replaced = 152 }
 
 -- the number of a request's packet among those made
 abbrev pub asks : ℕ → ℕ → Event
@@ -135,40 +173,66 @@ schedule =
     ∷ asks 1 2
     ∷ receipt 1 5 lentAll
     ∷ release 0 9 lentAll
+    ∷ issue 2 2 5 (half + 1)
+    ∷ asks 1 10
+    ∷ sync 1 160 lentAll
+    ∷ checkpoint 1 (replicate headSize 0) lentCheckpoint
+    ∷ store 1
+    ∷ crash 1 8
+    ∷ recover·tail 1 newState storedBytes (headBytes 1)
+    ∷ asks 1 10
+    ∷ receive 2 11
+    ∷ issue 2 2 5 (half + 1)
+    ∷ asks 1 12
+    ∷ sync 1 36 lentAll
+    ∷ checkpoint 1 (replicate headSize 0) lentCheckpoint
+    ∷ crash 1 36
+    ∷ recover·tail 1 newState (written (replicate checkpointSize 0) 0 storedBytes) keptTail
+    ∷ asks 1 12
+    ∷ receive 2 13
     ∷ []
 
 -- ---- what is seen of it
 
--- a client with no call yet, and with its call 1
-abbrev pub clientWith : ℕ → ℕ → ℕ → OpenCall → Client
-clientWith x lease next k = record { client = x; lease = lease; next = next; calls = noCall ∷ k ∷ replicate 14 noCall }
+-- a client with no call open, the next one's number last; and with the call of a command
+abbrev pub idle : ℕ → ℕ → ℕ → Client
+idle x lease next = record { client = x; lease = lease; next = next; calls = replicate 16 noCall }
 
 abbrev pub openCall : Command → OpenCall
 openCall k = record { call = k .call; op = k .op; point = k .point; argument = k .argument }
 
+abbrev pub waiting : ℕ → Command → Client
+waiting lease k =
+    record {
+      client = k .client;
+      lease = lease;
+      next = suc (k .call);
+      calls = replicate (k .call) noCall ++ (openCall k ∷ replicate (15 - k .call) noCall);
+    }
+
 abbrev pub setter : Client
-setter = clientWith 1 10 2 (openCall setting)
+setter = waiting 10 setting
 
-abbrev pub stepper : Client
-stepper = clientWith 2 1000 2 (openCall stepping)
-
-abbrev pub newStepper : Client
-newStepper = clientWith 2 1000 1 noCall
+abbrev pub stepper : ℕ → Client
+stepper c = waiting 1000 (stepCommand c)
 
 abbrev pub atServer : ℕ → Seen
-atServer size = record { ok = true; call = record { client = none; packet = none; size = size; answer = none } }
+atServer size = record { ok = true; call = record { client = none; packet = none; size = size; answer = none; cut = none } }
 
 abbrev pub onPacket : ℕ → List ℕ → Seen
-onPacket size b = record { ok = true; call = record { client = none; packet = some b; size = size; answer = none } }
+onPacket size b = record { ok = true; call = record { client = none; packet = some b; size = size; answer = none; cut = none } }
 
 abbrev pub answering : ℕ → List ℕ → ℕ → ℕ → Seen
-answering size b n wrote = record { ok = true; call = record { client = none; packet = some b; size = size; answer = some (answerOf n wrote) } }
+answering size b n wrote = record { ok = true; call = record { client = none; packet = some b; size = size; answer = some (answerOf n wrote); cut = none } }
+
+abbrev pub crashing : ℕ → ℕ → ℕ → Seen
+crashing size c reach = record { ok = true; call = record { client = none; packet = none; size = size; answer = none; cut = some (record { server = c; reach = reach }) } }
 
 abbrev pub atClient : Client → Option (List ℕ) → Seen
-atClient d b = record { ok = true; call = record { client = some d; packet = b; size = 0; answer = none } }
+atClient d b = record { ok = true; call = record { client = some d; packet = b; size = 0; answer = none; cut = none } }
 
 abbrev pub atManager : Seen
-atManager = record { ok = true; call = record { client = none; packet = none; size = 0; answer = none } }
+atManager = record { ok = true; call = record { client = none; packet = none; size = 0; answer = none; cut = none } }
 
 unfoldable pub rowsSeen : List Seen
 rowsSeen =
@@ -178,42 +242,59 @@ rowsSeen =
     ∷ atManager
     ∷ onPacket 0 (grantBytes (record { client = 1; lease = 10 }))
     ∷ onPacket 0 (grantBytes (record { client = 2; lease = 1000 }))
-    ∷ atClient (clientWith 1 10 1 noCall) none
+    ∷ atClient (idle 1 10 1) none
     ∷ answering 8 (requestBytes settingAsked) 0 0
     ∷ atServer 36
     ∷ answering 36 (requestBytes settingAsked) 0 resultSize
     ∷ atClient setter (some (resultBytes settingAnswer))
-    ∷ atClient newStepper none
-    ∷ answering 36 (requestBytes steppingAsked) 0 0
-    ∷ atServer 64
+    ∷ atClient (idle 2 1000 1) none
+    ∷ answering 36 (requestBytes (stepAsked 1)) 0 0
+    ∷ crashing 64 0 50
     ∷ atServer 50
-    ∷ answering 36 (requestBytes steppingAsked) 0 0
+    ∷ answering 36 (requestBytes (stepAsked 1)) 0 0
     ∷ atServer 64
     ∷ atServer 72
     ∷ atServer 72
     ∷ onPacket 8 (imageBytes movedImage)
+    ∷ crashing 120 1 120
     ∷ atServer 120
-    ∷ atServer 120
-    ∷ answering 120 (requestBytes steppingAsked) 0 resultSize
-    ∷ atClient stepper (some (resultBytes steppingAnswer))
+    ∷ answering 120 (requestBytes (stepAsked 1)) 0 resultSize
+    ∷ atClient (stepper 1) (some (resultBytes (stepAnswer 1)))
     ∷ atManager
-    ∷ onPacket 120 (noticeBytes noticeKind (record { client = 1; time = 20 }))
+    ∷ onPacket 120 (noticeBytes noticeKind setterGone)
     ∷ answering 132 (requestBytes settingAsked) 4 refusalSize
     ∷ atServer 132
     ∷ onPacket 72 (receiptBytes (record { point = 5; server = 1; moveNumber = 1 }))
+    ∷ atClient (idle 2 1000 2) none
+    ∷ answering 132 (requestBytes (stepAsked 2)) 0 0
+    ∷ atServer 160
+    ∷ atServer 160
+    ∷ atServer 160
+    ∷ crashing 160 1 160
+    ∷ atServer 160
+    ∷ answering 160 (requestBytes (stepAsked 2)) 0 resultSize
+    ∷ atClient (stepper 2) (some (resultBytes (stepAnswer 2)))
+    ∷ atClient (idle 2 1000 3) none
+    ∷ answering 160 (requestBytes (stepAsked 3)) 0 0
+    ∷ atServer 188
+    ∷ atServer 188
+    ∷ crashing 188 1 188
+    ∷ atServer 188
+    ∷ answering 188 (requestBytes (stepAsked 3)) 0 resultSize
+    ∷ atClient (stepper 3) (some (resultBytes (stepAnswer 3)))
     ∷ []
 
--- server 0 has released the point, server 1 holds it, both with move number 1
+-- server 0 has released the point, server 1 holds it, taken before its checkpoint; both with move number 1
 abbrev pub giverPoint : Point
 giverPoint =
     record { status = releasedStatus; quality = valid; destination = 1; value = half + 41; moveNumber = 1; takenMove = 0; giveEnd = 72; takeEnd = 0 }
 
 abbrev pub takerPoint : Point
-takerPoint = record { status = held; quality = valid; destination = 0; value = half + 41; moveNumber = 1; takenMove = 1; giveEnd = 0; takeEnd = 120 }
+takerPoint = record { status = held; quality = valid; destination = 0; value = half + 43; moveNumber = 1; takenMove = 1; giveEnd = 0; takeEnd = headSize }
 
 unfoldable pub traceSeen : Trace
 traceSeen =
     record {
       rows = rowsSeen;
-      end = record { first = up giverPoint 0; second = up takerPoint 20 };
+      end = record { first = up nothingStored giverPoint 0; second = up firstStored takerPoint 20 };
     }

@@ -1,5 +1,5 @@
--- Lent slices on which a request is refused with neither 2 nor 19, whatever state they hold; and what a request that was executed
--- leaves.
+-- Lent slices on which a request is refused with neither 2 nor 19, whatever state they hold; what a request that was executed leaves, and a
+-- checkpoint with the recovery from it.
 -- Assumes nothing.
 use Prim.Native.Nat.{ℕ, _+_, _*_, _≤_, _<_}
 use mathlib.Core.Path.{_≡_}
@@ -20,6 +20,7 @@ use Rattle.model.specs.States.{load, sound, pointAt}
 use Rattle.model.specs.Apply.{completion}
 use Rattle.model.specs.Decisions.{find, executedFor, resultFor, resultOfRecord}
 use Rattle.model.specs.Operations.{After, answerOf, requestOf, syncOf}
+use Rattle.model.specs.Checkpoints.{AfterCheckpoint, placedPoint, placedRecord, endBefore, checkpointBytes}
 use Rattle.model.specs.Refusals.{noRefusal}
 use Rattle.model_laws.specs.Bytes.{Bytes}
 
@@ -76,6 +77,15 @@ pub record Regained (state : List ℕ) (q : Request) (a : After) : Type 0 where
   pub value : pointAt (load (a .state)) (q .command .point) .value ≡ resultFor today (load state) q .value
   pub quality : pointAt (load (a .state)) (q .command .point) .quality ≡ resultFor today (load state) q .quality
   pub synced : load (a .state) .mark ≡ load (a .state) .size
+
+-- a checkpoint of the state, and the recovery r from what it wrote: neither is refused, and recovery gives the state that the checkpoint left. Every
+-- completion record and every point is there, its places before the tail
+pub record Resumed (state : List ℕ) (a : AfterCheckpoint) (r : After) : Type 0 where
+  pub made : a .answer ≡ answerOf noRefusal (length (checkpointBytes (load state)))
+  pub answer : r .answer ≡ answerOf noRefusal 0
+  pub same : load (r .state) ≡ load (a .state)
+  pub holds : (x c : ℕ) (k : Completion) → find x c (load state .records) ≡ some k → find x c (load (r .state) .records) ≡ some (placedRecord endBefore k)
+  pub points : (p : ℕ) → pointAt (load (r .state)) p ≡ placedPoint endBefore (pointAt (load state) p)
 
 -- f, what found left, is not refused; then a first request is executed, and the same one is served with the result r after a sync
 pub record Begins (f : After) (b out : List ℕ) (q : Request) (r : CommandResult) : Type 0 where

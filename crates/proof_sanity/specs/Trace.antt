@@ -1,12 +1,12 @@
 -- A schedule over bytes, run once: whether each event keeps the provisos in the world before it, what its call gets and answers, and how the
 -- servers stand at the end.
 -- Assumes nothing.
-use Prim.Native.Nat.{ℕ, _*_}
+use Prim.Native.Nat.{ℕ, _+_, _*_}
 use mathlib.Core.Path.{_≡_}
 use mathlib.Core.Bool.{Bool, true, false, _&&_, _||_, not}
 use mathlib.Core.List.{List, [], _∷_}
 use mathlib.Core.Option.{Option, none, some}
-use lib.ListN.{take}
+use lib.ListN.{length, take}
 use lib.Dec.{eqb, leb, ltb}
 use Rattle.model.specs.declared.Answer.{Answer}
 use Rattle.model.specs.declared.Client.{Client}
@@ -17,8 +17,9 @@ use Rattle.model.specs.Tables.{every}
 use Rattle.model.specs.States.{load, pointAt}
 use Rattle.model.specs.Operations.{requestOf}
 use Rattle.model.specs.Clients.{startOf}
-use Rattle.claim.specs.World.{Event, found, request, fetch, sync, notice, give, image, take·image, receipt, release, recover, crash, start, issue, resend, receive, open·lease, renew, query, Lent, World, Server, nothing, running, crashed, withServer, making, lentState, lentLog, stateBack, logBack, packet, step}
-use Rattle.claim.specs.Provisos.{keptBy, markOf, lengthOf}
+use Rattle.claim.specs.World.{Event, found, request, fetch, sync, notice, give, image, take·image, receipt, release, recover, checkpoint, store, recover·tail, inspect, crash, start, issue, resend, receive, open·lease, renew, query}
+use Rattle.claim.specs.World.{Lent, World, Stored, Server, nothing, running, storing, crashed, storedOf, withServer, making, lentState, lentLog, stateBack, logBack, packet, step}
+use Rattle.claim.specs.Provisos.{keptBy, markOf, lengthOf, reachOf}
 
 -- ---- the provisos, as tests
 
@@ -40,6 +41,10 @@ typedOk (take·image c p l) = countedOk l
 typedOk (receipt c p l) = countedOk l
 typedOk (release c p l) = countedOk l
 typedOk (recover c state log plan) = bytesOk state
+typedOk (checkpoint c tail l) = countedOk l
+typedOk (store c) = true
+typedOk (recover·tail c state k tail) = bytesOk state
+typedOk (inspect c x k) = true
 typedOk (crash c k) = true
 typedOk (start p) = true
 typedOk (issue x op p a) = true
@@ -57,12 +62,17 @@ sameBytes (a ∷ s) (b ∷ t) = eqb a b && sameBytes s t
 
 unfoldable pub isNothing : Server → Bool
 isNothing nothing = true
-isNothing (running state log) = false
-isNothing (crashed kept mark) = false
+isNothing (running k state log) = false
+isNothing (storing k log next state tail) = false
+isNothing (crashed k kept mark) = false
 
 unfoldable pub keptIs : List ℕ → Option (List ℕ) → Bool
 keptIs log none = false
 keptIs log (some s) = sameBytes s log
+
+-- a checkpoint is in force, and the slice begins with it
+unfoldable pub beginsOk : List ℕ → List ℕ → Bool
+beginsOk k slice = leb 1 (length k) && sameBytes (take (length k) slice) k
 
 unfoldable pub notStarted : Option Client → Bool
 notStarted none = true
@@ -73,7 +83,7 @@ unfoldable pub startsNew : World → Option (List ℕ) → Bool
 startsNew w none = true
 startsNew w (some b) = notStarted (w .clients (startOf b .client .client))
 
--- the other provisos; found and recover are taken as not refused
+-- the other provisos; found and the two recoveries are taken as not refused
 unfoldable pub keepsOk : List ℕ → World → Event → Bool
 keepsOk plan w (found c state log p n) = sameBytes p plan && (eqb n c && isNothing (w .servers c))
 keepsOk plan w (request c p v l) = true
@@ -85,7 +95,11 @@ keepsOk plan w (image c p l) = true
 keepsOk plan w (take·image c p l) = true
 keepsOk plan w (receipt c p l) = true
 keepsOk plan w (release c p l) = true
-keepsOk plan w (recover c state log p) = sameBytes p plan && keptIs log (keptBy (w .servers c))
+keepsOk plan w (recover c state log p) = sameBytes p plan && (keptIs log (keptBy (w .servers c)) && sameBytes (storedOf (w .servers c) .checkpoint) [])
+keepsOk plan w (checkpoint c tail l) = true
+keepsOk plan w (store c) = true
+keepsOk plan w (recover·tail c state k tail) = keptIs tail (keptBy (w .servers c)) && beginsOk (storedOf (w .servers c) .checkpoint) k
+keepsOk plan w (inspect c x k) = true
 keepsOk plan w (crash c k) = leb (markOf (w .servers c)) k && leb k (lengthOf (w .servers c))
 keepsOk plan w (start p) = startsNew w (packet w p)
 keepsOk plan w (issue x op p a) = true
@@ -97,18 +111,26 @@ keepsOk plan w (query x t) = true
 
 -- ---- what is seen of an event
 
--- what an event's call gets: the client and the packet it names, and its server's log before it, by length; and what a request answers
+-- a crash: its server, and what it keeps, counted from the founding
+pub record Cut : Type 0 where
+  pub server : ℕ
+  pub reach : ℕ
+
+-- what an event's call gets: the client and the packet it names, and its server's log before it, by length from the founding; what a request
+-- answers, and what a crash keeps
 pub record Call : Type 0 where
   pub client : Option Client
   pub packet : Option (List ℕ)
   pub size : ℕ
   pub answer : Option Answer
+  pub cut : Option Cut
 
 unfoldable pub requestAnswer : Versions → Lent → Server → Option (List ℕ) → Option Answer
 requestAnswer v l nothing p = none
-requestAnswer v l (running state log) none = none
-requestAnswer v l (running state log) (some b) = some (requestOf v (lentState l state) (lentLog l log) b (l .out) .answer)
-requestAnswer v l (crashed kept mark) p = none
+requestAnswer v l (running k state log) none = none
+requestAnswer v l (running k state log) (some b) = some (requestOf v (lentState l state) (lentLog l log) b (l .out) .answer)
+requestAnswer v l (storing k log next state tail) p = none
+requestAnswer v l (crashed k kept mark) p = none
 
 -- the world after an event, and what a request answers
 pub record Done : Type 0 where
@@ -118,11 +140,12 @@ pub record Done : Type 0 where
 -- a request, computed once for both
 unfoldable pub requestDone : ℕ → Versions → Lent → Server → Option (List ℕ) → World → Done
 requestDone c v l nothing p w = record { world = w; answer = none }
-requestDone c v l (running state log) none w = record { world = w; answer = none }
-requestDone c v l (running state log) (some b) w =
+requestDone c v l (running k state log) none w = record { world = w; answer = none }
+requestDone c v l (running k state log) (some b) w =
     let a = requestOf v (lentState l state) (lentLog l log) b (l .out) in
-    record { world = making (take (a .answer .wrote) (a .out)) (withServer c (running (stateBack l state a) (logBack l state log a)) w); answer = some (a .answer) }
-requestDone c v l (crashed kept mark) p w = record { world = w; answer = none }
+    record { world = making (take (a .answer .wrote) (a .out)) (withServer c (running k (stateBack l state a) (logBack l state log a)) w); answer = some (a .answer) }
+requestDone c v l (storing k log next state tail) p w = record { world = w; answer = none }
+requestDone c v l (crashed k kept mark) p w = record { world = w; answer = none }
 
 unfoldable pub done : World → Event → Done
 done w (found c state log p n) = record { world = step w (found c state log p n); answer = none }
@@ -136,6 +159,10 @@ done w (take·image c p l) = record { world = step w (take·image c p l); answer
 done w (receipt c p l) = record { world = step w (receipt c p l); answer = none }
 done w (release c p l) = record { world = step w (release c p l); answer = none }
 done w (recover c state log p) = record { world = step w (recover c state log p); answer = none }
+done w (checkpoint c tail l) = record { world = step w (checkpoint c tail l); answer = none }
+done w (store c) = record { world = step w (store c); answer = none }
+done w (recover·tail c state k tail) = record { world = step w (recover·tail c state k tail); answer = none }
+done w (inspect c x k) = record { world = step w (inspect c x k); answer = none }
 done w (crash c k) = record { world = step w (crash c k); answer = none }
 done w (start p) = record { world = step w (start p); answer = none }
 done w (issue x op p a) = record { world = step w (issue x op p a); answer = none }
@@ -146,10 +173,13 @@ done w (renew x t span) = record { world = step w (renew x t span); answer = non
 done w (query x t) = record { world = step w (query x t); answer = none }
 
 abbrev pub atServer : Server → Option (List ℕ) → Option Answer → Call
-atServer s b a = record { client = none; packet = b; size = lengthOf s; answer = a }
+atServer s b a = record { client = none; packet = b; size = reachOf s; answer = a; cut = none }
 
 abbrev pub atClient : Option Client → Option (List ℕ) → Call
-atClient d b = record { client = d; packet = b; size = 0; answer = none }
+atClient d b = record { client = d; packet = b; size = 0; answer = none; cut = none }
+
+abbrev pub atCrash : ℕ → ℕ → Server → Call
+atCrash c k s = record { client = none; packet = none; size = reachOf s; answer = none; cut = some (record { server = c; reach = storedOf s .replaced + k }) }
 
 -- `a` is what a request answers
 unfoldable pub callWith : World → Event → Option Answer → Call
@@ -164,7 +194,11 @@ callWith w (take·image c p l) a = atServer (w .servers c) (packet w p) none
 callWith w (receipt c p l) a = atServer (w .servers c) none none
 callWith w (release c p l) a = atServer (w .servers c) (packet w p) none
 callWith w (recover c state log p) a = atServer (w .servers c) none none
-callWith w (crash c k) a = atServer (w .servers c) none none
+callWith w (checkpoint c tail l) a = atServer (w .servers c) none none
+callWith w (store c) a = atServer (w .servers c) none none
+callWith w (recover·tail c state k tail) a = atServer (w .servers c) none none
+callWith w (inspect c x k) a = atServer (w .servers c) none none
+callWith w (crash c k) a = atCrash c k (w .servers c)
 callWith w (start p) a = atClient none (packet w p)
 callWith w (issue x op p a) r = atClient (w .clients x) none
 callWith w (resend x c) a = atClient (w .clients x) none
@@ -189,9 +223,10 @@ seenAt plan w e = seenWith plan w e (done w e .answer)
 
 -- a request that was answered: its server ran, and its packet was made
 pub record Answered (v : Versions) (l : Lent) (s : Server) (o : Option (List ℕ)) (a : Answer) : Type 0 where
+  pub stored : Stored
   pub state : List ℕ
   pub log : List ℕ
-  pub up : s ≡ running state log
+  pub up : s ≡ running stored state log
   pub bytes : List ℕ
   pub packet : o ≡ some bytes
   pub answer : requestOf v (lentState l state) (lentLog l log) bytes (l .out) .answer ≡ a
@@ -202,16 +237,19 @@ asksOnly b r = elim (r .call .answer) [ none ↦ true | some a ↦ keptIs b (r .
 
 -- ---- the end
 
--- a server: not founded; running, with a point and heard time; crashed, with the bytes kept and the mark
+-- a server: not founded; running, with what is in force, a point and heard time; with a checkpoint to be stored; crashed, with what is in force,
+-- the bytes kept and the mark
 pub data Stands : Type 0 where
   off : Stands
-  up : Point → ℕ → Stands
-  down : List ℕ → ℕ → Stands
+  up : Stored → Point → ℕ → Stands
+  saving : Stands
+  down : Stored → List ℕ → ℕ → Stands
 
 unfoldable pub standsAt : ℕ → Server → Stands
 standsAt p nothing = off
-standsAt p (running state log) = let st = load state in up (pointAt st p) (st .heard)
-standsAt p (crashed kept mark) = down kept mark
+standsAt p (running k state log) = let st = load state in up k (pointAt st p) (st .heard)
+standsAt p (storing k log next state tail) = saving
+standsAt p (crashed k kept mark) = down k kept mark
 
 -- servers 0 and 1
 pub record Ended : Type 0 where
@@ -236,27 +274,9 @@ traceFrom plan p w (e ∷ es) =
 
 -- ---- crashes
 
--- a crash of server c keeps k bytes or more
-unfoldable pub keepsMany : ℕ → ℕ → Event → Bool
-keepsMany c k (found d state log p n) = true
-keepsMany c k (request d p v l) = true
-keepsMany c k (fetch d x n l) = true
-keepsMany c k (sync d m l) = true
-keepsMany c k (notice d p l) = true
-keepsMany c k (give d p n l) = true
-keepsMany c k (image d p l) = true
-keepsMany c k (take·image d p l) = true
-keepsMany c k (receipt d p l) = true
-keepsMany c k (release d p l) = true
-keepsMany c k (recover d state log p) = true
-keepsMany c k (crash d b) = not (eqb d c) || leb k b
-keepsMany c k (start p) = true
-keepsMany c k (issue x op p a) = true
-keepsMany c k (resend x n) = true
-keepsMany c k (receive x p) = true
-keepsMany c k (open·lease t span) = true
-keepsMany c k (renew x t span) = true
-keepsMany c k (query x t) = true
+-- a crash of server c keeps k bytes or more, counted from the founding
+unfoldable pub keepsMany : ℕ → ℕ → Seen → Bool
+keepsMany c k r = elim (r .call .cut) [ none ↦ true | some x ↦ not (eqb (x .server) c) || leb k (x .reach) ]
 
 -- ---- servers that no event names
 
@@ -273,6 +293,10 @@ below k (take·image c p l) = ltb c k
 below k (receipt c p l) = ltb c k
 below k (release c p l) = ltb c k
 below k (recover c state log p) = ltb c k
+below k (checkpoint c tail l) = ltb c k
+below k (store c) = ltb c k
+below k (recover·tail c state n tail) = ltb c k
+below k (inspect c x n) = ltb c k
 below k (crash c b) = ltb c k
 below k (start p) = true
 below k (issue x op p a) = true

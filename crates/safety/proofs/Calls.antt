@@ -1,7 +1,7 @@
--- A call of a server leaves both worlds alike.
---     settled                  every decision, carried out in both
+-- A call of a running server, over bytes and over records, by the server's own log.
+--     settled                  every decision, carried out in both, by the server's own log
 --     call-left                a call of a running server: what was answered, what was made, and the server
---     call-alike               the worlds after a call
+--     made-bytes               what a call makes is bytes
 -- Assumes nothing.
 use Prim.Native.Nat.{ℕ, _+_, _-_, _*_, _≤_, _<_}
 use mathlib.Core.Path.{_≡_, refl, sym, _∙_, ap, subst}
@@ -45,7 +45,7 @@ use Rattle.claim.specs.World.{lentState, lentLog, stateBack, logBack}
 use Rattle.claim.specs.World as B
 use Rattle.claim.specs.Provisos.{Counted}
 use Rattle.claim.specs.RecordWorld as R
-use Rattle.safety.specs.Alike.{RunningAlike, ServerAlike, nothing, running, crashed, LeftAlike, Both, Made}
+use Rattle.safety.specs.Alike.{LocalAlike, LeftAlike, Made}
 use Rattle.safety.specs.Decoded.{roomIn, roomOf}
 use Rattle.safety.proofs.Facts.{holds-sound, holds-mark, holds-size, held}
 use Rattle.safety.proofs.Made.{operation-made}
@@ -79,10 +79,7 @@ pub stored-bytes : (s : List ℕ) (st : State) → Sound st → Bytes s → Byte
 unfolding stored
 stored-bytes s st S h = bytes-written s 0 (stateBytes st) h (state-bytes st (fits-of st S))
 
-module _ {plan : List PlanEntry} {c : ℕ} {log : R.Log} {state bytes : List ℕ} (K : RunningAlike plan c (load state) log state bytes) (t : B.Lent) where
-  abbrev start : State
-  start = founded plan c
-
+module _ {start : State} {log : R.Log} {state bytes : List ℕ} (K : LocalAlike start (load state) log state bytes) (t : B.Lent) where
   abbrev es : List Entry
   es = log .entries
 
@@ -105,7 +102,7 @@ module _ {plan : List PlanEntry} {c : ℕ} {log : R.Log} {state bytes : List ℕ
 
   -- a decision that changes nothing
   quiet : (n : ℕ) (b out : List ℕ) → take (length b) out ≡ b
-      → LeftAlike plan c t state bytes (after (answerOf n (length b)) s g out) (record { number = n; made = b; state = load state; log = log })
+      → LeftAlike start t state bytes (after (answerOf n (length b)) s g out) (record { number = n; made = b; state = load state; log = log })
   quiet n b out e =
       let a : After = after (answerOf n (length b)) s g out in
       record { answer = same-answer refl; made = e; server = rw (same-state a refl, same-log a refl refl) K }
@@ -115,19 +112,19 @@ module _ {plan : List PlanEntry} {c : ℕ} {log : R.Log} {state bytes : List ℕ
     unfolding lentState
     lent-part = take-take stateEnd (t .state) state (omega (arith, whole, length-take (t .state) state))
 
-    lent-load : load s ≡ load state
+    pub lent-load : load s ≡ load state
     lent-load = part-load state s (K .holds .bytes) (K .holds .opens .sound) lent-part .0
 
     lent-sound : sound s ≡ true
     lent-sound = part-load state s (K .holds .bytes) (K .holds .opens .sound) lent-part .1
 
-    lent-bytes : Bytes s
+    pub lent-bytes : Bytes s
     unfolding lentState
     lent-bytes = bytes-take (t .state) state (K .holds .bytes)
 
     -- a state stored in the lent part, and a log slice that opens with the entries
     changed : (fs : List Entry) (st : State) (h out : List ℕ) → Sound st → Limits.Holds start fs (stored s st) h
-        → LeftAlike plan c t state bytes (after (answerOf noRefusal 0) (stored s st) h out)
+        → LeftAlike start t state bytes (after (answerOf noRefusal 0) (stored s st) h out)
         (record { number = 0; made = []; state = st; log = record { number = log .number; entries = fs } })
     unfolding stateBack logBack lentState
     changed fs st h out S H =
@@ -135,7 +132,7 @@ module _ {plan : List PlanEntry} {c : ℕ} {log : R.Log} {state bytes : List ℕ
         let k = held (K .holds .from) (stored s st) (drop (t .state) state) h (drop (t .log) (bytes ++ t .tail)) H (stored-bytes s st S lent-bytes)
         (bytes-drop (t .state) state (K .holds .bytes)) (rw (length-stored s st) enough)
         (rw (length-front state (stored s st) (t .state) (length-stored s st)) (K .holds .long)) in
-        record { answer = same-answer {b = []} refl; made = refl; server = record { number = K .number; holds = k .0; loads = k .1 ∙ stored-load s st S enough } }
+        record { answer = same-answer {b = []} refl; made = refl; server = record { holds = k .0; loads = k .1 ∙ stored-load s st S enough } }
 
     module _ (ok : Counted t) (holding : length bytes ≤ length g) where
       counted : length g < word * word
@@ -160,7 +157,7 @@ module _ {plan : List PlanEntry} {c : ℕ} {log : R.Log} {state bytes : List ℕ
 
       -- every decision
       pub settled : (out : List ℕ) (need : ℕ) → need ≤ length out → (d : Decided) → Allowed s g d → Made need d
-          → LeftAlike plan c t state bytes (settle s g out d) (R.settle (load state) log d)
+          → LeftAlike start t state bytes (settle s g out d) (R.settle (load state) log d)
       unfolding settle Allowed R.settle R.longer apply
       settled out need h d refuses m = quiet _ [] out refl
       settled out need h d (denies {n = n} {b = b}) m =
@@ -187,7 +184,7 @@ module _ (o : Operation) (k : LentBytes o) (t : B.Lent) (ok : Counted t) where
   abbrev need : ℕ
   need = outputSize o
 
-  module _ {plan : List PlanEntry} {c : ℕ} {log : R.Log} {state bytes : List ℕ} (K : RunningAlike plan c (load state) log state bytes) where
+  module _ {start : State} {log : R.Log} {state bytes : List ℕ} (K : LocalAlike start (load state) log state bytes) where
     abbrev front : List ℕ
     front = lentState t state
 
@@ -196,7 +193,7 @@ module _ (o : Operation) (k : LentBytes o) (t : B.Lent) (ok : Counted t) where
 
     -- what the tests of lent memory leave of a decision, beside the call over records with that room
     Left : Decided → ℕ → Type 0
-    Left d room = LeftAlike plan c t state bytes (settle front slice out d) (R.callOf (load state) log room (decision o))
+    Left d room = LeftAlike start t state bytes (settle front slice out d) (R.callOf (load state) log room (decision o))
 
     left-short : Left (refuse tooShort) 0
     unfolding Left R.callOf R.settle settle
@@ -212,7 +209,7 @@ module _ (o : Operation) (k : LentBytes o) (t : B.Lent) (ok : Counted t) where
         rw (lent-sound K t whole, ← lent-load K t whole) (go (ltb (length slice) (load front .size)) refl)
       where
         go : (p : Bool) → ltb (length slice) (load front .size) ≡ p
-            → LeftAlike plan c t state bytes (settle front slice out (unlessRefused (pick p unsound 0) (decision o (load front) (freeIn front slice))))
+            → LeftAlike start t state bytes (settle front slice out (unlessRefused (pick p unsound 0) (decision o (load front) (freeIn front slice))))
             (R.settle (load front) log (pick p (refuse unsound) (decision o (load front) (length slice - load front .size))))
         go true e = rw (lent-load K t whole) (quiet K t unsound [] out refl)
         go false e =
@@ -221,7 +218,7 @@ module _ (o : Operation) (k : LentBytes o) (t : B.Lent) (ok : Counted t) where
             = omega (arith, ltb-false (length slice) (load front .size) e, ap (λ (x : State). x .size) same, holds-size (K .holds)) in
             let S : Sound (load front) = subst Sound (sym same) (holds-sound (K .holds)) in
             let d : Decided = decision o (load front) (freeIn front slice) in
-            subst (λ (x : State). LeftAlike plan c t state bytes (settle front slice out d) (R.settle x log d)) (sym same)
+            subst (λ (x : State). LeftAlike start t state bytes (settle front slice out d) (R.settle x log d)) (sym same)
             (settled K t whole ok holding out need enough d (decision-allowed o front slice k) (operation-made (load front) S o (freeIn front slice) k))
 
     left-either : Left (decidedOn o front slice (t .out)) (roomIn t state bytes out need)
@@ -234,15 +231,15 @@ module _ (o : Operation) (k : LentBytes o) (t : B.Lent) (ok : Counted t) where
         go false x true y = unfold unlessRefused in left-short
         go false x false y = left-whole (ltb-false _ _ x) (ltb-false _ _ y)
 
-  pub call-left : {plan : List PlanEntry} {c : ℕ} {st : State} {log : R.Log} {state bytes : List ℕ} → RunningAlike plan c st log state bytes
-      → LeftAlike plan c t state bytes (operated o (lentState t state) (lentLog t bytes) (t .out)) (R.callOf st log (roomIn t state bytes out need) (decision o))
+  pub call-left : {start st : State} {log : R.Log} {state bytes : List ℕ} → LocalAlike start st log state bytes
+      → LeftAlike start t state bytes (operated o (lentState t state) (lentLog t bytes) (t .out)) (R.callOf st log (roomIn t state bytes out need) (decision o))
   unfolding Left
-  call-left {st = st} {state = state} {bytes = bytes} K =
-      let L = left-either (record { number = K .number; holds = K .holds; loads = refl }) in
+  call-left {st = st} {log = log} {state = state} {bytes = bytes} K =
+      let L = left-either {log = log} (record { holds = K .holds; loads = refl }) in
       rw (operated-is o (lentState t state) (lentLog t bytes) (t .out)) (rw (K .loads) at L)
 
   -- what is made is bytes
-  made-bytes : (st : State) → Sound st → (log : R.Log) (room : ℕ) → Bytes (R.callOf st log room (decision o) .made)
+  pub made-bytes : (st : State) → Sound st → (log : R.Log) (room : ℕ) → Bytes (R.callOf st log room (decision o) .made)
   unfolding R.callOf R.settle
   made-bytes st S log room = go (ltb room (st .size))
     where
@@ -256,22 +253,3 @@ module _ (o : Operation) (k : LentBytes o) (t : B.Lent) (ok : Counted t) where
       go : (p : Bool) → Bytes (R.settle st log (pick p (refuse unsound) (decision o st (room - st .size))) .made)
       go true = bytes-nil
       go false = made (decision o st (room - st .size)) (operation-made st S o (room - st .size) k)
-
-  -- the worlds after a call
-  pub call-alike : {plan : List PlanEntry} {r : R.World} {b : B.World} → Both plan r b → (c : ℕ)
-      → Both plan (R.calls c (roomOf (b .servers c) t out need) (decision o) (r .servers c) r) (B.calls c t (λ s g. operated o s g (t .out)) (b .servers c) b)
-  unfolding R.calls B.calls roomOf
-  call-alike {plan} {r} {b} l c = go (l .alike .servers c)
-    where
-      go : {x : R.Server} {y : B.Server} → ServerAlike plan c x y
-          → Both plan (R.calls c (roomOf y t out need) (decision o) x r) (B.calls c t (λ s g. operated o s g (t .out)) y b)
-      go nothing = l
-      go (running {st = st} {log = log} {state = state} {bytes = bytes} K) =
-          let room : ℕ = roomIn t state bytes out need in
-          let L = call-left K in
-          let S : Sound st = subst Sound (K .loads) (holds-sound (K .holds)) in
-          rw (L .made) (record {
-            alike = alike-making (alike-server (l .alike) c _ _ (running (L .server))) (R.callOf st log room (decision o) .made);
-            parties = parties-making (parties-server (l .parties) c _) (R.callOf st log room (decision o) .made) (made-bytes st S log room);
-          })
-      go (crashed K) = l

@@ -1,50 +1,36 @@
 -- The provisos of an event over bytes are those of its event over records.
 --     decodes
 -- Assumes nothing.
-use Prim.Native.Nat.{ℕ, _*_, _≤_, _<_}
+use Prim.Native.Nat.{ℕ, _+_, _≤_}
 use mathlib.Core.Path.{_≡_, refl, sym, _∙_, ap, subst}
-use mathlib.Core.Bool.{Bool, true, false, _||_}
-use mathlib.Core.List.{List, [], _++_}
+use mathlib.Core.Bool.{Bool, true, false}
+use mathlib.Core.List.{List, []}
 use mathlib.Core.Option.{none, some}
 use native.Mathlib.Omega.{arith}
-use lib.Dec.{eqb, lit<}
-use lib.ListN.{length, length-take}
+use lib.Dec.{eqb}
 use borrow.Author.Tests.{eqb-true}
 use Rattle.model.specs.Choice.{pick}
-use Rattle.model.specs.Numbers.{word}
-use Rattle.model.specs.Limits.{stateSize, resultSize, receiptSize, greatestImage}
-use Rattle.model.specs.Plan.{planOk, planOf}
+use Rattle.model.specs.Limits.{resultSize}
+use Rattle.model.specs.Plan.{planOk}
 use Rattle.model.specs.States.{State}
 use Rattle.model.specs.Versions.{Versions}
-use Rattle.model.specs.Operations.{After, short, foundOf, recoverOf}
+use Rattle.model.specs.Operations.{After, foundOf, recoverOf}
+use Rattle.model.specs.Checkpoints.{recoverTailOf}
 use Rattle.model.specs.Clients.{startOf}
 use Rattle.model.specs.Refusals.{noRefusal}
 use Rattle.model_laws.proofs.Numbers.{bytes-nil}
-use Rattle.claim.specs.World.{Lent, lentState, lentLog}
 use Rattle.claim.specs.World as B
-use Rattle.claim.specs.Provisos.{Counted}
 use Rattle.claim.specs.Provisos as BP
 use Rattle.claim.specs.RecordWorld as R
 use Rattle.claim.specs.RecordProvisos as RP
 use Rattle.proof_records.specs.Provided.{FoundOk, Provided}
 use Rattle.safety.specs.Alike.{WorldAlike}
 use Rattle.safety.specs.Allowed.{RecoverOk, Allowed, Decodes}
-use Rattle.safety.specs.Decoded.{roomIn, roomOf, planIf, decoded, kind}
-use Rattle.safety.proofs.Worlds.{same-packet, same-client, nothing-back, alike-mark, alike-length}
+use Rattle.safety.specs.Decoded.{roomOf, placeOf, planIf, decoded, kind}
+use Rattle.safety.proofs.Worlds.{same-packet, same-client, nothing-back, alike-mark, alike-reach}
 
 apart : {A : Type 0} → _≡_ {A = ℕ} 0 1 → A
 apart e = absurd (omega arith)
-
--- a room has 64 bits
-room-counted : (t : Lent) (out : List ℕ) (need : ℕ) (y : B.Server) → Counted t → roomOf y t out need < word * word
-unfolding roomOf roomIn lentLog
-room-counted t out need B.nothing ok = lit< tt
-room-counted t out need (B.running state log) ok = go (short (lentState t state) stateSize || short out need)
-  where
-    go : (p : Bool) → pick p 0 (length (lentLog t log)) < word * word
-    go true = lit< tt
-    go false = omega (arith, ok, length-take (t .log) (log ++ t .tail))
-room-counted t out need (B.crashed kept mark) ok = lit< tt
 
 -- a plan, or none
 plan-bytes : (a : After) (p : List ℕ) → BP.Bytes p → BP.Bytes (planIf a p)
@@ -55,7 +41,7 @@ plan-bytes a p s = go (eqb (a .answer .refusal) noRefusal)
     go true = s
     go false = bytes-nil
 
-module _ (plan : List ℕ) {r : R.World} {b : B.World} (l : WorldAlike (planOf plan) r b) where
+module _ (plan : List ℕ) {r : R.World} {b : B.World} (l : WorldAlike plan r b) where
   -- found and recover that succeed over records succeed over bytes
   found-ok : (c : ℕ) (state log p : List ℕ) (n : ℕ) → (foundOf state log p n .answer .refusal ≡ noRefusal → FoundOk plan B.nothing (b .servers c) c p n) → (st : State)
       → R.foundOf (planIf (foundOf state log p n) p) n ≡ some st → FoundOk plan R.nothing (r .servers c) c (planIf (foundOf state log p n) p) n
@@ -74,6 +60,25 @@ module _ (plan : List ℕ) {r : R.World} {b : B.World} (l : WorldAlike (planOf p
       go : (t : Bool) → eqb (recoverOf state log p .answer .refusal) noRefusal ≡ t → R.recoverOf (pick t p []) g ≡ some st → pick t p [] ≡ plan
       go true e s = a (eqb-true _ _ e) .one-plan
       go false e s = let k : R.recoverOf [] g ≡ none = refl in apart (cc)
+
+  -- checkpoint and tail, with the one plan
+  tail-ok : (a : After) (g : R.Log) (st : State) → R.recoverOf (planIf a plan) g ≡ some st → planIf a plan ≡ plan
+  unfolding planIf R.recoverOf planOk
+  tail-ok a g st = go (eqb (a .answer .refusal) noRefusal)
+    where
+      go : (t : Bool) → R.recoverOf (pick t plan []) g ≡ some st → pick t plan [] ≡ plan
+      go true s = refl
+      go false s = let k : R.recoverOf [] g ≡ none = refl in apart (cc)
+
+  -- a crash keeps as much of the whole log
+  crash-ok : (c n : ℕ) → BP.markOf (b .servers c) ≤ n → n ≤ BP.lengthOf (b .servers c)
+      → (RP.markOf (r .servers c) ≤ placeOf (b .servers c) n) × (placeOf (b .servers c) n ≤ RP.lengthOf (r .servers c))
+  unfolding placeOf BP.reachOf
+  crash-ok c n low high = (omega (arith, low, alike-mark (l .servers c)), omega (arith, high, alike-reach (l .servers c)))
+
+  place-is : (c n k : ℕ) → k ≡ placeOf (b .servers c) n → k ≡ B.storedOf (b .servers c) .replaced + n
+  unfolding placeOf
+  place-is c n k e = e
 
   -- an event without provisos of its own
   free : (e : R.Event) → 5 ≤ kind e → RP.Typed e → Provided plan r e
@@ -109,7 +114,20 @@ module _ (plan : List ℕ) {r : R.World} {b : B.World} (l : WorldAlike (planOf p
         issues = λ x op p n q. absurd (h x op p n q);
       }
 
-  pub decodes : (y : B.Event) → Allowed plan b y → Decodes plan r b y (decoded b y)
+  -- recover with this plan, whose success asks for the one plan
+  recovery : (y : B.Event) (c : ℕ) (p : List ℕ) → ((g : R.Log) (st : State) → R.recoverOf p g ≡ some st → p ≡ plan) → Decodes plan r b y (R.recover c p)
+  unfolding RP.Typed
+  recovery y c p ok =
+      bare _ _ (λ d k q. apart (cc)) (λ d x vs room q. apart (cc)) (λ x op d k q. apart (cc))
+      (record {
+        typed = tt;
+        founds = λ d x k st q z. apart (cc);
+        recovers = λ d x g st q k z. let j : p ≡ x = cc in sym j ∙ ok g st (rw j z);
+        crashes = λ d k q. apart (cc);
+        starts = λ x bs q k z. apart (cc);
+      })
+
+  pub decodes : (y : B.Event) → Allowed plan b y → Decodes plan r b y (decoded plan b y)
   unfolding decoded kind RP.Typed BP.Typed
   decodes (B.found c state log p n) a =
       let P : List ℕ = planIf (foundOf state log p n) p in
@@ -133,7 +151,7 @@ module _ (plan : List ℕ) {r : R.World} {b : B.World} (l : WorldAlike (planOf p
       record {
         provided =
             record {
-              typed = room-counted u (u .out) resultSize (b .servers c) (a .typed);
+              typed = tt;
               founds = λ d x k st q z. apart (cc);
               recovers = λ d x g st q k z. apart (cc);
               crashes = λ d k q. apart (cc);
@@ -149,41 +167,35 @@ module _ (plan : List ℕ) {r : R.World} {b : B.World} (l : WorldAlike (planOf p
             (u, rw (i, j, m) refl, rw i at k);
         issues = λ x op d k q. apart (cc);
       }
-  decodes (B.fetch c x n u) a = plain _ _ refl (room-counted u (u .out) resultSize (b .servers c) (a .typed))
-  decodes (B.sync c m u) a = plain _ _ refl (room-counted u [] 0 (b .servers c) (a .typed))
-  decodes (B.notice c p u) a = plain _ _ refl (room-counted u [] 0 (b .servers c) (a .typed))
-  decodes (B.give c p d u) a = plain _ _ refl (room-counted u [] 0 (b .servers c) (a .typed))
-  decodes (B.image c p u) a = plain _ _ refl (room-counted u (u .out) greatestImage (b .servers c) (a .typed))
-  decodes (B.take·image c p u) a = plain _ _ refl (room-counted u [] 0 (b .servers c) (a .typed))
-  decodes (B.receipt c p u) a = plain _ _ refl (room-counted u (u .out) receiptSize (b .servers c) (a .typed))
-  decodes (B.release c p u) a = plain _ _ refl (room-counted u [] 0 (b .servers c) (a .typed))
-  decodes (B.recover c state log p) a =
-      let P : List ℕ = planIf (recoverOf state log p) p in
-      bare _ _ (λ d k q. apart (cc)) (λ d x vs room q. apart (cc)) (λ x op d k q. apart (cc))
-      (record {
-        typed = tt;
-        founds = λ d x k st q z. apart (cc);
-        recovers =
-            λ d x g st q k z.
-            let j : P ≡ x = cc in
-            sym j ∙ recover-ok c state log p (a .recovers c state log p refl) g st (rw j z);
-        crashes = λ d k q. apart (cc);
-        starts = λ x bs q k z. apart (cc);
-      })
+  decodes (B.fetch c x n u) a = plain _ _ refl tt
+  decodes (B.sync c m u) a = plain _ _ refl tt
+  decodes (B.notice c p u) a = plain _ _ refl tt
+  decodes (B.give c p d u) a = plain _ _ refl tt
+  decodes (B.image c p u) a = plain _ _ refl tt
+  decodes (B.take·image c p u) a = plain _ _ refl tt
+  decodes (B.receipt c p u) a = plain _ _ refl tt
+  decodes (B.release c p u) a = plain _ _ refl tt
+  decodes (B.recover c state log p) a = recovery _ c (planIf (recoverOf state log p) p) (recover-ok c state log p (a .recovers c state log p refl))
+  decodes (B.checkpoint c tail u) a = plain _ _ refl tt
+  decodes (B.store c) a = plain _ _ refl tt
+  decodes (B.recover·tail c state k tail) a = recovery _ c (planIf (recoverTailOf state k tail) plan) (tail-ok (recoverTailOf state k tail))
+  decodes (B.inspect c x k) a = plain _ _ refl tt
   decodes (B.crash c n) a =
-      let x = a .crashes c n refl in
-      let low : RP.markOf (r .servers c) ≤ n = omega (arith, x .0, alike-mark (l .servers c)) in
-      let high : n ≤ RP.lengthOf (r .servers c) = omega (arith, x .1, alike-length (l .servers c)) in
+      let x = crash-ok c n (a .crashes c n refl .0) (a .crashes c n refl .1) in
       record {
         provided =
             record {
               typed = tt;
               founds = λ d x k st q z. apart (cc);
               recovers = λ d x g st q k z. apart (cc);
-              crashes = λ d k q. let i : c ≡ d = cc in let j : n ≡ k = cc in (rw (i, j) at low, rw (i, j) at high);
+              crashes = λ d k q. let i : c ≡ d = cc in let j : placeOf (b .servers c) n ≡ k = cc in (rw (j, i) at (x .0), rw (j, i) at (x .1));
               starts = λ x bs q k z. apart (cc);
             };
-        crashes = λ d k q. let i : c ≡ d = cc in let j : n ≡ k = cc in rw (i, j) refl;
+        crashes =
+            λ d k q.
+            let i : c ≡ d = cc in
+            let j : k ≡ placeOf (b .servers c) n = cc in
+            (n, rw i refl, rw i at (place-is c n k j));
         requests = λ d x vs room q. apart (cc);
         issues = λ y op d k q. apart (cc);
       }

@@ -1,5 +1,6 @@
 -- What is known of a running server's log and state.
 --     take-front                    a prefix past the first of two lists
+--     local-from                    a place of the log, counted from the founding
 --     holds-sound                   the state in the buffer is sound
 --     holds-size                    the recorded length is the log's
 --     holds-log                     the log is the bytes of its entries
@@ -11,6 +12,7 @@ use mathlib.Core.Path.{_≡_, sym, ap, _∙_}
 use mathlib.Core.List.{List, _++_}
 use native.Mathlib.Omega.{arith}
 use lib.ListN.{length, take, length-take}
+use borrow.Author.Tests.{ne-eqb}
 use lib.Seq.{take-append-add, take-append-le, take-all, take-take}
 use Rattle.model.specs.Limits.{headSize, stateSize}
 use Rattle.model.specs.Logs.{Entry, headBytes, entriesBytes}
@@ -21,6 +23,7 @@ use Rattle.model_laws.proofs.Numbers.{bytes-append}
 use Rattle.model_laws.proofs.Logs.{log-length}
 use Rattle.model_invariants.specs.Sound.{Sound}
 use Rattle.model_invariants.specs.History.{Start}
+use Rattle.model_invariants.specs.Placed.{local}
 use Rattle.model_invariants.specs.Calls as Limits
 use Rattle.model_invariants.proofs.Crash.{replay-end, decided-from}
 use Rattle.model_invariants.proofs.Loaded.{loaded-sound}
@@ -33,6 +36,11 @@ pub take-front : (k : ℕ) (us vs : List ℕ) → length us ≤ k → take k (us
 take-front k us vs h =
     let e : k ≡ length us + (k - length us) = omega arith in
     ap (λ (x : ℕ). take x (us ++ vs)) e ∙ take-append-add us vs (k - length us)
+
+-- a place behind what checkpoints replaced
+pub local-from : (b e : ℕ) → b + headSize ≤ e → b + local b e ≡ e
+unfolding local
+local-from b e h = rw (ne-eqb e 0 (λ q. omega (arith, q, h))) (omega (arith, h))
 
 module _ {start : State} {es : List Entry} {state log : List ℕ} (H : Holds start es state log) where
   pub holds-sound : Sound (load state)

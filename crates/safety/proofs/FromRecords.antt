@@ -1,32 +1,26 @@
 -- Demand 3 over bytes, from demand 3 over states and log records: what issues, completes or survives over bytes does so over records, what
--- survives over records survives over bytes, and the servers count with the same states at the end.
+-- survives over records survives over bytes, and the servers count with the same states at the end, places of the log aside.
 --     issues-here, issues-there, completes-here
 --     executes-here, executes-there
 --     survives-here, survives-there
 --     same-given, same-final, recovers-end
 --     from-records
 -- Assumes nothing.
-use Prim.Native.Nat.{ℕ, suc, _≤_}
-use mathlib.Core.Path.{_≡_, refl, sym, _∙_, ap, subst}
-use mathlib.Core.List.{List, []}
-use mathlib.Core.Logic.{_↔_}
+use Prim.Native.Nat.{ℕ, suc, _+_, _≤_}
+use mathlib.Core.Path.{_≡_, refl, sym, _∙_, subst}
+use mathlib.Core.List.{List}
 use mathlib.Core.Option.{some}
 use native.Mathlib.Omega.{arith}
+use borrow.Author.Tests.{lt-ltb}
 use Rattle.model.specs.Versions.{Versions}
-use Rattle.model.specs.declared.PlanEntry.{PlanEntry}
 use Rattle.model.specs.declared.Command.{Command}
 use Rattle.model.specs.Sequential.{Marked, EntryResult}
 use Rattle.model.specs.Limits.{resultSize}
-use Rattle.model.specs.Plan.{planOf}
 use Rattle.model.specs.Packets.{parsePacket}
 use Rattle.model.specs.States.{State}
-use Rattle.model.specs.Apply.{founded, replayFrom}
-use Rattle.model.specs.Decisions.{onRequest}
-use Rattle.model.specs.Operations.{answerOf, requestOf, recoveredState}
-use Rattle.model.specs.Refusals.{noRefusal}
+use Rattle.model.specs.Decisions.{Decided, onRequest}
 use Rattle.model_laws.specs.Bytes.{Bytes}
-use Rattle.model_invariants.specs.Calls.{request, decision, output, outputSize, operated}
-use Rattle.claim.specs.World.{Lent, packet, lentState, lentLog}
+use Rattle.claim.specs.World.{Lent, packet}
 use Rattle.claim.specs.World as B
 use Rattle.claim.specs.Provisos.{Counted}
 use Rattle.claim.specs.Provisos as BP
@@ -34,35 +28,54 @@ use Rattle.claim.specs.Claim as BC
 use Rattle.claim.specs.RecordWorld as R
 use Rattle.claim.specs.RecordProvisos as RP
 use Rattle.claim.specs.RecordClaim as RC
-use Rattle.safety.specs.Alike.{RunningAlike, ServerAlike, nothing, running, crashed}
-use Rattle.safety.specs.Decoded.{roomIn, decoded, schedule}
-use Rattle.safety.proofs.Worlds.{running-here, running-there, running-room, same-packet, same-client, alike-length}
+use Rattle.safety.specs.Alike.{RunningAlike, ServerAlike, nothing, running, storing, crashed, Shown, neither, both}
+use Rattle.safety.specs.Decoded.{roomIn, roomOf, placeOf, decoded, schedule}
+use Rattle.safety.proofs.Worlds.{running-here, running-room, same-packet, same-client, alike-reach}
 use Rattle.safety.proofs.Parties.{packet-made}
-use Rattle.safety.proofs.Calls.{call-left}
-use Rattle.safety.proofs.Restarts.{recovered-kept, recovered-either}
+use Rattle.safety.proofs.Called.{request-answer}
+use Rattle.safety.proofs.Tails.{recovered-shown, recovered-some}
 use Rattle.safety.proofs.Runs.{both-at, at-here, at-back, provisos-here, end-alike}
 use Rattle.safety.proofs.Carried.{explained-too}
 
--- a request gives neither number nor packet in both worlds, or in none
-request-left : (vs : Versions) (t : Lent) → Counted t → (b : List ℕ) → Bytes b → {plan : List PlanEntry} {c : ℕ} {st : State} {log : R.Log} {state bytes : List ℕ}
-    → RunningAlike plan c st log state bytes
-    → (requestOf vs (lentState t state) (lentLog t bytes) b (t .out) .answer ≡ answerOf noRefusal 0)
-    ↔ ((R.callOf st log (roomIn t state bytes (t .out) resultSize) (λ s free. onRequest vs s free (parsePacket b)) .number ≡ 0)
-    × (R.callOf st log (roomIn t state bytes (t .out) resultSize) (λ s free. onRequest vs s free (parsePacket b)) .made ≡ []))
-unfolding decision output outputSize operated
-request-left vs t ok b h K = call-left (request vs b) h t ok K .answer
-
--- a server counts with the same state in both worlds
-pub same-given : (plan : List ℕ) (ys : List B.Event) (es : List R.Event) (c : ℕ) {x : R.Server} {y : B.Server} → ServerAlike (planOf plan) c x y
-    → BC.stateGiven plan ys y ≡ RC.stateGiven plan es x
+-- a server counts with the same state in both worlds, places of the log aside
+pub same-given : (plan : List ℕ) (ys : List B.Event) (es : List R.Event) (c : ℕ) {x : R.Server} {y : B.Server} → ServerAlike plan c x y
+    → Shown (BC.stateGiven plan ys y) (RC.stateGiven plan es x)
 unfolding RC.stateGiven BC.stateGiven
-same-given plan ys es c nothing = refl
-same-given plan ys es c (running K) = ap some (K .loads)
-same-given plan ys es c (crashed K) = recovered-either plan c (K .number) (K .keeps)
+same-given plan ys es c nothing = neither
+same-given plan ys es c (running {st = st} {k = k} K) = rw (K .loads) (both (k .replaced) st)
+same-given plan ys es c (storing {st = st} {next = k} K e L) = rw (L .loads) (both (k .replaced) st)
+same-given plan ys es c (crashed K) = recovered-shown ys K
+
+-- a call that is not refused over records: no checkpoint is being stored, and the server runs over bytes
+module _ {plan : List ℕ} {c : ℕ} where
+  no-room : {st : State} {log : R.Log} {k : B.Stored} {state bytes : List ℕ} → RunningAlike plan c st log k state bytes → (d : State → ℕ → Decided)
+      → R.callOf st log 0 d .number ≡ 0 → ⊥
+  unfolding R.callOf R.settle
+  no-room {st = st} {log = log} K d = rw (lt-ltb 0 (st .size) (omega (arith, K .past, K .mark))) (λ z. absurd (omega (arith, z)))
+
+  running-there : {x : R.Server} {y : B.Server} → ServerAlike plan c x y → (st : State) (log : R.Log) → x ≡ R.running st log → (t : Lent) (out : List ℕ) (need : ℕ)
+      → (d : State → ℕ → Decided) → R.callOf st log (roomOf y t out need) d .number ≡ 0
+      → (k : B.Stored) × (state : List ℕ) × (bytes : List ℕ) × (y ≡ B.running k state bytes) × RunningAlike plan c st log k state bytes
+  unfolding roomOf
+  running-there nothing st log e t out need d z = let q : _≡_ {A = ℕ} 0 1 = cc in absurd (omega arith)
+  running-there (running {st = s} {log = g} {k = k} {state = state} {bytes = bytes} K) st log e t out need d z =
+      let i : s ≡ st = cc in
+      let j : g ≡ log = cc in (
+        k,
+        state,
+        bytes,
+        refl,
+        subst (λ (o : R.Log). RunningAlike plan c st o k state bytes) j (subst (λ (o : State). RunningAlike plan c o g k state bytes) i K),
+      )
+  running-there (storing {st = s} {log = g} K m L) st log e t out need d z =
+      let i : s ≡ st = cc in
+      let j : g ≡ log = cc in
+      absurd (no-room K d (rw (i, j) z))
+  running-there (crashed K) st log e t out need d z = let q : _≡_ {A = ℕ} 0 1 = cc in absurd (omega arith)
 
 module _ (plan : List ℕ) (ys : List B.Event) (P : BP.Provisos plan ys) where
   abbrev r : ℕ → R.World
-  r n = R.after (schedule ys) n
+  r n = R.after (schedule plan ys) n
 
   abbrev b : ℕ → B.World
   b n = B.after ys n
@@ -78,7 +91,7 @@ module _ (plan : List ℕ) (ys : List B.Event) (P : BP.Provisos plan ys) where
 
   -- ---- issues and completions
 
-  pub issues-here : (n : ℕ) (k : List Command) → BC.Issues plan ys n k → RC.Issues plan (schedule ys) n k
+  pub issues-here : (n : ℕ) (k : List Command) → BC.Issues plan ys n k → RC.Issues plan (schedule plan ys) n k
   unfolding decoded
   issues-here n k i =
       record {
@@ -94,7 +107,7 @@ module _ (plan : List ℕ) (ys : List B.Event) (P : BP.Provisos plan ys) where
         its = i .its;
       }
 
-  pub issues-there : (n : ℕ) (k : List Command) → RC.Issues plan (schedule ys) n k → BC.Issues plan ys n k
+  pub issues-there : (n : ℕ) (k : List Command) → RC.Issues plan (schedule plan ys) n k → BC.Issues plan ys n k
   issues-there n k i =
       let e = at-back plan ys P n (R.issue (i .client) (i .op) (i .point) (i .argument)) (i .event) in
       record {
@@ -110,7 +123,7 @@ module _ (plan : List ℕ) (ys : List B.Event) (P : BP.Provisos plan ys) where
         its = i .its;
       }
 
-  pub completes-here : (n : ℕ) (k : List Command) (x : EntryResult) → BC.Completes plan ys n k x → RC.Completes plan (schedule ys) n k x
+  pub completes-here : (n : ℕ) (k : List Command) (x : EntryResult) → BC.Completes plan ys n k x → RC.Completes plan (schedule plan ys) n k x
   unfolding decoded
   completes-here n k x c =
       record {
@@ -133,18 +146,18 @@ module _ (plan : List ℕ) (ys : List B.Event) (P : BP.Provisos plan ys) where
   unfolding BP.Typed
   counted n c p vs t a = P .typed n (B.request c p vs t) a
 
-  pub executes-here : (n c : ℕ) (k : Marked) → BC.Executes plan ys n c k → RC.Executes plan (schedule ys) n c k
+  pub executes-here : (n c : ℕ) (k : Marked) → BC.Executes plan ys n c k → RC.Executes plan (schedule plan ys) n c k
   unfolding decoded
   executes-here n c k x =
-      let u = running-here (both-at plan ys P n .alike .servers c) (x .state) (x .log) (x .up) in
+      let u = running-here (both-at plan ys P n .alike .servers c) (x .stored) (x .state) (x .log) (x .up) in
       let ok = counted n c (x .number) (x .versions) (x .lent) (x .event) in
-      let z = request-left (x .versions) (x .lent) ok (x .bytes) (made-bytes n (x .number) (x .bytes) (x .delivered)) (u .3) .0 (x .answer) in
+      let z = request-answer (x .versions) (x .lent) ok (x .bytes) (made-bytes n (x .number) (x .bytes) (x .delivered)) (u .3) .0 (x .answer) in
       record {
         number = x .number;
         versions = x .versions;
-        room = roomIn (x .lent) (x .state) (x .log) (x .lent .out) resultSize;
+        room = x .stored .replaced + roomIn (x .lent) (x .state) (x .log) (x .lent .out) resultSize;
         event =
-            subst (λ (k : ℕ). RP.At plan (schedule ys) n (R.request c (x .number) (x .versions) k)) (running-room (x .up) (x .lent) (x .lent .out) resultSize)
+            subst (λ (k : ℕ). RP.At plan (schedule plan ys) n (R.request c (x .number) (x .versions) k)) (running-room (x .up) (x .lent) (x .lent .out) resultSize)
             (at-here plan ys P n (B.request c (x .number) (x .versions) (x .lent)) (x .event));
         state = u .0;
         log = u .1;
@@ -158,24 +171,26 @@ module _ (plan : List ℕ) (ys : List B.Event) (P : BP.Provisos plan ys) where
         its = x .its;
       }
 
-  executes-there : (n c : ℕ) (k : Marked) → RC.Executes plan (schedule ys) n c k → BC.Executes plan ys n c k
+  executes-there : (n c : ℕ) (k : Marked) → RC.Executes plan (schedule plan ys) n c k → BC.Executes plan ys n c k
   executes-there n c k x =
-      let u = running-there (both-at plan ys P n .alike .servers c) (x .state) (x .log) (x .up) in
       let e = at-back plan ys P n (R.request c (x .number) (x .versions) (x .room)) (x .event) in
       let f = e .2 .requests c (x .number) (x .versions) (x .room) refl in
       let t : Lent = f .0 in
+      let decide : State → ℕ → Decided = λ s free. onRequest (x .versions) s free (parsePacket (x .bytes)) in
+      let u = running-there (both-at plan ys P n .alike .servers c) (x .state) (x .log) (x .up) t (t .out) resultSize decide (rw (f .2) at (x .no-number)) in
       let at : BP.At plan ys n (B.request c (x .number) (x .versions) t) = subst (BP.At plan ys n) (f .1) (e .1) in
-      let room : x .room ≡ roomIn t (u .0) (u .1) (t .out) resultSize = f .2 ∙ running-room (u .2) t (t .out) resultSize in
+      let room : x .room ≡ u .0 .replaced + roomIn t (u .1) (u .2) (t .out) resultSize = f .2 ∙ running-room (u .3) t (t .out) resultSize in
       let d : packet (b n) (x .number) ≡ some (x .bytes) = sym (packet-here n (x .number)) ∙ x .delivered in
-      let z = request-left (x .versions) t (counted n c (x .number) (x .versions) t at) (x .bytes) (made-bytes n (x .number) (x .bytes) d) (u .3) .1 in
+      let z = request-answer (x .versions) t (counted n c (x .number) (x .versions) t at) (x .bytes) (made-bytes n (x .number) (x .bytes) d) (u .4) .1 in
       record {
         number = x .number;
         versions = x .versions;
         lent = t;
         event = at;
-        state = u .0;
-        log = u .1;
-        up = u .2;
+        stored = u .0;
+        state = u .1;
+        log = u .2;
+        up = u .3;
         bytes = x .bytes;
         delivered = d;
         answer = z (rw room at (x .no-number), rw room at (x .no-packet));
@@ -186,51 +201,59 @@ module _ (plan : List ℕ) (ys : List B.Event) (P : BP.Provisos plan ys) where
 
   -- ---- survivors
 
-  length-here : (n c : ℕ) → RP.lengthOf (r n .servers c) ≡ BP.lengthOf (b n .servers c)
-  length-here n c = alike-length (both-at plan ys P n .alike .servers c)
+  reach-here : (n c : ℕ) → RP.lengthOf (r n .servers c) ≡ BP.reachOf (b n .servers c)
+  reach-here n c = alike-reach (both-at plan ys P n .alike .servers c)
 
-  pub survives-here : (n : ℕ) (k : Marked) → BC.SurvivesAt plan ys n k → RC.SurvivesAt plan (schedule ys) n k
+  -- a crash keeps as much of the whole log in both
+  crash-here : (n c m : ℕ) → BC.Crashes plan ys n c m → RP.At plan (schedule plan ys) n (R.crash c m)
+  unfolding decoded placeOf
+  crash-here n c m x = subst (λ (k : ℕ). RP.At plan (schedule plan ys) n (R.crash c k)) (sym (x .reaches)) (at-here plan ys P n (B.crash c (x .kept)) (x .event))
+
+  crash-there : (n c m : ℕ) → RP.At plan (schedule plan ys) n (R.crash c m) → BC.Crashes plan ys n c m
+  crash-there n c m a =
+      let e = at-back plan ys P n (R.crash c m) a in
+      let q = e .2 .crashes c m refl in
+      record { kept = q .0; event = subst (BP.At plan ys n) (q .1) (e .1); reaches = q .2 }
+
+  pub survives-here : (n : ℕ) (k : Marked) → BC.SurvivesAt plan ys n k → RC.SurvivesAt plan (schedule plan ys) n k
   survives-here n k s =
       record {
         server = s .server;
         executes = executes-here n (s .server) k (s .executes);
-        kept =
-            λ m d h a.
-            let e = at-back plan ys P m (R.crash (s .server) d) a in
-            let q = e .2 .crashes (s .server) d refl in
-            subst (λ (z : ℕ). z ≤ d) (sym (length-here (suc n) (s .server))) (s .kept m d h (subst (BP.At plan ys m) q (e .1)));
+        kept = λ m d h a. subst (λ (z : ℕ). z ≤ d) (sym (reach-here (suc n) (s .server))) (s .kept m d h (crash-there m (s .server) d a));
       }
 
-  pub survives-there : (n : ℕ) (k : Marked) → RC.SurvivesAt plan (schedule ys) n k → BC.SurvivesAt plan ys n k
-  unfolding decoded
+  pub survives-there : (n : ℕ) (k : Marked) → RC.SurvivesAt plan (schedule plan ys) n k → BC.SurvivesAt plan ys n k
   survives-there n k s =
       record {
         server = s .server;
         executes = executes-there n (s .server) k (s .executes);
-        kept =
-            λ m d h a.
-            subst (λ (z : ℕ). z ≤ d) (length-here (suc n) (s .server)) (s .kept m d h (at-here plan ys P m (B.crash (s .server) d) a));
+        kept = λ m d h a. subst (λ (z : ℕ). z ≤ d) (reach-here (suc n) (s .server)) (s .kept m d h (crash-here m (s .server) d a));
       }
 
   -- ---- the end
 
-  same-final : (c : ℕ) → BC.finalState plan ys c ≡ RC.finalState plan (schedule ys) c
+  same-final : (c : ℕ) → Shown (BC.finalState plan ys c) (RC.finalState plan (schedule plan ys) c)
   unfolding RC.finalState BC.finalState
-  same-final c = same-given plan ys (schedule ys) c (end-alike plan ys P .servers c)
+  same-final c = same-given plan ys (schedule plan ys) c (end-alike plan ys P .servers c)
 
   recovers-end : BC.Recovers plan ys
-  recovers-end c kept mark = go (end-alike plan ys P .servers c)
+  recovers-end c k kept mark = go (end-alike plan ys P .servers c)
     where
-      go : {x : R.Server} {y : B.Server} → ServerAlike (planOf plan) c x y → y ≡ B.crashed kept mark → (st : State) × (recoveredState (planOf plan) kept ≡ some st)
+      go : {x : R.Server} {y : B.Server} → ServerAlike plan c x y → y ≡ B.crashed k kept mark → (st : State) × (BC.recoveredBy plan ys (k .checkpoint) kept ≡ some st)
       go nothing e = let z : _≡_ {A = ℕ} 0 1 = cc in absurd (omega arith)
       go (running K) e = let z : _≡_ {A = ℕ} 0 1 = cc in absurd (omega arith)
-      go (crashed {log = g} {kept = s} K) e = let q : kept ≡ s = cc in rw q (replayFrom (founded (planOf plan) c) (g .entries), recovered-kept (planOf plan) c (K .keeps))
+      go (storing K m L) e = let z : _≡_ {A = ℕ} 0 1 = cc in absurd (omega arith)
+      go (crashed {k = j} {kept = s} K) e =
+          let p : k ≡ j = cc in
+          let q : kept ≡ s = cc in
+          rw (p, q) (let u = recovered-some ys K in (u .0, u .1))
 
 pub from-records : RC.Demand3 → BC.Demand3
 unfolding RC.Demand3 BC.Demand3
 from-records d plan ys P =
-    let x = d plan (schedule ys) (provisos-here plan ys P) in (
+    let x = d plan (schedule plan ys) (provisos-here plan ys P) in (
       x .0,
-      explained-too plan (BC.account plan ys) (RC.account plan (schedule ys)) (issues-here plan ys P) (completes-here plan ys P) (survives-here plan ys P)
+      explained-too plan (BC.account plan ys) (RC.account plan (schedule plan ys)) (issues-here plan ys P) (completes-here plan ys P) (survives-here plan ys P)
           (survives-there plan ys P) (same-final plan ys P) (recovers-end plan ys P) (x .0) (x .1),
     )

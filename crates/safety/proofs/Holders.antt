@@ -1,29 +1,34 @@
 -- Every point whose home is founded has a holder, after every schedule under the provisos: the clause `values` speaks of it.
+--     number-within            a server's number is up to 15
 --     counted                  a server that counts has a number up to 15 and a sound state
 --     best                     the greatest of the servers below n and the home, by move number, then latest taken move
 --     holder
 -- Assumes nothing.
 use Prim.Native.Nat.{ℕ, zero, suc, _≤_, _<_}
-use mathlib.Core.Path.{_≡_, refl, sym, _∙_, subst}
+use mathlib.Core.Path.{_≡_, refl, sym, ap, _∙_, subst}
 use mathlib.Core.Bool.{Bool, true, false}
-use mathlib.Core.List.{List}
+use mathlib.Core.List.{List, [], _∷_}
 use mathlib.Core.Option.{Option, none, some}
 use native.Mathlib.Omega.{arith}
 use lib.Dec.{ltb}
 use borrow.Author.Tests.{ltb-true, ltb-false}
 use Rattle.model.specs.Plan.{planOf, entryAt}
 use Rattle.model.specs.Limits.{pointCount, lastServer}
+use Rattle.model.specs.Logs.{LogRecord, executed, gone, gave, took, released, Entry}
 use Rattle.model.specs.States.{State, pointAt}
-use Rattle.model.specs.Apply.{founded}
-use Rattle.claim.specs.World.{Event, Server}
+use Rattle.model.specs.Apply.{applyRecord, applyExecuted, applyGone, applyGave, applyTook, applyReleased, apply, founded, replayFrom}
+use Rattle.model.specs.Checkpoints.{placed}
+use Rattle.claim.specs.World.{Event, Stored, Server}
 use Rattle.claim.specs.Provisos.{Provisos}
 use Rattle.claim.specs.Claim.{stateGiven, finalState, Holder}
 use Rattle.claim.specs.RecordWorld as R
 use Rattle.model_invariants.specs.Sound.{Sound}
-use Rattle.model_invariants.proofs.Recovery.{recovers}
+use Rattle.model_invariants.specs.History.{Start}
+use Rattle.model_invariants.specs.Placed.{seenFrom}
+use Rattle.model_invariants.proofs.Recovery.{recovered-replay}
 use Rattle.safety.proofs.Facts.{holds-sound}
-use Rattle.safety.proofs.Restarts.{recovered-kept}
-use Rattle.safety.specs.Alike.{ServerAlike, nothing, running, crashed}
+use Rattle.safety.proofs.Tails.{recovered-some}
+use Rattle.safety.specs.Alike.{Continues, ServerAlike, nothing, running, storing, crashed}
 use Rattle.safety.specs.Holders.{Counted, AtMost, Best}
 use Rattle.safety.proofs.Runs.{end-alike}
 
@@ -33,17 +38,44 @@ some-same p = cc
 no-state : {A : Type 0} {st : State} → none ≡ some st → A
 no-state e = let z : _≡_ {A = ℕ} 0 1 = cc in absurd (omega arith)
 
+-- ---- a server's number
+
+replay-server : (st : State) (es : List Entry) → replayFrom st es .server ≡ st .server
+unfolding replayFrom apply applyRecord applyExecuted applyGone applyGave applyTook applyReleased
+replay-server st [] = refl
+replay-server st (e ∷ es) = replay-server (apply st e) es ∙ go (e .item)
+  where
+    go : (r : LogRecord) → applyRecord r (e .end) st .server ≡ st .server
+    go (executed x) = refl
+    go (gone n) = refl
+    go (gave g) = refl
+    go (took i) = refl
+    go (released r) = refl
+
+-- the state that a log starts from has the number that its server was founded with
+number-within : {plan : List ℕ} {c : ℕ} {k : Stored} {log : R.Log} {start : State} {es : List Entry} → Continues plan c k log start es → Start start
+    → c ≤ lastServer
+unfolding seenFrom placed founded
+number-within {plan} {c} {start = start} C S =
+    let base : State = C .base in
+    let n : base .server ≡ c
+    = ap (λ (st : State). st .server) (recovered-replay (founded (planOf plan) c) base (C .before) (C .replays))
+    ∙ replay-server (founded (planOf plan) c) (C .before) in
+    let m : start .server ≡ base .server = ap (λ (st : State). st .server) (C .begins) in
+    omega (arith, S .sound .server, n, m)
+
 module _ (plan : List ℕ) (es : List Event) (P : Provisos plan es) where
   pub counted : (c : ℕ) (st : State) → finalState plan es c ≡ some st → Counted c st
-  unfolding finalState stateGiven founded
+  unfolding finalState stateGiven
   counted c st = go (end-alike plan es P .servers c)
     where
-      go : {x : R.Server} {y : Server} → ServerAlike (planOf plan) c x y → stateGiven plan es y ≡ some st → Counted c st
+      go : {x : R.Server} {y : Server} → ServerAlike plan c x y → stateGiven plan es y ≡ some st → Counted c st
       go nothing e = no-state e
-      go (running K) e = let H = K .holds in record { number = H .from .sound .server; sound = subst Sound (some-same e) (holds-sound H) }
-      go (crashed {log = log} K) e =
-          let k = K .keeps in
-          record { number = k .from .sound .server; sound = subst Sound (some-same (sym (recovered-kept (planOf plan) c k) ∙ e)) (recovers (k .from) (log .entries) (k .decided) .sound) }
+      go (running K) e = record { number = number-within (K .continues) (K .holds .from); sound = subst Sound (some-same e) (holds-sound (K .holds)) }
+      go (storing K m L) e = record { number = number-within (L .continues) (L .holds .from); sound = subst Sound (some-same e) (holds-sound (L .holds)) }
+      go (crashed K) e =
+          let k = recovered-some es K in
+          record { number = number-within (K .continues) (K .keeps .from); sound = subst Sound (some-same (sym (k .1) ∙ e)) (k .2) }
 
   -- ---- the greatest of the servers
 

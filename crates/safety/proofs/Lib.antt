@@ -3,8 +3,12 @@ pub mod Made
 pub mod Worlds
 pub mod Parties
 pub mod Calls
+pub mod Seen
+pub mod Called
 pub mod Crashes
+pub mod Tails
 pub mod Restarts
+pub mod Stores
 pub mod Steps
 pub mod Decoding
 pub mod Runs

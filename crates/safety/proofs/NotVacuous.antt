@@ -1,12 +1,13 @@
--- The claim over records speaks of something: the schedule of `sanity` over bytes (Moved: a move, two crashes and recoveries, a lease end and a late
--- repeat) is one over records that keeps all its provisos; two commands survive and are completed there.
+-- The claim over records speaks of something: the schedule of `proof_sanity` over bytes (Moved: a move, crashes and recoveries, a lease end and a late
+-- repeat, two checkpoints) is one over records that keeps all its provisos; four commands survive and are completed there, one of them told from the
+-- checkpoint that replaced its record over bytes.
 --     not-vacuous
 -- Assumes nothing.
 use mathlib.Core.List.{[], _∷_}
 use Rattle.model.specs.Versions.{today}
 use Rattle.model.specs.Sequential.{markedBy, one, resultMeant}
 use Rattle.model.specs.Yard.{yardPlan}
-use Rattle.proof_sanity.specs.Moved.{setting, stepping, settingResult, steppingResult}
+use Rattle.proof_sanity.specs.Moved.{setting, stepCommand, stepping, settingResult, stepResult, steppingResult}
 use Rattle.proof_sanity.specs.Moved as Moved
 use Rattle.proof_sanity.proofs.NotVacuous as Bytes
 use Rattle.claim.specs.RecordWorld.{Event}
@@ -18,7 +19,7 @@ use Rattle.safety.proofs.FromRecords.{issues-here, completes-here, surv
 use mathlib.Core.List.{List}
 
 abbrev moved : List Event
-moved = schedule Moved.schedule
+moved = schedule yardPlan Moved.schedule
 
 pub not-vacuous : Provisos yardPlan moved
     × SurvivesAt yardPlan moved 7 (markedBy today setting)
@@ -26,6 +27,10 @@ pub not-vacuous : Provisos yardPlan moved
     × Issues yardPlan moved 11 (stepping ∷ [])
     × SurvivesAt yardPlan moved 15 (markedBy today stepping)
     × Completes yardPlan moved 23 (stepping ∷ []) (one (resultMeant steppingResult))
+    × SurvivesAt yardPlan moved 30 (markedBy today (stepCommand 2))
+    × Completes yardPlan moved 37 (stepCommand 2 ∷ []) (one (resultMeant (stepResult 2)))
+    × SurvivesAt yardPlan moved 39 (markedBy today (stepCommand 3))
+    × Completes yardPlan moved 45 (stepCommand 3 ∷ []) (one (resultMeant (stepResult 3)))
 not-vacuous =
     let x = Bytes.not-vacuous in
     let P = x .0 in (
@@ -35,4 +40,8 @@ not-vacuous =
       issues-here yardPlan Moved.schedule P 11 _ (x .3),
       survives-here yardPlan Moved.schedule P 15 _ (x .4),
       completes-here yardPlan Moved.schedule P 23 _ _ (x .5),
+      survives-here yardPlan Moved.schedule P 30 _ (x .9),
+      completes-here yardPlan Moved.schedule P 37 _ _ (x .10),
+      survives-here yardPlan Moved.schedule P 39 _ (x .11),
+      completes-here yardPlan Moved.schedule P 45 _ _ (x .12),
     )

@@ -12,7 +12,6 @@ use mathlib.Core.Option.{some}
 use native.Mathlib.Omega.{arith}
 use lib.ListN.{length, take, getElem?}
 use lib.Seq.{take-length}
-use Rattle.model.specs.Plan.{planOf}
 use Rattle.claim.specs.World as B
 use Rattle.claim.specs.Provisos as BP
 use Rattle.claim.specs.RecordWorld as R
@@ -31,32 +30,33 @@ use Rattle.safety.proofs.Decoding.{decodes}
 abbrev before : B.World → List B.Event → ℕ → B.World
 before b ys n = B.runFrom b (take n ys)
 
-both-from : (plan : List ℕ) (ys : List B.Event) {r : R.World} {b : B.World} → Both (planOf plan) r b
+both-from : (plan : List ℕ) (ys : List B.Event) {r : R.World} {b : B.World} → Both plan r b
     → ((n : ℕ) (y : B.Event) → getElem? ys n ≡ some y → Allowed plan (before b ys n) y) → (n : ℕ)
-    → Both (planOf plan) (R.runFrom r (take n (decodedFrom b ys))) (before b ys n)
+    → Both plan (R.runFrom r (take n (decodedFrom plan b ys))) (before b ys n)
 unfolding decodedFrom R.runFrom B.runFrom
 both-from plan [] l a zero = l
 both-from plan [] l a (suc n) = l
 both-from plan (y ∷ ys) l a zero = l
 both-from plan (y ∷ ys) l a (suc n) = both-from plan ys (step-alike plan l y (a zero y refl)) (λ m x q. a (suc m) x q) n
 
-event-here : (ys : List B.Event) (b : B.World) (n : ℕ) (y : B.Event) → getElem? ys n ≡ some y → getElem? (decodedFrom b ys) n ≡ some (decoded (before b ys n) y)
+event-here : (plan : List ℕ) (ys : List B.Event) (b : B.World) (n : ℕ) (y : B.Event) → getElem? ys n ≡ some y
+    → getElem? (decodedFrom plan b ys) n ≡ some (decoded plan (before b ys n) y)
 unfolding decodedFrom B.runFrom
-event-here [] b n y q = let z : _≡_ {A = ℕ} 0 1 = cc in absurd (omega arith)
-event-here (x ∷ ys) b zero y q = let z : x ≡ y = cc in ap (λ (e : B.Event). some (decoded b e)) z
-event-here (x ∷ ys) b (suc n) y q = event-here ys (B.step b x) n y q
+event-here plan [] b n y q = let z : _≡_ {A = ℕ} 0 1 = cc in absurd (omega arith)
+event-here plan (x ∷ ys) b zero y q = let z : x ≡ y = cc in ap (λ (e : B.Event). some (decoded plan b e)) z
+event-here plan (x ∷ ys) b (suc n) y q = event-here plan ys (B.step b x) n y q
 
-event-back : (ys : List B.Event) (b : B.World) (n : ℕ) (e : R.Event) → getElem? (decodedFrom b ys) n ≡ some e
-    → (y : B.Event) × (getElem? ys n ≡ some y) × (decoded (before b ys n) y ≡ e)
+event-back : (plan : List ℕ) (ys : List B.Event) (b : B.World) (n : ℕ) (e : R.Event) → getElem? (decodedFrom plan b ys) n ≡ some e
+    → (y : B.Event) × (getElem? ys n ≡ some y) × (decoded plan (before b ys n) y ≡ e)
 unfolding decodedFrom B.runFrom
-event-back [] b n e q = let z : _≡_ {A = ℕ} 0 1 = cc in absurd (omega arith)
-event-back (x ∷ ys) b zero e q = let z : decoded b x ≡ e = cc in (x, refl, z)
-event-back (x ∷ ys) b (suc n) e q = event-back ys (B.step b x) n e q
+event-back plan [] b n e q = let z : _≡_ {A = ℕ} 0 1 = cc in absurd (omega arith)
+event-back plan (x ∷ ys) b zero e q = let z : decoded plan b x ≡ e = cc in (x, refl, z)
+event-back plan (x ∷ ys) b (suc n) e q = event-back plan ys (B.step b x) n e q
 
-count-from : (ys : List B.Event) (b : B.World) → length (decodedFrom b ys) ≡ length ys
+count-from : (plan : List ℕ) (ys : List B.Event) (b : B.World) → length (decodedFrom plan b ys) ≡ length ys
 unfolding decodedFrom
-count-from [] b = refl
-count-from (y ∷ ys) b = ap suc (count-from ys (B.step b y))
+count-from plan [] b = refl
+count-from plan (y ∷ ys) b = ap suc (count-from plan ys (B.step b y))
 
 -- ---- a schedule under the provisos
 
@@ -75,42 +75,45 @@ module _ (plan : List ℕ) (ys : List B.Event) (P : BP.Provisos plan ys) where
         recovers =
             λ c state log p e z.
             let q = subst (At n) e a in
-            record { one-plan = P .plan-again n c state log p q z; uses = P .recovery-uses n c state log p q z };
+            let u = P .recovery-uses n c state log p q z in
+            record { one-plan = P .plan-again n c state log p q z; uses = u .0; first = u .1 };
+        recovers·tail = λ c state k tail e z. let u = P .recovery-uses-both n c state k tail (subst (At n) e a) z in record { uses = u .0; begins = u .1 };
         crashes = λ c k e. P .crash-keeps n c k (subst (At n) e a);
         starts = λ p b e. P .started-once n p b (subst (At n) e a);
       }
 
-  pub both-at : (n : ℕ) → Both (planOf plan) (R.after (schedule ys) n) (B.after ys n)
+  pub both-at : (n : ℕ) → Both plan (R.after (schedule plan ys) n) (B.after ys n)
   unfolding R.after R.run B.after B.run BP.At R.emptyWorld B.emptyWorld
   both-at =
       both-from plan ys (record { alike = record { servers = λ c. nothing; clients = refl; manager = refl; made = refl }; parties = empty-parties })
       (λ n y q. allowed n y q)
 
-  pub at-here : (n : ℕ) (y : B.Event) → At n y → RP.At plan (schedule ys) n (decoded (B.after ys n) y)
+  pub at-here : (n : ℕ) (y : B.Event) → At n y → RP.At plan (schedule plan ys) n (decoded plan (B.after ys n) y)
   unfolding B.after B.run RP.At BP.At
-  at-here n y a = event-here ys B.emptyWorld n y a
+  at-here n y a = event-here plan ys B.emptyWorld n y a
 
-  pub at-back : (n : ℕ) (e : R.Event) → RP.At plan (schedule ys) n e → (y : B.Event) × At n y × Decodes plan (R.after (schedule ys) n) (B.after ys n) y e
+  pub at-back : (n : ℕ) (e : R.Event) → RP.At plan (schedule plan ys) n e → (y : B.Event) × At n y × Decodes plan (R.after (schedule plan ys) n) (B.after ys n) y e
   at-back n e a =
-      let x : (y : B.Event) × At n y × (decoded (B.after ys n) y ≡ e) = unfold B.after B.run BP.At RP.At in event-back ys B.emptyWorld n e a in
+      let x : (y : B.Event) × At n y × (decoded plan (B.after ys n) y ≡ e) = unfold B.after B.run BP.At RP.At in event-back plan ys B.emptyWorld n e a in
       let y : B.Event = x .0 in
-      (y, x .1, subst (Decodes plan (R.after (schedule ys) n) (B.after ys n) y) (x .2) (decodes plan (both-at n .alike) y (allowed n y (x .1))))
+      (y, x .1, subst (Decodes plan (R.after (schedule plan ys) n) (B.after ys n) y) (x .2) (decodes plan (both-at n .alike) y (allowed n y (x .1))))
 
-  pub provisos-here : RP.Provisos plan (schedule ys)
-  provisos-here = provisos-of plan (schedule ys) (λ n e a. at-back n e a .2 .provided)
+  pub provisos-here : RP.Provisos plan (schedule plan ys)
+  provisos-here = provisos-of plan (schedule plan ys) (λ n e a. at-back n e a .2 .provided)
 
-  pub same-count : length (schedule ys) ≡ length ys
-  same-count = count-from ys B.emptyWorld
+  pub same-count : length (schedule plan ys) ≡ length ys
+  same-count = count-from plan ys B.emptyWorld
 
-  pub end-alike : WorldAlike (planOf plan) (R.run (schedule ys)) (B.run ys)
+  pub end-alike : WorldAlike plan (R.run (schedule plan ys)) (B.run ys)
   unfolding R.after B.after
   end-alike =
       let w : take (length ys) ys ≡ ys = take-length ys in
-      let v : take (length ys) (schedule ys) ≡ schedule ys = subst (λ (n : ℕ). take n (schedule ys) ≡ schedule ys) same-count (take-length (schedule ys)) in
+      let v : take (length ys) (schedule plan ys) ≡ schedule plan ys
+      = subst (λ (n : ℕ). take n (schedule plan ys) ≡ schedule plan ys) same-count (take-length (schedule plan ys)) in
       rw (w, v) at (both-at (length ys) .alike)
 
 -- every schedule over bytes under the provisos is one over records, event by event, with the same clients, lease manager, packets and images, and
 -- servers whose buffers hold what theirs are
 pub complete : (plan : List ℕ) (ys : List B.Event) → BP.Provisos plan ys
-    → (es : List R.Event) × RP.Provisos plan es × (length es ≡ length ys) × ((n : ℕ) → WorldAlike (planOf plan) (R.after es n) (B.after ys n))
-complete plan ys P = (schedule ys, provisos-here plan ys P, same-count plan ys P, λ n. both-at plan ys P n .alike)
+    → (es : List R.Event) × RP.Provisos plan es × (length es ≡ length ys) × ((n : ℕ) → WorldAlike plan (R.after es n) (B.after ys n))
+complete plan ys P = (schedule plan ys, provisos-here plan ys P, same-count plan ys P, λ n. both-at plan ys P n .alike)

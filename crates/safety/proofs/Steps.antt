@@ -7,7 +7,6 @@ use mathlib.Core.List.{List}
 use mathlib.Core.Option.{Option, none, some}
 use native.Mathlib.Omega.{arith}
 use Rattle.model.specs.declared.LeaseManager.{LeaseManager}
-use Rattle.model.specs.Plan.{planOf}
 use Rattle.model.specs.States.{State}
 use Rattle.model.specs.Decisions.{Decided}
 use Rattle.model.specs.Operations.{After}
@@ -21,40 +20,45 @@ use Rattle.claim.specs.World as B
 use Rattle.claim.specs.Provisos.{Typed}
 use Rattle.claim.specs.Provisos as BP
 use Rattle.claim.specs.RecordWorld as R
-use Rattle.safety.specs.Alike.{WorldAlike, Both}
+use Rattle.safety.specs.Alike.{WorldAlike, Both, whole}
 use Rattle.safety.specs.Allowed.{Allowed}
-use Rattle.safety.specs.Decoded.{decoded}
+use Rattle.safety.specs.Decoded.{placeOf, decoded}
 use Rattle.safety.proofs.Worlds.{same-packet, same-client, alike-starts, alike-sends, alike-receives, alike-told}
 use Rattle.safety.proofs.Parties.{packet-made, parties-starts, parties-issues, parties-resends, parties-receives, parties-told}
-use Rattle.safety.proofs.Calls.{call-alike}
-use Rattle.safety.proofs.Restarts.{crash-alike, found-alike, recover-alike}
+use Rattle.safety.proofs.Called.{call-alike}
+use Rattle.safety.proofs.Restarts.{crash-alike, found-alike, recover-alike, recover-tail-alike}
+use Rattle.safety.proofs.Stores.{idle-alike, checkpoint-alike, store-alike}
 
-module _ (plan : List ℕ) {r : R.World} {b : B.World} (l : Both (planOf plan) r b) where
+module _ (plan : List ℕ) {r : R.World} {b : B.World} (l : Both plan r b) where
   -- a call on a packet: what was made is bytes
   on-alike : (c room p : ℕ) (t : Lent) (d : List ℕ → State → ℕ → Decided) (f : List ℕ → List ℕ → List ℕ → After)
-      → ((bs : List ℕ) → Bytes bs → Both (planOf plan) (R.calls c room (d bs) (r .servers c) r) (B.calls c t (λ s g. f s g bs) (b .servers c) b))
-      → Both (planOf plan) (R.callsOn c room d (packet r p) r) (B.callsOn c t f (packet b p) b)
+      → ((bs : List ℕ) → Bytes bs → Both plan (R.calls c room (d bs) (r .servers c) r) (B.calls c t (λ s g. f s g bs) (b .servers c) b))
+      → Both plan (R.callsOn c room d (packet r p) r) (B.callsOn c t f (packet b p) b)
   unfolding R.callsOn B.callsOn
   on-alike c room p t d f h = rw (← same-packet (l .alike) p) (go (packet r p) refl)
     where
-      go : (o : Option (List ℕ)) → packet r p ≡ o → Both (planOf plan) (R.callsOn c room d o r) (B.callsOn c t f o b)
+      go : (o : Option (List ℕ)) → packet r p ≡ o → Both plan (R.callsOn c room d o r) (B.callsOn c t f o b)
       go none e = l
       go (some bs) e = h bs (packet-made (l .parties) p bs e)
 
   -- a call of the lease manager
-  told-alike : (c : LeaseCall) → givenTime c ≤ last32 → Both (planOf plan) (told (answerOf (r .manager) c) r) (told (answerOf (b .manager) c) b)
+  told-alike : (c : LeaseCall) → givenTime c ≤ last32 → Both plan (told (answerOf (r .manager) c) r) (told (answerOf (b .manager) c) b)
   told-alike c t =
       record {
         alike =
-            subst (λ (m : LeaseManager). WorldAlike (planOf plan) (told (answerOf (r .manager) c) r) (told (answerOf m c) b)) (l .alike .manager)
+            subst (λ (m : LeaseManager). WorldAlike plan (told (answerOf (r .manager) c) r) (told (answerOf m c) b)) (l .alike .manager)
             (alike-told (l .alike) (answerOf (r .manager) c));
         parties = parties-told (l .parties) c t;
       }
 
-  pub step-alike : (y : B.Event) → Allowed plan b y → Both (planOf plan) (R.step r (decoded b y)) (B.step b y)
-  unfolding decoded Typed BP.Bytes R.step B.step decision output outputSize operated answerOf givenTime
+  pub step-alike : (y : B.Event) → Allowed plan b y → Both plan (R.step r (decoded plan b y)) (B.step b y)
+  unfolding decoded placeOf Typed BP.Bytes R.step B.step decision output outputSize operated whole answerOf givenTime
   step-alike (B.found c state log p n) a = found-alike plan l c state log p n (a .typed .0) (a .typed .1) (a .founds c state log p n refl)
   step-alike (B.recover c state log p) a = recover-alike plan l c state (a .typed) log p (a .recovers c state log p refl)
+  step-alike (B.checkpoint c tail u) a = checkpoint-alike l c _ u tail
+  step-alike (B.store c) a = store-alike l c _
+  step-alike (B.recover·tail c state k tail) a = recover-tail-alike plan l c state (a .typed) k tail (a .recovers·tail c state k tail refl)
+  step-alike (B.inspect c x k) a = idle-alike l c _
   step-alike (B.crash c k) a = let x = a .crashes c k refl in crash-alike l c k (x .0) (x .1)
   step-alike (B.request c p vs u) a = on-alike c _ p u _ _ (λ bs x. call-alike (request vs bs) x u (a .typed) l c)
   step-alike (B.fetch c x n u) a = call-alike (fetch x n) tt u (a .typed) l c

@@ -2,20 +2,20 @@
 --     alike-server, alike-client, alike-manager, alike-making     one part
 --     same-packet, same-client           packets and clients by number
 --     alike-starts, alike-sends, alike-receives, alike-told       calls of clients and of the lease manager
---     alike-mark, alike-length           the sync mark and the length of a server's log
+--     running-mark, running-size         the sync mark and the length of a running server's log, counted from the founding
+--     alike-mark, alike-reach            of any server's
 --     nothing-back                       a server that is not there
---     running-here, running-there, running-room     a server that runs
+--     running-here, running-room         a server that runs
 -- Assumes nothing.
-use Prim.Native.Nat.{ℕ}
+use Prim.Native.Nat.{ℕ, _+_}
 use mathlib.Core.Path.{_≡_, refl, sym, _∙_, ap, subst}
 use mathlib.Core.Bool.{Bool, true, false}
 use mathlib.Core.List.{List, [], _∷_, _++_}
 use mathlib.Core.Option.{Option, none, some}
 use native.Mathlib.Omega.{arith}
 use lib.Dec.{eqb}
-use lib.ListN.{getElem?}
+use lib.ListN.{length, getElem?}
 use borrow.Author.Tests.{eqb-true}
-use Rattle.model.specs.declared.PlanEntry.{PlanEntry}
 use Rattle.model.specs.declared.Client.{Client}
 use Rattle.model.specs.declared.LeaseManager.{LeaseManager}
 use Rattle.model.specs.declared.Started.{Started}
@@ -24,19 +24,21 @@ use Rattle.model.specs.declared.StartAnswer.{StartAnswer}
 use Rattle.model.specs.declared.SendAnswer.{SendAnswer}
 use Rattle.model.specs.declared.LeaseAnswer.{LeaseAnswer}
 use Rattle.model.specs.Choice.{pick}
-use Rattle.model.specs.States.{State}
+use Rattle.model.specs.States.{State, load}
+use Rattle.model.specs.Checkpoints.{placed}
 use Rattle.model.specs.Clients.{startOf, receiveOf, sentBytes}
 use Rattle.model.specs.Leases.{toldBytes}
-use Rattle.safety.proofs.Facts.{holds-size}
+use Rattle.model_invariants.specs.Placed.{seenFrom}
+use Rattle.safety.proofs.Facts.{local-from, holds-size}
 use Rattle.claim.specs.World.{withServer, withClient, withManager, making, startsAs, startsOn, sends, receives, told, packet}
 use Rattle.claim.specs.World as B
 use Rattle.claim.specs.Provisos as BP
 use Rattle.claim.specs.RecordWorld as R
 use Rattle.claim.specs.RecordProvisos as RP
-use Rattle.safety.specs.Alike.{RunningAlike, ServerAlike, nothing, running, crashed, WorldAlike}
+use Rattle.safety.specs.Alike.{RunningAlike, ServerAlike, nothing, running, storing, crashed, WorldAlike}
 use Rattle.safety.specs.Decoded.{roomIn, roomOf}
 
-module _ {plan : List PlanEntry} {r : R.World} {b : B.World} (l : WorldAlike plan r b) where
+module _ {plan : List ℕ} {r : R.World} {b : B.World} (l : WorldAlike plan r b) where
   pub alike-server : (c : ℕ) (s : R.Server) (t : B.Server) → ServerAlike plan c s t → WorldAlike plan (withServer c s r) (withServer c t b)
   unfolding withServer
   alike-server c s t k = record { servers = λ d. go d (eqb d c) refl; clients = l .clients; manager = l .manager; made = l .made }
@@ -79,7 +81,7 @@ module _ {plan : List PlanEntry} {r : R.World} {b : B.World} (l : WorldAlike pla
 
 -- ---- clients and the lease manager
 
-module _ {plan : List PlanEntry} {r : R.World} {b : B.World} (l : WorldAlike plan r b) where
+module _ {plan : List ℕ} {r : R.World} {b : B.World} (l : WorldAlike plan r b) where
   alike-started : (a : StartAnswer) → WorldAlike plan (startsAs a r) (startsAs a b)
   unfolding startsAs
   alike-started a = go (a .answer)
@@ -110,47 +112,60 @@ module _ {plan : List PlanEntry} {r : R.World} {b : B.World} (l : WorldAlike pla
   unfolding told
   alike-told a = alike-making (alike-manager l (a .manager)) (toldBytes (a .answer))
 
--- ---- the log of a server
+-- ---- the log of a server, counted from the founding
 
-pub alike-mark : {plan : List PlanEntry} {c : ℕ} {s : R.Server} {t : B.Server} → ServerAlike plan c s t → RP.markOf s ≡ BP.markOf t
-unfolding RP.markOf BP.markOf
+module _ {plan : List ℕ} {c : ℕ} {st : State} {log : R.Log} {k : B.Stored} {state bytes : List ℕ} (K : RunningAlike plan c st log k state bytes) where
+  pub running-mark : st .mark ≡ k .replaced + load state .mark
+  unfolding seenFrom placed
+  running-mark = sym (local-from (k .replaced) (st .mark) (K .past)) ∙ ap (λ (x : State). k .replaced + x .mark) (sym (K .loads))
+
+  pub running-size : st .size ≡ k .replaced + length bytes
+  unfolding seenFrom placed
+  running-size =
+      sym (local-from (k .replaced) (st .size) (omega (arith, K .past, K .mark))) ∙ ap (λ (x : State). k .replaced + x .size) (sym (K .loads))
+      ∙ ap (λ (n : ℕ). k .replaced + n) (holds-size (K .holds))
+
+pub alike-mark : {plan : List ℕ} {c : ℕ} {s : R.Server} {t : B.Server} → ServerAlike plan c s t → RP.markOf s ≡ B.storedOf t .replaced + BP.markOf t
+unfolding RP.markOf BP.markOf B.storedOf
 alike-mark nothing = refl
-alike-mark (running k) = ap (λ (st : State). st .mark) (sym (k .loads))
-alike-mark (crashed k) = refl
+alike-mark (running K) = running-mark K
+alike-mark (storing K e L) = e ∙ running-size K
+alike-mark (crashed K) = sym (K .marked)
 
-pub alike-length : {plan : List PlanEntry} {c : ℕ} {s : R.Server} {t : B.Server} → ServerAlike plan c s t → RP.lengthOf s ≡ BP.lengthOf t
-unfolding RP.lengthOf BP.lengthOf
-alike-length nothing = refl
-alike-length (running k) = ap (λ (st : State). st .size) (sym (k .loads)) ∙ holds-size (k .holds)
-alike-length (crashed k) = sym (k .size)
+pub alike-reach : {plan : List ℕ} {c : ℕ} {s : R.Server} {t : B.Server} → ServerAlike plan c s t → RP.lengthOf s ≡ BP.reachOf t
+unfolding RP.lengthOf BP.lengthOf BP.reachOf B.storedOf
+alike-reach nothing = refl
+alike-reach (running K) = running-size K
+alike-reach (storing K e L) = running-size K
+alike-reach (crashed K) = sym (K .reaches)
 
 -- ---- a server that is not there
 
-pub nothing-back : {plan : List PlanEntry} {c : ℕ} {s : R.Server} {t : B.Server} → ServerAlike plan c s t → t ≡ B.nothing → s ≡ R.nothing
+pub nothing-back : {plan : List ℕ} {c : ℕ} {s : R.Server} {t : B.Server} → ServerAlike plan c s t → t ≡ B.nothing → s ≡ R.nothing
 nothing-back nothing e = refl
 nothing-back (running k) e = let z : _≡_ {A = ℕ} 0 1 = cc in absurd (omega arith)
+nothing-back (storing k m n) e = let z : _≡_ {A = ℕ} 0 1 = cc in absurd (omega arith)
 nothing-back (crashed k) e = let z : _≡_ {A = ℕ} 0 1 = cc in absurd (omega arith)
 
 -- ---- running servers
 
-pub running-there : {plan : List PlanEntry} {c : ℕ} {x : R.Server} {y : B.Server} → ServerAlike plan c x y → (st : State) (log : R.Log) → x ≡ R.running st log
-    → (state : List ℕ) × (bytes : List ℕ) × (y ≡ B.running state bytes) × RunningAlike plan c st log state bytes
-running-there nothing st log e = let z : _≡_ {A = ℕ} 0 1 = cc in absurd (omega arith)
-running-there {plan} {c} (running {st = s} {log = g} {state = state} {bytes = bytes} K) st log e =
-    let a : s ≡ st = cc in
-    let b : g ≡ log = cc in
-    (state, bytes, refl, subst (λ (i : State). RunningAlike plan c i log state bytes) a (subst (λ (i : R.Log). RunningAlike plan c s i state bytes) b K))
-running-there (crashed K) st log e = let z : _≡_ {A = ℕ} 0 1 = cc in absurd (omega arith)
-
-pub running-here : {plan : List PlanEntry} {c : ℕ} {x : R.Server} {y : B.Server} → ServerAlike plan c x y → (state bytes : List ℕ) → y ≡ B.running state bytes
-    → (st : State) × (log : R.Log) × (x ≡ R.running st log) × RunningAlike plan c st log state bytes
-running-here nothing state bytes e = let z : _≡_ {A = ℕ} 0 1 = cc in absurd (omega arith)
-running-here {plan} {c} (running {st = st} {log = log} {state = s} {bytes = g} K) state bytes e =
+pub running-here : {plan : List ℕ} {c : ℕ} {x : R.Server} {y : B.Server} → ServerAlike plan c x y → (k : B.Stored) (state bytes : List ℕ) → y ≡ B.running k state bytes
+    → (st : State) × (log : R.Log) × (x ≡ R.running st log) × RunningAlike plan c st log k state bytes
+running-here nothing k state bytes e = let z : _≡_ {A = ℕ} 0 1 = cc in absurd (omega arith)
+running-here {plan} {c} (running {st = st} {log = log} {k = j} {state = s} {bytes = g} K) k state bytes e =
+    let i : j ≡ k = cc in
     let a : s ≡ state = cc in
-    let b : g ≡ bytes = cc in
-    (st, log, refl, subst (λ (i : List ℕ). RunningAlike plan c st log i bytes) a (subst (λ (i : List ℕ). RunningAlike plan c st log s i) b K))
-running-here (crashed K) state bytes e = let z : _≡_ {A = ℕ} 0 1 = cc in absurd (omega arith)
+    let b : g ≡ bytes = cc in (
+      st,
+      log,
+      refl,
+      subst (λ (o : B.Stored). RunningAlike plan c st log o state bytes) i
+          (subst (λ (o : List ℕ). RunningAlike plan c st log j o bytes) a (subst (λ (o : List ℕ). RunningAlike plan c st log j s o) b K)),
+    )
+running-here (storing K m L) k state bytes e = let z : _≡_ {A = ℕ} 0 1 = cc in absurd (omega arith)
+running-here (crashed K) k state bytes e = let z : _≡_ {A = ℕ} 0 1 = cc in absurd (omega arith)
 
-pub running-room : {y : B.Server} {state bytes : List ℕ} → y ≡ B.running state bytes → (t : B.Lent) (out : List ℕ) (need : ℕ) → roomOf y t out need ≡ roomIn t state bytes out need
+pub running-room : {y : B.Server} {k : B.Stored} {state bytes : List ℕ} → y ≡ B.running k state bytes → (t : B.Lent) (out : List ℕ) (need : ℕ)
+    → roomOf y t out need ≡ k .replaced + roomIn t state bytes out need
 unfolding roomOf
 running-room e t out need = rw e

@@ -1,6 +1,6 @@
--- A schedule over bytes as one over states and log records.
+-- A schedule over bytes as one over states and log records: there a server keeps its whole log, and places are counted from its founding.
 -- Assumes nothing.
-use Prim.Native.Nat.{ℕ}
+use Prim.Native.Nat.{ℕ, _+_}
 use mathlib.Core.Bool.{_||_}
 use mathlib.Core.List.{List, [], _∷_}
 use lib.Dec.{eqb}
@@ -8,6 +8,7 @@ use lib.ListN.{length}
 use Rattle.model.specs.Choice.{pick}
 use Rattle.model.specs.Limits.{stateSize, resultSize, receiptSize, greatestImage}
 use Rattle.model.specs.Operations.{After, short, foundOf, recoverOf}
+use Rattle.model.specs.Checkpoints.{recoverTailOf}
 use Rattle.model.specs.Refusals.{noRefusal}
 use Rattle.claim.specs.World.{Lent, lentState, lentLog}
 use Rattle.claim.specs.World as B
@@ -17,46 +18,59 @@ use Rattle.claim.specs.RecordWorld as R
 unfoldable pub roomIn : Lent → List ℕ → List ℕ → List ℕ → ℕ → ℕ
 roomIn t state log out need = pick (short (lentState t state) stateSize || short out need) 0 (length (lentLog t log))
 
--- at a server; one that does not run takes no call
+-- at a server, counted from the founding; one that does not run takes no call. Where checkpoints replaced as many bytes, that is still too short
 unfoldable pub roomOf : B.Server → Lent → List ℕ → ℕ → ℕ
 roomOf B.nothing t out need = 0
-roomOf (B.running state log) t out need = roomIn t state log out need
-roomOf (B.crashed kept mark) t out need = 0
+roomOf (B.running k state log) t out need = k .replaced + roomIn t state log out need
+roomOf (B.storing k log next state tail) t out need = 0
+roomOf (B.crashed k kept mark) t out need = 0
+
+-- a place of the server's log, counted from the founding
+unfoldable pub placeOf : B.Server → ℕ → ℕ
+placeOf s n = B.storedOf s .replaced + n
+
+-- a call that is refused: the event over records of what leaves a whole log as it is
+abbrev pub idle : ℕ → R.Event
+idle c = R.fetch c 0 0 0
 
 -- the plan; none where found or recover is refused, so that it is refused
 unfoldable pub planIf : After → List ℕ → List ℕ
 planIf a p = pick (eqb (a .answer .refusal) noRefusal) p []
 
--- the event of the byte world w
-unfoldable pub decoded : B.World → B.Event → R.Event
-decoded w (B.found c state log p n) = R.found c (planIf (foundOf state log p n) p) n
-decoded w (B.request c p vs t) = R.request c p vs (roomOf (w .servers c) t (t .out) resultSize)
-decoded w (B.fetch c x k t) = R.fetch c x k (roomOf (w .servers c) t (t .out) resultSize)
-decoded w (B.sync c m t) = R.sync c m (roomOf (w .servers c) t [] 0)
-decoded w (B.notice c p t) = R.notice c p (roomOf (w .servers c) t [] 0)
-decoded w (B.give c p d t) = R.give c p d (roomOf (w .servers c) t [] 0)
-decoded w (B.image c p t) = R.image c p (roomOf (w .servers c) t (t .out) greatestImage)
-decoded w (B.take·image c p t) = R.take·image c p (roomOf (w .servers c) t [] 0)
-decoded w (B.receipt c p t) = R.receipt c p (roomOf (w .servers c) t (t .out) receiptSize)
-decoded w (B.release c p t) = R.release c p (roomOf (w .servers c) t [] 0)
-decoded w (B.recover c state log p) = R.recover c (planIf (recoverOf state log p) p)
-decoded w (B.crash c k) = R.crash c k
-decoded w (B.start p) = R.start p
-decoded w (B.issue x op p a) = R.issue x op p a
-decoded w (B.resend x c) = R.resend x c
-decoded w (B.receive x p) = R.receive x p
-decoded w (B.open·lease t span) = R.open·lease t span
-decoded w (B.renew x t span) = R.renew x t span
-decoded w (B.query x t) = R.query x t
+-- the event of the byte world w. A server that stores a checkpoint takes no call
+unfoldable pub decoded : List ℕ → B.World → B.Event → R.Event
+decoded plan w (B.found c state log p n) = R.found c (planIf (foundOf state log p n) p) n
+decoded plan w (B.request c p vs t) = R.request c p vs (roomOf (w .servers c) t (t .out) resultSize)
+decoded plan w (B.fetch c x k t) = R.fetch c x k (roomOf (w .servers c) t (t .out) resultSize)
+decoded plan w (B.sync c m t) = R.sync c (placeOf (w .servers c) m) (roomOf (w .servers c) t [] 0)
+decoded plan w (B.notice c p t) = R.notice c p (roomOf (w .servers c) t [] 0)
+decoded plan w (B.give c p d t) = R.give c p d (roomOf (w .servers c) t [] 0)
+decoded plan w (B.image c p t) = R.image c p (roomOf (w .servers c) t (t .out) greatestImage)
+decoded plan w (B.take·image c p t) = R.take·image c p (roomOf (w .servers c) t [] 0)
+decoded plan w (B.receipt c p t) = R.receipt c p (roomOf (w .servers c) t (t .out) receiptSize)
+decoded plan w (B.release c p t) = R.release c p (roomOf (w .servers c) t [] 0)
+decoded plan w (B.recover c state log p) = R.recover c (planIf (recoverOf state log p) p)
+decoded plan w (B.checkpoint c tail t) = idle c
+decoded plan w (B.store c) = idle c
+decoded plan w (B.recover·tail c state k tail) = R.recover c (planIf (recoverTailOf state k tail) plan)
+decoded plan w (B.inspect c x k) = idle c
+decoded plan w (B.crash c k) = R.crash c (placeOf (w .servers c) k)
+decoded plan w (B.start p) = R.start p
+decoded plan w (B.issue x op p a) = R.issue x op p a
+decoded plan w (B.resend x c) = R.resend x c
+decoded plan w (B.receive x p) = R.receive x p
+decoded plan w (B.open·lease t span) = R.open·lease t span
+decoded plan w (B.renew x t span) = R.renew x t span
+decoded plan w (B.query x t) = R.query x t
 
 -- a schedule from the byte world w on
-unfoldable pub decodedFrom : B.World → List B.Event → List R.Event
-decodedFrom w [] = []
-decodedFrom w (y ∷ ys) = decoded w y ∷ decodedFrom (B.step w y) ys
+unfoldable pub decodedFrom : List ℕ → B.World → List B.Event → List R.Event
+decodedFrom plan w [] = []
+decodedFrom plan w (y ∷ ys) = decoded plan w y ∷ decodedFrom plan (B.step w y) ys
 
 -- a whole schedule
-abbrev pub schedule : List B.Event → List R.Event
-schedule ys = decodedFrom B.emptyWorld ys
+abbrev pub schedule : List ℕ → List B.Event → List R.Event
+schedule plan ys = decodedFrom plan B.emptyWorld ys
 
 -- the events with provisos of their own, requests and issues; 5 is every other one
 unfoldable pub kind : R.Event → ℕ

@@ -1,17 +1,23 @@
--- The whole recovery: founding, all records, the mark; and the operation.
---     begun, ended-standing         founding leaves a sound state at the head's end; so do all records
---     no-ends, no-replay, rebuilt-done     what rebuilding answers
---     recover-refused, long-passed, plan-passed, recover-no, recover-done     the answers of the operation
+-- The whole recovery: the state before the log, all records, the mark; and the operations.
+--     begun-off, begun-founded      founding for the server of the log's head
+--     tail-off, tail-none, begun-tail     the state of a checkpoint, of the same server
+--     ended-standing, no-ends, no-replay, rebuilt-done     what the log gives on it
+--     rebuilt-none, rebuilt-as, begun-stands     both, one after the other
+--     settled-no, settled-done, recovered-settled     what is left of the lent state
+--     recover-refused, long-passed, plan-passed, recover-done     the answers of the operation on a log
+--     tail-short, tail-done         and on a checkpoint and its tail
 -- Assumes nothing.
-use Prim.Native.Nat.{ℕ, _≤_}
+use Prim.Native.Nat.{ℕ, _≤_, _<_}
 use mathlib.Core.Path.{_≡_, refl, sym, ap, _∙_}
 use mathlib.Core.Bool.{Bool, true, false, not}
-use mathlib.Core.List.{List, [], append-nil}
+use mathlib.Core.List.{List, []}
 use mathlib.Core.Option.{Option, none, some}
 use native.Mathlib.Omega.{arith}
-use lib.ListN.{length, drop-of-length-le}
-use lib.Dec.{ltb}
-use borrow.Author.Tests.{ltb-false, ne-eqb, not-false}
+use lib.ListN.{length}
+use lib.Dec.{eqb, ltb}
+use borrow.Author.Tests.{ltb-false, lt-ltb, le-ltb, ne-eqb, not-true, not-false}
+use Rattle.model.specs.declared.Answer.{Answer}
+use Rattle.model.specs.Choice.{pick}
 use Rattle.model.specs.Limits.{stateSize, headSize}
 use Rattle.model.specs.Refusals.{malformed, tooShort, badLog, noRefusal}
 use Rattle.model.specs.Tables.{written}
@@ -19,46 +25,36 @@ use Rattle.model.specs.Plan.{planOk, planOf}
 use Rattle.model.specs.Logs.{headOk, headServer, endsOf}
 use Rattle.model.specs.States.{State, load, stateBytes, stateEnd}
 use Rattle.model.specs.Apply.{founded, withMark}
-use Rattle.model.specs.Operations.{after, answerOf, settle, stored, leftUnless, recoveredOn, recoveredState, settleRecovered, recoverRefusal, recoverOf}
+use Rattle.model.specs.Operations.{After, after, answerOf, settle, stored, leftUnless, recoveredOn, recoveredState, settleRecovered, recoverRefusal, recoverOf}
+use Rattle.model.specs.Checkpoints.{checkpointState, recoveredTail, recoverTailRefusal, recoverTailOf}
 use Rattle.model_laws.specs.Bytes.{Bytes}
 use Rattle.model_laws.specs.Fits.{StateFits}
 use Rattle.model_laws.proofs.Refused.{if-passed}
-use Rattle.model_laws.proofs.Written.{written-front}
+use Rattle.model_laws.proofs.TwoWalks.{recovered-off}
 use Rattle.model_laws.proofs.States.{state-length}
 use Rattle.model_invariants.specs.Sound.{Sound}
 use Rattle.model_invariants.proofs.Tests.{fits-of}
 use Rattle.model_invariants.proofs.Kept.{founded-sound}
 use Rattle.model_invariants.proofs.Crash.{head-limit}
-use Rattle.model_invariants.proofs.Loaded.{plan-good}
-use Rattle.state_rows.proofs.Chains.{canonical-stored, load-stored, fits-mark}
+use Rattle.model_invariants.proofs.Loaded.{plan-good, loaded-sound}
+use Rattle.model_invariants.proofs.Restored.{checkpoint-size}
+use Rattle.state_rows.proofs.Chains.{canonical-sound, canonical-stored, load-stored, fits-mark}
+use Rattle.state_restore.specs.Restored.{RestoredBy}
+use Rattle.state_restore.proofs.Answers.{written-whole, restored-none, restored-some}
 use Rattle.format_log_ends.specs.Walked.{endsFrom}
 use Rattle.server_replay.specs.Standing.{Standing}
-use Rattle.server_recover.specs.Remaining.{remainingTo, remaining, Ended}
-use Rattle.server_recover.specs.Rebuilt.{Begun, rebuilt, recoveredBytes}
+use Rattle.server_recover.specs.Remaining.{remainingTo, remaining, StandsAt, Ended}
+use Rattle.server_recover.specs.Rebuilt.{Begun, BegunAs, rebuilt, recoveredBytes, settledBytes}
 
-pub ended-standing : (log : List ℕ) (at : ℕ) (st : State) (s : List ℕ) {t : Bool} → Ended log at st s t → t ≡ true → Standing s
-ended-standing log at st s d f = let g : Standing s × (remaining log at st ≡ some (load s)) = rw f at (d .found) in g .0
-
--- the bytes that fill a buffer
-whole : (s vs : List ℕ) → length vs ≡ length s → written s 0 vs ≡ vs
-whole s vs e = written-front s vs (omega arith) ∙ rw (drop-of-length-le s {i = length vs} (omega arith), append-nil)
+-- ---- founding
 
 module _ (log plan : List ℕ) where
   abbrev first : State
   first = founded (planOf plan) (headServer log)
 
-  by-ends : (w : Option (List ℕ)) → endsOf log ≡ w → recoveredState (planOf plan) log ≡ remainingTo log headSize first w
-  unfolding recoveredState recoveredOn remainingTo
-  by-ends none e = rw (e, recoveredOn)
-  by-ends (some es) e = rw (e, recoveredOn)
-
-  from-head : headOk log ≡ true → recoveredState (planOf plan) log ≡ remaining log headSize first
-  unfolding remaining endsOf
-  from-head k = by-ends (endsFrom log headSize) (rw (k, endsOf))
-
-  pub no-ends : (s : List ℕ) → endsOf log ≡ none → rebuilt false s ≡ recoveredBytes (recoveredState (planOf plan) log)
-  unfolding rebuilt recoveredBytes remainingTo
-  no-ends s e = rw (by-ends none e)
+  pub begun-off : (s : List ℕ) → headOk log ≡ false → Begun (recoveredState (planOf plan) log) log s false
+  unfolding recoveredState
+  begun-off s k = record { begun = recovered-off log first k }
 
   module _ (s : List ℕ) (long : length s ≡ stateEnd) (b : Bytes plan) (ok : planOk plan ≡ true) (k : headOk log ≡ true) {s1 : List ℕ} (e : s1 ≡ stored s first) where
     first-sound : Sound first
@@ -67,40 +63,135 @@ module _ (log plan : List ℕ) where
     first-load : load s1 ≡ first
     first-load = ap load e ∙ load-stored s (omega arith) first (fits-of first first-sound)
 
-    pub begun : Begun log plan s1
-    unfolding founded
-    begun =
+    pub begun-founded : Begun (recoveredState (planOf plan) log) log s1 true
+    unfolding founded recoveredState
+    begun-founded =
         record {
-          stands =
-              record {
-                standing = record { canonical = rw e (canonical-stored s (omega arith) first (fits-of first first-sound)); sound = rw first-load first-sound };
-                place = ap (λ (x : State). x .size) first-load;
-              };
-          all = from-head k ∙ ap (remaining log headSize) (sym first-load);
+          begun = (
+            record {
+              standing = record { canonical = rw e (canonical-stored s (omega arith) first (fits-of first first-sound)); sound = rw first-load first-sound };
+              place = ap (λ (x : State). x .size) first-load;
+            },
+            ap (λ (x : State). recoveredOn x log) (sym first-load),
+          );
         }
 
-module _ {log plan s1 s2 : List ℕ} {t : Bool} (w : Begun log plan s1) (d : Ended log headSize (load s1) s2 t) where
-  pub no-replay : (s : List ℕ) → t ≡ false → rebuilt false s ≡ recoveredBytes (recoveredState (planOf plan) log)
+-- ---- a checkpoint
+
+module _ (checkpoint tail : List ℕ) where
+  by-state : (o : Option State) → checkpointState checkpoint ≡ o
+      → recoveredTail checkpoint tail ≡ elim o [ none ↦ none | some st ↦ pick (eqb (headServer tail) (st .server)) (recoveredOn st tail) none ]
+  unfolding recoveredTail
+  by-state none e = rw e
+  by-state (some st) e = rw e
+
+  pub tail-off : (s : List ℕ) → headOk tail ≡ false → Begun (recoveredTail checkpoint tail) tail s false
+  tail-off s k = record { begun = go (checkpointState checkpoint) refl }
+    where
+      on : (st : State) (b : Bool) → pick b (recoveredOn st tail) none ≡ none
+      on st true = recovered-off tail st k
+      on st false = refl
+
+      go : (o : Option State) → checkpointState checkpoint ≡ o → recoveredTail checkpoint tail ≡ none
+      go none e = by-state none e
+      go (some st) e = by-state (some st) e ∙ on st (eqb (headServer tail) (st .server))
+
+  module _ {s : List ℕ} {t : Bool} (w : RestoredBy checkpoint s t) where
+    pub tail-none : t ≡ false → Begun (recoveredTail checkpoint tail) tail s false
+    tail-none f = record { begun = by-state none (restored-none w f) }
+
+    pub begun-tail : {r : Bool} → t ≡ true → Bytes s → r ≡ eqb (headServer tail) (load s .server) → Begun (recoveredTail checkpoint tail) tail s r
+    begun-tail {r} f b e = record { begun = go r (by-state (some (load s)) (restored-some w f) ∙ ap (λ (x : Bool). pick x (recoveredOn (load s) tail) none) (sym e)) }
+      where
+        go : (x : Bool) → recoveredTail checkpoint tail ≡ pick x (recoveredOn (load s) tail) none → BegunAs (recoveredTail checkpoint tail) tail s x
+        go true q = (
+          record {
+            standing = record { canonical = canonical-sound s b (w .bytes f .1); sound = loaded-sound s b (w .bytes f .1) };
+            place = checkpoint-size checkpoint (load s) (restored-some w f);
+          },
+          q,
+        )
+        go false q = q
+
+-- ---- the log
+
+pub ended-standing : (log : List ℕ) (at : ℕ) (st : State) (s : List ℕ) {t : Bool} → Ended log at st s t → t ≡ true → Standing s
+ended-standing log at st s d f = let g : Standing s × (remaining log at st ≡ some (load s)) = rw f at (d .found) in g .0
+
+module _ (log : List ℕ) (st : State) where
+  by-ends : (w : Option (List ℕ)) → endsOf log ≡ w → recoveredOn st log ≡ remainingTo log headSize st w
+  unfolding recoveredOn remainingTo
+  by-ends none e = rw (e, recoveredOn)
+  by-ends (some es) e = rw (e, recoveredOn)
+
+  from-head : headOk log ≡ true → recoveredOn st log ≡ remaining log headSize st
+  unfolding remaining endsOf
+  from-head k = by-ends (endsFrom log headSize) (rw (k, endsOf))
+
+  pub no-ends : (s : List ℕ) → endsOf log ≡ none → rebuilt false s ≡ recoveredBytes (recoveredOn st log)
+  unfolding rebuilt recoveredBytes remainingTo
+  no-ends s e = rw (by-ends none e)
+
+module _ {log : List ℕ} (s1 : List ℕ) {s2 : List ℕ} {t : Bool} (k : headOk log ≡ true) (d : Ended log headSize (load s1) s2 t) where
+  pub no-replay : (s : List ℕ) → t ≡ false → rebuilt false s ≡ recoveredBytes (recoveredOn (load s1) log)
   unfolding rebuilt recoveredBytes
-  no-replay s f = let g : remaining log headSize (load s1) ≡ none = rw f at (d .found) in rw (w .all ∙ g)
+  no-replay s f = let g : remaining log headSize (load s1) ≡ none = rw f at (d .found) in rw (from-head log (load s1) k ∙ g)
 
   pub rebuilt-done : {n : ℕ} {s3 : List ℕ} → t ≡ true → length s2 ≡ stateEnd → n ≡ load s2 .size → s3 ≡ stored s2 (withMark n (load s2))
-      → rebuilt true s3 ≡ recoveredBytes (recoveredState (planOf plan) log)
+      → rebuilt true s3 ≡ recoveredBytes (recoveredOn (load s1) log)
   unfolding rebuilt recoveredBytes stored
   rebuilt-done {n} {s3} f l q c =
       let g : Standing s2 × (remaining log headSize (load s1) ≡ some (load s2)) = rw f at (d .found) in
       let st : State = withMark (load s2 .size) (load s2) in
       let fits : StateFits st = fits-mark (load s2) (g .0 .canonical .fits) (load s2 .size) (g .0 .canonical .fits .size) in
-      let b : s3 ≡ stateBytes st = c ∙ ap (λ (x : ℕ). written s2 0 (stateBytes (withMark x (load s2)))) q ∙ whole s2 (stateBytes st) (omega (arith, state-length st fits)) in
-      rw (w .all ∙ g .1, b)
+      let b : s3 ≡ stateBytes st = c ∙ ap (λ (x : ℕ). written s2 0 (stateBytes (withMark x (load s2)))) q ∙ written-whole s2 (stateBytes st) (omega (arith, state-length st fits)) in
+      rw (from-head log (load s1) k ∙ g .1, b)
 
--- ---- the operation
+-- ---- both
+
+module _ {o : Option State} {log s : List ℕ} {t : Bool} (w : Begun o log s t) where
+  pub rebuilt-none : (s' : List ℕ) → t ≡ false → rebuilt false s' ≡ recoveredBytes o
+  unfolding rebuilt recoveredBytes
+  rebuilt-none s' f = let g : o ≡ none = rw f at (w .begun) in rw g
+
+  pub begun-stands : t ≡ true → StandsAt s headSize
+  begun-stands f = let g : StandsAt s headSize × (o ≡ recoveredOn (load s) log) = rw f at (w .begun) in g .0
+
+  pub rebuilt-as : {b : Option (List ℕ)} → t ≡ true → b ≡ recoveredBytes (recoveredOn (load s) log) → b ≡ recoveredBytes o
+  rebuilt-as f e = let g : StandsAt s headSize × (o ≡ recoveredOn (load s) log) = rw f at (w .begun) in e ∙ ap recoveredBytes (sym (g .1))
+
+-- ---- what is left of the lent state
+
+module _ (state work : List ℕ) (t : Bool) where
+  pub settled-no : {a : Answer} → not t ≡ true → a ≡ answerOf badLog 0 → after a state [] [] ≡ settledBytes state [] (rebuilt t work)
+  unfolding settledBytes rebuilt settle
+  settled-no q e = rw (not-true t q, e)
+
+  pub settled-done : {a : Answer} {state' : List ℕ} → not t ≡ false → state' ≡ written state 0 work → a ≡ answerOf noRefusal 0
+      → after a state' [] [] ≡ settledBytes state [] (rebuilt t work)
+  unfolding settledBytes rebuilt
+  settled-done q c e = rw (not-false t q, e, c)
+
+-- with the log as it was
+recovered-settled : (state log : List ℕ) (o : Option State) {b : Option (List ℕ)} {a : Answer} {state' : List ℕ} → b ≡ recoveredBytes o → after a state' [] [] ≡ settledBytes state [] b
+    → after a state' log [] ≡ settleRecovered state log o
+unfolding settledBytes recoveredBytes settleRecovered settle stored
+recovered-settled state log o p e = ap beside (e ∙ ap (settledBytes state []) p) ∙ same o
+  where
+    beside : After → After
+    beside x = after (x .answer) (x .state) log (x .out)
+
+    same : (o : Option State) → beside (settledBytes state [] (recoveredBytes o)) ≡ settleRecovered state log o
+    same none = refl
+    same (some st) = refl
+
+-- ---- the operations
 
 -- by the refusal's number, with the plan's test as a call gave it
 module _ (state log plan : List ℕ) {g : Bool} (p : g ≡ planOk plan) {k : ℕ} (q : k ≡ recoverRefusal (length state) g) where
-  pub recover-refused : (k ≡ noRefusal → ⊥) → after (answerOf k 0) state log [] ≡ recoverOf state log plan
+  pub recover-refused : {a : Answer} → (k ≡ noRefusal → ⊥) → a ≡ answerOf k 0 → after a state log [] ≡ recoverOf state log plan
   unfolding recoverOf leftUnless settle
-  recover-refused h = rw (← p, ← q, ne-eqb k noRefusal h)
+  recover-refused h e = rw (e, ← p, ← q, ne-eqb k noRefusal h)
 
   module _ (z : k ≡ noRefusal) where
     tests : (ltb (length state) stateSize ≡ false) × (not g ≡ false)
@@ -113,22 +204,17 @@ module _ (state log plan : List ℕ) {g : Bool} (p : g ≡ planOk plan) {k : ℕ
     pub plan-passed : planOk plan ≡ true
     plan-passed = sym p ∙ not-false g (tests .1)
 
-    pub recover-no : (work : List ℕ) {v : Bool} → rebuilt v work ≡ recoveredBytes (recoveredState (planOf plan) log) → v ≡ false
-        → after (answerOf badLog 0) state log [] ≡ recoverOf state log plan
-    unfolding recoverOf leftUnless rebuilt recoveredBytes settleRecovered settle
-    recover-no work {v} r f = rw (← p, ← q, z) (go (recoveredState (planOf plan) log) (rw f at r))
-      where
-        go : (o : Option State) → none ≡ recoveredBytes o → after (answerOf badLog 0) state log [] ≡ settleRecovered state log o
-        go none e = refl
-        go (some st) e = let z : _≡_ {A = ℕ} 0 1 = cc in absurd (omega arith)
+    pub recover-done : {b : Option (List ℕ)} {a : Answer} {state' : List ℕ} → b ≡ recoveredBytes (recoveredState (planOf plan) log) → after a state' [] [] ≡ settledBytes state [] b
+        → after a state' log [] ≡ recoverOf state log plan
+    unfolding recoverOf leftUnless
+    recover-done r e = rw (← p, ← q, z) (recovered-settled state log (recoveredState (planOf plan) log) r e)
 
-    pub recover-done : (work : List ℕ) {state' : List ℕ} {v : Bool} → rebuilt v work ≡ recoveredBytes (recoveredState (planOf plan) log) → v ≡ true
-        → state' ≡ written state 0 work → after (answerOf noRefusal 0) state' log [] ≡ recoverOf state log plan
-    unfolding recoverOf leftUnless rebuilt recoveredBytes settleRecovered settle stored
-    recover-done work {state'} {v} r f c = rw (← p, ← q, z) (go (recoveredState (planOf plan) log) (rw f at r))
-      where
-        go : (o : Option State) → some work ≡ recoveredBytes o → after (answerOf noRefusal 0) state' log [] ≡ settleRecovered state log o
-        go none e = let z : _≡_ {A = ℕ} 0 1 = cc in absurd (omega arith)
-        go (some st) e =
-            let w : work ≡ stateBytes (withMark (st .size) st) = cc in
-            ap (λ (x : List ℕ). after (answerOf noRefusal 0) x log []) (c ∙ ap (written state 0) w)
+module _ (state checkpoint tail : List ℕ) where
+  pub tail-short : {a : Answer} → length state < stateSize → a ≡ answerOf tooShort 0 → after a state tail [] ≡ recoverTailOf state checkpoint tail
+  unfolding recoverTailOf recoverTailRefusal leftUnless settle
+  tail-short h e = rw (e, lt-ltb (length state) stateSize h)
+
+  pub tail-done : {b : Option (List ℕ)} {a : Answer} {state' : List ℕ} → stateSize ≤ length state → b ≡ recoveredBytes (recoveredTail checkpoint tail)
+      → after a state' [] [] ≡ settledBytes state [] b → after a state' tail [] ≡ recoverTailOf state checkpoint tail
+  unfolding recoverTailOf recoverTailRefusal leftUnless
+  tail-done h r e = rw (le-ltb (length state) stateSize h) (recovered-settled state tail (recoveredTail checkpoint tail) r e)

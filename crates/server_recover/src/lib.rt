@@ -1,8 +1,7 @@
-// Recover: the state that a kept log gives.
+// Recover: the state that a kept log gives, from founding or from a checkpoint.
 use format_log_reader::Record;
 use model::Answer;
 use model::constants;
-use model::constants::BAD_LOG;
 use state_rows::state;
 ghost use mathlib.Core.Path.{_≡_};
 ghost use mathlib.Core.Bool.{true};
@@ -11,16 +10,17 @@ ghost use Prim.Native.Nat.{_+_, _-_, _≤_};
 ghost use lib.ListN.{length, drop};
 ghost use Rattle.model.specs.Plan.{planOk, planOf};
 ghost use Rattle.model.specs.Images.{imageOk};
-ghost use Rattle.model.specs.Logs.{headOk, took, spans, recordAt};
+ghost use Rattle.model.specs.Logs.{took, spans, recordAt};
 ghost use Rattle.model.specs.States.{load, stateEnd};
-ghost use Rattle.model.specs.Operations.{after, recoveredState, recoverOf};
+ghost use Rattle.model.specs.Operations.{after, answerOf, recoveredOn, recoveredState, recoverOf};
+ghost use Rattle.model.specs.Checkpoints.{recoveredTail, recoverTailOf};
 ghost use Rattle.model.specs.Limits.{headSize};
 ghost use Rattle.model_laws.specs.Bytes.{part};
 ghost use Rattle.format_log_ends.specs.Answers.{extentFrom};
 ghost use Rattle.format_log_ends.specs.Walked.{endAt, endFrom};
 ghost use Rattle.server_replay.specs.Standing.{Ready, ReplayedBy};
 ghost use Rattle.server_recover.specs.Remaining.{imageBetween, RecordReplayedBy, StandsAt, Ended};
-ghost use Rattle.server_recover.specs.Rebuilt.{Begun, rebuilt, recoveredBytes};
+ghost use Rattle.server_recover.specs.Rebuilt.{Begun, rebuilt, recoveredBytes, settledBytes};
 
 // ---- one record
 
@@ -67,27 +67,46 @@ fn replay_log(s: &mut [u8], log: &[u8], end: usize) -> bool
     true
 }
 
-// ---- the operation
+// ---- the state before the log
 
 // The state that founding leaves, for the server of the log's head.
-fn begin(work: &mut [u8], log: &[u8], plan: &[u8])
-    requires { ⌜ (length (now work) ≡ stateEnd) × (planOk (now plan) ≡ true) × (headOk (now log) ≡ true) ⌝ }
-    ensures { λ r. ⌜ Begun (now (log .entry)) (now (plan .entry)) (now (work .exit)) ⌝ }
+fn begin(work: &mut [u8], log: &[u8], plan: &[u8]) -> bool
+    requires { ⌜ (length (now work) ≡ stateEnd) × (planOk (now plan) ≡ true) ⌝ }
+    ensures { λ r. ⌜ Begun (recoveredState (planOf (now (plan .entry))) (now (log .entry))) (now (log .entry)) (now (work .exit)) r ⌝ }
 {
+    if !format_log_ends::head_ok(log) {
+        return false;
+    }
     let server = format_log_ends::head_server(log);
     server_found::found_state(work, plan, server);
+    true
 }
 
-// The state that the log gives, with the mark at the end of its records, in a buffer of the state's size.
-fn rebuild(work: &mut [u8], log: &[u8], plan: &[u8]) -> bool
-    requires { ⌜ (length (now work) ≡ stateEnd) × (planOk (now plan) ≡ true) ⌝ }
-    ensures { λ r. ⌜ rebuilt r (now (work .exit)) ≡ recoveredBytes (recoveredState (planOf (now (plan .entry))) (now (log .entry))) ⌝ }
+// The state that a checkpoint gives, of the server of the tail's head.
+fn begin_checkpoint(work: &mut [u8], checkpoint: &[u8], tail: &[u8]) -> bool
+    requires { ⌜ length (now work) ≡ stateEnd ⌝ }
+    ensures { λ r. ⌜ Begun (recoveredTail (now (checkpoint .entry)) (now (tail .entry))) (now (tail .entry)) (now (work .exit)) r ⌝ }
+{
+    if !format_log_ends::head_ok(tail) {
+        return false;
+    }
+    if !state_restore::restore_sound(work, checkpoint) {
+        return false;
+    }
+    format_log_ends::head_server(tail) == state::server_of(work)
+}
+
+// ---- the state after it
+
+// The state that the log gives on the one in a buffer of the state's size, with the mark at the end of its records.
+fn rebuild_on(work: &mut [u8], log: &[u8]) -> bool
+    requires { ⌜ (length (now work) ≡ stateEnd) × StandsAt (now work) headSize ⌝ }
+    ensures { λ r. ⌜ rebuilt r (now (work .exit)) ≡ recoveredBytes (recoveredOn (load (now (work .entry))) (now (log .entry))) ⌝ }
 {
     let found = format_log_ends::log_end(log);
     if found.refusal != constants::NO_REFUSAL {
         return false;
     }
-    begin(work, log, plan);
     if !replay_log(work, log, found.end as usize) {
         return false;
     }
@@ -96,7 +115,46 @@ fn rebuild(work: &mut [u8], log: &[u8], plan: &[u8]) -> bool
     true
 }
 
-// A refusal leaves the lent state as it was, so the records are replayed in a buffer apart.
+fn rebuild(work: &mut [u8], log: &[u8], plan: &[u8]) -> bool
+    requires { ⌜ (length (now work) ≡ stateEnd) × (planOk (now plan) ≡ true) ⌝ }
+    ensures { λ r. ⌜ rebuilt r (now (work .exit)) ≡ recoveredBytes (recoveredState (planOf (now (plan .entry))) (now (log .entry))) ⌝ }
+{
+    if !begin(work, log, plan) {
+        return false;
+    }
+    rebuild_on(work, log)
+}
+
+fn rebuild_tail(work: &mut [u8], checkpoint: &[u8], tail: &[u8]) -> bool
+    requires { ⌜ length (now work) ≡ stateEnd ⌝ }
+    ensures { λ r. ⌜ rebuilt r (now (work .exit)) ≡ recoveredBytes (recoveredTail (now (checkpoint .entry)) (now (tail .entry))) ⌝ }
+{
+    if !begin_checkpoint(work, checkpoint, tail) {
+        return false;
+    }
+    rebuild_on(work, tail)
+}
+
+// ---- the operations. A refusal leaves the lent state as it was, so the records are replayed in a buffer apart.
+
+fn answered(refusal: u32) -> Answer
+    ensures { λ r. ⌜ r ≡ answerOf refusal 0 ⌝ }
+{
+    Answer { refusal, wrote: 0 }
+}
+
+// The rebuilt state, if there is one.
+fn settle(state: &mut [u8], work: &[u8], done: bool) -> Answer
+    requires { ⌜ length (now work) ≤ length (now state) ⌝ }
+    ensures { λ r. ⌜ after r (now (state .exit)) [] [] ≡ settledBytes (now (state .entry)) [] (rebuilt done (now (work .entry))) ⌝ }
+{
+    if !done {
+        return answered(constants::BAD_LOG);
+    }
+    format_numbers::copy_bytes(state, work);
+    answered(constants::NO_REFUSAL)
+}
+
 fn recover_with(state: &mut [u8], work: &mut [u8], log: &[u8], plan: &[u8]) -> Answer
     requires { ⌜ length (now work) ≡ stateEnd ⌝ }
     ensures { λ r. ⌜ after r (now (state .exit)) (now (log .entry)) [] ≡ recoverOf (now (state .entry)) (now (log .entry)) (now (plan .entry)) ⌝ }
@@ -104,22 +162,21 @@ fn recover_with(state: &mut [u8], work: &mut [u8], log: &[u8], plan: &[u8]) -> A
     let good = format_commands::plan_ok(plan);
     let k = server_decide::recover_refusal(state.len(), good);
     if k != 0 {
-        return Answer {
-            refusal: k,
-            wrote: 0,
-        };
+        return answered(k);
     }
-    if !rebuild(work, log, plan) {
-        return Answer {
-            refusal: BAD_LOG,
-            wrote: 0,
-        };
+    let done = rebuild(work, log, plan);
+    settle(state, work, done)
+}
+
+fn recover_tail_with(state: &mut [u8], work: &mut [u8], checkpoint: &[u8], tail: &[u8]) -> Answer
+    requires { ⌜ length (now work) ≡ stateEnd ⌝ }
+    ensures { λ r. ⌜ after r (now (state .exit)) (now (tail .entry)) [] ≡ recoverTailOf (now (state .entry)) (now (checkpoint .entry)) (now (tail .entry)) ⌝ }
+{
+    if state.len() < constants::STATE_SIZE {
+        return answered(constants::TOO_SHORT);
     }
-    format_numbers::copy_bytes(state, work);
-    Answer {
-        refusal: constants::NO_REFUSAL,
-        wrote: 0,
-    }
+    let done = rebuild_tail(work, checkpoint, tail);
+    settle(state, work, done)
 }
 
 // A buffer of the state's size.
@@ -136,4 +193,13 @@ pub fn recover(state: &mut [u8], log: &[u8], plan: &[u8]) -> Answer
 {
     let mut work = blank();
     recover_with(state, &mut work, log, plan)
+}
+
+// 2 state too short; 14 the checkpoint gives no sound state, or one of another server than the tail, or the tail as for recover; else the
+// state that the tail's whole records give on the checkpoint's, and the mark is their end.
+pub fn recover_checkpoint(state: &mut [u8], checkpoint: &[u8], tail: &[u8]) -> Answer
+    ensures { λ r. ⌜ after r (now (state .exit)) (now (tail .entry)) [] ≡ recoverTailOf (now (state .entry)) (now (checkpoint .entry)) (now (tail .entry)) ⌝ }
+{
+    let mut work = blank();
+    recover_tail_with(state, &mut work, checkpoint, tail)
 }

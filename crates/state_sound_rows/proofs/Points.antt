@@ -16,8 +16,8 @@ use Rattle.model.specs.declared.Point.{Point}
 use Rattle.model.specs.Choice.{pick}
 use Rattle.model.specs.Tables.{rows, everyRow}
 use Rattle.model.specs.Plan.{planEntryOf, planRowOk}
-use Rattle.model.specs.States.{absent, held, pointOf, endOk, notGiven, originOk, absentOk, heldOk, givenOk, statusOk, pointOk, pointsOk, pointRowOk, pointRow}
-use Rattle.model.specs.Limits.{invalid, pointCount, planRow}
+use Rattle.model.specs.States.{absent, held, pointOf, endOk, endsInOrder, notGiven, originOk, absentOk, heldOk, givenOk, statusOk, pointOk, pointsOk, pointRowOk, pointRow}
+use Rattle.model.specs.Limits.{invalid, headSize, pointCount, planRow}
 use Rattle.model_laws.proofs.Tests.{and-left, joined-all}
 use Rattle.model_laws.proofs.Tables.{rows-cons, everyRow-cons}
 use Rattle.state_sound_rows.specs.Parts.{isEnd, heldMove, givenMove, origin, statusAndEnds, fieldsIn, rowOk, rowsOk}
@@ -70,9 +70,9 @@ module _ (size : ℕ) where
   some-end zero = refl
   some-end (suc end) = rw (ne-eqb (suc end) 0 (λ e. omega arith), le-leb 1 (suc end) (omega arith)) (and-true (isEnd size (suc end)))
 
-  later-end : (t end : ℕ) → (ltb t end && endOk size end) ≡ (ltb t end && isEnd size end)
-  unfolding endOk
-  later-end t zero = rw (le-ltb t 0 (omega arith))
+  later-end : (t end : ℕ) → (endsInOrder t end && endOk size end) ≡ (endsInOrder t end && isEnd size end)
+  unfolding endOk endsInOrder
+  later-end t zero = rw (le-ltb t 0 (omega arith), ne-eqb 0 headSize (λ e. omega arith), and-false (eqb t headSize))
   later-end t (suc end) = rw (ne-eqb (suc end) 0 (λ e. omega arith))
 
 module _ (server size : ℕ) (e : PlanEntry) (x : Point) where
@@ -105,7 +105,7 @@ module _ (server size : ℕ) (e : PlanEntry) (x : Point) where
   given-ends : (endOk size (x .giveEnd) && (endOk size (x .takeEnd) && givenOk server e x)) ≡ (givenMove server size x && origin server size e x)
   unfolding givenOk givenMove
   given-ends =
-      behind-3 (endOk size (x .giveEnd)) (endOk size (x .takeEnd)) (eqb (x .moveNumber) (suc (x .takenMove))) (not (eqb (x .destination) server)) (ltb (x .takeEnd) (x .giveEnd))
+      behind-3 (endOk size (x .giveEnd)) (endOk size (x .takeEnd)) (eqb (x .moveNumber) (suc (x .takenMove))) (not (eqb (x .destination) server)) (endsInOrder (x .takeEnd) (x .giveEnd))
       (originOk server e x)
       ∙ rw (later-end size (x .takeEnd) (x .giveEnd), origin-end)
 

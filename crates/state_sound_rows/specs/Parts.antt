@@ -10,7 +10,7 @@ use Rattle.model.specs.Choice.{pick}
 use Rattle.model.specs.Numbers.{byteAt, le32At, zeros3At}
 use Rattle.model.specs.Tables.{rows, everyRow}
 use Rattle.model.specs.Plan.{planEntryOf, planRowOk, inRange}
-use Rattle.model.specs.States.{clientsIn, recordsIn, stateMagic, absent, held, releasedStatus, pointRow, pointOf, notGiven, absentOk, pointOk, pointsOk, pointRowOk}
+use Rattle.model.specs.States.{clientsIn, recordsIn, stateMagic, absent, held, releasedStatus, pointRow, pointOf, endsInOrder, notGiven, absentOk, pointOk, pointsOk, pointRowOk}
 use Rattle.model.specs.Limits.{clientCount, recordCount, headSize, lastQuality, lastServer, planRow, pointCount}
 
 -- the magic, the zero bytes and the counts of the head
@@ -24,9 +24,9 @@ headFramed s =
 
 -- ---- a point: the tests of its ends stand with those that its status asks for
 
--- an end of a log record, not 0
+-- an end of a log record, or a place before this log; not 0
 abbrev pub isEnd : ℕ → ℕ → Bool
-isEnd size end = ltb headSize end && leb end size
+isEnd size end = leb headSize end && leb end size
 
 -- the latest move of a point that is held
 unfoldable pub heldMove : Point → Bool
@@ -35,7 +35,7 @@ heldMove x = eqb (x .moveNumber) (x .takenMove) && notGiven x
 -- of one that was given
 unfoldable pub givenMove : ℕ → ℕ → Point → Bool
 givenMove server size x =
-    eqb (x .moveNumber) (suc (x .takenMove)) && (not (eqb (x .destination) server) && (ltb (x .takeEnd) (x .giveEnd) && isEnd size (x .giveEnd)))
+    eqb (x .moveNumber) (suc (x .takenMove)) && (not (eqb (x .destination) server) && (endsInOrder (x .takeEnd) (x .giveEnd) && isEnd size (x .giveEnd)))
 
 unfoldable pub origin : ℕ → ℕ → PlanEntry → Point → Bool
 origin server size e x = pick (eqb (x .takenMove) 0) (eqb (x .takeEnd) 0 && eqb (e .home) server) (isEnd size (x .takeEnd))

@@ -18,7 +18,7 @@ ghost use lib.Dec.{eqb};
 ghost use Rattle.model.specs.Choice.{pick};
 ghost use Rattle.model.specs.Tables.{rows, every, zeros};
 ghost use Rattle.model.specs.Images.{floorOfBytes, floorOk, clientsAscend};
-ghost use Rattle.model.specs.States.{held, pointRow, notGiven, absentOk, pointOk, keepsRecords, pointRowOk, stateFramed, stateEnd, stateHead};
+ghost use Rattle.model.specs.States.{held, pointRow, endsInOrder, notGiven, absentOk, pointOk, keepsRecords, pointRowOk, stateFramed, stateEnd, stateHead};
 ghost use Rattle.model.specs.Limits.{floorRow, planRow, pointCount, planSize};
 ghost use Rattle.state_sound_rows.specs.Parts.{headFramed, isEnd, heldMove, givenMove, origin, statusAndEnds, fieldsIn, rowOk, rowsOk};
 
@@ -124,11 +124,11 @@ pub fn framed(s: &[u8]) -> bool
 
 // ---- the plan and the points
 
-// An end of a log record in a log of size bytes.
+// An end of a log record in a log of size bytes, or 8, a place before it.
 pub fn is_end(size: u64, end: u64) -> bool
     ensures { λ r. ⌜ r ≡ isEnd size end ⌝ }
 {
-    (constants::HEAD_SIZE_U64 < end) & (end <= size)
+    (constants::HEAD_SIZE_U64 <= end) & (end <= size)
 }
 
 // Neither destination nor give.
@@ -164,13 +164,21 @@ fn is_next(number: u32, n: u32) -> bool
     number as u64 == n as u64 + 1
 }
 
+// The record that ends at e before the one that ends at f, or both before this log.
+fn in_order(e: u64, f: u64) -> bool
+    ensures { λ r. ⌜ r ≡ endsInOrder e f ⌝ }
+{
+    (e < f) | ((e == constants::HEAD_SIZE_U64) & (f == constants::HEAD_SIZE_U64))
+}
+
 // Given or released: to another server, by the move and the log record after those of being held.
 fn given_ok(server: u8, size: u64, x: Point) -> bool
     ensures { λ r. ⌜ r ≡ givenMove server size x ⌝ }
 {
     let next = is_next(x.moveNumber, x.takenMove);
     let end = is_end(size, x.giveEnd);
-    next & ((x.destination != server) & ((x.takeEnd < x.giveEnd) & end))
+    let order = in_order(x.takeEnd, x.giveEnd);
+    next & ((x.destination != server) & (order & end))
 }
 
 // The latest move of a point that is not absent.

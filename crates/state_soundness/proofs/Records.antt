@@ -44,7 +44,7 @@ unfolding completionOk atPointOk fieldsOk
 ok-parts st r =
     moved (commandOk (r .command .op) (r .command .point) (r .command .argument)) (outcomeOk (r .result .outcome) (r .result .quality)) (idOk (r .command .client) (r .command .call))
     (inRange (entryAt (st .plan) (r .command .point)) (r .result .value))
-    (keepsRecords (pointAt st (r .command .point))) (ltb headSize (r .end)) (leb (r .end) (st .size)) (inWindow (floorOf (r .command .client) (st .floors)) (r .command .call))
+    (keepsRecords (pointAt st (r .command .point))) (leb headSize (r .end)) (leb (r .end) (st .size)) (inWindow (floorOf (r .command .client) (st .floors)) (r .command .call))
 
 -- a record whose fields pass names a point of the plan
 pub point-known : (size : ℕ) (r : Completion) {u : Bool} → u ≡ fieldsOk size r → not u ≡ false → r .command .point ≤ lastPoint

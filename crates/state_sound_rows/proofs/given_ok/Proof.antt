@@ -10,4 +10,4 @@ unfolding givenMove
 returns c = cc
 
 pub given-ok-spec : {M : Type 1} → statement M
-given-ok-spec = tie.close (tie.spec (λ c κs. search needs) (λ c κs. search needs) returns)
+given-ok-spec = tie.close (tie.spec (λ c κs. search needs) (λ c κs. search needs) (λ c κs. search needs) returns)

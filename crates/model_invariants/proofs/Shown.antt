@@ -1,0 +1,407 @@
+-- Inspect, of a server that runs, shows the bytes that hold the completion record.
+--     latest-same              the walk over the tail's bytes is the walk over its entries
+--     record-shown, image-shown, checkpoint-shown     the part at a place
+--     found-shown, shows-tells     what stands at a place is shown there; the part alone tells it
+--     log-walks, checkpoint-good   tests that a running server passes
+--     inspected                17 where the state has no completion record of the id, else the part that holds it
+-- Assumes nothing.
+use Prim.Native.Nat.{ℕ, suc, _+_, _-_, _*_, _≤_}
+use mathlib.Core.Path.{_≡_, refl, sym, ap, _∙_, subst}
+use mathlib.Core.Bool.{true, false, and-false}
+use mathlib.Core.List.{List, [], _∷_, _++_, append-assoc, append-nil, List·Memᴰ, List·Memᴰ·head, List·Memᴰ·tail, List·Memᴰ·not-nil, Memᴰ·append-right}
+use mathlib.Core.Option.{Option, none, some}
+use native.Mathlib.Omega.{arith}
+use lib.ListN.{length, take, drop, length-append, take-append-drop}
+use lib.Seq.{take-at, drop-at}
+use lib.Dec.{eqb, leb}
+use borrow.Author.Tests.{eq-eqb, lt-ltb, le-ltb}
+use Rattle.model.specs.declared.Completion.{Completion}
+use Rattle.model.specs.declared.ImageEntry.{ImageEntry}
+use Rattle.model.specs.declared.Executed.{Executed}
+use Rattle.model.specs.declared.Place.{Place}
+use Rattle.model.specs.Choice.{pick, _if_else_, passed}
+use Rattle.model.specs.Refusals.{unknown, noRefusal}
+use Rattle.model.specs.Numbers.{le32, quad}
+use Rattle.model.specs.Tables.{bytesOf}
+use Rattle.model.specs.Limits.{stateSize, headSize, floorRow, entryRow, executedSize, takeHead, leastImage, takeKind, checkpointRecord}
+use Rattle.model.specs.Images.{Image, floorOfBytes, floorBytes, imageEntryOf, imageEntryBytes, imageLength, imageHeadBytes, imageBytes}
+use Rattle.model.specs.Logs.{LogRecord, executed, took, Entry, headBytes, recordBytes, recordSize, takeBytes, executedAt, executedBytes, recordAt, headServer, headOk, endsOf, wholeEnd, lastOf, entriesTo, entriesBytes}
+use Rattle.model.specs.Plan.{planBytes}
+use Rattle.model.specs.States.{State, completionOf, completionBytes, isId, clientsIn, load}
+use Rattle.model.specs.Apply.{founded, replayFrom, withMark}
+use Rattle.model.specs.Decisions.{find, isNone, entryOfRecord}
+use Rattle.model.specs.Operations.{short, unfit}
+use Rattle.model.specs.Checkpoints.{placedRecord, endBefore, checkpointMagic, recordsPart, pairsBytes, pointFront, recordFront, recordWhole, checkpointBytes, clientsOf, restored, checkpointState}
+use Rattle.model.specs.Checkpoints.{inCheckpoint, placeAt, noPlace, placeAmong, latestOf, latestIn, placeInCheckpoint, checkpointBad, tailOf, inspectRefusal, inspectOf, shownOf}
+use Rattle.model_laws.specs.Bytes.{Bytes, All}
+use Rattle.model_laws.specs.Fits.{ImageEntryFits, recordFits, EntriesFrom, lastEnd, CompletionFits}
+use Rattle.model_laws.proofs.Tests.{impossible}
+use Rattle.model_laws.proofs.Tables.{length-rows, bytesOf-append, length-bytesOf, all-member}
+use Rattle.model_laws.proofs.Images.{floorCodec, entryCodec, entry-width, entry-at}
+use Rattle.model_laws.proofs.States.{completion-at}
+use Rattle.model_laws.proofs.Logs.{head-server, head-back, executed-at, record-length, log-length, entries-append, entries-back}
+use Rattle.model_laws.proofs.TwoWalks.{entries-same, recovered-on}
+use Rattle.model_laws.proofs.Fronts.{length-each, record-front-width, record-whole}
+use Rattle.model_laws.proofs.Checkpoints.{framed-is}
+use Rattle.model_laws.proofs.Restored.{restored-clients}
+use Rattle.model_invariants.specs.Sound.{GoodCompletion, Other, Distinct, Sound}
+use Rattle.model_invariants.specs.History.{Start, DecidedFrom}
+use Rattle.model_invariants.specs.Calls.{Holds}
+use Rattle.model_invariants.specs.Shown.{StartsFrom, byCheckpoint, byFounding, Shows, ofRecord, ofImage, ofCheckpoint, Tells, Inspected}
+use Rattle.model_invariants.proofs.Lists.{all-to, all-any}
+use Rattle.model_invariants.proofs.Tests.{fits-of, is-id, id-is}
+use Rattle.model_invariants.proofs.Decided.{find-has}
+use Rattle.model_invariants.proofs.Kept.{founded-start}
+use Rattle.model_invariants.proofs.Recovery.{recovers}
+use Rattle.model_invariants.proofs.Crash.{replay-end, decided-from, log-recovers}
+use Rattle.model_invariants.proofs.FirstWalk.{recovered-length}
+use Rattle.model_invariants.proofs.Running.{holds-size}
+use Rattle.model_invariants.proofs.Checkpoints.{checkpoint-length}
+use Rattle.model_invariants.proofs.Restored.{gives, checkpoint-sound, checkpoint-again}
+use Rattle.model_invariants.proofs.Latest.{Once, Split, once-split, split-below, latestAmong, Found, before, inLog, inTake, found-latest}
+
+-- ---- the walk over bytes
+
+module _ (x c : ℕ) (log : List ℕ) where
+  latest-step : (k end : ℕ) (ends : List ℕ) (es : List Entry) (found : Place) (o : Option LogRecord) (w : Option (List Entry))
+      → ((p : Place) (ys : List Entry) → w ≡ some ys → latestIn x c log end ends p ≡ latestAmong x c end ys p)
+      → elim o [ none ↦ none | some r ↦ elim w [ none ↦ none | some xs ↦ some (record { item = r; end = end } ∷ xs) ] ] ≡ some es
+      → latestIn x c log end ends (latestOf x c k o found) ≡ latestAmong x c k es found
+  unfolding latestAmong
+  latest-step k end ends es found none w h e = impossible (cc)
+  latest-step k end ends es found (some r) none h e = impossible (cc)
+  latest-step k end ends es found (some r) (some ys) h e =
+      let q : record { item = r; end = end } ∷ ys ≡ es = cc in
+      h (latestOf x c k (some r) found) ys refl ∙ ap (λ (l : List Entry). latestAmong x c k l found) q
+
+  pub latest-same : (k : ℕ) (ends : List ℕ) (es : List Entry) (found : Place) → entriesTo log k ends ≡ some es → latestIn x c log k ends found ≡ latestAmong x c k es found
+  unfolding entriesTo latestIn latestAmong
+  latest-same k [] es found e = let q : [] ≡ es = cc in ap (λ (l : List Entry). latestAmong x c k l found) q
+  latest-same k (end ∷ ends) es found e = latest-step k end ends es found (recordAt (drop k log)) (entriesTo log end ends) (λ p ys. latest-same end ends ys p) e
+
+-- ---- the part at a place
+
+part-at : (s w row v : List ℕ) (k m : ℕ) → s ≡ w ++ (row ++ v) → length w ≡ k → length row ≡ m → take (k + m - k) (drop k s) ≡ row
+part-at s w row v k m e p q =
+    let z : k + m - k ≡ m = omega arith in
+    ap (λ (j : ℕ). take j (drop k s)) z ∙ ap (λ (j : List ℕ). take m (drop k j)) e ∙ ap (take m) (drop-at w (row ++ v) k p) ∙ take-at row v m q
+
+-- the tail at the record behind its entries a
+module _ (n : ℕ) (es : List Entry) (tail : List ℕ) (logged : take (lastEnd headSize es) tail ≡ headBytes n ++ entriesBytes es) where
+  behind : List ℕ
+  behind = drop (lastEnd headSize es) tail
+
+  tail-split : (a b : List Entry) (e : Entry) → es ≡ a ++ (e ∷ b) → tail ≡ (headBytes n ++ entriesBytes a) ++ (recordBytes (e .item) ++ (entriesBytes b ++ behind))
+  unfolding entriesBytes behind
+  tail-split a b e q =
+      let r : List ℕ = recordBytes (e .item) in
+      let s : entriesBytes es ≡ entriesBytes a ++ (r ++ entriesBytes b) = ap entriesBytes q ∙ entries-append a (e ∷ b) in
+      sym (take-append-drop (lastEnd headSize es) tail)
+      ∙ ap (λ (j : List ℕ). j ++ behind) (logged ∙ ap (λ (j : List ℕ). headBytes n ++ j) s)
+      ∙ rw (append-assoc (headBytes n) (entriesBytes a) (r ++ (entriesBytes b ++ behind)), append-assoc (headBytes n) (entriesBytes a ++ (r ++ entriesBytes b)) behind, append-assoc (entriesBytes a) (r ++ entriesBytes b) behind, append-assoc r (entriesBytes b) behind)
+
+  record-shown : (a b : List Entry) (x : Executed) (end : ℕ) → es ≡ a ++ (record { item = executed x; end = end } ∷ b) → EntriesFrom headSize a
+      → take (lastEnd headSize a + executedSize - lastEnd headSize a) (drop (lastEnd headSize a) tail) ≡ executedBytes x
+  unfolding recordBytes recordSize
+  record-shown a b x end q f =
+      part-at tail (headBytes n ++ entriesBytes a) (executedBytes x) (entriesBytes b ++ behind) (lastEnd headSize a) executedSize (tail-split a b (record { item = executed x; end = end }) q)
+      (log-length n a f) (record-length (executed x))
+
+  -- the bytes of a take before the entries that follow `front`
+  imageFront : Image → List ImageEntry → List ℕ
+  imageFront i front =
+      quad takeKind 0 0 0 ++ (le32 (imageLength i) ++ (imageHeadBytes i ++ (bytesOf floorBytes (i .floors) ++ bytesOf imageEntryBytes front)))
+
+  front-length : (i : Image) (front : List ImageEntry) → length (imageFront i front) ≡ takeHead + leastImage + floorRow * length (i .floors) + entryRow * length front
+  unfolding imageFront imageHeadBytes
+  front-length i front =
+      let l = length-append (bytesOf floorBytes (i .floors)) (bytesOf imageEntryBytes front) in
+      omega (arith, l, length-bytesOf floorCodec (i .floors), length-bytesOf entryCodec front)
+
+  take-split : (i : Image) (front rest : List ImageEntry) (e : ImageEntry) → i .entries ≡ front ++ (e ∷ rest)
+      → takeBytes i ≡ imageFront i front ++ (imageEntryBytes e ++ bytesOf imageEntryBytes rest)
+  unfolding takeBytes imageBytes imageFront imageHeadBytes bytesOf
+  take-split i front rest e q =
+      rw (q, bytesOf-append imageEntryBytes front (e ∷ rest), append-assoc (bytesOf floorBytes (i .floors)) (bytesOf imageEntryBytes front) (imageEntryBytes e ++ bytesOf imageEntryBytes rest))
+
+  image-shown : (a b : List Entry) (i : Image) (end : ℕ) → es ≡ a ++ (record { item = took i; end = end } ∷ b) → EntriesFrom headSize a
+      → (front rest : List ImageEntry) (e : ImageEntry) → i .entries ≡ front ++ (e ∷ rest) → (k : ℕ)
+      → k ≡ lastEnd headSize a + takeHead + leastImage + floorRow * length (i .floors) + entryRow * length front
+      → take (k + entryRow - k) (drop k tail) ≡ imageEntryBytes e
+  unfolding recordBytes
+  image-shown a b i end q f front rest e s k z =
+      let h : List ℕ = headBytes n ++ entriesBytes a in
+      let w : List ℕ = imageFront i front in
+      let r : List ℕ = imageEntryBytes e in
+      let v : List ℕ = bytesOf imageEntryBytes rest in
+      let u : List ℕ = entriesBytes b ++ behind in
+      let t : tail ≡ (h ++ w) ++ (r ++ (v ++ u))
+      = tail-split a b (record { item = took i; end = end }) q
+      ∙ ap (λ (j : List ℕ). h ++ (j ++ u)) (take-split i front rest e s)
+      ∙ rw (append-assoc h w (r ++ (v ++ u)), append-assoc w (r ++ v) u, append-assoc r v u) in
+      part-at tail (h ++ w) r (v ++ u) k entryRow t (omega (arith, z, length-append h w, log-length n a f, front-length i front)) (entry-width e)
+
+-- ---- the row of a checkpoint
+
+records-once : (x c : ℕ) (rs : List Completion) → Distinct rs → Once (isId x c) rs
+records-once x c [] d = tt
+records-once x c (r ∷ rs) d = (
+  λ (h : isId x c r ≡ true).
+      all-to rs
+      (λ (q : Completion) (o : Other r q) (k : isId x c q ≡ true).
+      let a = is-id x c r h in
+      let b = is-id x c q k in
+      o (a .0 ∙ sym (b .0)) (a .1 ∙ sym (b .1)))
+      (d .0),
+  records-once x c rs (d .1),
+)
+
+module _ (st : State) where
+  -- the bytes of a checkpoint before its completion records
+  beforeRecords : List ℕ
+  beforeRecords =
+      checkpointMagic
+      ++ (quad (st .server) 0 0 0
+      ++ (le32 (st .heard)
+      ++ (pairsBytes (length (st .floors)) (length (st .records)) ++ (planBytes (st .plan) ++ (bytesOf pointFront (st .points) ++ bytesOf floorBytes (st .floors))))))
+
+  fronts-length : (rs : List Completion) → length (bytesOf recordFront rs) ≡ checkpointRecord * length rs
+  fronts-length rs = length-each recordFront checkpointRecord rs (all-any rs record-front-width)
+
+  checkpoint-split : checkpointBytes st ≡ beforeRecords ++ bytesOf recordFront (st .records)
+  unfolding checkpointBytes beforeRecords pairsBytes
+  checkpoint-split =
+      let f : List ℕ = bytesOf pointFront (st .points) in
+      let g : List ℕ = bytesOf floorBytes (st .floors) in
+      let h : List ℕ = bytesOf recordFront (st .records) in
+      rw (append-assoc (planBytes (st .plan)) (f ++ g) h, append-assoc f g h)
+
+  before-length : Sound st → length beforeRecords ≡ recordsPart (length (st .floors))
+  before-length S =
+      let l = ap length checkpoint-split ∙ length-append beforeRecords (bytesOf recordFront (st .records)) in
+      omega (arith, l, checkpoint-length st S, fronts-length (st .records))
+
+module _ (x c : ℕ) (s : List ℕ) (b : Bytes s) (st : State) (e : checkpointState s ≡ some st) where
+  clients-of : clientsOf s ≡ length (st .floors)
+  unfolding load
+  clients-of =
+      let g = gives s st e in
+      sym (ap (λ (j : State). length (j .floors)) (sym (g .same)) ∙ length-rows floorOfBytes floorRow (clientsIn (restored s)) _ ∙ restored-clients s (framed-is s (g .framed)))
+
+  module _ (r : Completion) (m : List·Memᴰ r (st .records)) (k : r .command .client ≡ x) (l : r .command .call ≡ c) where
+    row : Split (isId x c) r (st .records)
+    row = once-split (isId x c) (st .records) m (id-is x c r k l) (records-once x c (st .records) (checkpoint-sound s b st e .sound .ids))
+
+    rowAt : ℕ
+    rowAt = recordsPart (clientsOf s) + checkpointRecord * length (row .front)
+
+    row-place : placeInCheckpoint x c s ≡ placeAt inCheckpoint rowAt checkpointRecord
+    unfolding placeInCheckpoint placeAmong rowAt
+    row-place =
+        let g = gives s st e in
+        rw (g .same, lt-ltb _ _ (split-below (isId x c) (st .records) row), row .index)
+
+    checkpoint-shown : take (rowAt + checkpointRecord - rowAt) (drop rowAt s) ≡ recordFront r
+    unfolding rowAt bytesOf
+    checkpoint-shown =
+        let S = checkpoint-sound s b st e .sound in
+        let h : List ℕ = beforeRecords st in
+        let f : List ℕ = bytesOf recordFront (row .front) in
+        let w : List ℕ = recordFront r in
+        let v : List ℕ = bytesOf recordFront (row .rest) in
+        let u : List ℕ = drop (length (checkpointBytes st)) s in
+        let q : bytesOf recordFront (st .records) ≡ f ++ (w ++ v) = ap (bytesOf recordFront) (row .same) ∙ bytesOf-append recordFront (row .front) (r ∷ row .rest) in
+        let t : s ≡ (h ++ f) ++ (w ++ (v ++ u))
+        = sym (take-append-drop (length (checkpointBytes st)) s)
+        ∙ ap (λ (j : List ℕ). j ++ u) (checkpoint-again s b st e ∙ checkpoint-split st ∙ ap (λ (j : List ℕ). h ++ j) q)
+        ∙ rw (append-assoc h f (w ++ (v ++ u)), append-assoc h (f ++ (w ++ v)) u, append-assoc f (w ++ v) u, append-assoc w v u) in
+        part-at s (h ++ f) w (v ++ u) rowAt checkpointRecord t
+        (omega (arith, length-append h f, before-length st S, fronts-length st (row .front), ap recordsPart clients-of)) (record-front-width r)
+
+-- ---- what stands at a place is shown
+
+starts : {checkpoint : List ℕ} {start : State} → StartsFrom checkpoint start → Start start
+starts {checkpoint} {start} (byCheckpoint b e) = checkpoint-sound checkpoint b start e
+starts (byFounding plan n g h z q) = subst Start (sym q) (founded-start plan n g h)
+
+-- the part at a place
+abbrev partOf : List ℕ → List ℕ → Place → List ℕ
+partOf checkpoint tail p = take (p .end - p .start) (drop (p .start) (pick (eqb (p .source) inCheckpoint) checkpoint tail))
+
+abbrev Shown : State → List Entry → List ℕ → List ℕ → Completion → Place → Type 0
+Shown start es checkpoint tail r p = (p .refusal ≡ noRefusal) × Shows start es r p (partOf checkpoint tail p)
+
+at-start : {start : State} → Start start → (r : Completion) → List·Memᴰ r (start .records) → r .end ≡ headSize
+at-start {start} s r m =
+    let g = all-member (GoodCompletion (start .plan) (start .size)) (s .sound .records) m in
+    omega (arith, g .past, g .within, s .empty)
+
+before-shown : (start : State) (es : List Entry) (checkpoint tail : List ℕ) (x c : ℕ) → StartsFrom checkpoint start → (r : Completion) → List·Memᴰ r (start .records)
+    → r .command .client ≡ x → r .command .call ≡ c → Shown start es checkpoint tail r (placeInCheckpoint x c checkpoint)
+unfolding founded
+before-shown start es checkpoint tail x c (byCheckpoint b e) r m k l =
+    subst (Shown start es checkpoint tail r) (sym (row-place x c checkpoint b start e r m k l))
+    (refl, ofCheckpoint m (at-start (checkpoint-sound checkpoint b start e) r m) refl (checkpoint-shown x c checkpoint b start e r m k l))
+before-shown start es checkpoint tail x c (byFounding plan n g h z q) r m k l =
+    absurd (List·Memᴰ·not-nil (subst (λ (j : State). List·Memᴰ r (j .records)) q m))
+
+member-at : {e : Entry} (es a b : List Entry) → es ≡ a ++ (e ∷ b) → List·Memᴰ e es
+member-at {e} es a b q = subst (λ (j : List Entry). List·Memᴰ e j) (sym q) (Memᴰ·append-right a (List·Memᴰ·head refl))
+
+module _ (start : State) (es : List Entry) (checkpoint tail : List ℕ) (x c : ℕ) (F : StartsFrom checkpoint start)
+    (logged : take (lastEnd headSize es) tail ≡ headBytes (start .server) ++ entriesBytes es) where
+  found-shown : (r : Completion) (p : Place) → r .command .client ≡ x → r .command .call ≡ c → Found start (placeInCheckpoint x c checkpoint) es r p
+      → Shown start es checkpoint tail r p
+  found-shown r p k l (before m q) = subst (Shown start es checkpoint tail r) (sym q) (before-shown start es checkpoint tail x c F r m k l)
+  found-shown r p k l (inLog a b y s f d t n q) =
+      subst (Shown start es checkpoint tail r) (sym q)
+      (refl, ofRecord y (member-at es a b s) d t refl (sym n) (record-shown (start .server) es tail logged a b y (r .end) s f))
+  found-shown r p k l (inTake a b i s f d u v t n q) =
+      let at : ℕ = lastEnd headSize a + takeHead + leastImage + floorRow * length (i .floors) + entryRow * length u in
+      let w : length (i .entries) ≡ length u + suc (length v) = ap length t ∙ length-append u (entryOfRecord r ∷ v) in
+      let z : recordSize (took i) ≡ takeHead + (leastImage + floorRow * length (i .floors) + entryRow * length (i .entries)) = unfold recordSize imageLength in refl in
+      subst (Shown start es checkpoint tail r) (sym q)
+      (refl, ofImage i (member-at es a b s) d refl (omega (arith, n, z, w)) (omega (arith, n, z, w)) (image-shown (start .server) es tail logged a b i (r .end) s f u v (entryOfRecord r) t at refl))
+
+-- ---- the part tells the record
+
+from-member : {e : Entry} (k : ℕ) (es : List Entry) → EntriesFrom k es → List·Memᴰ e es → recordFits (e .item)
+from-member k (y ∷ es) f (List·Memᴰ·head q) = subst (λ (j : Entry). recordFits (j .item)) (sym q) (f .0 .fits)
+from-member k (y ∷ es) f (List·Memᴰ·tail m) = from-member (y .end) es (f .1) m
+
+entry-fits : (r : Completion) → CompletionFits r → ImageEntryFits (entryOfRecord r)
+unfolding entryOfRecord
+entry-fits r f =
+    record { client = f .client; call = f .call; argument = f .argument; value = f .value; op = f .op; outcome = f .outcome; quality = f .quality }
+
+row-tells : (r : Completion) → CompletionFits r → r .end ≡ headSize → completionOf (recordWhole (recordFront r)) ≡ r
+unfolding placedRecord endBefore
+row-tells r f z =
+    let b : endBefore (r .end) ≡ headSize = rw z in
+    let q : placedRecord endBefore r ≡ r = λ i. record { command = r .command; result = r .result; end = (b ∙ sym z) i } in
+    let w : recordWhole (recordFront r) ≡ completionBytes (placedRecord endBefore r) = rw append-nil at (record-whole r [] b) in
+    ap completionOf (w ∙ ap completionBytes q) ∙ rw append-nil at (completion-at r [] f)
+
+shows-tells : {start : State} {r : Completion} {p : Place} {part : List ℕ} (es : List Entry) → EntriesFrom headSize es → CompletionFits r → Shows start es r p part → Tells r p part
+shows-tells {start} {r} {p} {part} es g f (ofRecord y m c t q n e) =
+    let k : executedAt part ≡ y = ap executedAt e ∙ rw append-nil at (executed-at y [] (from-member headSize es g m)) in
+    record {
+      record-tells = λ h. (ap (λ (j : Executed). j .command) k ∙ c, ap (λ (j : Executed). j .result) k ∙ t);
+      image-tells = λ h. absurd (omega (arith, q, h));
+      checkpoint-tells = λ h. absurd (omega (arith, q, h));
+    }
+shows-tells {start} {r} {p} {part} es g f (ofImage i m c q n u e) =
+    record {
+      record-tells = λ h. absurd (omega (arith, q, h));
+      image-tells = λ h. ap imageEntryOf e ∙ rw append-nil at (entry-at (entryOfRecord r) [] (entry-fits r f));
+      checkpoint-tells = λ h. absurd (omega (arith, q, h));
+    }
+shows-tells {start} {r} {p} {part} es g f (ofCheckpoint m z q e) =
+    record {
+      record-tells = λ h. absurd (omega (arith, q, h));
+      image-tells = λ h. absurd (omega (arith, q, h));
+      checkpoint-tells = λ h. ap (λ (j : List ℕ). completionOf (recordWhole j)) e ∙ row-tells r f z;
+    }
+
+-- ---- inspect
+
+all-self : (rs : List Completion) → All (λ (q : Completion). List·Memᴰ q rs) rs
+all-self [] = tt
+all-self (r ∷ rs) = (List·Memᴰ·head refl, all-to rs (λ (q : Completion) (m : List·Memᴰ q rs). List·Memᴰ·tail m) (all-self rs))
+
+-- the first walk over a log that a server wrote finds its ends, and between them its entries
+record Walks (log : List ℕ) (es : List Entry) : Type 0 where
+  ends : List ℕ
+  found : endsOf log ≡ some ends
+  read : entriesTo log headSize ends ≡ some es
+
+lastFound : Option (List ℕ) → Option ℕ
+lastFound w = elim w [ none ↦ none | some es ↦ some (lastOf headSize es) ]
+
+log-walks : (start : State) → Start start → (es : List Entry) → DecidedFrom start es → Walks (headBytes (start .server) ++ entriesBytes es) es
+unfolding endsOf wholeEnd lastFound
+log-walks start s es d = go (endsOf log) refl
+  where
+    log : List ℕ
+    log = headBytes (start .server) ++ entriesBytes es
+
+    ok : headOk log ≡ true
+    ok = head-back (start .server) (entriesBytes es) (s .sound .server)
+
+    whole : wholeEnd log ≡ some (replayFrom start es .size)
+    whole =
+        recovered-length log start (replayFrom start es) (s .empty)
+        (recovered-on log start ok ∙ rw append-nil at (log-recovers s (start .server) es [] d tt))
+
+    go : (o : Option (List ℕ)) → endsOf log ≡ o → Walks log es
+    go none e = let q : none ≡ some (replayFrom start es .size) = sym (ap lastFound e) ∙ whole in impossible (cc)
+    go (some ends) e =
+        record {
+          ends = ends;
+          found = e;
+          read = entries-same log ends (rw (ok, endsOf) at e) ∙ rw append-nil at (entries-back (start .server) es [] (decided-from s es d) tt);
+        }
+
+checkpoint-good : (start : State) (checkpoint tail : List ℕ) → StartsFrom checkpoint start → headServer tail ≡ start .server → checkpointBad checkpoint tail ≡ false
+unfolding checkpointBad
+checkpoint-good start checkpoint tail (byCheckpoint b e) h = rw (e, eq-eqb (headServer tail) (start .server) h) (and-false (leb 1 (length checkpoint)))
+checkpoint-good start checkpoint tail (byFounding plan n g l z q) h = rw z
+
+module _ (start : State) (es : List Entry) (state checkpoint tail : List ℕ) (F : StartsFrom checkpoint start) (H : Holds start es state tail) (l : stateSize ≤ length state)
+    (f : load state .size ≤ length tail) where
+  started : Start start
+  started = starts F
+
+  tail-of : tailOf state tail ≡ headBytes (start .server) ++ entriesBytes es
+  unfolding tailOf
+  tail-of = ap (λ (k : ℕ). take k tail) (holds-size started es state tail H ∙ replay-end started es) ∙ H .logged
+
+  walks : Walks (tailOf state tail) es
+  walks = subst (λ (j : List ℕ). Walks j es) (sym tail-of) (log-walks start started es (H .decided))
+
+  server-of : headServer tail ≡ start .server
+  server-of =
+      let k : ℕ = lastEnd headSize es in
+      ap headServer (sym (take-append-drop k tail) ∙ ap (λ (j : List ℕ). j ++ drop k tail) (H .logged) ∙ append-assoc (headBytes (start .server)) (entriesBytes es) (drop k tail))
+      ∙ head-server (start .server) (entriesBytes es ++ drop k tail)
+
+  records-of : load state .records ≡ replayFrom start es .records
+  unfolding withMark
+  records-of = ap (λ (j : State). j .records) (H .same)
+
+  module _ (x c : ℕ) where
+    tests : inspectRefusal state checkpoint tail x c ≡ (unknown if isNone (find x c (load state .records)) else passed)
+    unfolding inspectRefusal short unfit
+    tests = rw (le-ltb (length state) stateSize l, H .sound, le-ltb (length tail) (load state .size) f, checkpoint-good start checkpoint tail F server-of, walks .found)
+
+    inspect-missing : find x c (load state .records) ≡ none → inspectOf state checkpoint tail x c ≡ noPlace unknown
+    unfolding inspectOf isNone
+    inspect-missing h = rw (tests, h)
+
+    inspect-latest : (r : Completion) → find x c (load state .records) ≡ some r
+        → inspectOf state checkpoint tail x c ≡ latestAmong x c headSize es (placeInCheckpoint x c checkpoint)
+    unfolding inspectOf isNone
+    inspect-latest r h = rw (tests, h, walks .found) (latest-same x c (tailOf state tail) headSize (walks .ends) es (placeInCheckpoint x c checkpoint) (walks .read))
+
+    inspect-shown : (r : Completion) → find x c (load state .records) ≡ some r → Shown start es checkpoint tail r (inspectOf state checkpoint tail x c)
+    inspect-shown r h =
+        let m = find-has (λ (q : Completion). List·Memᴰ q (load state .records)) x c (load state .records) r h (all-self (load state .records)) in
+        let p : Place = latestAmong x c headSize es (placeInCheckpoint x c checkpoint) in
+        let g : Found start (placeInCheckpoint x c checkpoint) es r p
+        = found-latest start (placeInCheckpoint x c checkpoint) x c started es (H .decided) (λ q i j k. before i refl) r (rw records-of at (m .0)) (m .1) (m .2) in
+        subst (Shown start es checkpoint tail r) (sym (inspect-latest r h)) (found-shown start es checkpoint tail x c F (H .logged) r p (m .1) (m .2) g)
+
+    record-fits : (r : Completion) → find x c (load state .records) ≡ some r → CompletionFits r
+    record-fits r h =
+        let f = fits-of (replayFrom start es) (recovers started es (H .decided) .sound) in
+        find-has CompletionFits x c (load state .records) r h (subst (All CompletionFits) (sym records-of) (f .records)) .0
+
+    pub inspected : Inspected start es state checkpoint tail x c
+    unfolding shownOf
+    inspected =
+        record {
+          missing = inspect-missing;
+          passes = λ r h. inspect-shown r h .0;
+          shown = λ r h. inspect-shown r h .1;
+          tells = λ r h. shows-tells es (decided-from started es (H .decided)) (record-fits r h) (inspect-shown r h .1);
+        }

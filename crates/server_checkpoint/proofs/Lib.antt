@@ -1,0 +1,3 @@
+-- Laws that the proofs of `server_checkpoint` cite.
+pub mod Passed
+pub mod Taken

@@ -1,0 +1,37 @@
+-- A checkpoint that was taken.
+--     taken-framed     what is written is a checkpoint by its layout
+--     taken            the state restored from it is the state, its places before the tail
+-- Assumes nothing.
+use Prim.Native.Nat.{ℕ, _≤_}
+use mathlib.Core.Path.{_≡_}
+use mathlib.Core.Bool.{true}
+use mathlib.Core.List.{List}
+use native.Mathlib.Omega.{arith}
+use lib.ListN.{length, drop}
+use Rattle.model.specs.declared.Answer.{Answer}
+use Rattle.model.specs.Limits.{checkpointSize}
+use Rattle.model.specs.Refusals.{noRefusal}
+use Rattle.model.specs.Tables.{written}
+use Rattle.model.specs.Logs.{headBytes}
+use Rattle.model.specs.States.{load}
+use Rattle.model.specs.Operations.{answerOf}
+use Rattle.model.specs.Checkpoints.{checkpointBytes, restored, checkpointFramed}
+use Rattle.model_laws.specs.Bytes.{Bytes}
+use Rattle.model_laws.specs.Fits.{Sound}
+use Rattle.model_laws.proofs.Written.{written-front}
+use Rattle.model_laws.proofs.States.{is-sound}
+use Rattle.model_invariants.proofs.Loaded.{loaded-sound}
+use Rattle.model_invariants.proofs.Checkpoints.{framed-back, checkpoint-fits}
+use Rattle.model_invariants.proofs.Restored.{state-checkpoint}
+use Rattle.server_checkpoint.specs.Taken.{afterCheckpoint, checkpointTaken}
+
+module _ (s c : List ℕ) (h : Bytes s) (d : Sound s) (l : checkpointSize ≤ length c) {c' : List ℕ} (q : c' ≡ written c 0 (checkpointBytes (load s))) where
+  pub taken-framed : checkpointFramed c' ≡ true
+  taken-framed =
+      let S = loaded-sound s h (is-sound s d) in
+      rw (q, written-front c (checkpointBytes (load s)) (omega (arith, checkpoint-fits (load s) S))) (framed-back (load s) S (drop (length (checkpointBytes (load s))) c))
+
+  pub taken : (t : List ℕ) {n m : ℕ} {r : Answer} {s' t' : List ℕ} → n ≡ length (checkpointBytes (load s)) → r ≡ answerOf noRefusal n → s' ≡ written s 0 (restored c') → m ≡ load s .server
+      → t' ≡ written t 0 (headBytes m) → afterCheckpoint r s' c' t' ≡ checkpointTaken s c t
+  unfolding checkpointTaken
+  taken t size answer state server tail = rw (answer, size, state, tail, server, q, state-checkpoint s c h (is-sound s d) l)

@@ -1,0 +1,20 @@
+-- What a call of checkpoint leaves, and what one that is not refused leaves.
+-- Assumes nothing.
+use mathlib.Core.List.{List}
+use Prim.Native.Nat.{ℕ}
+use lib.ListN.{length}
+use Rattle.model.specs.declared.Answer.{Answer}
+use Rattle.model.specs.Refusals.{noRefusal}
+use Rattle.model.specs.Tables.{written}
+use Rattle.model.specs.Logs.{headBytes}
+use Rattle.model.specs.States.{load}
+use Rattle.model.specs.Operations.{answerOf, stored}
+use Rattle.model.specs.Checkpoints.{AfterCheckpoint, rebased, checkpointBytes}
+
+abbrev pub afterCheckpoint : Answer → List ℕ → List ℕ → List ℕ → AfterCheckpoint
+afterCheckpoint a s c t = record { answer = a; state = s; checkpoint = c; tail = t }
+
+unfoldable pub checkpointTaken : List ℕ → List ℕ → List ℕ → AfterCheckpoint
+checkpointTaken s c t =
+    afterCheckpoint (answerOf noRefusal (length (checkpointBytes (load s)))) (stored s (rebased (load s))) (written c 0 (checkpointBytes (load s)))
+    (written t 0 (headBytes (load s .server)))

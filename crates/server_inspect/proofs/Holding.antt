@@ -1,0 +1,32 @@
+-- The place of an id in a checkpoint that is empty or keeps its layout, as the code finds it.
+--     held-nowhere              the empty one
+--     held-within, held-at      another's rows lie within it; the place of one of them
+-- Assumes nothing.
+use Prim.Native.Nat.{ℕ, _+_, _*_, _≤_}
+use mathlib.Core.Path.{_≡_, sym, _∙_}
+use mathlib.Core.List.{List, [], _∷_}
+use native.Mathlib.Omega.{arith}
+use lib.ListN.{length, drop}
+use lib.Dec.{ltb}
+use Rattle.model.specs.declared.Place.{Place}
+use Rattle.model.specs.Choice.{pick}
+use Rattle.model.specs.Refusals.{unknown}
+use Rattle.model.specs.Limits.{entryRow}
+use Rattle.model.specs.Checkpoints.{recordsPart, clientsOf, recordsOf, fronts, inCheckpoint, placeAt, noPlace, indexOf, placeInCheckpoint}
+use Rattle.model_laws.proofs.Checkpoints.{Framed}
+use Rattle.server_inspect.specs.Places.{isRowId}
+use Rattle.server_inspect.proofs.Empty.{empty-place}
+use Rattle.server_inspect.proofs.Kept.{kept-place}
+
+pub held-nowhere : (t : List ℕ) (x c : ℕ) → 1 ≤ x → length t ≡ 0 → {r : Place} → r ≡ noPlace unknown → r ≡ placeInCheckpoint x c t
+held-nowhere [] x c h e q = q ∙ sym (empty-place x c h)
+held-nowhere (b ∷ t) x c h e q = absurd (omega arith)
+
+module _ {t : List ℕ} (w : Framed t) where
+  pub held-within : {m n : ℕ} → m ≡ recordsOf t → n ≡ clientsOf t → recordsPart n + entryRow * m ≤ length t
+  held-within p q = rw (p, q) (w .whole)
+
+  pub held-at : (x c : ℕ) {m n i : ℕ} {none r : Place} → m ≡ recordsOf t → n ≡ clientsOf t → none ≡ noPlace unknown
+      → i ≡ indexOf (isRowId x c) (fronts entryRow m (drop (recordsPart n) t)) → r ≡ pick (ltb i m) (placeAt inCheckpoint (recordsPart n + entryRow * i) entryRow) none
+      → r ≡ placeInCheckpoint x c t
+  held-at x c p q z e f = (rw (p, q, z) at f) ∙ kept-place t w x c (rw (p, q) at e)

@@ -1,0 +1,3 @@
+-- What the contracts of `server_inspect` cite beside `model`.
+pub mod Places
+pub mod Inspected

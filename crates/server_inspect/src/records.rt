@@ -1,0 +1,137 @@
+// The places of an id: among rows of a table, in one record of a log, and the last of them in a whole log.
+use format_log_reader::Record;
+use model::Executed;
+use model::Place;
+use model::constants;
+use model::constants::ENTRY_ROW;
+use model::constants::FLOOR_ROW;
+use model::constants::LEAST_IMAGE;
+ghost use mathlib.Core.Path.{_≡_};
+ghost use mathlib.Core.Bool.{true};
+ghost use Prim.Native.Nat.{_+_, _*_, _≤_, _<_};
+ghost use lib.ListN.{length, drop};
+ghost use lib.Dec.{ltb};
+ghost use Rattle.model.specs.Choice.{pick};
+ghost use Rattle.model.specs.Numbers.{word};
+ghost use mathlib.Core.Option.{some};
+ghost use Rattle.model.specs.Limits.{headSize, entryRow, executedSize};
+ghost use Rattle.model.specs.Images.{imageOk};
+ghost use Rattle.model.specs.Logs.{executed, spans, recordAt};
+ghost use Rattle.model.specs.Checkpoints.{placeAt, fronts, indexOf, latestOf};
+ghost use Rattle.format_log_reader.specs.Answers.{imageIn};
+ghost use Rattle.format_log_ends.specs.Answers.{extentFrom};
+ghost use Rattle.format_log_ends.specs.Walked.{endAt, endFrom};
+ghost use Rattle.server_inspect.specs.Places.{isRowId, placeInImage, latestFrom};
+
+// ---- rows
+
+// n bytes from k.
+fn place_at(source: u32, k: usize, n: usize) -> Place
+    requires { ⌜ k + n < word * word ⌝ }
+    ensures { λ r. ⌜ r ≡ placeAt source k n ⌝ }
+{
+    Place {
+        refusal: constants::NO_REFUSAL,
+        source: source,
+        start: k,
+        end: k + n,
+    }
+}
+
+// The row from k has the id: client and call come first.
+fn is_row_id(s: &[u8], k: usize, client: u32, call: u32) -> bool
+    requires { ⌜ k + entryRow ≤ length (now s) ⌝ }
+    ensures { λ r. ⌜ r ≡ isRowId client call (drop k (now (s .entry))) ⌝ }
+{
+    let x = format_numbers::read_u32(s, k);
+    let c = format_numbers::read_u32(s, k + 4);
+    (x == client) & (c == call)
+}
+
+// The index of the first of n rows from at that has the id, n where none has.
+pub fn index_of(s: &[u8], at: usize, n: usize, client: u32, call: u32) -> usize
+    requires { ⌜ at + entryRow * n ≤ length (now s) ⌝ }
+    ensures { λ r. ⌜ r ≡ indexOf (isRowId client call) (fronts entryRow n (drop at (now (s .entry)))) ⌝ }
+{
+    let mut i = 0;
+    while i < n {
+        if is_row_id(s, at + ENTRY_ROW * i, client, call) {
+            return i;
+        }
+        i += 1;
+    }
+    n
+}
+
+// The row of index i of n rows from at, or `found` where the index is none of theirs.
+pub fn place_of(source: u32, at: usize, n: usize, i: usize, found: Place) -> Place
+    requires { ⌜ at + entryRow * n < word * word ⌝ }
+    ensures { λ r. ⌜ r ≡ pick (ltb i n) (placeAt source (at + entryRow * i) entryRow) found ⌝ }
+{
+    if i < n {
+        return place_at(source, at + ENTRY_ROW * i, ENTRY_ROW);
+    }
+    found
+}
+
+// ---- one record
+
+// An executed record from at has the id, or `found` holds it.
+fn place_executed(x: Executed, at: usize, client: u32, call: u32, found: Place) -> Place
+    requires { ⌜ at + executedSize < word * word ⌝ }
+    ensures { λ r. ⌜ r ≡ latestOf client call at (some (executed x)) found ⌝ }
+{
+    if (x.command.client == client) & (x.command.call == call) {
+        return place_at(constants::IN_RECORD, at, constants::EXECUTED_SIZE);
+    }
+    found
+}
+
+// An entry of the image that starts at a place of the log has the id, or `found` holds it.
+fn place_in_image(image: &[u8], from: usize, client: u32, call: u32, found: Place) -> Place
+    requires { ⌜ (imageOk (now image) ≡ true) × (from + length (now image) < word * word) ⌝ }
+    ensures { λ r. ⌜ r ≡ placeInImage client call from (imageIn (now (image .entry))) found ⌝ }
+{
+    let h = format_image_rows::head_from(image);
+    let n = h.entries as usize;
+    let at = LEAST_IMAGE + FLOOR_ROW * (h.floors as usize);
+    let i = index_of(image, at, n, client, call);
+    place_of(constants::IN_IMAGE, from + at, n, i, found)
+}
+
+// The whole record of n bytes at a place of the log has the id, or `found` holds it.
+fn latest_of(log: &[u8], at: usize, n: usize, client: u32, call: u32, found: Place) -> Place
+    requires { ⌜ extentFrom (now log) at ≡ spans n ⌝ }
+    ensures { λ r. ⌜ r ≡ latestOf client call at (recordAt (drop at (now (log .entry)))) found ⌝ }
+{
+    let said = format_log_reader::record_at(log, at, n);
+    match said {
+        Record::Broken => found,
+        Record::Executed(x) => place_executed(x, at, client, call, found),
+        Record::Gone(x) => found,
+        Record::Gave(x) => found,
+        Record::Took(p) => {
+            let from = p.from;
+            let to = from + p.len;
+            place_in_image(&log[from..to], from, client, call, found)
+        }
+        Record::Released(x) => found,
+    }
+}
+
+// ---- all records
+
+// The records of the log from its head's end to the end of the last whole one: the latest that holds the id, or `first` does.
+pub fn latest_in(log: &[u8], end: usize, client: u32, call: u32, first: Place) -> Place
+    requires { ⌜ endFrom (now log) headSize ≡ endAt end ⌝ }
+    ensures { λ r. ⌜ r ≡ latestFrom client call (now (log .entry)) headSize first ⌝ }
+{
+    let mut at = constants::HEAD_SIZE;
+    let mut found = first;
+    while at < end {
+        let n = format_log_ends::size_at(log, at);
+        found = latest_of(log, at, n, client, call, found);
+        at += n;
+    }
+    found
+}

@@ -1,0 +1,3 @@
+-- Laws that the proofs of `state_checkpoint` cite.
+pub mod Fronts
+pub mod Parts

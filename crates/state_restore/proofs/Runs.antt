@@ -1,0 +1,178 @@
+-- Runs of stores that restore a state.
+--     point-runs, record-runs       a row and its ends
+--     Filled, filled-..             a loop that stores rows
+--     client-runs, record-padded    a table and the zeros past its rows
+--     head-runs, restored-runs      the head; head and tables, one behind the other
+-- Assumes nothing.
+use Prim.Native.Nat.{ℕ, zero, _+_, _-_, _*_, _≤_, _<_}
+use mathlib.Core.Path.{_≡_, refl, sym, ap, _∙_}
+use mathlib.Core.List.{List, _++_, append-assoc}
+use native.Mathlib.Omega.{arith}
+use native.Mathlib.Nat.{add-zero, zero-add}
+use lib.ListN.{length, getD, take, drop, replicate, length-drop}
+use lib.Seq.{getD-drop, drop-drop}
+use lib.Dec.{eqb, leb}
+use Rattle.model.specs.Choice.{pick}
+use Rattle.model.specs.Numbers.{le32At, le32, le64, quad}
+use Rattle.model.specs.Limits.{headSize, planSize, pointCount, clientCount, recordCount, floorRow, checkpointHead, checkpointPoint, checkpointRecord}
+use Rattle.model.specs.Tables.{rows, bytesOf, written}
+use Rattle.model.specs.States.{given, stateMagic, stateHead, stateEnd, pointsStart, floorsStart, recordsStart, pointRow, recordRow, padded}
+use Rattle.model.specs.Checkpoints.{planPart, pointsPart, clientsPart, recordsPart, clientsOf, recordsOf, pointWhole, recordWhole, fronts, restored}
+use Rattle.model_laws.specs.Bytes.{part}
+use Rattle.model_laws.proofs.Numbers.{le32-drop, length-le64}
+use Rattle.model_laws.proofs.Written.{length-written, written-none, written-append, run-behind}
+use Rattle.model_laws.proofs.Tables.{rows-snoc, bytesOf-append, bytesOf-one, places}
+use Rattle.model_laws.proofs.Fronts.{fronts-take, length-fronts, point-whole-width, record-whole-width}
+use Rattle.model_laws.proofs.Checkpoints.{Framed}
+use Rattle.state_restore.specs.Parts.{headRestored}
+use Rattle.state_restore.proofs.Lengths.{length-part, rows-length, padded-length, head-length}
+
+-- ---- rows
+
+three-runs : (s : List ℕ) (k : ℕ) (a b c : List ℕ) {m n : ℕ} → length a ≡ m → m + length b ≡ n → written (written (written s k a) (k + m) b) (k + n) c ≡ written s k (a ++ (b ++ c))
+three-runs s k a b c {m} {n} p q =
+    let e : k + m + length b ≡ k + n = omega arith in
+    rw (written-append s k a, written-append, p, e)
+
+pub point-runs : (s : List ℕ) (to : ℕ) (t : List ℕ) (from : ℕ) {g h : ℕ} → from + checkpointPoint ≤ length t → g ≡ pick (leb given (getD t from 0)) headSize 0
+    → h ≡ pick (eqb (le32At t (from + 12)) 0) 0 headSize
+    → written (written (written s to (part from checkpointPoint t)) (to + 16) (le64 g)) (to + 24) (le64 h) ≡ written s to (pointWhole (drop from t))
+unfolding pointWhole
+point-runs s to t from {g} {h} l p q =
+    let status : getD (drop from t) 0 0 ≡ getD t from 0 = getD-drop from t 0 0 ∙ ap (λ (k : ℕ). getD t k 0) (add-zero from) in
+    let n : 16 + length (le64 g) ≡ 24 = rw length-le64 in
+    three-runs s to (part from checkpointPoint t) (le64 g) (le64 h) (length-part from checkpointPoint t l) n
+    ∙ rw (p, q, status, le32-drop from t 12)
+
+pub record-runs : (s : List ℕ) (to : ℕ) (t : List ℕ) (from : ℕ) → from + checkpointRecord ≤ length t
+    → written (written s to (part from checkpointRecord t)) (to + 20) (le64 headSize) ≡ written s to (recordWhole (drop from t))
+unfolding recordWhole
+record-runs s to t from l = run-behind s to (part from checkpointRecord t) (le64 headSize) (length-part from checkpointRecord t l) refl
+
+-- ---- a loop over rows
+
+-- the first i of n rows of v bytes from k of the slice t were stored from a on, w bytes each
+pub record Filled (enc : List ℕ → List ℕ) (v w k a n : ℕ) (s₀ t s : List ℕ) (i : ℕ) : Type 0 where
+  pub below : i ≤ n
+  pub same : length s ≡ length s₀
+  pub bytes : s ≡ written s₀ a (bytesOf enc (fronts v i (drop k t)))
+
+module _ (enc : List ℕ → List ℕ) (v w : ℕ) (long : (s : List ℕ) → v ≤ length s → length (enc s) ≡ w) where
+  pub filled-start : (k a n : ℕ) (s t : List ℕ) → Filled enc v w k a n s t s 0
+  unfolding fronts rows bytesOf
+  filled-start k a n s t = record { below = omega arith; same = refl; bytes = sym (written-none s a) }
+
+  pub filled-next : {k a n : ℕ} {s₀ t s s' : List ℕ} {i : ℕ} → Filled enc v w k a n s₀ t s i → i < n → k + v * i ≤ length t → s' ≡ written s (a + w * i) (enc (drop (k + v * i) t))
+      → Filled enc v w k a n s₀ t s' (i + 1)
+  filled-next {k} {a} {n} {s₀} {t} {s} {s'} {i} o h b q =
+      let rs : List (List ℕ) = fronts v i (drop k t) in
+      let x : List ℕ = drop (k + v * i) t in
+      let l : length (bytesOf enc rs) ≡ w * i = rows-length enc v w long i (drop k t) (rw length-drop (omega arith)) in
+      let one : bytesOf enc rs ++ enc x ≡ bytesOf enc (fronts v (i + 1) (drop k t)) =
+      unfold fronts in rw (rows-snoc (λ (r : List ℕ). r) v i (drop k t), bytesOf-append, bytesOf-one, drop-drop (v * i) k t) in
+      record {
+        below = omega arith;
+        same = rw (q, length-written) (o .same);
+        bytes =
+            q
+            ∙ ap (λ (y : List ℕ). written y (a + w * i) (enc x)) (o .bytes)
+            ∙ run-behind s₀ a (bytesOf enc rs) (enc x) l refl
+            ∙ ap (λ (y : List ℕ). written s₀ a y) one;
+      }
+
+  pub filled-end : {k a n : ℕ} {s₀ t s : List ℕ} {i : ℕ} → Filled enc v w k a n s₀ t s i → n ≤ i → s ≡ written s₀ a (bytesOf enc (fronts v n (drop k t)))
+  filled-end {k} {a} {n} {s₀} {t} {s} {i} o h = let e : n ≡ i = omega (arith, o .below) in rw e (o .bytes)
+
+-- ---- tables
+
+-- zeros up to the end of a table of c rows
+zeros-behind : (s : List ℕ) (a : ℕ) (us : List ℕ) (w n c : ℕ) {e : ℕ} → length us ≡ w * n → n ≤ c → e ≡ a + w * c
+    → written (written s a us) (a + w * n) (replicate (e - (a + w * n)) 0) ≡ written s a (us ++ replicate (w * (c - n)) 0)
+zeros-behind s a us w n c {e} l h q =
+    let k : e - (a + w * n) ≡ w * (c - n) = omega (arith, places w n c h) in
+    ap (λ (m : ℕ). written (written s a us) (a + w * n) (replicate m 0)) k ∙ run-behind s a us (replicate (w * (c - n)) 0) l refl
+
+pub client-runs : (s t : List ℕ) (n : ℕ) → recordsPart n ≤ length t → n ≤ clientCount
+    → written (written s floorsStart (part clientsPart (floorRow * n) t)) (floorsStart + floorRow * n) (replicate (recordsStart - (floorsStart + floorRow * n)) 0)
+    ≡ written s floorsStart (padded (take floorRow) floorRow clientCount (fronts floorRow n (drop clientsPart t)))
+unfolding padded
+client-runs s t n h f =
+    zeros-behind s floorsStart (part clientsPart (floorRow * n) t) floorRow n clientCount (length-part clientsPart (floorRow * n) t h) f refl
+    ∙ rw (length-fronts floorRow n (drop clientsPart t), fronts-take)
+
+pub record-padded : (s t : List ℕ) (from m : ℕ) → from + checkpointRecord * m ≤ length t → m ≤ recordCount
+    → written (written s recordsStart (bytesOf recordWhole (fronts checkpointRecord m (drop from t)))) (recordsStart + recordRow * m) (replicate (stateEnd - (recordsStart + recordRow * m)) 0)
+    ≡ written s recordsStart (padded recordWhole recordRow recordCount (fronts checkpointRecord m (drop from t)))
+unfolding padded
+record-padded s t from m h f =
+    let l : length (bytesOf recordWhole (fronts checkpointRecord m (drop from t))) ≡ recordRow * m =
+    rows-length recordWhole checkpointRecord recordRow record-whole-width m (drop from t) (rw length-drop (omega arith)) in
+    zeros-behind s recordsStart (bytesOf recordWhole (fronts checkpointRecord m (drop from t))) recordRow m recordCount l f refl
+    ∙ rw (length-fronts checkpointRecord m (drop from t))
+
+-- ---- the head and the whole
+
+seven-runs : (s a b c d e f g : List ℕ) {i j k l m n : ℕ} → length a ≡ i → i + length b ≡ j → j + length c ≡ k → k + length d ≡ l → l + length e ≡ m → m + length f ≡ n
+    → written (written (written (written (written (written (written s 0 a) i b) j c) k d) l e) m f) n g ≡ written s 0 (a ++ (b ++ (c ++ (d ++ (e ++ (f ++ g))))))
+seven-runs s a b c d e f g p q r t u v =
+    rw (written-append s 0 a, written-append, written-append, written-append, written-append, written-append, zero-add, p, q, r, t, u, v)
+
+pub head-runs : (s t : List ℕ) (n m : ℕ) → checkpointHead ≤ length t
+    → written (written (written (written (written (written (written s 0 stateMagic) 4 (part 4 8 t)) 12 (le32 n)) 16 (le32 m)) 20 (quad 0 0 0 0)) 24 (le64 headSize)) 32 (le64 headSize)
+    ≡ written s 0 (headRestored n m t)
+unfolding headRestored
+head-runs s t n m h =
+    let size : 24 + length (le64 headSize) ≡ 32 = rw length-le64 in
+    seven-runs s stateMagic (part 4 8 t) (le32 n) (le32 m) (quad 0 0 0 0) (le64 headSize) (le64 headSize) refl (ap (λ (x : ℕ). 4 + x) (length-part 4 8 t (omega arith))) refl refl refl size
+
+five-runs : (s a b c d e : List ℕ) {m n k j : ℕ} → length a ≡ m → m + length b ≡ n → n + length c ≡ k → k + length d ≡ j
+    → written (written (written (written (written s 0 a) m b) n c) k d) j e ≡ written s 0 (a ++ (b ++ (c ++ (d ++ e))))
+five-runs s a b c d e p q r t =
+    rw (written-append s 0 a, written-append, written-append, written-append, zero-add, p, q, r, t)
+
+-- what follows the last of seven
+regroup : (a b c d e f g x : List ℕ) → a ++ (b ++ (c ++ (d ++ (e ++ (f ++ (g ++ x)))))) ≡ (a ++ (b ++ (c ++ (d ++ (e ++ (f ++ g)))))) ++ x
+regroup a b c d e f g x = rw (append-assoc, append-assoc, append-assoc, append-assoc, append-assoc, append-assoc)
+
+module _ (t : List ℕ) (i : Framed t) where
+  abbrev n : ℕ
+  n = clientsOf t
+
+  abbrev m : ℕ
+  m = recordsOf t
+
+  abbrev planBytes : List ℕ
+  planBytes = part planPart planSize t
+
+  abbrev points : List ℕ
+  points = bytesOf pointWhole (fronts checkpointPoint pointCount (drop pointsPart t))
+
+  abbrev clients : List ℕ
+  clients = padded (take floorRow) floorRow clientCount (fronts floorRow n (drop clientsPart t))
+
+  abbrev records : List ℕ
+  records = padded recordWhole recordRow recordCount (fronts checkpointRecord m (drop (recordsPart n) t))
+
+  parts : restored t ≡ headRestored n m t ++ (planBytes ++ (points ++ (clients ++ records)))
+  unfolding restored headRestored
+  parts = regroup stateMagic (take 8 (drop 4 t)) (le32 n) (le32 m) (quad 0 0 0 0) (le64 headSize) (le64 headSize) (planBytes ++ (points ++ (clients ++ records)))
+
+  plan-length : length planBytes ≡ planSize
+  plan-length = length-part planPart planSize t (omega (arith, i .whole))
+
+  points-length : length points ≡ pointRow * pointCount
+  points-length = rows-length pointWhole checkpointPoint pointRow point-whole-width pointCount (drop pointsPart t) (rw length-drop (omega (arith, i .whole)))
+
+  clients-length : length clients ≡ floorRow * clientCount
+  clients-length =
+      padded-length (take floorRow) floorRow floorRow (length-part 0 floorRow) n clientCount (drop clientsPart t) (i .few-clients) (rw length-drop (omega (arith, i .whole)))
+
+  -- as the calls leave it, with the counts that were read
+  pub restored-runs : (s : List ℕ) {c k : ℕ} {s1 s2 s3 s4 s5 : List ℕ} → c ≡ n → k ≡ m → s1 ≡ written s 0 (headRestored c k t) → s2 ≡ written s1 stateHead planBytes
+      → s3 ≡ written s2 pointsStart points → s4 ≡ written s3 floorsStart (padded (take floorRow) floorRow clientCount (fronts floorRow c (drop clientsPart t)))
+      → s5 ≡ written s4 recordsStart (padded recordWhole recordRow recordCount (fronts checkpointRecord k (drop (recordsPart c) t))) → s5 ≡ written s 0 (restored t)
+  restored-runs s p q a b d e f =
+      rw (f, e, d, b, a, p, q)
+      (five-runs s (headRestored n m t) planBytes points clients records (head-length n m t (omega (arith, i .whole))) (ap (λ (x : ℕ). stateHead + x) plan-length) (ap (λ (x : ℕ). pointsStart + x) points-length)
+      (ap (λ (x : ℕ). floorsStart + x) clients-length)
+      ∙ ap (λ (x : List ℕ). written s 0 x) (sym parts))

@@ -1,0 +1,246 @@
+// A server's state from its checkpoint: the bytes of the state that the checkpoint keeps, with every place of the log at 8.
+use model::constants;
+use model::constants::CHECKPOINT_MAGIC;
+use model::constants::CHECKPOINT_POINT;
+use model::constants::CHECKPOINT_RECORD;
+use model::constants::CLIENTS_PART;
+use model::constants::FLOOR_ROW;
+use model::constants::FLOORS_START;
+use model::constants::HEAD_SIZE_U64;
+use model::constants::PLAN_SIZE;
+use model::constants::POINT_COUNT;
+use model::constants::POINT_ROW;
+use model::constants::POINTS_PART;
+use model::constants::RECORD_ROW;
+use model::constants::RECORDS_START;
+ghost use mathlib.Core.Path.{_≡_};
+ghost use mathlib.Core.Bool.{true};
+ghost use Prim.Native.Nat.{_+_, _*_, _≤_, _<_};
+ghost use lib.Dec.{eqb, leb};
+ghost use lib.ListN.{length, take, drop};
+ghost use Rattle.model.specs.Choice.{pick};
+ghost use Rattle.model.specs.Limits.{headSize, pointCount, clientCount, recordCount, floorRow, checkpointHead, checkpointPoint, checkpointRecord};
+ghost use Rattle.model.specs.Tables.{bytesOf, written};
+ghost use Rattle.model.specs.States.{given, stateEnd, stateHead, pointsStart, pointRow, floorsStart, recordsStart, recordRow, padded};
+ghost use Rattle.model.specs.Checkpoints.{pointsPart, clientsPart, recordsPart, clientsOf, recordsOf, pointWhole, recordWhole, fronts};
+ghost use Rattle.model.specs.Checkpoints.{restored, checkpointFramed};
+ghost use Rattle.state_restore.specs.Parts.{fixedPairs, tablePairs, headRestored};
+ghost use Rattle.state_restore.specs.Restored.{RestoredBy};
+
+// ---- the layout
+
+// The number of clients, by the length of their part.
+pub fn clients_of(s: &[u8]) -> usize
+    requires { ⌜ checkpointHead ≤ length (now s) ⌝ }
+    ensures { λ r. ⌜ r ≡ clientsOf (now (s .entry)) ⌝ }
+{
+    format_numbers::read_u32(s, 32) as usize / FLOOR_ROW
+}
+
+// The number of completion records, by the length of theirs.
+pub fn records_of(s: &[u8]) -> usize
+    requires { ⌜ checkpointHead ≤ length (now s) ⌝ }
+    ensures { λ r. ⌜ r ≡ recordsOf (now (s .entry)) ⌝ }
+{
+    format_numbers::read_u32(s, 40) as usize / CHECKPOINT_RECORD
+}
+
+// The pairs of the two tables: whole rows, few enough, and within the slice.
+fn table_pairs(s: &[u8]) -> bool
+    requires { ⌜ checkpointHead ≤ length (now s) ⌝ }
+    ensures { λ r. ⌜ r ≡ tablePairs (now (s .entry)) ⌝ }
+{
+    let clients = format_numbers::read_u32(s, 32) as usize;
+    let third = format_numbers::read_u32(s, 36) as usize;
+    let records = format_numbers::read_u32(s, 40) as usize;
+    let n = clients / FLOOR_ROW;
+    let m = records / CHECKPOINT_RECORD;
+    let start = CLIENTS_PART + FLOOR_ROW * n;
+    (clients == FLOOR_ROW * n)
+        & ((third == start)
+            & ((records == CHECKPOINT_RECORD * m)
+                & ((n <= constants::CLIENT_COUNT)
+                    & ((m <= constants::RECORD_COUNT)
+                        & (start + CHECKPOINT_RECORD * m <= s.len())))))
+}
+
+// The pairs: first those with one value for all checkpoints.
+fn pairs_ok(s: &[u8]) -> bool
+    requires { ⌜ checkpointHead ≤ length (now s) ⌝ }
+    ensures { λ r. ⌜ r ≡ fixedPairs (now (s .entry)) ⌝ }
+{
+    let tables = table_pairs(s);
+    let plan = format_numbers::read_u32(s, 12) as usize;
+    let plan_length = format_numbers::read_u32(s, 16) as usize;
+    let points = format_numbers::read_u32(s, 20) as usize;
+    let points_length = format_numbers::read_u32(s, 24) as usize;
+    let clients = format_numbers::read_u32(s, 28) as usize;
+    (plan == constants::PLAN_PART)
+        & ((plan_length == PLAN_SIZE)
+            & ((points == POINTS_PART)
+                & ((points_length == CHECKPOINT_POINT * POINT_COUNT)
+                    & ((clients == CLIENTS_PART) & tables))))
+}
+
+// The magic, and parts without gaps from byte 44 within the slice.
+pub fn framed(checkpoint: &[u8]) -> bool
+    ensures { λ r. ⌜ r ≡ checkpointFramed (now (checkpoint .entry)) ⌝ }
+{
+    if checkpoint.len() < constants::CHECKPOINT_HEAD {
+        return false;
+    }
+    let pairs = pairs_ok(checkpoint);
+    (checkpoint[0] == CHECKPOINT_MAGIC[0])
+        & ((checkpoint[1] == CHECKPOINT_MAGIC[1])
+            & ((checkpoint[2] == CHECKPOINT_MAGIC[2])
+                & ((checkpoint[3] == CHECKPOINT_MAGIC[3]) & pairs)))
+}
+
+// ---- rows
+
+// A point given or released has a give before this log.
+fn give_end(status: u8) -> u64
+    ensures { λ r. ⌜ r ≡ pick (leb given status) headSize 0 ⌝ }
+{
+    if constants::GIVEN <= status {
+        HEAD_SIZE_U64
+    } else {
+        0
+    }
+}
+
+// One with a latest taken move has a take before this log.
+fn take_end(taken: u32) -> u64
+    ensures { λ r. ⌜ r ≡ pick (eqb taken 0) 0 headSize ⌝ }
+{
+    if taken == 0 { 0 } else { HEAD_SIZE_U64 }
+}
+
+// The point in the 16 bytes from one place, with its ends, in the 32 bytes from another.
+fn put_point(s: &mut [u8], to: usize, checkpoint: &[u8], from: usize)
+    requires { ⌜ (to + pointRow ≤ length (now s)) × (from + checkpointPoint ≤ length (now checkpoint)) ⌝ }
+    ensures { λ r. ⌜ now (s .exit) ≡ written (now (s .entry)) to (pointWhole (drop from (now (checkpoint .entry)))) ⌝ }
+{
+    let give = give_end(checkpoint[from]);
+    let take = take_end(format_numbers::read_u32(checkpoint, from + 12));
+    format_numbers::copy_part(s, to, checkpoint, from, CHECKPOINT_POINT);
+    format_numbers::write_u64(s, to + 16, give);
+    format_numbers::write_u64(s, to + 24, take);
+}
+
+// The completion record in the 20 bytes from one place, with its end, in the 28 bytes from another.
+fn put_record(s: &mut [u8], to: usize, checkpoint: &[u8], from: usize)
+    requires { ⌜ (to + recordRow ≤ length (now s)) × (from + checkpointRecord ≤ length (now checkpoint)) ⌝ }
+    ensures { λ r. ⌜ now (s .exit) ≡ written (now (s .entry)) to (recordWhole (drop from (now (checkpoint .entry)))) ⌝ }
+{
+    format_numbers::copy_part(s, to, checkpoint, from, CHECKPOINT_RECORD);
+    format_numbers::write_u64(s, to + 20, HEAD_SIZE_U64);
+}
+
+// ---- the parts of a state
+
+// The head: server and heard time as they are, the counts, length and mark 8.
+fn put_head(s: &mut [u8], checkpoint: &[u8], n: usize, m: usize)
+    requires { ⌜ (stateHead ≤ length (now s)) × (checkpointHead ≤ length (now checkpoint)) × (n ≤ clientCount) × (m ≤ recordCount) ⌝ }
+    ensures { λ r. ⌜ now (s .exit) ≡ written (now (s .entry)) 0 (headRestored n m (now (checkpoint .entry))) ⌝ }
+{
+    format_numbers::write_4(
+        s,
+        0,
+        constants::STATE_MAGIC[0],
+        constants::STATE_MAGIC[1],
+        constants::STATE_MAGIC[2],
+        constants::STATE_MAGIC[3],
+    );
+    format_numbers::copy_part(s, 4, checkpoint, 4, 8);
+    state_rows::put_clients(s, n as u32);
+    state_rows::put_records(s, m as u32);
+    format_numbers::write_4(s, 20, 0, 0, 0, 0);
+    state_rows::put_size(s, HEAD_SIZE_U64);
+    state_rows::put_mark(s, HEAD_SIZE_U64);
+}
+
+fn put_points(s: &mut [u8], checkpoint: &[u8])
+    requires { ⌜ (stateEnd ≤ length (now s)) × (clientsPart ≤ length (now checkpoint)) ⌝ }
+    ensures { λ r. ⌜ now (s .exit) ≡ written (now (s .entry)) pointsStart (bytesOf pointWhole (fronts checkpointPoint pointCount (drop pointsPart (now (checkpoint .entry))))) ⌝ }
+{
+    let mut i = 0;
+    while i < POINT_COUNT {
+        put_point(
+            s,
+            constants::POINTS_START + POINT_ROW * i,
+            checkpoint,
+            POINTS_PART + CHECKPOINT_POINT * i,
+        );
+        i += 1;
+    }
+}
+
+// The clients as they are, and zeros in the rows past them.
+fn put_clients(s: &mut [u8], checkpoint: &[u8], n: usize)
+    requires { ⌜ (stateEnd ≤ length (now s)) × (recordsPart n ≤ length (now checkpoint)) × (n ≤ clientCount) ⌝ }
+    ensures { λ r. ⌜ now (s .exit) ≡ written (now (s .entry)) floorsStart (padded (take floorRow) floorRow clientCount (fronts floorRow n (drop clientsPart (now (checkpoint .entry))))) ⌝ }
+{
+    format_numbers::copy_part(s, FLOORS_START, checkpoint, CLIENTS_PART, FLOOR_ROW * n);
+    state_rows::clear(s, FLOORS_START + FLOOR_ROW * n, RECORDS_START);
+}
+
+// m completion records of the checkpoint, from a place.
+fn put_rows(s: &mut [u8], checkpoint: &[u8], from: usize, m: usize)
+    requires { ⌜ (stateEnd ≤ length (now s)) × (from + checkpointRecord * m ≤ length (now checkpoint)) × (m ≤ recordCount) ⌝ }
+    ensures { λ r. ⌜ now (s .exit) ≡ written (now (s .entry)) recordsStart (bytesOf recordWhole (fronts checkpointRecord m (drop from (now (checkpoint .entry))))) ⌝ }
+{
+    let mut i = 0;
+    while i < m {
+        put_record(
+            s,
+            RECORDS_START + RECORD_ROW * i,
+            checkpoint,
+            from + CHECKPOINT_RECORD * i,
+        );
+        i += 1;
+    }
+}
+
+// The completion records, and zeros in the rows past them.
+fn put_records(s: &mut [u8], checkpoint: &[u8], from: usize, m: usize)
+    requires { ⌜ (stateEnd ≤ length (now s)) × (from + checkpointRecord * m ≤ length (now checkpoint)) × (m ≤ recordCount) ⌝ }
+    ensures { λ r. ⌜ now (s .exit) ≡ written (now (s .entry)) recordsStart (padded recordWhole recordRow recordCount (fronts checkpointRecord m (drop from (now (checkpoint .entry))))) ⌝ }
+{
+    put_rows(s, checkpoint, from, m);
+    state_rows::clear(s, RECORDS_START + RECORD_ROW * m, constants::STATE_END);
+}
+
+// ---- the state
+
+// The bytes of the state that a checkpoint keeps.
+pub fn restore(work: &mut [u8], checkpoint: &[u8])
+    requires { ⌜ (checkpointFramed (now checkpoint) ≡ true) × (stateEnd ≤ length (now work)) ⌝ }
+    ensures { λ r. ⌜ now (work .exit) ≡ written (now (work .entry)) 0 (restored (now (checkpoint .entry))) ⌝ }
+{
+    let n = clients_of(checkpoint);
+    let m = records_of(checkpoint);
+    put_head(work, checkpoint, n, m);
+    format_numbers::copy_part(
+        work,
+        constants::PLAN_START,
+        checkpoint,
+        constants::PLAN_PART,
+        PLAN_SIZE,
+    );
+    put_points(work, checkpoint);
+    put_clients(work, checkpoint, n);
+    put_records(work, checkpoint, CLIENTS_PART + FLOOR_ROW * n, m);
+}
+
+// The state that a checkpoint gives, if it gives one: restored, and sound by the state's own rule.
+pub fn restore_sound(work: &mut [u8], checkpoint: &[u8]) -> bool
+    requires { ⌜ length (now work) ≡ stateEnd ⌝ }
+    ensures { λ r. ⌜ RestoredBy (now (checkpoint .entry)) (now (work .exit)) r ⌝ }
+{
+    if !framed(checkpoint) {
+        return false;
+    }
+    restore(work, checkpoint);
+    state_soundness::state_ok(work)
+}
