@@ -62,6 +62,8 @@ pub enum Violation {
     Lost { client: u32, call: u32 },
     /// No order of this point's commands suits.
     NoOrder { point: u8 },
+    /// Recovery refuses what the crashes of this cabinet kept.
+    NotRecovered { cabinet: usize },
     /// The search was given up.
     Undecided { point: u8 },
 }

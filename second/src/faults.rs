@@ -1,7 +1,7 @@
 //! Servers with one planted fault ("Where builders go astray"), for tests of the
 //! checker only. A fault stands around the calls of a sound server, never in them.
 //! Those of request 2 (paper 02) stand around a controller, its successor's start,
-//! the other desks and the office.
+//! the other desks and the office; some of request 5 stand around what a host keeps.
 
 use crate::answer::Answer;
 use crate::packet::{parse_request, WINDOW};
@@ -13,69 +13,12 @@ use crate::rule::{apply_by, Op, PartRule, Rules, INVALID, STOPPED};
 use crate::server::Server;
 use std::ops::{Deref, DerefMut};
 
+mod checkpoint;
+mod fault;
 mod lock;
 
+pub use fault::Fault;
 pub use lock::{renew, seen, FaultyChamber};
-
-#[derive(Clone, Copy, PartialEq, Eq, Debug)]
-pub enum Fault {
-    /// Request and fetch answer a result that is not synced.
-    ReplyBeforeSync,
-    /// The image carries no completion records.
-    ImageWithoutRecords,
-    /// The image carries only the lowest floors that its records admit.
-    ImageWithoutFloors,
-    /// The image carries heard time 0.
-    ImageWithoutHeard,
-    /// The image is made although the give is not synced.
-    ImageBeforeSync,
-    /// A notice does not raise the heard time; recovery does.
-    NoticeWithoutHeard,
-    /// Request does not test the lease end.
-    LeaseEndNotTested,
-    /// Request does not test the floor, nor does recovery.
-    FloorNotTested,
-    /// Recover tests the log, then gives the state of a server just founded.
-    RecoverToFounding,
-    /// Recover works results out by its program's rules instead of reading them.
-    RecoverWorksOut,
-    /// A step past an end puts the value at the other end.
-    StepToOtherEnd,
-    /// A step past an end makes the quality invalid.
-    StepLosesQuality,
-    /// A part to the nearest rounds every exact half up.
-    PartHalfUp,
-    /// A take does not raise the heard time; recovery does.
-    TakeWithoutHeard,
-    /// An opening does not need a read of the other gate.
-    OtherGateNotRead,
-    /// An opening needs that read, whatever its value.
-    OtherGateValueNotTested,
-    /// An opening's reads may be older than the last set or part.
-    ReadsOfAnyAge,
-    /// They may be older than one of the other gate.
-    SinceOwnGateOnly,
-    /// They may be older than a part.
-    PartNotLast,
-    /// A part is issued as set 0 is.
-    PartNoOpening,
-    /// A controller does not wait for its open command.
-    SeveralOpen,
-    /// A successor starts at any time.
-    SuccessorAtAnyTime,
-    /// It starts when the holders have the heard time, synced or not.
-    HeardNotSynced,
-    /// It starts although a gate is being moved.
-    GateBeingMoved,
-    /// It starts when the upper gate's holder has the heard time.
-    OneGateOnly,
-    /// It looks for the heard time at each gate's home.
-    HomeForHolder,
-    /// A desk that is no controller commands gates as other points.
-    OtherDeskMovesGate,
-    /// The office renews a lease that has ended.
-    RenewEnded,
-}
 
 /// A server, or one with a fault around the calls that stand here; the others are the
 /// server's own.

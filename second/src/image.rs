@@ -1,8 +1,8 @@
 //! Paper 01, "Moving a point": the moving image, read and written.
 
-use crate::bytes::{all_zero, get_i32, get_u32, put_i32, put_u32};
+use crate::bytes::{all_zero, get_i32, get_pair, get_u32, put_i32, put_pairs, put_u32};
 use crate::packet::{cabinet_ok, point_ok, WINDOW};
-use crate::plan::{Entry, Plan};
+use crate::plan::Plan;
 use crate::rule::{Op, OUTCOME_MAX};
 use std::cmp::Ordering;
 
@@ -64,20 +64,37 @@ impl<'a> Image<'a> {
         self.records.chunks_exact(MOVED_LEN).filter_map(read_moved)
     }
 
-    /// Whether an id stands among the records, which are sorted by id.
     pub fn has_record(&self, client: u32, call: u32) -> bool {
+        self.record_index(client, call).is_some()
+    }
+
+    /// Where an id's entry begins in the image.
+    pub fn record_at(&self, client: u32, call: u32) -> Option<usize> {
+        let records_at = FLOORS_AT + self.floors.len();
+        let index = self.record_index(client, call)?;
+        Some(records_at + index * MOVED_LEN)
+    }
+
+    /// The place of an id among the records, which are sorted by id.
+    fn record_index(&self, client: u32, call: u32) -> Option<usize> {
         let (mut from, mut to) = (0, self.record_count());
         while from < to {
             let middle = (from + to) / 2;
             let at = middle * MOVED_LEN;
             let id = (get_u32(self.records, at), get_u32(self.records, at + 4));
             match id.cmp(&(client, call)) {
-                Ordering::Equal => return true,
+                Ordering::Equal => return Some(middle),
                 Ordering::Less => from = middle + 1,
                 Ordering::Greater => to = middle,
             }
         }
-        false
+        None
+    }
+
+    /// Whether the point's value and each record's lie in the range that the plan has.
+    fn in_range(&self, plan: &Plan) -> bool {
+        let entry = plan.entry(self.head.point);
+        entry.contains(self.head.value) && self.records().all(|r| entry.contains(r.value))
     }
 
     pub fn floor_count(&self) -> usize {
@@ -89,15 +106,16 @@ impl<'a> Image<'a> {
     }
 }
 
-fn read_floor(b: &[u8]) -> Floor {
+pub(crate) fn read_floor(b: &[u8]) -> Floor {
     Floor {
         client: get_u32(b, 0),
         floor: get_u32(b, 4),
     }
 }
 
-/// Tests the op alone; `moved_ok` tests the other fields.
-fn read_moved(b: &[u8]) -> Option<Moved> {
+/// Tests the op alone, and leaves the last byte out; `moved_ok` tests the other fields but
+/// the value.
+pub(crate) fn read_moved(b: &[u8]) -> Option<Moved> {
     Some(Moved {
         client: get_u32(b, 0),
         call: get_u32(b, 4),
@@ -111,10 +129,14 @@ fn read_moved(b: &[u8]) -> Option<Moved> {
 
 /// The image, or nothing if it is malformed under this plan.
 pub fn parse_image<'a>(bytes: &'a [u8], plan: &Plan) -> Option<Image<'a>> {
+    parse_layout(bytes).filter(|image| image.in_range(plan))
+}
+
+/// The image, or nothing if it is malformed under every plan: values may be any.
+pub(crate) fn parse_layout(bytes: &[u8]) -> Option<Image<'_>> {
     let head = parse_image_head(bytes)?;
     let (floors, records) = split_parts(bytes)?;
-    let entry = plan.entry(head.point);
-    let ok = entry.contains(head.value) && floors_ok(floors) && records_ok(records, floors, entry);
+    let ok = floors_ok(floors) && records_ok(records, floors);
     ok.then_some(Image {
         head,
         floors,
@@ -147,12 +169,7 @@ fn parse_image_head(b: &[u8]) -> Option<ImageHead> {
 /// The floors and the records, if the pairs are (40, 8), (48, 8n) and
 /// (48 + 8n, 20k) and the parts end where the slice does.
 fn split_parts(b: &[u8]) -> Option<(&[u8], &[u8])> {
-    let pair = |i: usize| {
-        (
-            get_u32(b, PAIRS_AT + 8 * i) as usize,
-            get_u32(b, PAIRS_AT + 8 * i + 4) as usize,
-        )
-    };
+    let pair = |i: usize| get_pair(b, PAIRS_AT + 8 * i);
     let floors_len = pair(1).1;
     if floors_len % FLOOR_LEN != 0 || floors_len > CLIENTS_MAX * FLOOR_LEN {
         return None;
@@ -177,7 +194,7 @@ fn floors_ok(floors: &[u8]) -> bool {
 }
 
 /// Ids strictly ascending, fields in range, each client among the floors.
-fn records_ok(records: &[u8], floors: &[u8], entry: &Entry) -> bool {
+fn records_ok(records: &[u8], floors: &[u8]) -> bool {
     let mut floors = floors.chunks_exact(FLOOR_LEN).map(read_floor).peekable();
     let mut last = (0, 0);
     records.chunks_exact(MOVED_LEN).all(|b| {
@@ -188,15 +205,12 @@ fn records_ok(records: &[u8], floors: &[u8], entry: &Entry) -> bool {
         let ascending = (r.client, r.call) > last;
         last = (r.client, r.call);
         let floor = floors.peek().filter(|f| f.client == r.client);
-        ascending && b[19] == 0 && moved_ok(&r, entry) && floor.is_some_and(|f| in_window(&r, f))
+        ascending && b[19] == 0 && moved_ok(&r) && floor.is_some_and(|f| in_window(&r, f))
     })
 }
 
-fn moved_ok(r: &Moved, entry: &Entry) -> bool {
-    r.op.accepts(r.argument)
-        && r.outcome <= OUTCOME_MAX
-        && r.quality <= 1
-        && entry.contains(r.value)
+fn moved_ok(r: &Moved) -> bool {
+    r.op.accepts(r.argument) && r.outcome <= OUTCOME_MAX && r.quality <= 1
 }
 
 fn in_window(r: &Moved, f: &Floor) -> bool {
@@ -213,13 +227,12 @@ pub fn write_image(
 ) -> usize {
     let mut at = FLOORS_AT;
     for f in floors {
-        put_u32(out, at, f.client);
-        put_u32(out, at + 4, f.floor);
+        write_floor(&f, &mut out[at..at + FLOOR_LEN]);
         at += FLOOR_LEN;
     }
     let records_at = at;
     for r in records {
-        write_moved(&r, &mut out[at..at + MOVED_LEN]);
+        write_moved(&r, 0, &mut out[at..at + MOVED_LEN]);
         at += MOVED_LEN;
     }
     write_image_head(head, &mut out[..FLOORS_AT]);
@@ -228,10 +241,7 @@ pub fn write_image(
         (FLOORS_AT, records_at - FLOORS_AT),
         (records_at, at - records_at),
     ];
-    for (i, (offset, len)) in parts.into_iter().enumerate() {
-        put_u32(out, PAIRS_AT + 8 * i, offset as u32);
-        put_u32(out, PAIRS_AT + 8 * i + 4, len as u32);
-    }
+    put_pairs(out, PAIRS_AT, &parts);
     at
 }
 
@@ -248,7 +258,13 @@ fn write_image_head(head: &ImageHead, b: &mut [u8]) {
     b[POINT_AT + 5..POINT_AT + POINT_LEN].fill(0);
 }
 
-fn write_moved(r: &Moved, b: &mut [u8]) {
+pub(crate) fn write_floor(f: &Floor, b: &mut [u8]) {
+    put_u32(b, 0, f.client);
+    put_u32(b, 4, f.floor);
+}
+
+/// The row's last byte is 0 in an image.
+pub(crate) fn write_moved(r: &Moved, last: u8, b: &mut [u8]) {
     put_u32(b, 0, r.client);
     put_u32(b, 4, r.call);
     put_i32(b, 8, r.argument);
@@ -256,5 +272,5 @@ fn write_moved(r: &Moved, b: &mut [u8]) {
     b[16] = r.op as u8;
     b[17] = r.outcome;
     b[18] = r.quality;
-    b[19] = 0;
+    b[19] = last;
 }

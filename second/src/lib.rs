@@ -8,6 +8,7 @@ pub mod answer;
 pub mod bytes;
 pub mod chamber;
 pub mod checker;
+pub mod checkpoint;
 pub mod client;
 pub mod faults;
 pub mod image;

@@ -105,6 +105,11 @@ pub(crate) fn record_ends(log: &[u8]) -> Result<Vec<usize>, Refusal> {
     Ok(ends)
 }
 
+/// Where the record begins whose end stands at this index.
+pub(crate) fn record_begin(ends: &[usize], index: usize) -> usize {
+    index.checked_sub(1).map_or(HEAD_LEN, |before| ends[before])
+}
+
 fn walk(log: &[u8], mut found: impl FnMut(usize)) -> Result<usize, Refusal> {
     parse_head(log).ok_or(Refusal::BadLog)?;
     let mut at = HEAD_LEN;

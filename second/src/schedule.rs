@@ -7,6 +7,7 @@
 
 use crate::plan::Plan;
 
+mod checkpoints;
 mod commands;
 mod crashes;
 mod generate;
@@ -14,6 +15,7 @@ mod lock;
 mod moves;
 mod renewal;
 
+pub use checkpoints::generate_checkpoints;
 pub use generate::{generate, ISSUES_MAX};
 pub use lock::{generate_lock, LockSchedule};
 pub(crate) use renewal::rules_in_step;
@@ -128,6 +130,14 @@ pub enum Call {
     },
     /// Without a crash, from the log up to its recorded length.
     RecoverRunning {
+        at: Party,
+    },
+    /// A checkpoint, which the host then stores.
+    Checkpoint {
+        at: Party,
+    },
+    /// The checkpoint is stored.
+    Store {
         at: Party,
     },
     Start {

@@ -7,16 +7,23 @@ use crate::answer::Refusal;
 use crate::image::{Floor, Moved, CLIENTS_MAX};
 use crate::packet::{Reply, WINDOW};
 use crate::plan::{Plan, POINTS};
-use crate::record::Executed;
+use crate::record::{Executed, HEAD_LEN};
 use crate::rule::{Op, INVALID};
 
+mod checkpoint;
 mod commands;
+mod inspect;
 mod moves;
 mod replay;
 mod soundness;
 
+pub use inspect::{Place, Source};
+
 pub const STATE_LEN: usize = 32_768;
 pub const RECORDS_MAX: usize = CLIENTS_MAX * WINDOW as usize;
+/// The end of each record that a checkpoint has replaced: no record of a log ends at
+/// its head, and every mark counts this place as synced.
+pub const BEFORE_THIS_LOG: u64 = HEAD_LEN as u64;
 
 /// Whether the cabinet holds a point.
 #[derive(Clone, Copy, PartialEq, Eq, Debug)]
@@ -28,7 +35,11 @@ pub enum Hold {
         destination: u8,
         end: u64,
     },
-    Released,
+    /// Given so, and released since.
+    Released {
+        destination: u8,
+        end: u64,
+    },
 }
 
 /// The latest take of a point: its move and the end of its record.
@@ -72,7 +83,7 @@ pub struct Completion {
 }
 
 impl Completion {
-    fn of_executed(r: &Executed, end: u64) -> Completion {
+    pub(crate) fn of_executed(r: &Executed, end: u64) -> Completion {
         Completion {
             client: r.client,
             call: r.call,
@@ -86,7 +97,7 @@ impl Completion {
         }
     }
 
-    fn of_moved(r: &Moved, point: u8, end: u64) -> Completion {
+    pub(crate) fn of_moved(r: &Moved, point: u8, end: u64) -> Completion {
         Completion {
             client: r.client,
             call: r.call,
@@ -100,7 +111,7 @@ impl Completion {
         }
     }
 
-    fn moved(&self) -> Moved {
+    pub(crate) fn moved(&self) -> Moved {
         Moved {
             client: self.client,
             call: self.call,
@@ -181,7 +192,7 @@ impl Server {
             .map_or(0, |index| self.clients[index].floor)
     }
 
-    fn record_index(&self, client: u32, call: u32) -> Option<usize> {
+    pub(crate) fn record_index(&self, client: u32, call: u32) -> Option<usize> {
         self.records
             .iter()
             .position(|r| r.call == call && r.client == client)

@@ -7,25 +7,32 @@
 
 use crate::chamber::LockPoints;
 use crate::checker::{check_marked, Command, Violation};
-use crate::faults::{Fault, Faulty};
+use crate::faults::Fault;
 use crate::leases::LeaseManager;
 use crate::packet::{GRANT, REFUSAL, RESULT};
 use crate::plan::{write_plan, PLAN_LEN};
 use crate::rule::Rules;
-use crate::schedule::{rules_in_step, Call, Places, Renewed, Schedule, Step};
+use crate::schedule::{rules_in_step, Call, Flaw, Places, Renewed, Schedule, Step};
 
 mod account;
 mod at_clients;
 mod at_servers;
+mod cabinet;
+mod calling;
 mod choice;
 mod counts;
 mod crashes;
 mod desk;
+mod inspect;
 mod lock;
+mod shadow;
+mod storing;
 
-pub use counts::Counts;
+pub use counts::{Counts, Storing};
 pub use lock::{minimise_lock, run_lock, LockRun};
+pub use shadow::{Difference, Differs};
 
+use cabinet::{Cabinet, Phase};
 use desk::Desk;
 
 /// Byte that fills what nobody wrote.
@@ -34,45 +41,8 @@ const FILL: u8 = 0xA5;
 const IMAGE: u8 = 0;
 const DESK_PACKETS: &[u8] = &[RESULT, REFUSAL, GRANT];
 
-#[derive(Clone, Copy, PartialEq, Eq, Debug)]
-enum Phase {
-    New,
-    Running,
-    /// Crashed with the first `kept` bytes of the log; `mark` is the one
-    /// before the first crash since the server ran.
-    Crashed {
-        mark: u64,
-        kept: u64,
-    },
-}
-
-struct Cabinet {
-    phase: Phase,
-    server: Faulty,
-    log: Vec<u8>,
-}
-
-impl Cabinet {
-    /// The bytes that its crashes have kept; none if it is not crashed.
-    fn kept(&self) -> Option<u64> {
-        match self.phase {
-            Phase::Crashed { kept, .. } => Some(kept),
-            _ => None,
-        }
-    }
-
-    /// What a crash may keep: from the mark to the length. A crashed one has
-    /// the mark from before and the length that was kept.
-    fn mark_and_length(&self) -> (u64, u64) {
-        match self.phase {
-            Phase::Crashed { mark, kept } => (mark, kept),
-            _ => (self.server.mark, self.server.length),
-        }
-    }
-}
-
 /// A request that executed a command: the rules that it was executed by and
-/// the log's length after it.
+/// the log's length after it, bytes that checkpoints replaced counted in.
 struct Execution {
     command: usize,
     cabinet: usize,
@@ -88,13 +58,25 @@ pub struct Options {
     /// Tests after each call that the state is sound, that a refusal left
     /// all lent memory as found and that no other byte changed.
     pub verify: bool,
+    /// Runs a shadow beside each server and inspects completion records.
+    pub shadow: bool,
     pub trace: bool,
 }
 
 pub struct Run {
     pub result: Result<(), Violation>,
+    /// The first difference from the shadows, if there are any.
+    pub shadow: Result<(), Difference>,
     pub counts: Counts,
     pub trace: Vec<String>,
+}
+
+impl Run {
+    /// A violation that is decided, or a difference from the shadows.
+    pub fn fails(&self) -> bool {
+        let undecided = matches!(self.result, Err(Violation::Undecided { .. }));
+        (self.result.is_err() && !undecided) || self.shadow.is_err()
+    }
 }
 
 /// Runs the schedule and checks demand 3 after it. All servers run today's
@@ -114,14 +96,16 @@ fn run_world(mut world: World) -> Run {
         world.step(step);
     }
     world.count_left_crashed();
+    world.count_replaced();
     Run {
         result: world.check(),
+        shadow: world.difference.map_or(Ok(()), Err),
         counts: world.counts,
         trace: world.trace,
     }
 }
 
-/// Drops steps as long as the schedule still violates demand 3.
+/// Drops steps as long as the schedule still violates demand 3 or differs from its shadows.
 pub fn minimise(schedule: &Schedule, options: Options) -> Schedule {
     minimise_renewed(&Renewed::today(schedule), options).schedule
 }
@@ -135,9 +119,9 @@ pub fn minimise_renewed(renewed: &Renewed, options: Options) -> Renewed {
         let mut at = 0;
         while at < count(&best) {
             let shorter = best.without(at..(at + size).min(count(&best)));
-            match run_renewed(&shorter, options).result {
-                Err(Violation::Lost { .. } | Violation::NoOrder { .. }) => best = shorter,
-                _ => at += size,
+            match run_renewed(&shorter, options).fails() {
+                true => best = shorter,
+                false => at += size,
             }
         }
         size /= 2;
@@ -168,6 +152,8 @@ pub struct World<'a> {
     place: u32,
     /// The cabinet of the last call.
     last: usize,
+    /// The first difference of a server from its shadow.
+    difference: Option<Difference>,
     counts: Counts,
     trace: Vec<String>,
 }
@@ -187,11 +173,7 @@ impl<'a> World<'a> {
         renewals: &'a [Places],
         options: Options,
     ) -> World<'a> {
-        let cabinet = |_| Cabinet {
-            phase: Phase::New,
-            server: Faulty::new(options.fault),
-            log: vec![FILL; schedule.log_len],
-        };
+        let cabinet = |_| Cabinet::new(schedule.log_len, &options);
         World {
             schedule,
             renewals,
@@ -209,6 +191,7 @@ impl<'a> World<'a> {
             executions: Vec::new(),
             place: 0,
             last: 0,
+            difference: None,
             counts: Counts::default(),
             trace: Vec::new(),
         }
@@ -216,14 +199,21 @@ impl<'a> World<'a> {
 
     /// Demand 3.
     fn check(&self) -> Result<(), Violation> {
+        if let Some(cabinet) = self.not_recovered() {
+            return Err(Violation::NotRecovered { cabinet });
+        }
         let (commands, marks) = (self.commands(), self.marks());
         check_marked(&self.schedule.plan, &commands, &marks, &self.finals())
     }
 
     pub fn step(&mut self, step: &Step) {
         self.place += 1;
-        let flaw = step.flaw;
-        match step.call {
+        self.make(&step.call, step.flaw);
+        self.inspect_one();
+    }
+
+    fn make(&mut self, call: &Call, flaw: Flaw) {
+        match *call {
             Call::Found { at } => self.found(at, flaw),
             Call::Request { at, packet } => self.request(at, packet, flaw),
             Call::Fetch { at, id } => self.fetch(at, id, flaw),
@@ -242,6 +232,15 @@ impl<'a> World<'a> {
             Call::CrashAgain { at, keep } => self.crash_again(at, keep),
             Call::Recover { at } => self.recover(at, flaw),
             Call::RecoverRunning { at } => self.recover_running(at, flaw),
+            Call::Checkpoint { at } => self.checkpoint(at, flaw),
+            Call::Store { at } => self.store(at),
+            _ => self.make_elsewhere(call),
+        }
+    }
+
+    /// Calls at desks and at the office.
+    fn make_elsewhere(&mut self, call: &Call) {
+        match *call {
             Call::Start { packet } => self.start(packet),
             Call::Issue {
                 desk,
@@ -263,6 +262,7 @@ impl<'a> World<'a> {
                 manner,
             } => self.toward(desk, gate, (op, argument), manner),
             Call::LateOpening { at, number, lost } => self.late_opening(at, number, lost),
+            _ => unreachable!("a call at a cabinet"),
         }
     }
 

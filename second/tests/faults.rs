@@ -3,7 +3,6 @@
 
 mod search;
 
-use second::checker::Violation;
 use second::faults::Fault;
 use second::schedule::generate;
 use second::world::{minimise, run, Options};
@@ -16,14 +15,7 @@ fn violates(seed: u64, fault: Option<Fault>) -> bool {
         fault,
         ..Options::default()
     };
-    match run(&generate(seed), options).result {
-        Ok(()) => false,
-        Err(Violation::Undecided { .. }) => {
-            assert!(fault.is_some(), "seed {seed} undecided");
-            false
-        }
-        Err(_) => true,
-    }
+    search::is_violation(run(&generate(seed), options).result, seed, fault)
 }
 
 fn assert_found(fault: Fault) {

@@ -206,7 +206,7 @@ fn model_of(server: &Server) -> Model {
         Hold::Absent => "absent",
         Hold::Held => "held",
         Hold::Given { .. } => "given",
-        Hold::Released => "released",
+        Hold::Released { .. } => "released",
     };
     let points = server.points.iter().map(|p| ModelPoint {
         value: p.value,

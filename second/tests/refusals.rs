@@ -715,7 +715,9 @@ fn release_refusals() {
     // Another cabinet's receipt of a later move releases too.
     rig.release(0, &receipt(5, 9, 7));
     let point = rig.server.point(5);
-    assert_eq!((point.hold, point.move_number), (Hold::Released, 1));
+    let (destination, end) = (1, 44);
+    assert_eq!(point.hold, Hold::Released { destination, end });
+    assert_eq!(point.move_number, 1);
     assert!(rig.server.records.is_empty());
     assert_eq!(rig.log[44..52], [5, 5, 0, 0, 1, 0, 0, 0]);
     rig.release(3, &receipt(5, 9, 7));

@@ -1,8 +1,9 @@
 //! Runs random schedules and checks demand 3 after each.
 //! Arguments: number of schedules (10,000), seed, and 1 for servers that are
-//! renewed in the schedule or 2 for a lock and its gates.
+//! renewed in the schedule, 2 for a lock and its gates, or 3 for checkpoints, each
+//! server beside a shadow without them.
 
-use second::schedule::{generate, generate_lock, generate_renewed, Renewed};
+use second::schedule::{generate, generate_checkpoints, generate_lock, generate_renewed, Renewed};
 use second::world::{minimise_lock, minimise_renewed, run_lock, run_renewed, Counts, Options};
 use std::process::ExitCode;
 use std::time::Instant;
@@ -21,9 +22,10 @@ fn main() -> ExitCode {
         return ExitCode::FAILURE;
     };
     let check_one = match kind {
-        0 => |seed| check_one(seed, |seed| Renewed::today(&generate(seed))),
-        1 => |seed| check_one(seed, generate_renewed),
-        _ => check_lock,
+        0 => |seed| check_one(Renewed::today(&generate(seed)), seed, false),
+        1 => |seed| check_one(generate_renewed(seed), seed, false),
+        2 => check_lock,
+        _ => |seed| check_one(Renewed::today(&generate_checkpoints(seed)), seed, true),
     };
     let begin = Instant::now();
     let mut counts = Counts::default();
@@ -42,13 +44,16 @@ fn main() -> ExitCode {
     ExitCode::SUCCESS
 }
 
-/// Runs one schedule; prints it, made shorter, if it violates demand 3.
-fn check_one(seed: u64, make: fn(u64) -> Renewed) -> Option<Counts> {
-    let schedule = make(seed);
-    let options = Options::default();
+/// Runs one schedule; prints it, made shorter, if it violates demand 3 or differs from the
+/// shadows that run beside it.
+fn check_one(schedule: Renewed, seed: u64, shadow: bool) -> Option<Counts> {
+    let options = Options {
+        shadow,
+        ..Options::default()
+    };
     let found = run_renewed(&schedule, options);
-    if let Err(violation) = found.result {
-        println!("schedule {seed}: {violation:?}");
+    if found.result.is_err() || found.shadow.is_err() {
+        println!("schedule {seed}: {:?}, {:?}", found.result, found.shadow);
         let options = Options {
             trace: true,
             ..options
@@ -56,7 +61,7 @@ fn check_one(seed: u64, make: fn(u64) -> Renewed) -> Option<Counts> {
         let shorter = minimise_renewed(&schedule, options);
         println!("renewals before steps {:?}", shorter.places);
         let shorter = run_renewed(&shorter, options);
-        println!("shortened: {:?}", shorter.result);
+        println!("shortened: {:?}, {:?}", shorter.result, shorter.shadow);
         for line in shorter.trace {
             println!("{line}");
         }

@@ -102,7 +102,10 @@ impl Server {
     }
 
     pub(super) fn apply_release(&mut self, r: &Release) {
-        self.points[usize::from(r.point)].hold = Hold::Released;
+        let point = &mut self.points[usize::from(r.point)];
+        if let Hold::Given { destination, end } = point.hold {
+            point.hold = Hold::Released { destination, end };
+        }
         self.records.retain(|c| c.point != r.point);
     }
 
@@ -116,13 +119,16 @@ impl Server {
         let Some(plan) = parse_plan(plan) else {
             return Answer::refused(Refusal::Malformed);
         };
-        match replay(log, plan) {
-            Some(server) => {
-                *self = server;
-                Answer::DONE
-            }
-            None => Answer::refused(Refusal::BadLog),
-        }
+        self.recovered(replay(log, plan))
+    }
+
+    /// Takes the state recovered, or refuses.
+    pub(super) fn recovered(&mut self, state: Option<Server>) -> Answer {
+        let Some(state) = state else {
+            return Answer::refused(Refusal::BadLog);
+        };
+        *self = state;
+        Answer::DONE
     }
 
     /// Tests a whole record that ends at `end` against the state, then applies it;
@@ -168,11 +174,17 @@ impl Server {
 }
 
 /// The state of a log's whole records; nothing if one is broken or cannot
-/// follow. The ends of all records are known before the first is read.
+/// follow.
 fn replay(log: &[u8], plan: Plan) -> Option<Server> {
-    let ends = record_ends(log).ok()?;
     let mut server = Server::new();
     server.reset(plan, parse_head(log)?);
+    replay_on(server, log)
+}
+
+/// The same from another state than the founding one. The ends of all records are
+/// known before the first is read.
+pub(super) fn replay_on(mut server: Server, log: &[u8]) -> Option<Server> {
+    let ends = record_ends(log).ok()?;
     let mut at = HEAD_LEN;
     for end in ends {
         let record = parse_whole(&log[at..end])?;

@@ -1,11 +1,11 @@
 //! Paper 01, "Operations and their numbers": when a state is sound (19).
 
-use super::{Completion, Hold, Point, Server};
+use super::{Completion, Hold, Point, Server, Taken, BEFORE_THIS_LOG};
 use crate::image::CLIENTS_MAX;
 use crate::packet::{cabinet_ok, WINDOW};
-use crate::plan::POINTS;
+use crate::plan::{Entry, POINTS};
 use crate::record::HEAD_LEN;
-use crate::rule::OUTCOME_MAX;
+use crate::rule::{INVALID, OUTCOME_MAX};
 
 impl Server {
     /// Every field in range and every limit kept.
@@ -23,29 +23,41 @@ impl Server {
     fn points_sound(&self) -> bool {
         let entries = self.plan.entries.iter();
         self.points.iter().zip(entries).all(|(point, entry)| {
-            let home = entry.home == self.cabinet;
-            entry.contains(point.value) && point.quality <= 1 && self.hold_sound(point, home)
+            entry.contains(point.value) && point.quality <= 1 && self.hold_sound(point, entry)
         })
     }
 
-    fn hold_sound(&self, point: &Point, home: bool) -> bool {
+    /// An absent point is as at founding; any other was held here, from its home or
+    /// by a take, and a give raised its number by 1.
+    fn hold_sound(&self, point: &Point, entry: &Entry) -> bool {
         let number = point.move_number;
         let taken = point.taken.map_or(0, |t| t.move_number);
         let taken_ok = point.taken.is_none_or(|t| self.end_ok(t.end) && taken >= 1);
+        let was_held = taken >= 1 || entry.home == self.cabinet;
         taken_ok
             && match point.hold {
-                Hold::Absent => number == 0 && taken == 0 && !home,
-                Hold::Held => number == taken && (number >= 1 || home),
-                Hold::Given { destination, end } => {
-                    let to_other = cabinet_ok(destination) && destination != self.cabinet;
-                    taken < number && to_other && self.end_ok(end)
+                Hold::Absent => {
+                    let founded = (entry.fallback, INVALID);
+                    number == 0 && !was_held && (point.value, point.quality) == founded
                 }
-                Hold::Released => taken < number,
+                Hold::Held => number == taken && was_held,
+                Hold::Given { destination, end } | Hold::Released { destination, end } => {
+                    let to_other = cabinet_ok(destination) && destination != self.cabinet;
+                    let raised = taken.checked_add(1) == Some(number);
+                    raised && was_held && to_other && self.given_at(point, end)
+                }
             }
     }
 
+    /// A give's end; a take before it ended earlier, or both did before this log.
+    fn given_at(&self, point: &Point, end: u64) -> bool {
+        let taken_before =
+            |t: &Taken| t.end < end || (t.end, end) == (BEFORE_THIS_LOG, BEFORE_THIS_LOG);
+        self.end_ok(end) && point.taken.as_ref().is_none_or(taken_before)
+    }
+
     fn end_ok(&self, end: u64) -> bool {
-        HEAD_LEN as u64 <= end && end <= self.length
+        BEFORE_THIS_LOG <= end && end <= self.length
     }
 
     fn clients_sound(&self) -> bool {
@@ -59,7 +71,7 @@ impl Server {
     /// client and 512 in all follow.
     fn records_sound(&self) -> bool {
         let mut seen = [0u16; CLIENTS_MAX];
-        let mut last_end = HEAD_LEN as u64;
+        let mut last_end = BEFORE_THIS_LOG;
         self.records.iter().all(|r| {
             let Some(index) = self.client_index(r.client) else {
                 return false;

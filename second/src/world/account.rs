@@ -66,20 +66,32 @@ impl World<'_> {
     }
 
     fn final_state(&self, cabinet: usize) -> Option<Server> {
-        match self.cabinets[cabinet].phase {
+        let c = &self.cabinets[cabinet];
+        match c.phase {
             Phase::New => None,
-            Phase::Running => self.server(cabinet).cloned(),
-            Phase::Crashed { kept, .. } => Some(self.recovered(cabinet, kept)),
+            Phase::Running | Phase::Storing { .. } => Some(Server::clone(&c.server)),
+            Phase::Crashed { kept, .. } => self.recovered(cabinet, kept),
         }
     }
 
-    /// The state that recover gives from the log's first bytes.
-    pub(super) fn recovered(&self, cabinet: usize, kept: u64) -> Server {
+    /// The state that recovery gives from the log's first bytes, and from the checkpoint
+    /// if one is stored; nothing if it refuses them.
+    pub(super) fn recovered(&self, cabinet: usize, kept: u64) -> Option<Server> {
         let mut server = Faulty::new(self.options.fault);
         let log = &self.log(cabinet)[..kept as usize];
-        let answer = server.recover_by(self.rules(cabinet), STATE_LEN, log, &self.plan);
-        assert_eq!(answer.number, 0, "a kept log recovers");
-        Server::clone(&server)
+        let answer = match self.lent_checkpoint(cabinet) {
+            Some(checkpoint) => server.recover_checkpoint(STATE_LEN, &checkpoint, log),
+            None => server.recover_by(self.rules(cabinet), STATE_LEN, log, &self.plan),
+        };
+        (answer.number == 0).then(|| Server::clone(&server))
+    }
+
+    /// A crashed cabinet that recovery refuses.
+    pub(super) fn not_recovered(&self) -> Option<usize> {
+        (0..self.cabinets.len()).find(|&i| {
+            let kept = self.cabinets[i].kept();
+            kept.is_some_and(|kept| self.recovered(i, kept).is_none())
+        })
     }
 }
 

@@ -1,46 +1,15 @@
 //! Calls at cabinets.
 
-use super::{Cabinet, Execution, Phase, World, FILL, IMAGE};
-use crate::answer::{Answer, Refusal};
+use super::{Execution, Phase, World, IMAGE};
+use crate::answer::Answer;
 use crate::bytes::get_u32;
-use crate::faults::Faulty;
 use crate::image::{IMAGE_MAGIC, IMAGE_MAX};
 use crate::packet::{NOTICE, RECEIPT, RECEIPT_LEN, REQUEST, RESULT_LEN};
-use crate::record::{parse_executed, Executed, EXECUTED_LEN, HEAD_LEN};
+use crate::record::{parse_executed, Executed, EXECUTED_LEN};
 use crate::rule::{apply_by, Op, PartRule, Rules, STOPPED};
 use crate::schedule::{Flaw, Mark, Party, Which};
-use crate::server::{Server, STATE_LEN};
 
 impl World<'_> {
-    /// Calls a cabinet with its slices, or with one of them too short.
-    pub(super) fn call(
-        &mut self,
-        cabinet: usize,
-        flaw: Flaw,
-        needed: usize,
-        call: impl FnOnce(&mut Faulty, usize, &mut [u8], &mut [u8]) -> Answer,
-    ) -> (Answer, [u8; IMAGE_MAX]) {
-        let c = &mut self.cabinets[cabinet];
-        let before = self
-            .options
-            .verify
-            .then(|| (Server::clone(&c.server), c.log.clone()));
-        let mut output = [FILL; IMAGE_MAX];
-        let (state_len, log_len, output_len) = lent(flaw, c, needed);
-        let answer = call(
-            &mut c.server,
-            state_len,
-            &mut c.log[..log_len],
-            &mut output[..output_len],
-        );
-        if let Some((server, log)) = before {
-            verify(c, &server, &log, answer, &output);
-        }
-        self.counts.steps += 1;
-        self.counts.refusals[answer.number as usize] += 1;
-        (answer, output)
-    }
-
     pub(super) fn found(&mut self, at: Party, flaw: Flaw) {
         let cabinet = self.party(at, self.last);
         if self.cabinets[cabinet].phase != Phase::New {
@@ -93,11 +62,12 @@ impl World<'_> {
         let id = (get_u32(packet, 4), get_u32(packet, 8));
         let command = self.commands.iter().position(|c| (c.client, c.call) == id);
         let rules = self.rules(cabinet);
+        let c = &self.cabinets[cabinet];
         self.executions.push(Execution {
             command: command.expect("a request is made by an issue"),
             cabinet,
             rules,
-            end: self.cabinets[cabinet].server.length,
+            end: c.replaced() + c.server.length,
             place: self.place,
             survives: true,
         });
@@ -179,7 +149,9 @@ impl World<'_> {
             Mark::Outside(true) => from - 1,
             Mark::Outside(false) => to + 1,
         };
-        let (answer, _) = self.call(cabinet, flaw, 0, |s, len, log, _| s.sync(len, log, mark));
+        let (answer, _) = self.call_by_places(cabinet, flaw, 0, |s, len, log, _, replaced| {
+            s.sync(len, log, replaced.unwrap_or(0) + mark)
+        });
         self.note(|| format!("sync cabinet {cabinet} mark {mark} -> {}", answer.number));
     }
 
@@ -304,36 +276,4 @@ impl World<'_> {
             )
         });
     }
-}
-
-/// Lengths of state, log and output lent under a flaw.
-fn lent(flaw: Flaw, c: &Cabinet, needed: usize) -> (usize, usize, usize) {
-    let recorded = match c.phase {
-        Phase::New => HEAD_LEN,
-        _ => c.server.length as usize,
-    };
-    let whole = c.log.len();
-    match flaw {
-        Flaw::None => (STATE_LEN, whole, needed),
-        Flaw::State => (STATE_LEN - 1, whole, needed),
-        Flaw::Log => (STATE_LEN, recorded - 1, needed),
-        Flaw::Output => (STATE_LEN, whole, needed.saturating_sub(1)),
-    }
-}
-
-/// The state is sound, and only what the call may write has changed.
-fn verify(c: &Cabinet, server: &Server, log: &[u8], answer: Answer, output: &[u8]) {
-    assert!(
-        output[answer.written..].iter().all(|&b| b == FILL),
-        "bytes past what is written are kept"
-    );
-    if answer.number == 0 {
-        assert!(c.server.sound(), "a call not refused leaves a sound state");
-        let length = c.server.length as usize;
-        assert_eq!(c.log[length..], log[length..], "bytes past the log's end");
-        return;
-    }
-    assert!(Refusal::ALL.iter().any(|r| r.number() == answer.number));
-    assert!(*c.server == *server, "a refusal leaves the state");
-    assert!(c.log == log, "a refusal leaves the log");
 }

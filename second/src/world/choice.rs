@@ -1,6 +1,6 @@
 //! Which packet and which party a step means.
 
-use super::{Cabinet, Desk, Phase, World, IMAGE};
+use super::{Cabinet, Desk, World, IMAGE};
 use crate::image::IMAGE_MAGIC;
 use crate::plan::POINTS;
 use crate::schedule::{Party, Which, CONTROLLER, LATEST_DESK, LOST};
@@ -64,7 +64,7 @@ impl World<'_> {
             return self.last;
         }
         (0..self.cabinets.len())
-            .filter(|&i| self.cabinets[i].phase == Phase::Running)
+            .filter(|&i| self.cabinets[i].is_called())
             .filter_map(|i| rank(self.point_at(i, point)).map(|rank| (rank, i)))
             .min()
             .map_or(self.last, |(_, i)| i)
@@ -84,10 +84,10 @@ impl World<'_> {
         self.find(point, given)
     }
 
-    /// The running cabinet meant; none if it is new or crashed.
+    /// The running cabinet meant; none if it is new or crashed, or stores a checkpoint.
     pub(super) fn running(&mut self, at: Party, apt: usize) -> Option<usize> {
         let cabinet = self.party(at, apt);
-        (self.cabinets[cabinet].phase == Phase::Running).then(|| {
+        self.cabinets[cabinet].is_called().then(|| {
             self.last = cabinet;
             cabinet
         })

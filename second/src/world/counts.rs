@@ -45,6 +45,39 @@ pub struct Counts {
     pub late_openings: u64,
     pub late_refused: u64,
     pub gate_takes: u64,
+    pub storing: Storing,
+}
+
+/// What happened around checkpoints.
+#[derive(Clone, Copy, PartialEq, Eq, Debug, Default)]
+pub struct Storing {
+    /// Checkpoints made, refused with 7, and stored.
+    pub made: u64,
+    pub unsynced: u64,
+    pub stored: u64,
+    /// Crashes before the first checkpoint is stored, while one is, and after that.
+    pub crashed_before: u64,
+    pub crashed_storing: u64,
+    pub crashed_stored: u64,
+    /// Surviving executions whose records checkpoints replaced.
+    pub replaced: u64,
+    /// Completion records shown as executed record, image entry and checkpoint entry.
+    pub inspected: [u64; 3],
+}
+
+impl Storing {
+    fn add(&mut self, other: &Storing) {
+        self.made += other.made;
+        self.unsynced += other.unsynced;
+        self.stored += other.stored;
+        self.crashed_before += other.crashed_before;
+        self.crashed_storing += other.crashed_storing;
+        self.crashed_stored += other.crashed_stored;
+        self.replaced += other.replaced;
+        for (sum, n) in self.inspected.iter_mut().zip(other.inspected) {
+            *sum += n;
+        }
+    }
 }
 
 impl Counts {
@@ -78,6 +111,7 @@ impl Counts {
         self.late_openings += other.late_openings;
         self.late_refused += other.late_refused;
         self.gate_takes += other.gate_takes;
+        self.storing.add(&other.storing);
         for (sum, n) in self.refusals.iter_mut().zip(other.refusals) {
             *sum += n;
         }

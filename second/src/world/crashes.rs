@@ -1,7 +1,7 @@
 //! Crashes, and recoveries after them and without one.
 
-use super::{Phase, World, FILL};
-use crate::faults::Faulty;
+use super::{Phase, World};
+use crate::faults::Fault;
 use crate::schedule::{Flaw, Keep, Party};
 use crate::server::Server;
 
@@ -30,11 +30,23 @@ impl World<'_> {
             Keep::All => length,
             Keep::Between(n) => mark + u64::from(n) % (length - mark + 1),
         };
-        c.log[kept as usize..].fill(FILL);
-        c.phase = Phase::Crashed { mark, kept };
-        c.server = Faulty::new(self.options.fault);
+        let storing = &mut self.counts.storing;
+        match c.phase {
+            Phase::Storing { .. } => storing.crashed_storing += 1,
+            _ if c.stored.checkpoint.is_empty() => storing.crashed_before += 1,
+            _ => storing.crashed_stored += 1,
+        }
+        let reach = c.stored.replaced + kept;
+        if let Some(shadow) = &mut c.shadow {
+            shadow.crash(reach);
+        }
+        c.crash(mark, kept);
+        self.compare_recovery(cabinet, kept, reach);
         self.last = cabinet;
-        let lost = self.lose(cabinet, kept);
+        let lost = match self.options.fault {
+            Some(Fault::SurvivalInTail) => self.lose(cabinet, kept),
+            _ => self.lose(cabinet, reach),
+        };
         self.counts.crashes += 1;
         self.counts.lost += lost;
         if again {
@@ -44,7 +56,8 @@ impl World<'_> {
         self.note(|| format!("crash cabinet {cabinet}, {kept} of {length} bytes kept"));
     }
 
-    /// The executions past the bytes kept do not survive; answers how many.
+    /// The executions past the bytes kept, those replaced counted in, do not survive;
+    /// answers how many.
     pub(super) fn lose(&mut self, cabinet: usize, kept: u64) -> u64 {
         let mut lost = 0;
         for e in &mut self.executions {
@@ -84,18 +97,23 @@ impl World<'_> {
         self.counts.recovered_running += 1;
     }
 
-    /// Recovers from the log's first bytes; false if it is refused.
+    /// Recovers from the log's first bytes, and from the checkpoint if one is stored;
+    /// false if it is refused.
     pub(super) fn recover_from(&mut self, cabinet: usize, kept: u64, flaw: Flaw) -> bool {
         let (plan, rules) = (self.plan, self.rules(cabinet));
         let flaw = match flaw {
             Flaw::State => Flaw::State,
             _ => Flaw::None,
         };
-        let (answer, _) = self.call(cabinet, flaw, 0, |s, len, log, _| {
-            s.recover_by(rules, len, &log[..kept as usize], &plan)
+        let checkpoint = self.lent_checkpoint(cabinet);
+        let (answer, _) = self.call_by_places(cabinet, flaw, 0, |s, len, log, _, replaced| {
+            let kept = &log[..(replaced.unwrap_or(0) + kept) as usize];
+            match (&checkpoint, replaced) {
+                (Some(checkpoint), None) => s.recover_checkpoint(len, checkpoint, kept),
+                _ => s.recover_by(rules, len, kept, &plan),
+            }
         });
         let recovered = answer.number == 0;
-        assert!(recovered || flaw == Flaw::State, "a kept log recovers");
         if recovered {
             self.cabinets[cabinet].phase = Phase::Running;
             self.last = cabinet;

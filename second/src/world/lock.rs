@@ -146,10 +146,11 @@ impl World<'_> {
     fn seat(&self, gate: u8, server: &Server) -> Seat {
         let cabinet = usize::from(server.cabinet);
         let (mark, _) = self.cabinets[cabinet].mark_and_length();
+        let synced = self.recovered(cabinet, mark);
         Seat {
             holds: server.point(gate).hold == Hold::Held,
             heard: server.heard,
-            synced_heard: self.recovered(cabinet, mark).heard,
+            synced_heard: synced.expect("a kept log recovers").heard,
         }
     }
 
