@@ -118,7 +118,7 @@ mod c {
 }
 
 /// The low 32 bits are the number, the high 32 bits the bytes written.
-fn answer(word: u64) -> Answer {
+pub(crate) fn answer(word: u64) -> Answer {
     Answer {
         number: word as u32,
         written: (word >> 32) as usize,

@@ -1,10 +1,13 @@
 //! Long logs for the benchmark, made by the proved server's calls.
 
+use crate::checkpoint::checkpoint;
 use crate::kernel::Call;
-use second::image::IMAGE_MAX;
-use second::packet::{write_notice, write_request, Notice, Request};
+use second::checkpoint::CHECKPOINT_LEN;
+use second::image::{CLIENTS_MAX, IMAGE_MAX};
+use second::packet::{write_notice, write_request, Notice, Request, WINDOW};
 use second::plan::{write_plan, Entry, Plan};
 use second::random::Random;
+use second::record::{EXECUTED_LEN, HEAD_LEN};
 use second::rule::Op;
 use second::server::STATE_LEN;
 
@@ -13,6 +16,13 @@ pub struct Long {
     pub plan: Vec<u8>,
     pub log: Vec<u8>,
     pub records: u64,
+}
+
+/// A log of full tables; and the checkpoint and the tail of a server that made one before the last records.
+pub struct Replaced {
+    pub whole: Long,
+    pub checkpoint: Vec<u8>,
+    pub tail: Vec<u8>,
 }
 
 const CLIENTS: u32 = 8;
@@ -55,6 +65,18 @@ impl One {
     fn sync(&mut self) {
         self.call(Call::Sync(self.length() as u64));
     }
+
+    /// Its checkpoint; from now on the log has the head alone. The log that was is given too.
+    fn checkpoint(&mut self) -> (Vec<u8>, Vec<u8>) {
+        self.sync();
+        let replaced = self.log[..self.length()].to_vec();
+        let (mut made, mut tail) = (vec![0; CHECKPOINT_LEN], [0; HEAD_LEN]);
+        let answer = checkpoint(&mut self.state, &self.log, &mut made, &mut tail);
+        assert_eq!(answer.number, 0);
+        self.log[..HEAD_LEN].copy_from_slice(&tail);
+        made.truncate(answer.written);
+        (made, replaced)
+    }
 }
 
 /// Two servers, of which the first has all points; each client's next call number.
@@ -62,7 +84,7 @@ struct Plant {
     plan: Vec<u8>,
     first: One,
     other: One,
-    next: [u32; CLIENTS as usize],
+    next: [u32; CLIENTS_MAX],
 }
 
 impl Plant {
@@ -78,12 +100,17 @@ impl Plant {
             first: One::new(&plan, 0, bytes),
             other: One::new(&plan, 1, bytes),
             plan,
-            next: [1; CLIENTS as usize],
+            next: [1; CLIENTS_MAX],
         }
     }
 
     /// The client's next command; its floor is this call, so that one record of it stays.
     fn request(&mut self, client: u32) {
+        self.request_after(client, 0);
+    }
+
+    /// The same, with so many calls open before this one, so that their records stay.
+    fn request_after(&mut self, client: u32, open: u32) {
         let call = self.next[client as usize - 1];
         self.next[client as usize - 1] += 1;
         let request = Request {
@@ -91,7 +118,7 @@ impl Plant {
             point: 5,
             client,
             call,
-            done: call,
+            done: call - open,
             lease_end: u32::MAX,
             argument: (call % 1000) as i32,
         };
@@ -159,4 +186,30 @@ pub fn mixed(bytes: usize, seed: u64) -> Long {
         }
     }
     plant.done()
+}
+
+/// Commands; 32 clients with 16 completion records each in the end, all along the last records.
+pub fn replaced(bytes: usize, records: u32) -> Replaced {
+    let mut plant = Plant::new(bytes);
+    let space = bytes - CLIENTS_MAX * WINDOW as usize * EXECUTED_LEN;
+    let mut client = 0;
+    while plant.first.length() + MARGIN < space {
+        client = client % CLIENTS + 1;
+        plant.request(client);
+    }
+    for open in 0..WINDOW {
+        (1..=CLIENTS_MAX as u32).for_each(|client| plant.request_after(client, open));
+    }
+    let (checkpoint, log) = plant.first.checkpoint();
+    (1..=records).for_each(|client| plant.request_after(client, WINDOW - 1));
+    let tail = plant.done();
+    Replaced {
+        checkpoint,
+        whole: Long {
+            log: [&log, &tail.log[HEAD_LEN..]].concat(),
+            plan: tail.plan,
+            records: tail.records,
+        },
+        tail: tail.log,
+    }
 }

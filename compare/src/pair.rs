@@ -2,9 +2,14 @@
 //! output, log and state on both sides, byte by byte.
 
 use crate::kernel::Call;
-use crate::states::{self, POINTS_AT, STATE_END};
+use crate::states::{self, STATE_END};
 use second::answer::{Answer, Refusal};
-use second::server::{Hold, Server, STATE_LEN};
+use second::server::{Server, STATE_LEN};
+use std::fmt::Debug;
+
+mod checkpoint;
+
+pub use checkpoint::{Buffers, LentCheckpoint};
 
 /// What stands where nobody wrote.
 pub const FILL: u8 = 0xA5;
@@ -140,12 +145,20 @@ impl Pair {
     /// Logs and states after this call, with its answer. A call refused, or one that only
     /// reads, leaves the buffer as it was.
     pub fn compare(&mut self, call: &Call, want: Answer) {
-        assert!(self.log == self.server_log, "log: {call:02x?}");
-        if want.number != 0 || want.written != 0 {
-            assert!(self.state == self.before, "state changed: {call:02x?}");
-            return;
+        match (want.number, want.written) {
+            (0, 0) => self.compare_changed(call),
+            _ => self.compare_kept(call),
         }
-        self.put_wanted();
+    }
+
+    fn compare_kept(&self, call: &dyn Debug) {
+        assert!(self.log == self.server_log, "log: {call:02x?}");
+        assert!(self.state == self.before, "state changed: {call:02x?}");
+    }
+
+    fn compare_changed(&mut self, call: &dyn Debug) {
+        assert!(self.log == self.server_log, "log: {call:02x?}");
+        states::put_buffer(&self.server, &mut self.wanted);
         assert!(
             self.state[..STATE_END] == self.wanted[..STATE_END],
             "state: {call:02x?}, {:?}",
@@ -156,17 +169,10 @@ impl Pair {
         self.before[..STATE_END].copy_from_slice(&self.state[..STATE_END]);
     }
 
-    /// The second program's state in its buffer. What it no longer knows of a
-    /// released point, the destination and the give's end, is copied.
-    fn put_wanted(&mut self) {
-        states::put_buffer(&self.server, &mut self.wanted);
-        for (i, point) in self.server.points.iter().enumerate() {
-            if point.hold == Hold::Released {
-                let at = POINTS_AT + 32 * i;
-                self.wanted[at + 2] = self.state[at + 2];
-                self.wanted[at + 16..at + 24].copy_from_slice(&self.state[at + 16..at + 24]);
-            }
-        }
+    /// The proved server's buffer has any content, as after a crash.
+    pub fn forget(&mut self, junk: u8) {
+        self.state[..STATE_END].fill(junk);
+        self.before.copy_from_slice(&self.state);
     }
 
     /// A call of the proved server alone, on this buffer, which no call leaves: it

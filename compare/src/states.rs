@@ -7,7 +7,7 @@ use second::image::Floor;
 use second::plan::{write_plan, Entry, Plan, POINTS};
 use second::random::Random;
 use second::record::HEAD_LEN;
-use second::server::{Completion, Hold, Point, Server, Taken, STATE_LEN};
+use second::server::{Completion, Hold, Point, Server, Taken, BEFORE_THIS_LOG, STATE_LEN};
 
 pub const PLAN_AT: usize = 40;
 pub const POINTS_AT: usize = 1064;
@@ -42,7 +42,7 @@ pub fn put_buffer(server: &Server, b: &mut [u8]) {
     put_u64(b, 32, server.mark);
     b[PLAN_AT..POINTS_AT].copy_from_slice(&write_plan(&server.plan));
     for (i, point) in server.points.iter().enumerate() {
-        put_point(&mut b[POINTS_AT + 32 * i..][..32], point, server.cabinet);
+        put_point(&mut b[POINTS_AT + 32 * i..][..32], point);
     }
     for (i, f) in server.clients.iter().enumerate() {
         put_u32(b, CLIENTS_AT + 8 * i, f.client);
@@ -62,14 +62,12 @@ fn put_signed(b: &mut [u8], at: usize, value: i32) {
     put_u32(b, at, value as u32);
 }
 
-/// A released point's destination and give are no longer known to the second
-/// program: another server, and an end right after the take's.
-fn put_point(b: &mut [u8], point: &Point, server: u8) {
+fn put_point(b: &mut [u8], point: &Point) {
     let (status, destination, gave) = match point.hold {
         Hold::Absent => (0, 0, 0),
         Hold::Held => (1, 0, 0),
         Hold::Given { destination, end } => (2, destination, end),
-        Hold::Released => (3, (server + 1) % 16, point.taken.map_or(9, |t| t.end + 1)),
+        Hold::Released { destination, end } => (3, destination, end),
     };
     b[0] = status;
     b[1] = point.quality;
@@ -156,9 +154,9 @@ pub fn server(random: &mut Random, tables: Tables, point: u8, percent: u32) -> S
         server.points[p] = point_state(random, &server, p as u8);
     }
     let taken = taken(random, &server, point, server.mark);
-    let hold = given(random, &server, taken, server.mark);
+    let (destination, end) = given(random, &server, taken, server.mark);
     let given = &mut server.points[usize::from(point)];
-    given.hold = hold;
+    given.hold = Hold::Given { destination, end };
     given.move_number = 1 + taken.map_or(0, |t| t.move_number);
     given.taken = taken;
     server.clients = inputs::floors(random, tables);
@@ -166,8 +164,12 @@ pub fn server(random: &mut Random, tables: Tables, point: u8, percent: u32) -> S
     server
 }
 
-fn end(random: &mut Random, server: &Server) -> u64 {
-    9 + random.next_u64() % (server.length - 8)
+/// A place from one to another, often the first.
+fn place(random: &mut Random, first: u64, last: u64) -> u64 {
+    match random.chance(20) {
+        true => first,
+        false => first + random.next_u64() % (last + 1 - first),
+    }
 }
 
 /// The latest take, with an end below that one; a point at its home may never
@@ -178,17 +180,20 @@ fn taken(random: &mut Random, server: &Server, p: u8, end: u64) -> Option<Taken>
     }
     Some(Taken {
         move_number: inputs::at_least_1(random).min(u32::MAX - 1),
-        end: 9 + random.next_u64() % (end - 9),
+        end: place(random, BEFORE_THIS_LOG, end - 1),
     })
 }
 
-/// Given after the take, with an end up to that one.
-fn given(random: &mut Random, server: &Server, taken: Option<Taken>, end: u64) -> Hold {
-    let first = taken.map_or(9, |t| t.end + 1);
-    Hold::Given {
-        destination: (server.cabinet + 1 + random.below(15) as u8) % 16,
-        end: first + random.next_u64() % (end + 1 - first),
-    }
+/// Given after the take, with an end up to that one, or both before this log: the
+/// destination and the end.
+fn given(random: &mut Random, server: &Server, taken: Option<Taken>, end: u64) -> (u8, u64) {
+    let destination = (server.cabinet + 1 + random.below(15) as u8) % 16;
+    let first = match taken {
+        None => BEFORE_THIS_LOG,
+        Some(t) if t.end == BEFORE_THIS_LOG && random.chance(50) => return (destination, t.end),
+        Some(t) => t.end + 1,
+    };
+    (destination, place(random, first, end))
 }
 
 /// A point as a run may leave it: an absent one as founding did; a held one has
@@ -206,10 +211,11 @@ fn point_state(random: &mut Random, server: &Server, p: u8) -> Point {
     }
     let taken = taken(random, server, p, server.length);
     let latest = taken.map_or(0, |t| t.move_number);
+    let (destination, end) = given(random, server, taken, server.length);
     let (hold, move_number) = match random.below(3) {
         0 => (Hold::Held, latest),
-        1 => (Hold::Released, latest + 1),
-        _ => (given(random, server, taken, server.length), latest + 1),
+        1 => (Hold::Released { destination, end }, latest + 1),
+        _ => (Hold::Given { destination, end }, latest + 1),
     };
     Point {
         value: inputs::within(random, (entry.low, entry.high)),
@@ -268,7 +274,7 @@ fn completion(
         point,
         outcome: m.outcome,
         quality: m.quality,
-        end: end(random, server),
+        end: place(random, BEFORE_THIS_LOG, server.length),
     }
 }
 

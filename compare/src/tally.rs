@@ -25,17 +25,23 @@ fn from_environment(name: &str, otherwise: u64) -> u64 {
 
 pub struct Tally {
     test: &'static str,
-    classes: &'static [&'static str],
+    classes: Vec<&'static str>,
     counts: Vec<u64>,
     began: Instant,
 }
 
 impl Tally {
-    pub fn new(test: &'static str, classes: &'static [&'static str]) -> Tally {
+    pub fn new(test: &'static str, classes: &[&'static str]) -> Tally {
+        Tally::of(test, &[classes])
+    }
+
+    /// Of the classes of several lists.
+    pub fn of(test: &'static str, lists: &[&[&'static str]]) -> Tally {
+        let classes = lists.concat();
         Tally {
             test,
-            classes,
             counts: vec![0; classes.len()],
+            classes,
             began: Instant::now(),
         }
     }

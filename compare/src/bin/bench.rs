@@ -2,6 +2,9 @@
 //! same inputs and outputs, in the same run. Each is the best of several
 //! rounds; the sides take turns, and neither is inlined into the loop.
 
+#[path = "bench/checkpoints.rs"]
+mod checkpoints;
+
 use compare::kernel::{self, Call};
 use compare::long::{self, Long};
 use compare::{chamber, other, proved, states};
@@ -808,4 +811,5 @@ fn main() {
     chambers();
     calls();
     walks();
+    checkpoints::rows();
 }

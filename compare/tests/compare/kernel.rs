@@ -4,6 +4,7 @@
 //! logs, moves and crashes. Each call has the same answer, output, log and state
 //! on both sides, byte by byte.
 
+mod checkpoints;
 mod logs;
 
 use compare::inputs::{self, Tables};
@@ -28,7 +29,7 @@ const LOG_LEN: usize = 48_000;
 const OUT_LEN: usize = IMAGE_MAX + 8;
 
 /// A call and its number; a number that has several causes by its cause.
-const CLASSES: [&str; 81] = [
+const CLASSES: [&str; 83] = [
     "found: 0",
     "found: 1",
     "found: 2",
@@ -104,7 +105,9 @@ const CLASSES: [&str; 81] = [
     "recover: 1",
     "recover: 2",
     "recover: 14, head",
-    "recover: 14, layout",
+    "recover: 14, kind",
+    "recover: 14, image length",
+    "recover: 14, field",
     "recover: 14, record cannot follow",
     "log end: 0, recovered",
     "log end: 0, not recovered",
@@ -378,16 +381,21 @@ impl World {
         }
     }
 
-    fn fetch(&mut self, tally: &mut Tally) {
-        let i = self.any();
+    /// A client and a call that the server has a completion record of, or any.
+    fn id(&mut self, i: usize) -> (u32, u32) {
         let records = &self.pairs[i].server.records;
-        let (client, call) = match records.is_empty() || self.random.chance(30) {
+        match records.is_empty() || self.random.chance(30) {
             true => (self.random.below(6), self.random.below(20)),
             false => {
                 let r = self.random.pick(records);
                 (r.client, r.call)
             }
-        };
+        }
+    }
+
+    fn fetch(&mut self, tally: &mut Tally) {
+        let i = self.any();
+        let (client, call) = self.id(i);
         let answer = self.run_lent(i, &Call::Fetch(client, call), tally);
         self.deliver(answer);
     }
@@ -567,17 +575,31 @@ impl World {
 
     // ---- crashes
 
+    /// Lengths of the log that a crash may keep: all, or some where they are many.
+    fn may_keep(&mut self, i: usize) -> Vec<usize> {
+        let (mark, length) = (self.pairs[i].server.mark as usize, self.pairs[i].length());
+        if length - mark <= 100 {
+            return (mark..=length).collect();
+        }
+        let between = |_| mark + self.random.below((length - mark) as u32) as usize;
+        (0..20).map(between).collect()
+    }
+
+    /// The state is lost, and of the log all but the first bytes: there is any content.
+    fn lose(&mut self, i: usize, kept: usize) {
+        let pair = &mut self.pairs[i];
+        pair.forget(self.random.next_u32() as u8);
+        let junk = inputs::byte(&mut self.random);
+        pair.log[kept..].fill(junk);
+        pair.server_log[kept..].fill(junk);
+    }
+
     /// Power is lost at any byte between mark and length; what each of them
     /// would keep is recovered, and the server goes on with one.
     fn crash(&mut self, tally: &mut Tally) {
         let i = self.any();
+        let kept = self.may_keep(i);
         let (mark, length) = (self.pairs[i].server.mark as usize, self.pairs[i].length());
-        let kept: Vec<usize> = if length - mark <= 100 {
-            (mark..=length).collect()
-        } else {
-            let between = |_| mark + self.random.below((length - mark) as u32) as usize;
-            (0..20).map(between).collect()
-        };
         for &k in &kept {
             let log = self.pairs[i].log[..k].to_vec();
             let answer = self.recovered(&log, tally);
@@ -591,7 +613,7 @@ impl World {
     }
 
     /// The server goes on from the log's first bytes; refusals come first now
-    /// and then. Behind them the log's space has any content.
+    /// and then.
     fn recover_at(&mut self, i: usize, kept: usize, tally: &mut Tally) {
         let plan = self.plan_bytes.clone();
         let mut lent = self.pairs[i].whole(&self.outputs);
@@ -606,13 +628,8 @@ impl World {
             self.run(i, &Call::Recover(plan.clone()), &lent, tally);
             lent.state = STATE_LEN;
         }
-        let pair = &mut self.pairs[i];
-        pair.state[..STATE_END].fill(self.random.next_u32() as u8);
-        pair.before.copy_from_slice(&pair.state);
-        let junk = inputs::byte(&mut self.random);
-        pair.log[kept..].fill(junk);
-        pair.server_log[kept..].fill(junk);
-        let without = kept == pair.length();
+        let without = kept == self.pairs[i].length();
+        self.lose(i, kept);
         let answer = self.run(i, &Call::Recover(plan), &lent, tally);
         assert_eq!(answer.number, 0, "a crash kept {kept}");
         if without {
@@ -647,6 +664,21 @@ impl World {
 
     fn step(&mut self, tally: &mut Tally) {
         match self.random.below(200) {
+            180 => self.crash(tally),
+            181..=184 => self.damaged_log(tally),
+            185 => self.damaged_state(tally),
+            186 => {
+                let i = self.any();
+                let length = self.pairs[i].length();
+                self.recover_at(i, length, tally);
+            }
+            n => self.work(n, tally),
+        }
+    }
+
+    /// A call of a server that runs, by a number under 200; the last ones let time pass.
+    fn work(&mut self, n: u32, tally: &mut Tally) {
+        match n {
             0..=85 => self.request(tally),
             86..=97 => self.fetch(tally),
             98..=121 => self.sync(tally),
@@ -656,14 +688,6 @@ impl World {
             150..=163 => self.take(tally),
             164..=171 => self.receipt(tally),
             172..=179 => self.release(tally),
-            180 => self.crash(tally),
-            181..=184 => self.damaged_log(tally),
-            185 => self.damaged_state(tally),
-            186 => {
-                let i = self.any();
-                let length = self.pairs[i].length();
-                self.recover_at(i, length, tally);
-            }
             _ => self.pass_time(),
         }
     }

@@ -4,6 +4,7 @@ mod chamber;
 mod client;
 mod command;
 mod desk;
+mod ends;
 mod image_state;
 mod images;
 mod kernel;

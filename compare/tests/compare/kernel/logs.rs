@@ -3,7 +3,8 @@
 
 use super::*;
 use compare::kernel::{log_end, second_log_end, LogEnd};
-use second::record::{parse_head, parse_record, Parsed, HEAD_LEN};
+use second::image::IMAGE_MIN;
+use second::record::{parse_head, parse_record, Parsed, EXECUTED, HEAD_LEN, RELEASE, TAKE};
 
 const BAD_LOG: LogEnd = LogEnd { number: 14, end: 0 };
 
@@ -21,23 +22,27 @@ fn ends_at(end: usize) -> LogEnd {
     }
 }
 
-/// Why recovery refuses a log.
-fn broken(log: &[u8]) -> &'static str {
+/// What is off in a log that recovery refuses.
+pub(super) fn fault(log: &[u8]) -> &'static str {
     if parse_head(log).is_none() {
-        return "recover: 14, head";
+        return "head";
     }
-    let mut at = HEAD_LEN;
-    loop {
-        match parse_record(log, at) {
-            Parsed::Whole(_, end) => at = end,
-            Parsed::Incomplete => return "recover: 14, record cannot follow",
-            Parsed::Broken => return "recover: 14, layout",
-        }
+    let at = *places(log).last().expect("a place");
+    match (parse_record(log, at), log.get(at)) {
+        (Parsed::Broken, Some(&TAKE)) if !image_length_ok(&log[at..]) => "image length",
+        (Parsed::Broken, Some(EXECUTED..=RELEASE)) => "field",
+        (Parsed::Broken, _) => "kind",
+        _ => "record cannot follow",
     }
 }
 
+/// Of a take's first 8 bytes.
+fn image_length_ok(take: &[u8]) -> bool {
+    (IMAGE_MIN..=IMAGE_MAX).contains(&(get_u32(take, 4) as usize))
+}
+
 /// The places of a log's whole records, and its end.
-fn places(log: &[u8]) -> Vec<usize> {
+pub(super) fn places(log: &[u8]) -> Vec<usize> {
     let mut places = vec![HEAD_LEN];
     while let Parsed::Whole(_, end) = parse_record(log, *places.last().expect("a place")) {
         places.push(end);
@@ -47,16 +52,14 @@ fn places(log: &[u8]) -> Vec<usize> {
 
 impl World {
     /// A server's log, as long as it is recorded.
-    fn log_of(&self, i: usize) -> Vec<u8> {
+    pub(super) fn log_of(&self, i: usize) -> Vec<u8> {
         self.pairs[i].log[..self.pairs[i].length()].to_vec()
     }
 
     /// Recovery of a log, on memory of its own, and the first walk by itself.
     pub(super) fn recovered(&mut self, log: &[u8], tally: &mut Tally) -> Answer {
-        let junk = self.random.next_u32() as u8;
         let pair = &mut self.scratch;
-        pair.state[..STATE_END].fill(junk);
-        pair.before.copy_from_slice(&pair.state);
+        pair.forget(self.random.next_u32() as u8);
         pair.server = Server::new();
         pair.log = log.to_vec();
         pair.server_log = log.to_vec();
@@ -64,7 +67,7 @@ impl World {
         let call = Call::Recover(self.plan_bytes.clone());
         let answer = pair.run(&call, &mut self.outputs);
         match answer.number {
-            14 => tally.meet(broken(log)),
+            14 => tally.meet(&format!("recover: 14, {}", fault(log))),
             _ => tally.meet(&class(&call, answer, &self.scratch.server)),
         }
         let walk = walked(log);
@@ -94,7 +97,7 @@ impl World {
 
     /// A record's field or other bytes changed, bytes left out or put in, or whole
     /// records left out, repeated, exchanged or of another server.
-    fn damage_log(&mut self, log: &mut Vec<u8>) {
+    pub(super) fn damage_log(&mut self, log: &mut Vec<u8>) {
         let places = places(log);
         let records = places.len() as u32 - 1;
         if records == 0 || log.len() < HEAD_LEN {
@@ -166,11 +169,13 @@ fn after_steps(seed: u64, steps: u32) -> World {
     world
 }
 
-const DAMAGED: [&str; 8] = [
+const DAMAGED: [&str; 10] = [
     "recover: 0",
     "recover: 0, damaged log",
     "recover: 14, head",
-    "recover: 14, layout",
+    "recover: 14, kind",
+    "recover: 14, image length",
+    "recover: 14, field",
     "recover: 14, record cannot follow",
     "log end: 0, recovered",
     "log end: 0, not recovered",
