@@ -1,9 +1,11 @@
 #!/usr/bin/env bash
 # make demo: a host with a file as its card, a desk, and a line between them that loses, repeats and delays; the host is killed and started again
-# while commands are under way. Prints what was sent, lost, repeated and carried out. Then a lock with its controller.
+# while commands are under way. Its log may have 2000 bytes: then a checkpoint replaces it, and the card stays small. Prints what was sent, lost, repeated
+# and carried out, and what the card has. Then a lock with its controller.
 set -eu
 cd "$(dirname "$0")/.."
 commands=${COMMANDS:-600}
+limit=${LIMIT:-2000}
 port=${PORT:-$((21000 + $$ % 20000))}
 work=$(mktemp -d)
 bg=()
@@ -15,7 +17,7 @@ bg+=("$relay")
 bg+=("$desk")
 starts=0
 while kill -0 "$desk" 2>/dev/null; do
-  "$work/host" "$work/card" $((port + 1)) & host=$!
+  "$work/host" "$work/card" $((port + 1)) "$limit" & host=$!
   bg+=("$host")
   starts=$((starts + 1))
   sleep 0.3
@@ -26,7 +28,8 @@ wait "$desk"
 kill "$relay"
 wait "$relay" || true
 cat "$work/desk.out" "$work/line"
-echo "host: killed with SIGKILL $starts times; the card now: $("$work/host" "$work/card")"
+card=$("$work/host" "$work/card")
+echo "host: killed with SIGKILL $starts times; the log's limit is $limit bytes, so the card has $(wc -c <"$work/card") where the whole log would have $((8 + 28 * (commands + 1))) and more: $card"
 echo
 echo "a lock: its controller fills, opens, closes and empties the chamber, is lost on the way, and has a successor"
 "$work/lock"

@@ -8,6 +8,7 @@
  *             call changes a byte of the log once written
  *     plan    MANTELORRIS_PLAN_SIZE bytes, the same for all servers and at each recovery
  *     out     at least 16 bytes (request, fetch), 8 (receipt), 10,544 (image); bytes past what is written are kept
+ *     checkpoint, tail   of checkpoint: at least MANTELORRIS_CHECKPOINT_SIZE and MANTELORRIS_LOG_HEAD bytes; bytes past what is written are kept
  *
  * Answer. mantelorris_number(answer) is 0 or the refusal's number, mantelorris_written(answer) the number of bytes written to out, 0 where
  * there are none. A refused call leaves all lent memory as it was, but for the refusal packet of a request (numbers 3 to 9).
@@ -32,6 +33,25 @@
  * MANTELORRIS_BAD_LOG where the head, a record's kind or an image's length is off its layout, which recover refuses too. It looks at nothing else in a
  * record, so recover may still refuse a log that has an end.
  *
+ * Checkpoint. A log that is never cut fills its card. mantelorris_checkpoint writes what the state holds as a checkpoint, at most
+ * MANTELORRIS_CHECKPOINT_LONGEST bytes (mantelorris_written(answer) of them), and the head of a new log, its tail; length and mark become 8. All of
+ * the log must be synced (7). The order of work of the host:
+ *     1. checkpoint; the old log and the checkpoint stored before, if there is one, stay in force
+ *     2. store the checkpoint and the tail's 8 bytes so that the card has both or neither (write a new file, sync it, rename it; or two slots and
+ *        one word that names the valid one)
+ *     3. only then drop the old log, and go on: the log slice of every later call begins with the tail's head
+ * Between 1 and 3 call nothing else of this server. If storing fails, or the power does, what was in force is still: recover from that. examples/host.c
+ * does it in one file.
+ *
+ * Recovery with a checkpoint. mantelorris_recover_checkpoint gets the last stored checkpoint, whole (bytes behind it are not read), and what the card
+ * kept of its own tail, at least the head and the synced part; it takes the plan from the checkpoint. Never call mantelorris_recover once a checkpoint is
+ * stored: a tail begins like any log, recover cannot tell it from a whole one, and would give the state of a server that has forgotten all that was
+ * before it.
+ *
+ * Inspect. mantelorris_inspect tells where the bytes of a completion record lie: in the tail (an executed record, or an entry of the image in a take
+ * record) or in the checkpoint (an entry); the latest, if there are several. Before the first checkpoint that slice is empty, and the tail is the log. It
+ * shows what is not synced too.
+ *
  * Moving a point. Giver: give, sync, image. Taker: take (the image), sync, receipt. Giver: release (the receipt). Images and receipts may be
  * lost, late or repeated: make them again as often as is needed. Until release the giver keeps the point's completion records.
  *
@@ -51,7 +71,7 @@ extern "C" {
 /* The version of this header and, by mantelorris_version(), of the library: major * 65,536 + minor. The major number changes with a layout that
  * an older program would misread (packets, images, log, state); the minor one with what is added. */
 #define MANTELORRIS_VERSION_MAJOR 1
-#define MANTELORRIS_VERSION_MINOR 4
+#define MANTELORRIS_VERSION_MINOR 5
 #define MANTELORRIS_VERSION ((uint32_t)MANTELORRIS_VERSION_MAJOR << 16 | MANTELORRIS_VERSION_MINOR)
 
 /* least lengths of slices; a plan has exactly its length */
@@ -60,6 +80,8 @@ extern "C" {
 #define MANTELORRIS_REPLY_SIZE 16 /* out of request and fetch */
 #define MANTELORRIS_RECEIPT_SIZE 8
 #define MANTELORRIS_IMAGE_SIZE 10544
+#define MANTELORRIS_CHECKPOINT_SIZE 32768
+#define MANTELORRIS_CHECKPOINT_LONGEST 12588 /* what a checkpoint has at most */
 
 /* log space: the head, and a record of each kind; a take has its image behind the 8 bytes */
 #define MANTELORRIS_LOG_HEAD 8
@@ -122,7 +144,7 @@ enum mantelorris_kind {
     X(BAD_DESTINATION, 11, "bad destination")    /* give to this server; an image for another one */ \
     X(OLD_MOVE, 12, "old move")                  /* an image's move is not above the own one; a receipt's is below the given one */ \
     X(HELD_HERE, 13, "held here")                /* take of a point that is held here, or of an id held for another point */ \
-    X(BAD_LOG, 14, "bad log")                    /* recover, log_end: the log breaks a layout; recover: or a record cannot follow */ \
+    X(BAD_LOG, 14, "bad log")                    /* a log or checkpoint breaks a layout; a record cannot follow; they are of two servers */ \
     X(WINDOW_FULL, 15, "window full")            /* client: sixteen numbers from its first open call are used */ \
     X(NUMBER_SPENT, 16, "number spent")          /* a move, call, client or time number is at its greatest */ \
     X(UNKNOWN, 17, "unknown")                    /* no such call, client or lease */ \
@@ -182,6 +204,13 @@ uint64_t mantelorris_release(uint8_t *state, size_t state_length, uint8_t *log, 
 uint64_t mantelorris_recover(uint8_t *state, size_t state_length, const uint8_t *log, size_t log_length, const uint8_t *plan,
                              size_t plan_length);
 
+/* a checkpoint of the state, and the head of its tail; the log is lent to be measured */
+uint64_t mantelorris_checkpoint(uint8_t *state, size_t state_length, const uint8_t *log, size_t log_length, uint8_t *checkpoint,
+                                size_t checkpoint_length, uint8_t *tail, size_t tail_length);
+/* the state of a stored checkpoint and of what was kept of its tail; the tail slice is exactly that */
+uint64_t mantelorris_recover_checkpoint(uint8_t *state, size_t state_length, const uint8_t *checkpoint, size_t checkpoint_length,
+                                        const uint8_t *tail, size_t tail_length);
+
 /* number is MANTELORRIS_OK or MANTELORRIS_BAD_LOG; end is 8 or more, 0 where refused */
 struct mantelorris_log_end_reply {
     uint32_t number;
@@ -198,6 +227,27 @@ MANTELORRIS_HAS_SIZE(struct mantelorris_log_end_reply, 16);
 
 /* the end of a log's last whole record; the log slice is exactly what was kept */
 struct mantelorris_log_end_reply mantelorris_log_end(const uint8_t *log, size_t log_length);
+
+/* what holds a completion record's bytes: a log record (28 bytes, kind 1), an entry of an image in a log record (20), an entry of the checkpoint (20) */
+enum mantelorris_source { MANTELORRIS_IN_RECORD = 1, MANTELORRIS_IN_IMAGE = 2, MANTELORRIS_IN_CHECKPOINT = 3 };
+
+/* number is MANTELORRIS_OK or the refusal's number; source and the bytes from start to end of the tail (1, 2) or of the checkpoint (3) are 0 where refused */
+struct mantelorris_place {
+    uint32_t number;
+    uint32_t source;
+    size_t start;
+    size_t end;
+};
+
+/* where the completion record of client and call lies; tail is the log that the state records */
+struct mantelorris_place mantelorris_inspect(const uint8_t *state, size_t state_length, const uint8_t *checkpoint, size_t checkpoint_length,
+                                             const uint8_t *tail, size_t tail_length, uint32_t client, uint32_t call);
+
+/* its first byte; a null pointer where refused. It has place.end - place.start bytes */
+static inline const uint8_t *mantelorris_shown(struct mantelorris_place place, const uint8_t *checkpoint, const uint8_t *tail) {
+    if (place.number) return 0;
+    return (place.source == MANTELORRIS_IN_CHECKPOINT ? checkpoint : tail) + place.start;
+}
 
 /* ---- what an answer says */
 

@@ -9,7 +9,7 @@ enum { LOG = 4096, GATE = 5 };
 static struct server {
     uint8_t state[MANTELORRIS_STATE_SIZE], log[LOG];
 } servers[2];
-static uint8_t plan[MANTELORRIS_PLAN_SIZE], out[MANTELORRIS_IMAGE_SIZE];
+static uint8_t plan[MANTELORRIS_PLAN_SIZE], out[MANTELORRIS_IMAGE_SIZE], checkpoint[MANTELORRIS_CHECKPOINT_SIZE], tail[MANTELORRIS_LOG_HEAD];
 
 static void show(const char *what, const uint8_t *bytes, size_t length) {
     printf("%s:", what);
@@ -29,6 +29,15 @@ static size_t due(uint64_t answer, uint32_t number) {
 
 static void sync_log(struct server *s) {
     due(mantelorris_sync(OF(s), mantelorris_length(s->state)), 0);
+}
+
+static void show_checkpoint(struct server *s) {
+    size_t n = due(mantelorris_checkpoint(OF(s), checkpoint, sizeof checkpoint, tail, sizeof tail), 0);
+    show("checkpoint of server 1, head and pairs", checkpoint, 44);
+    show("its row of point 5", checkpoint + 1068 + 16 * GATE, 16);
+    show("its client", checkpoint + 2092, 8);
+    show("its completion record, the last of its bytes", checkpoint + n - 20, 20);
+    show("head of its tail", tail, sizeof tail);
 }
 
 int main(void) {
@@ -71,5 +80,6 @@ int main(void) {
     show("release", a->log + 44, 8);
     show("gone", a->log + 52, 12);
     show("take at server 1, before its image", b->log + 8, 8);
+    show_checkpoint(b);
     return 0;
 }

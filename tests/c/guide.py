@@ -75,7 +75,8 @@ def sizes():
 
 def memory():
     names = {'state, for each server': 'MANTELORRIS_STATE_SIZE', 'plan': 'MANTELORRIS_PLAN_SIZE', 'output of request and fetch': 'MANTELORRIS_REPLY_SIZE',
-             'output of receipt': 'MANTELORRIS_RECEIPT_SIZE', 'output of image': 'MANTELORRIS_IMAGE_SIZE', 'client struct': 'sizeof(struct mantelorris_client)',
+             'output of receipt': 'MANTELORRIS_RECEIPT_SIZE', 'output of image': 'MANTELORRIS_IMAGE_SIZE', 'checkpoint': 'MANTELORRIS_CHECKPOINT_SIZE',
+             "tail's head": 'MANTELORRIS_LOG_HEAD', 'client struct': 'sizeof(struct mantelorris_client)',
              'lease manager struct': 'sizeof(struct mantelorris_lease_manager)', 'lock chamber controller struct': 'sizeof(struct mantelorris_chamber)'}
     rows = table('what | bytes')
     lines = ['_Static_assert(%s == %s, "%s");' % (names[what], n, what) for what, n in rows]

@@ -1,12 +1,13 @@
 /* A host program to copy from: two servers with a memory card each, two clients, the lease manager, and a line that loses, repeats and
- * delays packets. Power fails, a point moves from one server to the other, a lease ends, and each command is carried out once.
- * Every answer is checked; the last line is 'N passed, M failed'.
+ * delays packets. Power fails, checkpoints replace logs, a point moves from one server to the other, a lease ends, and each command is carried out
+ * once. Every answer is checked; the last line is 'N passed, M failed'.
  *
- * What is yours to write: the line (`post`, `deliver`), the card (`card_write`), the clock (`now`) and where servers and clients run.
+ * What is yours to write: the line (`post`, `deliver`), the card (`card_write`, `card_store`), the clock (`now`) and where servers and clients run.
  * Here they share one process. */
 #include "mantelorris.h"
 #include "mantelorris_client.h"
 #include <stdio.h>
+#include <stdlib.h>
 #include <string.h>
 
 enum {
@@ -27,6 +28,14 @@ static void expect(const char *what, uint64_t have, uint64_t want) {
         failed++;
         printf("FAILED %s: %llu, not %llu\n", what, (unsigned long long)have, (unsigned long long)want);
     }
+}
+
+/* without this there is no state to go on with */
+static void need(const char *what, uint64_t have, uint64_t want) {
+    expect(what, have, want);
+    if (have == want) return;
+    printf("%d passed, %d failed, and the rest was not run\n", passed, failed);
+    exit(1);
 }
 
 /* one of several numbers, each a bit of a mask */
@@ -66,16 +75,42 @@ static void make_plan(void) {
 
 /* ---- the card */
 
-struct card {
+/* a checkpoint and the log since then; before the first checkpoint, of length 0, the whole log */
+struct slot {
+    uint8_t checkpoint[MANTELORRIS_CHECKPOINT_LONGEST];
+    size_t replaced; /* the checkpoint's length */
     uint8_t bytes[LOG_SPACE];
     size_t length;
 };
 
+/* two slots, and the word that names the one in force */
+struct card {
+    struct slot slots[2];
+    int word;
+};
+
+static struct slot *in_force(struct card *card) {
+    return &card->slots[card->word];
+}
+
 /* Returns when the card has the bytes for certain; on a file this is a write and fsync. Bytes go to the card in order, so that a power cut
  * leaves a prefix of the log. */
 static void card_write(struct card *card, size_t at, const uint8_t *bytes, size_t count) {
-    memcpy(card->bytes + at, bytes, count);
-    card->length = at + count;
+    memcpy(in_force(card)->bytes + at, bytes, count);
+    in_force(card)->length = at + count;
+}
+
+/* A checkpoint and its tail's head, both or neither: they go to the other slot, and then the word changes. Power fails after `survive` bytes of them, if
+ * there are so many; 0 then. */
+static int card_store(struct card *card, const uint8_t *checkpoint, size_t count, const uint8_t tail[MANTELORRIS_LOG_HEAD], size_t survive) {
+    struct slot *other = &card->slots[!card->word];
+    memcpy(other->checkpoint, checkpoint, count < survive ? count : survive);
+    if (survive < count + MANTELORRIS_LOG_HEAD) return 0;
+    memcpy(other->bytes, tail, MANTELORRIS_LOG_HEAD);
+    other->replaced = count;
+    other->length = MANTELORRIS_LOG_HEAD;
+    card->word = !card->word;
+    return 1;
 }
 
 /* ---- servers */
@@ -135,15 +170,25 @@ static void save(struct server *s) {
 }
 
 /* A server starts again from its card. The log's space begins with the kept bytes; recover is lent exactly these. An incomplete last record
- * is dropped, and the card's next write begins at the recorded length. */
+ * is dropped, and the card's next write begins at the recorded length. Once a checkpoint is stored, it is the start, and never the plan. */
 static void restart(struct server *s) {
-    memcpy(s->log, s->card.bytes, s->card.length);
-    struct mantelorris_log_end_reply whole = mantelorris_log_end(s->log, s->card.length);
+    struct slot *slot = in_force(&s->card);
+    memcpy(s->log, slot->bytes, slot->length);
+    struct mantelorris_log_end_reply whole = mantelorris_log_end(s->log, slot->length);
     expect("log end", whole.number, 0);
-    expect("recover", mantelorris_recover(s->state, sizeof s->state, s->log, s->card.length, plan, sizeof plan), 0);
+    if (slot->replaced)
+        need("recover", mantelorris_recover_checkpoint(s->state, sizeof s->state, slot->checkpoint, slot->replaced, s->log, slot->length), 0);
+    else
+        need("recover", mantelorris_recover(s->state, sizeof s->state, s->log, slot->length, plan, sizeof plan), 0);
     expect("log end: recover's length", whole.end, mantelorris_length(s->state));
-    s->card.length = log_length(s);
+    slot->length = log_length(s);
     expect("recover: mark", mantelorris_mark(s->state), log_length(s));
+}
+
+static void lose_memory(struct server *s) {
+    memset(s->state, 0xEE, sizeof s->state);
+    memset(s->log, 0xEE, sizeof s->log);
+    s->waits = 0;
 }
 
 /* Memory is gone. Of the bytes written since the last sync some had reached the card. */
@@ -151,11 +196,28 @@ static void power_cut(struct server *s) {
     size_t mark = (size_t)mantelorris_mark(s->state), length = log_length(s);
     size_t kept = mark + below((uint32_t)(length - mark) + 1);
     card_write(&s->card, mark, s->log + mark, kept - mark);
-    memset(s->state, 0xEE, sizeof s->state);
-    memset(s->log, 0xEE, sizeof s->log);
-    s->waits = 0;
+    lose_memory(s);
     restart(s);
     expect("recover: no synced byte is lost", log_length(s) >= mark && log_length(s) <= kept, 1);
+}
+
+/* All of the log is synced, then replaced by a checkpoint. Until that is stored nothing else is called; if power fails before, the old log is in force.
+ * 1 if it was stored. */
+static int renew(struct server *s, size_t survive) {
+    static uint8_t checkpoint[MANTELORRIS_CHECKPOINT_SIZE];
+    uint8_t tail[MANTELORRIS_LOG_HEAD];
+    save(s);
+    uint64_t a = mantelorris_checkpoint(s->state, sizeof s->state, s->log, sizeof s->log, checkpoint, sizeof checkpoint, tail, sizeof tail);
+    need("checkpoint", mantelorris_number(a), 0);
+    expect("checkpoint: its length", mantelorris_written(a) >= 2092 && mantelorris_written(a) <= MANTELORRIS_CHECKPOINT_LONGEST, 1);
+    expect("checkpoint: length and mark", log_length(s) << 8 | mantelorris_mark(s->state), 8 << 8 | 8);
+    if (!card_store(&s->card, checkpoint, mantelorris_written(a), tail, survive)) {
+        lose_memory(s);
+        restart(s);
+        return 0;
+    }
+    memcpy(s->log, tail, sizeof tail);
+    return 1;
 }
 
 /* Number 0 and no packet: executed, and its result waits for the sync. Else the packet is the answer: a result, or a refusal. */
@@ -334,7 +396,9 @@ static uint32_t results(void) {
     return desks[0].results + desks[1].results;
 }
 
-/* A second: clients send, the line delivers, servers sync now and then, and power fails. */
+static int stored, not_stored; /* checkpoints */
+
+/* A second: clients send, the line delivers, servers sync now and then and store a checkpoint, and power fails. */
 static void second(void) {
     now++;
     send_again(&desks[0]);
@@ -343,6 +407,11 @@ static void second(void) {
     if (below(3) == 0) save(&servers[0]);
     if (below(3) == 0) save(&servers[1]);
     if (below(6) == 0) power_cut(&servers[below(2)]);
+    if (below(8) == 0) {
+        int done = renew(&servers[below(2)], below(2 * 2100));
+        stored += done;
+        not_stored += !done;
+    }
 }
 
 /* The first command makes the point's value valid: a step on an invalid one would change nothing. */
@@ -423,6 +492,144 @@ static void take_over(void) {
     expect("taken over: its value", get32(out + 12), 2 * STEPS);
 }
 
+/* ---- twins: one keeps its whole log, the other makes checkpoints; nobody can tell them apart */
+
+static struct server twins[2], taker;
+
+static void twins_request(uint32_t client, uint32_t call, uint8_t op, uint8_t point, int32_t argument) {
+    uint8_t packet[24] = {1, op, point}, out[2][MANTELORRIS_REPLY_SIZE] = {{0}};
+    uint64_t a[2];
+    put32(packet + 4, client);
+    put32(packet + 8, call);
+    put32(packet + 12, 1);
+    put32(packet + 16, client == 3 ? 40 : 100); /* its lease end */
+    put32(packet + 20, (uint32_t)argument);
+    for (int i = 0; i < 2; i++)
+        a[i] = mantelorris_request(twins[i].state, sizeof twins[i].state, twins[i].log, LOG_SPACE, packet, sizeof packet, out[i], sizeof out[i]);
+    expect("twins: the answer", a[1], a[0]);
+    expect("twins: the packet", (uint64_t)memcmp(out[0], out[1], sizeof out[0]), 0);
+}
+
+/* points, results, images and receipts of both */
+static void alike(const char *what) {
+    static uint8_t out[2][MANTELORRIS_IMAGE_SIZE];
+    uint64_t a[2], differ = 0;
+    size_t n = MANTELORRIS_STATE_SIZE, m = LOG_SPACE;
+    for (uint32_t id = 0; id < 4 * 20; id++) {
+        for (int i = 0; i < 2; i++) a[i] = mantelorris_fetch(twins[i].state, n, twins[i].log, m, id / 20, id % 20, out[i], sizeof out[i]);
+        differ += a[0] != a[1] || memcmp(out[0], out[1], MANTELORRIS_REPLY_SIZE);
+    }
+    for (uint32_t p = 0; p < MANTELORRIS_POINTS; p++) {
+        const uint8_t *x = twins[0].state, *y = twins[1].state;
+        differ += mantelorris_status(x, p) != mantelorris_status(y, p) || mantelorris_quality(x, p) != mantelorris_quality(y, p) ||
+                  mantelorris_value(x, p) != mantelorris_value(y, p) || mantelorris_move(x, p) != mantelorris_move(y, p);
+        for (int i = 0; i < 2; i++) a[i] = mantelorris_image(twins[i].state, n, twins[i].log, m, p, out[i], sizeof out[i]);
+        differ += a[0] != a[1] || memcmp(out[0], out[1], mantelorris_written(a[0]));
+        for (int i = 0; i < 2; i++) a[i] = mantelorris_receipt(twins[i].state, n, twins[i].log, m, p, out[i], sizeof out[i]);
+        differ += a[0] != a[1] || memcmp(out[0], out[1], MANTELORRIS_RECEIPT_SIZE);
+    }
+    expect(what, differ, 0);
+}
+
+static void twins_restart(const char *what) {
+    for (int i = 0; i < 2; i++) {
+        save(&twins[i]);
+        lose_memory(&twins[i]);
+        restart(&twins[i]);
+    }
+    alike(what);
+}
+
+/* the image of a point that one server has given goes to another */
+static void taken(struct server *from, struct server *to, uint32_t point) {
+    static uint8_t image[MANTELORRIS_IMAGE_SIZE];
+    uint64_t a = mantelorris_image(from->state, sizeof from->state, from->log, LOG_SPACE, point, image, sizeof image);
+    expect("twins: image", mantelorris_number(a), 0);
+    expect("twins: take", mantelorris_take(to->state, sizeof to->state, to->log, LOG_SPACE, image, mantelorris_written(a)), 0);
+    save(to);
+}
+
+/* point 7 goes to the taker, whose receipt comes back */
+static void twins_give(void) {
+    uint8_t receipt[MANTELORRIS_RECEIPT_SIZE];
+    for (int i = 0; i < 2; i++) expect("twins: give", mantelorris_give(twins[i].state, MANTELORRIS_STATE_SIZE, twins[i].log, LOG_SPACE, 7, 1), 0);
+    twins_restart("twins: recovered, a point given in the tail");
+    expect("twins: a checkpoint of a point given", (uint64_t)renew(&twins[1], LOG_SPACE), 1);
+    twins_restart("twins: recovered, a point given in the checkpoint");
+    found(&taker, 1);
+    taken(&twins[1], &taker, 7);
+    uint64_t a = mantelorris_receipt(taker.state, sizeof taker.state, taker.log, LOG_SPACE, 7, receipt, sizeof receipt);
+    for (int i = 0; i < 2; i++)
+        expect("twins: release", mantelorris_release(twins[i].state, MANTELORRIS_STATE_SIZE, twins[i].log, LOG_SPACE, receipt, mantelorris_written(a)), 0);
+    twins_restart("twins: recovered, a point released");
+}
+
+/* and comes back itself */
+static void twins_take(void) {
+    expect("twins: give back", mantelorris_give(taker.state, sizeof taker.state, taker.log, LOG_SPACE, 7, 0), 0);
+    save(&taker);
+    for (int i = 0; i < 2; i++) taken(&taker, &twins[i], 7);
+    twins_restart("twins: recovered, a point taken in the tail");
+}
+
+static void twin_servers(void) {
+    const uint8_t notice[12] = {5, 0, 0, 0, 3, 0, 0, 0, 50, 0, 0, 0};
+    for (int i = 0; i < 2; i++) found(&twins[i], 0);
+    twins_request(1, 1, MANTELORRIS_SET, POINT, 40);
+    twins_request(2, 1, MANTELORRIS_SET, 7, -3);
+    twins_request(3, 2, MANTELORRIS_FAULT, 9, 0);
+    for (int i = 0; i < 2; i++) save(&twins[i]);
+    expect("twins: a checkpoint", (uint64_t)renew(&twins[1], LOG_SPACE), 1);
+    alike("twins: a checkpoint was stored");
+    twins_request(1, 1, MANTELORRIS_SET, POINT, 40); /* told from the checkpoint */
+    twins_request(1, 1, MANTELORRIS_SET, POINT, 41); /* 6 */
+    twins_request(1, 2, MANTELORRIS_STEP, POINT, 2);
+    twins_request(1, 2, MANTELORRIS_STEP, POINT, 2); /* 7 */
+    alike("twins: a record not synced");
+    for (int i = 0; i < 2; i++) expect("twins: notice", mantelorris_notice(twins[i].state, MANTELORRIS_STATE_SIZE, twins[i].log, LOG_SPACE, notice, sizeof notice), 0);
+    twins_restart("twins: recovered, a tail of two records");
+    expect("twins: a checkpoint on a checkpoint", (uint64_t)renew(&twins[1], LOG_SPACE), 1);
+    twins_restart("twins: recovered, a tail without records");
+    twins_request(3, 3, MANTELORRIS_READ, POINT, 0); /* 4: the heard time is in the checkpoint */
+    twins_request(1, 2, MANTELORRIS_STEP, POINT, 2);
+}
+
+/* ---- inspect: which bytes hold a completion record */
+
+static void inspected(const char *what, struct server *s, uint32_t client, uint32_t call, uint32_t source, size_t length) {
+    struct slot *slot = in_force(&s->card);
+    const uint8_t *checkpoint = slot->replaced ? slot->checkpoint : NULL;
+    struct mantelorris_place at = mantelorris_inspect(s->state, sizeof s->state, checkpoint, slot->replaced, s->log, sizeof s->log, client, call);
+    const uint8_t *shown = mantelorris_shown(at, checkpoint, s->log);
+    expect(what, at.number, 0);
+    expect(what, at.source, source);
+    expect(what, at.end - at.start, length);
+    expect(what, shown == (source == MANTELORRIS_IN_CHECKPOINT ? slot->checkpoint : s->log) + at.start, 1);
+    if (!shown) return;
+    /* in a log record client and call come after kind, op, point and outcome */
+    size_t id = source == MANTELORRIS_IN_RECORD ? 4 : 0;
+    expect(what, get32(shown + id), client);
+    expect(what, get32(shown + id + 4), call);
+}
+
+/* while point 7 goes to the taker and back */
+static void inspections(void) {
+    inspected("inspect: the whole log", &twins[0], 2, 1, MANTELORRIS_IN_RECORD, MANTELORRIS_LOG_EXECUTED);
+    inspected("inspect: a checkpoint", &twins[1], 2, 1, MANTELORRIS_IN_CHECKPOINT, 20);
+    twins_give();
+    inspected("inspect: an image in the log", &taker, 2, 1, MANTELORRIS_IN_IMAGE, 20);
+    expect("inspect: a checkpoint of the taker", (uint64_t)renew(&taker, LOG_SPACE), 1);
+    inspected("inspect: an image's entry in a checkpoint", &taker, 2, 1, MANTELORRIS_IN_CHECKPOINT, 20);
+    twins_take();
+    inspected("inspect: an image behind a record", &twins[0], 2, 1, MANTELORRIS_IN_IMAGE, 20);
+    inspected("inspect: an image behind a checkpoint", &twins[1], 2, 1, MANTELORRIS_IN_IMAGE, 20);
+    expect("twins: a checkpoint of a point taken", (uint64_t)renew(&twins[1], LOG_SPACE), 1);
+    twins_restart("twins: recovered, a point taken in the checkpoint");
+    twins_request(1, 3, MANTELORRIS_STEP, POINT, 2);
+    inspected("inspect: a record behind a checkpoint, not synced", &twins[1], 1, 3, MANTELORRIS_IN_RECORD, MANTELORRIS_LOG_EXECUTED);
+    twins_restart("twins: recovered at last");
+}
+
 /* ---- refusals: each leaves all lent memory as it was */
 
 static struct server spare, kept;
@@ -447,12 +654,103 @@ static void not_founded(void) {
     refused("recover: plan", mantelorris_recover(s->state, sizeof s->state, s->log, 8, plan, 0), MANTELORRIS_MALFORMED);
 }
 
+static uint8_t spare_checkpoint[MANTELORRIS_CHECKPOINT_SIZE], spare_tail[MANTELORRIS_LOG_HEAD];
+
+static uint64_t checkpoint_of(struct server *s, size_t state, size_t log, size_t checkpoint, size_t tail) {
+    return mantelorris_checkpoint(s->state, state, s->log, log, spare_checkpoint, checkpoint, spare_tail, tail);
+}
+
+/* of a server with a record that is not synced; each leaves checkpoint and tail as they were */
+static void no_checkpoint(void) {
+    static uint8_t before[MANTELORRIS_CHECKPOINT_SIZE];
+    struct server *s = &spare;
+    size_t n = sizeof s->state, m = LOG_SPACE, c = sizeof spare_checkpoint, t = sizeof spare_tail;
+    memset(spare_checkpoint, 0xA5, c);
+    memset(before, 0xA5, c);
+    memset(spare_tail, 0xA5, t);
+    refused("checkpoint: state", checkpoint_of(s, n - 1, m, c, t), MANTELORRIS_TOO_SHORT);
+    refused("checkpoint: checkpoint", checkpoint_of(s, n, m, c - 1, t), MANTELORRIS_TOO_SHORT);
+    refused("checkpoint: tail", checkpoint_of(s, n, m, c, t - 1), MANTELORRIS_TOO_SHORT);
+    refused("checkpoint: no slices", mantelorris_checkpoint(s->state, n, s->log, m, NULL, 0, NULL, 0), MANTELORRIS_TOO_SHORT);
+    refused("checkpoint: log", checkpoint_of(s, n, log_length(s) - 1, c, t), MANTELORRIS_NOT_SOUND);
+    refused("checkpoint: not synced", checkpoint_of(s, n, m, c, t), MANTELORRIS_NOT_SYNCED);
+    s->state[0] ^= 1;
+    kept = *s;
+    refused("checkpoint: state not sound", checkpoint_of(s, n, m, c, t), MANTELORRIS_NOT_SOUND);
+    s->state[0] ^= 1;
+    kept = *s;
+    expect("checkpoint refused: its slice", (uint64_t)memcmp(spare_checkpoint, before, c), 0);
+    expect("checkpoint refused: the tail", (uint64_t)memcmp(spare_tail, before, t), 0);
+}
+
+/* checkpoint and tail of server 0, and a tail of server 1 */
+static void not_recovered(size_t length) {
+    static uint8_t bad[MANTELORRIS_CHECKPOINT_LONGEST];
+    struct server *s = &spare;
+    uint8_t other[MANTELORRIS_LOG_HEAD];
+    size_t n = sizeof s->state;
+    memcpy(other, spare_tail, sizeof other);
+    other[4] = 1;
+    memcpy(bad, spare_checkpoint, length);
+    bad[0] ^= 1;
+    refused("recover_checkpoint: state", mantelorris_recover_checkpoint(s->state, n - 1, spare_checkpoint, length, spare_tail, 8), MANTELORRIS_TOO_SHORT);
+    refused("recover_checkpoint: no checkpoint", mantelorris_recover_checkpoint(s->state, n, NULL, 0, spare_tail, 8), MANTELORRIS_BAD_LOG);
+    refused("recover_checkpoint: cut", mantelorris_recover_checkpoint(s->state, n, spare_checkpoint, length - 1, spare_tail, 8), MANTELORRIS_BAD_LOG);
+    refused("recover_checkpoint: head", mantelorris_recover_checkpoint(s->state, n, bad, length, spare_tail, 8), MANTELORRIS_BAD_LOG);
+    refused("recover_checkpoint: no tail", mantelorris_recover_checkpoint(s->state, n, spare_checkpoint, length, NULL, 0), MANTELORRIS_BAD_LOG);
+    refused("recover_checkpoint: tail's head cut", mantelorris_recover_checkpoint(s->state, n, spare_checkpoint, length, spare_tail, 7), MANTELORRIS_BAD_LOG);
+    refused("recover_checkpoint: another server", mantelorris_recover_checkpoint(s->state, n, spare_checkpoint, length, other, 8), MANTELORRIS_BAD_LOG);
+}
+
+static void no_place(const char *what, struct mantelorris_place at, uint32_t want) {
+    refused(what, at.number, want);
+    expect(what, at.source | at.start | at.end, 0);
+    expect(what, mantelorris_shown(at, spare_checkpoint, spare.log) == NULL, 1);
+}
+
+static void not_inspected(size_t length) {
+    struct server *s = &spare;
+    size_t n = sizeof s->state, m = LOG_SPACE, l = log_length(s);
+    no_place("inspect: state", mantelorris_inspect(s->state, n - 1, spare_checkpoint, length, s->log, m, 1, 1), MANTELORRIS_TOO_SHORT);
+    no_place("inspect: tail", mantelorris_inspect(s->state, n, spare_checkpoint, length, s->log, l - 1, 1, 1), MANTELORRIS_NOT_SOUND);
+    no_place("inspect: no tail", mantelorris_inspect(s->state, n, spare_checkpoint, length, NULL, 0, 1, 1), MANTELORRIS_NOT_SOUND);
+    no_place("inspect: checkpoint", mantelorris_inspect(s->state, n, spare_checkpoint, length - 1, s->log, m, 1, 1), MANTELORRIS_BAD_LOG);
+    no_place("inspect: unknown", mantelorris_inspect(s->state, n, spare_checkpoint, length, s->log, m, 1, 1), MANTELORRIS_UNKNOWN);
+    no_place("inspect: unknown, before the first checkpoint", mantelorris_inspect(s->state, n, NULL, 0, s->log, m, 1, 1), MANTELORRIS_UNKNOWN);
+    s->log[4] = 1;
+    kept = *s;
+    no_place("inspect: another server", mantelorris_inspect(s->state, n, spare_checkpoint, length, s->log, m, 1, 1), MANTELORRIS_BAD_LOG);
+    s->log[0] ^= 1;
+    kept = *s;
+    no_place("inspect: a tail that is none", mantelorris_inspect(s->state, n, NULL, 0, s->log, m, 1, 1), MANTELORRIS_BAD_LOG);
+}
+
+/* of the spare server, whose give is not synced */
+static void checkpoint_refusals(void) {
+    struct server *s = &spare;
+    size_t n = sizeof s->state, m = LOG_SPACE;
+    no_checkpoint();
+    save(s);
+    uint64_t a = checkpoint_of(s, n, m, sizeof spare_checkpoint, sizeof spare_tail);
+    expect("checkpoint: no clients, no records", a, (uint64_t)2092 << 32);
+    expect("checkpoint: bytes behind it are kept", spare_checkpoint[2092] == 0xA5 && spare_checkpoint[sizeof spare_checkpoint - 1] == 0xA5, 1);
+    expect("checkpoint: the tail begins like the log", (uint64_t)memcmp(s->log, spare_tail, sizeof spare_tail), 0);
+    kept = *s;
+    not_recovered(mantelorris_written(a));
+    expect("recover_checkpoint", mantelorris_recover_checkpoint(s->state, n, spare_checkpoint, sizeof spare_checkpoint, spare_tail, 8), 0);
+    expect("recover_checkpoint: the point is given", mantelorris_status(s->state, POINT), MANTELORRIS_GIVEN);
+    expect("give", mantelorris_give(s->state, n, s->log, m, 7, 1), 0);
+    kept = *s;
+    not_inspected(mantelorris_written(a));
+}
+
 static void refusals(void) {
     struct server *s = &spare;
     size_t n = sizeof s->state, m = LOG_SPACE;
     static uint8_t out[MANTELORRIS_IMAGE_SIZE];
     const uint8_t receipt[8] = {4, POINT, 1, 0, 1, 0, 0, 0};
-    memset(s, 0xC3, sizeof *s);
+    memset(s->state, 0xC3, n);
+    memset(s->log, 0xC3, m);
     kept = *s;
     not_founded();
     found(s, 0); /* in a world of its own, where no other server has number 0 */
@@ -481,6 +779,10 @@ static void refusals(void) {
     s->state[0] ^= 1; /* no call leaves such a state */
     kept = *s;
     refused("state not sound", mantelorris_sync(s->state, n, s->log, m, 8), MANTELORRIS_NOT_SOUND);
+    refused("inspect: state not sound", mantelorris_inspect(s->state, n, NULL, 0, s->log, m, 1, 1).number, MANTELORRIS_NOT_SOUND);
+    s->state[0] ^= 1;
+    kept = *s;
+    checkpoint_refusals();
 }
 
 int main(void) {
@@ -496,6 +798,9 @@ int main(void) {
     lease_end();
     last_read();
     take_over();
+    expect("checkpoints stored, and others lost with the power", stored > 10 && not_stored > 10, 1);
+    twin_servers();
+    inspections();
     refusals();
     printf("%d passed, %d failed\n", passed, failed);
     return failed != 0;

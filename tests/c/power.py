@@ -2,18 +2,28 @@
 """power.py: the example host (examples/host.c) under power cuts. Prints what it did; the last line is 'N passed, M failed'.
   - killed with SIGKILL at random moments and inside its writes, syncs and cuts, at least KILLS times; after each kill the card is cut to any
     length from what it had for certain to what it has; the desk's commands complete all the same, each once, and the gate's value is their sum
-  - a card cut at every byte of its last records starts with just the whole records
-  - hosts with a planted fault fail the first test: the mark set before the write; the card not cut after recover
-POWER_SEED sets the seed, POWER_KILLS the number of kills."""
+  - the same with a small limit, so that it makes and stores checkpoints all the time, killed at each step of that, or the step fails and the host has to end
+    by itself; where the name of the new file is not certain, the old one may come back; the card stays small
+  - a card cut at every byte of its last records starts with just the whole records; so does one with a checkpoint, cut in its tail
+  - damaged cards are refused with a message that says where, and stay as they were
+  - hosts with a planted fault fail the first tests: the mark set before the write; the card not cut after recover; eight ways to store a checkpoint wrongly or to start from it
+POWER_SEED sets the seed, POWER_KILLS the number of kills. MANTELORRIS_DIST names a folder with archive and headers; without it `make lib` makes dist/."""
 import os, random, re, shutil, signal, struct, subprocess, sys, tempfile, time
 
 ROOT = os.path.join(os.path.dirname(os.path.abspath(__file__)), '..', '..')
 os.chdir(ROOT)
 SEED = int(os.environ.get('POWER_SEED', '0')) or random.SystemRandom().randrange(1, 1 << 30)
 KILLS = int(os.environ.get('POWER_KILLS', '220'))
-LIBRARY = ['dist/libmantelorris.a']
-FLAGS = ['-std=gnu11', '-O1', '-Wall', '-Wextra', '-Werror', '-Idist', '-Iexamples']
+DIST = os.environ.get('MANTELORRIS_DIST') or 'dist'
+FLAGS = ['-std=gnu11', '-O1', '-Wall', '-Wextra', '-Werror', '-I' + DIST, '-Iexamples']
 WORK = tempfile.mkdtemp(prefix='mantelorris-power-')
+LIMIT = 400  # bytes of log, for hosts that make checkpoints
+LARGEST = 12588 + LIMIT + 256 * 28  # a checkpoint, and a log that was just under the limit before a turn of 256 commands
+GATE = 5
+PLACES = {'w': 'in a write', 's': 'between write and sync', 'a': 'after a sync', 'c': 'before a cut'}
+STORING = {'b': "before the checkpoint's write", 't': 'in a write of it', 'h': "before its tail's head", 'y': 'before its sync', 'z': 'after its sync',
+           'n': 'before the rename', 'r': 'after it', 'd': "before the folder's sync", 'e': 'after that'}
+FAILING = 'BHYND'  # steps of storing that fail, by their letters above
 passed, failed = 0, 0
 
 
@@ -23,9 +33,13 @@ def count(what, good):
     print('%s: %s' % ('ok' if good else 'FAILED', what))
 
 
+def told(what, wrong):
+    count(what + (': ' + wrong if wrong else ''), not wrong)
+
+
 def build(source, name, more=()):
     out = os.path.join(WORK, name)
-    subprocess.run(['cc', *FLAGS, *more, source, *LIBRARY, '-o', out], check=True)
+    subprocess.run(['cc', *FLAGS, *more, source, DIST + '/libmantelorris.a', '-o', out], check=True)
     return out
 
 
@@ -38,50 +52,100 @@ def faulty(name, old, new):
         text = text.replace(a, b)
     path = os.path.join(WORK, name + '.c')
     open(path, 'w', encoding='utf-8').write(text)
-    return build(path, name, ['-Wno-unused-function'])
+    return build(path, name, ['-Wno-unused-function', '-Wno-unused-parameter'])
 
 
 class Card:
-    """the card's file, and what it has for certain"""
+    """the card's file, the one that may come back in its place (.old), the one that was to be the next (.new), and what each has for certain, by inode"""
 
     def __init__(self, name):
-        self.path, self.known = os.path.join(WORK, name), os.path.join(WORK, name + '.known')
-        open(self.known, 'wb').write(bytes(8))
+        self.path, self.notes = os.path.join(WORK, name), os.path.join(WORK, name + '.notes')
+        self.old, self.new = self.path + '.old', self.path + '.new'
+        open(self.notes, 'wb').close()
 
-    def cut(self, rng):
-        sure = struct.unpack('<Q', open(self.known, 'rb').read(8))[0]
-        size = os.path.getsize(self.path)
-        with open(self.path, 'r+b') as f:
-            f.truncate(rng.randint(min(sure, size), size))
+    def lines(self):
+        return [line.split() for line in open(self.notes).read().split('\n') if line]
 
     def places(self):
-        return open(self.known, 'rb').read()[8:].decode()
+        return ''.join(line[0] for line in self.lines() if len(line) == 1)
+
+    def aim(self, rng, places):
+        """every other time the place that was struck least"""
+        return min(places, key=self.places().count) if rng.randrange(2) else '-'
+
+    def shorten(self, rng, path):
+        sure = {int(line[0]): int(line[1]) for line in self.lines() if len(line) == 2}
+        about = os.stat(path)
+        os.truncate(path, rng.randint(min(sure.get(about.st_ino, 0), about.st_size), about.st_size))
+
+    def cut(self, rng):
+        """a power cut; of three between a rename and its folder's sync, one is the end of the process alone and leaves the question open"""
+        if os.path.exists(self.old):
+            luck = rng.randrange(3)
+            if luck == 0 and not os.path.samefile(self.old, self.path):
+                os.replace(self.old, self.path)
+            elif luck < 2:
+                os.unlink(self.old)
+            else:
+                return
+        for path in (self.path, self.new):
+            if os.path.exists(path):
+                self.shorten(rng, path)
 
 
-def started(host, card, port, hook, seed, chance):
-    env = dict(os.environ, LD_PRELOAD=hook, POWER_FILE=card.known, POWER_SEED=str(seed), POWER_CHANCE=str(chance))
-    return subprocess.Popen([host, card.path, str(port)], env=env, stderr=subprocess.PIPE)
+def started(host, card, port, hook, seed, chance, aim, size):
+    env = dict(os.environ, LD_PRELOAD=hook, POWER_CARD=card.path, POWER_FILE=card.notes, POWER_SEED=str(seed), POWER_CHANCE=str(chance), POWER_AIM=aim)
+    return subprocess.Popen([host, card.path, str(port), *([str(size)] if size else [])], env=env, stderr=subprocess.PIPE)
 
 
-def session(host, tools, name, port, seed, kills, commands, limit, chance=60):
-    """desk, relay and a host that is killed again and again; returns what went wrong or '', and what was seen"""
-    rng, card = random.Random(seed), Card(name)
+def parties(tools, port, seed, commands):
     relay = subprocess.Popen([tools['relay'], str(port), str(port + 1), '15', '15', '15', str(seed)], stdout=subprocess.PIPE, text=True)
     desk = subprocess.Popen([tools['desk'], str(port), str(commands)], stdout=subprocess.PIPE, stderr=subprocess.PIPE, text=True)
-    began, starts, outside, wrong = time.time(), 0, 0, ''
+    return relay, desk
+
+
+def left_alone(server, desk, until):
+    """whether it ran to the end of its time or to the desk's; it is killed then"""
+    while server.poll() is None and desk.poll() is None and time.time() < until:
+        time.sleep(0.002)
+    alive = server.poll() is None
+    if alive:
+        server.kill()
+    server.wait()
+    return alive
+
+
+def gate_at(host, card, commands):
+    """the last start, beside the rest of a checkpoint that was not stored"""
+    open(card.new, 'wb').write(b'WLG2')
+    end = subprocess.run([host, card.path], capture_output=True, text=True).stdout
+    if os.path.exists(card.new):
+        return card.new + ' was left'
+    return '' if 'value %d,' % commands in end else 'the gate is not at %d: %s' % (commands, end.strip())
+
+
+def gave_up(server, card):
+    """what a host said that ended by itself, '' where a step of storing had failed: then it has to"""
+    said = server.stderr.read().decode().strip()
+    if server.returncode == 1 and card.places()[-1:].isupper() and said.startswith('card: '):
+        return ''
+    return 'the host gave up: ' + said
+
+
+def session(host, tools, name, port, seed, kills, commands, limit, chance=60, size=0):
+    """desk, relay and a host that is killed again and again, with a limit of `size` bytes for its log; returns what went wrong or '', and what was seen"""
+    rng, card, places = random.Random(seed), Card(name), [*PLACES, *([*STORING, *FAILING] if size else [])]
+    relay, desk = parties(tools, port, seed, commands)
+    began, starts, ended, outside, largest, wrong = time.time(), 0, 0, 0, 0, ''
     while desk.poll() is None and not wrong:
-        quiet = starts >= kills
-        server = started(host, card, port + 1, tools['hook'], seed + starts, 0 if quiet else chance)
+        quiet = starts - ended >= kills
+        server = started(host, card, port + 1, tools['hook'], seed + starts, 0 if quiet else chance, card.aim(rng, places), size)
         starts += 1
-        until = time.time() + (limit if quiet else rng.uniform(0.004, 0.08))
-        while server.poll() is None and desk.poll() is None and time.time() < until:
-            time.sleep(0.002)
-        if server.poll() is None:
-            outside += 1
-            server.kill()
-        server.wait()
+        outside += left_alone(server, desk, time.time() + (limit if quiet else rng.uniform(0.004, 0.08)))
+        if os.path.exists(card.path):
+            largest = max(largest, os.path.getsize(card.path))
         if server.returncode != -signal.SIGKILL:
-            wrong = 'the host gave up: ' + server.stderr.read().decode().strip()
+            wrong, ended = gave_up(server, card), ended + 1
         elif time.time() - began > limit:
             wrong = 'not done after %d s' % limit
         if desk.poll() is None:
@@ -94,18 +158,35 @@ def session(host, tools, name, port, seed, kills, commands, limit, chance=60):
     lines = relay.communicate()[0].strip()
     if not wrong and desk.returncode != 0:
         wrong = 'the desk: ' + errors.strip().split('\n')[-1]
-    if not wrong:
-        end = subprocess.run([host, card.path], capture_output=True, text=True).stdout
-        if 'value %d,' % commands not in end:
-            wrong = 'the gate is not at %d: %s' % (commands, end.strip())
-    return wrong, {'starts': starts, 'outside': outside, 'places': card.places(), 'desk': said.strip(), 'line': lines, 'card': card.path, 'seconds': time.time() - began}
+    wrong = wrong or gate_at(host, card, commands)
+    return wrong, {'starts': starts, 'ended': ended, 'outside': outside, 'places': card.places(), 'desk': said.strip(), 'line': lines, 'card': card.path,
+                   'largest': largest, 'seconds': time.time() - began}
 
 
-def whole_records(log):
+def reported(wrong, seen, places):
+    """prints what a session did; whether each of these places was struck"""
+    kinds = {text: seen['places'].count(letter) for letter, text in places.items()}
+    print('%d starts, killed: %d at any moment, %s; %.1f s'
+          % (seen['starts'], seen['outside'], ', '.join('%d %s' % (n, text) for text, n in kinds.items()), seen['seconds']))
+    print(seen['line'])
+    print(seen['desk'] or wrong)
+    return seen['starts'] - seen['ended'] > KILLS and min(kinds.values()) > 0
+
+
+def parts(card):
+    """a card's checkpoint, empty if there is none, and its log"""
+    if card[:4] != b'WLG2':
+        return b'', card
+    length = sum(struct.unpack_from('<II', card, 36))
+    return card[:length], card[length:]
+
+
+def whole_records(checkpoint, log):
     """ends of whole records and the gate's value after each, read by the layouts of docs/FORMATS.md"""
-    at, value, ends = 8, 0, [(8, 0)]
+    value = struct.unpack_from('<i', checkpoint, 1068 + 16 * GATE + 4)[0] if checkpoint else 0
+    at, ends = 8, [(8, value)]
     while at < len(log):
-        size = {1: 28, 2: 12, 3: 8, 5: 8}[log[at]]
+        size = {1: 28, 2: 12, 3: 8, 5: 8}.get(log[at], len(log))
         if at + size > len(log):
             break
         if log[at] == 1:
@@ -115,67 +196,131 @@ def whole_records(log):
     return ends
 
 
-def cuts(host, log):
-    """the card cut at every byte from the tenth last record to its end"""
-    ends = whole_records(log)
-    from_end, path, wrong, tried = ends[-10][0], os.path.join(WORK, 'cut'), '', 0
-    for k in range(from_end, len(log) + 1):
-        open(path, 'wb').write(log[:k])
+def ran(host, name, card):
+    """the host on a card of these bytes, and the card after it"""
+    path = os.path.join(WORK, name)
+    open(path, 'wb').write(card)
+    done = subprocess.run([host, path], capture_output=True, text=True)
+    return done, open(path, 'rb').read()
+
+
+def cuts(host, card, records):
+    """the card cut at every byte from so many records before its end; all of the log if that is more"""
+    checkpoint, log = parts(card)
+    ends, said = whole_records(checkpoint, log), 'checkpoint %d bytes, ' % len(checkpoint) if checkpoint else ''
+    first = ends[-min(records, len(ends))][0]
+    for k in range(first, len(log) + 1):
         length, value = [e for e in ends if e[0] <= k][-1]
-        ran = subprocess.run([host, path], capture_output=True, text=True)
-        want = 'log %d bytes, point 5: value %d,' % (length, value)
-        tried += 1
-        if ran.returncode or want not in ran.stdout or os.path.getsize(path) != length:
-            wrong = 'cut at %d: %s%s, card of %d bytes, and %s is due' % (k, ran.stdout, ran.stderr, os.path.getsize(path), want)
-            break
-    return wrong, tried
+        done, after = ran(host, 'cut', checkpoint + log[:k])
+        want = '%slog %d bytes, point %d: value %d,' % (said, length, GATE, value)
+        if done.returncode or not done.stdout.startswith(want) or after != checkpoint + log[:length]:
+            return 'cut at %d: %s%s, card of %d bytes, and %s is due' % (k, done.stdout, done.stderr, len(after), want), k - first
+    return '', len(log) + 1 - first
 
 
-def refused(host, log):
-    """a card with a bad kind, and one with an op that there is not: the host says which it is, and leaves the card as it was"""
-    path = os.path.join(WORK, 'damaged')
-    for at, byte, want in ((8, 9, 'log: bad log: the card is damaged'), (9, 9, 'recover: bad log: whole records up to byte %d,' % len(log))):
-        bad = log[:at] + bytes([byte]) + log[at + 1:]
-        open(path, 'wb').write(bad)
-        ran = subprocess.run([host, path], capture_output=True, text=True)
-        if ran.returncode != 1 or want not in ran.stderr or open(path, 'rb').read() != bad:
-            return 'byte %d: exit %d, %s%s, and %s is due' % (at, ran.returncode, ran.stdout, ran.stderr, want)
+def refused(host, cards):
+    """each card, with what the host has to say of it; the card stays as it was"""
+    for what, card, want in cards:
+        done, after = ran(host, 'damaged', card)
+        if done.returncode != 1 or want not in done.stderr or after != card:
+            return '%s: exit %d, %s%s, and %s is due%s' % (what, done.returncode, done.stdout, done.stderr, want, '' if after == card else '; the card has changed')
     return ''
+
+
+def with_byte(card, at, byte):
+    return 'byte %d' % at, card[:at] + bytes([byte]) + card[at + 1:]
+
+
+def damaged_logs(log):
+    """a bad kind, and an op that there is not"""
+    return [(*with_byte(log, 8, 9), 'log: bad log: the card is damaged'), (*with_byte(log, 9, 9), 'recover: bad log: whole records up to byte %d,' % len(log))]
+
+
+def damaged_checkpoints(card):
+    """damage in each part of checkpoint and tail, and cuts; the heard time may be any, and so may much else"""
+    checkpoint, log = parts(card)
+    n = len(checkpoint)
+    clients, records = struct.unpack_from('<I', card, 28)[0], struct.unpack_from('<I', card, 36)[0]
+    in_checkpoint = [(4, 16), (5, 1), (6, 1), (7, 1), *[(at, 99) for at in range(12, 44)], (44 + 13, 1), (44 + 12, 16), (1068, 4), (1068 + 1, 2), (1068 + 3, 1),
+                     (1068 + 16 * GATE + 7, 99), (1068 + 8, 1), (clients + 4, 0), (records, 99), (records + 16, 9), (records + 19, 64)]
+    cards = [(*with_byte(card, at, byte), 'checkpoint: bad log: the card is damaged') for at, byte in in_checkpoint]
+    cards += [(*with_byte(card, at, 0xFF), 'log: bad log: the card is damaged, or it is no log') for at in range(4)]
+    cards += [(*with_byte(card, n + at, 9), 'tail: bad log: the card is damaged behind its checkpoint') for at in (0, 5, 8)]
+    cards += [(*with_byte(card, n + 4, 1), 'recover: bad log: whole records'), (*with_byte(card, n + 9, 9), 'recover: bad log: whole records up to byte %d,' % len(log))]
+    cards += [('cut at %d' % k, card[:k], 'checkpoint: bad log: the card is damaged, or its end is missing') for k in [*range(4, 48), *range(48, n, 97), *range(n - 20, n + 8)]]
+    return cards
+
+
+def without_checkpoints(host, tools, port):
+    wrong, seen = session(host, tools, 'card', port, SEED, KILLS, 14 * KILLS, 90)
+    each = reported(wrong, seen, PLACES)
+    told('every command carried out once, whatever was cut off', wrong)
+    count('%d kills or more, each place among them' % KILLS, each)
+    if wrong:
+        return
+    log = open(seen['card'], 'rb').read()
+    bad, tried = cuts(host, log, 10)
+    told('a card cut at each of %d bytes starts with its whole records' % tried, bad)
+    told('a damaged card is refused, and left as it was', refused(host, damaged_logs(log[:whole_records(b'', log)[-1][0]])))
+
+
+def with_checkpoints(host, tools, port):
+    wrong, seen = session(host, tools, 'checkpoints', port, SEED + 7, KILLS, 14 * KILLS, 90, size=LIMIT)
+    each = reported(wrong, seen, {**PLACES, **STORING})
+    told('every command carried out once, with checkpoints made and cut off all the time', wrong)
+    count('%d kills or more, each place of writing and of storing among them' % KILLS, each)
+    count('the host ended by itself %d times, where a step of storing had failed, each of them among these' % seen['ended'], all(seen['places'].count(c) for c in FAILING))
+    count('the card never has more than %d bytes: %d' % (LARGEST, seen['largest']), 0 < seen['largest'] <= LARGEST)
+    wrong, seen = session(host, tools, 'tail', port + 2, SEED, 0, 24, 20, size=LIMIT)
+    card = open(seen['card'], 'rb').read()
+    checkpoint, log = parts(card)
+    ends = whole_records(checkpoint, log)
+    told('a card with a checkpoint and %d records behind it' % (len(ends) - 1), wrong or ('' if checkpoint and len(ends) > 3 else 'no such card'))
+    bad, tried = cuts(host, card, 1000)
+    told('it is cut at each of %d bytes behind its checkpoint, and starts with its whole records' % tried, bad)
+    cards = damaged_checkpoints(card)
+    told('it is damaged or cut at each of %d bytes: refused, and left as it was' % len(cards), refused(host, cards))
+
+
+RENAME = '    if (rename(next_path, card_path)) fail("card: rename");\n'
+SWITCH = '    name_sync();\n    close(card);\n    card = next;\n    base = length;\n'
+OPENED = '    if (next < 0) fail(next_path);\n'
+RECOVER = 'mantelorris_recover_checkpoint(state, sizeof state, checkpoint, base, log_space, kept)'
+HEAD = '    write_at(next, head, MANTELORRIS_LOG_HEAD, length);\n'
+STORE = 'static void store(size_t length'
+# each with one in how many calls on the card is struck, and the log's limit
+FAULTS = {
+    'mark_before_write': (60, 0, ['    card_append(mark, length);\n', '    waits = 0;\n}'], ['', '    waits = 0;\n    card_append(mark, length);\n}']),
+    'card_not_cut': (6, 0, ['        card_cut((size_t)mantelorris_length(state));\n'], ['']),
+    'switched_before_stored': (60, LIMIT, [RENAME, OPENED], ['', OPENED + RENAME]),
+    'calls_before_stored': (60, LIMIT, [STORE, RENAME + SWITCH],
+                            ['static void turn(void);\n' + STORE, '    card = next;\n    base = length;\n    memcpy(log_space, head, MANTELORRIS_LOG_HEAD);\n    turn();\n' + RENAME + '    name_sync();\n']),
+    'recover_on_a_tail': (60, LIMIT, [RECOVER], ['mantelorris_recover(state, sizeof state, log_space, kept, plan, sizeof plan)']),
+    'head_not_stored': (60, LIMIT, [HEAD], ['']),
+    'renamed_before_synced': (60, LIMIT, ['    if (fdatasync(next)) fail("card: sync of the checkpoint");\n'], ['']),
+    'failed_rename_ignored': (60, LIMIT, [RENAME], ['    if (rename(next_path, card_path)) return;\n']),
+    'name_not_synced': (60, LIMIT, [SWITCH], [SWITCH.replace('    name_sync();\n', '')]),
+    'name_not_synced_at_start': (30, LIMIT, ['    name_sync(); /*'], ['    /*']),
+}
 
 
 def main():
     print('seed %d' % SEED)
-    subprocess.run(['tools/lib.sh'], stdout=subprocess.DEVNULL, check=True)
+    if DIST == 'dist':
+        subprocess.run(['tools/lib.sh'], stdout=subprocess.DEVNULL, check=True)
     tools = {n: build('examples/%s.c' % n, n) for n in ('relay', 'desk')}
     tools['hook'] = build('tests/c/power.c', 'power.so', ['-shared', '-fPIC', '-ldl'])
     host = build('examples/host.c', 'host')
     port = 20000 + SEED % 20000
-    wrong, seen = session(host, tools, 'card', port, SEED, KILLS, 14 * KILLS, 90)
-    kinds = {c: seen['places'].count(c) for c in 'wsac'}
-    print('%d starts, killed: %d at any moment, %d in a write, %d between write and sync, %d after a sync, %d before a cut; %.1f s'
-          % (seen['starts'], seen['outside'], kinds['w'], kinds['s'], kinds['a'], kinds['c'], seen['seconds']))
-    print(seen['line'])
-    print(seen['desk'] or wrong)
-    count('every command carried out once, whatever was cut off' + (': ' + wrong if wrong else ''), not wrong)
-    count('%d kills or more, each place among them' % KILLS, seen['starts'] > KILLS and min(kinds.values()) > 0)
-    if not wrong:
-        bad, tried = cuts(host, open(seen['card'], 'rb').read())
-        count('a card cut at each of %d bytes starts with its whole records%s' % (tried, ': ' + bad if bad else ''), not bad)
-        log = open(seen['card'], 'rb').read()
-        bad = refused(host, log[:whole_records(log)[-1][0]])
-        count('a damaged card is refused, and left as it was%s' % (': ' + bad if bad else ''), not bad)
-    # each with one in how many calls on the card is struck
-    faults = {
-        'mark_before_write': (60, ['    card_append(mark, length);\n', '    waits = 0;\n}'], ['', '    waits = 0;\n    card_append(mark, length);\n}']),
-        'card_not_cut': (6, ['    card_cut((size_t)mantelorris_length(state));\n'], ['']),
-    }
-    for i, (name, (chance, old, new)) in enumerate(faults.items()):
+    without_checkpoints(host, tools, port)
+    with_checkpoints(host, tools, port + 4)
+    for i, (name, (chance, size, old, new)) in enumerate(FAULTS.items()):
         found, tries = '', 0
         bad_host = faulty(name, old, new)
         while not found and tries < 4:
-            found, seen = session(bad_host, tools, name + str(tries), port + 10 + 4 * i, SEED + 1000 * tries, 1000, 3000, 20, chance)
+            found, seen = session(bad_host, tools, name + str(tries), port + 10 + 4 * i, SEED + 1000 * tries, 1000, 3000, 20, chance, size)
             tries += 1
-        count('the host with the fault %s is found%s' % (name, ' after %d starts: %s' % (seen['starts'], found) if found else ''), found)
+        count('the host with the fault %s is found%s' % (name, ' after %d starts, %.1f s: %s' % (seen['starts'], seen['seconds'], found) if found else ''), found)
     print('%d passed, %d failed' % (passed, failed))
     shutil.rmtree(WORK)
     sys.exit(1 if failed else 0)

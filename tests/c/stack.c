@@ -15,6 +15,8 @@ enum { STACK = 1 << 18, PAINT = 0xA5, LOG = 1 << 16, CLIENTS = 32, CALLS = 16 };
 static uint8_t stack[STACK], plan[MANTELORRIS_PLAN_SIZE];
 static uint8_t state[2][MANTELORRIS_STATE_SIZE], logs[2][LOG], out[MANTELORRIS_IMAGE_SIZE], image[MANTELORRIS_IMAGE_SIZE];
 static size_t image_length;
+static uint8_t checkpoint_bytes[MANTELORRIS_CHECKPOINT_SIZE], tail[MANTELORRIS_LOG_HEAD];
+static size_t checkpoint_length;
 static uint8_t packet[24];
 static size_t packet_length;
 static uint64_t answer;
@@ -45,6 +47,15 @@ static void receipt(void) { answer = mantelorris_receipt(st(), sizeof state[0], 
 static void release(void) { answer = mantelorris_release(st(), sizeof state[0], lg(), LOG, packet, packet_length); }
 static void recover(void) { answer = mantelorris_recover(st(), sizeof state[0], lg(), (size_t)mark, plan, sizeof plan); }
 static void log_end(void) { answer = mantelorris_log_end(lg(), (size_t)mark).number; }
+static void checkpoint(void) {
+    answer = mantelorris_checkpoint(st(), sizeof state[0], lg(), LOG, checkpoint_bytes, sizeof checkpoint_bytes, tail, sizeof tail);
+}
+static void recover_checkpoint(void) {
+    answer = mantelorris_recover_checkpoint(st(), sizeof state[0], checkpoint_bytes, checkpoint_length, lg(), (size_t)mark);
+}
+static void inspect(void) {
+    answer = mantelorris_inspect(st(), sizeof state[0], checkpoint_bytes, checkpoint_length, lg(), LOG, client_number, call_number).number;
+}
 static void start(void) {
     struct mantelorris_start_reply r = mantelorris_start(packet, packet_length);
     client = r.client;
@@ -101,7 +112,8 @@ static struct row {
     ROW("found", found, BOUND_FOUND), ROW("request", request, BOUND_REQUEST), ROW("fetch", fetch, BOUND_FETCH), ROW("sync", sync_log, BOUND_SYNC),
     ROW("notice", notice, BOUND_NOTICE), ROW("give", give, BOUND_GIVE), ROW("image", make_image, BOUND_IMAGE), ROW("take", take, BOUND_TAKE),
     ROW("receipt", receipt, BOUND_RECEIPT), ROW("release", release, BOUND_RELEASE), ROW("recover", recover, BOUND_RECOVER),
-    ROW("log_end", log_end, BOUND_LOG_END),
+    ROW("log_end", log_end, BOUND_LOG_END), ROW("checkpoint", checkpoint, BOUND_CHECKPOINT),
+    ROW("recover_checkpoint", recover_checkpoint, BOUND_RECOVER_CHECKPOINT), ROW("inspect", inspect, BOUND_INSPECT),
     ROW("start", start, BOUND_START), ROW("issue", issue, BOUND_ISSUE), ROW("resend", resend, BOUND_RESEND), ROW("receive", receive, BOUND_RECEIVE),
     ROW("leases", leases, BOUND_LEASES), ROW("open", open_lease, BOUND_OPEN), ROW("renew", renew, BOUND_RENEW), ROW("query", query, BOUND_QUERY),
     ROW("chamber_start", chamber_start, BOUND_CHAMBER_START), ROW("chamber_issue", chamber_issue, BOUND_CHAMBER_ISSUE),
@@ -186,6 +198,25 @@ static void serve(void) {
     expect(fetch, MANTELORRIS_UNKNOWN);
 }
 
+/* a checkpoint of full tables takes the log's place */
+static void replace_log(void) {
+    client_number = call_number = 1;
+    checkpoint_length = 0;
+    expect(inspect, 0);
+    expect(checkpoint, 0);
+    checkpoint_length = mantelorris_written(answer);
+    if (checkpoint_length != MANTELORRIS_CHECKPOINT_LONGEST) exit(2);
+    memcpy(lg(), tail, sizeof tail);
+    mark = sizeof tail;
+    expect(inspect, 0);
+    expect(recover_checkpoint, 0);
+    call_number = 99;
+    expect(inspect, MANTELORRIS_UNKNOWN);
+    checkpoint_bytes[4] ^= 1;
+    expect(inspect, MANTELORRIS_BAD_LOG);
+    expect(recover_checkpoint, MANTELORRIS_BAD_LOG);
+}
+
 static void move(void) {
     other = 1;
     expect(make_image, MANTELORRIS_NOT_HELD);
@@ -211,6 +242,7 @@ static void move(void) {
     mark = mantelorris_length(st());
     expect(log_end, 0);
     expect(recover, 0);
+    replace_log();
     at_server = 0;
 }
 
