@@ -1,5 +1,5 @@
 #!/usr/bin/env python3
-"""guide_pictures.py [--check]: draws the four pictures of docs/GUIDE.md into docs/pictures; with --check, compares them with what is stored. Fails where a text
+"""guide_pictures.py [--check]: draws the five pictures of docs/GUIDE.md into docs/pictures; with --check, compares them with what is stored. Fails where a text
 overlaps another or leaves the picture."""
 import os, sys
 
@@ -51,7 +51,7 @@ def host():
     p = Picture(820, 380)
     p.box(230, 20, 370, 340, '', fill='#f4f6f8')
     p.text(415, 44, 'your host program', bold=True)
-    p.box(300, 130, 230, 90, 'the kernel', ['eleven calls,', 'no memory of its own'], fill=GREEN)
+    p.box(300, 130, 230, 90, 'the kernel', ['fourteen calls,', 'no memory of its own'], fill=GREEN)
     p.box(250, 250, 150, 86, 'state', ['32,768 bytes', 'in memory'])
     p.box(430, 250, 150, 86, 'log space', ['your choice', 'in memory'])
     p.line([(345, 250), (345, 220)], head=False)
@@ -136,7 +136,7 @@ def boot():
     p.line([(410, 130), (410, 150)])
     p.text(436, 144, 'yes', small=True)
     p.box(70, 150, 200, 46, 'found (plan, number)')
-    p.box(300, 150, 220, 46, 'recover (kept bytes, plan)')
+    p.box(300, 150, 220, 46, 'recover', ['or from checkpoint and tail'])
     p.line([(520, 173), (610, 173)], color=RED)
     p.text(565, 166, '14', small=True, color=RED)
     p.box(610, 140, 190, 66, 'stop', ['wrong plan or', 'damaged card'], stroke=RED, fill='#fdeceb')
@@ -157,15 +157,44 @@ def boot():
     return p
 
 
+def checkpoint():
+    p = Picture(860, 330)
+    p.text(140, 26, 'before', bold=True)
+    p.text(430, 26, 'between checkpoint and store', bold=True)
+    p.text(720, 26, 'after', bold=True)
+    p.box(30, 44, 220, 70, 'state', ['places of the log'], fill=PAPER)
+    p.box(320, 44, 220, 70, 'state', ['places of the tail'], fill=PAPER)
+    p.box(610, 44, 220, 70, 'state', ['places of the tail'], fill=PAPER)
+    p.line([(250, 79), (320, 79)])
+    p.text(285, 70, '1', small=True, bold=True)
+    p.line([(540, 79), (610, 79)])
+    p.text(575, 70, '3', small=True, bold=True)
+    p.text(140, 144, 'on the card, in force', small=True, color=SOFT)
+    p.text(430, 144, 'on the card, in force', small=True, color=SOFT)
+    p.text(720, 144, 'on the card, in force', small=True, color=SOFT)
+    p.box(30, 156, 220, 66, 'the log', ['(old checkpoint, its tail)'], fill=GREEN)
+    p.box(320, 156, 220, 66, 'the log', ['(old checkpoint, its tail)'], fill=GREEN)
+    p.box(610, 156, 220, 66, 'checkpoint and tail', ['both or neither'], fill=GREEN)
+    p.line([(540, 189), (610, 189)])
+    p.text(575, 180, '2', small=True, bold=True)
+    p.text(430, 246, 'no call of this server here', small=True, color=RED)
+    p.text(430, 264, 'a crash keeps the old log', small=True, color=RED)
+    p.text(720, 246, 'a crash keeps the checkpoint', small=True, color=RED)
+    p.text(720, 264, 'and what is synced of its tail', small=True, color=RED)
+    p.text(140, 246, 'all of the log is synced', small=True)
+    p.text(430, 306, '1 mantelorris_checkpoint · 2 the host stores both in one act · 3 the host goes on', small=True)
+    return p
+
+
 def main():
-    for name, draw in (('host', host), ('sequence', sequence), ('point', point), ('boot', boot)):
+    for name, draw in (('host', host), ('sequence', sequence), ('point', point), ('boot', boot), ('checkpoint', checkpoint)):
         path, text = 'docs/pictures/guide_%s.svg' % name, draw().svg(name)
         if '--check' in sys.argv:
             if not os.path.exists(path) or open(path, encoding='utf-8').read() != text:
                 sys.exit('%s is not what tools/guide_pictures.py draws' % path)
         else:
             open(path, 'w', encoding='utf-8').write(text)
-    print('four pictures')
+    print('five pictures')
 
 
 if __name__ == '__main__':
