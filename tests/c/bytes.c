@@ -31,6 +31,15 @@ static void sync_log(struct server *s) {
     due(mantelorris_sync(OF(s), mantelorris_length(s->state)), 0);
 }
 
+static void make_plan(void) {
+    for (int p = 0; p < MANTELORRIS_POINTS; p++) {
+        plan[16 * p] = 0x9C; /* -100 */
+        memset(plan + 16 * p + 1, 0xFF, 3);
+        plan[16 * p + 4] = 0xE8; /* 1000 */
+        plan[16 * p + 5] = 3;
+    }
+}
+
 static void show_checkpoint(struct server *s) {
     size_t n = due(mantelorris_checkpoint(OF(s), checkpoint, sizeof checkpoint, tail, sizeof tail), 0);
     show("checkpoint of server 1, head and pairs", checkpoint, 44);
@@ -42,12 +51,7 @@ static void show_checkpoint(struct server *s) {
 
 int main(void) {
     struct server *a = &servers[0], *b = &servers[1];
-    for (int p = 0; p < MANTELORRIS_POINTS; p++) {
-        plan[16 * p] = 0x9C; /* -100 */
-        memset(plan + 16 * p + 1, 0xFF, 3);
-        plan[16 * p + 4] = 0xE8; /* 1000 */
-        plan[16 * p + 5] = 3;
-    }
+    make_plan();
     show("plan entry, -100 to 1000, fallback 0, home 0", plan, 16);
     for (uint32_t n = 0; n < 2; n++) due(mantelorris_found(OF(&servers[n]), plan, sizeof plan, n), 0);
     struct mantelorris_lease_manager manager = mantelorris_leases();
