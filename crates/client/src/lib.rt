@@ -270,7 +270,7 @@ pub fn packet_call(packet: &[u8]) -> u32
     if constants::REFUSAL_KIND < packet[0] {
         return 0;
     }
-    format_numbers::read_u32(packet, 8)
+    format_numbers::read_u32(packet, constants::RESULT_CALL)
 }
 
 // A result, a refusal or a grant, parsed; any other packet is malformed to a client.

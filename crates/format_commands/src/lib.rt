@@ -24,9 +24,9 @@ pub fn plan_entry(s: &[u8], at: usize) -> PlanEntry
 {
     PlanEntry {
         low: format_numbers::read_signed(s, at),
-        high: format_numbers::read_signed(s, at + 4),
-        fallback: format_numbers::read_signed(s, at + 8),
-        home: s[at + 12],
+        high: format_numbers::read_signed(s, at + constants::PLAN_HIGH),
+        fallback: format_numbers::read_signed(s, at + constants::PLAN_FALLBACK),
+        home: s[at + constants::PLAN_HOME],
     }
 }
 
@@ -42,7 +42,7 @@ pub fn plan_row_ok(s: &[u8], at: usize) -> bool
     requires { ⌜ at + planRow ≤ length (now s) ⌝ }
     ensures { λ x. ⌜ x ≡ planRowOk (drop at (now (s .entry))) ⌝ }
 {
-    let zeros = format_numbers::zeros3_at(s, at + 13);
+    let zeros = format_numbers::zeros3_at(s, at + constants::PLAN_ZEROS);
     let entry = plan_entry_ok(plan_entry(s, at));
     zeros & entry
 }

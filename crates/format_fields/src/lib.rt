@@ -7,10 +7,7 @@ use model::Receipt;
 use model::RefusalPacket;
 use model::Request;
 use model::ResultPacket;
-use model::constants::FIRST_DENIED;
-use model::constants::LAST_DENIED;
-use model::constants::LAST_POINT;
-use model::constants::LAST_SERVER;
+use model::constants;
 ghost use mathlib.Core.Path.{_≡_};
 ghost use Prim.Native.Nat.{_≤_};
 ghost use lib.ListN.{length};
@@ -34,20 +31,21 @@ pub fn result_ok(r: ResultPacket) -> bool
 {
     let outcome = format_numbers::outcome_ok(r.result.outcome, r.result.quality);
     let id = format_numbers::id_ok(r.client, r.call);
-    (r.point <= LAST_POINT) & (outcome & id)
+    (r.point <= constants::LAST_POINT) & (outcome & id)
 }
 
 pub fn refusal_ok(r: RefusalPacket) -> bool
     ensures { λ b. ⌜ b ≡ refusalOk r ⌝ }
 {
     let id = format_numbers::id_ok(r.client, r.call);
-    (FIRST_DENIED <= r.refusal) & ((r.refusal <= LAST_DENIED) & ((r.point <= LAST_POINT) & id))
+    (constants::FIRST_DENIED <= r.refusal)
+        & ((r.refusal <= constants::LAST_DENIED) & ((r.point <= constants::LAST_POINT) & id))
 }
 
 pub fn receipt_ok(r: Receipt) -> bool
     ensures { λ b. ⌜ b ≡ receiptOk r ⌝ }
 {
-    (r.point <= LAST_POINT) & (r.server <= LAST_SERVER)
+    (r.point <= constants::LAST_POINT) & (r.server <= constants::LAST_SERVER)
 }
 
 pub fn notice_ok(n: Notice) -> bool
@@ -69,16 +67,16 @@ pub fn request_at(p: &[u8]) -> Request
     ensures { λ r. ⌜ r ≡ requestAt (now (p .entry)) ⌝ }
 {
     let command = Command {
-        client: format_numbers::read_u32(p, 4),
-        call: format_numbers::read_u32(p, 8),
-        op: p[1],
-        point: p[2],
-        argument: format_numbers::read_signed(p, 20),
+        client: format_numbers::read_u32(p, constants::REQUEST_CLIENT),
+        call: format_numbers::read_u32(p, constants::REQUEST_CALL),
+        op: p[constants::REQUEST_OP],
+        point: p[constants::REQUEST_POINT],
+        argument: format_numbers::read_signed(p, constants::REQUEST_ARGUMENT),
     };
     Request {
         command,
-        done: format_numbers::read_u32(p, 12),
-        lease: format_numbers::read_u32(p, 16),
+        done: format_numbers::read_u32(p, constants::REQUEST_DONE),
+        lease: format_numbers::read_u32(p, constants::REQUEST_LEASE),
     }
 }
 
@@ -87,14 +85,14 @@ pub fn result_at(p: &[u8]) -> ResultPacket
     ensures { λ r. ⌜ r ≡ resultAt (now (p .entry)) ⌝ }
 {
     let result = CommandResult {
-        outcome: p[1],
-        value: format_numbers::read_signed(p, 12),
-        quality: p[3],
+        outcome: p[constants::RESULT_OUTCOME],
+        value: format_numbers::read_signed(p, constants::RESULT_VALUE),
+        quality: p[constants::RESULT_QUALITY],
     };
     ResultPacket {
-        client: format_numbers::read_u32(p, 4),
-        call: format_numbers::read_u32(p, 8),
-        point: p[2],
+        client: format_numbers::read_u32(p, constants::RESULT_CLIENT),
+        call: format_numbers::read_u32(p, constants::RESULT_CALL),
+        point: p[constants::RESULT_POINT],
         result,
     }
 }
@@ -104,10 +102,10 @@ pub fn refusal_at(p: &[u8]) -> RefusalPacket
     ensures { λ r. ⌜ r ≡ refusalAt (now (p .entry)) ⌝ }
 {
     RefusalPacket {
-        refusal: p[1],
-        point: p[2],
-        client: format_numbers::read_u32(p, 4),
-        call: format_numbers::read_u32(p, 8),
+        refusal: p[constants::REFUSAL_NUMBER],
+        point: p[constants::REFUSAL_POINT],
+        client: format_numbers::read_u32(p, constants::REFUSAL_CLIENT),
+        call: format_numbers::read_u32(p, constants::REFUSAL_CALL),
     }
 }
 
@@ -116,9 +114,9 @@ pub fn receipt_at(p: &[u8]) -> Receipt
     ensures { λ r. ⌜ r ≡ receiptAt (now (p .entry)) ⌝ }
 {
     Receipt {
-        point: p[1],
-        server: p[2],
-        moveNumber: format_numbers::read_u32(p, 4),
+        point: p[constants::RECEIPT_POINT],
+        server: p[constants::RECEIPT_SERVER],
+        moveNumber: format_numbers::read_u32(p, constants::RECEIPT_MOVE),
     }
 }
 
@@ -128,8 +126,8 @@ pub fn notice_at(p: &[u8]) -> Notice
     ensures { λ r. ⌜ r ≡ noticeAt (now (p .entry)) ⌝ }
 {
     Notice {
-        client: format_numbers::read_u32(p, 4),
-        time: format_numbers::read_u32(p, 8),
+        client: format_numbers::read_u32(p, constants::NOTICE_CLIENT),
+        time: format_numbers::read_u32(p, constants::NOTICE_TIME),
     }
 }
 
@@ -138,7 +136,7 @@ pub fn grant_at(p: &[u8]) -> Grant
     ensures { λ r. ⌜ r ≡ grantAt (now (p .entry)) ⌝ }
 {
     Grant {
-        client: format_numbers::read_u32(p, 4),
-        lease: format_numbers::read_u32(p, 8),
+        client: format_numbers::read_u32(p, constants::GRANT_CLIENT),
+        lease: format_numbers::read_u32(p, constants::GRANT_LEASE),
     }
 }

@@ -33,15 +33,15 @@ pub fn entry_from(s: &[u8], k: usize) -> ImageEntry
     ensures { λ r. ⌜ r ≡ imageEntryOf (drop k (now (s .entry))) ⌝ }
 {
     let result = CommandResult {
-        outcome: s[k + 17],
-        value: format_numbers::read_signed(s, k + 12),
-        quality: s[k + 18],
+        outcome: s[k + constants::ENTRY_OUTCOME],
+        value: format_numbers::read_signed(s, k + constants::ENTRY_VALUE),
+        quality: s[k + constants::ENTRY_QUALITY],
     };
     ImageEntry {
         client: format_numbers::read_u32(s, k),
-        call: format_numbers::read_u32(s, k + 4),
-        op: s[k + 16],
-        argument: format_numbers::read_signed(s, k + 8),
+        call: format_numbers::read_u32(s, k + constants::ENTRY_CALL),
+        op: s[k + constants::ENTRY_OP],
+        argument: format_numbers::read_signed(s, k + constants::ENTRY_ARGUMENT),
         result,
     }
 }
@@ -52,15 +52,17 @@ pub fn head_from(s: &[u8]) -> ImageHead
     ensures { λ r. ⌜ r ≡ imageHeadOf (now (s .entry)) ⌝ }
 {
     ImageHead {
-        point: s[4],
-        destination: s[5],
-        source: s[6],
-        moveNumber: format_numbers::read_u32(s, 8),
-        heard: format_numbers::read_u32(s, 12),
-        value: format_numbers::read_signed(s, 40),
-        quality: s[44],
-        floors: format_numbers::read_u32(s, 28) / constants::FLOOR_ROW_U32,
-        entries: format_numbers::read_u32(s, 36) / constants::ENTRY_ROW_U32,
+        point: s[constants::IMAGE_POINT],
+        destination: s[constants::IMAGE_DESTINATION],
+        source: s[constants::IMAGE_SOURCE],
+        moveNumber: format_numbers::read_u32(s, constants::IMAGE_MOVE),
+        heard: format_numbers::read_u32(s, constants::IMAGE_HEARD),
+        value: format_numbers::read_signed(s, constants::PARTS_START),
+        quality: s[constants::IMAGE_QUALITY],
+        floors: format_numbers::read_u32(s, constants::IMAGE_FLOORS_LENGTH)
+            / constants::FLOOR_ROW_U32,
+        entries: format_numbers::read_u32(s, constants::IMAGE_ENTRIES_LENGTH)
+            / constants::ENTRY_ROW_U32,
     }
 }
 
@@ -71,11 +73,12 @@ pub fn framed(s: &[u8]) -> bool
     requires { ⌜ leastImage ≤ length (now s) ⌝ }
     ensures { λ r. ⌜ r ≡ imageFramed (now (s .entry)) ⌝ }
 {
-    let zeros = format_numbers::zeros3_at(s, 45);
+    let zeros = format_numbers::zeros3_at(s, constants::IMAGE_ZEROS);
     (s[0] == constants::IMAGE_MAGIC[0])
         & ((s[1] == constants::IMAGE_MAGIC[1])
             & ((s[2] == constants::IMAGE_MAGIC[2])
-                & ((s[3] == constants::IMAGE_MAGIC[3]) & ((s[7] == 0) & zeros))))
+                & ((s[3] == constants::IMAGE_MAGIC[3])
+                    & ((s[constants::IMAGE_ZERO] == 0) & zeros))))
 }
 
 pub fn head_ok(h: ImageHead) -> bool
@@ -96,12 +99,12 @@ pub fn parts_ok(s: &[u8], h: ImageHead) -> bool
     let floors = constants::FLOOR_ROW * (h.floors as usize);
     let entries = constants::ENTRY_ROW * (h.entries as usize);
     let records = constants::LEAST_IMAGE + floors;
-    let first = format_numbers::read_u32(s, 16);
-    let first_length = format_numbers::read_u32(s, 20);
-    let second = format_numbers::read_u32(s, 24);
-    let second_length = format_numbers::read_u32(s, 28) as usize;
-    let third = format_numbers::read_u32(s, 32) as usize;
-    let third_length = format_numbers::read_u32(s, 36) as usize;
+    let first = format_numbers::read_u32(s, constants::IMAGE_POINT_PAIR);
+    let first_length = format_numbers::read_u32(s, constants::IMAGE_POINT_LENGTH);
+    let second = format_numbers::read_u32(s, constants::IMAGE_FLOORS_PAIR);
+    let second_length = format_numbers::read_u32(s, constants::IMAGE_FLOORS_LENGTH) as usize;
+    let third = format_numbers::read_u32(s, constants::IMAGE_ENTRIES_PAIR) as usize;
+    let third_length = format_numbers::read_u32(s, constants::IMAGE_ENTRIES_LENGTH) as usize;
     (first == constants::PARTS_START_U32)
         & ((first_length == constants::POINT_PART_U32)
             & ((second == constants::LEAST_IMAGE_U32)
@@ -143,7 +146,7 @@ pub fn entry_row_ok(s: &[u8], k: usize) -> bool
     requires { ⌜ k + entryRow ≤ length (now s) ⌝ }
     ensures { λ r. ⌜ r ≡ entryRowOk (drop k (now (s .entry))) ⌝ }
 {
-    format_numbers::zero_at(s, k + 19)
+    format_numbers::zero_at(s, k + constants::ENTRY_ZERO)
 }
 
 // The id of the record from k is before that of the next.

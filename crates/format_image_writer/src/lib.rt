@@ -10,7 +10,7 @@ use model::constants::LEAST_IMAGE;
 ghost use mathlib.Core.Path.{_≡_};
 ghost use Prim.Native.Nat.{_+_, _*_, _≤_};
 ghost use lib.ListN.{length};
-ghost use Rattle.model.specs.Limits.{leastImage, floorRow, entryRow, clientCount, recordCount};
+ghost use Rattle.model.specs.Limits.{imagePairs, partsStart, leastImage, floorRow, entryRow, clientCount, recordCount};
 ghost use Rattle.model.specs.Tables.{rows, bytesOf, written};
 ghost use Rattle.model.specs.Images.{floorOfBytes, floorBytes, imageEntryBytes};
 ghost use Rattle.format_image_writer.specs.Heads.{headBytes, frameBytes, pairBytes, pointBytes};
@@ -32,10 +32,17 @@ fn put_entry(out: &mut [u8], k: usize, e: ImageEntry)
     ensures { λ r. ⌜ now (out .exit) ≡ written (now (out .entry)) k (imageEntryBytes e) ⌝ }
 {
     format_numbers::write_u32(out, k, e.client);
-    format_numbers::write_u32(out, k + 4, e.call);
-    format_numbers::write_signed(out, k + 8, e.argument);
-    format_numbers::write_signed(out, k + 12, e.result.value);
-    format_numbers::write_4(out, k + 16, e.op, e.result.outcome, e.result.quality, 0);
+    format_numbers::write_u32(out, k + constants::ENTRY_CALL, e.call);
+    format_numbers::write_signed(out, k + constants::ENTRY_ARGUMENT, e.argument);
+    format_numbers::write_signed(out, k + constants::ENTRY_VALUE, e.result.value);
+    format_numbers::write_4(
+        out,
+        k + constants::ENTRY_OP,
+        e.op,
+        e.result.outcome,
+        e.result.quality,
+        0,
+    );
 }
 
 // ---- the head
@@ -52,34 +59,57 @@ fn write_frame(out: &mut [u8], h: ImageHead)
         IMAGE_MAGIC[2],
         IMAGE_MAGIC[3],
     );
-    format_numbers::write_4(out, 4, h.point, h.destination, h.source, 0);
-    format_numbers::write_u32(out, 8, h.moveNumber);
-    format_numbers::write_u32(out, 12, h.heard);
+    format_numbers::write_4(
+        out,
+        constants::IMAGE_POINT,
+        h.point,
+        h.destination,
+        h.source,
+        0,
+    );
+    format_numbers::write_u32(out, constants::IMAGE_MOVE, h.moveNumber);
+    format_numbers::write_u32(out, constants::IMAGE_HEARD, h.heard);
 }
 
 // The three pairs of offset and length, for m floors and n records.
 fn write_pairs(out: &mut [u8], m: u32, n: u32)
     requires { ⌜ (leastImage ≤ length (now out)) × (m ≤ clientCount) × (n ≤ recordCount) ⌝ }
-    ensures { λ r. ⌜ now (out .exit) ≡ written (now (out .entry)) 16 (pairBytes m n) ⌝ }
+    ensures { λ r. ⌜ now (out .exit) ≡ written (now (out .entry)) imagePairs (pairBytes m n) ⌝ }
 {
-    format_numbers::write_u32(out, 16, constants::PARTS_START_U32);
-    format_numbers::write_u32(out, 20, constants::POINT_PART_U32);
-    format_numbers::write_u32(out, 24, constants::LEAST_IMAGE_U32);
-    format_numbers::write_u32(out, 28, constants::FLOOR_ROW_U32 * m);
+    format_numbers::write_u32(out, constants::IMAGE_POINT_PAIR, constants::PARTS_START_U32);
     format_numbers::write_u32(
         out,
-        32,
+        constants::IMAGE_POINT_LENGTH,
+        constants::POINT_PART_U32,
+    );
+    format_numbers::write_u32(
+        out,
+        constants::IMAGE_FLOORS_PAIR,
+        constants::LEAST_IMAGE_U32,
+    );
+    format_numbers::write_u32(
+        out,
+        constants::IMAGE_FLOORS_LENGTH,
+        constants::FLOOR_ROW_U32 * m,
+    );
+    format_numbers::write_u32(
+        out,
+        constants::IMAGE_ENTRIES_PAIR,
         constants::LEAST_IMAGE_U32 + constants::FLOOR_ROW_U32 * m,
     );
-    format_numbers::write_u32(out, 36, constants::ENTRY_ROW_U32 * n);
+    format_numbers::write_u32(
+        out,
+        constants::IMAGE_ENTRIES_LENGTH,
+        constants::ENTRY_ROW_U32 * n,
+    );
 }
 
 fn write_point(out: &mut [u8], value: u32, quality: u8)
     requires { ⌜ leastImage ≤ length (now out) ⌝ }
-    ensures { λ r. ⌜ now (out .exit) ≡ written (now (out .entry)) 40 (pointBytes value quality) ⌝ }
+    ensures { λ r. ⌜ now (out .exit) ≡ written (now (out .entry)) partsStart (pointBytes value quality) ⌝ }
 {
-    format_numbers::write_signed(out, 40, value);
-    format_numbers::write_4(out, 44, quality, 0, 0, 0);
+    format_numbers::write_signed(out, constants::PARTS_START, value);
+    format_numbers::write_4(out, constants::IMAGE_QUALITY, quality, 0, 0, 0);
 }
 
 // All that stands before the tables.

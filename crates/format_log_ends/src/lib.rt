@@ -26,19 +26,19 @@ pub fn head_ok(log: &[u8]) -> bool
     if log.len() < constants::HEAD_SIZE {
         return false;
     }
-    let zeros = format_numbers::zeros3_at(log, 5);
+    let zeros = format_numbers::zeros3_at(log, constants::HEAD_ZEROS);
     (log[0] == constants::LOG_MAGIC[0])
         & ((log[1] == constants::LOG_MAGIC[1])
             & ((log[2] == constants::LOG_MAGIC[2])
                 & ((log[3] == constants::LOG_MAGIC[3])
-                    & ((log[4] <= constants::LAST_SERVER) & zeros))))
+                    & ((log[constants::HEAD_SERVER] <= constants::LAST_SERVER) & zeros))))
 }
 
 pub fn head_server(log: &[u8]) -> u8
     requires { ⌜ headSize ≤ length (now log) ⌝ }
     ensures { λ r. ⌜ r ≡ headServer (now (log .entry)) ⌝ }
 {
-    log[4]
+    log[constants::HEAD_SERVER]
 }
 
 // ---- extents
@@ -60,7 +60,7 @@ fn take_extent(s: &[u8]) -> Extent
     if s.len() < constants::TAKE_HEAD {
         return Extent::Cut;
     }
-    let n = format_numbers::read_u32(s, 4) as usize;
+    let n = format_numbers::read_u32(s, constants::TAKE_LENGTH) as usize;
     if (n < constants::LEAST_IMAGE) | (constants::GREATEST_IMAGE < n) {
         return Extent::Off;
     }
@@ -102,7 +102,8 @@ pub fn size_at(log: &[u8], at: usize) -> usize
         constants::GONE_KIND => constants::GONE_SIZE,
         constants::GIVE_KIND => constants::GIVE_SIZE,
         constants::TAKE_KIND => {
-            constants::TAKE_HEAD + format_numbers::read_u32(log, at + 4) as usize
+            constants::TAKE_HEAD
+                + format_numbers::read_u32(log, at + constants::TAKE_LENGTH) as usize
         }
         _ => constants::RELEASE_SIZE,
     }

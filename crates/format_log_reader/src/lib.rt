@@ -42,20 +42,20 @@ fn executed_at(s: &[u8]) -> Executed
     ensures { λ r. ⌜ r ≡ executedAt (now (s .entry)) ⌝ }
 {
     let command = Command {
-        client: format_numbers::read_u32(s, 4),
-        call: format_numbers::read_u32(s, 8),
-        op: s[1],
-        point: s[2],
-        argument: format_numbers::read_signed(s, 16),
+        client: format_numbers::read_u32(s, constants::EXECUTED_CLIENT),
+        call: format_numbers::read_u32(s, constants::EXECUTED_CALL),
+        op: s[constants::EXECUTED_OP],
+        point: s[constants::EXECUTED_POINT],
+        argument: format_numbers::read_signed(s, constants::EXECUTED_ARGUMENT),
     };
     let result = CommandResult {
-        outcome: s[3],
-        value: format_numbers::read_signed(s, 20),
-        quality: s[24],
+        outcome: s[constants::EXECUTED_OUTCOME],
+        value: format_numbers::read_signed(s, constants::EXECUTED_VALUE),
+        quality: s[constants::EXECUTED_QUALITY],
     };
     Executed {
         command,
-        done: format_numbers::read_u32(s, 12),
+        done: format_numbers::read_u32(s, constants::EXECUTED_DONE),
         result,
     }
 }
@@ -75,9 +75,9 @@ fn give_at(s: &[u8]) -> Give
     ensures { λ r. ⌜ r ≡ giveAt (now (s .entry)) ⌝ }
 {
     Give {
-        point: s[1],
-        destination: s[2],
-        moveNumber: format_numbers::read_u32(s, 4),
+        point: s[constants::GIVE_POINT],
+        destination: s[constants::GIVE_DESTINATION],
+        moveNumber: format_numbers::read_u32(s, constants::GIVE_MOVE),
     }
 }
 
@@ -92,8 +92,8 @@ fn release_at(s: &[u8]) -> Release
     ensures { λ r. ⌜ r ≡ releaseAt (now (s .entry)) ⌝ }
 {
     Release {
-        point: s[1],
-        moveNumber: format_numbers::read_u32(s, 4),
+        point: s[constants::RELEASE_POINT],
+        moveNumber: format_numbers::read_u32(s, constants::RELEASE_MOVE),
     }
 }
 
@@ -116,7 +116,7 @@ fn executed_from(s: &[u8]) -> Record
 {
     let x = executed_at(s);
     checked(
-        format_numbers::zeros3_at(s, 25) & executed_ok(x),
+        format_numbers::zeros3_at(s, constants::EXECUTED_ZEROS) & executed_ok(x),
         Record::Executed(x),
     )
 }
@@ -127,7 +127,7 @@ fn gone_from(s: &[u8]) -> Record
 {
     let x = format_fields::notice_at(s);
     checked(
-        format_numbers::zeros3_at(s, 1) & format_fields::notice_ok(x),
+        format_numbers::zeros3_at(s, constants::NOTICE_ZEROS) & format_fields::notice_ok(x),
         Record::Gone(x),
     )
 }
@@ -137,7 +137,10 @@ fn give_from(s: &[u8]) -> Record
     ensures { λ r. ⌜ r ≡ giveFrom (now (s .entry)) ⌝ }
 {
     let x = give_at(s);
-    checked(format_numbers::zero_at(s, 3) & give_ok(x), Record::Gave(x))
+    checked(
+        format_numbers::zero_at(s, constants::GIVE_ZERO) & give_ok(x),
+        Record::Gave(x),
+    )
 }
 
 // A take of n bytes at a place of the log; s is the log's part from there, and the image is read in it.
@@ -150,7 +153,10 @@ fn take_from(s: &[u8], at: usize, n: usize) -> Record
         from: at + constants::TAKE_HEAD,
         len: n - constants::TAKE_HEAD,
     };
-    checked(format_numbers::zeros3_at(s, 1) & image, Record::Took(place))
+    checked(
+        format_numbers::zeros3_at(s, constants::TAKE_ZEROS) & image,
+        Record::Took(place),
+    )
 }
 
 fn release_from(s: &[u8]) -> Record
@@ -160,7 +166,8 @@ fn release_from(s: &[u8]) -> Record
     let x = release_at(s);
     let ok = release_ok(x);
     checked(
-        format_numbers::zero_at(s, 2) & (format_numbers::zero_at(s, 3) & ok),
+        format_numbers::zero_at(s, constants::RELEASE_ZERO)
+            & (format_numbers::zero_at(s, constants::RELEASE_SECOND_ZERO) & ok),
         Record::Released(x),
     )
 }

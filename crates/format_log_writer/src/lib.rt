@@ -29,7 +29,7 @@ pub fn write_head(log: &mut [u8], n: u8)
         LOG_MAGIC[2],
         LOG_MAGIC[3],
     );
-    format_numbers::write_4(log, 4, n, 0, 0, 0);
+    format_numbers::write_4(log, constants::HEAD_SERVER, n, 0, 0, 0);
 }
 
 fn write_executed(out: &mut [u8], x: Executed)
@@ -44,12 +44,12 @@ fn write_executed(out: &mut [u8], x: Executed)
         x.command.point,
         x.result.outcome,
     );
-    format_numbers::write_u32(out, 4, x.command.client);
-    format_numbers::write_u32(out, 8, x.command.call);
-    format_numbers::write_u32(out, 12, x.done);
-    format_numbers::write_signed(out, 16, x.command.argument);
-    format_numbers::write_signed(out, 20, x.result.value);
-    format_numbers::write_4(out, 24, x.result.quality, 0, 0, 0);
+    format_numbers::write_u32(out, constants::EXECUTED_CLIENT, x.command.client);
+    format_numbers::write_u32(out, constants::EXECUTED_CALL, x.command.call);
+    format_numbers::write_u32(out, constants::EXECUTED_DONE, x.done);
+    format_numbers::write_signed(out, constants::EXECUTED_ARGUMENT, x.command.argument);
+    format_numbers::write_signed(out, constants::EXECUTED_VALUE, x.result.value);
+    format_numbers::write_4(out, constants::EXECUTED_QUALITY, x.result.quality, 0, 0, 0);
 }
 
 fn write_give(out: &mut [u8], x: Give)
@@ -57,7 +57,7 @@ fn write_give(out: &mut [u8], x: Give)
     ensures { λ r. ⌜ now (out .exit) ≡ written (now (out .entry)) 0 (giveBytes x) ⌝ }
 {
     format_numbers::write_4(out, 0, constants::GIVE_KIND, x.point, x.destination, 0);
-    format_numbers::write_u32(out, 4, x.moveNumber);
+    format_numbers::write_u32(out, constants::GIVE_MOVE, x.moveNumber);
 }
 
 fn write_release(out: &mut [u8], x: Release)
@@ -65,7 +65,7 @@ fn write_release(out: &mut [u8], x: Release)
     ensures { λ r. ⌜ now (out .exit) ≡ written (now (out .entry)) 0 (releaseBytes x) ⌝ }
 {
     format_numbers::write_4(out, 0, constants::RELEASE_KIND, x.point, 0, 0);
-    format_numbers::write_u32(out, 4, x.moveNumber);
+    format_numbers::write_u32(out, constants::RELEASE_MOVE, x.moveNumber);
 }
 
 // A take record's bytes before its image of n bytes.
@@ -74,7 +74,7 @@ fn write_take_front(out: &mut [u8], n: u32)
     ensures { λ r. ⌜ now (out .exit) ≡ written (now (out .entry)) 0 (takeFront n) ⌝ }
 {
     format_numbers::write_4(out, 0, constants::TAKE_KIND, 0, 0, 0);
-    format_numbers::write_u32(out, 4, n);
+    format_numbers::write_u32(out, constants::TAKE_LENGTH, n);
 }
 
 // ---- appending: a record's writer is lent the log from its length on

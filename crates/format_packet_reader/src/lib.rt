@@ -21,7 +21,7 @@ fn parse_request(p: &[u8]) -> Packet
     }
     let q = format_fields::request_at(p);
     checked(
-        format_numbers::zero_at(p, 3) & format_fields::request_ok(q),
+        format_numbers::zero_at(p, constants::REQUEST_ZERO) & format_fields::request_ok(q),
         Packet::Requested(q),
     )
 }
@@ -44,7 +44,7 @@ pub fn parse_refusal(p: &[u8]) -> Packet
     }
     let q = format_fields::refusal_at(p);
     checked(
-        format_numbers::zero_at(p, 3) & format_fields::refusal_ok(q),
+        format_numbers::zero_at(p, constants::REFUSAL_ZERO) & format_fields::refusal_ok(q),
         Packet::Refused(q),
     )
 }
@@ -57,7 +57,7 @@ fn parse_receipt(p: &[u8]) -> Packet
     }
     let q = format_fields::receipt_at(p);
     checked(
-        format_numbers::zero_at(p, 3) & format_fields::receipt_ok(q),
+        format_numbers::zero_at(p, constants::RECEIPT_ZERO) & format_fields::receipt_ok(q),
         Packet::Receipted(q),
     )
 }
@@ -70,7 +70,7 @@ fn parse_notice(p: &[u8]) -> Packet
     }
     let q = format_fields::notice_at(p);
     checked(
-        format_numbers::zeros3_at(p, 1) & format_fields::notice_ok(q),
+        format_numbers::zeros3_at(p, constants::NOTICE_ZEROS) & format_fields::notice_ok(q),
         Packet::Noticed(q),
     )
 }
@@ -83,7 +83,7 @@ pub fn parse_grant(p: &[u8]) -> Packet
     }
     let q = format_fields::grant_at(p);
     checked(
-        format_numbers::zeros3_at(p, 1) & format_fields::grant_ok(q),
+        format_numbers::zeros3_at(p, constants::GRANT_ZEROS) & format_fields::grant_ok(q),
         Packet::Granted(q),
     )
 }

@@ -27,11 +27,11 @@ fn write_request(out: &mut [u8], q: Request)
         q.command.point,
         0,
     );
-    format_numbers::write_u32(out, 4, q.command.client);
-    format_numbers::write_u32(out, 8, q.command.call);
-    format_numbers::write_u32(out, 12, q.done);
-    format_numbers::write_u32(out, 16, q.lease);
-    format_numbers::write_signed(out, 20, q.command.argument);
+    format_numbers::write_u32(out, constants::REQUEST_CLIENT, q.command.client);
+    format_numbers::write_u32(out, constants::REQUEST_CALL, q.command.call);
+    format_numbers::write_u32(out, constants::REQUEST_DONE, q.done);
+    format_numbers::write_u32(out, constants::REQUEST_LEASE, q.lease);
+    format_numbers::write_signed(out, constants::REQUEST_ARGUMENT, q.command.argument);
 }
 
 pub fn write_result(out: &mut [u8], q: ResultPacket)
@@ -46,9 +46,9 @@ pub fn write_result(out: &mut [u8], q: ResultPacket)
         q.point,
         q.result.quality,
     );
-    format_numbers::write_u32(out, 4, q.client);
-    format_numbers::write_u32(out, 8, q.call);
-    format_numbers::write_signed(out, 12, q.result.value);
+    format_numbers::write_u32(out, constants::RESULT_CLIENT, q.client);
+    format_numbers::write_u32(out, constants::RESULT_CALL, q.call);
+    format_numbers::write_signed(out, constants::RESULT_VALUE, q.result.value);
 }
 
 pub fn write_refusal(out: &mut [u8], q: RefusalPacket)
@@ -56,8 +56,8 @@ pub fn write_refusal(out: &mut [u8], q: RefusalPacket)
     ensures { λ r. ⌜ now (out .exit) ≡ written (now (out .entry)) 0 (refusalBytes q) ⌝ }
 {
     format_numbers::write_4(out, 0, constants::REFUSAL_KIND, q.refusal, q.point, 0);
-    format_numbers::write_u32(out, 4, q.client);
-    format_numbers::write_u32(out, 8, q.call);
+    format_numbers::write_u32(out, constants::REFUSAL_CLIENT, q.client);
+    format_numbers::write_u32(out, constants::REFUSAL_CALL, q.call);
 }
 
 pub fn write_receipt(out: &mut [u8], q: Receipt)
@@ -65,7 +65,7 @@ pub fn write_receipt(out: &mut [u8], q: Receipt)
     ensures { λ r. ⌜ now (out .exit) ≡ written (now (out .entry)) 0 (receiptBytes q) ⌝ }
 {
     format_numbers::write_4(out, 0, constants::RECEIPT_KIND, q.point, q.server, 0);
-    format_numbers::write_u32(out, 4, q.moveNumber);
+    format_numbers::write_u32(out, constants::RECEIPT_MOVE, q.moveNumber);
 }
 
 // Kind 5; log record 2 is the same with its own kind.
@@ -74,8 +74,8 @@ pub fn write_notice(out: &mut [u8], kind: u8, q: Notice)
     ensures { λ r. ⌜ now (out .exit) ≡ written (now (out .entry)) 0 (noticeBytes kind q) ⌝ }
 {
     format_numbers::write_4(out, 0, kind, 0, 0, 0);
-    format_numbers::write_u32(out, 4, q.client);
-    format_numbers::write_u32(out, 8, q.time);
+    format_numbers::write_u32(out, constants::NOTICE_CLIENT, q.client);
+    format_numbers::write_u32(out, constants::NOTICE_TIME, q.time);
 }
 
 fn write_grant(out: &mut [u8], q: Grant)
@@ -83,8 +83,8 @@ fn write_grant(out: &mut [u8], q: Grant)
     ensures { λ r. ⌜ now (out .exit) ≡ written (now (out .entry)) 0 (grantBytes q) ⌝ }
 {
     format_numbers::write_4(out, 0, constants::GRANT_KIND, 0, 0, 0);
-    format_numbers::write_u32(out, 4, q.client);
-    format_numbers::write_u32(out, 8, q.lease);
+    format_numbers::write_u32(out, constants::GRANT_CLIENT, q.client);
+    format_numbers::write_u32(out, constants::GRANT_LEASE, q.lease);
 }
 
 // ---- by value, for the client and the lease manager

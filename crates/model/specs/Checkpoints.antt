@@ -19,12 +19,12 @@ use Rattle.model.specs.Choice.{pick, orElse, _if_else_, passed, isPassed
 use Rattle.model.specs.Numbers.{byteAt, le32At, le32, le64, quad}
 use Rattle.model.specs.Refusals.{tooShort, notSynced, badLog, unknown, unsound, noRefusal}
 use Rattle.model.specs.Limits.{stateSize, headSize, planSize, pointCount, clientCount, recordCount, floorRow, entryRow, executedSize, takeHead, leastImage}
-use Rattle.model.specs.Limits.{checkpointSize, checkpointHead, checkpointPoint, checkpointRecord}
+use Rattle.model.specs.Limits.{checkpointSize, checkpointPairs, checkpointHead, checkpointPoint, checkpointRecord}
 use Rattle.model.specs.Tables.{rows, bytesOf, written}
 use Rattle.model.specs.Plan.{planBytes}
 use Rattle.model.specs.Images.{Image, floorBytes}
 use Rattle.model.specs.Logs.{LogRecord, executed, gone, gave, took, released, headBytes, headServer, recordAt, endsOf}
-use Rattle.model.specs.States.{State, given, stateMagic, recordRow, pointBytes, completionBytes, padded, load, sound, isId}
+use Rattle.model.specs.States.{State, given, stateMagic, recordRow, statusIn, takenMoveIn, pointBytes, completionBytes, padded, load, sound, isId}
 use Rattle.model.specs.Decisions.{find, isNone}
 use Rattle.model.specs.Operations.{After, answerOf, short, unfit, stored, leftUnless, settleRecovered, recoveredOn}
 
@@ -113,16 +113,22 @@ checkpointBytes st =
 -- ---- reading: the bytes of the state that a checkpoint keeps, which then has to be sound by the state's own rule
 
 -- numbers of clients and of completion records, by the lengths of their parts
+abbrev pub clientsSizeIn : List ℕ → ℕ
+clientsSizeIn s = le32At s 32
+
+abbrev pub recordsSizeIn : List ℕ → ℕ
+recordsSizeIn s = le32At s 40
+
 unfoldable pub clientsOf : List ℕ → ℕ
-clientsOf s = le32At s 32 / floorRow
+clientsOf s = clientsSizeIn s / floorRow
 
 unfoldable pub recordsOf : List ℕ → ℕ
-recordsOf s = le32At s 40 / checkpointRecord
+recordsOf s = recordsSizeIn s / checkpointRecord
 
 -- the state's row of a point, from its front: given and released ones have a give, those with a latest taken move a take, before this log
 unfoldable pub pointWhole : List ℕ → List ℕ
 pointWhole s =
-    take checkpointPoint s ++ (le64 (pick (leb given (byteAt s 0)) headSize 0) ++ le64 (pick (eqb (le32At s 12) 0) 0 headSize))
+    take checkpointPoint s ++ (le64 (pick (leb given (statusIn s)) headSize 0) ++ le64 (pick (eqb (takenMoveIn s) 0) 0 headSize))
 
 unfoldable pub recordWhole : List ℕ → List ℕ
 recordWhole s = take checkpointRecord s ++ le64 headSize
@@ -154,14 +160,14 @@ checkpointFramed s =
     && (eqb (byteAt s 1) (byteAt checkpointMagic 1)
     && (eqb (byteAt s 2) (byteAt checkpointMagic 2)
     && (eqb (byteAt s 3) (byteAt checkpointMagic 3)
-    && (eqb (le32At s 12) planPart
+    && (eqb (le32At s checkpointPairs) planPart
     && (eqb (le32At s 16) planSize
     && (eqb (le32At s 20) pointsPart
     && (eqb (le32At s 24) (checkpointPoint * pointCount)
     && (eqb (le32At s 28) clientsPart
-    && (eqb (le32At s 32) (floorRow * clientsOf s)
+    && (eqb (clientsSizeIn s) (floorRow * clientsOf s)
     && (eqb (le32At s 36) (recordsPart (clientsOf s))
-    && (eqb (le32At s 40) (checkpointRecord * recordsOf s)
+    && (eqb (recordsSizeIn s) (checkpointRecord * recordsOf s)
     && (leb (clientsOf s) clientCount
     && (leb (recordsOf s) recordCount && leb (recordsPart (clientsOf s) + checkpointRecord * recordsOf s) (length s)))))))))))))))
 

@@ -18,7 +18,7 @@ use Rattle.model.specs.Numbers.{byteAt, le32At, le32, signedAt, signed32
 use Rattle.model.specs.Tables.{rows, everyRow, bytesOf, every}
 use Rattle.model.specs.Plan.{inRange}
 use Rattle.model.specs.Packets.{idOk, commandOk, outcomeOk}
-use Rattle.model.specs.Limits.{lastPoint, lastServer, lastQuality, lastInWindow, clientCount, greatestImage, leastImage, partsStart, pointPart, floorRow, entryRow}
+use Rattle.model.specs.Limits.{lastPoint, lastServer, lastQuality, lastInWindow, clientCount, greatestImage, leastImage, imagePairs, partsStart, pointPart, floorRow, entryRow}
 
 pub record Image : Type 0 where
   pub point : ℕ
@@ -97,6 +97,13 @@ imageEntryOk p fs e =
 
 -- ---- the whole
 
+-- the lengths of the two tables, by their pairs
+abbrev pub floorsSizeIn : List ℕ → ℕ
+floorsSizeIn s = le32At s 28
+
+abbrev pub entriesSizeIn : List ℕ → ℕ
+entriesSizeIn s = le32At s 36
+
 unfoldable pub imageHeadOf : List ℕ → ImageHead
 imageHeadOf s =
     record {
@@ -107,8 +114,8 @@ imageHeadOf s =
       heard = le32At s 12;
       value = signedAt s 40;
       quality = byteAt s 44;
-      floors = le32At s 28 / floorRow;
-      entries = le32At s 36 / entryRow;
+      floors = floorsSizeIn s / floorRow;
+      entries = entriesSizeIn s / entryRow;
     }
 
 -- the image of a head and its tables, read from the bytes behind it
@@ -136,12 +143,12 @@ imageFramed s =
 -- three parts without gaps from byte 40 to the slice's end: 8 bytes, 8 a floor, 20 a record
 unfoldable pub imageParts : ImageHead → List ℕ → Bool
 imageParts h s =
-    eqb (le32At s 16) partsStart
+    eqb (le32At s imagePairs) partsStart
     && (eqb (le32At s 20) pointPart
     && (eqb (le32At s 24) leastImage
-    && (eqb (le32At s 28) (floorRow * h .floors)
+    && (eqb (floorsSizeIn s) (floorRow * h .floors)
     && (eqb (le32At s 32) (leastImage + floorRow * h .floors)
-    && (eqb (le32At s 36) (entryRow * h .entries) && eqb (length s) (leastImage + floorRow * h .floors + entryRow * h .entries))))))
+    && (eqb (entriesSizeIn s) (entryRow * h .entries) && eqb (length s) (leastImage + floorRow * h .floors + entryRow * h .entries))))))
 
 unfoldable pub imageHeadOk : ImageHead → Bool
 imageHeadOk h =

@@ -144,6 +144,11 @@ planRow = 16
 abbrev pub planSize : ℕ
 planSize = planRow * pointCount
 
+-- ---- a pair of offset and length
+
+abbrev pub pairSize : ℕ
+pairSize = 8
+
 -- ---- the log: bytes of its head, its records' kinds and bytes; a take has 8 and its image
 
 abbrev pub headSize : ℕ
@@ -179,10 +184,13 @@ takeHead = 8
 abbrev pub releaseSize : ℕ
 releaseSize = 8
 
--- ---- images: where the parts start, the bytes of the point's, the rows of the two tables, the least and the greatest length
+-- ---- images: where the pairs and the parts start, the bytes of the point's, the rows of the two tables, the least and the greatest length
+
+abbrev pub imagePairs : ℕ
+imagePairs = 16
 
 abbrev pub partsStart : ℕ
-partsStart = 40
+partsStart = imagePairs + pairSize * 3
 
 abbrev pub pointPart : ℕ
 pointPart = 8
@@ -204,13 +212,20 @@ greatestImage = leastImage + floorRow * clientCount + entryRow * recordCount
 abbrev pub stateSize : ℕ
 stateSize = 32768
 
--- ---- the checkpoint: the lent buffer, the bytes of its head and pairs, of a point's and of a completion record's row
+-- the end of a log record, in a row of the state
+abbrev pub endSize : ℕ
+endSize = 8
+
+-- ---- the checkpoint: the lent buffer, where its pairs start, the bytes of its head with them, of a point's and of a completion record's row
 
 abbrev pub checkpointSize : ℕ
 checkpointSize = 32768
 
+abbrev pub checkpointPairs : ℕ
+checkpointPairs = 12
+
 abbrev pub checkpointHead : ℕ
-checkpointHead = 44
+checkpointHead = checkpointPairs + pairSize * 4
 
 abbrev pub checkpointPoint : ℕ
 checkpointPoint = 16

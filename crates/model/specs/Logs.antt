@@ -81,6 +81,9 @@ unfoldable pub giveBytes : Give → List ℕ
 giveBytes g = quad giveKind (g .point) (g .destination) 0 ++ le32 (g .moveNumber)
 
 -- 4 take: kind, three zeros, image length, image
+abbrev pub imageSizeIn : List ℕ → ℕ
+imageSizeIn s = le32At s 4
+
 unfoldable pub takeBytes : Image → List ℕ
 takeBytes i = quad takeKind 0 0 0 ++ (le32 (imageLength i) ++ imageBytes i)
 
@@ -123,7 +126,7 @@ within s n = pick (ltb (length s) n) cut (spans n)
 unfoldable pub takeExtent : List ℕ → Extent
 takeExtent s =
     pick (ltb (length s) takeHead) cut
-    (pick (ltb (le32At s 4) leastImage || ltb greatestImage (le32At s 4)) off (within s (takeHead + le32At s 4)))
+    (pick (ltb (imageSizeIn s) leastImage || ltb greatestImage (imageSizeIn s)) off (within s (takeHead + imageSizeIn s)))
 
 -- the extent of the record at the front of s, of at least one byte
 unfoldable pub extentOf : List ℕ → Extent
@@ -145,7 +148,7 @@ recordAt s =
     pick (eqb (byteAt s 0) executedKind) (pick (zeros3At s 25 && executedOk (executedAt s)) (some (executed (executedAt s))) none)
     (pick (eqb (byteAt s 0) goneKind) (pick (zeros3At s 1 && noticeOk (noticeAt s)) (some (gone (noticeAt s))) none)
     (pick (eqb (byteAt s 0) giveKind) (pick (zeroAt s 3 && giveOk (giveAt s)) (some (gave (giveAt s))) none)
-    (pick (eqb (byteAt s 0) takeKind) (pick (zeros3At s 1) (takeParsed (parseImage (take (le32At s 4) (drop takeHead s)))) none)
+    (pick (eqb (byteAt s 0) takeKind) (pick (zeros3At s 1) (takeParsed (parseImage (take (imageSizeIn s) (drop takeHead s)))) none)
     (pick (eqb (byteAt s 0) releaseKind) (pick (zeroAt s 2 && (zeroAt s 3 && releaseOk (releaseAt s))) (some (released (releaseAt s))) none) none))))
 
 -- ---- the first walk: the ends of the records, by their kinds and lengths alone

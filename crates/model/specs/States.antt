@@ -19,7 +19,7 @@ use Rattle.model.specs.Tables.{rows, everyRow, bytesOf, every, zeros}
 use Rattle.model.specs.Plan.{planEntryOf, planBytes, planRowOk, entryAt, inRange}
 use Rattle.model.specs.Packets.{idOk, commandOk, outcomeOk}
 use Rattle.model.specs.Images.{floorOfBytes, floorBytes, floorOf, floorOk, inWindow, clientsAscend}
-use Rattle.model.specs.Limits.{invalid, lastServer, lastQuality, pointCount, clientCount, recordCount, planSize, planRow, headSize, floorRow}
+use Rattle.model.specs.Limits.{invalid, lastServer, lastQuality, pointCount, clientCount, recordCount, planSize, planRow, headSize, floorRow, endSize, checkpointPoint, checkpointRecord}
 
 -- `size` is the recorded length of the log; `records` are in order of arrival, `floors` by client
 pub record State : Type 0 where
@@ -68,14 +68,28 @@ isSynced mark end = leb end mark
 abbrev pub stateMagic : List ℕ
 stateMagic = quad 87 83 84 49
 
-abbrev pub stateHead : ℕ
-stateHead = 40
+-- places in the head: the counts of clients and of completion records, the log's length, the sync mark
+abbrev pub clientsPlace : ℕ
+clientsPlace = 12
 
+abbrev pub recordsPlace : ℕ
+recordsPlace = 16
+
+abbrev pub lengthPlace : ℕ
+lengthPlace = 24
+
+abbrev pub markPlace : ℕ
+markPlace = lengthPlace + endSize
+
+abbrev pub stateHead : ℕ
+stateHead = markPlace + endSize
+
+-- a row is what a checkpoint keeps of it, and the ends of log records
 abbrev pub pointRow : ℕ
-pointRow = 32
+pointRow = checkpointPoint + endSize + endSize
 
 abbrev pub recordRow : ℕ
-recordRow = 28
+recordRow = checkpointRecord + endSize
 
 -- one table after the other: plan, points, clients, completion records
 abbrev pub pointsStart : ℕ
@@ -91,17 +105,23 @@ abbrev pub stateEnd : ℕ
 stateEnd = recordsStart + recordRow * recordCount
 
 -- status, quality, destination, 0, value, move, latest taken move, end of the give (8), end of the take (8)
+abbrev pub statusIn : List ℕ → ℕ
+statusIn s = byteAt s 0
+
+abbrev pub takenMoveIn : List ℕ → ℕ
+takenMoveIn s = le32At s 12
+
 unfoldable pub pointOf : List ℕ → Point
 pointOf s =
     record {
-      status = byteAt s 0;
+      status = statusIn s;
       quality = byteAt s 1;
       destination = byteAt s 2;
       value = signedAt s 4;
       moveNumber = le32At s 8;
-      takenMove = le32At s 12;
-      giveEnd = le64At s 16;
-      takeEnd = le64At s 24;
+      takenMove = takenMoveIn s;
+      giveEnd = le64At s checkpointPoint;
+      takeEnd = le64At s (checkpointPoint + endSize);
     }
 
 unfoldable pub pointBytes : Point → List ℕ
@@ -115,7 +135,7 @@ completionOf s =
     record {
       command = record { client = le32At s 0; call = le32At s 4; op = byteAt s 16; point = byteAt s 19; argument = signedAt s 8 };
       result = record { outcome = byteAt s 17; value = signedAt s 12; quality = byteAt s 18 };
-      end = le64At s 20;
+      end = le64At s checkpointRecord;
     }
 
 unfoldable pub completionBytes : Completion → List ℕ
@@ -127,10 +147,10 @@ completionBytes r =
     ++ (signed32 (c .argument) ++ (signed32 (a .value) ++ (quad (c .op) (a .outcome) (a .quality) (c .point) ++ le64 (r .end)))))
 
 unfoldable pub clientsIn : List ℕ → ℕ
-clientsIn s = le32At s 12
+clientsIn s = le32At s clientsPlace
 
 unfoldable pub recordsIn : List ℕ → ℕ
-recordsIn s = le32At s 16
+recordsIn s = le32At s recordsPlace
 
 -- the state that lies in the buffer s
 unfoldable pub load : List ℕ → State
@@ -138,8 +158,8 @@ load s =
     record {
       server = byteAt s 4;
       heard = le32At s 8;
-      size = le64At s 24;
-      mark = le64At s 32;
+      size = le64At s lengthPlace;
+      mark = le64At s markPlace;
       plan = rows planEntryOf planRow pointCount (drop stateHead s);
       points = rows pointOf pointRow pointCount (drop pointsStart s);
       floors = rows floorOfBytes floorRow (clientsIn s) (drop floorsStart s);

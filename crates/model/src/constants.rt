@@ -1,6 +1,7 @@
 // Every number of docs/REFERENCE.md and docs/STATE.md that the code names, each once; derived ones are computed. The definitions name
-// them in the same words and order: specs/Limits.antt, specs/Refusals.antt, specs/States.antt. A size or count is a usize, a
-// field's value has its field's type.
+// them in the same words and order: specs/Limits.antt, specs/Refusals.antt, specs/States.antt. A size, a count or a field's place in its layout
+// is a usize, a field's value has its field's type. A place is computed from the field before it, a size from the last field; the first field
+// of a layout stands at its start.
 
 use crate::ArgumentRange;
 
@@ -13,6 +14,16 @@ pub const LAST_8: u32 = 255;
 pub const LAST_32: u32 = 4294967295;
 
 pub const WORD: u64 = LAST_32 as u64 + 1;
+
+// ---- bytes of a field: a number; three zeros; a place of the log; a pair of offset and length
+
+pub const NUMBER_SIZE: usize = 4;
+
+pub const ZEROS_SIZE: usize = 3;
+
+pub const END_SIZE: usize = 8;
+
+pub const PAIR_SIZE: usize = 2 * NUMBER_SIZE;
 
 // ---- ops
 
@@ -119,7 +130,7 @@ pub const LEASE_COUNT: usize = 32;
 
 pub const LONGEST_SPAN: u32 = 86400;
 
-// ---- packets: kinds, and bytes by kind
+// ---- packets: kinds
 
 pub const REQUEST_KIND: u8 = 1;
 
@@ -133,17 +144,77 @@ pub const NOTICE_KIND: u8 = 5;
 
 pub const GRANT_KIND: u8 = 6;
 
-pub const REQUEST_SIZE: usize = 24;
+// ---- fields of the packets, and bytes by kind; the kind is the first byte
 
-pub const RESULT_SIZE: usize = 16;
+pub const REQUEST_OP: usize = 1;
 
-pub const REFUSAL_SIZE: usize = 12;
+pub const REQUEST_POINT: usize = REQUEST_OP + 1;
 
-pub const RECEIPT_SIZE: usize = 8;
+pub const REQUEST_ZERO: usize = REQUEST_POINT + 1;
 
-pub const NOTICE_SIZE: usize = 12;
+pub const REQUEST_CLIENT: usize = REQUEST_ZERO + 1;
 
-pub const GRANT_SIZE: usize = 12;
+pub const REQUEST_CALL: usize = REQUEST_CLIENT + NUMBER_SIZE;
+
+pub const REQUEST_DONE: usize = REQUEST_CALL + NUMBER_SIZE;
+
+pub const REQUEST_LEASE: usize = REQUEST_DONE + NUMBER_SIZE;
+
+pub const REQUEST_ARGUMENT: usize = REQUEST_LEASE + NUMBER_SIZE;
+
+pub const REQUEST_SIZE: usize = REQUEST_ARGUMENT + NUMBER_SIZE;
+
+pub const RESULT_OUTCOME: usize = 1;
+
+pub const RESULT_POINT: usize = RESULT_OUTCOME + 1;
+
+pub const RESULT_QUALITY: usize = RESULT_POINT + 1;
+
+pub const RESULT_CLIENT: usize = RESULT_QUALITY + 1;
+
+pub const RESULT_CALL: usize = RESULT_CLIENT + NUMBER_SIZE;
+
+pub const RESULT_VALUE: usize = RESULT_CALL + NUMBER_SIZE;
+
+pub const RESULT_SIZE: usize = RESULT_VALUE + NUMBER_SIZE;
+
+pub const REFUSAL_NUMBER: usize = 1;
+
+pub const REFUSAL_POINT: usize = REFUSAL_NUMBER + 1;
+
+pub const REFUSAL_ZERO: usize = REFUSAL_POINT + 1;
+
+pub const REFUSAL_CLIENT: usize = REFUSAL_ZERO + 1;
+
+pub const REFUSAL_CALL: usize = REFUSAL_CLIENT + NUMBER_SIZE;
+
+pub const REFUSAL_SIZE: usize = REFUSAL_CALL + NUMBER_SIZE;
+
+pub const RECEIPT_POINT: usize = 1;
+
+pub const RECEIPT_SERVER: usize = RECEIPT_POINT + 1;
+
+pub const RECEIPT_ZERO: usize = RECEIPT_SERVER + 1;
+
+pub const RECEIPT_MOVE: usize = RECEIPT_ZERO + 1;
+
+pub const RECEIPT_SIZE: usize = RECEIPT_MOVE + NUMBER_SIZE;
+
+pub const NOTICE_ZEROS: usize = 1;
+
+pub const NOTICE_CLIENT: usize = NOTICE_ZEROS + ZEROS_SIZE;
+
+pub const NOTICE_TIME: usize = NOTICE_CLIENT + NUMBER_SIZE;
+
+pub const NOTICE_SIZE: usize = NOTICE_TIME + NUMBER_SIZE;
+
+pub const GRANT_ZEROS: usize = 1;
+
+pub const GRANT_CLIENT: usize = GRANT_ZEROS + ZEROS_SIZE;
+
+pub const GRANT_LEASE: usize = GRANT_CLIENT + NUMBER_SIZE;
+
+pub const GRANT_SIZE: usize = GRANT_LEASE + NUMBER_SIZE;
 
 // By kind; there is no kind 0.
 pub const PACKET_LENGTHS: [usize; 7] = [
@@ -161,17 +232,29 @@ pub const FIRST_DENIED: u8 = NOT_HELD as u8;
 
 pub const LAST_DENIED: u8 = LOG_FULL as u8;
 
-// ---- the plan
+// ---- the plan: fields of an entry, the bytes of one, and of all
 
-pub const PLAN_ROW: usize = 16;
+pub const PLAN_HIGH: usize = NUMBER_SIZE;
+
+pub const PLAN_FALLBACK: usize = PLAN_HIGH + NUMBER_SIZE;
+
+pub const PLAN_HOME: usize = PLAN_FALLBACK + NUMBER_SIZE;
+
+pub const PLAN_ZEROS: usize = PLAN_HOME + 1;
+
+pub const PLAN_ROW: usize = PLAN_ZEROS + ZEROS_SIZE;
 
 pub const PLAN_SIZE: usize = PLAN_ROW * POINT_COUNT;
 
-// ---- the log: its magic, the bytes of its head, its records' kinds and bytes; a take has 8 and its image
+// ---- the log: its magic, the fields and bytes of its head, its records' kinds, fields and bytes; a take has 8 and its image
 
 pub const LOG_MAGIC: [u8; 4] = *b"WLG1";
 
-pub const HEAD_SIZE: usize = 8;
+pub const HEAD_SERVER: usize = NUMBER_SIZE;
+
+pub const HEAD_ZEROS: usize = HEAD_SERVER + 1;
+
+pub const HEAD_SIZE: usize = HEAD_ZEROS + ZEROS_SIZE;
 
 pub const EXECUTED_KIND: u8 = 1;
 
@@ -183,43 +266,176 @@ pub const TAKE_KIND: u8 = 4;
 
 pub const RELEASE_KIND: u8 = 5;
 
-pub const EXECUTED_SIZE: usize = 28;
+pub const EXECUTED_OP: usize = 1;
 
-pub const GONE_SIZE: usize = 12;
+pub const EXECUTED_POINT: usize = EXECUTED_OP + 1;
 
-pub const GIVE_SIZE: usize = 8;
+pub const EXECUTED_OUTCOME: usize = EXECUTED_POINT + 1;
 
-pub const TAKE_HEAD: usize = 8;
+pub const EXECUTED_CLIENT: usize = EXECUTED_OUTCOME + 1;
 
-pub const RELEASE_SIZE: usize = 8;
+pub const EXECUTED_CALL: usize = EXECUTED_CLIENT + NUMBER_SIZE;
 
-// ---- images: the magic, the part of the point, the rows of the two tables, the least and the greatest length
+pub const EXECUTED_DONE: usize = EXECUTED_CALL + NUMBER_SIZE;
+
+pub const EXECUTED_ARGUMENT: usize = EXECUTED_DONE + NUMBER_SIZE;
+
+pub const EXECUTED_VALUE: usize = EXECUTED_ARGUMENT + NUMBER_SIZE;
+
+pub const EXECUTED_QUALITY: usize = EXECUTED_VALUE + NUMBER_SIZE;
+
+pub const EXECUTED_ZEROS: usize = EXECUTED_QUALITY + 1;
+
+pub const EXECUTED_SIZE: usize = EXECUTED_ZEROS + ZEROS_SIZE;
+
+// Fields and bytes of a notice, which has its own kind here.
+pub const GONE_SIZE: usize = NOTICE_SIZE;
+
+pub const GIVE_POINT: usize = 1;
+
+pub const GIVE_DESTINATION: usize = GIVE_POINT + 1;
+
+pub const GIVE_ZERO: usize = GIVE_DESTINATION + 1;
+
+pub const GIVE_MOVE: usize = GIVE_ZERO + 1;
+
+pub const GIVE_SIZE: usize = GIVE_MOVE + NUMBER_SIZE;
+
+pub const TAKE_ZEROS: usize = 1;
+
+pub const TAKE_LENGTH: usize = TAKE_ZEROS + ZEROS_SIZE;
+
+pub const TAKE_HEAD: usize = TAKE_LENGTH + NUMBER_SIZE;
+
+pub const RELEASE_POINT: usize = 1;
+
+pub const RELEASE_ZERO: usize = RELEASE_POINT + 1;
+
+pub const RELEASE_SECOND_ZERO: usize = RELEASE_ZERO + 1;
+
+pub const RELEASE_MOVE: usize = RELEASE_SECOND_ZERO + 1;
+
+pub const RELEASE_SIZE: usize = RELEASE_MOVE + NUMBER_SIZE;
+
+// ---- images: the magic, the fields before the parts, the part of the point, the rows of the two tables, the least and the greatest length
 
 pub const IMAGE_MAGIC: [u8; 4] = *b"MVI1";
 
-pub const PARTS_START: usize = 40;
+pub const IMAGE_POINT: usize = NUMBER_SIZE;
 
-pub const POINT_PART: usize = 8;
+pub const IMAGE_DESTINATION: usize = IMAGE_POINT + 1;
 
-pub const FLOOR_ROW: usize = 8;
+pub const IMAGE_SOURCE: usize = IMAGE_DESTINATION + 1;
 
-pub const ENTRY_ROW: usize = 20;
+pub const IMAGE_ZERO: usize = IMAGE_SOURCE + 1;
+
+pub const IMAGE_MOVE: usize = IMAGE_ZERO + 1;
+
+pub const IMAGE_HEARD: usize = IMAGE_MOVE + NUMBER_SIZE;
+
+pub const IMAGE_POINT_PAIR: usize = IMAGE_HEARD + NUMBER_SIZE;
+
+pub const IMAGE_POINT_LENGTH: usize = IMAGE_POINT_PAIR + NUMBER_SIZE;
+
+pub const IMAGE_FLOORS_PAIR: usize = IMAGE_POINT_PAIR + PAIR_SIZE;
+
+pub const IMAGE_FLOORS_LENGTH: usize = IMAGE_FLOORS_PAIR + NUMBER_SIZE;
+
+pub const IMAGE_ENTRIES_PAIR: usize = IMAGE_FLOORS_PAIR + PAIR_SIZE;
+
+pub const IMAGE_ENTRIES_LENGTH: usize = IMAGE_ENTRIES_PAIR + NUMBER_SIZE;
+
+pub const PARTS_START: usize = IMAGE_ENTRIES_PAIR + PAIR_SIZE;
+
+pub const IMAGE_QUALITY: usize = PARTS_START + NUMBER_SIZE;
+
+pub const IMAGE_ZEROS: usize = IMAGE_QUALITY + 1;
+
+pub const POINT_PART: usize = IMAGE_ZEROS + ZEROS_SIZE - PARTS_START;
+
+pub const FLOOR_NUMBER: usize = NUMBER_SIZE;
+
+pub const FLOOR_ROW: usize = FLOOR_NUMBER + NUMBER_SIZE;
+
+pub const ENTRY_CALL: usize = NUMBER_SIZE;
+
+pub const ENTRY_ARGUMENT: usize = ENTRY_CALL + NUMBER_SIZE;
+
+pub const ENTRY_VALUE: usize = ENTRY_ARGUMENT + NUMBER_SIZE;
+
+pub const ENTRY_OP: usize = ENTRY_VALUE + NUMBER_SIZE;
+
+pub const ENTRY_OUTCOME: usize = ENTRY_OP + 1;
+
+pub const ENTRY_QUALITY: usize = ENTRY_OUTCOME + 1;
+
+pub const ENTRY_ZERO: usize = ENTRY_QUALITY + 1;
+
+pub const ENTRY_ROW: usize = ENTRY_ZERO + 1;
 
 pub const LEAST_IMAGE: usize = PARTS_START + POINT_PART;
 
 pub const GREATEST_IMAGE: usize = LEAST_IMAGE + FLOOR_ROW * CLIENT_COUNT + ENTRY_ROW * RECORD_COUNT;
 
-// ---- a server's state: the buffer, the magic, the places of the tables and their rows
+// ---- a server's state: the buffer, the magic, the head's fields, those of a point's and of a completion record's row, the places of the tables
 
 pub const STATE_SIZE: usize = 32768;
 
 pub const STATE_MAGIC: [u8; 4] = *b"WST1";
 
-pub const STATE_HEAD: usize = 40;
+pub const STATE_SERVER: usize = NUMBER_SIZE;
 
-pub const POINT_ROW: usize = 32;
+pub const STATE_ZEROS: usize = STATE_SERVER + 1;
 
-pub const RECORD_ROW: usize = 28;
+pub const STATE_HEARD: usize = STATE_ZEROS + ZEROS_SIZE;
+
+pub const STATE_CLIENTS: usize = STATE_HEARD + NUMBER_SIZE;
+
+pub const STATE_RECORDS: usize = STATE_CLIENTS + NUMBER_SIZE;
+
+pub const STATE_FILL: usize = STATE_RECORDS + NUMBER_SIZE;
+
+pub const STATE_LENGTH: usize = STATE_FILL + NUMBER_SIZE;
+
+pub const STATE_MARK: usize = STATE_LENGTH + END_SIZE;
+
+pub const STATE_HEAD: usize = STATE_MARK + END_SIZE;
+
+pub const POINT_QUALITY: usize = 1;
+
+pub const POINT_DESTINATION: usize = POINT_QUALITY + 1;
+
+pub const POINT_ZERO: usize = POINT_DESTINATION + 1;
+
+pub const POINT_VALUE: usize = POINT_ZERO + 1;
+
+pub const POINT_MOVE: usize = POINT_VALUE + NUMBER_SIZE;
+
+pub const POINT_TAKEN: usize = POINT_MOVE + NUMBER_SIZE;
+
+pub const POINT_GIVE_END: usize = POINT_TAKEN + NUMBER_SIZE;
+
+pub const POINT_TAKE_END: usize = POINT_GIVE_END + END_SIZE;
+
+pub const POINT_ROW: usize = POINT_TAKE_END + END_SIZE;
+
+pub const RECORD_CALL: usize = NUMBER_SIZE;
+
+pub const RECORD_ARGUMENT: usize = RECORD_CALL + NUMBER_SIZE;
+
+pub const RECORD_VALUE: usize = RECORD_ARGUMENT + NUMBER_SIZE;
+
+pub const RECORD_OP: usize = RECORD_VALUE + NUMBER_SIZE;
+
+pub const RECORD_OUTCOME: usize = RECORD_OP + 1;
+
+pub const RECORD_QUALITY: usize = RECORD_OUTCOME + 1;
+
+pub const RECORD_POINT: usize = RECORD_QUALITY + 1;
+
+pub const RECORD_END: usize = RECORD_POINT + 1;
+
+pub const RECORD_ROW: usize = RECORD_END + END_SIZE;
 
 pub const PLAN_START: usize = STATE_HEAD;
 
@@ -231,17 +447,40 @@ pub const RECORDS_START: usize = FLOORS_START + FLOOR_ROW * CLIENT_COUNT;
 
 pub const STATE_END: usize = RECORDS_START + RECORD_ROW * RECORD_COUNT;
 
-// ---- the checkpoint: the buffer, the magic, the bytes of its head with the pairs, its rows, the places of its parts
+// ---- the checkpoint: the buffer, the magic, the head's fields and pairs, its rows (the fronts of the state's, without ends), the places of its parts
 
 pub const CHECKPOINT_SIZE: usize = 32768;
 
 pub const CHECKPOINT_MAGIC: [u8; 4] = *b"WLG2";
 
-pub const CHECKPOINT_HEAD: usize = 44;
+pub const CHECKPOINT_SERVER: usize = NUMBER_SIZE;
 
-pub const CHECKPOINT_POINT: usize = 16;
+pub const CHECKPOINT_HEARD: usize = CHECKPOINT_SERVER + 1 + ZEROS_SIZE;
 
-pub const CHECKPOINT_RECORD: usize = 20;
+// Server number, zeros and heard time: as in the state's head.
+pub const CHECKPOINT_SHARED: usize = CHECKPOINT_HEARD + NUMBER_SIZE - CHECKPOINT_SERVER;
+
+pub const CHECKPOINT_PLAN_PAIR: usize = CHECKPOINT_HEARD + NUMBER_SIZE;
+
+pub const CHECKPOINT_PLAN_LENGTH: usize = CHECKPOINT_PLAN_PAIR + NUMBER_SIZE;
+
+pub const CHECKPOINT_POINTS_PAIR: usize = CHECKPOINT_PLAN_PAIR + PAIR_SIZE;
+
+pub const CHECKPOINT_POINTS_LENGTH: usize = CHECKPOINT_POINTS_PAIR + NUMBER_SIZE;
+
+pub const CHECKPOINT_CLIENTS_PAIR: usize = CHECKPOINT_POINTS_PAIR + PAIR_SIZE;
+
+pub const CHECKPOINT_CLIENTS_LENGTH: usize = CHECKPOINT_CLIENTS_PAIR + NUMBER_SIZE;
+
+pub const CHECKPOINT_RECORDS_PAIR: usize = CHECKPOINT_CLIENTS_PAIR + PAIR_SIZE;
+
+pub const CHECKPOINT_RECORDS_LENGTH: usize = CHECKPOINT_RECORDS_PAIR + NUMBER_SIZE;
+
+pub const CHECKPOINT_HEAD: usize = CHECKPOINT_RECORDS_PAIR + PAIR_SIZE;
+
+pub const CHECKPOINT_POINT: usize = POINT_GIVE_END;
+
+pub const CHECKPOINT_RECORD: usize = RECORD_END;
 
 pub const PLAN_PART: usize = CHECKPOINT_HEAD;
 

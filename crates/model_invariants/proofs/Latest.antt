@@ -203,7 +203,8 @@ module _ (start : State) (first : Place) (x c : ℕ) where
         let d = entry-id x c (e .item) (e .passes) in
         let f : FreeFor (i .point) (st .records) (e .item) = all-member (FreeFor (i .point) (st .records)) (took-follows st i h .free) (e .member) in
         let at : r .command .point ≡ i .point = all-member _ f (keep-member (isOnOther (i .point)) (st .records) m) (k ∙ sym (d .0)) (l ∙ sym (d .1)) in
-        let n : eqb (r .command .point) (i .point) ≡ false = not-true _ (every-member (isOnOther (i .point)) (keep (isOnOther (i .point)) (st .records)) (every-keep (isOnOther (i .point)) (st .records)) m) in
+        let kept = every-keep (isOnOther (i .point)) (st .records) in
+        let n : eqb (r .command .point) (i .point) ≡ false = not-true _ (every-member (isOnOther (i .point)) (keep (isOnOther (i .point)) (st .records)) kept m) in
         eqb-no _ _ n at
 
     took-here : (i : Image) → EntriesAscending (i .entries) → (r : Completion) → Taken (i .point) (st .size + recordSize (took i)) (i .entries) r → r .command .client ≡ x → r .command .call ≡ c
@@ -258,5 +259,6 @@ module _ (start : State) (first : Place) (x c : ℕ) where
       let now = replayFrom start es in
       let R = recovers s es d .sound in
       let e = entryFor now r in
-      let T = record-standing es (decided-from s es d) now (replay-end s es) (latestAmong x c headSize es first) (found-latest s es d S) r (decided-good now free r R D) (decided-follows now free r R D) in
+      let good = decided-good now free r R D in
+      let T = record-standing es (decided-from s es d) now (replay-end s es) (latestAmong x c headSize es first) (found-latest s es d S) r good (decided-follows now free r R D) in
       rw (latest-append x c headSize es e first, from-next start es e) T

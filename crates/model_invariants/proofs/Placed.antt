@@ -381,14 +381,16 @@ module _ (f : ℕ → ℕ) (st : State) where
       unfolding onImage placed
       image-placed p =
           let a : imageRefusal (pointAt (placed f st) p) (placed f st .mark) ≡ imageRefusal (pointAt st p) (st .mark)
-          = synced-point f st z (λ (x : Point). imageRefusal x (f (st .mark))) (λ (x : Point). imageRefusal x (st .mark)) (λ (x : Point). unfold imageRefusal placedPoint isGiven in rw (s (x .giveEnd))) p in
+          = synced-point f st z (λ (x : Point). imageRefusal x (f (st .mark))) (λ (x : Point). imageRefusal x (st .mark))
+          (λ (x : Point). unfold imageRefusal placedPoint isGiven in rw (s (x .giveEnd))) p in
           rw (a, image-for p)
 
       pub receipt-placed : (p : ℕ) → onReceipt (placed f st) p ≡ onReceipt st p
       unfolding onReceipt placed
       receipt-placed p =
           let a : receiptRefusal (pointAt (placed f st) p) (placed f st .mark) ≡ receiptRefusal (pointAt st p) (st .mark)
-          = synced-point f st z (λ (x : Point). receiptRefusal x (f (st .mark))) (λ (x : Point). receiptRefusal x (st .mark)) (λ (x : Point). unfold receiptRefusal placedPoint in rw (s (x .takeEnd))) p in
+          = synced-point f st z (λ (x : Point). receiptRefusal x (f (st .mark))) (λ (x : Point). receiptRefusal x (st .mark))
+          (λ (x : Point). unfold receiptRefusal placedPoint in rw (s (x .takeEnd))) p in
           let m : pointAt (placed f st) p .takenMove ≡ pointAt st p .takenMove = at-point (λ (x : Point). x .takenMove) f (λ (x : Point). unfold placedPoint in refl) st p in
           rw (a, m)
 

@@ -98,7 +98,12 @@ module _ (n : ℕ) (es : List Entry) (tail : List ℕ) (logged : take (lastEnd h
       let s : entriesBytes es ≡ entriesBytes a ++ (r ++ entriesBytes b) = ap entriesBytes q ∙ entries-append a (e ∷ b) in
       sym (take-append-drop (lastEnd headSize es) tail)
       ∙ ap (λ (j : List ℕ). j ++ behind) (logged ∙ ap (λ (j : List ℕ). headBytes n ++ j) s)
-      ∙ rw (append-assoc (headBytes n) (entriesBytes a) (r ++ (entriesBytes b ++ behind)), append-assoc (headBytes n) (entriesBytes a ++ (r ++ entriesBytes b)) behind, append-assoc (entriesBytes a) (r ++ entriesBytes b) behind, append-assoc r (entriesBytes b) behind)
+      ∙ rw (
+        append-assoc (headBytes n) (entriesBytes a) (r ++ (entriesBytes b ++ behind)),
+        append-assoc (headBytes n) (entriesBytes a ++ (r ++ entriesBytes b)) behind,
+        append-assoc (entriesBytes a) (r ++ entriesBytes b) behind,
+        append-assoc r (entriesBytes b) behind,
+      )
 
   record-shown : (a b : List Entry) (x : Executed) (end : ℕ) → es ≡ a ++ (record { item = executed x; end = end } ∷ b) → EntriesFrom headSize a
       → take (lastEnd headSize a + executedSize - lastEnd headSize a) (drop (lastEnd headSize a) tail) ≡ executedBytes x

@@ -56,7 +56,8 @@ unfolding recovered later apply
 recovered-alike b s t e [] h = ap some e
 recovered-alike b s t e (x ∷ es) h =
     go (follows t (x .item)) (follows-alike s t e (x .item))
-    (recovered-alike b (applyRecord (x .item) (x .end) s) (applyRecord (x .item) (b + x .end) t) (apply-alike s t e (x .item) (x .end) (b + x .end) (omega (arith, h .0)) (omega (arith, h .0))) es (h .1))
+    (recovered-alike b (applyRecord (x .item) (x .end) s) (applyRecord (x .item) (b + x .end) t)
+    (apply-alike s t e (x .item) (x .end) (b + x .end) (omega (arith, h .0)) (omega (arith, h .0))) es (h .1))
   where
     go : (a : Bool) → follows s (x .item) ≡ a
         → Option·map rebased (recovered (applyRecord (x .item) (x .end) s) es) ≡ Option·map rebased (recovered (applyRecord (x .item) (b + x .end) t) (later b es))

@@ -268,7 +268,9 @@ module _ (st : State) where
           ∙ drop-at clientsBytes (recordsBytes ++ rest) (floorRow * length (st .floors)) clients-length
 
       plan-at : take planSize (drop planPart (checkpointBytes st ++ rest)) ≡ planBytes (st .plan)
-      plan-at = ap (λ (x : List ℕ). take planSize x) drop-head ∙ take-at (planBytes (st .plan)) (frontsBytes ++ (clientsBytes ++ (recordsBytes ++ rest))) planSize (plan-length (st .plan) (f .plan-count))
+      plan-at =
+          ap (λ (x : List ℕ). take planSize x) drop-head
+          ∙ take-at (planBytes (st .plan)) (frontsBytes ++ (clientsBytes ++ (recordsBytes ++ rest))) planSize (plan-length (st .plan) (f .plan-count))
 
       floors-at : padded (take floorRow) floorRow clientCount (fronts floorRow (clientsOf (checkpointBytes st ++ rest)) (drop clientsPart (checkpointBytes st ++ rest)))
           ≡ padded floorBytes floorRow clientCount (st .floors)
@@ -298,7 +300,11 @@ module _ (st : State) where
         le32-digits (checkpointRecord * length (st .records)),
       )
 
-      magic-at : ((byteAt (checkpointBytes st ++ rest) 0 ≡ 87) × (byteAt (checkpointBytes st ++ rest) 1 ≡ 76) × (byteAt (checkpointBytes st ++ rest) 2 ≡ 71) × (byteAt (checkpointBytes st ++ rest) 3 ≡ 50))
+      magic-at :
+          (byteAt (checkpointBytes st ++ rest) 0 ≡ 87)
+          × (byteAt (checkpointBytes st ++ rest) 1 ≡ 76)
+          × (byteAt (checkpointBytes st ++ rest) 2 ≡ 71)
+          × (byteAt (checkpointBytes st ++ rest) 3 ≡ 50)
       unfolding checkpointBytes
       magic-at = (refl, refl, refl, refl)
 
@@ -335,11 +341,18 @@ module _ (st : State) where
         (clientsBytes ++ (recordsBytes ++ rest)) (R .points)
         ∙ sym (bytesOf-map pointBytes (placedPoint endBefore) (st .points)))
 
-    completions-at : padded recordWhole recordRow recordCount (fronts checkpointRecord (recordsOf (checkpointBytes st ++ rest)) (drop (recordsPart (clientsOf (checkpointBytes st ++ rest))) (checkpointBytes st ++ rest)))
+    completions-at : padded recordWhole recordRow recordCount
+        (fronts checkpointRecord (recordsOf (checkpointBytes st ++ rest)) (drop (recordsPart (clientsOf (checkpointBytes st ++ rest))) (checkpointBytes st ++ rest)))
         ≡ padded completionBytes recordRow recordCount (map (placedRecord endBefore) (st .records))
     unfolding padded
     completions-at =
-        rw (clients-at (R .fits) rest, records-at (R .fits) rest, drop-clients (R .fits) rest, length-fronts checkpointRecord (length (st .records)) (recordsBytes ++ rest), length-map (st .records) (placedRecord endBefore))
+        rw (
+          clients-at (R .fits) rest,
+          records-at (R .fits) rest,
+          drop-clients (R .fits) rest,
+          length-fronts checkpointRecord (length (st .records)) (recordsBytes ++ rest),
+          length-map (st .records) (placedRecord endBefore),
+        )
         (ap (λ (x : List ℕ). x ++ replicate (recordRow * (recordCount - length (st .records))) 0)
         (fronts-back (λ (r : Completion). endBefore (r .end) ≡ headSize) recordFront (λ (r : Completion). completionBytes (placedRecord endBefore r)) checkpointRecord recordWhole
         (λ r t. record-front-width r) record-whole (st .records) rest (R .records)
@@ -348,4 +361,15 @@ module _ (st : State) where
     pub restored-front : restored (checkpointBytes st ++ rest) ≡ stateBytes (rebased st)
     unfolding restored stateBytes stateHeadBytes rebased placed le64
     restored-front =
-        rw (completions-at, floors-at (R .fits) rest, points-at, plan-at (R .fits) rest, clients-at (R .fits) rest, records-at (R .fits) rest, head-at (R .fits) rest, R .size, R .mark, length-map (st .records) (placedRecord endBefore))
+        rw (
+          completions-at,
+          floors-at (R .fits) rest,
+          points-at,
+          plan-at (R .fits) rest,
+          clients-at (R .fits) rest,
+          records-at (R .fits) rest,
+          head-at (R .fits) rest,
+          R .size,
+          R .mark,
+          length-map (st .records) (placedRecord endBefore),
+        )

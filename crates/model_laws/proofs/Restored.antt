@@ -240,7 +240,8 @@ module _ (s : List ℕ) where
       points-rows : bytesOf pointBytes (load (restored s) .points) ≡ pointsOfIt
       unfolding load
       points-rows =
-          rows-again pointCodec pointCount (drop pointsStart (restored s)) (bytes-drop pointsStart (restored s) fit) (omega (arith, length-drop pointsStart (restored s), restored-long)) (D .point-rows)
+          rows-again pointCodec pointCount (drop pointsStart (restored s)) (bytes-drop pointsStart (restored s) fit)
+          (omega (arith, length-drop pointsStart (restored s), restored-long)) (D .point-rows)
           ∙ ap (λ (x : List ℕ). take (pointRow * pointCount) x) drop-plan
           ∙ take-at pointsOfIt (floorsOfIt ++ recordsOfIt) (pointRow * pointCount) points-long
 
@@ -271,7 +272,8 @@ module _ (s : List ℕ) where
       records-rows : bytesOf completionBytes (load (restored s) .records) ≡ bytesOf recordWhole (fronts checkpointRecord (recordsOf s) (drop (recordsPart (clientsOf s)) s))
       unfolding load
       records-rows =
-          let n : length (fronts checkpointRecord (recordsOf s) (drop (recordsPart (clientsOf s)) s)) ≡ recordsOf s = length-fronts checkpointRecord (recordsOf s) (drop (recordsPart (clientsOf s)) s) in
+          let n : length (fronts checkpointRecord (recordsOf s) (drop (recordsPart (clientsOf s)) s)) ≡ recordsOf s
+          = length-fronts checkpointRecord (recordsOf s) (drop (recordsPart (clientsOf s)) s) in
           rows-again completionCodec (recordsIn (restored s)) (drop recordsStart (restored s)) (bytes-drop recordsStart (restored s) fit)
           (omega (arith, length-drop recordsStart (restored s), restored-long, D .few-records)) (everyRow-true recordRow (recordsIn (restored s)) (drop recordsStart (restored s)))
           ∙ rw (restored-records, drop-floors, ← append-nil recordsOfIt)
@@ -312,7 +314,8 @@ module _ (s : List ℕ) where
           let k : ℕ = checkpointRecord * recordsOf s in
           let e : 4 + (4 + (4 + (32 + (planSize + (checkpointPoint * pointCount + (n + k)))))) ≡ recordsPart (clientsOf s) + k = omega arith in
           rw (floors-count, records-count)
-          (part-join s 0 4 (4 + (4 + (32 + (planSize + (checkpointPoint * pointCount + (n + k)))))) (quad-again s 0 (omega (arith, d .whole)) (sym (d .at0)) (sym (d .at1)) (sym (d .at2)) (sym (d .at3)))
+          (part-join s 0 4 (4 + (4 + (32 + (planSize + (checkpointPoint * pointCount + (n + k))))))
+          (quad-again s 0 (omega (arith, d .whole)) (sym (d .at0)) (sym (d .at1)) (sym (d .at2)) (sym (d .at3)))
           (part-join s 4 4 (4 + (32 + (planSize + (checkpointPoint * pointCount + (n + k))))) server-again
           (part-join s 8 4 (32 + (planSize + (checkpointPoint * pointCount + (n + k)))) heard-again
           (part-join s 12 32 (planSize + (checkpointPoint * pointCount + (n + k))) pairs-again

@@ -31,7 +31,9 @@ short-tail false true u v = refl
 short-tail false false u v = refl
 
 -- the tail is long enough: those of lent memory come first, then the last
-in-turn : (a b u : Bool) (m : ℕ) → pick (a || (b || false)) tooShort (pick u unsound m) ≡ pick (eqb (pick (a || b) tooShort (pick u unsound noRefusal)) noRefusal) m (pick (a || b) tooShort (pick u unsound noRefusal))
+in-turn : (a b u : Bool) (m : ℕ)
+    → pick (a || (b || false)) tooShort (pick u unsound m)
+    ≡ pick (eqb (pick (a || b) tooShort (pick u unsound noRefusal)) noRefusal) m (pick (a || b) tooShort (pick u unsound noRefusal))
 in-turn true b u m = refl
 in-turn false true u m = refl
 in-turn false false true m = refl
@@ -42,7 +44,9 @@ module _ (s log : List ℕ) (n t : ℕ) where
   unfolding checkpointRefusal
   tail-short h = rw (lt-ltb t headSize h) (short-tail (short s stateSize) (ltb n checkpointSize) (unfit s log) (ltb (load s .mark) (load s .size)))
 
-  in-order : headSize ≤ t → checkpointRefusal s log n t ≡ pick (eqb (lentRefusal s log n checkpointSize) noRefusal) (pick (ltb (load s .mark) (load s .size)) notSynced noRefusal) (lentRefusal s log n checkpointSize)
+  in-order : headSize ≤ t
+      → checkpointRefusal s log n t
+      ≡ pick (eqb (lentRefusal s log n checkpointSize) noRefusal) (pick (ltb (load s .mark) (load s .size)) notSynced noRefusal) (lentRefusal s log n checkpointSize)
   unfolding checkpointRefusal lentRefusal
   in-order h = rw (le-ltb t headSize h) (in-turn (short s stateSize) (ltb n checkpointSize) (unfit s log) (pick (ltb (load s .mark) (load s .size)) notSynced noRefusal))
 

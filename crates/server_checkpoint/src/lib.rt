@@ -43,7 +43,8 @@ fn checkpoint_done(s: &mut [u8], checkpoint: &mut [u8], tail: &mut [u8]) -> Answ
 
 // 2; 19; 7; else the checkpoint, the tail's head, and the state that starts from both. The log is only measured.
 pub fn checkpoint(state: &mut [u8], log: &[u8], checkpoint: &mut [u8], tail: &mut [u8]) -> Answer
-    ensures { λ r. ⌜ afterCheckpoint r (now (state .exit)) (now (checkpoint .exit)) (now (tail .exit)) ≡ checkpointOf (now (state .entry)) (now (log .entry)) (now (checkpoint .entry)) (now (tail .entry)) ⌝ }
+    ensures { λ r. ⌜ afterCheckpoint r (now (state .exit)) (now (checkpoint .exit)) (now (tail .exit))
+        ≡ checkpointOf (now (state .entry)) (now (log .entry)) (now (checkpoint .entry)) (now (tail .entry)) ⌝ }
 {
     let n = checkpoint_refusal(state, log, checkpoint.len(), tail.len());
     if n != 0 {

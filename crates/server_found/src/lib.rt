@@ -38,8 +38,8 @@ fn put_head(s: &mut [u8], n: u8)
         constants::STATE_MAGIC[2],
         constants::STATE_MAGIC[3],
     );
-    format_numbers::write_4(s, 4, n, 0, 0, 0);
-    state_rows::clear(s, 8, 24);
+    format_numbers::write_4(s, constants::STATE_SERVER, n, 0, 0, 0);
+    state_rows::clear(s, constants::STATE_HEARD, constants::STATE_LENGTH);
     state_rows::put_size(s, constants::HEAD_SIZE_U64);
     state_rows::put_mark(s, constants::HEAD_SIZE_U64);
 }

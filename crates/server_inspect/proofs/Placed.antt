@@ -106,7 +106,8 @@ module _ (checkpoint tail : List ℕ) where
       go : (b : Bool) → ltb 0 (length checkpoint) ≡ b → Inside checkpoint tail (placeInCheckpoint x c checkpoint)
       go true e =
           let w : Framed checkpoint = framed-is checkpoint (u (ltb-true 0 (length checkpoint) e)) in
-          placed-among (isId x c) (load (restored checkpoint) .records) inCheckpoint (recordsPart (clientsOf checkpoint)) (noPlace unknown) (rw (kept-count checkpoint w) (w .whole)) (placed-none unknown)
+          placed-among (isId x c) (load (restored checkpoint) .records) inCheckpoint (recordsPart (clientsOf checkpoint)) (noPlace unknown)
+          (rw (kept-count checkpoint w) (w .whole)) (placed-none unknown)
       go false e = rw (← held-nowhere checkpoint x c h (omega (arith, ltb-false 0 (length checkpoint) e)) refl) (placed-none unknown)
 
 -- ---- the answer

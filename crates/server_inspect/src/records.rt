@@ -44,7 +44,7 @@ fn is_row_id(s: &[u8], k: usize, client: u32, call: u32) -> bool
     ensures { λ r. ⌜ r ≡ isRowId client call (drop k (now (s .entry))) ⌝ }
 {
     let x = format_numbers::read_u32(s, k);
-    let c = format_numbers::read_u32(s, k + 4);
+    let c = format_numbers::read_u32(s, k + constants::ENTRY_CALL);
     (x == client) & (c == call)
 }
 

@@ -15,7 +15,7 @@ ghost use mathlib.Core.Path.{_≡_};
 ghost use mathlib.Core.List.{_++_};
 ghost use Prim.Native.Nat.{_+_, _*_, _≤_};
 ghost use lib.ListN.{length, take};
-ghost use Rattle.model.specs.Limits.{clientCount, recordCount, checkpointHead, checkpointSize};
+ghost use Rattle.model.specs.Limits.{clientCount, recordCount, pairSize, checkpointPairs, checkpointHead, checkpointSize};
 ghost use Rattle.model.specs.Numbers.{le32, quad};
 ghost use Rattle.model.specs.Tables.{bytesOf, written};
 ghost use Rattle.model.specs.Plan.{planBytes};
@@ -53,35 +53,45 @@ fn write_frame(checkpoint: &mut [u8], server: u8, heard: u32)
         CHECKPOINT_MAGIC[2],
         CHECKPOINT_MAGIC[3],
     );
-    format_numbers::write_4(checkpoint, 4, server, 0, 0, 0);
-    format_numbers::write_u32(checkpoint, 8, heard);
+    format_numbers::write_4(checkpoint, constants::CHECKPOINT_SERVER, server, 0, 0, 0);
+    format_numbers::write_u32(checkpoint, constants::CHECKPOINT_HEARD, heard);
 }
 
 // A part's offset and length.
 fn write_pair(checkpoint: &mut [u8], at: usize, offset: u32, size: u32)
-    requires { ⌜ at + 8 ≤ length (now checkpoint) ⌝ }
+    requires { ⌜ at + pairSize ≤ length (now checkpoint) ⌝ }
     ensures { λ r. ⌜ now (checkpoint .exit) ≡ written (now (checkpoint .entry)) at (le32 offset ++ le32 size) ⌝ }
 {
     format_numbers::write_u32(checkpoint, at, offset);
-    format_numbers::write_u32(checkpoint, at + 4, size);
+    format_numbers::write_u32(checkpoint, at + constants::NUMBER_SIZE, size);
 }
 
 // The pairs, for n clients and k completion records.
 fn write_pairs(checkpoint: &mut [u8], n: usize, k: usize)
     requires { ⌜ (checkpointHead ≤ length (now checkpoint)) × (n ≤ clientCount) × (k ≤ recordCount) ⌝ }
-    ensures { λ r. ⌜ now (checkpoint .exit) ≡ written (now (checkpoint .entry)) 12 (pairsBytes n k) ⌝ }
+    ensures { λ r. ⌜ now (checkpoint .exit) ≡ written (now (checkpoint .entry)) checkpointPairs (pairsBytes n k) ⌝ }
 {
-    write_pair(checkpoint, 12, PLAN_PART as u32, PLAN_SIZE as u32);
     write_pair(
         checkpoint,
-        20,
+        constants::CHECKPOINT_PLAN_PAIR,
+        PLAN_PART as u32,
+        PLAN_SIZE as u32,
+    );
+    write_pair(
+        checkpoint,
+        constants::CHECKPOINT_POINTS_PAIR,
         POINTS_PART as u32,
         (CHECKPOINT_POINT * POINT_COUNT) as u32,
     );
-    write_pair(checkpoint, 28, CLIENTS_PART as u32, (FLOOR_ROW * n) as u32);
     write_pair(
         checkpoint,
-        36,
+        constants::CHECKPOINT_CLIENTS_PAIR,
+        CLIENTS_PART as u32,
+        (FLOOR_ROW * n) as u32,
+    );
+    write_pair(
+        checkpoint,
+        constants::CHECKPOINT_RECORDS_PAIR,
         (CLIENTS_PART + FLOOR_ROW * n) as u32,
         (CHECKPOINT_RECORD * k) as u32,
     );

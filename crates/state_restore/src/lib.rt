@@ -34,7 +34,7 @@ pub fn clients_of(s: &[u8]) -> usize
     requires { ⌜ checkpointHead ≤ length (now s) ⌝ }
     ensures { λ r. ⌜ r ≡ clientsOf (now (s .entry)) ⌝ }
 {
-    format_numbers::read_u32(s, 32) as usize / FLOOR_ROW
+    format_numbers::read_u32(s, constants::CHECKPOINT_CLIENTS_LENGTH) as usize / FLOOR_ROW
 }
 
 // The number of completion records, by the length of theirs.
@@ -42,7 +42,7 @@ pub fn records_of(s: &[u8]) -> usize
     requires { ⌜ checkpointHead ≤ length (now s) ⌝ }
     ensures { λ r. ⌜ r ≡ recordsOf (now (s .entry)) ⌝ }
 {
-    format_numbers::read_u32(s, 40) as usize / CHECKPOINT_RECORD
+    format_numbers::read_u32(s, constants::CHECKPOINT_RECORDS_LENGTH) as usize / CHECKPOINT_RECORD
 }
 
 // The pairs of the two tables: whole rows, few enough, and within the slice.
@@ -50,9 +50,9 @@ fn table_pairs(s: &[u8]) -> bool
     requires { ⌜ checkpointHead ≤ length (now s) ⌝ }
     ensures { λ r. ⌜ r ≡ tablePairs (now (s .entry)) ⌝ }
 {
-    let clients = format_numbers::read_u32(s, 32) as usize;
-    let third = format_numbers::read_u32(s, 36) as usize;
-    let records = format_numbers::read_u32(s, 40) as usize;
+    let clients = format_numbers::read_u32(s, constants::CHECKPOINT_CLIENTS_LENGTH) as usize;
+    let third = format_numbers::read_u32(s, constants::CHECKPOINT_RECORDS_PAIR) as usize;
+    let records = format_numbers::read_u32(s, constants::CHECKPOINT_RECORDS_LENGTH) as usize;
     let n = clients / FLOOR_ROW;
     let m = records / CHECKPOINT_RECORD;
     let start = CLIENTS_PART + FLOOR_ROW * n;
@@ -70,11 +70,11 @@ fn pairs_ok(s: &[u8]) -> bool
     ensures { λ r. ⌜ r ≡ fixedPairs (now (s .entry)) ⌝ }
 {
     let tables = table_pairs(s);
-    let plan = format_numbers::read_u32(s, 12) as usize;
-    let plan_length = format_numbers::read_u32(s, 16) as usize;
-    let points = format_numbers::read_u32(s, 20) as usize;
-    let points_length = format_numbers::read_u32(s, 24) as usize;
-    let clients = format_numbers::read_u32(s, 28) as usize;
+    let plan = format_numbers::read_u32(s, constants::CHECKPOINT_PLAN_PAIR) as usize;
+    let plan_length = format_numbers::read_u32(s, constants::CHECKPOINT_PLAN_LENGTH) as usize;
+    let points = format_numbers::read_u32(s, constants::CHECKPOINT_POINTS_PAIR) as usize;
+    let points_length = format_numbers::read_u32(s, constants::CHECKPOINT_POINTS_LENGTH) as usize;
+    let clients = format_numbers::read_u32(s, constants::CHECKPOINT_CLIENTS_PAIR) as usize;
     (plan == constants::PLAN_PART)
         & ((plan_length == PLAN_SIZE)
             & ((points == POINTS_PART)
@@ -122,10 +122,10 @@ fn put_point(s: &mut [u8], to: usize, checkpoint: &[u8], from: usize)
     ensures { λ r. ⌜ now (s .exit) ≡ written (now (s .entry)) to (pointWhole (drop from (now (checkpoint .entry)))) ⌝ }
 {
     let give = give_end(checkpoint[from]);
-    let take = take_end(format_numbers::read_u32(checkpoint, from + 12));
+    let take = take_end(format_numbers::read_u32(checkpoint, from + constants::POINT_TAKEN));
     format_numbers::copy_part(s, to, checkpoint, from, CHECKPOINT_POINT);
-    format_numbers::write_u64(s, to + 16, give);
-    format_numbers::write_u64(s, to + 24, take);
+    format_numbers::write_u64(s, to + constants::POINT_GIVE_END, give);
+    format_numbers::write_u64(s, to + constants::POINT_TAKE_END, take);
 }
 
 // The completion record in the 20 bytes from one place, with its end, in the 28 bytes from another.
@@ -134,7 +134,7 @@ fn put_record(s: &mut [u8], to: usize, checkpoint: &[u8], from: usize)
     ensures { λ r. ⌜ now (s .exit) ≡ written (now (s .entry)) to (recordWhole (drop from (now (checkpoint .entry)))) ⌝ }
 {
     format_numbers::copy_part(s, to, checkpoint, from, CHECKPOINT_RECORD);
-    format_numbers::write_u64(s, to + 20, HEAD_SIZE_U64);
+    format_numbers::write_u64(s, to + constants::RECORD_END, HEAD_SIZE_U64);
 }
 
 // ---- the parts of a state
@@ -152,10 +152,16 @@ fn put_head(s: &mut [u8], checkpoint: &[u8], n: usize, m: usize)
         constants::STATE_MAGIC[2],
         constants::STATE_MAGIC[3],
     );
-    format_numbers::copy_part(s, 4, checkpoint, 4, 8);
+    format_numbers::copy_part(
+        s,
+        constants::STATE_SERVER,
+        checkpoint,
+        constants::CHECKPOINT_SERVER,
+        constants::CHECKPOINT_SHARED,
+    );
     state_rows::put_clients(s, n as u32);
     state_rows::put_records(s, m as u32);
-    format_numbers::write_4(s, 20, 0, 0, 0, 0);
+    format_numbers::write_4(s, constants::STATE_FILL, 0, 0, 0, 0);
     state_rows::put_size(s, HEAD_SIZE_U64);
     state_rows::put_mark(s, HEAD_SIZE_U64);
 }

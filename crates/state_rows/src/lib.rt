@@ -6,12 +6,14 @@ use model::Command;
 use model::CommandResult;
 use model::Completion;
 use model::Point;
+use model::constants;
 ghost use mathlib.Core.Path.{_≡_};
 ghost use Prim.Native.Nat.{_+_, _-_, _≤_};
 ghost use lib.ListN.{length, drop, replicate};
 ghost use Rattle.model.specs.Numbers.{le32, le64};
 ghost use Rattle.model.specs.Tables.{written};
 ghost use Rattle.model.specs.States.{clientsIn, recordsIn, pointOf, pointBytes, completionOf, completionBytes, pointRow, recordRow, stateHead};
+ghost use Rattle.model.specs.States.{clientsPlace, recordsPlace, lengthPlace, markPlace};
 
 // ---- the head
 
@@ -20,7 +22,7 @@ pub fn clients_in(s: &[u8]) -> u32
     requires { ⌜ stateHead ≤ length (now s) ⌝ }
     ensures { λ r. ⌜ r ≡ clientsIn (now (s .entry)) ⌝ }
 {
-    format_numbers::read_u32(s, 12)
+    format_numbers::read_u32(s, constants::STATE_CLIENTS)
 }
 
 // The number of completion records.
@@ -28,35 +30,35 @@ pub fn records_in(s: &[u8]) -> u32
     requires { ⌜ stateHead ≤ length (now s) ⌝ }
     ensures { λ r. ⌜ r ≡ recordsIn (now (s .entry)) ⌝ }
 {
-    format_numbers::read_u32(s, 16)
+    format_numbers::read_u32(s, constants::STATE_RECORDS)
 }
 
 pub fn put_clients(s: &mut [u8], v: u32)
     requires { ⌜ stateHead ≤ length (now s) ⌝ }
-    ensures { λ r. ⌜ now (s .exit) ≡ written (now (s .entry)) 12 (le32 v) ⌝ }
+    ensures { λ r. ⌜ now (s .exit) ≡ written (now (s .entry)) clientsPlace (le32 v) ⌝ }
 {
-    format_numbers::write_u32(s, 12, v);
+    format_numbers::write_u32(s, constants::STATE_CLIENTS, v);
 }
 
 pub fn put_records(s: &mut [u8], v: u32)
     requires { ⌜ stateHead ≤ length (now s) ⌝ }
-    ensures { λ r. ⌜ now (s .exit) ≡ written (now (s .entry)) 16 (le32 v) ⌝ }
+    ensures { λ r. ⌜ now (s .exit) ≡ written (now (s .entry)) recordsPlace (le32 v) ⌝ }
 {
-    format_numbers::write_u32(s, 16, v);
+    format_numbers::write_u32(s, constants::STATE_RECORDS, v);
 }
 
 pub fn put_size(s: &mut [u8], v: u64)
     requires { ⌜ stateHead ≤ length (now s) ⌝ }
-    ensures { λ r. ⌜ now (s .exit) ≡ written (now (s .entry)) 24 (le64 v) ⌝ }
+    ensures { λ r. ⌜ now (s .exit) ≡ written (now (s .entry)) lengthPlace (le64 v) ⌝ }
 {
-    format_numbers::write_u64(s, 24, v);
+    format_numbers::write_u64(s, constants::STATE_LENGTH, v);
 }
 
 pub fn put_mark(s: &mut [u8], v: u64)
     requires { ⌜ stateHead ≤ length (now s) ⌝ }
-    ensures { λ r. ⌜ now (s .exit) ≡ written (now (s .entry)) 32 (le64 v) ⌝ }
+    ensures { λ r. ⌜ now (s .exit) ≡ written (now (s .entry)) markPlace (le64 v) ⌝ }
 {
-    format_numbers::write_u64(s, 32, v);
+    format_numbers::write_u64(s, constants::STATE_MARK, v);
 }
 
 // ---- rows, from a place
@@ -68,13 +70,13 @@ pub fn point_from(s: &[u8], k: usize) -> Point
 {
     Point {
         status: s[k],
-        quality: s[k + 1],
-        destination: s[k + 2],
-        value: format_numbers::read_signed(s, k + 4),
-        moveNumber: format_numbers::read_u32(s, k + 8),
-        takenMove: format_numbers::read_u32(s, k + 12),
-        giveEnd: format_numbers::read_u64(s, k + 16),
-        takeEnd: format_numbers::read_u64(s, k + 24),
+        quality: s[k + constants::POINT_QUALITY],
+        destination: s[k + constants::POINT_DESTINATION],
+        value: format_numbers::read_signed(s, k + constants::POINT_VALUE),
+        moveNumber: format_numbers::read_u32(s, k + constants::POINT_MOVE),
+        takenMove: format_numbers::read_u32(s, k + constants::POINT_TAKEN),
+        giveEnd: format_numbers::read_u64(s, k + constants::POINT_GIVE_END),
+        takeEnd: format_numbers::read_u64(s, k + constants::POINT_TAKE_END),
     }
 }
 
@@ -84,11 +86,11 @@ pub fn put_point(s: &mut [u8], k: usize, x: Point)
     ensures { λ r. ⌜ now (s .exit) ≡ written (now (s .entry)) k (pointBytes x) ⌝ }
 {
     format_numbers::write_4(s, k, x.status, x.quality, x.destination, 0);
-    format_numbers::write_signed(s, k + 4, x.value);
-    format_numbers::write_u32(s, k + 8, x.moveNumber);
-    format_numbers::write_u32(s, k + 12, x.takenMove);
-    format_numbers::write_u64(s, k + 16, x.giveEnd);
-    format_numbers::write_u64(s, k + 24, x.takeEnd);
+    format_numbers::write_signed(s, k + constants::POINT_VALUE, x.value);
+    format_numbers::write_u32(s, k + constants::POINT_MOVE, x.moveNumber);
+    format_numbers::write_u32(s, k + constants::POINT_TAKEN, x.takenMove);
+    format_numbers::write_u64(s, k + constants::POINT_GIVE_END, x.giveEnd);
+    format_numbers::write_u64(s, k + constants::POINT_TAKE_END, x.takeEnd);
 }
 
 // The completion record in the 28 bytes from k.
@@ -98,20 +100,20 @@ pub fn completion_from(s: &[u8], k: usize) -> Completion
 {
     let command = Command {
         client: format_numbers::read_u32(s, k),
-        call: format_numbers::read_u32(s, k + 4),
-        op: s[k + 16],
-        point: s[k + 19],
-        argument: format_numbers::read_signed(s, k + 8),
+        call: format_numbers::read_u32(s, k + constants::RECORD_CALL),
+        op: s[k + constants::RECORD_OP],
+        point: s[k + constants::RECORD_POINT],
+        argument: format_numbers::read_signed(s, k + constants::RECORD_ARGUMENT),
     };
     let result = CommandResult {
-        outcome: s[k + 17],
-        value: format_numbers::read_signed(s, k + 12),
-        quality: s[k + 18],
+        outcome: s[k + constants::RECORD_OUTCOME],
+        value: format_numbers::read_signed(s, k + constants::RECORD_VALUE),
+        quality: s[k + constants::RECORD_QUALITY],
     };
     Completion {
         command,
         result,
-        end: format_numbers::read_u64(s, k + 20),
+        end: format_numbers::read_u64(s, k + constants::RECORD_END),
     }
 }
 
@@ -121,18 +123,18 @@ pub fn put_completion(s: &mut [u8], k: usize, r: Completion)
     ensures { λ x. ⌜ now (s .exit) ≡ written (now (s .entry)) k (completionBytes r) ⌝ }
 {
     format_numbers::write_u32(s, k, r.command.client);
-    format_numbers::write_u32(s, k + 4, r.command.call);
-    format_numbers::write_signed(s, k + 8, r.command.argument);
-    format_numbers::write_signed(s, k + 12, r.result.value);
+    format_numbers::write_u32(s, k + constants::RECORD_CALL, r.command.call);
+    format_numbers::write_signed(s, k + constants::RECORD_ARGUMENT, r.command.argument);
+    format_numbers::write_signed(s, k + constants::RECORD_VALUE, r.result.value);
     format_numbers::write_4(
         s,
-        k + 16,
+        k + constants::RECORD_OP,
         r.command.op,
         r.result.outcome,
         r.result.quality,
         r.command.point,
     );
-    format_numbers::write_u64(s, k + 20, r.end);
+    format_numbers::write_u64(s, k + constants::RECORD_END, r.end);
 }
 
 // ---- zeros

@@ -24,14 +24,14 @@ pub fn server_of(s: &[u8]) -> u8
     requires { ⌜ stateEnd ≤ length (now s) ⌝ }
     ensures { λ r. ⌜ r ≡ load (now (s .entry)) .server ⌝ }
 {
-    s[4]
+    s[constants::STATE_SERVER]
 }
 
 pub fn heard_of(s: &[u8]) -> u32
     requires { ⌜ stateEnd ≤ length (now s) ⌝ }
     ensures { λ r. ⌜ r ≡ load (now (s .entry)) .heard ⌝ }
 {
-    format_numbers::read_u32(s, 8)
+    format_numbers::read_u32(s, constants::STATE_HEARD)
 }
 
 // The log's recorded length.
@@ -39,14 +39,14 @@ pub fn size_of(s: &[u8]) -> u64
     requires { ⌜ stateEnd ≤ length (now s) ⌝ }
     ensures { λ r. ⌜ r ≡ load (now (s .entry)) .size ⌝ }
 {
-    format_numbers::read_u64(s, 24)
+    format_numbers::read_u64(s, constants::STATE_LENGTH)
 }
 
 pub fn mark_of(s: &[u8]) -> u64
     requires { ⌜ stateEnd ≤ length (now s) ⌝ }
     ensures { λ r. ⌜ r ≡ load (now (s .entry)) .mark ⌝ }
 {
-    format_numbers::read_u64(s, 32)
+    format_numbers::read_u64(s, constants::STATE_MARK)
 }
 
 pub fn clients_of(s: &[u8]) -> usize
@@ -67,7 +67,7 @@ pub fn set_heard(s: &mut [u8], v: u32)
     requires { ⌜ Canonical (now s) ⌝ }
     ensures { λ r. ⌜ now (s .exit) ≡ stored (now (s .entry)) (withHeard v (load (now (s .entry)))) ⌝ }
 {
-    format_numbers::write_u32(s, 8, v);
+    format_numbers::write_u32(s, constants::STATE_HEARD, v);
 }
 
 pub fn set_size(s: &mut [u8], v: u64)

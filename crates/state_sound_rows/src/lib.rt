@@ -85,8 +85,8 @@ fn head_framed(s: &[u8]) -> bool
     requires { ⌜ stateHead ≤ length (now s) ⌝ }
     ensures { λ r. ⌜ r ≡ headFramed (now (s .entry)) ⌝ }
 {
-    let zeros = format_numbers::zeros3_at(s, 5);
-    let word = format_numbers::read_u32(s, 20);
+    let zeros = format_numbers::zeros3_at(s, constants::STATE_ZEROS);
+    let word = format_numbers::read_u32(s, constants::STATE_FILL);
     let clients = state_rows::clients_in(s);
     let records = state_rows::records_in(s);
     (s[0] == constants::STATE_MAGIC[0])
@@ -240,7 +240,7 @@ fn point_row_ok(s: &[u8], k: usize) -> bool
     requires { ⌜ k + pointRow ≤ length (now s) ⌝ }
     ensures { λ r. ⌜ r ≡ pointRowOk (drop k (now (s .entry))) ⌝ }
 {
-    format_numbers::zero_at(s, k + 3)
+    format_numbers::zero_at(s, k + constants::POINT_ZERO)
 }
 
 // The plan's entry from j, and the point from k against it.

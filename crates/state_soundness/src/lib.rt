@@ -107,7 +107,7 @@ fn end_in(s: &[u8], k: usize) -> u64
     requires { ⌜ k + recordRow ≤ length (now s) ⌝ }
     ensures { λ r. ⌜ r ≡ completionOf (drop k (now (s .entry))) .end ⌝ }
 {
-    format_numbers::read_u64(s, k + 20)
+    format_numbers::read_u64(s, k + constants::RECORD_END)
 }
 
 // Each of m records passes its test, in order of arrival, and no id stands twice: each has a slot of its own.

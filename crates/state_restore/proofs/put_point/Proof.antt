@@ -15,7 +15,8 @@ returns c =
     let status = number .before in
     let start = status .before .before .before .before in
     rw (take .write-u642 .ensures, give .write-u64 .ensures, row .copy-part .ensures)
-    (point-runs (start .args .s .now) (start .args .to) (start .args .checkpoint .now) (start .args .from) (start .pre .1) (status .give-end .ensures) (rw (← number .read-u32 .ensures) (taken .take-end .ensures)))
+    (point-runs (start .args .s .now) (start .args .to) (start .args .checkpoint .now) (start .args .from) (start .pre .1) (status .give-end .ensures)
+    (rw (← number .read-u32 .ensures) (taken .take-end .ensures)))
 
 pub put-point-spec : {M : Type 1} → statement M
 put-point-spec =
