@@ -6,7 +6,7 @@ cd "$(dirname "$0")/.."
 folder=$(mktemp -d)
 trap 'rm -rf "$folder"' EXIT
 mkdir -p "$folder/tools" "$folder/crates/small/src" "$folder/crates/small/must-fail"
-cp tools/edits.py tools/progress.py "$folder/tools"
+cp tools/edits.py tools/jobs.py tools/progress.py "$folder/tools"
 echo 'small:' >"$folder/crates.txt"
 cat >"$folder/crates/small/src/lib.rt" <<'END'
 ghost use mathlib.Core.Path.{_≡_};
@@ -44,7 +44,7 @@ edit() { printf '# %s\nfile: src/lib.rt\nold: %s\nnew: %s\n' "$1" "$2" "$3" >"$f
 # due STATUS: edits.py gives this status; its output is due on standard input, seconds aside
 due() {
   local have=0
-  "$folder/tools/edits.py" >"$folder/have" || have=$?
+  RT_JOBS=1 "$folder/tools/edits.py" >"$folder/have" || have=$?
   sed -i -E 's/ +/ /g; s/[0-9]+ s\b/N s/g; s/ at src.lib.rt:[0-9:]+//' "$folder/have"
   [ "$have" = "$1" ] || { cat "$folder/have"; echo "edits.py: status $have, not $1"; exit 1; }
   diff - "$folder/have" || { echo "edits.py: not as due"; exit 1; }

@@ -5,10 +5,11 @@ Edits of one crate share a check where the prover's verdicts tell them apart. It
 the definitions; so edits inside the bodies of functions whose proofs do not cite each other leave each other's errors alone. Each of their functions must then
 be named as not proved, with an error in its own proof that is more than "was not admitted", which is what the callers of a function that is not proved get; and
 no function without an edit may have more than that. An edit of anything else (a definition, a contract, a constant), and one that a shared check does not show
-so, is tried alone. The checks are those of `rt must-fail`, on a copy of the repository in which edits that share a check stand in one file; what `rt check` has
-proved is taken over. `rt must-fail` here tries each edit alone.
+so, is tried alone. The checks are those of `rt must-fail` on a copy of the crate in which edits that share a check stand in one file (tools/jobs.py); what `rt check`
+has proved is taken over. `rt must-fail` itself tries each edit alone.
 Prints each edit with the place of its first error; the last line is 'N passed, M failed'."""
-import glob, os, re, shutil, subprocess, sys, tempfile, time
+import glob, os, re, sys, threading, time
+import jobs
 from progress import listed
 
 FUNCTION = re.compile(r'^(?:pub )?(?:extern "C" )?(?:const )?fn (\w+).*?^\{\n(.*?)^\}', re.M | re.S)
@@ -109,19 +110,6 @@ def grouped(crate):
     return groups
 
 
-def copy_of_repository(folder, groups):
-    """the crates without their edits, those of the groups in their place, and what is proved"""
-    shutil.copy('crates.txt', folder)
-    shutil.copytree('crates', folder + '/crates', ignore=shutil.ignore_patterns('must-fail'))
-    for part in ('rlib', 'stamp'):
-        shutil.copytree('target/' + part, folder + '/target/' + part)
-    for label, group in groups.items():
-        crate = group[0].crate
-        os.makedirs('%s/crates/%s/must-fail' % (folder, crate), exist_ok=True)
-        with open('%s/crates/%s/must-fail/%s.edit' % (folder, crate, label), 'w', encoding='utf-8') as f:
-            f.write('\n'.join(e.text for e in group))
-
-
 def own_errors(crate, log):
     """for each function that is not proved by itself where the log has its first error, "was not admitted" aside"""
     out = {}
@@ -143,65 +131,70 @@ def shown(group, log):
 
 class Report:
     def __init__(self, total):
-        self.total, self.tried, self.failed, self.began = total, 0, [], time.time()
+        self.total, self.tried, self.checks, self.failed, self.lock = total, 0, 0, [], threading.Lock()
 
     def say(self, edit, text, good):
-        self.tried += 1
-        self.failed += [] if good else [edit]
-        print('   %3d/%d edit %-40s %s' % (self.tried, self.total, '%s/%s' % (edit.crate, edit.label), text), flush=True)
+        with self.lock:
+            self.tried += 1
+            self.failed += [] if good else [edit]
+            print('   %3d/%d edit %-40s %s' % (self.tried, self.total, '%s/%s' % (edit.crate, edit.label), text), flush=True)
 
 
-def run(groups, report, names):
-    """tries the groups; those of several edits that it does not show one by one are given back"""
-    again = []
-    with tempfile.TemporaryDirectory(prefix='mantelorris-edits-') as folder:
-        labels = {'%s_%d' % (g[0].label, i): g for i, g in enumerate(groups)}
-        copy_of_repository(folder, labels)
-        rt = subprocess.Popen(['rt', 'must-fail'] + names, cwd=folder, stdout=subprocess.PIPE, stderr=subprocess.STDOUT, text=True, errors='replace')
-        said = []
-        for line in rt.stdout:
-            said.append(line)
-            m = re.match(r'rt: must-fail (\w+)/(\w+): (refused|NOT REFUSED|BAD EDIT)(.*)', line)
-            if not m or m[2] not in labels:
-                continue
-            group = labels.pop(m[2])
-            seconds = (re.search(r'(\d+) s\)$', m[4]) or ['', '?'])[1]
-            if len(group) == 1:
-                first = re.search(r'first at ([^;]*);', m[4])
-                report.say(group[0], '%s%s, %s s' % (m[3], ' at ' + first[1] if first else '', seconds) + ('' if m[3] == 'refused' else m[4]), m[3] == 'refused')
-                continue
-            log = open('%s/target/must-fail/%s/%s/.log' % (folder, m[1], m[2]), encoding='utf-8', errors='replace').read() if m[3] == 'refused' else ''
-            places = shown(group, log)
-            for edit in group:
-                if edit in places:
-                    report.say(edit, 'refused at %s, %s s with %s' % (places[edit], seconds, 'one more' if len(group) == 2 else '%d more' % (len(group) - 1)), True)
-                else:
-                    again.append(edit)
-        rt.wait()
-        if labels:
-            print(''.join(said[-40:]))
-            for group in labels.values():
-                for edit in group:
-                    report.say(edit, 'NOT TRIED: rt ended with %d' % rt.returncode, False)
-    return again
+class Trial(jobs.Job):
+    """a check of the edits of a group; those of several that it does not show one by one are tried alone"""
+
+    def __init__(self, group, report):
+        self.crate, self.group, self.report = group[0].crate, group, report
+        self.needs, self.weight = (self.crate,), jobs.size(self.crate) * (1 + len(group) / 10)
+
+    def run(self, root):
+        self.report.checks += 1
+        label = self.group[0].label
+        said, status = root.rt('must-fail', self.crate, (label, '\n'.join(e.text for e in self.group)))
+        m = re.search(r'^rt: must-fail %s/%s: (refused|NOT REFUSED|BAD EDIT)(.*)' % (self.crate, label), said, re.M)
+        if not m:
+            print(said)
+            for edit in self.group:
+                self.report.say(edit, 'NOT TRIED: rt ended with %d' % status, False)
+            return []
+        seconds = (re.search(r'(\d+) s\)$', m[2]) or ['', '?'])[1]
+        if len(self.group) == 1:
+            first = re.search(r'first at ([^;]*);', m[2])
+            good = m[1] == 'refused'
+            self.report.say(self.group[0], '%s%s, %s s' % (m[1], ' at ' + first[1] if first else '', seconds) + ('' if good else m[2]), good)
+            return []
+        log = open('%s/target/must-fail/%s/%s/.log' % (root.folder, self.crate, label), encoding='utf-8', errors='replace').read() if m[1] == 'refused' else ''
+        places, more = shown(self.group, log), len(self.group) - 1
+        for edit in self.group:
+            if edit in places:
+                self.report.say(edit, 'refused at %s, %s s with %s' % (places[edit], seconds, 'one more' if more == 1 else '%d more' % more), True)
+        again = [e for e in self.group if e not in places]
+        if again:
+            print('   %d alone: %s' % (len(again), ' '.join('%s/%s' % (e.crate, e.label) for e in again)), flush=True)
+        return [Trial([e], self.report) for e in again]
+
+
+def trials(names):
+    """the checks of all edits of these crates, and their report"""
+    groups = [g for c in names for g in grouped(c)]
+    report = Report(sum(len(g) for g in groups))
+    return [Trial(g, report) for g in groups], report
 
 
 def main():
-    names = sys.argv[1:]
     os.chdir(os.path.join(os.path.dirname(os.path.abspath(__file__)), '..'))
-    crates = listed()
+    names, began = sys.argv[1:] or list(listed()), time.time()
     for name in names:
-        if name not in crates:
+        if name not in listed():
             sys.exit('edits.py: crates.txt has no crate %s' % name)
-    groups = [g for c in crates if not names or c in names for g in grouped(c)]
-    report = Report(sum(len(g) for g in groups))
-    again = run(groups, report, names)
-    if again:
-        print('   %d alone: %s' % (len(again), ' '.join('%s/%s' % (e.crate, e.label) for e in again)), flush=True)
-        run([[e] for e in again], report, names)
+        if not os.path.exists('target/stamp/' + name) and glob.glob('crates/%s/must-fail/*.edit' % name):
+            sys.exit('edits.py: %s is not proved; rt check does it' % name)
+    todo, report = trials(names)
+    jobs.proved.update(names)
+    jobs.run(todo)
     for edit in report.failed:
         print('   FAILED: %s/%s' % (edit.crate, edit.label))
-    print('   %d edits in %d checks, %d s' % (report.total, len(groups) + len(again), time.time() - report.began))
+    print('   %d edits in %d checks, %d s' % (report.total, report.checks, time.time() - began))
     print('%d passed, %d failed' % (report.tried - len(report.failed), len(report.failed)))
     sys.exit(1 if report.failed else 0)
 

@@ -2,8 +2,8 @@
 """progress.py rt check|prove|ci|must-fail|staticlib [NAME..]: runs this rt command and shows its way: each crate as it is proved, with its
 number of how many and its seconds, each must-fail edit likewise, each library and each run of a program. Crates that are unchanged since they
 were proved share a line. What the prover says is shown where something is not proved. PROGRESS_LOG names a file for all that rt says.
-Exits as rt does."""
-import glob, os, queue, re, subprocess, sys, threading, time
+Exits as rt does. Two runs of rt in one repository would disturb each other: a second one waits."""
+import fcntl, glob, os, queue, re, subprocess, sys, threading, time
 
 UNCHANGED = re.compile(r'rt: (\S+) proved \(unchanged')
 PROVED = re.compile(r'rt: (\S+) proved \((\d+) s\)')
@@ -119,6 +119,9 @@ def main():
     if len(words) < 2 or words[0] != 'rt':
         sys.exit(__doc__)
     os.chdir(os.path.join(os.path.dirname(os.path.abspath(__file__)), '..'))
+    os.makedirs('target', exist_ok=True)
+    alone = open('target/.lock', 'w')
+    fcntl.flock(alone, fcntl.LOCK_EX)
     progress = Progress(words[1], words[2:])
     log = open(os.environ['PROGRESS_LOG'], 'w', encoding='utf-8') if os.environ.get('PROGRESS_LOG') else None
     try:

@@ -1,7 +1,7 @@
 #!/usr/bin/env bash
 # tools/staticlib.sh [NAME..]: the static libraries of these crates, target/staticlib/libNAME.a; without names, of all that have one.
 # `rt staticlib` checks its crate anew, as a static library and not as an rlib; here one that was made of the crate as it is now is
-# kept. One at a time: two runs of rt in one repository disturb each other.
+# kept.
 set -eu
 [ $# != 0 ] || set -- client_c chamber_c kernel
 cd "$(dirname "$0")/.."

@@ -27,17 +27,15 @@ memory_for_files() {
 }
 memory_for_files
 
-# part NAME: runs the command that follows; its output is kept in $logs/NAME and shown if it fails
+# part NAME: runs the command that follows, and says how it went; its output is kept in $logs/NAME and shown if it fails
 part() {
   local name=$1 start=$SECONDS
   shift
-  echo "== $name"
   if "$@" >"$logs/$name" 2>&1; then
-    echo "   ok, $((SECONDS - start)) s"
+    echo "== $name: ok, $((SECONDS - start)) s"
     return 0
   fi
-  cat "$logs/$name"
-  echo "   FAILED: $name, $((SECONDS - start)) s"
+  { echo "== $name"; cat "$logs/$name"; echo "   FAILED: $name, $((SECONDS - start)) s"; } | cat
   return 1
 }
 
@@ -57,33 +55,24 @@ part pictures tools/picture.py --check; count $?
 part guide-pictures tools/guide_pictures.py --check; count $?
 part progress tests/progress.sh; count $?
 part edits-tool tests/edits.sh; count $?
+part prove-tool tests/prove.sh; count $?
 part claims tools/claims.py; count $?
 part entry-points tools/entry_points.py; count $?
 part callers tools/callers.py; count $?
 part house tools/house.py --check; count $?
+part layout tools/layout.py; count $?
 
-# every proof, from nothing, each shown as it comes; then every must-fail edit
-echo "== proofs"
+# every proof from nothing, every must-fail edit, the static libraries, each shown as it comes
+echo "== proofs and edits"
 start=$SECONDS
-rm -rf target
-PROGRESS_LOG=$logs/proofs tools/progress.py rt check
-proofs=$?
-if [ "$proofs" = 0 ]; then echo "   ok, $((SECONDS - start)) s"; else echo "   FAILED: proofs, $((SECONDS - start)) s"; fi
-passed=$((passed + $(grep -cE '^rt: [a-z_0-9]+ proved \([0-9]+ s\)$' "$logs/proofs")))
-n=$(grep -cE '^rt: [a-z_0-9]+ (NOT PROVED|proved, and its run FAILED)' "$logs/proofs")
-failed=$((failed + n))
-[ "$proofs" = 0 ] || [ "$n" != 0 ] || failed=$((failed + 1))
-
-echo "== edits"
-start=$SECONDS
-tools/edits.py | tee "$logs/edits" | sed -u -E '/^[0-9]+ passed, [0-9]+ failed$/d'
-edits=${PIPESTATUS[0]}
-if [ "$edits" = 0 ]; then echo "   ok, $((SECONDS - start)) s"; else echo "   FAILED: edits, $((SECONDS - start)) s"; fi
-n=$(sed -nE 's/^([0-9]+) passed, [0-9]+ failed$/\1/p' "$logs/edits")
+tools/prove.py | tee "$logs/proofs" | sed -u -E '/^[0-9]+ passed, [0-9]+ failed$/d'
+proofs=${PIPESTATUS[0]}
+if [ "$proofs" = 0 ]; then echo "   ok, $((SECONDS - start)) s"; else echo "   FAILED: proofs and edits, $((SECONDS - start)) s"; fi
+n=$(sed -nE 's/^([0-9]+) passed, [0-9]+ failed$/\1/p' "$logs/proofs")
 passed=$((passed + ${n:-0}))
-n=$(sed -nE 's/^[0-9]+ passed, ([0-9]+) failed$/\1/p' "$logs/edits")
+n=$(sed -nE 's/^[0-9]+ passed, ([0-9]+) failed$/\1/p' "$logs/proofs")
 failed=$((failed + ${n:-0}))
-[ "$edits" = 0 ] || [ "${n:-0}" != 0 ] || failed=$((failed + 1))
+[ "$proofs" = 0 ] || [ "${n:-0}" != 0 ] || failed=$((failed + 1))
 
 # tests PACKAGE WORDS..: the tests of a cargo package, each counted; one that hangs fails
 tests() {
@@ -99,23 +88,39 @@ tests() {
   [ "$ran" != 0 ] || failed=$((failed + 1))
 }
 
-tests second
+# both at once, on two cores: the second program and what is compared with it; programs in C over the libraries
 part static-libraries tools/staticlib.sh; count $?
-tests compare -- --nocapture
-sed -nE 's/^\.*(compare [^:]*: seed [0-9]+, [0-9]+ in [0-9.]+ s):.*/   \1/p' "$logs/compare"
-part client-in-c tests/c/client.sh; count $?
-part link-in-c tests/c/link.sh; count $?
-part lock-in-c tests/c/lock.sh; count $?
-part earlier-logs tests/logs/run.sh; count $?
-part power-cuts tests/c/power.py; count $?
-grep -E '^(seed|[0-9]+ starts|line:)' "$logs/power-cuts" | sed 's/^/   /'
-part guide tests/c/guide.py; count $?
-part reference tests/reference/run.sh; count $?
 
-part schedules tests/schedules/run.sh; count $?
-grep -E '^(all schedules|random schedules|schedules of|[0-9]+ schedules|the programs)' "$logs/schedules" | sed -E 's/( s): .*/\1/; s/^/   /'
-# the simulator's case, and the host program in C
-part run tools/run.sh; count $?
+compared() {
+  tests second
+  tests compare -- --nocapture
+  sed -nE 's/^\.*(compare [^:]*: seed [0-9]+, [0-9]+ in [0-9.]+ s):.*/   \1/p' "$logs/compare"
+  part schedules tests/schedules/run.sh; count $?
+  grep -E '^(all schedules|random schedules|schedules of|[0-9]+ schedules|the programs)' "$logs/schedules" | sed -E 's/( s): .*/\1/; s/^/   /'
+}
+
+in_c() {
+  part client-in-c tests/c/client.sh; count $?
+  part link-in-c tests/c/link.sh; count $?
+  part lock-in-c tests/c/lock.sh; count $?
+  part earlier-logs tests/logs/run.sh; count $?
+  part power-cuts tests/c/power.py; count $?
+  grep -E '^(seed|[0-9]+ starts|line:)' "$logs/power-cuts" | sed 's/^/   /'
+  part guide tests/c/guide.py; count $?
+  part reference tests/reference/run.sh; count $?
+  # the simulator's case, and the host program in C
+  part run tools/run.sh; count $?
+}
+
+# lane NAME: this function in a shell of its own; what it counted is in $logs/NAME
+lane() { passed=0; failed=0; "$1"; echo "$passed $failed" >"$logs/$1"; }
+for name in compared in_c; do lane $name & done
+wait
+for name in compared in_c; do
+  read -r more wrong <"$logs/$name" || { more=0; wrong=1; }
+  passed=$((passed + more))
+  failed=$((failed + wrong))
+done
 
 echo "== all: $((SECONDS - began)) s"
 echo "$passed passed, $failed failed"
