@@ -11,7 +11,7 @@ picture:
 	@tools/picture.sh "$(SCHEDULE)" "$(OUT)"
 
 check:
-	@tools/progress.py rt check
+	@tools/prove.py --proofs
 
 test:
 	@tools/test.sh

@@ -1,7 +1,8 @@
 #!/usr/bin/env python3
 """prove.py: proves every crate from nothing, tries every must-fail edit and makes the static libraries, each as soon as what it needs is proved, as many at a time as there are
 cores (tools/jobs.py); edits fill the time in which no further crate can be proved yet. Then `rt check` on the whole repository has the last word: each crate unchanged since it was
-proved, no file that no crate has, each program's run. Shows each crate, edit and library as it is done; the last line is 'N passed, M failed'."""
+proved, no file that no crate has, each program's run. Shows each crate, edit and library as it is done; the last line is 'N passed, M failed'.
+prove.py --proofs: the crates that are changed since they were proved, and neither edits nor libraries."""
 import glob, os, re, shutil, subprocess, sys, time
 import edits, jobs
 from progress import listed
@@ -13,7 +14,7 @@ class Proof(jobs.Job):
 
     def run(self, root):
         said, _ = root.rt('check', self.crate)
-        m = re.search(r'^rt: %s proved \((\d+) s\)$' % self.crate, said, re.M)
+        m = re.search(r'^rt: %s proved \((\d+ s|unchanged).*\)$' % self.crate, said, re.M)
         self.report.proved(self.crate, m and m[1], said)
 
 
@@ -48,7 +49,7 @@ class Report:
         self.done += 1
         if seconds:
             jobs.proved.add(crate)
-            print('   %2d/%d %-20s %4s s' % (self.done, self.total, crate, seconds), flush=True)
+            print('   %2d/%d %-20s %s' % (self.done, self.total, crate, seconds), flush=True)
         else:
             self.failed.append(crate)
             print(said, flush=True)
@@ -69,14 +70,15 @@ def chains(crates):
 
 def main():
     os.chdir(os.path.join(os.path.dirname(os.path.abspath(__file__)), '..'))
-    crates, began = listed(), time.time()
-    shutil.rmtree('target', ignore_errors=True)
+    crates, began, all_of_it = listed(), time.time(), sys.argv[1:] != ['--proofs']
+    if all_of_it:
+        shutil.rmtree('target', ignore_errors=True)
     report, chain = Report(len(crates)), chains(crates)
-    trials, tried = edits.trials(crates)
+    trials, tried = edits.trials(crates if all_of_it else [])
     # a proof goes before a library, a library before an edit
     first = 10 ** 12
     todo = [Proof(c, [d for d in crates[c] if d in crates], first + chain[c], report) for c in crates]
-    left = jobs.run(todo + [Library(c, first) for c in crates if exports(c)] + trials)
+    left = jobs.run(todo + [Library(c, first) for c in crates if all_of_it and exports(c)] + trials)
     for job in left:
         print('   NOT TRIED: %s %s' % (type(job).__name__.lower(), job.crate))
     print('   %d edits in %d checks; %d s' % (tried.total, tried.checks, time.time() - began), flush=True)
