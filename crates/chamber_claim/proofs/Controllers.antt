@@ -30,7 +30,7 @@ use Rattle.model.specs.Packets.{parsePacket}
 use Rattle.model.specs.Clients.{noCall, placeOf, callAt, withCalls, withCall, withLease, newCall, closed, startOf, notReceived, receiveOf}
 use Rattle.model_laws.proofs.Tests.{choose, impossible}
 use Rattle.model_laws.proofs.Clients.{open-from, asking, commandOf, issue-asked, issue-command, start-fresh, Own, ReceiveCase, receive-case}
-use Rattle.claim.specs.World.{Event, issue, receive, packet}
+use Rattle.claim.specs.World.{Event, outside, issue, receive, packet}
 use Rattle.claim.specs.Claim.{Issues, Completes, commandAt}
 use Rattle.claim.specs.Above.{siteAfter, emptySite, runSite}
 use Rattle.claim.proofs.Clients.{at-once, Becomes, still, begun, asked, heard, becomes, issue-after, receive-after, start-after, own-number, clients-on, issuer, issue-one, issued-below}
@@ -38,7 +38,7 @@ use Rattle.chamber_claim.specs.declared.LockPoints.{LockPoints}
 use Rattle.chamber_claim.specs.declared.LatestRead.{LatestRead}
 use Rattle.chamber_claim.specs.declared.Chamber.{Chamber}
 use Rattle.chamber_claim.specs.Chamber.{roleIn, noRead, readAt, newChamber, startIn, issueIn, readBy, readsWith, receiveIn}
-use Rattle.chamber_claim.specs.Lock.{LockEvent, kernel, command, hear, Lock, noLock, unlessNotSent, issueEvent, ifThere, lockEvent}
+use Rattle.chamber_claim.specs.Lock.{LockEvent, kernel, command, hear, Lock, noLock, unlessNotSent, issueCall, ifThere, lockEvent}
 use Rattle.chamber_claim.specs.Safe.{events, lockAt, AtLock, Begins, LockProvisos}
 use Rattle.chamber_claim.proofs.Commands.{started, Passed, passed, heard-same, ended-chamber}
 use Rattle.chamber_claim.proofs.Frame.{last-or, world, AtKernel, kernel-event, Commands, issue-from, receive-from, Spares, LockStep, same, born, commanding, hearing, lock-step}
@@ -148,7 +148,7 @@ module _ (plan : List ℕ) (s : LockPoints) (ls : List LockEvent) where
     begins-none : (n x : ℕ) → Begins plan s ls n x → world plan s ls n .clients x ≡ none
     begins-none n x b =
         let e = begins-event plan s ls n x b in
-        subst (λ (z : ℕ). world plan s ls n .clients z ≡ none) (begins-client plan s ls n x b) (pr .kernels .started-once n (b .number) (b .bytes) (e .0) (e .1) (started s (b .bytes) (b .answer) .1))
+        subst (λ (z : ℕ). world plan s ls n .clients z ≡ none) (begins-client plan s ls n x b) (pr .kernels .started-once n (b .number) (e .0) (b .bytes) (e .1) (started s (b .bytes) (b .answer) .1))
 
     -- a client that is started issues after its start
     pub after-begin : (n x j : ℕ) (k : Command) → Begins plan s ls n x → IssuedBy x j k → n < j
@@ -164,24 +164,24 @@ module _ (plan : List ℕ) (s : LockPoints) (ls : List LockEvent) where
     -- ---- the four cases
 
     no-issue : (n x : ℕ) (ch : Chamber) → lock n .controllers x ≡ some ch → ((o : LockEvent) → AtLock plan s ls n o → Spares plan s ls n x o)
-        → (op p a : ℕ) → AtKernel plan s ls n (issue x op p a) → ⊥
+        → (op p a : ℕ) → AtKernel plan s ls n (outside (issue x op p a)) → ⊥
     no-issue n x ch e f op p a h = go (issue-from plan s ls n x op p a h)
       where
-        go : AtLock plan s ls n (kernel (issue x op p a)) ⊎ Commands plan s ls n x op p a → ⊥
+        go : AtLock plan s ls n (kernel (outside (issue x op p a))) ⊎ Commands plan s ls n x op p a → ⊥
         go (inl k) = pr .own-issue n x op p a ch k e
         go (inr c) = f _ (c .event) refl (c .chamber) (c .request) (c .there) (c .answer)
 
     no-receive : (n x : ℕ) (ch : Chamber) → lock n .controllers x ≡ some ch → ((o : LockEvent) → AtLock plan s ls n o → Spares plan s ls n x o)
-        → (p : ℕ) (b : List ℕ) → AtKernel plan s ls n (receive x p) → packet (world plan s ls n) p ≡ some b → ⊥
+        → (p : ℕ) (b : List ℕ) → AtKernel plan s ls n (outside (receive x p)) → packet (world plan s ls n) p ≡ some b → ⊥
     no-receive n x ch e f p b h g = go (receive-from plan s ls n x p h)
       where
-        go : AtLock plan s ls n (kernel (receive x p)) ⊎ AtLock plan s ls n (hear x p) → ⊥
+        go : AtLock plan s ls n (kernel (outside (receive x p))) ⊎ AtLock plan s ls n (hear x p) → ⊥
         go (inl k) = pr .own-receive n x p ch k e
         go (inr k) = f _ k refl ch b e g
 
     -- the event of an issue of x
-    own-event : (n x : ℕ) (k : Command) (i : IssuedBy x n k) → AtKernel plan s ls n (issue x (i .0 .op) (i .0 .point) (i .0 .argument))
-    own-event n x k i = subst (λ (z : ℕ). AtKernel plan s ls n (issue z (i .0 .op) (i .0 .point) (i .0 .argument))) (issuer plan es n k (i .0) ∙ i .1) (i .0 .event)
+    own-event : (n x : ℕ) (k : Command) (i : IssuedBy x n k) → AtKernel plan s ls n (outside (issue x (i .0 .op) (i .0 .point) (i .0 .argument)))
+    own-event n x k i = subst (λ (z : ℕ). AtKernel plan s ls n (outside (issue z (i .0 .op) (i .0 .point) (i .0 .argument)))) (issuer plan es n k (i .0) ∙ i .1) (i .0 .event)
 
     held-same : (n x : ℕ) (ch : Chamber) → Held n x ch → lock n .controllers x ≡ some ch → ((o : LockEvent) → AtLock plan s ls n o → Spares plan s ls n x o) → Held (suc n) x ch
     held-same n x ch h e f =
@@ -191,7 +191,7 @@ module _ (plan : List ℕ) (s : LockPoints) (ls : List LockEvent) where
         unchanged : {o : Option Client} → Becomes plan es n x o → o ≡ some (ch .client)
         unchanged still = h .client
         unchanged (begun p b k g r q) =
-            let z : world plan s ls n .clients x ≡ none = subst (λ (y : ℕ). world plan s ls n .clients y ≡ none) q (pr .kernels .started-once n p b k g r) in
+            let z : world plan s ls n .clients x ≡ none = subst (λ (y : ℕ). world plan s ls n .clients y ≡ none) q (pr .kernels .started-once n p k b g r) in
             let y : some (ch .client) ≡ none = sym (h .client) ∙ z in impossible cc
         unchanged (asked op p a d k g) = absurd (no-issue n x ch e f op p a k)
         unchanged (heard p d b k g q) = absurd (no-receive n x ch e f p b k q)
@@ -237,8 +237,8 @@ module _ (plan : List ℕ) (s : LockPoints) (ls : List LockEvent) where
               let w = tests .free in
               absurd (omega arith)
 
-      asks-event : AtKernel plan s ls n (issue x op p a)
-      unfolding lockEvent issueEvent unlessNotSent
+      asks-event : AtKernel plan s ls n (outside (issue x op p a))
+      unfolding lockEvent issueCall unlessNotSent
       asks-event = rw (c .there, c .answer) at (kernel-event plan s ls n (command x op p a) (c .event))
 
       -- what it issues
@@ -290,7 +290,7 @@ module _ (plan : List ℕ) (s : LockPoints) (ls : List LockEvent) where
 
     module _ (n x j : ℕ) (b : List ℕ) (ch : Chamber) (at : AtLock plan s ls n (hear x j)) (there : lock n .controllers x ≡ some ch) (given : packet (world plan s ls n) j ≡ some b)
         (h : Held n x ch) where
-      hear-event : AtKernel plan s ls n (receive x j)
+      hear-event : AtKernel plan s ls n (outside (receive x j))
       unfolding lockEvent ifThere
       hear-event = rw there at (kernel-event plan s ls n (hear x j) at)
 

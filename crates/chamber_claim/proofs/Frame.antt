@@ -20,14 +20,14 @@ use Rattle.model.specs.declared.Sent.{Sent}
 use Rattle.model.specs.declared.Sent.the-variants.{NotSent, Asked}
 use Rattle.model.specs.Clients.{startOf}
 use Rattle.model_laws.proofs.Tests.{choose, impossible}
-use Rattle.claim.specs.World.{World, Event, start, issue, resend, receive, packet, after}
+use Rattle.claim.specs.World.{World, Event, outside, start, issue, resend, receive, packet, after}
 use Rattle.claim.specs.Provisos.{At}
 use Rattle.claim.specs.Above.{Site, eventAt, stepSite}
 use Rattle.claim.proofs.Above.{site-world, event-there, event-from, site-step, site-past}
 use Rattle.chamber_claim.specs.declared.LockPoints.{LockPoints}
 use Rattle.chamber_claim.specs.declared.Chamber.{Chamber}
 use Rattle.chamber_claim.specs.Chamber.{newChamber, startIn, issueIn, resendIn, receiveIn}
-use Rattle.chamber_claim.specs.Lock.{LockEvent, kernel, begin, command, again, hear, Lock, withController, unlessRefused, startEvent, unlessNotSent, issueEvent, ifThere, lockEvent}
+use Rattle.chamber_claim.specs.Lock.{LockEvent, kernel, begin, command, again, hear, Lock, withController, unlessRefused, startCall, unlessNotSent, issueCall, ifThere, lockEvent}
 use Rattle.chamber_claim.specs.Lock.{startsAs, startsOn, changes, hears, lockAfter, lockProduct}
 use Rattle.chamber_claim.specs.Safe.{events, lockAt, AtLock, Begins}
 use Rattle.chamber_claim.proofs.Commands.{started, refused-same, again-same}
@@ -84,57 +84,57 @@ module _ (plan : List ℕ) (s : LockPoints) (ls : List LockEvent) where
   -- which event of the lock an event of the kernel is; the quiet one is a resend
   data Kind (n : ℕ) : Event → Type 0 where
     by-other : {e : Event} → AtLock plan s ls n (kernel e) → Kind n e
-    by-begin : {j : ℕ} → AtLock plan s ls n (begin j) → Kind n (start j)
-    by-command : {x op p a : ℕ} → Commands n x op p a → Kind n (issue x op p a)
-    by-resend : {x c : ℕ} → Kind n (resend x c)
-    by-hear : {x j : ℕ} → AtLock plan s ls n (hear x j) → Kind n (receive x j)
+    by-begin : {j : ℕ} → AtLock plan s ls n (begin j) → Kind n (outside (start j))
+    by-command : {x op p a : ℕ} → Commands n x op p a → Kind n (outside (issue x op p a))
+    by-resend : {x c : ℕ} → Kind n (outside (resend x c))
+    by-hear : {x j : ℕ} → AtLock plan s ls n (hear x j) → Kind n (outside (receive x j))
 
   kind-of : (n : ℕ) (o : LockEvent) → AtLock plan s ls n o → Kind n (lockEvent s (world n) (lock n) o)
-  unfolding lockEvent startEvent unlessRefused issueEvent unlessNotSent ifThere
+  unfolding lockEvent startCall unlessRefused issueCall unlessNotSent ifThere
   kind-of n (kernel e) h = by-other h
   kind-of n (begin j) h = go (packet (world n) j)
     where
-      by : (t : Started) → Kind n (unlessRefused t (start j))
+      by : (t : Started) → Kind n (outside (unlessRefused t (start j)))
       by (NotStarted m) = by-resend
       by Running = by-begin h
 
-      go : (b : Option (List ℕ)) → Kind n (startEvent s b j)
+      go : (b : Option (List ℕ)) → Kind n (outside (startCall s b j))
       go none = by-resend
       go (some b) = by (startIn b s .answer)
   kind-of n (command x op p a) h = go (lock n .controllers x) refl
     where
-      by : (ch : Chamber) → lock n .controllers x ≡ some ch → (t : Sent) → issueIn ch op p a .answer ≡ t → Kind n (unlessNotSent t (issue x op p a))
+      by : (ch : Chamber) → lock n .controllers x ≡ some ch → (t : Sent) → issueIn ch op p a .answer ≡ t → Kind n (outside (unlessNotSent t (issue x op p a)))
       by ch c (NotSent m) e = by-resend
       by ch c (Asked r) e = by-command (record { event = h; chamber = ch; there = c; request = r; answer = e })
 
-      go : (c : Option Chamber) → lock n .controllers x ≡ c → Kind n (issueEvent c x op p a)
+      go : (c : Option Chamber) → lock n .controllers x ≡ c → Kind n (outside (issueCall c x op p a))
       go none c = by-resend
       go (some ch) c = by ch c (issueIn ch op p a .answer) refl
   kind-of n (again x c) h = go (lock n .controllers x)
     where
-      go : (o : Option Chamber) → Kind n (ifThere o (resend x c))
+      go : (o : Option Chamber) → Kind n (outside (ifThere o (resend x c)))
       go none = by-resend
       go (some ch) = by-resend
   kind-of n (hear x j) h = go (lock n .controllers x)
     where
-      go : (o : Option Chamber) → Kind n (ifThere o (receive x j))
+      go : (o : Option Chamber) → Kind n (outside (ifThere o (receive x j)))
       go none = by-resend
       go (some ch) = by-hear h
 
   kind : (n : ℕ) (e : Event) → AtKernel n e → Kind n e
   kind n e h = let f = lock-event n e h in subst (Kind n) (f .2) (kind-of n (f .0) (f .1))
 
-  pub issue-from : (n x op p a : ℕ) → AtKernel n (issue x op p a) → AtLock plan s ls n (kernel (issue x op p a)) ⊎ Commands n x op p a
+  pub issue-from : (n x op p a : ℕ) → AtKernel n (outside (issue x op p a)) → AtLock plan s ls n (kernel (outside (issue x op p a))) ⊎ Commands n x op p a
   issue-from n x op p a h = go (kind n _ h)
     where
-      go : Kind n (issue x op p a) → AtLock plan s ls n (kernel (issue x op p a)) ⊎ Commands n x op p a
+      go : Kind n (outside (issue x op p a)) → AtLock plan s ls n (kernel (outside (issue x op p a))) ⊎ Commands n x op p a
       go (by-other k) = inl k
       go (by-command k) = inr k
 
-  pub receive-from : (n x p : ℕ) → AtKernel n (receive x p) → AtLock plan s ls n (kernel (receive x p)) ⊎ AtLock plan s ls n (hear x p)
+  pub receive-from : (n x p : ℕ) → AtKernel n (outside (receive x p)) → AtLock plan s ls n (kernel (outside (receive x p))) ⊎ AtLock plan s ls n (hear x p)
   receive-from n x p h = go (kind n _ h)
     where
-      go : Kind n (receive x p) → AtLock plan s ls n (kernel (receive x p)) ⊎ AtLock plan s ls n (hear x p)
+      go : Kind n (outside (receive x p)) → AtLock plan s ls n (kernel (outside (receive x p))) ⊎ AtLock plan s ls n (hear x p)
       go (by-other k) = inl k
       go (by-hear k) = inr k
 
@@ -235,8 +235,8 @@ module _ (plan : List ℕ) (s : LockPoints) (ls : List LockEvent) where
 
   -- ---- starts
 
-  pub begins-event : (n x : ℕ) (b : Begins plan s ls n x) → (AtKernel n (start (b .number))) × (packet (world n) (b .number) ≡ some (b .bytes))
-  unfolding lockEvent startEvent unlessRefused
+  pub begins-event : (n x : ℕ) (b : Begins plan s ls n x) → (AtKernel n (outside (start (b .number)))) × (packet (world n) (b .number) ≡ some (b .bytes))
+  unfolding lockEvent startCall unlessRefused
   begins-event n x b =
       let d : packet (world n) (b .number) ≡ some (b .bytes) = rw (site-world (lockProduct s) ls n) at (b .delivered) in
       (rw (d, b .answer) at (kernel-event n (begin (b .number)) (b .event)), d)

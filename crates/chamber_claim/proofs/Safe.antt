@@ -25,7 +25,7 @@ use Rattle.model.specs.Limits.{readOp}
 use Rattle.model.specs.Plan.{planOf}
 use Rattle.model.specs.Packets.{parsePacket}
 use Rattle.model.specs.Sequential.{Marked, markedBy, OrderEntry, single, one, ReadingZ, Book, resultMeant, opened, answerTo, bookWith, bookAfter}
-use Rattle.claim.specs.World.{Event, issue, after, packet}
+use Rattle.claim.specs.World.{Event, outside, issue, after, packet}
 use Rattle.claim.specs.Claim.{Issues, Completes, Executes, SurvivesAt, Explains}
 use Rattle.claim.specs.Fence.{Fenced, Fences}
 use Rattle.claim.proofs.Clients.{at-once, issue-one, issue-rises}
@@ -117,7 +117,7 @@ module _ (plan : List ℕ) (s : LockPoints) (ls : List LockEvent) (pr : LockProv
       → (m .command .op ≡ readOp) ⊎ Commands plan s ls (r .event) (m .command .client) (m .command .op) (m .command .point) (m .command .argument)
   gate-command k m h r g = go (issue-by plan s ls pr (r .event) (m .command) (r .issues))
     where
-      go : AtLock plan s ls (r .event) (kernel (issue (m .command .client) (m .command .op) (m .command .point) (m .command .argument)))
+      go : AtLock plan s ls (r .event) (kernel (outside (issue (m .command .client) (m .command .op) (m .command .point) (m .command .argument))))
           ⊎ Commands plan s ls (r .event) (m .command .client) (m .command .op) (m .command .point) (m .command .argument)
           → (m .command .op ≡ readOp) ⊎ Commands plan s ls (r .event) (m .command .client) (m .command .op) (m .command .point) (m .command .argument)
       go (inl e) = inl (pr .only (r .event) _ (m .command) e (r .issues) g)

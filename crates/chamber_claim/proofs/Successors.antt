@@ -16,7 +16,7 @@ use lib.ListN.{getElem?}
 use Rattle.model.specs.declared.Command.{Command}
 use Rattle.model.specs.declared.Started.{Started}
 use Rattle.model.specs.declared.Started.the-variants.{NotStarted, Running}
-use Rattle.claim.specs.World.{Event, issue, packet}
+use Rattle.claim.specs.World.{Event, outside, issue, packet}
 use Rattle.claim.specs.Claim.{Issues}
 use Rattle.claim.specs.Fence.{Fenced}
 use Rattle.claim.specs.Above.{Site}
@@ -119,7 +119,7 @@ module _ (plan : List ℕ) (s : LockPoints) (ls : List LockEvent) where
 
     -- an issue is another's, or a command of the controller of its client
     pub issue-by : (n : ℕ) (k : Command) → Issues plan es n (k ∷ [])
-        → AtLock plan s ls n (kernel (issue (k .client) (k .op) (k .point) (k .argument))) ⊎ Commands plan s ls n (k .client) (k .op) (k .point) (k .argument)
+        → AtLock plan s ls n (kernel (outside (issue (k .client) (k .op) (k .point) (k .argument)))) ⊎ Commands plan s ls n (k .client) (k .op) (k .point) (k .argument)
     issue-by n k i =
         let e = issue-is plan es n k i in
         let x : i .client ≡ k .client = issuer plan es n k i in
@@ -132,6 +132,6 @@ module _ (plan : List ℕ) (s : LockPoints) (ls : List LockEvent) where
         → (j : ℕ) (l : Command) → j < n → Issues plan es j (l ∷ []) → l .client ≡ k .client → Done plan s ls n l
     all-done n k ch i e j l h m q = go (issue-by n k i)
       where
-        go : AtLock plan s ls n (kernel (issue (k .client) (k .op) (k .point) (k .argument))) ⊎ Commands plan s ls n (k .client) (k .op) (k .point) (k .argument) → Done plan s ls n l
+        go : AtLock plan s ls n (kernel (outside (issue (k .client) (k .op) (k .point) (k .argument)))) ⊎ Commands plan s ls n (k .client) (k .op) (k .point) (k .argument) → Done plan s ls n l
         go (inl o) = absurd (pr .own-issue n _ _ _ _ ch o e)
         go (inr c) = none-open plan s ls pr n _ _ _ _ c (held plan s ls pr n _ (c .chamber) (c .there)) j l h (m, q)

@@ -10,7 +10,7 @@ use Rattle.model.specs.declared.Started.the-variants.{NotStarted, Running}
 use Rattle.model.specs.declared.Sent.{Sent}
 use Rattle.model.specs.declared.Sent.the-variants.{NotSent, Asked}
 use Rattle.model.specs.Choice.{pick}
-use Rattle.claim.specs.World.{World, Event, start, issue, resend, receive, packet}
+use Rattle.claim.specs.World.{World, Event, outside, OutsideCall, start, issue, resend, receive, packet}
 use Rattle.claim.specs.Above.{Product, quiet}
 use Rattle.chamber_claim.specs.declared.LockPoints.{LockPoints}
 use Rattle.chamber_claim.specs.declared.Chamber.{Chamber}
@@ -36,34 +36,34 @@ noLock = record { controllers = λ x. none; latest = none }
 unfoldable pub withController : ℕ → Chamber → Lock → Lock
 withController x ch l = record { controllers = λ y. pick (eqb y x) (some ch) (l .controllers y); latest = l .latest }
 
--- ---- the kernel's event of a call
+-- ---- the call of the kernel that a controller's call is
 
-unfoldable pub unlessRefused : Started → Event → Event
+unfoldable pub unlessRefused : Started → OutsideCall → OutsideCall
 unlessRefused (NotStarted n) e = quiet
 unlessRefused Running e = e
 
-unfoldable pub startEvent : LockPoints → Option (List ℕ) → ℕ → Event
-startEvent s none n = quiet
-startEvent s (some b) n = unlessRefused (startIn b s .answer) (start n)
+unfoldable pub startCall : LockPoints → Option (List ℕ) → ℕ → OutsideCall
+startCall s none n = quiet
+startCall s (some b) n = unlessRefused (startIn b s .answer) (start n)
 
-unfoldable pub unlessNotSent : Sent → Event → Event
+unfoldable pub unlessNotSent : Sent → OutsideCall → OutsideCall
 unlessNotSent (NotSent n) e = quiet
 unlessNotSent (Asked q) e = e
 
-unfoldable pub issueEvent : Option Chamber → ℕ → ℕ → ℕ → ℕ → Event
-issueEvent none x op p a = quiet
-issueEvent (some ch) x op p a = unlessNotSent (issueIn ch op p a .answer) (issue x op p a)
+unfoldable pub issueCall : Option Chamber → ℕ → ℕ → ℕ → ℕ → OutsideCall
+issueCall none x op p a = quiet
+issueCall (some ch) x op p a = unlessNotSent (issueIn ch op p a .answer) (issue x op p a)
 
-unfoldable pub ifThere : Option Chamber → Event → Event
+unfoldable pub ifThere : Option Chamber → OutsideCall → OutsideCall
 ifThere none e = quiet
 ifThere (some ch) e = e
 
 unfoldable pub lockEvent : LockPoints → World → Lock → LockEvent → Event
 lockEvent s w l (kernel e) = e
-lockEvent s w l (begin n) = startEvent s (packet w n) n
-lockEvent s w l (command x op p a) = issueEvent (l .controllers x) x op p a
-lockEvent s w l (again x c) = ifThere (l .controllers x) (resend x c)
-lockEvent s w l (hear x n) = ifThere (l .controllers x) (receive x n)
+lockEvent s w l (begin n) = outside (startCall s (packet w n) n)
+lockEvent s w l (command x op p a) = outside (issueCall (l .controllers x) x op p a)
+lockEvent s w l (again x c) = outside (ifThere (l .controllers x) (resend x c))
+lockEvent s w l (hear x n) = outside (ifThere (l .controllers x) (receive x n))
 
 -- ---- the controllers after a call
 

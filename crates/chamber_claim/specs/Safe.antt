@@ -14,7 +14,7 @@ use Rattle.model.specs.declared.Started.the-variants.{Running}
 use Rattle.model.specs.Limits.{readOp}
 use Rattle.model.specs.Plan.{planOf}
 use Rattle.model.specs.Sequential.{OrderEntry, Book, opened, bookAfter}
-use Rattle.claim.specs.World.{Event, issue, resend, receive, packet}
+use Rattle.claim.specs.World.{Event, outside, issue, resend, receive, packet}
 use Rattle.claim.specs.Provisos.{Provisos}
 use Rattle.claim.specs.Claim.{Issues, Explains}
 use Rattle.claim.specs.Fence.{Fenced, Fences}
@@ -61,8 +61,8 @@ module _ (plan : List ℕ) (s : LockPoints) (ls : List LockEvent) where
     -- "provided only this controller commands the gates": what others issue on a gate is a read
     pub only : (n : ℕ) (e : Event) (k : Command) → AtLock n (kernel e) → Issues plan events n (k ∷ []) → IsGate (k .point) → k .op ≡ readOp
     -- a controller's client is called through the controller alone
-    pub own-issue : (n x op p a : ℕ) (ch : Chamber) → AtLock n (kernel (issue x op p a)) → lockAt n .controllers x ≡ some ch → ⊥
-    pub own-receive : (n x p : ℕ) (ch : Chamber) → AtLock n (kernel (receive x p)) → lockAt n .controllers x ≡ some ch → ⊥
+    pub own-issue : (n x op p a : ℕ) (ch : Chamber) → AtLock n (kernel (outside (issue x op p a))) → lockAt n .controllers x ≡ some ch → ⊥
+    pub own-receive : (n x p : ℕ) (ch : Chamber) → AtLock n (kernel (outside (receive x p))) → lockAt n .controllers x ≡ some ch → ⊥
     -- "a lost one's successor starts with no gate being moved", and once each holder's "synced heard time" is "not under that of the old
     -- client's notice": a server has the gate open
     pub successor : (n x y p : ℕ) → Begins n y → lockAt n .latest ≡ some x → IsGate p → Fenced plan events n x p

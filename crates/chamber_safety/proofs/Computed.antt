@@ -18,7 +18,7 @@ use Rattle.chamber_safety.specs.Kept.{passes}
 use Rattle.chamber_safety.specs.Handed.{lockPoints, noticeNumber, handed, looks}
 
 unfoldable openLockEvents : Opens
-unfolding Lock.noLock Lock.withController Lock.unlessRefused Lock.startEvent Lock.unlessNotSent Lock.issueEvent Lock.ifThere Lock.lockEvent Lock.startsAs
+unfolding Lock.noLock Lock.withController Lock.unlessRefused Lock.startCall Lock.unlessNotSent Lock.issueCall Lock.ifThere Lock.lockEvent Lock.startsAs
 openLockEvents = tt
 
 unfoldable openLock : Opens

@@ -22,8 +22,6 @@ use Rattle.model.specs.declared.Packet.{Packet}
 use Rattle.model.specs.declared.Packet.the-variants.{Malformed, Requested, Resulted, Refused, Receipted, Noticed, Granted}
 use Rattle.model.specs.declared.Started.{Started}
 use Rattle.model.specs.declared.Started.the-variants.{NotStarted, Running}
-use Rattle.model.specs.declared.Sent.{Sent}
-use Rattle.model.specs.declared.Sent.the-variants.{NotSent, Asked}
 use Rattle.model.specs.Limits.{readOp}
 use Rattle.model.specs.Tables.{every}
 use Rattle.model.specs.Plan.{planOf}
@@ -33,7 +31,7 @@ use Rattle.model.specs.Packets.{parsePacket}
 use Rattle.model.specs.States.{State, pointAt, isHeld}
 use Rattle.model.specs.Refusals.{noRefusal}
 use Rattle.model.specs.Operations.{answerOf}
-use Rattle.claim.specs.World.{World, Event, request, crash, start, issue, resend, receive, Server, nothing, running, storing, crashed, storedOf, Lent, packet, step, after}
+use Rattle.claim.specs.World.{World, Event, request, crash, outside, OutsideCall, issue, receive, Server, nothing, running, storing, crashed, storedOf, Lent, packet, step, after}
 use Rattle.claim.specs.Provisos.{At, Provisos}
 use Rattle.claim.specs.Claim.{Issues, Executes, recoveredBy, stateGiven}
 use Rattle.claim.specs.Fence.{NoticedIn, FencedIn, syncedPart, syncedState, Fenced}
@@ -46,8 +44,8 @@ use Rattle.proof_sanity.proofs.Traced.{provisos-from, done-world, done-answer, 
 use Rattle.chamber_claim.specs.declared.LockPoints.{LockPoints}
 use Rattle.chamber_claim.specs.declared.Chamber.{Chamber}
 use Rattle.chamber_claim.specs.declared.ChamberStart.{ChamberStart}
-use Rattle.chamber_claim.specs.Chamber.{startIn, issueIn}
-use Rattle.chamber_claim.specs.Lock.{LockEvent, kernel, begin, command, again, hear, Lock, unlessRefused, startEvent, unlessNotSent, issueEvent, ifThere, lockEvent, lockAfter, lockProduct}
+use Rattle.chamber_claim.specs.Chamber.{startIn}
+use Rattle.chamber_claim.specs.Lock.{LockEvent, kernel, begin, command, again, hear, Lock, lockEvent, lockAfter, lockProduct}
 use Rattle.chamber_claim.specs.Safe.{events, lockAt, AtLock, Begins, IsGate, LockProvisos}
 use Rattle.chamber_safety.specs.Kept.{isNone, gateOk, asideOk, heldIn, noticeIs, heardIn, successorOk, lockOk, Look, starting, executing}
 use Rattle.chamber_safety.specs.Kept.{startedAs, startsIn, doneSilently, sameCommand, asksFor, packetAsks, executesIn, beginsIn, looked, eventOk, passes, noCrash, uncut}
@@ -252,21 +250,21 @@ module _ (plan : List ℕ) (s : LockPoints) (c k : ℕ) where
     unfolding AtLock lockOk
     aside n e a = lock-part n (kernel e) a
 
-    own-issue : (n x op p a : ℕ) → AtLock plan s ls n (kernel (issue x op p a)) → (isNone (site n .parts .controllers x) ≡ true) × (gateOk s op p ≡ true)
+    own-issue : (n x op p a : ℕ) → AtLock plan s ls n (kernel (outside (issue x op p a))) → (isNone (site n .parts .controllers x) ≡ true) × (gateOk s op p ≡ true)
     unfolding asideOk
     own-issue n x op p a e =
-        let z = aside n (issue x op p a) e in
+        let z = aside n (outside (issue x op p a)) e in
         (and-left (isNone (site n .parts .controllers x)) (gateOk s op p) z, and-right (isNone (site n .parts .controllers x)) (gateOk s op p) z)
 
-    own-receive : (n x p : ℕ) → AtLock plan s ls n (kernel (receive x p)) → isNone (site n .parts .controllers x) ≡ true
+    own-receive : (n x p : ℕ) → AtLock plan s ls n (kernel (outside (receive x p))) → isNone (site n .parts .controllers x) ≡ true
     unfolding asideOk
-    own-receive n x p e = aside n (receive x p) e
+    own-receive n x p e = aside n (outside (receive x p)) e
 
     reads-only : (n : ℕ) (e : Event) (m : Command) → AtLock plan s ls n (kernel e) → Issues plan es n (m ∷ []) → IsGate plan s ls (m .point) → m .op ≡ readOp
     reads-only n e m a i g =
-        let z : e ≡ issue (i .client) (i .op) (i .point) (i .argument) = at-once plan es n e _ (kernel-at n e a) (i .event) in
+        let z : e ≡ outside (issue (i .client) (i .op) (i .point) (i .argument)) = at-once plan es n e _ (kernel-at n e a) (i .event) in
         let q = issue-is plan es n m i in
-        let at : AtLock plan s ls n (kernel (issue (i .client) (i .op) (i .point) (i .argument))) = subst (λ (y : Event). AtLock plan s ls n (kernel y)) z a in
+        let at : AtLock plan s ls n (kernel (outside (issue (i .client) (i .op) (i .point) (i .argument)))) = subst (λ (y : Event). AtLock plan s ls n (kernel y)) z a in
         let gate : IsGate plan s ls (i .point) = subst (IsGate plan s ls) (ap (λ (y : Command). y .point) q) g in
         ap (λ (y : Command). y .op) q ∙ reads-gate s (i .op) (i .point) (own-issue n (i .client) (i .op) (i .point) (i .argument) at .1) gate
 
@@ -344,33 +342,8 @@ every-at f (x ∷ ls) zero o h e = let z : x ≡ o = cc in ap f (sym z) ∙ and-
 every-at f (x ∷ ls) (suc n) o h e = every-at f ls n o (and-right (f x) (every f ls) h) e
 
 -- a controller's call is no crash
-start-keeps : (c b : ℕ) (s : LockPoints) (o : Option (List ℕ)) (n : ℕ) → startEvent s o n ≡ crash c b → ⊥
-unfolding startEvent unlessRefused
-start-keeps c b s none n e = let z : _≡_ {A = ℕ} 0 1 = cc in omega arith
-start-keeps c b s (some y) n e = go (startIn y s .answer) e
-  where
-    go : (a : Started) → unlessRefused a (start n) ≡ crash c b → ⊥
-    go (NotStarted m) q = let z : _≡_ {A = ℕ} 0 1 = cc in omega arith
-    go Running q = let z : _≡_ {A = ℕ} 0 1 = cc in omega arith
-
-issue-keeps : (c b : ℕ) (o : Option Chamber) (x op p a : ℕ) → issueEvent o x op p a ≡ crash c b → ⊥
-unfolding issueEvent unlessNotSent
-issue-keeps c b none x op p a e = let z : _≡_ {A = ℕ} 0 1 = cc in omega arith
-issue-keeps c b (some ch) x op p a e = go (issueIn ch op p a .answer) e
-  where
-    go : (t : Sent) → unlessNotSent t (issue x op p a) ≡ crash c b → ⊥
-    go (NotSent n) q = let z : _≡_ {A = ℕ} 0 1 = cc in omega arith
-    go (Asked r) q = let z : _≡_ {A = ℕ} 0 1 = cc in omega arith
-
-again-keeps : (c b : ℕ) (o : Option Chamber) (x n : ℕ) → ifThere o (resend x n) ≡ crash c b → ⊥
-unfolding ifThere
-again-keeps c b none x n e = let z : _≡_ {A = ℕ} 0 1 = cc in omega arith
-again-keeps c b (some ch) x n e = let z : _≡_ {A = ℕ} 0 1 = cc in omega arith
-
-hear-keeps : (c b : ℕ) (o : Option Chamber) (x n : ℕ) → ifThere o (receive x n) ≡ crash c b → ⊥
-unfolding ifThere
-hear-keeps c b none x n e = let z : _≡_ {A = ℕ} 0 1 = cc in omega arith
-hear-keeps c b (some ch) x n e = let z : _≡_ {A = ℕ} 0 1 = cc in omega arith
+not-crash : {A : Type 0} {o : OutsideCall} {c b : ℕ} → outside o ≡ crash c b → A
+not-crash e = let z : _≡_ {A = ℕ} 0 1 = cc in absurd (omega arith)
 
 pub no-crash : (plan : List ℕ) (s : LockPoints) (ls : List LockEvent) → every uncut ls ≡ true → (n c b : ℕ) → At plan (events plan s ls) n (crash c b) → ⊥
 unfolding At eventAt lockEvent uncut noCrash
@@ -380,7 +353,7 @@ no-crash plan s ls h n c b a =
   where
     go : (o : LockEvent) → uncut o ≡ true → eventAt (lockProduct s) (siteAfter (lockProduct s) ls n) o ≡ crash c b → ⊥
     go (kernel e) t q = untrue (rw q at t)
-    go (begin p) t q = start-keeps c b s _ p q
-    go (command x op p r) t q = issue-keeps c b _ x op p r q
-    go (again x p) t q = again-keeps c b _ x p q
-    go (hear x p) t q = hear-keeps c b _ x p q
+    go (begin p) t q = not-crash q
+    go (command x op p r) t q = not-crash q
+    go (again x p) t q = not-crash q
+    go (hear x p) t q = not-crash q

@@ -10,7 +10,7 @@ use Rattle.model.specs.Numbers.{half}
 use Rattle.model.specs.Limits.{stateSize, resultSize, headSize, readOp, setOp, reportOp}
 use Rattle.model.specs.Versions.{today}
 use Rattle.model.specs.Yard.{yardPlan}
-use Rattle.claim.specs.World.{Lent, found, request, sync, notice, start, issue, open·lease, query}
+use Rattle.claim.specs.World.{Lent, found, request, sync, notice, outside, start, issue, open·lease, query}
 use Rattle.chamber_claim.specs.declared.LockPoints.{LockPoints}
 use Rattle.chamber_claim.specs.Lock.{LockEvent, kernel, begin, command, again, hear}
 use Rattle.chamber_safety.specs.Kept.{Look, nothing, starting, executing}
@@ -44,13 +44,13 @@ noticeNumber = 14
 unfoldable pub handed : List LockEvent
 handed =
     kernel (found 0 (replicate stateSize 0) (replicate headSize 0) yardPlan 0)
-    ∷ kernel (open·lease 0 100)
-    ∷ kernel (open·lease 0 1000)
+    ∷ kernel (outside (open·lease 0 100))
+    ∷ kernel (outside (open·lease 0 1000))
     ∷ begin 0
-    ∷ kernel (start 1)
-    ∷ kernel (issue 2 reportOp 20 half)
-    ∷ kernel (issue 2 reportOp 21 half)
-    ∷ kernel (issue 2 reportOp 22 half)
+    ∷ kernel (outside (start 1))
+    ∷ kernel (outside (issue 2 reportOp 20 half))
+    ∷ kernel (outside (issue 2 reportOp 21 half))
+    ∷ kernel (outside (issue 2 reportOp 22 half))
     ∷ asks 2
     ∷ asks 3
     ∷ asks 4
@@ -77,10 +77,10 @@ handed =
     ∷ command 1 setOp 10 (half + 40)
     ∷ asks 13
     ∷ syncs 232
-    ∷ kernel (query 1 200)
+    ∷ kernel (outside (query 1 200))
     ∷ kernel (notice 0 14 lentAll)
     ∷ syncs 244
-    ∷ kernel (open·lease 200 800)
+    ∷ kernel (outside (open·lease 200 800))
     ∷ begin 15
     ∷ again 1 5
     ∷ asks 16

@@ -16,7 +16,7 @@ use Rattle.model.specs.Packets.{parsePacket}
 use Rattle.model.specs.Refusals.{noRefusal}
 use Rattle.model.specs.States.{State, pointAt, isHeld}
 use Rattle.claim.specs.World.{Event, found, request, fetch, sync, notice, give, image, take·image, receipt, release}
-use Rattle.claim.specs.World.{recover, checkpoint, store, recover·tail, inspect, crash, start, issue, resend, receive, open·lease, renew, query, World, packet}
+use Rattle.claim.specs.World.{recover, checkpoint, store, recover·tail, inspect, crash, outside, start, issue, resend, receive, open·lease, renew, query, World, packet}
 use Rattle.claim.specs.Claim.{stateGiven}
 use Rattle.claim.specs.Fence.{syncedState}
 use Rattle.claim.specs.Above.{Site}
@@ -54,13 +54,13 @@ asideOk s l (store c) = true
 asideOk s l (recover·tail c state k tail) = true
 asideOk s l (inspect c x k) = true
 asideOk s l (crash c k) = true
-asideOk s l (start p) = true
-asideOk s l (issue x op p a) = isNone (l .controllers x) && gateOk s op p
-asideOk s l (resend x c) = true
-asideOk s l (receive x p) = isNone (l .controllers x)
-asideOk s l (open·lease t span) = true
-asideOk s l (renew x t span) = true
-asideOk s l (query x t) = true
+asideOk s l (outside (start p)) = true
+asideOk s l (outside (issue x op p a)) = isNone (l .controllers x) && gateOk s op p
+asideOk s l (outside (resend x c)) = true
+asideOk s l (outside (receive x p)) = isNone (l .controllers x)
+asideOk s l (outside (open·lease t span)) = true
+asideOk s l (outside (renew x t span)) = true
+asideOk s l (outside (query x t)) = true
 
 -- ---- a successor
 
@@ -151,13 +151,7 @@ executesIn k w (store c) a = false
 executesIn k w (recover·tail c state n tail) a = false
 executesIn k w (inspect c x n) a = false
 executesIn k w (crash c n) a = false
-executesIn k w (start p) a = false
-executesIn k w (issue x op p r) a = false
-executesIn k w (resend x c) a = false
-executesIn k w (receive x p) a = false
-executesIn k w (open·lease t span) a = false
-executesIn k w (renew x t span) a = false
-executesIn k w (query x t) a = false
+executesIn k w (outside e) a = false
 
 unfoldable pub beginsIn : LockPoints → ℕ → World → LockEvent → Bool
 beginsIn s x w (kernel e) = false
@@ -203,13 +197,7 @@ noCrash (store c) = true
 noCrash (recover·tail c state k tail) = true
 noCrash (inspect c x k) = true
 noCrash (crash c k) = false
-noCrash (start p) = true
-noCrash (issue x op p a) = true
-noCrash (resend x c) = true
-noCrash (receive x p) = true
-noCrash (open·lease t span) = true
-noCrash (renew x t span) = true
-noCrash (query x t) = true
+noCrash (outside e) = true
 
 unfoldable pub uncut : LockEvent → Bool
 uncut (kernel e) = noCrash e

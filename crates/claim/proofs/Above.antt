@@ -2,7 +2,7 @@
 --     site-world                  the site's world after n events is the kernel's after n events of its schedule
 --     event-there, event-from     event n of the kernel's schedule is the one that the product's event n is, and comes from one
 --     site-step, site-past        a site after one event more, and past the schedule's end
---     quiet-clients               the quiet event changes no client
+--     quiet-clients               the quiet call changes no client
 -- Assumes nothing.
 use Prim.Native.Nat.{ℕ, zero, suc}
 use mathlib.Core.Path.{_≡_, refl, sym, _∙_, ap}
@@ -15,7 +15,7 @@ use lib.Dec.{eqb}
 use borrow.Author.Tests.{eqb-true}
 use Rattle.model.specs.declared.Client.{Client}
 use Rattle.model.specs.Clients.{isOpen, notSent, resendOf, sentBytes}
-use Rattle.claim.specs.World.{World, Event, withClient, making, sends, step, runFrom, run, after}
+use Rattle.claim.specs.World.{WorldOf, Event, withClient, making, sends, outsideStep, runFrom, run, after}
 use Rattle.claim.specs.Above.{quiet, Product, Site, eventAt, stepSite, emptySite, runSite, eventsFrom, events, siteAfter}
 
 module _ (made : Product) where
@@ -75,8 +75,8 @@ module _ (made : Product) where
     site-past = past-from (emptySite made) os n
 
 -- call 0 is never open
-pub quiet-clients : (w : World) (x : ℕ) → step w quiet .clients x ≡ w .clients x
-unfolding step sends resendOf isOpen notSent sentBytes making withClient
+pub quiet-clients : {S : Type 0} (w : WorldOf S) (x : ℕ) → outsideStep w quiet .clients x ≡ w .clients x
+unfolding outsideStep sends resendOf isOpen notSent sentBytes making withClient
 quiet-clients w x = go (w .clients 0) refl (eqb x 0) refl
   where
     go : (o : Option Client) → w .clients 0 ≡ o → (b : Bool) → eqb x 0 ≡ b → sends 0 (λ d. resendOf d 0) o w .clients x ≡ w .clients x

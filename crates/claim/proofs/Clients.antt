@@ -28,9 +28,9 @@ use Rattle.model.specs.Checkpoints.{checkpointOf}
 use Rattle.model_laws.proofs.Tests.{choose, impossible}
 use Rattle.model_laws.proofs.Clients.{commandOf, issue-command, issue-next, issue-keeps, receive-next, resend-same}
 use Rattle.claim.specs.World.{World, WorldOf, Stored, Server, nothing, running, storing, crashed, Lent, lentState, lentLog, Event, found, request, fetch, sync, notice, give, image, take·image, receipt, release, recover, crash}
-use Rattle.claim.specs.World.{checkpoint, store, recover·tail, inspect, checkpoints, stores}
+use Rattle.claim.specs.World.{checkpoint, store, recover·tail, inspect, outside, checkpoints, stores}
 use Rattle.claim.specs.World.{start, issue, resend, receive, open·lease, renew, query, withServer, withClient, withManager, making, calls, callsOn, foundAs, crashAt, startsAs, startsOn}
-use Rattle.claim.specs.World.{sends, receives, told, packet, step, emptyWorld, runFrom, run, after}
+use Rattle.claim.specs.World.{sends, receives, told, packet, outsideStep, step, emptyWorld, runFrom, run, after}
 use Rattle.claim.specs.Provisos.{At, Provisos}
 use Rattle.claim.specs.Claim.{Issues}
 
@@ -110,10 +110,10 @@ module _ (plan : List ℕ) (es : List Event) where
   -- what event n makes of client x
   pub data Becomes (n x : ℕ) : Option Client → Type 0 where
     still : Becomes n x (after es n .clients x)
-    begun : (p : ℕ) (b : List ℕ) → At plan es n (start p) → packet (after es n) p ≡ some b → startOf b .answer ≡ Running → startOf b .client .client ≡ x
+    begun : (p : ℕ) (b : List ℕ) → At plan es n (outside (start p)) → packet (after es n) p ≡ some b → startOf b .answer ≡ Running → startOf b .client .client ≡ x
         → Becomes n x (some (startOf b .client))
-    asked : (op p a : ℕ) (d : Client) → At plan es n (issue x op p a) → after es n .clients x ≡ some d → Becomes n x (some (issueOf d op p a .client))
-    heard : (p : ℕ) (d : Client) (b : List ℕ) → At plan es n (receive x p) → after es n .clients x ≡ some d → packet (after es n) p ≡ some b
+    asked : (op p a : ℕ) (d : Client) → At plan es n (outside (issue x op p a)) → after es n .clients x ≡ some d → Becomes n x (some (issueOf d op p a .client))
+    heard : (p : ℕ) (d : Client) (b : List ℕ) → At plan es n (outside (receive x p)) → after es n .clients x ≡ some d → packet (after es n) p ≡ some b
         → Becomes n x (some (receiveOf d b .client))
 
   module _ (n x : ℕ) where
@@ -122,7 +122,7 @@ module _ (plan : List ℕ) (es : List Event) where
     as-still e q = subst (λ (f : ℕ → Option Client). Becomes n x (f x)) (sym q) still
 
     step-becomes : (e : Event) → At plan es n e → Becomes n x (step (after es n) e .clients x)
-    unfolding step startsOn startsAs sends receives told withClient withManager
+    unfolding step outsideStep startsOn startsAs sends receives told withClient withManager
     step-becomes (found c state log plan k) h = as-still (found c state log plan k) (found-clients _ _ _ _)
     step-becomes (request c p v l) h = as-still (request c p v l) (on-clients _ _ _ _ _)
     step-becomes (fetch c y k l) h = as-still (fetch c y k l) (calls-clients _ _ _ _ _)
@@ -139,7 +139,7 @@ module _ (plan : List ℕ) (es : List Event) where
     step-becomes (recover·tail c state k t) h = as-still (recover·tail c state k t) (found-clients _ _ _ _)
     step-becomes (inspect c y k) h = as-still (inspect c y k) refl
     step-becomes (crash c k) h = as-still (crash c k) (crash-clients _ _ _ _)
-    step-becomes (start p) h = go (packet (after es n) p) refl
+    step-becomes (outside (start p)) h = go (packet (after es n) p) refl
       where
         run-as : (b : List ℕ) → packet (after es n) p ≡ some b → (s : Started) → startOf b .answer ≡ s → Becomes n x (startsAs (startOf b) (after es n) .clients x)
         run-as b f (NotStarted k) q = rw q still
@@ -148,15 +148,17 @@ module _ (plan : List ℕ) (es : List Event) where
         go : (o : Option (List ℕ)) → packet (after es n) p ≡ o → Becomes n x (startsOn o (after es n) .clients x)
         go none f = still
         go (some b) f = run-as b f (startOf b .answer) refl
-    step-becomes (issue y op p a) h = go (after es n .clients y) refl
+    step-becomes (outside (issue y op p a)) h = go (after es n .clients y) refl
       where
         go : (o : Option Client) → after es n .clients y ≡ o → Becomes n x (sends y (λ d. issueOf d op p a) o (after es n) .clients x)
         go none f = still
         go (some d) f =
             subst (λ (g : ℕ → Option Client). Becomes n x (g x)) (sym (making-clients _ _))
             (choose (Becomes n x) (eqb x y)
-            (λ t. let q : y ≡ x = sym (eqb-true x y t) in asked op p a d (subst (λ (z : ℕ). At plan es n (issue z op p a)) q h) (subst (λ (z : ℕ). after es n .clients z ≡ some d) q f)) (λ t. still))
-    step-becomes (resend y c) h = go (after es n .clients y) refl
+            (λ t.
+            let q : y ≡ x = sym (eqb-true x y t) in
+            asked op p a d (subst (λ (z : ℕ). At plan es n (outside (issue z op p a))) q h) (subst (λ (z : ℕ). after es n .clients z ≡ some d) q f)) (λ t. still))
+    step-becomes (outside (resend y c)) h = go (after es n .clients y) refl
       where
         go : (o : Option Client) → after es n .clients y ≡ o → Becomes n x (sends y (λ d. resendOf d c) o (after es n) .clients x)
         go none f = still
@@ -164,17 +166,19 @@ module _ (plan : List ℕ) (es : List Event) where
             subst (λ (g : ℕ → Option Client). Becomes n x (g x)) (sym (making-clients _ _))
             (choose (Becomes n x) (eqb x y)
             (λ t. rw (resend-same d c) (subst (Becomes n x) (subst (λ (z : ℕ). after es n .clients z ≡ some d) (sym (eqb-true x y t)) f) still)) (λ t. still))
-    step-becomes (receive y p) h = go (after es n .clients y) refl (packet (after es n) p) refl
+    step-becomes (outside (receive y p)) h = go (after es n .clients y) refl (packet (after es n) p) refl
       where
         go : (o : Option Client) → after es n .clients y ≡ o → (b : Option (List ℕ)) → packet (after es n) p ≡ b → Becomes n x (receives y o b (after es n) .clients x)
         go none f b g = still
         go (some d) f none g = still
         go (some d) f (some b) g =
             choose (Becomes n x) (eqb x y)
-            (λ t. let q : y ≡ x = sym (eqb-true x y t) in heard p d b (subst (λ (z : ℕ). At plan es n (receive z p)) q h) (subst (λ (z : ℕ). after es n .clients z ≡ some d) q f) g) (λ t. still)
-    step-becomes (open·lease t span) h = as-still (open·lease t span) (making-clients _ _)
-    step-becomes (renew y t span) h = as-still (renew y t span) (making-clients _ _)
-    step-becomes (query y t) h = as-still (query y t) (making-clients _ _)
+            (λ t.
+            let q : y ≡ x = sym (eqb-true x y t) in
+            heard p d b (subst (λ (z : ℕ). At plan es n (outside (receive z p))) q h) (subst (λ (z : ℕ). after es n .clients z ≡ some d) q f) g) (λ t. still)
+    step-becomes (outside (open·lease t span)) h = as-still (outside (open·lease t span)) (making-clients _ _)
+    step-becomes (outside (renew y t span)) h = as-still (outside (renew y t span)) (making-clients _ _)
+    step-becomes (outside (query y t)) h = as-still (outside (query y t)) (making-clients _ _)
 
     pub becomes : Becomes n x (after es (suc n) .clients x)
     unfolding At
@@ -186,18 +190,18 @@ module _ (plan : List ℕ) (es : List Event) where
 
   -- ---- the client after a call of it
 
-  pub issue-after : (n x op p a : ℕ) (d : Client) → At plan es n (issue x op p a) → after es n .clients x ≡ some d → after es (suc n) .clients x ≡ some (issueOf d op p a .client)
-  unfolding step sends withClient
+  pub issue-after : (n x op p a : ℕ) (d : Client) → At plan es n (outside (issue x op p a)) → after es n .clients x ≡ some d → after es (suc n) .clients x ≡ some (issueOf d op p a .client)
+  unfolding step outsideStep sends withClient
   issue-after n x op p a d h e = rw (after-step n _ h, e, making-clients, eq-eqb x x refl) refl
 
-  pub receive-after : (n x p : ℕ) (d : Client) (b : List ℕ) → At plan es n (receive x p) → after es n .clients x ≡ some d → packet (after es n) p ≡ some b
+  pub receive-after : (n x p : ℕ) (d : Client) (b : List ℕ) → At plan es n (outside (receive x p)) → after es n .clients x ≡ some d → packet (after es n) p ≡ some b
       → after es (suc n) .clients x ≡ some (receiveOf d b .client)
-  unfolding step receives withClient
+  unfolding step outsideStep receives withClient
   receive-after n x p d b h e f = rw (after-step n _ h, e, f, eq-eqb x x refl) refl
 
-  pub start-after : (n p : ℕ) (b : List ℕ) → At plan es n (start p) → packet (after es n) p ≡ some b → startOf b .answer ≡ Running
+  pub start-after : (n p : ℕ) (b : List ℕ) → At plan es n (outside (start p)) → packet (after es n) p ≡ some b → startOf b .answer ≡ Running
       → after es (suc n) .clients (startOf b .client .client) ≡ some (startOf b .client)
-  unfolding step startsOn startsAs withClient
+  unfolding step outsideStep startsOn startsAs withClient
   start-after n p b h f e = rw (after-step n _ h, f, e, eq-eqb (startOf b .client .client) (startOf b .client .client) refl) refl
 
   -- ---- numbers
@@ -242,7 +246,7 @@ module _ (plan : List ℕ) (es : List Event) where
         go : {o : Option Client} → Becomes n x o → (c : Client) × (o ≡ some c) × (d .next ≤ c .next)
         go still = (d, e, omega arith)
         go (begun p b h f r q) =
-            let z : after es n .clients x ≡ none = subst (λ (y : ℕ). after es n .clients y ≡ none) q (provisos .started-once n p b h f r) in
+            let z : after es n .clients x ≡ none = subst (λ (y : ℕ). after es n .clients y ≡ none) q (provisos .started-once n p h b f r) in
             let y : some d ≡ none = sym e ∙ z in impossible cc
         go (asked op p a c h f) = (_, refl, let k = ap (λ (z : Client). z .next) (same f) in omega (arith, issue-keeps c op p a .0))
         go (heard p c b h f q) = (_, refl, let k = ap (λ (z : Client). z .next) (same f) in omega (arith, receive-next c (parsePacket b) .0))

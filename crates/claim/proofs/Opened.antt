@@ -3,7 +3,7 @@
 -- Assumes nothing.
 use Rattle.model_laws.specs.Opened.{Opens, openParties}
 use Rattle.model.specs.Yard.{yardPlan}
-use Rattle.claim.specs.World.{withServer, withClient, withManager, making, startsAs, startsOn, sends, receives, told, packet}
+use Rattle.claim.specs.World.{withServer, withClient, withManager, making, startsAs, startsOn, sends, receives, told, packet, outsideStep}
 use Rattle.claim.specs.World as World
 use Rattle.claim.specs.Provisos as Provisos
 use Rattle.claim.specs.RecordWorld.{longer, settle, callOf, calls, callsOn, foundOf, recoveredFrom, recoverOf, keptBy, founds, recoversTo, recoversFrom, cutAt, crashAt, step, emptyWorld, runFrom, run}
@@ -11,7 +11,7 @@ use Rattle.claim.specs.RecordProvisos.{markOf, lengthOf}
 
 -- what both worlds share
 unfoldable pub openShared : Opens
-unfolding openParties yardPlan withServer withClient withManager making startsAs startsOn sends receives told packet
+unfolding openParties yardPlan withServer withClient withManager making startsAs startsOn sends receives told packet outsideStep
 openShared = tt
 
 -- servers as they are lent their bytes

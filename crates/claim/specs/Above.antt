@@ -4,10 +4,10 @@
 use Prim.Native.Nat.{ℕ}
 use mathlib.Core.List.{List, [], _∷_}
 use lib.ListN.{take}
-use Rattle.claim.specs.World.{World, Event, resend, step, emptyWorld}
+use Rattle.claim.specs.World.{World, Event, OutsideCall, resend, step, emptyWorld}
 
--- the event of a product's call that does nothing at the kernel: call 0 is never open, so this resend is refused and changes nothing
-abbrev pub quiet : Event
+-- a product's call that does nothing at the kernel: call 0 is never open, so this resend is refused and changes nothing
+abbrev pub quiet : OutsideCall
 quiet = resend 0 0
 
 -- by the world and the parts before an event: the kernel's event that it is, and the parts after it

@@ -28,7 +28,8 @@ use Rattle.model.specs.Operations.{After, answerOf, requestOf, recoveredState}
 use Rattle.model.specs.Checkpoints.{recoveredTail}
 use Rattle.model.specs.Clients.{callAt, issueOf, receiveOf}
 use Rattle.model.specs.Refusals.{noRefusal}
-use Rattle.claim.specs.World.{Event, request, crash, issue, receive, Lent, WorldOf, Stored, Server, nothing, running, storing, crashed, storedOf, run, after, packet, lentState, lentLog}
+use Rattle.claim.specs.World.{OutsideCall, issue, receive, Event, request, crash, outside}
+use Rattle.claim.specs.World.{Lent, WorldOf, Stored, Server, nothing, running, storing, crashed, storedOf, run, after, packet, lentState, lentLog}
 use Rattle.claim.specs.Provisos.{Provisos, At, reachOf}
 
 abbrev pub _∈_ {ℓ} : {A : Type ℓ} → A → List A → Type ℓ
@@ -56,28 +57,27 @@ commandAt d c =
 unfoldable pub readingAt : Point → Reading
 readingAt x = record { value = x .value; quality = x .quality }
 
--- ---- demand 3 of any run: servers of type S, and `world n` is the world after n events
+-- ---- demand 3 of any run: servers of type S, `world n` is the world after n events, and `Is n e`: event n is the call e
 
-module _ {S : Type 0} (world : ℕ → WorldOf S) where
-  -- "An Issue not refused issues a command": event n issues ks, one command. `Is n x op p a`: event n is that call of Issue
-  pub record IssuesBy (Is : ℕ → ℕ → ℕ → ℕ → ℕ → Type 0) (n : ℕ) (ks : List Command) : Type 0 where
+module _ {S : Type 0} (world : ℕ → WorldOf S) (Is : ℕ → OutsideCall → Type 0) where
+  -- "An Issue not refused issues a command": event n issues ks, one command
+  pub record IssuesBy (n : ℕ) (ks : List Command) : Type 0 where
     pub client : ℕ
     pub op : ℕ
     pub point : ℕ
     pub argument : ℕ
-    pub event : Is n client op point argument
+    pub event : Is n (issue client op point argument)
     pub state : Client
     pub started : world n .clients client ≡ some state
     pub asked : Request
     pub answer : issueOf state op point argument .answer ≡ Asked asked
     pub its : (asked .command) ∷ [] ≡ ks
 
-  -- "A Receive of its result, not refused, completes it": event n completes ks, one command, with the result r. `Is n x p`: event n
-  -- is that call
-  pub record CompletesBy (Is : ℕ → ℕ → ℕ → Type 0) (n : ℕ) (ks : List Command) (r : EntryResult) : Type 0 where
+  -- "A Receive of its result, not refused, completes it": event n completes ks, one command, with the result r
+  pub record CompletesBy (n : ℕ) (ks : List Command) (r : EntryResult) : Type 0 where
     pub client : ℕ
     pub number : ℕ
-    pub event : Is n client number
+    pub event : Is n (receive client number)
     pub state : Client
     pub started : world n .clients client ≡ some state
     pub bytes : List ℕ
@@ -148,11 +148,11 @@ module _ (plan : List ℕ) (seen : Account) where
 module _ (plan : List ℕ) (es : List Event) where
   -- event n issues ks
   abbrev pub Issues : ℕ → List Command → Type 0
-  Issues = IssuesBy (after es) (λ n x op p a. At plan es n (issue x op p a))
+  Issues = IssuesBy (after es) (λ n e. At plan es n (outside e))
 
   -- event n completes ks, with the result r
   abbrev pub Completes : ℕ → List Command → EntryResult → Type 0
-  Completes = CompletesBy (after es) (λ n x p. At plan es n (receive x p))
+  Completes = CompletesBy (after es) (λ n e. At plan es n (outside e))
 
   -- a request that is answered 0 and makes no packet executes its command: event n executes m at server c
   pub record Executes (n c : ℕ) (m : Marked) : Type 0 where

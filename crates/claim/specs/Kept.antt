@@ -9,16 +9,17 @@ use Rattle.model.specs.States.{State, pointAt}
 use Rattle.model.specs.Versions.{today}
 use Rattle.model.specs.Sequential.{Marked, markedBy, OrderEntry, single, ReadingZ, readingMeant}
 use Rattle.model.specs.Yard.{yardPlan}
+use Rattle.claim.specs.World.{open·lease, start, issue}
 use Rattle.claim.specs.Claim.{readingAt}
-use Rattle.claim.specs.RecordWorld.{Event, found, request, sync, recover, crash, open·lease, start, issue}
+use Rattle.claim.specs.RecordWorld.{Event, found, request, sync, recover, crash, outside}
 
 -- a client sets point 5 to 40; its record is synced, and the server crashes
 unfoldable pub kept : List Event
 kept =
     found 0 yardPlan 0
-    ∷ open·lease 0 1000
-    ∷ start 0
-    ∷ issue 1 1 5 (half + 40)
+    ∷ outside (open·lease 0 1000)
+    ∷ outside (start 0)
+    ∷ outside (issue 1 1 5 (half + 40))
     ∷ request 0 1 today 100
     ∷ sync 0 36 100
     ∷ crash 0 36

@@ -16,7 +16,9 @@ use Rattle.model.specs.Checkpoints.{recoverTailOf}
 use Rattle.model.specs.States.{load}
 use Rattle.model.specs.Clients.{startOf}
 use Rattle.model.specs.Refusals.{noRefusal}
-use Rattle.claim.specs.World.{Event, found, request, fetch, sync, notice, give, image, take·image, receipt, release, recover, checkpoint, store, recover·tail, inspect, crash, start, issue, resend, receive, open·lease, renew, query, Lent, World, Server, nothing, running, storing, crashed, storedOf, after, packet}
+use Rattle.claim.specs.World.{OutsideCall, start, issue, resend, receive, open·lease, renew, query}
+use Rattle.claim.specs.World.{Event, found, request, fetch, sync, notice, give, image, take·image, receipt, release, recover, checkpoint, store, recover·tail, inspect, crash, outside}
+use Rattle.claim.specs.World.{Lent, WorldOf, World, Server, nothing, running, storing, crashed, storedOf, after, packet}
 
 -- a list of bytes
 unfoldable pub Bytes : List ℕ → Type 0
@@ -25,6 +27,16 @@ Bytes s = (i : ℕ) → getD s i 0 < 256
 -- the length of a lent log has 64 bits
 abbrev pub Counted : Lent → Type 0
 Counted l = l .log < word * word
+
+-- what the interface's types say of a call of a client or of the lease manager: times have 32 bits
+unfoldable pub OutsideTyped : OutsideCall → Type 0
+OutsideTyped (start p) = Unit
+OutsideTyped (issue x op p a) = Unit
+OutsideTyped (resend x c) = Unit
+OutsideTyped (receive x p) = Unit
+OutsideTyped (open·lease t span) = t < word
+OutsideTyped (renew x t span) = t < word
+OutsideTyped (query x t) = t < word
 
 -- what the interface's types say and the conclusion needs: buffers and a plan that a server is founded or recovered with are bytes, a lent
 -- log's length has 64 bits, times have 32. It holds for arguments of every other size
@@ -45,13 +57,11 @@ Typed (store c) = Unit
 Typed (recover·tail c state k tail) = Bytes state
 Typed (inspect c x k) = Unit
 Typed (crash c k) = Unit
-Typed (start p) = Unit
-Typed (issue x op p a) = Unit
-Typed (resend x c) = Unit
-Typed (receive x p) = Unit
-Typed (open·lease t span) = t < word
-Typed (renew x t span) = t < word
-Typed (query x t) = t < word
+Typed (outside e) = OutsideTyped e
+
+-- the client that packet p starts has not started before
+abbrev pub StartedOnce : {S : Type 0} → WorldOf S → ℕ → Type 0
+StartedOnce w p = (b : List ℕ) → packet w p ≡ some b → startOf b .answer ≡ Running → w .clients (startOf b .client .client) ≡ none
 
 -- the log that a running server has, or that a crash kept: what recovery may use
 unfoldable pub keptBy : Server → Option (List ℕ)
@@ -108,5 +118,4 @@ module _ (plan : List ℕ) (es : List Event) where
     pub recovery-uses-both : (n c : ℕ) (state k tail : List ℕ) → At n (recover·tail c state k tail) → recoverTailOf state k tail .answer .refusal ≡ noRefusal
         → (keptBy (after es n .servers c) ≡ some tail) × Begins (storedOf (after es n .servers c) .checkpoint) k
     -- "each client number starts one desk, once"
-    pub started-once : (n p : ℕ) (b : List ℕ) → At n (start p) → packet (after es n) p ≡ some b → startOf b .answer ≡ Running
-        → after es n .clients (startOf b .client .client) ≡ none
+    pub started-once : (n p : ℕ) → At n (outside (start p)) → StartedOnce (after es n) p

@@ -15,17 +15,17 @@ use Rattle.model.specs.States.{State}
 use Rattle.model.specs.Decisions.{onRequest}
 use Rattle.claim.specs.World.{packet}
 use Rattle.claim.specs.Claim.{IssuesBy, CompletesBy, SurvivesAtBy, Account, ExplainedBy}
-use Rattle.claim.specs.RecordWorld.{Event, request, crash, issue, receive, Log, Server, nothing, running, crashed, callOf, recoveredFrom, run, after}
+use Rattle.claim.specs.RecordWorld.{Event, request, crash, outside, Log, Server, nothing, running, crashed, callOf, recoveredFrom, run, after}
 use Rattle.claim.specs.RecordProvisos.{Provisos, At, lengthOf}
 
 module _ (plan : List ℕ) (es : List Event) where
   -- event n issues ks
   abbrev pub Issues : ℕ → List Command → Type 0
-  Issues = IssuesBy (after es) (λ n x op p a. At plan es n (issue x op p a))
+  Issues = IssuesBy (after es) (λ n e. At plan es n (outside e))
 
   -- event n completes ks, with the result r
   abbrev pub Completes : ℕ → List Command → EntryResult → Type 0
-  Completes = CompletesBy (after es) (λ n x p. At plan es n (receive x p))
+  Completes = CompletesBy (after es) (λ n e. At plan es n (outside e))
 
   -- a request that is answered 0 and makes no packet executes its command: event n executes m at server c
   pub record Executes (n c : ℕ) (m : Marked) : Type 0 where

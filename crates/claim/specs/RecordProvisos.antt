@@ -4,18 +4,16 @@
 --     "recovery uses that prefix": recover works on the records that the crash kept
 --     "the lease office keeps its state": there is one manager, and each call of it gets what the last one left
 -- Assumes nothing.
-use Prim.Native.Nat.{ℕ, _≤_, _<_}
+use Prim.Native.Nat.{ℕ, _≤_}
 use mathlib.Core.Path.{_≡_}
 use mathlib.Core.List.{List}
-use mathlib.Core.Option.{none, some}
+use mathlib.Core.Option.{some}
 use lib.ListN.{getElem?}
-use Rattle.model.specs.declared.Started.the-variants.{Running}
-use Rattle.model.specs.Numbers.{word}
 use Rattle.model.specs.States.{State}
-use Rattle.model.specs.Clients.{startOf}
-use Rattle.claim.specs.World.{packet}
-use Rattle.claim.specs.Provisos.{Bytes}
-use Rattle.claim.specs.RecordWorld.{Event, found, request, fetch, sync, notice, give, image, take·image, receipt, release, recover, crash, start, issue, resend, receive, open·lease, renew, query, Log, Server, nothing, running, crashed, foundOf, recoverOf, keptBy, after}
+use Rattle.claim.specs.World.{start}
+use Rattle.claim.specs.Provisos.{Bytes, OutsideTyped, StartedOnce}
+use Rattle.claim.specs.RecordWorld.{Event, found, request, fetch, sync, notice, give, image, take·image, receipt, release, recover, crash, outside}
+use Rattle.claim.specs.RecordWorld.{Log, Server, nothing, running, crashed, foundOf, recoverOf, keptBy, after}
 
 -- what the interface's types say and the conclusion needs, as over bytes. A log's length has no bound here: with checkpoints, places counted from the
 -- founding may pass 64 bits
@@ -32,13 +30,7 @@ Typed (receipt c p room) = Unit
 Typed (release c p room) = Unit
 Typed (recover c plan) = Unit
 Typed (crash c k) = Unit
-Typed (start p) = Unit
-Typed (issue x op p a) = Unit
-Typed (resend x c) = Unit
-Typed (receive x p) = Unit
-Typed (open·lease t span) = t < word
-Typed (renew x t span) = t < word
-Typed (query x t) = t < word
+Typed (outside e) = OutsideTyped e
 
 -- the sync mark and the length in bytes of a server's log
 unfoldable pub markOf : Server → ℕ
@@ -70,5 +62,4 @@ module _ (plan : List ℕ) (es : List Event) where
     -- "a crash keeps a prefix of the log not shorter than its synced part"
     pub crash-keeps : (n c k : ℕ) → At n (crash c k) → (markOf (after es n .servers c) ≤ k) × (k ≤ lengthOf (after es n .servers c))
     -- "each client number starts one desk, once"
-    pub started-once : (n p : ℕ) (b : List ℕ) → At n (start p) → packet (after es n) p ≡ some b → startOf b .answer ≡ Running
-        → after es n .clients (startOf b .client .client) ≡ none
+    pub started-once : (n p : ℕ) → At n (outside (start p)) → StartedOnce (after es n) p

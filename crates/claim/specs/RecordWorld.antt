@@ -21,9 +21,8 @@ use Rattle.model.specs.States.{State}
 use Rattle.model.specs.Apply.{apply, founded, withMark}
 use Rattle.model.specs.Decisions.{Decided, onRequest, onFetch, onSync, onNotice, onGive, onImage, onTake, onReceipt, onRelease}
 use Rattle.model.specs.Operations.{recovered}
-use Rattle.model.specs.Clients.{issueOf, resendOf}
-use Rattle.model.specs.Leases.{newManager, openOf, renewOf, queryOf}
-use Rattle.claim.specs.World.{WorldOf, withServer, making, startsOn, sends, receives, told, packet}
+use Rattle.model.specs.Leases.{newManager}
+use Rattle.claim.specs.World.{WorldOf, OutsideCall, withServer, making, packet, outsideStep}
 
 -- ---- parties
 
@@ -58,13 +57,7 @@ pub data Event : Type 0 where
   release : ℕ → ℕ → ℕ → Event  -- server, packet, room
   recover : ℕ → List ℕ → Event  -- server, plan
   crash : ℕ → ℕ → Event  -- server, bytes kept
-  start : ℕ → Event  -- packet
-  issue : ℕ → ℕ → ℕ → ℕ → Event  -- client, op, point, argument
-  resend : ℕ → ℕ → Event  -- client, call
-  receive : ℕ → ℕ → Event  -- client, packet
-  open·lease : ℕ → ℕ → Event  -- time, span
-  renew : ℕ → ℕ → ℕ → Event  -- client, time, span
-  query : ℕ → ℕ → Event  -- client, time
+  outside : OutsideCall → Event  -- a call of a client or of the lease manager
 
 -- ---- calls of a running server
 
@@ -162,13 +155,7 @@ step w (receipt c p room) = calls c room (λ st free. onReceipt st p) (w .server
 step w (release c p room) = callsOn c room (λ b st free. onRelease st free (parsePacket b)) (packet w p) w
 step w (recover c plan) = recoversFrom c plan (keptBy (w .servers c)) w
 step w (crash c k) = crashAt c k (w .servers c) w
-step w (start p) = startsOn (packet w p) w
-step w (issue x op p a) = sends x (λ d. issueOf d op p a) (w .clients x) w
-step w (resend x c) = sends x (λ d. resendOf d c) (w .clients x) w
-step w (receive x p) = receives x (w .clients x) (packet w p) w
-step w (open·lease t span) = told (openOf (w .manager) t span) w
-step w (renew x t span) = told (renewOf (w .manager) x t span) w
-step w (query x t) = told (queryOf (w .manager) x t) w
+step w (outside e) = outsideStep w e
 
 -- nothing founded or started, the lease manager at time 0 without leases
 unfoldable pub emptyWorld : World

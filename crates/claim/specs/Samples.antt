@@ -6,7 +6,8 @@ use mathlib.Core.Option.{Option, none, some}
 use lib.ListN.{length}
 use Rattle.model.specs.Versions.{today}
 use Rattle.model.specs.Yard.{yardPlan}
-use Rattle.claim.specs.RecordWorld.{Event, found, request, sync, give, image, take·image, receipt, release, recover, crash, open·lease, start, issue, receive, Log, World, keptBy, step, emptyWorld}
+use Rattle.claim.specs.World.{open·lease, start, issue, receive}
+use Rattle.claim.specs.RecordWorld.{Event, found, request, sync, give, image, take·image, receipt, release, recover, crash, outside, Log, World, keptBy, step, emptyWorld}
 use Rattle.claim.specs.RecordProvisos.{lengthOf, markOf}
 
 -- a client sets point 5 to 40: executed, refused with 7, cut off by a crash inside its record, executed again, recovered whole, told, completed;
@@ -14,9 +15,9 @@ use Rattle.claim.specs.RecordProvisos.{lengthOf, markOf}
 unfoldable pub lost : List Event
 lost =
     found 0 yardPlan 0
-    ∷ open·lease 0 1000
-    ∷ start 0
-    ∷ issue 1 1 5 2147483688
+    ∷ outside (open·lease 0 1000)
+    ∷ outside (start 0)
+    ∷ outside (issue 1 1 5 2147483688)
     ∷ request 0 1 today 100
     ∷ request 0 1 today 100
     ∷ crash 0 35
@@ -25,8 +26,8 @@ lost =
     ∷ crash 0 36
     ∷ recover 0 yardPlan
     ∷ request 0 1 today 100
-    ∷ receive 1 3
-    ∷ issue 1 2 5 2147483649
+    ∷ outside (receive 1 3)
+    ∷ outside (issue 1 2 5 2147483649)
     ∷ request 0 4 today 35
     ∷ request 0 4 today 63
     ∷ request 0 4 today 64
@@ -37,9 +38,9 @@ unfoldable pub moved : List Event
 moved =
     found 0 yardPlan 0
     ∷ found 1 yardPlan 1
-    ∷ open·lease 0 1000
-    ∷ start 0
-    ∷ issue 1 1 5 2147483688
+    ∷ outside (open·lease 0 1000)
+    ∷ outside (start 0)
+    ∷ outside (issue 1 1 5 2147483688)
     ∷ request 0 1 today 100
     ∷ give 0 5 1 100
     ∷ sync 0 44 100

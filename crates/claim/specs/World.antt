@@ -57,7 +57,17 @@ pub record WorldOf (S : Type 0) : Type 0 where
 abbrev pub World : Type 0
 World = WorldOf Server
 
--- ---- events
+-- ---- events. A packet or image is named by its number among those made, from 0
+
+-- a call outside the servers, of a client (paper: desk) or of the lease manager (paper: lease office): the same in both worlds
+pub data OutsideCall : Type 0 where
+  start : ℕ → OutsideCall  -- packet
+  issue : ℕ → ℕ → ℕ → ℕ → OutsideCall  -- client, op, point, argument
+  resend : ℕ → ℕ → OutsideCall  -- client, call
+  receive : ℕ → ℕ → OutsideCall  -- client, packet
+  open·lease : ℕ → ℕ → OutsideCall  -- time, span
+  renew : ℕ → ℕ → ℕ → OutsideCall  -- client, time, span
+  query : ℕ → ℕ → OutsideCall  -- client, time
 
 -- what a call of a server is lent: the first `state` bytes of the state buffer; the first `log` bytes of the log followed by
 -- `tail` (bytes past the recorded length are free); an output of any length and content. Fewer bytes than are due give 2 or 19
@@ -67,8 +77,7 @@ pub record Lent : Type 0 where
   pub tail : List ℕ
   pub out : List ℕ
 
--- the twenty-one calls, with their arguments, the storing of a checkpoint, and crashes. A packet or image is named by its number among those made,
--- from 0
+-- the twenty-one calls, with their arguments, the storing of a checkpoint, and crashes
 pub data Event : Type 0 where
   found : ℕ → List ℕ → List ℕ → List ℕ → ℕ → Event  -- server, state and log buffers, plan, server number
   request : ℕ → ℕ → Versions → Lent → Event  -- server, packet, the versions its program executes by: any at any event and server
@@ -86,13 +95,7 @@ pub data Event : Type 0 where
   recover·tail : ℕ → List ℕ → List ℕ → List ℕ → Event  -- server, state buffer, checkpoint, kept tail
   inspect : ℕ → ℕ → ℕ → Event  -- server, client, call
   crash : ℕ → ℕ → Event  -- server, bytes kept
-  start : ℕ → Event  -- packet
-  issue : ℕ → ℕ → ℕ → ℕ → Event  -- client, op, point, argument
-  resend : ℕ → ℕ → Event  -- client, call
-  receive : ℕ → ℕ → Event  -- client, packet
-  open·lease : ℕ → ℕ → Event  -- time, span
-  renew : ℕ → ℕ → ℕ → Event  -- client, time, span
-  query : ℕ → ℕ → Event  -- client, time
+  outside : OutsideCall → Event  -- a call of a client or of the lease manager
 
 -- ---- changes of one part
 
@@ -204,6 +207,16 @@ told a w = making (toldBytes (a .answer)) (withManager (a .manager) w)
 unfoldable pub packet : {S : Type 0} → WorldOf S → ℕ → Option (List ℕ)
 packet w n = getElem? (w .made) n
 
+-- a call of a client or of the lease manager, in any world
+unfoldable pub outsideStep : {S : Type 0} → WorldOf S → OutsideCall → WorldOf S
+outsideStep w (start p) = startsOn (packet w p) w
+outsideStep w (issue x op p a) = sends x (λ d. issueOf d op p a) (w .clients x) w
+outsideStep w (resend x c) = sends x (λ d. resendOf d c) (w .clients x) w
+outsideStep w (receive x p) = receives x (w .clients x) (packet w p) w
+outsideStep w (open·lease t span) = told (openOf (w .manager) t span) w
+outsideStep w (renew x t span) = told (renewOf (w .manager) x t span) w
+outsideStep w (query x t) = told (queryOf (w .manager) x t) w
+
 unfoldable pub step : World → Event → World
 step w (found c state log plan n) = foundAs c nothingStored (foundOf state log plan n) w
 step w (request c p v l) = callsOn c l (λ s g b. requestOf v s g b (l .out)) (packet w p) w
@@ -221,13 +234,7 @@ step w (store c) = stores c (w .servers c) w
 step w (recover·tail c state k tail) = foundAs c (storedOf (w .servers c)) (recoverTailOf state k tail) w
 step w (inspect c x k) = w
 step w (crash c k) = crashAt c k (w .servers c) w
-step w (start p) = startsOn (packet w p) w
-step w (issue x op p a) = sends x (λ d. issueOf d op p a) (w .clients x) w
-step w (resend x c) = sends x (λ d. resendOf d c) (w .clients x) w
-step w (receive x p) = receives x (w .clients x) (packet w p) w
-step w (open·lease t span) = told (openOf (w .manager) t span) w
-step w (renew x t span) = told (renewOf (w .manager) x t span) w
-step w (query x t) = told (queryOf (w .manager) x t) w
+step w (outside e) = outsideStep w e
 
 -- nothing founded or started, the lease manager at time 0 without leases
 unfoldable pub emptyWorld : World

@@ -15,7 +15,8 @@ use Rattle.model.specs.States.{State}
 use Rattle.model.specs.Apply.{apply, applyRecord}
 use Rattle.model.specs.Decisions.{Decided, orMalformed, onTake, decideTake, onRelease}
 use Rattle.claim.specs.World.{withServer, making, packet}
-use Rattle.claim.specs.RecordWorld.{Event, found, request, fetch, sync, notice, give, image, take·image, receipt, release, recover, crash, start, issue, resend, receive, open·lease, renew, query, Log, Server, nothing, running, crashed, World, Left, keptBy, emptyWorld}
+use Rattle.claim.specs.RecordWorld.{Event, found, request, fetch, sync, notice, give, image, take·image, receipt, release, recover, crash, outside}
+use Rattle.claim.specs.RecordWorld.{Log, Server, nothing, running, crashed, World, Left, keptBy, emptyWorld}
 use Rattle.claim.specs.RecordWorld as Records
 use Rattle.proof_mutations.specs.Reads.{reading, imaged, forRequest, forFetch, forImage, forGone, forTook, noticed, taken, requests, fetches, images, takes, releases, appliesRecord, applies, regains}
 use Rattle.proof_mutations.specs.World.{settle, callOf, calls, callsOn, recoversFrom, step, runFrom, run}
@@ -81,13 +82,7 @@ same-step w (receipt c p room) = refl
 same-step w (release c p room) = calls-on-same c room _ _ (λ b st free. releases-same st free _) (packet w p) w
 same-step w (recover c plan) = recovers-same c plan (keptBy (w .servers c)) w
 same-step w (crash c k) = refl
-same-step w (start p) = refl
-same-step w (issue x op p a) = refl
-same-step w (resend x c) = refl
-same-step w (receive x p) = refl
-same-step w (open·lease t span) = refl
-same-step w (renew x t span) = refl
-same-step w (query x t) = refl
+same-step w (outside e) = refl
 
 run-from : (w : World) (es : List Event) → runFrom w es ≡ Records.runFrom w es
 unfolding runFrom Records.runFrom

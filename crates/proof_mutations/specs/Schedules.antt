@@ -12,7 +12,8 @@ use Rattle.model.specs.Tables.{keep}
 use Rattle.model.specs.Versions.{today}
 use Rattle.model.specs.Logs.{LogRecord, executed, gone, gave, took, released}
 use Rattle.model.specs.Yard.{yardPlan}
-use Rattle.claim.specs.RecordWorld.{Event, found, request, fetch, sync, notice, give, image, take·image, receipt, release, recover, crash, open·lease, start, issue, receive, query, Log, keptBy}
+use Rattle.claim.specs.World.{open·lease, start, issue, receive, query}
+use Rattle.claim.specs.RecordWorld.{Event, found, request, fetch, sync, notice, give, image, take·image, receipt, release, recover, crash, outside, Log, keptBy}
 use Rattle.proof_mutations.specs.World.{run}
 
 -- servers 0 and 1; client 1 has a lease of this span, and sets point 5 to 40: call 1
@@ -20,9 +21,9 @@ unfoldable pub begun : ℕ → List Event
 begun span =
     found 0 yardPlan 0
     ∷ found 1 yardPlan 1
-    ∷ open·lease 0 span
-    ∷ start 0
-    ∷ issue 1 1 5 (half + 40)
+    ∷ outside (open·lease 0 span)
+    ∷ outside (start 0)
+    ∷ outside (issue 1 1 5 (half + 40))
     ∷ []
 
 -- the lease of client 1 ends, and server 0 hears of it; a late repeat is refused with 4
@@ -30,7 +31,7 @@ unfoldable pub ended : List Event
 ended =
     begun 10
     ++ (request 0 1 today 999
-    ∷ query 1 20
+    ∷ outside (query 1 20)
     ∷ notice 0 2 999
     ∷ request 0 1 today 999
     ∷ [])
@@ -39,16 +40,16 @@ ended =
 unfoldable pub endedTwice : List Event
 endedTwice =
     found 0 yardPlan 0
-    ∷ open·lease 0 18
-    ∷ open·lease 0 10
-    ∷ start 0
-    ∷ start 1
-    ∷ issue 1 1 5 (half + 40)
-    ∷ issue 2 1 6 (half + 40)
+    ∷ outside (open·lease 0 18)
+    ∷ outside (open·lease 0 10)
+    ∷ outside (start 0)
+    ∷ outside (start 1)
+    ∷ outside (issue 1 1 5 (half + 40))
+    ∷ outside (issue 2 1 6 (half + 40))
     ∷ request 0 2 today 999
     ∷ request 0 3 today 999
-    ∷ query 2 15
-    ∷ query 1 20
+    ∷ outside (query 2 15)
+    ∷ outside (query 1 20)
     ∷ notice 0 5 999
     ∷ notice 0 4 999
     ∷ request 0 2 today 999
@@ -59,7 +60,7 @@ unfoldable pub endedMoved : List Event
 endedMoved =
     begun 10
     ++ (request 0 1 today 999
-    ∷ query 1 20
+    ∷ outside (query 1 20)
     ∷ notice 0 2 999
     ∷ give 0 5 1 999
     ∷ sync 0 56 999
@@ -76,8 +77,8 @@ finished =
     ++ (request 0 1 today 999
     ∷ sync 0 36 999
     ∷ request 0 1 today 999
-    ∷ receive 1 2
-    ∷ issue 1 1 6 (half + 41)
+    ∷ outside (receive 1 2)
+    ∷ outside (issue 1 1 6 (half + 41))
     ∷ request 0 3 today 999
     ∷ give 0 5 1 999
     ∷ sync 0 72 999
@@ -94,12 +95,12 @@ finishedThere =
     ++ (request 0 1 today 999
     ∷ sync 0 36 999
     ∷ request 0 1 today 999
-    ∷ receive 1 2
+    ∷ outside (receive 1 2)
     ∷ give 0 5 1 999
     ∷ sync 0 44 999
     ∷ image 0 5 999
     ∷ take·image 1 3 999
-    ∷ issue 1 1 5 (half + 41)
+    ∷ outside (issue 1 1 5 (half + 41))
     ∷ request 1 4 today 999
     ∷ give 0 6 1 999
     ∷ sync 0 52 999
@@ -120,7 +121,7 @@ moved =
     ∷ request 1 1 today 999
     ∷ sync 1 92 999
     ∷ request 1 1 today 999
-    ∷ receive 1 4
+    ∷ outside (receive 1 4)
     ∷ [])
 
 -- a result is asked for, by request and by fetch, before it is synced, and a crash removes the execution
@@ -130,8 +131,8 @@ unsynced =
     ++ (request 0 1 today 999
     ∷ request 0 1 today 999
     ∷ fetch 0 1 1 999
-    ∷ receive 1 2
-    ∷ receive 1 3
+    ∷ outside (receive 1 2)
+    ∷ outside (receive 1 3)
     ∷ crash 0 8
     ∷ [])
 

@@ -12,8 +12,9 @@ use Rattle.model.specs.Images.{parseImage}
 use Rattle.model.specs.Logs.{Entry, recordSize}
 use Rattle.model.specs.States.{State}
 use Rattle.model.specs.Decisions.{Decided, onNotice}
-use Rattle.claim.specs.World.{withServer, making, packet}
-use Rattle.claim.specs.RecordWorld.{Event, found, request, fetch, sync, notice, give, image, take·image, receipt, release, recover, crash, start, issue, resend, receive, open·lease, renew, query, Log, Server, nothing, running, crashed, World, Left, longer, keptBy, recoversTo, emptyWorld}
+use Rattle.claim.specs.World.{withServer, making, packet, outsideStep}
+use Rattle.claim.specs.RecordWorld.{Event, found, request, fetch, sync, notice, give, image, take·image, receipt, release, recover, crash, outside}
+use Rattle.claim.specs.RecordWorld.{Log, Server, nothing, running, crashed, World, Left, longer, keptBy, recoversTo, emptyWorld}
 use Rattle.claim.specs.RecordWorld as Records
 use Rattle.proof_mutations.specs.Reads.{requests, fetches, images, takes, releases, applies, regains}
 
@@ -58,13 +59,7 @@ step w (receipt c p room) = Records.step w (receipt c p room)
 step w (release c p room) = callsOn c room (λ b st free. releases st free (parsePacket b)) (packet w p) w
 step w (recover c plan) = recoversFrom c plan (keptBy (w .servers c)) w
 step w (crash c k) = Records.step w (crash c k)
-step w (start p) = Records.step w (start p)
-step w (issue x op p a) = Records.step w (issue x op p a)
-step w (resend x c) = Records.step w (resend x c)
-step w (receive x p) = Records.step w (receive x p)
-step w (open·lease t span) = Records.step w (open·lease t span)
-step w (renew x t span) = Records.step w (renew x t span)
-step w (query x t) = Records.step w (query x t)
+step w (outside e) = outsideStep w e
 
 unfoldable pub runFrom : World → List Event → World
 runFrom w [] = w

@@ -30,7 +30,7 @@ use Rattle.proof_protocol.specs.Servers as S
 use Rattle.proof_protocol.specs.World as W
 use Rattle.proof_protocol.specs.Explains as X
 use Rattle.proof_protocol.proofs.Trace.{at-is, Crashes, is-at, after-suc, inv-at, step-cut, stands-through}
-use Rattle.claim.specs.World.{packet, withServer, making}
+use Rattle.claim.specs.World.{issue, receive, packet, withServer, making}
 use Rattle.claim.specs.Claim.{commandAt}
 use Rattle.claim.specs.RecordWorld.{World, Event, run, after, emptyWorld, keptBy, Server, Log, running, callOf, calls, callsOn, step, runFrom}
 use Rattle.claim.specs.RecordWorld as R
@@ -52,13 +52,13 @@ use Rattle.proof_records.proofs.Sizes.{chain-bytes, tail-bytes}
 -- ---- matched events, taken apart
 
 module _ {w : World} {v v′ : W.World} where
-  issue-on : {x op p b : ℕ} {a : W.Change} → Matched w v v′ (R.issue x op p b) a → (d : Client) (q : Request) → w .clients x ≡ some d → issueOf d op p b .answer ≡ Asked q
+  issue-on : {x op p b : ℕ} {a : W.Change} → Matched w v v′ (R.outside (issue x op p b)) a → (d : Client) (q : Request) → w .clients x ≡ some d → issueOf d op p b .answer ≡ Asked q
       → a ≡ W.client x (W.issues d op p b)
   unfolding Quiet
   issue-on (M.issued x op p b c r e s) d q f k = rw (some-same e f)
   issue-on (M.other e a h s) d q f k = absurd (h d q f k)
 
-  receive-on : {x p : ℕ} {a : W.Change} → Matched w v v′ (R.receive x p) a → (d : Client) (b : List ℕ) (r : ResultPacket) → w .clients x ≡ some d → packet w p ≡ some b
+  receive-on : {x p : ℕ} {a : W.Change} → Matched w v v′ (R.outside (receive x p)) a → (d : Client) (b : List ℕ) (r : ResultPacket) → w .clients x ≡ some d → packet w p ≡ some b
       → receiveOf d b .answer ≡ Completed r → a ≡ W.client x (W.receives d (record { client = r .client; call = r .call }) (r .point) (resultMeant (r .result)))
   unfolding Quiet
   receive-on (M.received x p c g s e f k) d b r e′ f′ k′ =

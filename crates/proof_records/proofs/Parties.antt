@@ -1,6 +1,5 @@
 -- Calls of clients and of the lease manager, each followed by a change.
---     start-step, issue-step, resend-step, receive-step
---     lease-step               open, renew, query
+--     outside-step
 -- Assumes nothing.
 use Prim.Native.Nat.{ℕ, _+_, _-_, _≤_, max}
 use mathlib.Core.Path.{_≡_, refl, sym, _∙_, ap, subst}
@@ -17,7 +16,6 @@ use Rattle.model.specs.declared.Request.{Request}
 use Rattle.model.specs.declared.ResultPacket.{ResultPacket}
 use Rattle.model.specs.declared.Packet.{Packet}
 use Rattle.model.specs.declared.Packet.the-variants.{Malformed, Requested, Resulted, Refused, Receipted, Noticed, Granted}
-use Rattle.model.specs.declared.Started.the-variants.{Running}
 use Rattle.model.specs.declared.Sent.{Sent}
 use Rattle.model.specs.declared.Sent.the-variants.{NotSent, Asked}
 use Rattle.model.specs.declared.Received.the-variants.{Completed}
@@ -37,8 +35,10 @@ use Rattle.proof_protocol.specs.Servers as S
 use Rattle.proof_protocol.specs.World as W
 use Rattle.proof_protocol.specs.Allowed.{Made, Leased, opens, renews, regrants, notices}
 use Rattle.proof_protocol.specs.Allowed as P
-use Rattle.claim.specs.World.{packet, making, sends, receives, startsOn, startsAs, told}
-use Rattle.claim.specs.RecordWorld.{World, step, Event}
+use Rattle.claim.specs.World.{OutsideCall, start, issue, resend, receive, open·lease, renew, query}
+use Rattle.claim.specs.World.{packet, making, sends, receives, startsOn, startsAs, told, outsideStep}
+use Rattle.claim.specs.Provisos.{OutsideTyped, StartedOnce}
+use Rattle.claim.specs.RecordWorld.{World, step}
 use Rattle.claim.specs.RecordWorld as R
 use Rattle.proof_records.specs.Made.{Means, PacketLike}
 use Rattle.proof_records.specs.Worlds.{WorldLike}
@@ -77,14 +77,14 @@ module _ {plan : List PlanEntry} {w : World} {v : W.World} (l : WorldLike plan w
   -- ---- issue
 
   module _ (x op p a : ℕ) where
-    issue-some : (d : Client) → w .clients x ≡ some d → (s : Sent) → issueOf d op p a .answer ≡ s → Stepped plan w v (R.issue x op p a)
-    unfolding step sends sentBytes making Quiet W.clientAfter Means
+    issue-some : (d : Client) → w .clients x ≡ some d → (s : Sent) → issueOf d op p a .answer ≡ s → Stepped plan w v (R.outside (issue x op p a))
+    unfolding step outsideStep sends sentBytes making Quiet W.clientAfter Means
     issue-some d e (NotSent n) s =
         record {
           change = W.same;
           allowed = P.nothing;
           like = rw (e, s, issue-refused d op p a n s) (like-same (like-client-same l x d e));
-          matched = other (R.issue x op p a) W.same (λ b q f k. not-asked {q = q} s (rw (some-same e f) k)) tt;
+          matched = other (R.outside (issue x op p a)) W.same (λ b q f k. not-asked {q = q} s (rw (some-same e f) k)) tt;
         }
     issue-some d e (Asked q) s =
         let i = issue-asked d op p a q s in
@@ -104,25 +104,25 @@ module _ {plan : List PlanEntry} {w : World} {v : W.World} (l : WorldLike plan w
         own : (d : Client) (k : OpenCall) → withCall d k .client ≡ d .client
         own d k = unfold withCall withCalls in refl
 
-    pub issue-step : Stepped plan w v (R.issue x op p a)
-    unfolding step sends Quiet
+    issue-step : Stepped plan w v (R.outside (issue x op p a))
+    unfolding step outsideStep sends Quiet
     issue-step = go (w .clients x) refl
       where
-        go : (o : Option Client) → w .clients x ≡ o → Stepped plan w v (R.issue x op p a)
-        go none e = idle-step l (R.issue x op p a) (rw e) (λ d q f k. let y : none ≡ some d = sym e ∙ f in let z : _≡_ {A = ℕ} 0 1 = cc in omega arith)
+        go : (o : Option Client) → w .clients x ≡ o → Stepped plan w v (R.outside (issue x op p a))
+        go none e = idle-step l (R.outside (issue x op p a)) (rw e) (λ d q f k. let y : none ≡ some d = sym e ∙ f in let z : _≡_ {A = ℕ} 0 1 = cc in omega arith)
         go (some d) e = issue-some d e (issueOf d op p a .answer) refl
 
   -- ---- resend
 
   module _ (x c : ℕ) where
-    resend-some : (d : Client) → w .clients x ≡ some d → (s : Sent) → resendOf d c .answer ≡ s → Stepped plan w v (R.resend x c)
-    unfolding step sends sentBytes making Quiet W.clientAfter Means
+    resend-some : (d : Client) → w .clients x ≡ some d → (s : Sent) → resendOf d c .answer ≡ s → Stepped plan w v (R.outside (resend x c))
+    unfolding step outsideStep sends sentBytes making Quiet W.clientAfter Means
     resend-some d e (NotSent n) s =
         record {
           change = W.same;
           allowed = P.nothing;
           like = rw (e, s, resend-same d c) (like-same (like-client-same l x d e));
-          matched = other (R.resend x c) W.same tt tt;
+          matched = other (R.outside (resend x c)) W.same tt tt;
         }
     resend-some d e (Asked q) s =
         let i = resend-asked d c q s in
@@ -135,15 +135,15 @@ module _ {plan : List PlanEntry} {w : World} {v : W.World} (l : WorldLike plan w
               rw (e, s, resend-same d c)
               (like-making (like-client l x (W.resends d c) t) (requestBytes q)
               (like-packet (Requested q) g (request-good q g, rw (i .asks) (unfold W.step W.madeBy in List·Memᴰ·head refl))));
-          matched = other (R.resend x c) (W.client x (W.resends d c)) tt tt;
+          matched = other (R.outside (resend x c)) (W.client x (W.resends d c)) tt tt;
         }
 
-    pub resend-step : Stepped plan w v (R.resend x c)
-    unfolding step sends Quiet
+    resend-step : Stepped plan w v (R.outside (resend x c))
+    unfolding step outsideStep sends Quiet
     resend-step = go (w .clients x) refl
       where
-        go : (o : Option Client) → w .clients x ≡ o → Stepped plan w v (R.resend x c)
-        go none e = idle-step l (R.resend x c) (rw e) tt
+        go : (o : Option Client) → w .clients x ≡ o → Stepped plan w v (R.outside (resend x c))
+        go none e = idle-step l (R.outside (resend x c)) (rw e) tt
         go (some d) e = resend-some d e (resendOf d c .answer) refl
 
   -- ---- receive
@@ -155,21 +155,21 @@ module _ {plan : List PlanEntry} {w : World} {v : W.World} (l : WorldLike plan w
       handed = l .made b (packet-in (w .made) n b f)
 
       -- the client is as it was
-      unchanged : (a : ReceiveAnswer) → receiveWith d (parsePacket b) ≡ a → a .client ≡ d → ((r : ResultPacket) → a .answer ≡ Completed r → ⊥) → Stepped plan w v (R.receive x n)
-      unfolding step receives receiveOf Quiet
+      unchanged : (a : ReceiveAnswer) → receiveWith d (parsePacket b) ≡ a → a .client ≡ d → ((r : ResultPacket) → a .answer ≡ Completed r → ⊥) → Stepped plan w v (R.outside (receive x n))
+      unfolding step outsideStep receives receiveOf Quiet
       unchanged a q s t =
           record {
             change = W.same;
             allowed = P.nothing;
             like = rw (e, f, q, s) (like-same (like-client-same l x d e));
             matched =
-                other (R.receive x n) W.same
+                other (R.outside (receive x n)) W.same
                 (λ d′ b′ r e′ f′ k.
                 t r (subst (λ (y : ReceiveAnswer). y .answer ≡ Completed r) q (rw (some-same e e′, some-same f f′) k))) tt;
           }
 
-      receive-some : ReceiveCase d (parsePacket b) → Stepped plan w v (R.receive x n)
-      unfolding step receives receiveOf W.clientAfter Means notReceived closed withCalls withLease
+      receive-some : ReceiveCase d (parsePacket b) → Stepped plan w v (R.outside (receive x n))
+      unfolding step outsideStep receives receiveOf W.clientAfter Means notReceived closed withCalls withLease
       receive-some (ReceiveCase.refused k q) = unchanged _ q refl (λ r z. let y : _≡_ {A = ℕ} 0 1 = cc in omega arith)
       receive-some (ReceiveCase.denied k p o q) = unchanged _ q refl (λ r z. let y : _≡_ {A = ℕ} 0 1 = cc in omega arith)
       receive-some (ReceiveCase.completed r p o q) =
@@ -195,31 +195,31 @@ module _ {plan : List PlanEntry} {w : World} {v : W.World} (l : WorldLike plan w
             allowed = P.reletting x d (g .lease) (there e) (subst (λ (c : ℕ). Made v (S.grant c (g .lease))) o (m .2));
             like = rw (e, f, q) (like-client l x k (record { well = subst WellFormed y h; own = t .own }));
             matched =
-                other (R.receive x n) (W.client x k)
+                other (R.outside (receive x n)) (W.client x k)
                 (unfold Quiet in λ d′ b′ r e′ f′ z.
                 let j = subst (λ (y : ReceiveAnswer). y .answer ≡ Completed r) q (rw (some-same e e′, some-same f f′) z) in let y : _≡_ {A = ℕ} 0 1 = cc in omega arith) tt;
           }
 
-    pub receive-step : Stepped plan w v (R.receive x n)
-    unfolding step receives Quiet
+    receive-step : Stepped plan w v (R.outside (receive x n))
+    unfolding step outsideStep receives Quiet
     receive-step = go (w .clients x) refl (packet w n) refl
       where
-        go : (o : Option Client) → w .clients x ≡ o → (a : Option (List ℕ)) → packet w n ≡ a → Stepped plan w v (R.receive x n)
-        go none e a f = idle-step l (R.receive x n) (rw e) (λ d b r e′ f′ k. let y : none ≡ some d = sym e ∙ e′ in let z : _≡_ {A = ℕ} 0 1 = cc in omega arith)
-        go (some d) e none f = idle-step l (R.receive x n) (rw (e, f)) (λ d′ b r e′ f′ k. let y : none ≡ some b = sym f ∙ f′ in let z : _≡_ {A = ℕ} 0 1 = cc in omega arith)
+        go : (o : Option Client) → w .clients x ≡ o → (a : Option (List ℕ)) → packet w n ≡ a → Stepped plan w v (R.outside (receive x n))
+        go none e a f = idle-step l (R.outside (receive x n)) (rw e) (λ d b r e′ f′ k. let y : none ≡ some d = sym e ∙ e′ in let z : _≡_ {A = ℕ} 0 1 = cc in omega arith)
+        go (some d) e none f = idle-step l (R.outside (receive x n)) (rw (e, f)) (λ d′ b r e′ f′ k. let y : none ≡ some b = sym f ∙ f′ in let z : _≡_ {A = ℕ} 0 1 = cc in omega arith)
         go (some d) e (some b) f = receive-some d e b f (receive-case d (parsePacket b))
 
   -- ---- start
 
-  module _ (n : ℕ) (once : (b : List ℕ) → packet w n ≡ some b → startOf b .answer ≡ Running → w .clients (startOf b .client .client) ≡ none) where
-    starts : (b : List ℕ) → packet w n ≡ some b → (k : Packet) → parsePacket b ≡ k → Stepped plan w v (R.start n)
-    unfolding step startsOn startsAs startOf startWith Quiet W.clientAfter Means packet
-    starts b f Malformed q = idle-step l (R.start n) (rw (f, q)) tt
-    starts b f (Requested r) q = idle-step l (R.start n) (rw (f, q)) tt
-    starts b f (Resulted r) q = idle-step l (R.start n) (rw (f, q)) tt
-    starts b f (Refused r) q = idle-step l (R.start n) (rw (f, q)) tt
-    starts b f (Receipted r) q = idle-step l (R.start n) (rw (f, q)) tt
-    starts b f (Noticed r) q = idle-step l (R.start n) (rw (f, q)) tt
+  module _ (n : ℕ) (once : StartedOnce w n) where
+    starts : (b : List ℕ) → packet w n ≡ some b → (k : Packet) → parsePacket b ≡ k → Stepped plan w v (R.outside (start n))
+    unfolding step outsideStep startsOn startsAs startOf startWith Quiet W.clientAfter Means packet
+    starts b f Malformed q = idle-step l (R.outside (start n)) (rw (f, q)) tt
+    starts b f (Requested r) q = idle-step l (R.outside (start n)) (rw (f, q)) tt
+    starts b f (Resulted r) q = idle-step l (R.outside (start n)) (rw (f, q)) tt
+    starts b f (Refused r) q = idle-step l (R.outside (start n)) (rw (f, q)) tt
+    starts b f (Receipted r) q = idle-step l (R.outside (start n)) (rw (f, q)) tt
+    starts b f (Noticed r) q = idle-step l (R.outside (start n)) (rw (f, q)) tt
     starts b f (Granted g) q =
         let m = subst (Means (Made v)) q (l .made b (packet-in (w .made) n b f) .packet) in
         let z : w .clients (g .client) ≡ none = (rw q at (once b f)) refl in
@@ -227,15 +227,15 @@ module _ {plan : List PlanEntry} {w : World} {v : W.World} (l : WorldLike plan w
           change = W.client (g .client) (W.starts (g .lease));
           allowed = P.starting (g .client) (g .lease) (m .2) (there z);
           like = rw (f, q) (like-client l (g .client) (W.starts (g .lease)) (record { well = start-well g (m .0) (m .1); own = refl }));
-          matched = other (R.start n) (W.client (g .client) (W.starts (g .lease))) tt tt;
+          matched = other (R.outside (start n)) (W.client (g .client) (W.starts (g .lease))) tt tt;
         }
 
-    pub start-step : Stepped plan w v (R.start n)
-    unfolding step startsOn Quiet
+    start-step : Stepped plan w v (R.outside (start n))
+    unfolding step outsideStep startsOn Quiet
     start-step = go (packet w n) refl
       where
-        go : (o : Option (List ℕ)) → packet w n ≡ o → Stepped plan w v (R.start n)
-        go none f = idle-step l (R.start n) (rw f) tt
+        go : (o : Option (List ℕ)) → packet w n ≡ o → Stepped plan w v (R.outside (start n))
+        go none f = idle-step l (R.outside (start n)) (rw f) tt
         go (some b) f = starts b f (parsePacket b) refl
 
 module _ {m : LeaseManager} (k : WellManaged m) (c : LeaseCall) (h : givenTime c ≤ last32) {M : S.Packet → Type 0} where
@@ -256,33 +256,33 @@ module _ {m : LeaseManager} (k : WellManaged m) (c : LeaseCall) (h : givenTime c
       (record { ok = b .0 .from; client = f .client; time = f .time }, made)
 
 module _ {plan : List PlanEntry} {w : World} {v : W.World} (l : WorldLike plan w v) where
-  module _ (e : Event) (c : LeaseCall) (h : givenTime c ≤ last32) (s : step w e ≡ told (answerOf (w .manager) c) w) (q : Quiet w e) where
+  module _ (e : OutsideCall) (c : LeaseCall) (h : givenTime c ≤ last32) (s : outsideStep w e ≡ told (answerOf (w .manager) c) w) (q : Quiet w (R.outside e)) where
     abbrev a : LeaseAnswer
     a = answerOf (w .manager) c
 
     -- a grant or a notice, of a manager that it leaves
-    tells-step : (p : S.Packet) → Leased (w .manager) (a .manager) p → PacketLike (Made (W.step v (W.leases (a .manager) p))) (toldBytes (a .answer)) → Stepped plan w v e
-    unfolding told
+    tells-step : (p : S.Packet) → Leased (w .manager) (a .manager) p → PacketLike (Made (W.step v (W.leases (a .manager) p))) (toldBytes (a .answer)) → Stepped plan w v (R.outside e)
+    unfolding step told
     tells-step p L k =
         record {
           change = W.leases (a .manager) p;
           allowed = P.leasing (a .manager) p (subst (λ (x : LeaseManager). Leased x (a .manager) p) (l .manager) L);
           like = rw s (like-making (like-leases l (a .manager) p (call-well (l .leases) c h)) (toldBytes (a .answer)) k);
-          matched = other e (W.leases (a .manager) p) q tt;
+          matched = other (R.outside e) (W.leases (a .manager) p) q tt;
         }
 
     -- a grant to x until t
-    grants : (n : LeaseManager) (x t : ℕ) → a ≡ granted n x t → Leased (w .manager) n (S.grant x t) → Stepped plan w v e
+    grants : (n : LeaseManager) (x t : ℕ) → a ≡ granted n x t → Leased (w .manager) n (S.grant x t) → Stepped plan w v (R.outside e)
     unfolding granted toldBytes W.step
     grants n x t z L =
         let g : Grant = record { client = x; lease = t } in
         let y : a .answer ≡ ByGrant g = ap (λ (b : LeaseAnswer). b .answer) z in
         tells-step (S.grant x t) (rw z L) (rw y (grant-like (l .leases) c h g y (List·Memᴰ·head refl)))
 
-    lease-exit : (t : ℕ) → Exit (w .manager) t a → Stepped plan w v e
-    unfolding notTold toldBytes making told manager timeAt W.step
+    lease-exit : (t : ℕ) → Exit (w .manager) t a → Stepped plan w v (R.outside e)
+    unfolding step notTold toldBytes making told manager timeAt W.step
     lease-exit t (Kept.refused n z) =
-        record { change = W.same; allowed = P.nothing; like = rw (s, z) (like-same (like-manager-same l)); matched = other e W.same q tt }
+        record { change = W.same; allowed = P.nothing; like = rw (s, z) (like-same (like-manager-same l)); matched = other (R.outside e) W.same q tt }
     lease-exit t (Kept.opened u f i k r z) =
         let now = max (w .manager .time) t in
         let y : now + (u - now) ≡ u = omega arith in
@@ -299,5 +299,15 @@ module _ {plan : List PlanEntry} {w : World} {v : W.World} (l : WorldLike plan w
         tells-step (S.notice x now) (rw z (notices x now (omega arith) r (λ o. omega arith) i)) (rw y (notice-like (l .leases) c h n y (List·Memᴰ·head refl)))
     lease-exit t (Kept.found x k i r z) = let now = max (w .manager .time) t in grants _ x _ z (regrants x now (omega arith) r)
 
-    pub lease-step : Stepped plan w v e
+    lease-step : Stepped plan w v (R.outside e)
     lease-step = lease-exit (givenTime c) (call-exit (w .manager) c)
+
+  pub outside-step : (e : OutsideCall) → OutsideTyped e → ((p : ℕ) → e ≡ start p → StartedOnce w p) → Stepped plan w v (R.outside e)
+  unfolding OutsideTyped outsideStep answerOf givenTime Quiet
+  outside-step (start p) t once = start-step l p (once p refl)
+  outside-step (issue x op p a) t once = issue-step l x op p a
+  outside-step (resend x c) t once = resend-step l x c
+  outside-step (receive x p) t once = receive-step l x p
+  outside-step (open·lease n span) t once = lease-step (open·lease n span) (LeaseCall.opens n span) (omega (arith, t)) refl tt
+  outside-step (renew x n span) t once = lease-step (renew x n span) (LeaseCall.renews x n span) (omega (arith, t)) refl tt
+  outside-step (query x n) t once = lease-step (query x n) (LeaseCall.queries x n) (omega (arith, t)) refl tt

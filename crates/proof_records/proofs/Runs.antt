@@ -12,12 +12,12 @@ use native.Mathlib.Omega.{arith}
 use lib.ListN.{length, take, getElem?}
 use Rattle.model.specs.declared.PlanEntry.{PlanEntry}
 use Rattle.model.specs.Plan.{planOf}
-use Rattle.leases.specs.WellFormed.{LeaseCall, givenTime, answerOf}
 use Rattle.leases.proofs.Kept.{new-well}
 use Rattle.model_invariants.specs.Calls.{decision}
 use Rattle.model_invariants.specs.Calls as Calls
 use Rattle.proof_protocol.specs.World as W
 use Rattle.proof_protocol.specs.Allowed.{Run, ended, then}
+use Rattle.claim.specs.World.{start}
 use Rattle.claim.specs.RecordWorld.{World, Event, step, run, runFrom, after, emptyWorld}
 use Rattle.claim.specs.RecordWorld as R
 use Rattle.claim.specs.RecordProvisos.{Typed, Provisos, At}
@@ -27,12 +27,12 @@ use Rattle.proof_records.specs.Matched.{Quiet, Matched, Stepped, Follows
 use Rattle.proof_records.proofs.Worlds.{like-nothing}
 use Rattle.proof_records.proofs.Calls.{plain-call, plain-packet, request-step}
 use Rattle.proof_records.proofs.Starts.{found-step, recover-step, crash-step}
-use Rattle.proof_records.proofs.Parties.{start-step, issue-step, resend-step, receive-step, lease-step}
+use Rattle.proof_records.proofs.Parties.{outside-step}
 
 -- ---- an event
 
 pub follows : (plan : List ℕ) {w : World} {v : W.World} → WorldLike (planOf plan) w v → (e : Event) → Provided plan w e → Stepped (planOf plan) w v e
-unfolding Typed step decision answerOf givenTime Quiet
+unfolding Typed step decision Quiet
 follows plan l (R.found c p k) a = found-step plan l c p k (a .typed) (λ st z. a .founds c p k st refl z)
 follows plan l (R.request c p vs r) a = request-step l c r p vs
 follows plan l (R.fetch c x k r) a = plain-call l c r (R.fetch c x k r) (Calls.fetch x k) refl tt tt (λ b s. s)
@@ -45,13 +45,7 @@ follows plan l (R.receipt c p r) a = plain-call l c r (R.receipt c p r) (Calls.r
 follows plan l (R.release c p r) a = plain-packet l c r (R.release c p r) Calls.release p refl (λ b k. k) tt (λ b x s. s)
 follows plan l (R.recover c p) a = recover-step plan l c p (λ log st q z. a .recovers c p log st refl q z)
 follows plan l (R.crash c k) a = crash-step l c k (a .crashes c k refl .0)
-follows plan l (R.start p) a = start-step l p (λ b q z. a .starts p b refl q z)
-follows plan l (R.issue x op p b) a = issue-step l x op p b
-follows plan l (R.resend x c) a = resend-step l x c
-follows plan l (R.receive x p) a = receive-step l x p
-follows plan l (R.open·lease n span) a = lease-step l (R.open·lease n span) (LeaseCall.opens n span) (omega (arith, a .typed)) refl tt
-follows plan l (R.renew x n span) a = lease-step l (R.renew x n span) (LeaseCall.renews x n span) (omega (arith, a .typed)) refl tt
-follows plan l (R.query x n) a = lease-step l (R.query x n) (LeaseCall.queries x n) (omega (arith, a .typed)) refl tt
+follows plan l (R.outside e) a = outside-step l e (a .typed) (λ p q. a .starts p (ap R.outside q))
 
 -- the provisos, event by event
 pub provided : (plan : List ℕ) (es : List Event) → Provisos plan es → (n : ℕ) (e : Event) → At plan es n e → Provided plan (after es n) e
@@ -64,7 +58,7 @@ provided plan es P n e a =
           record { one-plan = P .one-plan n c p k st b z; own-number = P .own-number n c p k st b z; once = P .founded-once n c p k st b z };
       recovers = λ c p log st q k z. P .plan-again n c p log st (subst (At plan es n) q a) k z;
       crashes = λ c k q. P .crash-keeps n c k (subst (At plan es n) q a);
-      starts = λ p b q k z. P .started-once n p b (subst (At plan es n) q a) k z;
+      starts = λ p q. P .started-once n p (subst (At plan es n) q a);
     }
 
 -- and back
@@ -77,7 +71,7 @@ provisos-of plan es D =
       own-number = λ n c p k st a z. D n (R.found c p k) a .founds c p k st refl z .own-number;
       founded-once = λ n c p k st a z. D n (R.found c p k) a .founds c p k st refl z .once;
       crash-keeps = λ n c k a. D n (R.crash c k) a .crashes c k refl;
-      started-once = λ n p b a x z. D n (R.start p) a .starts p b refl x z;
+      started-once = λ n p a. D n (R.outside (start p)) a .starts p refl;
     }
 
 -- ---- a schedule

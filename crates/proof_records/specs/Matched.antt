@@ -8,7 +8,7 @@ use mathlib.Core.Option.{none, some}
 use Rattle.model.specs.declared.Started.the-variants.{Running as Begun}
 use Rattle.model.specs.States.{State}
 use Rattle.model.specs.Clients.{issueOf, receiveOf}
-use Rattle.claim.specs.World.{packet}
+use Rattle.claim.specs.World.{start, issue, resend, receive, open·lease, renew, query, packet}
 use Rattle.claim.specs.RecordWorld.{World, Event, Log, keptBy, callOf, step, runFrom}
 use Rattle.claim.specs.RecordWorld as R
 use lib.ListN.{length, take, getElem?}
@@ -115,22 +115,22 @@ Quiet w (R.receipt c p room) = Unit
 Quiet w (R.release c p room) = Unit
 Quiet w (R.recover c p) = Unit
 Quiet w (R.crash c k) = keptBy (w .servers c) ≡ none
-Quiet w (R.start p) = Unit
-Quiet w (R.issue x op p a) = (d : Client) (q : Request) → w .clients x ≡ some d → issueOf d op p a .answer ≡ Asked q → ⊥
-Quiet w (R.resend x c) = Unit
-Quiet w (R.receive x p) = (d : Client) (b : List ℕ) (r : ResultPacket) → w .clients x ≡ some d → packet w p ≡ some b → receiveOf d b .answer ≡ Completed r → ⊥
-Quiet w (R.open·lease t span) = Unit
-Quiet w (R.renew x t span) = Unit
-Quiet w (R.query x t) = Unit
+Quiet w (R.outside (start p)) = Unit
+Quiet w (R.outside (issue x op p a)) = (d : Client) (q : Request) → w .clients x ≡ some d → issueOf d op p a .answer ≡ Asked q → ⊥
+Quiet w (R.outside (resend x c)) = Unit
+Quiet w (R.outside (receive x p)) = (d : Client) (b : List ℕ) (r : ResultPacket) → w .clients x ≡ some d → packet w p ≡ some b → receiveOf d b .answer ≡ Completed r → ⊥
+Quiet w (R.outside (open·lease t span)) = Unit
+Quiet w (R.outside (renew x t span)) = Unit
+Quiet w (R.outside (query x t)) = Unit
 
 pub data Matched (w : World) (v v′ : W.World) : Event → W.Change → Type 0 where
   executed : (c p : ℕ) (vs : Versions) (room : ℕ) (q : Request) (r : ResultZ) → Executed w c p vs room q
       → Matched w v v′ (R.request c p vs room) (W.server c (W.writes (S.executed (vs (q .command .op)) (q .command) (q .done) r)))
   cut : (c b j : ℕ) → Cut v v′ c b → Matched w v v′ (R.crash c b) (W.server c (W.crashes j))
   issued : (x op p a : ℕ) (d : Client) (q : Request) → w .clients x ≡ some d → issueOf d op p a .answer ≡ Asked q
-      → Matched w v v′ (R.issue x op p a) (W.client x (W.issues d op p a))
+      → Matched w v v′ (R.outside (issue x op p a)) (W.client x (W.issues d op p a))
   received : (x p : ℕ) (d : Client) (b : List ℕ) (r : ResultPacket) → w .clients x ≡ some d → packet w p ≡ some b → receiveOf d b .answer ≡ Completed r
-      → Matched w v v′ (R.receive x p) (W.client x (W.receives d (record { client = r .client; call = r .call }) (r .point) (resultMeant (r .result))))
+      → Matched w v v′ (R.outside (receive x p)) (W.client x (W.receives d (record { client = r .client; call = r .call }) (r .point) (resultMeant (r .result))))
   other : (e : Event) (a : W.Change) → Quiet w e → Plain a → Matched w v v′ e a
 
 -- the event e, followed by a change that may happen

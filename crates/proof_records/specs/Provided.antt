@@ -3,11 +3,10 @@
 use Prim.Native.Nat.{ℕ, _≤_}
 use mathlib.Core.Path.{_≡_}
 use mathlib.Core.List.{List}
-use mathlib.Core.Option.{none, some}
-use Rattle.model.specs.declared.Started.the-variants.{Running}
+use mathlib.Core.Option.{some}
 use Rattle.model.specs.States.{State}
-use Rattle.model.specs.Clients.{startOf}
-use Rattle.claim.specs.World.{packet}
+use Rattle.claim.specs.World.{start}
+use Rattle.claim.specs.Provisos.{StartedOnce}
 use Rattle.claim.specs.RecordWorld.{World, Event, Log, nothing, foundOf, recoverOf, keptBy}
 use Rattle.claim.specs.RecordWorld as R
 use Rattle.claim.specs.RecordProvisos.{Typed, markOf, lengthOf}
@@ -23,4 +22,4 @@ pub record Provided (plan : List ℕ) (w : World) (e : Event) : Type 0 where
   pub founds : (c : ℕ) (p : List ℕ) (k : ℕ) (st : State) → e ≡ R.found c p k → foundOf p k ≡ some st → FoundOk plan nothing (w .servers c) c p k
   pub recovers : (c : ℕ) (p : List ℕ) (log : Log) (st : State) → e ≡ R.recover c p → keptBy (w .servers c) ≡ some log → recoverOf p log ≡ some st → p ≡ plan
   pub crashes : (c k : ℕ) → e ≡ R.crash c k → (markOf (w .servers c) ≤ k) × (k ≤ lengthOf (w .servers c))
-  pub starts : (p : ℕ) (b : List ℕ) → e ≡ R.start p → packet w p ≡ some b → startOf b .answer ≡ Running → w .clients (startOf b .client .client) ≡ none
+  pub starts : (p : ℕ) → e ≡ R.outside (start p) → StartedOnce w p

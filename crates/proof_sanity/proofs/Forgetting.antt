@@ -32,7 +32,7 @@ use Rattle.model.specs.Clients.{placeOf, callAt, receiveOf}
 use Rattle.model.specs.Yard.{yardPlan}
 use Rattle.model_laws.specs.Opened.{openNumbers, openPackets, openClients}
 use Rattle.model.specs.Limits.{valid, invalid}
-use Rattle.claim.specs.World.{Event, sync, receive, nothingStored, Server, nothing, crashed, emptyWorld, run}
+use Rattle.claim.specs.World.{Event, sync, outside, receive, nothingStored, Server, nothing, crashed, emptyWorld, run}
 use Rattle.claim.specs.Provisos.{At, Provisos}
 use Rattle.claim.specs.Claim.{commandAt, readingAt, Executes, SurvivesAt, Completes, SurvivesBy, HolderBy, ExplainedBy, Account, recoveredBy, stateGiven, finalState}
 use Rattle.proof_sanity.specs.Trace.{Call, Seen, callSeen, asksOnly, keptIs, sameBytes, keepsMany, below, Ended, endSeen, Trace, traceFrom, callWith, done}
@@ -199,7 +199,7 @@ received = refl
 -- event 7 completes the command
 pub store-completed : Completes yardPlan setAndStore 7 (setting ∷ []) (one (resultMeant settingResult))
 unfolding At setAndStore setAndStoreSeen commandAt callAt placeOf
-store-completed = completes-seen yardPlan setAndStore 7 1 2 setter settingAnswer refl received (call-at yardPlan 5 setAndStore setAndStoreSeen store-trace-is 7 (receive 1 2) _ refl refl)
+store-completed = completes-seen yardPlan setAndStore 7 1 2 setter settingAnswer refl received (call-at yardPlan 5 setAndStore setAndStoreSeen store-trace-is 7 (outside (receive 1 2)) _ refl refl)
 
 store-down : run setAndStore .servers 0 ≡ crashed setStored (headBytes 0) 8
 unfolding endSeen setAndStoreSeen

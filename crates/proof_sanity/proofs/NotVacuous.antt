@@ -28,7 +28,7 @@ use Rattle.model.specs.States.{State, load, pointAt}
 use Rattle.model.specs.Operations.{answerOf}
 use Rattle.model.specs.Clients.{placeOf, callAt, issueOf, receiveOf}
 use Rattle.model.specs.Yard.{yardPlan}
-use Rattle.claim.specs.World.{Event, request, sync, give, crash, issue, receive, Stored, nothingStored, nothing, storedOf, packet, run, after}
+use Rattle.claim.specs.World.{Event, request, sync, give, crash, outside, issue, receive, Stored, nothingStored, nothing, storedOf, packet, run, after}
 use Rattle.claim.specs.Provisos.{reachOf, At, Provisos}
 use Rattle.claim.specs.Claim.{commandAt, Executes, Crashes, SurvivesAt, Completes, Issues, stateGiven, finalState, Holder}
 use Rattle.proof_sanity.specs.Trace.{Cut, Call, Seen, requestAnswer, callSeen, up, standsAt, Ended, endSeen, keepsMany, below, callWith, done}
@@ -125,19 +125,19 @@ late-repeat =
 
 set-completed : Completes yardPlan schedule 10 (setting ∷ []) (one (resultMeant settingResult))
 unfolding At schedule rowsSeen commandAt callAt placeOf
-set-completed = completes-seen yardPlan schedule 10 1 3 setter settingAnswer refl (received .0) (row 10 (receive 1 3) _ refl refl)
+set-completed = completes-seen yardPlan schedule 10 1 3 setter settingAnswer refl (received .0) (row 10 (outside (receive 1 3)) _ refl refl)
 
 step-completed : Completes yardPlan schedule 23 (stepping ∷ []) (one (resultMeant steppingResult))
 unfolding At schedule rowsSeen commandAt callAt placeOf
-step-completed = completes-seen yardPlan schedule 23 2 6 (stepper 1) (stepAnswer 1) refl (received .1) (row 23 (receive 2 6) _ refl refl)
+step-completed = completes-seen yardPlan schedule 23 2 6 (stepper 1) (stepAnswer 1) refl (received .1) (row 23 (outside (receive 2 6)) _ refl refl)
 
 before-completed : Completes yardPlan schedule 37 (stepCommand 2 ∷ []) (one (resultMeant (stepResult 2)))
 unfolding At schedule rowsSeen commandAt callAt placeOf
-before-completed = completes-seen yardPlan schedule 37 2 11 (stepper 2) (stepAnswer 2) refl (received .2) (row 37 (receive 2 11) _ refl refl)
+before-completed = completes-seen yardPlan schedule 37 2 11 (stepper 2) (stepAnswer 2) refl (received .2) (row 37 (outside (receive 2 11)) _ refl refl)
 
 tail-completed : Completes yardPlan schedule 45 (stepCommand 3 ∷ []) (one (resultMeant (stepResult 3)))
 unfolding At schedule rowsSeen commandAt callAt placeOf
-tail-completed = completes-seen yardPlan schedule 45 2 13 (stepper 3) (stepAnswer 3) refl (received .3) (row 45 (receive 2 13) _ refl refl)
+tail-completed = completes-seen yardPlan schedule 45 2 13 (stepper 3) (stepAnswer 3) refl (received .3) (row 45 (outside (receive 2 13)) _ refl refl)
 
 step-issued : Issues yardPlan schedule 11 (stepping ∷ [])
 unfolding At schedule rowsSeen callSeen callWith done
@@ -149,7 +149,7 @@ step-issued =
       argument = half + 1;
       event = refl;
       state = idle 2 1000 1;
-      started = ap (λ (x : Call). x .client) (row 11 (issue 2 2 5 (half + 1)) _ refl refl);
+      started = ap (λ (x : Call). x .client) (row 11 (outside (issue 2 2 5 (half + 1))) _ refl refl);
       asked = stepAsked 1;
       answer = issued;
       its = refl;

@@ -44,9 +44,10 @@ use Rattle.model.specs.declared.Started.{Started}
 use Rattle.model.specs.States.{load, pointAt}
 use Rattle.model.specs.Refusals.{noRefusal}
 use Rattle.claim.specs.World.{withServer, withClient, withManager, making, calls, callsOn, foundAs, checkpoints, stores, crashAt, startsAs, startsOn, sends, receives, told, step, packet}
-use Rattle.claim.specs.World.{Event, found, request, fetch, sync, notice, give, image, take·image, receipt, release, recover, checkpoint, store, recover·tail, inspect, crash, start, issue, resend, receive, open·lease, renew, query}
+use Rattle.claim.specs.World.{Event, found, request, fetch, sync, notice, give, image, take·image, receipt, release, recover, checkpoint, store, recover·tail, inspect, crash, outside}
+use Rattle.claim.specs.World.{OutsideCall, start, issue, resend, receive, open·lease, renew, query, outsideStep, WorldOf}
 use Rattle.claim.specs.World.{Lent, World, Stored, Server, nothing, running, storing, crashed, storedOf, lentState, lentLog, packet, step, emptyWorld, runFrom, run, after}
-use Rattle.claim.specs.Provisos.{Bytes, Counted, Typed, keptBy, Begins, markOf, lengthOf, reachOf, At, Provisos}
+use Rattle.claim.specs.Provisos.{Bytes, Counted, OutsideTyped, Typed, StartedOnce, keptBy, Begins, markOf, lengthOf, reachOf, At, Provisos}
 use Rattle.model_laws.proofs.Tests.{choose, and-left, and-right}
 use Rattle.model_laws.proofs.Numbers.{bytes-nil, bytes-cons}
 use Rattle.proof_sanity.specs.Trace.{asksOnly, bytesOk, countedOk, typedOk, sameBytes, isNothing, keptIs, beginsOk, notStarted, startsNew, keepsOk, Call, Seen, requestAnswer, callSeen, seenAt, endSeen, Trace, traceFrom, keepsMany, below, Answered, up, down, standsAt, requestDone, done, callWith, seenWith}
@@ -77,7 +78,7 @@ unfolding countedOk
 counted-ok l e = ltb-true _ _ e
 
 typed-ok : (e : Event) → typedOk e ≡ true → Typed e
-unfolding typedOk Typed
+unfolding typedOk Typed OutsideTyped
 typed-ok (found c state log plan n) h = both (bytesOk state) (bytesOk plan) (bytes-ok state) (bytes-ok plan) h
 typed-ok (request c p v l) h = counted-ok l h
 typed-ok (fetch c x k l) h = counted-ok l h
@@ -94,13 +95,13 @@ typed-ok (store c) h = tt
 typed-ok (recover·tail c state k tail) h = bytes-ok state h
 typed-ok (inspect c x k) h = tt
 typed-ok (crash c k) h = tt
-typed-ok (start p) h = tt
-typed-ok (issue x op p a) h = tt
-typed-ok (resend x c) h = tt
-typed-ok (receive x p) h = tt
-typed-ok (open·lease t span) h = ltb-true _ _ h
-typed-ok (renew x t span) h = ltb-true _ _ h
-typed-ok (query x t) h = ltb-true _ _ h
+typed-ok (outside (start p)) h = tt
+typed-ok (outside (issue x op p a)) h = tt
+typed-ok (outside (resend x c)) h = tt
+typed-ok (outside (receive x p)) h = tt
+typed-ok (outside (open·lease t span)) h = ltb-true _ _ h
+typed-ok (outside (renew x t span)) h = ltb-true _ _ h
+typed-ok (outside (query x t)) h = ltb-true _ _ h
 
 -- ---- the other provisos
 
@@ -196,13 +197,7 @@ done-world w (store c) = refl
 done-world w (recover·tail c state k tail) = refl
 done-world w (inspect c x k) = refl
 done-world w (crash c k) = refl
-done-world w (start p) = refl
-done-world w (issue x op p a) = refl
-done-world w (resend x c) = refl
-done-world w (receive x p) = refl
-done-world w (open·lease t span) = refl
-done-world w (renew x t span) = refl
-done-world w (query x t) = refl
+done-world w (outside e) = refl
 
 -- ---- the provisos
 
@@ -235,9 +230,9 @@ module _ (plan : List ℕ) (es : List Event) (passed : (n : ℕ) (x : Event) →
   crash-at n c k a =
       both (leb (markOf (after es n .servers c)) k) (leb k (lengthOf (after es n .servers c))) (leb-true _ _) (leb-true _ _) (keeps-at n (crash c k) a)
 
-  start-at : (n k : ℕ) (b : List ℕ) → getElem? es n ≡ some (start k) → packet (after es n) k ≡ some b → after es n .clients (startOf b .client .client) ≡ none
+  start-at : (n k : ℕ) → getElem? es n ≡ some (outside (start k)) → StartedOnce (after es n) k
   unfolding keepsOk
-  start-at n k b a q = starts-new (after es n) (packet (after es n) k) b (keeps-at n (start k) a) q
+  start-at n k a b q z = starts-new (after es n) (packet (after es n) k) b (keeps-at n (outside (start k)) a) q
 
   pub provisos-from : Provisos plan es
   unfolding At
@@ -251,7 +246,7 @@ module _ (plan : List ℕ) (es : List Event) (passed : (n : ℕ) (x : Event) →
         crash-keeps = λ n c k a. crash-at n c k a;
         recovery-uses = λ n c state log q a z. (recover-at n c state log q a .1, recover-at n c state log q a .2);
         recovery-uses-both = λ n c state k tail a z. tail-at n c state k tail a;
-        started-once = λ n k b a q z. start-at n k b a q;
+        started-once = start-at;
       }
 
 module _ (plan : List ℕ) (p : ℕ) where
@@ -300,10 +295,50 @@ module _ (plan : List ℕ) (p : ℕ) where
 
 -- ---- servers that no event names
 
-making-servers : (b : List ℕ) (w : World) (d : ℕ) → making b w .servers d ≡ w .servers d
+making-servers : {S : Type 0} (b : List ℕ) (w : WorldOf S) (d : ℕ) → making b w .servers d ≡ w .servers d
 unfolding making
 making-servers [] w d = refl
 making-servers (x ∷ b) w d = refl
+
+-- a call of a client or of the lease manager names none
+module _ {S : Type 0} (w : WorldOf S) (d : ℕ) where
+  as-servers : (a : StartAnswer) → startsAs a w .servers d ≡ w .servers d
+  unfolding startsAs withClient
+  as-servers a = kinds (a .answer) refl
+    where
+      kinds : (k : Started) → a .answer ≡ k → startsAs a w .servers d ≡ w .servers d
+      kinds (NotStarted n) e = rw e
+      kinds Running e = rw e
+
+  starts-servers : (o : Option (List ℕ)) → startsOn o w .servers d ≡ w .servers d
+  unfolding startsOn
+  starts-servers none = refl
+  starts-servers (some b) = as-servers (startOf b)
+
+  sends-servers : (x : ℕ) (f : Client → SendAnswer) (o : Option Client) → sends x f o w .servers d ≡ w .servers d
+  unfolding sends withClient
+  sends-servers x f none = refl
+  sends-servers x f (some k) = making-servers _ _ d
+
+  receives-servers : (x : ℕ) (o : Option Client) (p : Option (List ℕ)) → receives x o p w .servers d ≡ w .servers d
+  unfolding receives withClient
+  receives-servers x none p = refl
+  receives-servers x (some k) none = refl
+  receives-servers x (some k) (some b) = refl
+
+  told-servers : (a : LeaseAnswer) → told a w .servers d ≡ w .servers d
+  unfolding told withManager
+  told-servers a = making-servers _ _ d
+
+  outside-servers : (e : OutsideCall) → outsideStep w e .servers d ≡ w .servers d
+  unfolding outsideStep
+  outside-servers (start p) = starts-servers (packet w p)
+  outside-servers (issue x op p a) = sends-servers x _ (w .clients x)
+  outside-servers (resend x c) = sends-servers x _ (w .clients x)
+  outside-servers (receive x p) = receives-servers x (w .clients x) (packet w p)
+  outside-servers (open·lease t span) = told-servers _
+  outside-servers (renew x t span) = told-servers _
+  outside-servers (query x t) = told-servers _
 
 with-other : (c d : ℕ) (s : Server) (w : World) → eqb d c ≡ false → withServer c s w .servers d ≡ w .servers d
 unfolding withServer
@@ -348,34 +383,6 @@ module _ (d : ℕ) where
   store-other c (storing k log next state tail) w h = with-other c d _ w h
   store-other c (crashed k kept mark) w h = refl
 
-  as-servers : (a : StartAnswer) (w : World) → startsAs a w .servers d ≡ w .servers d
-  unfolding startsAs withClient
-  as-servers a w = kinds (a .answer) refl
-    where
-      kinds : (k : Started) → a .answer ≡ k → startsAs a w .servers d ≡ w .servers d
-      kinds (NotStarted n) e = rw e
-      kinds Running e = rw e
-
-  starts-servers : (o : Option (List ℕ)) (w : World) → startsOn o w .servers d ≡ w .servers d
-  unfolding startsOn
-  starts-servers none w = refl
-  starts-servers (some b) w = as-servers (startOf b) w
-
-  sends-servers : (x : ℕ) (f : Client → SendAnswer) (o : Option Client) (w : World) → sends x f o w .servers d ≡ w .servers d
-  unfolding sends withClient
-  sends-servers x f none w = refl
-  sends-servers x f (some k) w = making-servers _ _ d
-
-  receives-servers : (x : ℕ) (o : Option Client) (p : Option (List ℕ)) (w : World) → receives x o p w .servers d ≡ w .servers d
-  unfolding receives withClient
-  receives-servers x none p w = refl
-  receives-servers x (some k) none w = refl
-  receives-servers x (some k) (some b) w = refl
-
-  told-servers : (a : LeaseAnswer) (w : World) → told a w .servers d ≡ w .servers d
-  unfolding told withManager
-  told-servers a w = making-servers _ _ d
-
   module _ (k : ℕ) (l : k ≤ d) where
     other : (c : ℕ) → ltb c k ≡ true → eqb d c ≡ false
     other c h = let i = ltb-true c k h in ne-eqb d c (λ z. omega (arith, i, l, z))
@@ -398,13 +405,7 @@ module _ (d : ℕ) where
     step-other w (recover·tail c state n t) h = found-other c _ _ w (other c h)
     step-other w (inspect c x n) h = refl
     step-other w (crash c b) h = crash-other c b (w .servers c) w (other c h)
-    step-other w (start p) h = starts-servers (packet w p) w
-    step-other w (issue x op p a) h = sends-servers x _ (w .clients x) w
-    step-other w (resend x c) h = sends-servers x _ (w .clients x) w
-    step-other w (receive x p) h = receives-servers x (w .clients x) (packet w p) w
-    step-other w (open·lease t span) h = told-servers _ w
-    step-other w (renew x t span) h = told-servers _ w
-    step-other w (query x t) h = told-servers _ w
+    step-other w (outside e) h = outside-servers w d e
 
     from-other : (w : World) (es : List Event) → every (below k) es ≡ true → runFrom w es .servers d ≡ w .servers d
     unfolding runFrom every
@@ -486,8 +487,8 @@ module _ (plan : List ℕ) (es : List Event) where
         kept = λ j b i x. rw r (kept-after plan p es t e c reach n h j b i x);
       }
 
-  pub completes-seen : (n x p : ℕ) (d : Client) (r : ResultPacket) → At plan es n (receive x p) → receiveOf d (resultBytes r) .answer ≡ Completed r
-      → callSeen (after es n) (receive x p) ≡ record { client = some d; packet = some (resultBytes r); size = 0; answer = none; cut = none }
+  pub completes-seen : (n x p : ℕ) (d : Client) (r : ResultPacket) → At plan es n (outside (receive x p)) → receiveOf d (resultBytes r) .answer ≡ Completed r
+      → callSeen (after es n) (outside (receive x p)) ≡ record { client = some d; packet = some (resultBytes r); size = 0; answer = none; cut = none }
       → Completes plan es n (commandAt d (r .call) ∷ []) (one (resultMeant (r .result)))
   unfolding callSeen callWith done
   completes-seen n x p d r a answer s =

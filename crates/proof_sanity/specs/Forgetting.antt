@@ -16,7 +16,7 @@ use Rattle.model.specs.Apply.{apply, founded}
 use Rattle.model.specs.Checkpoints.{checkpointBytes}
 use Rattle.model.specs.Operations.{recoveredState}
 use Rattle.model.specs.Yard.{yardPlan}
-use Rattle.claim.specs.World.{Event, found, open·lease, start, issue, receive, sync, checkpoint, store, crash, Stored, nothingStored, Server, nothing, running, storing, crashed, run}
+use Rattle.claim.specs.World.{Event, found, outside, open·lease, start, issue, receive, sync, checkpoint, store, crash, Stored, nothingStored, Server, nothing, running, storing, crashed, run}
 use Rattle.claim.specs.Claim.{Account, account, recoveredBy}
 use Rattle.proof_sanity.specs.Trace.{Seen, off, down, Ended, Trace}
 use Rattle.proof_sanity.specs.Moved.{settingAsked, settingAnswer, settingDone, newState, lentAll, lentCheckpoint, asks, idle, setter, atServer, onPacket, answering, crashing, atClient, atManager}
@@ -57,7 +57,7 @@ module _ (plan : List ℕ) (es : List Event) where
 
 abbrev pub afterSet : List Event → List Event
 afterSet es =
-    found 0 newState (replicate 8 0) yardPlan 0 ∷ open·lease 0 10 ∷ start 0 ∷ issue 1 1 5 (half + 40) ∷ asks 0 1 ∷ sync 0 36 lentAll ∷ es
+    found 0 newState (replicate 8 0) yardPlan 0 ∷ outside (open·lease 0 10) ∷ outside (start 0) ∷ outside (issue 1 1 5 (half + 40)) ∷ asks 0 1 ∷ sync 0 36 lentAll ∷ es
 
 abbrev pub rowsAfterSet : List Seen → List Seen
 rowsAfterSet rs =
@@ -91,7 +91,7 @@ setAndCrashSeen =
 -- ---- the client receives its result; a checkpoint is made and stored, and the server crashes with nothing of the tail but its head
 
 unfoldable pub setAndStore : List Event
-setAndStore = afterSet (asks 0 1 ∷ receive 1 2 ∷ checkpoint 0 (replicate headSize 0) lentCheckpoint ∷ store 0 ∷ crash 0 8 ∷ [])
+setAndStore = afterSet (asks 0 1 ∷ outside (receive 1 2) ∷ checkpoint 0 (replicate headSize 0) lentCheckpoint ∷ store 0 ∷ crash 0 8 ∷ [])
 
 abbrev pub setStored : Stored
 setStored = record { checkpoint = checkpointBytes setState; replaced = 28 }

@@ -33,7 +33,8 @@ use Rattle.model.specs.declared.Notice.{Notice}
 use Rattle.model.specs.Operations.{answerOf}
 use Rattle.model.specs.Clients.{noCall}
 use Rattle.model.specs.Yard.{yardPlan}
-use Rattle.claim.specs.World.{Event, found, request, sync, notice, give, image, take·image, receipt, release, recover, checkpoint, store, recover·tail, crash, start, issue, receive, open·lease, query, Lent, Stored, nothingStored}
+use Rattle.claim.specs.World.{start, issue, receive, open·lease, query}
+use Rattle.claim.specs.World.{Event, found, request, sync, notice, give, image, take·image, receipt, release, recover, checkpoint, store, recover·tail, crash, outside, Lent, Stored, nothingStored}
 use Rattle.proof_sanity.specs.Trace.{Call, Seen, up, Ended, Trace}
 
 -- ---- the commands
@@ -146,16 +147,16 @@ unfoldable pub schedule : List Event
 schedule =
     found 0 newState (replicate 8 0) yardPlan 0
     ∷ found 1 newState (replicate 8 0) yardPlan 1
-    ∷ open·lease 0 10
-    ∷ open·lease 0 1000
-    ∷ start 0
-    ∷ start 1
-    ∷ issue 1 1 5 (half + 40)
+    ∷ outside (open·lease 0 10)
+    ∷ outside (open·lease 0 1000)
+    ∷ outside (start 0)
+    ∷ outside (start 1)
+    ∷ outside (issue 1 1 5 (half + 40))
     ∷ asks 0 2
     ∷ sync 0 36 lentAll
     ∷ asks 0 2
-    ∷ receive 1 3
-    ∷ issue 2 2 5 (half + 1)
+    ∷ outside (receive 1 3)
+    ∷ outside (issue 2 2 5 (half + 1))
     ∷ asks 0 4
     ∷ crash 0 50
     ∷ recover 0 newState keptFirst yardPlan
@@ -167,13 +168,13 @@ schedule =
     ∷ crash 1 120
     ∷ recover 1 newState keptSecond yardPlan
     ∷ asks 1 4
-    ∷ receive 2 6
-    ∷ query 1 20
+    ∷ outside (receive 2 6)
+    ∷ outside (query 1 20)
     ∷ notice 1 7 lentAll
     ∷ asks 1 2
     ∷ receipt 1 5 lentAll
     ∷ release 0 9 lentAll
-    ∷ issue 2 2 5 (half + 1)
+    ∷ outside (issue 2 2 5 (half + 1))
     ∷ asks 1 10
     ∷ sync 1 160 lentAll
     ∷ checkpoint 1 (replicate headSize 0) lentCheckpoint
@@ -181,15 +182,15 @@ schedule =
     ∷ crash 1 8
     ∷ recover·tail 1 newState storedBytes (headBytes 1)
     ∷ asks 1 10
-    ∷ receive 2 11
-    ∷ issue 2 2 5 (half + 1)
+    ∷ outside (receive 2 11)
+    ∷ outside (issue 2 2 5 (half + 1))
     ∷ asks 1 12
     ∷ sync 1 36 lentAll
     ∷ checkpoint 1 (replicate headSize 0) lentCheckpoint
     ∷ crash 1 36
     ∷ recover·tail 1 newState (written (replicate checkpointSize 0) 0 storedBytes) keptTail
     ∷ asks 1 12
-    ∷ receive 2 13
+    ∷ outside (receive 2 13)
     ∷ []
 
 -- ---- what is seen of it

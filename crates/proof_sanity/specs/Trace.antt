@@ -17,7 +17,8 @@ use Rattle.model.specs.Tables.{every}
 use Rattle.model.specs.States.{load, pointAt}
 use Rattle.model.specs.Operations.{requestOf}
 use Rattle.model.specs.Clients.{startOf}
-use Rattle.claim.specs.World.{Event, found, request, fetch, sync, notice, give, image, take·image, receipt, release, recover, checkpoint, store, recover·tail, inspect, crash, start, issue, resend, receive, open·lease, renew, query}
+use Rattle.claim.specs.World.{Event, found, request, fetch, sync, notice, give, image, take·image, receipt, release, recover, checkpoint, store, recover·tail, inspect, crash, outside}
+use Rattle.claim.specs.World.{start, issue, resend, receive, open·lease, renew, query}
 use Rattle.claim.specs.World.{Lent, World, Stored, Server, nothing, running, storing, crashed, storedOf, withServer, making, lentState, lentLog, stateBack, logBack, packet, step}
 use Rattle.claim.specs.Provisos.{keptBy, markOf, lengthOf, reachOf}
 
@@ -46,13 +47,13 @@ typedOk (store c) = true
 typedOk (recover·tail c state k tail) = bytesOk state
 typedOk (inspect c x k) = true
 typedOk (crash c k) = true
-typedOk (start p) = true
-typedOk (issue x op p a) = true
-typedOk (resend x c) = true
-typedOk (receive x p) = true
-typedOk (open·lease t span) = ltb t word
-typedOk (renew x t span) = ltb t word
-typedOk (query x t) = ltb t word
+typedOk (outside (start p)) = true
+typedOk (outside (issue x op p a)) = true
+typedOk (outside (resend x c)) = true
+typedOk (outside (receive x p)) = true
+typedOk (outside (open·lease t span)) = ltb t word
+typedOk (outside (renew x t span)) = ltb t word
+typedOk (outside (query x t)) = ltb t word
 
 unfoldable pub sameBytes : List ℕ → List ℕ → Bool
 sameBytes [] [] = true
@@ -101,13 +102,13 @@ keepsOk plan w (store c) = true
 keepsOk plan w (recover·tail c state k tail) = keptIs tail (keptBy (w .servers c)) && beginsOk (storedOf (w .servers c) .checkpoint) k
 keepsOk plan w (inspect c x k) = true
 keepsOk plan w (crash c k) = leb (markOf (w .servers c)) k && leb k (lengthOf (w .servers c))
-keepsOk plan w (start p) = startsNew w (packet w p)
-keepsOk plan w (issue x op p a) = true
-keepsOk plan w (resend x c) = true
-keepsOk plan w (receive x p) = true
-keepsOk plan w (open·lease t span) = true
-keepsOk plan w (renew x t span) = true
-keepsOk plan w (query x t) = true
+keepsOk plan w (outside (start p)) = startsNew w (packet w p)
+keepsOk plan w (outside (issue x op p a)) = true
+keepsOk plan w (outside (resend x c)) = true
+keepsOk plan w (outside (receive x p)) = true
+keepsOk plan w (outside (open·lease t span)) = true
+keepsOk plan w (outside (renew x t span)) = true
+keepsOk plan w (outside (query x t)) = true
 
 -- ---- what is seen of an event
 
@@ -164,13 +165,7 @@ done w (store c) = record { world = step w (store c); answer = none }
 done w (recover·tail c state k tail) = record { world = step w (recover·tail c state k tail); answer = none }
 done w (inspect c x k) = record { world = step w (inspect c x k); answer = none }
 done w (crash c k) = record { world = step w (crash c k); answer = none }
-done w (start p) = record { world = step w (start p); answer = none }
-done w (issue x op p a) = record { world = step w (issue x op p a); answer = none }
-done w (resend x c) = record { world = step w (resend x c); answer = none }
-done w (receive x p) = record { world = step w (receive x p); answer = none }
-done w (open·lease t span) = record { world = step w (open·lease t span); answer = none }
-done w (renew x t span) = record { world = step w (renew x t span); answer = none }
-done w (query x t) = record { world = step w (query x t); answer = none }
+done w (outside e) = record { world = step w (outside e); answer = none }
 
 abbrev pub atServer : Server → Option (List ℕ) → Option Answer → Call
 atServer s b a = record { client = none; packet = b; size = reachOf s; answer = a; cut = none }
@@ -199,13 +194,13 @@ callWith w (store c) a = atServer (w .servers c) none none
 callWith w (recover·tail c state k tail) a = atServer (w .servers c) none none
 callWith w (inspect c x k) a = atServer (w .servers c) none none
 callWith w (crash c k) a = atCrash c k (w .servers c)
-callWith w (start p) a = atClient none (packet w p)
-callWith w (issue x op p a) r = atClient (w .clients x) none
-callWith w (resend x c) a = atClient (w .clients x) none
-callWith w (receive x p) a = atClient (w .clients x) (packet w p)
-callWith w (open·lease t span) a = atClient none none
-callWith w (renew x t span) a = atClient none none
-callWith w (query x t) a = atClient none none
+callWith w (outside (start p)) a = atClient none (packet w p)
+callWith w (outside (issue x op p a)) r = atClient (w .clients x) none
+callWith w (outside (resend x c)) a = atClient (w .clients x) none
+callWith w (outside (receive x p)) a = atClient (w .clients x) (packet w p)
+callWith w (outside (open·lease t span)) a = atClient none none
+callWith w (outside (renew x t span)) a = atClient none none
+callWith w (outside (query x t)) a = atClient none none
 
 unfoldable pub callSeen : World → Event → Call
 callSeen w e = callWith w e (done w e .answer)
@@ -298,10 +293,4 @@ below k (store c) = ltb c k
 below k (recover·tail c state n tail) = ltb c k
 below k (inspect c x n) = ltb c k
 below k (crash c b) = ltb c k
-below k (start p) = true
-below k (issue x op p a) = true
-below k (resend x c) = true
-below k (receive x p) = true
-below k (open·lease t span) = true
-below k (renew x t span) = true
-below k (query x t) = true
+below k (outside e) = true

@@ -19,6 +19,7 @@ use Rattle.model.specs.Checkpoints.{recoverTailOf}
 use Rattle.model.specs.Clients.{startOf}
 use Rattle.model.specs.Refusals.{noRefusal}
 use Rattle.model_laws.proofs.Numbers.{bytes-nil}
+use Rattle.claim.specs.World.{OutsideCall, start}
 use Rattle.claim.specs.World as B
 use Rattle.claim.specs.Provisos as BP
 use Rattle.claim.specs.RecordWorld as R
@@ -80,58 +81,53 @@ module _ (plan : List ℕ) {r : R.World} {b : B.World} (l : WorldAlike plan r b)
   unfolding placeOf
   place-is c n k e = e
 
-  -- an event without provisos of its own
-  free : (e : R.Event) → 5 ≤ kind e → RP.Typed e → Provided plan r e
-  unfolding kind
-  free e k t =
-      record {
-        typed = t;
-        founds = λ c p n st q z. absurd (omega (arith, k, ap kind q));
-        recovers = λ c p log st q x z. absurd (omega (arith, k, ap kind q));
-        crashes = λ c n q. absurd (omega (arith, k, ap kind q));
-        starts = λ p bs q x z. absurd (omega (arith, k, ap kind q));
-      }
-
-  -- and neither crash, request nor issue
+  -- an event without provisos of its own, and neither crash, request nor call outside the servers
   plain : (y : B.Event) (e : R.Event) → kind e ≡ 5 → RP.Typed e → Decodes plan r b y e
   unfolding kind
   plain y e k t =
       record {
-        provided = free e (omega (arith, k)) t;
+        provided =
+            record {
+              typed = t;
+              founds = λ c p n st q z. absurd (omega (arith, k, ap kind q));
+              recovers = λ c p log st q x z. absurd (omega (arith, k, ap kind q));
+              crashes = λ c n q. absurd (omega (arith, k, ap kind q));
+              starts = λ p q bs x z. absurd (omega (arith, k, ap kind q));
+            };
         crashes = λ c n q. absurd (omega (arith, k, ap kind q));
         requests = λ c p vs room q. absurd (omega (arith, k, ap kind q));
-        issues = λ x op p n q. absurd (omega (arith, k, ap kind q));
+        outsides = λ o q. absurd (omega (arith, k, ap kind q));
       }
 
-  -- no crash, request or issue, with these provisos
+  -- no crash, request or call outside the servers, with these provisos
   bare : (y : B.Event) (e : R.Event) → ((c k : ℕ) → e ≡ R.crash c k → ⊥) → ((c p : ℕ) (vs : Versions) (room : ℕ) → e ≡ R.request c p vs room → ⊥)
-      → ((x op p n : ℕ) → e ≡ R.issue x op p n → ⊥) → Provided plan r e → Decodes plan r b y e
+      → ((o : OutsideCall) → e ≡ R.outside o → ⊥) → Provided plan r e → Decodes plan r b y e
   bare y e f g h P =
       record {
         provided = P;
         crashes = λ c k q. absurd (f c k q);
         requests = λ c p vs room q. absurd (g c p vs room q);
-        issues = λ x op p n q. absurd (h x op p n q);
+        outsides = λ o q. absurd (h o q);
       }
 
   -- recover with this plan, whose success asks for the one plan
   recovery : (y : B.Event) (c : ℕ) (p : List ℕ) → ((g : R.Log) (st : State) → R.recoverOf p g ≡ some st → p ≡ plan) → Decodes plan r b y (R.recover c p)
   unfolding RP.Typed
   recovery y c p ok =
-      bare _ _ (λ d k q. apart (cc)) (λ d x vs room q. apart (cc)) (λ x op d k q. apart (cc))
+      bare _ _ (λ d k q. apart (cc)) (λ d x vs room q. apart (cc)) (λ o q. apart (cc))
       (record {
         typed = tt;
         founds = λ d x k st q z. apart (cc);
         recovers = λ d x g st q k z. let j : p ≡ x = cc in sym j ∙ ok g st (rw j z);
         crashes = λ d k q. apart (cc);
-        starts = λ x bs q k z. apart (cc);
+        starts = λ x q bs k z. apart (cc);
       })
 
   pub decodes : (y : B.Event) → Allowed plan b y → Decodes plan r b y (decoded plan b y)
   unfolding decoded kind RP.Typed BP.Typed
   decodes (B.found c state log p n) a =
       let P : List ℕ = planIf (foundOf state log p n) p in
-      bare _ _ (λ d k q. apart (cc)) (λ d x vs room q. apart (cc)) (λ x op d k q. apart (cc))
+      bare _ _ (λ d k q. apart (cc)) (λ d x vs room q. apart (cc)) (λ o q. apart (cc))
       (record {
         typed = plan-bytes (foundOf state log p n) p (a .typed .1);
         founds =
@@ -145,7 +141,7 @@ module _ (plan : List ℕ) {r : R.World} {b : B.World} (l : WorldAlike plan r b)
             (found-ok c state log p n (a .founds c state log p n refl) st (rw (j, m) z))));
         recovers = λ d x g st q k z. apart (cc);
         crashes = λ d k q. apart (cc);
-        starts = λ x bs q k z. apart (cc);
+        starts = λ x q bs k z. apart (cc);
       })
   decodes (B.request c p vs u) a =
       record {
@@ -155,7 +151,7 @@ module _ (plan : List ℕ) {r : R.World} {b : B.World} (l : WorldAlike plan r b)
               founds = λ d x k st q z. apart (cc);
               recovers = λ d x g st q k z. apart (cc);
               crashes = λ d k q. apart (cc);
-              starts = λ x bs q k z. apart (cc);
+              starts = λ x q bs k z. apart (cc);
             };
         crashes = λ d k q. apart (cc);
         requests =
@@ -165,7 +161,7 @@ module _ (plan : List ℕ) {r : R.World} {b : B.World} (l : WorldAlike plan r b)
             let m : vs ≡ us = cc in
             let k : room ≡ roomOf (b .servers c) u (u .out) resultSize = cc in
             (u, rw (i, j, m) refl, rw i at k);
-        issues = λ x op d k q. apart (cc);
+        outsides = λ o q. apart (cc);
       }
   decodes (B.fetch c x n u) a = plain _ _ refl tt
   decodes (B.sync c m u) a = plain _ _ refl tt
@@ -189,7 +185,7 @@ module _ (plan : List ℕ) {r : R.World} {b : B.World} (l : WorldAlike plan r b)
               founds = λ d x k st q z. apart (cc);
               recovers = λ d x g st q k z. apart (cc);
               crashes = λ d k q. let i : c ≡ d = cc in let j : placeOf (b .servers c) n ≡ k = cc in (rw (j, i) at (x .0), rw (j, i) at (x .1));
-              starts = λ x bs q k z. apart (cc);
+              starts = λ x q bs k z. apart (cc);
             };
         crashes =
             λ d k q.
@@ -197,32 +193,22 @@ module _ (plan : List ℕ) {r : R.World} {b : B.World} (l : WorldAlike plan r b)
             let j : k ≡ placeOf (b .servers c) n = cc in
             (n, rw i refl, rw i at (place-is c n k j));
         requests = λ d x vs room q. apart (cc);
-        issues = λ y op d k q. apart (cc);
+        outsides = λ o q. apart (cc);
       }
-  decodes (B.start p) a =
-      bare _ _ (λ d k q. apart (cc)) (λ d x vs room q. apart (cc)) (λ x op d k q. apart (cc))
-      (record {
-        typed = tt;
-        founds = λ d x k st q z. apart (cc);
-        recovers = λ d x g st q k z. apart (cc);
-        crashes = λ d k q. apart (cc);
-        starts = λ x bs q e s. let i : x ≡ p = cc in same-client l (startOf bs .client .client) ∙ a .starts p bs refl (sym (same-packet l p) ∙ (rw i at e)) s;
-      })
-  decodes (B.issue x op p n) a =
+  decodes (B.outside o) a =
       record {
-        provided = free _ (omega arith) (a .typed);
+        provided =
+            record {
+              typed = a .typed;
+              founds = λ d x k st q z. apart (cc);
+              recovers = λ d x g st q k z. apart (cc);
+              crashes = λ d k q. apart (cc);
+              starts =
+                  λ p q bs e s.
+                  let i : o ≡ start p = cc in
+                  same-client l (startOf bs .client .client) ∙ a .starts p (ap B.outside i) bs (sym (same-packet l p) ∙ e) s;
+            };
         crashes = λ d k q. apart (cc);
-        requests = λ d y vs room q. apart (cc);
-        issues =
-            λ y o d k q.
-            let i : x ≡ y = cc in
-            let j : op ≡ o = cc in
-            let m : p ≡ d = cc in
-            let t : n ≡ k = cc in
-            rw (i, j, m, t) refl;
+        requests = λ d x vs room q. apart (cc);
+        outsides = λ e q. let i : o ≡ e = cc in ap B.outside i;
       }
-  decodes (B.resend x c) a = plain _ _ refl (a .typed)
-  decodes (B.receive x p) a = plain _ _ refl (a .typed)
-  decodes (B.open·lease n span) a = plain _ _ refl (a .typed)
-  decodes (B.renew x n span) a = plain _ _ refl (a .typed)
-  decodes (B.query x n) a = plain _ _ refl (a .typed)

@@ -99,7 +99,7 @@ module _ (plan : List ℕ) (ys : List B.Event) (P : BP.Provisos plan ys) where
         op = i .op;
         point = i .point;
         argument = i .argument;
-        event = at-here plan ys P n (B.issue (i .client) (i .op) (i .point) (i .argument)) (i .event);
+        event = at-here plan ys P n _ (i .event);
         state = i .state;
         started = client-here n (i .client) ∙ i .started;
         asked = i .asked;
@@ -109,13 +109,13 @@ module _ (plan : List ℕ) (ys : List B.Event) (P : BP.Provisos plan ys) where
 
   pub issues-there : (n : ℕ) (k : List Command) → RC.Issues plan (schedule plan ys) n k → BC.Issues plan ys n k
   issues-there n k i =
-      let e = at-back plan ys P n (R.issue (i .client) (i .op) (i .point) (i .argument)) (i .event) in
+      let e = at-back plan ys P n _ (i .event) in
       record {
         client = i .client;
         op = i .op;
         point = i .point;
         argument = i .argument;
-        event = subst (BP.At plan ys n) (e .2 .issues (i .client) (i .op) (i .point) (i .argument) refl) (e .1);
+        event = subst (BP.At plan ys n) (e .2 .outsides _ refl) (e .1);
         state = i .state;
         started = sym (client-here n (i .client)) ∙ i .started;
         asked = i .asked;
@@ -129,7 +129,7 @@ module _ (plan : List ℕ) (ys : List B.Event) (P : BP.Provisos plan ys) where
       record {
         client = c .client;
         number = c .number;
-        event = at-here plan ys P n (B.receive (c .client) (c .number)) (c .event);
+        event = at-here plan ys P n _ (c .event);
         state = c .state;
         started = client-here n (c .client) ∙ c .started;
         bytes = c .bytes;

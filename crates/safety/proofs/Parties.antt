@@ -1,8 +1,7 @@
 -- Clients and lease manager stay well formed, and what is made is bytes, whatever is called.
 --     packet-made              a packet or image that was made is bytes
 --     parties-server, parties-making     a server changes; bytes are made
---     parties-starts, parties-issues, parties-resends, parties-receives     calls of clients
---     parties-told             calls of the lease manager
+--     parties-outside          calls of clients and of the lease manager
 --     empty-parties            the beginning
 -- Assumes nothing.
 use Prim.Native.Nat.{ℕ, zero, suc, _≤_}
@@ -41,7 +40,9 @@ use Rattle.client.proofs.Bytes.{issue-packet, resend-packet, receive-kept, star
 use Rattle.leases.specs.WellFormed.{LeaseCall, givenTime, answerOf}
 use Rattle.leases.specs.WellFormed as Leases
 use Rattle.leases.proofs.Kept.{new-well, call-well, grant-within, notice-gone}
-use Rattle.claim.specs.World.{WorldOf, withServer, withClient, withManager, making, packet, startsAs, startsOn, sends, receives, told}
+use Rattle.claim.specs.World.{OutsideCall, start, issue, resend, receive, open·lease, renew, query}
+use Rattle.claim.specs.World.{WorldOf, withServer, withClient, withManager, making, packet, startsAs, startsOn, sends, receives, told, outsideStep}
+use Rattle.claim.specs.Provisos.{OutsideTyped}
 use Rattle.claim.specs.RecordWorld as R
 use Rattle.safety.specs.Parties.{Parties}
 
@@ -82,7 +83,7 @@ module _ {S : Type 0} {w : WorldOf S} (h : Parties w) where
 -- ---- clients
 
 module _ {S : Type 0} {w : WorldOf S} (h : Parties w) where
-  pub parties-starts : (o : Option (List ℕ)) → ((b : List ℕ) → o ≡ some b → Bytes b) → Parties (startsOn o w)
+  parties-starts : (o : Option (List ℕ)) → ((b : List ℕ) → o ≡ some b → Bytes b) → Parties (startsOn o w)
   unfolding startsOn startsAs
   parties-starts none k = h
   parties-starts (some b) k = go (startOf b .answer) refl
@@ -105,17 +106,17 @@ module _ {S : Type 0} {w : WorldOf S} (h : Parties w) where
   sent-bytes (NotSent n) k = bytes-nil
   sent-bytes (Asked q) k = k q refl
 
-  pub parties-issues : (x op p a : ℕ) → Parties (sends x (λ d. issueOf d op p a) (w .clients x) w)
+  parties-issues : (x op p a : ℕ) → Parties (sends x (λ d. issueOf d op p a) (w .clients x) w)
   parties-issues x op p a =
       parties-sends x (λ d. issueOf d op p a)
       (λ d k. (issue-well k op p a, sent-bytes (issueOf d op p a .answer) (λ q e. is-bytes (issue-packet k op p a q e)))) (w .clients x) refl
 
-  pub parties-resends : (x c : ℕ) → Parties (sends x (λ d. resendOf d c) (w .clients x) w)
+  parties-resends : (x c : ℕ) → Parties (sends x (λ d. resendOf d c) (w .clients x) w)
   parties-resends x c =
       parties-sends x (λ d. resendOf d c)
       (λ d k. (rw (resend-same d c) k, sent-bytes (resendOf d c .answer) (λ q e. is-bytes (resend-packet k c q e)))) (w .clients x) refl
 
-  pub parties-receives : (x : ℕ) (p : Option (List ℕ)) → ((b : List ℕ) → p ≡ some b → Bytes b) → Parties (receives x (w .clients x) p w)
+  parties-receives : (x : ℕ) (p : Option (List ℕ)) → ((b : List ℕ) → p ≡ some b → Bytes b) → Parties (receives x (w .clients x) p w)
   parties-receives x p k = go (w .clients x) refl p k
     where
       go : (o : Option Client) → w .clients x ≡ o → (q : Option (List ℕ)) → ((b : List ℕ) → q ≡ some b → Bytes b) → Parties (receives x o q w)
@@ -125,7 +126,7 @@ module _ {S : Type 0} {w : WorldOf S} (h : Parties w) where
 
   -- ---- the lease manager
 
-  pub parties-told : (c : LeaseCall) → givenTime c ≤ last32 → Parties (told (answerOf (w .manager) c) w)
+  parties-told : (c : LeaseCall) → givenTime c ≤ last32 → Parties (told (answerOf (w .manager) c) w)
   unfolding told toldBytes packetBytes
   parties-told c t =
       parties-making (parties-manager h (answerOf (w .manager) c .manager) well) (toldBytes (answerOf (w .manager) c .answer)) (go (answerOf (w .manager) c .answer) refl)
@@ -139,6 +140,18 @@ module _ {S : Type 0} {w : WorldOf S} (h : Parties w) where
       go (ByNotice n) e =
           let b = notice-gone (h .manager) c n e in
           packet-bytes (Noticed n) (record { client = omega (arith, b .0 .issued, well .numbered); time = omega (arith, b .1, well .timed) })
+
+  -- ---- both
+
+  pub parties-outside : (e : OutsideCall) → OutsideTyped e → Parties (outsideStep w e)
+  unfolding outsideStep OutsideTyped answerOf givenTime
+  parties-outside (start p) t = parties-starts (packet w p) (packet-made h p)
+  parties-outside (issue x op p a) t = parties-issues x op p a
+  parties-outside (resend x c) t = parties-resends x c
+  parties-outside (receive x p) t = parties-receives x (packet w p) (packet-made h p)
+  parties-outside (open·lease n span) t = parties-told (LeaseCall.opens n span) (omega (arith, t))
+  parties-outside (renew x n span) t = parties-told (LeaseCall.renews x n span) (omega (arith, t))
+  parties-outside (query x n) t = parties-told (LeaseCall.queries x n) (omega (arith, t))
 
 pub empty-parties : Parties R.emptyWorld
 unfolding R.emptyWorld

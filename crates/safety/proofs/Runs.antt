@@ -79,7 +79,7 @@ module _ (plan : List ℕ) (ys : List B.Event) (P : BP.Provisos plan ys) where
             record { one-plan = P .plan-again n c state log p q z; uses = u .0; first = u .1 };
         recovers·tail = λ c state k tail e z. let u = P .recovery-uses-both n c state k tail (subst (At n) e a) z in record { uses = u .0; begins = u .1 };
         crashes = λ c k e. P .crash-keeps n c k (subst (At n) e a);
-        starts = λ p b e. P .started-once n p b (subst (At n) e a);
+        starts = λ p e. P .started-once n p (subst (At n) e a);
       }
 
   pub both-at : (n : ℕ) → Both plan (R.after (schedule plan ys) n) (B.after ys n)

@@ -1,30 +1,25 @@
 -- An event over bytes and its event over records leave both worlds alike.
 --     step-alike
 -- Assumes nothing.
-use Prim.Native.Nat.{ℕ, _≤_}
-use mathlib.Core.Path.{_≡_, refl, subst}
+use Prim.Native.Nat.{ℕ}
+use mathlib.Core.Path.{_≡_, refl}
 use mathlib.Core.List.{List}
 use mathlib.Core.Option.{Option, none, some}
-use native.Mathlib.Omega.{arith}
-use Rattle.model.specs.declared.LeaseManager.{LeaseManager}
 use Rattle.model.specs.States.{State}
 use Rattle.model.specs.Decisions.{Decided}
 use Rattle.model.specs.Operations.{After}
-use Rattle.model.specs.Clients.{issueOf, resendOf}
-use Rattle.model.specs.Limits.{last32}
 use Rattle.model_laws.specs.Bytes.{Bytes}
-use Rattle.leases.specs.WellFormed.{LeaseCall, givenTime, answerOf}
 use Rattle.model_invariants.specs.Calls.{request, fetch, sync, notice, give, image, takeIn, receipt, release, decision, output, outputSize, operated}
-use Rattle.claim.specs.World.{Lent, packet, told}
+use Rattle.claim.specs.World.{Lent, packet}
 use Rattle.claim.specs.World as B
 use Rattle.claim.specs.Provisos.{Typed}
 use Rattle.claim.specs.Provisos as BP
 use Rattle.claim.specs.RecordWorld as R
-use Rattle.safety.specs.Alike.{WorldAlike, Both, whole}
+use Rattle.safety.specs.Alike.{Both, whole}
 use Rattle.safety.specs.Allowed.{Allowed}
 use Rattle.safety.specs.Decoded.{placeOf, decoded}
-use Rattle.safety.proofs.Worlds.{same-packet, same-client, alike-starts, alike-sends, alike-receives, alike-told}
-use Rattle.safety.proofs.Parties.{packet-made, parties-starts, parties-issues, parties-resends, parties-receives, parties-told}
+use Rattle.safety.proofs.Worlds.{same-packet, alike-outside}
+use Rattle.safety.proofs.Parties.{packet-made, parties-outside}
 use Rattle.safety.proofs.Called.{call-alike}
 use Rattle.safety.proofs.Restarts.{crash-alike, found-alike, recover-alike, recover-tail-alike}
 use Rattle.safety.proofs.Stores.{idle-alike, checkpoint-alike, store-alike}
@@ -41,18 +36,8 @@ module _ (plan : List ℕ) {r : R.World} {b : B.World} (l : Both plan r b) where
       go none e = l
       go (some bs) e = h bs (packet-made (l .parties) p bs e)
 
-  -- a call of the lease manager
-  told-alike : (c : LeaseCall) → givenTime c ≤ last32 → Both plan (told (answerOf (r .manager) c) r) (told (answerOf (b .manager) c) b)
-  told-alike c t =
-      record {
-        alike =
-            subst (λ (m : LeaseManager). WorldAlike plan (told (answerOf (r .manager) c) r) (told (answerOf m c) b)) (l .alike .manager)
-            (alike-told (l .alike) (answerOf (r .manager) c));
-        parties = parties-told (l .parties) c t;
-      }
-
   pub step-alike : (y : B.Event) → Allowed plan b y → Both plan (R.step r (decoded plan b y)) (B.step b y)
-  unfolding decoded placeOf Typed BP.Bytes R.step B.step decision output outputSize operated whole answerOf givenTime
+  unfolding decoded placeOf Typed BP.Bytes R.step B.step decision output outputSize operated whole
   step-alike (B.found c state log p n) a = found-alike plan l c state log p n (a .typed .0) (a .typed .1) (a .founds c state log p n refl)
   step-alike (B.recover c state log p) a = recover-alike plan l c state (a .typed) log p (a .recovers c state log p refl)
   step-alike (B.checkpoint c tail u) a = checkpoint-alike l c _ u tail
@@ -69,26 +54,4 @@ module _ (plan : List ℕ) {r : R.World} {b : B.World} (l : Both plan r b) where
   step-alike (B.take·image c p u) a = on-alike c _ p u _ _ (λ bs x. call-alike (takeIn bs) x u (a .typed) l c)
   step-alike (B.receipt c p u) a = call-alike (receipt p) tt u (a .typed) l c
   step-alike (B.release c p u) a = on-alike c _ p u _ _ (λ bs x. call-alike (release bs) x u (a .typed) l c)
-  step-alike (B.start p) a =
-      record {
-        alike = rw (same-packet (l .alike) p) (alike-starts (l .alike) (packet b p));
-        parties = parties-starts (l .parties) (packet r p) (packet-made (l .parties) p);
-      }
-  step-alike (B.issue x op p n) a =
-      record {
-        alike = rw (same-client (l .alike) x) (alike-sends (l .alike) x (λ d. issueOf d op p n) (b .clients x));
-        parties = parties-issues (l .parties) x op p n;
-      }
-  step-alike (B.resend x c) a =
-      record {
-        alike = rw (same-client (l .alike) x) (alike-sends (l .alike) x (λ d. resendOf d c) (b .clients x));
-        parties = parties-resends (l .parties) x c;
-      }
-  step-alike (B.receive x p) a =
-      record {
-        alike = rw (same-client (l .alike) x, same-packet (l .alike) p) (alike-receives (l .alike) x (b .clients x) (packet b p));
-        parties = parties-receives (l .parties) x (packet r p) (packet-made (l .parties) p);
-      }
-  step-alike (B.open·lease n span) a = told-alike (LeaseCall.opens n span) (omega (arith, a .typed))
-  step-alike (B.renew x n span) a = told-alike (LeaseCall.renews x n span) (omega (arith, a .typed))
-  step-alike (B.query x n) a = told-alike (LeaseCall.queries x n) (omega (arith, a .typed))
+  step-alike (B.outside e) a = record { alike = alike-outside (l .alike) e; parties = parties-outside (l .parties) e (a .typed) }

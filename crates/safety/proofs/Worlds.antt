@@ -1,7 +1,7 @@
 -- Changes of one part of both worlds keep them alike.
 --     alike-server, alike-client, alike-manager, alike-making     one part
 --     same-packet, same-client           packets and clients by number
---     alike-starts, alike-sends, alike-receives, alike-told       calls of clients and of the lease manager
+--     alike-outside                      calls of clients and of the lease manager
 --     running-mark, running-size         the sync mark and the length of a running server's log, counted from the founding
 --     alike-mark, alike-reach            of any server's
 --     nothing-back                       a server that is not there
@@ -26,11 +26,12 @@ use Rattle.model.specs.declared.LeaseAnswer.{LeaseAnswer}
 use Rattle.model.specs.Choice.{pick}
 use Rattle.model.specs.States.{State, load}
 use Rattle.model.specs.Checkpoints.{placed}
-use Rattle.model.specs.Clients.{startOf, receiveOf, sentBytes}
-use Rattle.model.specs.Leases.{toldBytes}
+use Rattle.model.specs.Clients.{startOf, issueOf, resendOf, receiveOf, sentBytes}
+use Rattle.model.specs.Leases.{openOf, renewOf, queryOf, toldBytes}
 use Rattle.model_invariants.specs.Placed.{seenFrom}
 use Rattle.safety.proofs.Facts.{local-from, holds-size}
-use Rattle.claim.specs.World.{withServer, withClient, withManager, making, startsAs, startsOn, sends, receives, told, packet}
+use Rattle.claim.specs.World.{OutsideCall, start, issue, resend, receive, open·lease, renew, query}
+use Rattle.claim.specs.World.{withServer, withClient, withManager, making, startsAs, startsOn, sends, receives, told, packet, outsideStep}
 use Rattle.claim.specs.World as B
 use Rattle.claim.specs.Provisos as BP
 use Rattle.claim.specs.RecordWorld as R
@@ -92,25 +93,35 @@ module _ {plan : List ℕ} {r : R.World} {b : B.World} (l : WorldAlike plan r b)
       go (NotStarted n) = l
       go Running = alike-client l (a .client .client) (a .client)
 
-  pub alike-starts : (o : Option (List ℕ)) → WorldAlike plan (startsOn o r) (startsOn o b)
+  alike-starts : (o : Option (List ℕ)) → WorldAlike plan (startsOn o r) (startsOn o b)
   unfolding startsOn
   alike-starts none = l
   alike-starts (some p) = alike-started (startOf p)
 
-  pub alike-sends : (x : ℕ) (f : Client → SendAnswer) (o : Option Client) → WorldAlike plan (sends x f o r) (sends x f o b)
+  alike-sends : (x : ℕ) (f : Client → SendAnswer) (o : Option Client) → WorldAlike plan (sends x f o r) (sends x f o b)
   unfolding sends
   alike-sends x f none = l
   alike-sends x f (some d) = alike-making (alike-client l x (f d .client)) (sentBytes (f d .answer))
 
-  pub alike-receives : (x : ℕ) (o : Option Client) (p : Option (List ℕ)) → WorldAlike plan (receives x o p r) (receives x o p b)
+  alike-receives : (x : ℕ) (o : Option Client) (p : Option (List ℕ)) → WorldAlike plan (receives x o p r) (receives x o p b)
   unfolding receives
   alike-receives x none p = l
   alike-receives x (some d) none = l
   alike-receives x (some d) (some p) = alike-client l x (receiveOf d p .client)
 
-  pub alike-told : (a : LeaseAnswer) → WorldAlike plan (told a r) (told a b)
+  alike-told : (a : LeaseAnswer) → WorldAlike plan (told a r) (told a b)
   unfolding told
   alike-told a = alike-making (alike-manager l (a .manager)) (toldBytes (a .answer))
+
+  pub alike-outside : (e : OutsideCall) → WorldAlike plan (outsideStep r e) (outsideStep b e)
+  unfolding outsideStep told withManager
+  alike-outside (start p) = rw (same-packet l p) (alike-starts (packet b p))
+  alike-outside (issue x op p a) = rw (same-client l x) (alike-sends x (λ d. issueOf d op p a) (b .clients x))
+  alike-outside (resend x c) = rw (same-client l x) (alike-sends x (λ d. resendOf d c) (b .clients x))
+  alike-outside (receive x p) = rw (same-client l x, same-packet l p) (alike-receives x (b .clients x) (packet b p))
+  alike-outside (open·lease t span) = rw (l .manager) (alike-told (openOf (b .manager) t span))
+  alike-outside (renew x t span) = rw (l .manager) (alike-told (renewOf (b .manager) x t span))
+  alike-outside (query x t) = rw (l .manager) (alike-told (queryOf (b .manager) x t))
 
 -- ---- the log of a server, counted from the founding
 

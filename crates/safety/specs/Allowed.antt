@@ -3,15 +3,13 @@
 use Prim.Native.Nat.{ℕ, _+_, _≤_}
 use mathlib.Core.Path.{_≡_}
 use mathlib.Core.List.{List, []}
-use mathlib.Core.Option.{none, some}
-use Rattle.model.specs.declared.Started.the-variants.{Running}
+use mathlib.Core.Option.{some}
 use Rattle.model.specs.Versions.{Versions}
 use Rattle.model.specs.Limits.{resultSize}
 use Rattle.model.specs.Operations.{foundOf, recoverOf}
 use Rattle.model.specs.Checkpoints.{recoverTailOf}
-use Rattle.model.specs.Clients.{startOf}
 use Rattle.model.specs.Refusals.{noRefusal}
-use Rattle.claim.specs.World.{Lent, packet}
+use Rattle.claim.specs.World.{Lent, OutsideCall, start}
 use Rattle.claim.specs.World as B
 use Rattle.claim.specs.Provisos as BP
 use Rattle.claim.specs.RecordWorld as R
@@ -34,13 +32,13 @@ pub record Allowed (plan : List ℕ) (w : B.World) (y : B.Event) : Type 0 where
   pub recovers : (c : ℕ) (state log p : List ℕ) → y ≡ B.recover c state log p → recoverOf state log p .answer .refusal ≡ noRefusal → RecoverOk plan (w .servers c) log p
   pub recovers·tail : (c : ℕ) (state k tail : List ℕ) → y ≡ B.recover·tail c state k tail → recoverTailOf state k tail .answer .refusal ≡ noRefusal → RecoverTailOk (w .servers c) k tail
   pub crashes : (c k : ℕ) → y ≡ B.crash c k → (BP.markOf (w .servers c) ≤ k) × (k ≤ BP.lengthOf (w .servers c))
-  pub starts : (p : ℕ) (b : List ℕ) → y ≡ B.start p → packet w p ≡ some b → startOf b .answer ≡ Running → w .clients (startOf b .client .client) ≡ none
+  pub starts : (p : ℕ) → y ≡ B.outside (start p) → BP.StartedOnce w p
 
--- the event e over records of the event y over bytes: its provisos; a crash is that crash, counted from the founding, a request that request, an issue that
--- issue
+-- the event e over records of the event y over bytes: its provisos; a crash is that crash, counted from the founding, a request that request, a call outside
+-- the servers that call
 pub record Decodes (plan : List ℕ) (r : R.World) (b : B.World) (y : B.Event) (e : R.Event) : Type 0 where
   pub provided : Provided plan r e
   pub crashes : (c n : ℕ) → e ≡ R.crash c n → (k : ℕ) × (y ≡ B.crash c k) × (n ≡ B.storedOf (b .servers c) .replaced + k)
   pub requests : (c p : ℕ) (vs : Versions) (room : ℕ) → e ≡ R.request c p vs room
       → (t : Lent) × (y ≡ B.request c p vs t) × (room ≡ roomOf (b .servers c) t (t .out) resultSize)
-  pub issues : (x op p a : ℕ) → e ≡ R.issue x op p a → y ≡ B.issue x op p a
+  pub outsides : (o : OutsideCall) → e ≡ R.outside o → y ≡ B.outside o

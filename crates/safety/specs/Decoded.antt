@@ -55,13 +55,7 @@ decoded plan w (B.store c) = idle c
 decoded plan w (B.recover·tail c state k tail) = R.recover c (planIf (recoverTailOf state k tail) plan)
 decoded plan w (B.inspect c x k) = idle c
 decoded plan w (B.crash c k) = R.crash c (placeOf (w .servers c) k)
-decoded plan w (B.start p) = R.start p
-decoded plan w (B.issue x op p a) = R.issue x op p a
-decoded plan w (B.resend x c) = R.resend x c
-decoded plan w (B.receive x p) = R.receive x p
-decoded plan w (B.open·lease t span) = R.open·lease t span
-decoded plan w (B.renew x t span) = R.renew x t span
-decoded plan w (B.query x t) = R.query x t
+decoded plan w (B.outside e) = R.outside e
 
 -- a schedule from the byte world w on
 unfoldable pub decodedFrom : List ℕ → B.World → List B.Event → List R.Event
@@ -72,7 +66,7 @@ decodedFrom plan w (y ∷ ys) = decoded plan w y ∷ decodedFrom plan (B.step w 
 abbrev pub schedule : List ℕ → List B.Event → List R.Event
 schedule plan ys = decodedFrom plan B.emptyWorld ys
 
--- the events with provisos of their own, requests and issues; 5 is every other one
+-- found, requests, recover, crashes and calls outside the servers; 5 is every other event
 unfoldable pub kind : R.Event → ℕ
 kind (R.found c plan n) = 0
 kind (R.request c p vs room) = 1
@@ -86,10 +80,4 @@ kind (R.receipt c p room) = 5
 kind (R.release c p room) = 5
 kind (R.recover c plan) = 2
 kind (R.crash c k) = 3
-kind (R.start p) = 4
-kind (R.issue x op p a) = 6
-kind (R.resend x c) = 5
-kind (R.receive x p) = 5
-kind (R.open·lease t span) = 5
-kind (R.renew x t span) = 5
-kind (R.query x t) = 5
+kind (R.outside e) = 4
