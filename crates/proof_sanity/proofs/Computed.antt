@@ -27,16 +27,19 @@ unfolding endsInOrder Checkpoints.placedPoint Checkpoints.placedRecord Checkpoin
 openRebased = tt
 
 unfoldable openLayout : Opens
-unfolding Checkpoints.pairsBytes Checkpoints.pointFront Checkpoints.recordFront Checkpoints.checkpointBytes Checkpoints.clientsOf Checkpoints.recordsOf Checkpoints.pointWhole Checkpoints.recordWhole Checkpoints.fronts Checkpoints.restored
+unfolding Checkpoints.pairsBytes Checkpoints.pointFront Checkpoints.recordFront Checkpoints.checkpointBytes Checkpoints.clientsOf Checkpoints.recordsOf
+    Checkpoints.pointWhole Checkpoints.recordWhole Checkpoints.fronts Checkpoints.restored
 openLayout = tt
 
 unfoldable openCheckpoints : Opens
-unfolding openRebased openLayout Checkpoints.checkpointFramed Checkpoints.checkpointState Checkpoints.checkpointRefusal Checkpoints.checkpointOf Checkpoints.recoveredTail Checkpoints.recoverTailRefusal Checkpoints.recoverTailOf
+unfolding openRebased openLayout Checkpoints.checkpointFramed Checkpoints.checkpointState Checkpoints.checkpointRefusal Checkpoints.checkpointOf
+    Checkpoints.recoveredTail Checkpoints.recoverTailRefusal Checkpoints.recoverTailOf
 openCheckpoints = tt
 
 -- what is seen of a run
 unfoldable openTrace : Opens
-unfolding openWorld openCheckpoints storedOf checkpoints stores reachOf bytesOk countedOk typedOk sameBytes isNothing keptIs beginsOk notStarted startsNew keepsOk requestDone done callWith seenWith standsAt endSeen traceFrom keepsMany
+unfolding openWorld openCheckpoints storedOf checkpoints stores reachOf bytesOk countedOk typedOk sameBytes isNothing keptIs beginsOk
+    notStarted startsNew keepsOk requestDone done callWith seenWith standsAt endSeen traceFrom keepsMany
 openTrace = tt
 
 pub trace-is : traceFrom yardPlan 5 emptyWorld schedule ≡ traceSeen

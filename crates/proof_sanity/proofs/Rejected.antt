@@ -445,7 +445,14 @@ module _ {state log out : List ℕ} (R : Ready state log out) (all : load state 
   checkpoint-is : checkpointOf state log checkpoint tail ≡ made
   unfolding checkpointOf checkpointRefusal short unfit
   checkpoint-is =
-      rw (le-ltb (length state) stateSize (R .long), le-ltb (length checkpoint) checkpointSize l, le-ltb (length tail) headSize h, R .safe, le-ltb (length log) (was .size) (R .recorded), le-ltb (was .mark) (was .size) (omega (arith, all)))
+      rw (
+        le-ltb (length state) stateSize (R .long),
+        le-ltb (length checkpoint) checkpointSize l,
+        le-ltb (length tail) headSize h,
+        R .safe,
+        le-ltb (length log) (was .size) (R .recorded),
+        le-ltb (was .mark) (was .size) (omega (arith, all)),
+      )
 
   abbrev again : After
   again = recoverTailOf fresh (take (made .answer .wrote) (made .checkpoint)) (take headSize (made .tail))
@@ -454,7 +461,8 @@ module _ {state log out : List ℕ} (R : Ready state log out) (all : load state 
   unfolding headBytes recoverTailOf recoverTailRefusal leftUnless settleRecovered rebased placed withMark
   recovery-is =
       let S = ready-sound R in
-      let k : take (length (checkpointBytes was)) (written checkpoint 0 (checkpointBytes was)) ≡ checkpointBytes was = front checkpoint (checkpointBytes was) (omega (arith, checkpoint-fits was S, l)) in
+      let k : take (length (checkpointBytes was)) (written checkpoint 0 (checkpointBytes was)) ≡ checkpointBytes was
+      = front checkpoint (checkpointBytes was) (omega (arith, checkpoint-fits was S, l)) in
       let t : take headSize (written tail 0 (headBytes (was .server))) ≡ headBytes (was .server) = front tail (headBytes (was .server)) h in
       let m : withMark (rebased was .size) (rebased was) ≡ rebased was = ap (λ (y : ℕ). withMark (endBefore y) (rebased was)) (sym all) in
       rw (k, t, le-ltb (length fresh) stateSize f, resumes was S, m)
