@@ -1,19 +1,30 @@
-/* recover.c: recovers the logs that write.c wrote with an earlier version of the library, with the library that it is linked with:
+/* recover.c: recovers the logs that write.c wrote with an earlier version of the library, and the checkpoints where there are some, with the library
+ * that it is linked with:
  *     recover FOLDER     prints the results that the servers hold then, which must be those in FOLDER/results
  * After that commands are executed on what was recovered, by today's rules. */
 #include "plant.h"
 
 static struct server servers[2];
 
-static void recover(const char *folder, int i, const uint8_t *plan) {
+/* the bytes of FOLDER/server I.KIND, 0 where there is no such file */
+static size_t load(const char *folder, int i, const char *kind, uint8_t *bytes, size_t space) {
     char path[512];
-    struct server *s = &servers[i];
-    snprintf(path, sizeof path, "%s/server%d.log", folder, i);
+    snprintf(path, sizeof path, "%s/server%d.%s", folder, i, kind);
     FILE *f = fopen(path, "rb");
-    must(f != NULL, path);
-    size_t length = fread(s->log, 1, sizeof s->log, f);
-    must(fclose(f) == 0 && length < sizeof s->log, path);
-    must(mantelorris_recover(s->state, sizeof s->state, s->log, length, plan, MANTELORRIS_PLAN_SIZE) == 0, "recover");
+    if (f == NULL) return 0;
+    size_t length = fread(bytes, 1, space, f);
+    must(fclose(f) == 0 && length < space, path);
+    return length;
+}
+
+static void recover(const char *folder, int i, const uint8_t *plan) {
+    static uint8_t checkpoint[MANTELORRIS_CHECKPOINT_SIZE];
+    struct server *s = &servers[i];
+    size_t length = load(folder, i, "log", s->log, sizeof s->log), size = load(folder, i, "checkpoint", checkpoint, sizeof checkpoint);
+    must(length >= MANTELORRIS_LOG_HEAD, "a log");
+    uint64_t a = size == 0 ? mantelorris_recover(s->state, sizeof s->state, s->log, length, plan, MANTELORRIS_PLAN_SIZE)
+                           : mantelorris_recover_checkpoint(s->state, sizeof s->state, checkpoint, size, s->log, length);
+    must(a == 0, "recover");
     must(mantelorris_length(s->state) == length, "every record is whole");
 }
 

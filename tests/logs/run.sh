@@ -1,6 +1,6 @@
 #!/usr/bin/env bash
-# Recovers the logs of earlier versions (tests/logs/VERSION, written by write.c with the library of that version) with today's libraries: the
-# servers must hold the results and values that they held then.
+# Recovers the logs and checkpoints of earlier versions (tests/logs/VERSION, written by write.c with the library of that version: first 1.0, second 1.3,
+# third 1.5) with today's libraries: the servers must hold the results and values that they held then.
 set -euo pipefail
 cd "$(dirname "$0")/../.."
 tools/staticlib.sh >/dev/null

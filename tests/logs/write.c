@@ -1,10 +1,12 @@
 /* write.c: writes the logs of two servers and the results of their commands, with the library that it is linked with:
- *     write FOLDER     FOLDER/server0.log, server1.log, results
+ *     write FOLDER     FOLDER/server0.log, server1.log, results, and server0.checkpoint, server1.checkpoint: the logs are their tails
  * Run once with the library of a version that is about to change, it keeps what that version wrote; recover.c reads it with every later one.
  * Point 5 steps past both ends of its range, by small and by the greatest arguments, moves from server 0 to server 1, and steps past an end there;
  * point 6 is reported out of range and stepped while invalid. Both are put at parts whose product is no multiple of 1000, point 5 before its move and
- * after it. No result is acknowledged, so that every completion record stays. */
+ * after it. Server 0 makes its checkpoint before the move, server 1 after it, before its last commands. No result is acknowledged, so that every
+ * completion record stays. */
 #include "plant.h"
+#include <string.h>
 
 static struct server servers[2];
 static struct mantelorris_client desk;
@@ -32,6 +34,19 @@ static void move_point(uint32_t point) {
     sync(from);
 }
 
+/* FOLDER/server N.checkpoint; the server goes on with the tail as its log */
+static void check(const char *folder, int at) {
+    static uint8_t checkpoint[MANTELORRIS_CHECKPOINT_SIZE];
+    uint8_t head[MANTELORRIS_LOG_HEAD];
+    char path[512];
+    struct server *s = &servers[at];
+    uint64_t a = mantelorris_checkpoint(SLICES(s), checkpoint, sizeof checkpoint, head, sizeof head);
+    must(mantelorris_number(a) == 0, "checkpoint");
+    memcpy(s->log, head, sizeof head);
+    snprintf(path, sizeof path, "%s/server%d.checkpoint", folder, at);
+    save(path, checkpoint, mantelorris_written(a));
+}
+
 int main(int count, char **words) {
     uint8_t plan[MANTELORRIS_PLAN_SIZE];
     char path[512];
@@ -53,8 +68,10 @@ int main(int count, char **words) {
     command(0, MANTELORRIS_STEP, 6, 1);
     command(0, MANTELORRIS_PART, 6, 5);
     command(0, MANTELORRIS_PART, 5, 7);
+    check(words[1], 0);
     move_point(5);
     command(1, MANTELORRIS_PART, 5, 5);
+    check(words[1], 1);
     command(1, MANTELORRIS_STEP, 5, 600);
     command(1, MANTELORRIS_STEP, 5, 600);
 
