@@ -10,7 +10,8 @@ port=${PORT:-$((21000 + $$ % 20000))}
 work=$(mktemp -d)
 bg=()
 trap 'kill -9 "${bg[@]}" 2>/dev/null || true; rm -rf "$work"' EXIT
-for p in host desk relay lock; do cc -std=gnu11 -O2 -Wall -Wextra -Idist examples/$p.c dist/libmantelorris.a -o "$work/$p"; done
+cc -std=gnu11 -O2 -Wall -Wextra -Idist examples/host.c examples/card.c dist/libmantelorris.a -o "$work/host"
+for p in desk relay lock; do cc -std=gnu11 -O2 -Wall -Wextra -Idist examples/$p.c dist/libmantelorris.a -o "$work/$p"; done
 "$work/relay" "$port" $((port + 1)) >"$work/line" & relay=$!
 bg+=("$relay")
 "$work/desk" "$port" "$commands" >"$work/desk.out" & desk=$!

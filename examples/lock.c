@@ -28,7 +28,7 @@ static void fail(const char *what) {
 
 static uint8_t state[MANTELORRIS_STATE_SIZE], space[1 << 20], plan[MANTELORRIS_PLAN_SIZE];
 
-/* yours: write the log from mark to length to the card, and wait until the card has it (host.c) */
+/* yours: write the log from mark to length to the card, and wait until the card has it (card.h) */
 static void save(void) {
     mantelorris_sync(state, sizeof state, space, sizeof space, mantelorris_length(state));
     /* what is synced moves the gates */

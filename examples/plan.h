@@ -1,4 +1,4 @@
-/* The plan that all programs of this example share: every point from -1,000,000 to 1,000,000, fallback 0, at home at server 0. */
+/* The plan of the lock and of the benchmark beside SQLite, as of host.c: every point from -1,000,000 to 1,000,000, fallback 0, at home at server 0. */
 #ifndef EXAMPLE_PLAN_H
 #define EXAMPLE_PLAN_H
 

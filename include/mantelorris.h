@@ -40,7 +40,7 @@
  *     2. store the checkpoint and the tail's 8 bytes so that the card has both or neither (write a new file, sync it, rename it; or two slots and
  *        one word that names the valid one)
  *     3. only then drop the old log, and go on: the log slice of every later call begins with the tail's head
- * Between 1 and 3 call nothing else of this server. If storing fails, or the power does, what was in force is still: recover from that. examples/host.c
+ * Between 1 and 3 call nothing else of this server. If storing fails, or the power does, what was in force is still: recover from that. examples/card.c
  * does it in one file.
  *
  * Recovery with a checkpoint. mantelorris_recover_checkpoint gets the last stored checkpoint, whole (bytes behind it are not read), and what the card

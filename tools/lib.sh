@@ -14,7 +14,7 @@ pc() { # PREFIX: where the files will be
   printf 'Cflags: -I${prefix}/include\nLibs: -L${prefix}/lib -lmantelorris\n'
 }
 pc /usr/local >dist/mantelorris.pc
-echo "dist/libmantelorris.a $(wc -c <dist/libmantelorris.a) bytes, version $version; link: cc host.c -Idist -Ldist -lmantelorris"
+echo "dist/libmantelorris.a $(wc -c <dist/libmantelorris.a) bytes, version $version; link: cc host.c card.c -Idist -Ldist -lmantelorris"
 if [ "${1:-}" = install ]; then
   prefix=${2:?PREFIX}
   mkdir -p "$prefix/lib/pkgconfig" "$prefix/include"

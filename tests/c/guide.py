@@ -5,6 +5,7 @@
   - the examples in bytes of docs/FORMATS.md (tests/c/bytes.c)
   - the archive's code size and undefined symbols; the sizes of slices and structs; how many commands a log holds
   - the example in README.md compiles, and prints what README.md says
+  - the example host, copied to an empty folder, is built by the line that README.md and docs/GUIDE.md have, and founds its card there
 MANTELORRIS_DIST names a folder with archive and headers; without it `make lib` makes dist/."""
 import os, re, shutil, subprocess, sys, tempfile
 
@@ -101,10 +102,22 @@ def readme():
     count('the example of README.md, %d lines, prints what it says' % source.count('\n'), code or (said != shown and said))
 
 
+def copied():
+    lines = [re.search(r'^    (cc host\.c .*)$', text, flags=re.M).group(1) for text in (README, GUIDE)]
+    empty = os.path.join(WORK, 'empty')
+    os.mkdir(empty)
+    os.symlink(os.path.abspath(DIST), os.path.join(empty, 'dist'))
+    for name in ('host.c', 'card.h', 'card.c'):
+        shutil.copy('examples/' + name, empty)
+    wrong = subprocess.run(lines[0].split(), cwd=empty, capture_output=True, text=True).stderr
+    said = wrong or subprocess.run(['./a.out', 'card'], cwd=empty, capture_output=True, text=True).stdout
+    count('the example host, copied and built by: ' + lines[0], lines[0] != lines[1] and lines or (not said.startswith('log 8 bytes,') and said))
+
+
 def main():
     if DIST == 'dist':
         subprocess.run(['tools/lib.sh'], check=True, stdout=subprocess.DEVNULL)
-    for part in (stack, stale, examples, sizes, memory, readme):
+    for part in (stack, stale, examples, sizes, memory, readme, copied):
         part()
     print('%d passed, %d failed' % (passed, failed))
     shutil.rmtree(WORK)

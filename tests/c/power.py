@@ -1,5 +1,5 @@
 #!/usr/bin/env python3
-"""power.py: the example host (examples/host.c) under power cuts. Prints what it did; the last line is 'N passed, M failed'.
+"""power.py: the example host (examples/host.c and card.c) under power cuts. Prints what it did; the last line is 'N passed, M failed'.
   - killed with SIGKILL at random moments and inside its writes, syncs and cuts, at least KILLS times; after each kill the card is cut to any
     length from what it had for certain to what it has; the desk's commands complete all the same, each once, and the gate's value is their sum
   - the same with a small limit, so that it makes and stores checkpoints all the time, killed at each step of that, or the step fails and the host has to end
@@ -15,6 +15,7 @@ os.chdir(ROOT)
 SEED = int(os.environ.get('POWER_SEED', '0')) or random.SystemRandom().randrange(1, 1 << 30)
 KILLS = int(os.environ.get('POWER_KILLS', '220'))
 DIST = os.environ.get('MANTELORRIS_DIST') or 'dist'
+HOST = ['examples/host.c', 'examples/card.c']
 FLAGS = ['-std=gnu11', '-O1', '-Wall', '-Wextra', '-Werror', '-I' + DIST, '-Iexamples']
 WORK = tempfile.mkdtemp(prefix='mantelorris-power-')
 LIMIT = 400  # bytes of log, for hosts that make checkpoints
@@ -37,22 +38,23 @@ def told(what, wrong):
     count(what + (': ' + wrong if wrong else ''), not wrong)
 
 
-def build(source, name, more=()):
+def build(sources, name, more=()):
     out = os.path.join(WORK, name)
-    subprocess.run(['cc', *FLAGS, *more, source, DIST + '/libmantelorris.a', '-o', out], check=True)
+    subprocess.run(['cc', *FLAGS, *more, *sources, DIST + '/libmantelorris.a', '-o', out], check=True)
     return out
 
 
 def faulty(name, old, new):
-    """the host with one line moved or left out"""
-    text = open('examples/host.c', encoding='utf-8').read()
+    """the host with a line or two changed, moved or left out, each where it stands, in host.c or in card.c"""
+    texts = [open(path, encoding='utf-8').read() for path in HOST]
     for a, b in zip(old, new):
-        if text.count(a) != 1:
-            sys.exit('power.py: the fault %s does not fit examples/host.c' % name)
-        text = text.replace(a, b)
-    path = os.path.join(WORK, name + '.c')
-    open(path, 'w', encoding='utf-8').write(text)
-    return build(path, name, ['-Wno-unused-function', '-Wno-unused-parameter'])
+        if sum(text.count(a) for text in texts) != 1:
+            sys.exit('power.py: the fault %s does not fit %s' % (name, ' and '.join(HOST)))
+        texts = [text.replace(a, b) for text in texts]
+    paths = [os.path.join(WORK, name + '_' + os.path.basename(path)) for path in HOST]
+    for path, text in zip(paths, texts):
+        open(path, 'w', encoding='utf-8').write(text)
+    return build(paths, name, ['-Wno-unused-function', '-Wno-unused-parameter'])
 
 
 class Card:
@@ -282,25 +284,29 @@ def with_checkpoints(host, tools, port):
     told('it is damaged or cut at each of %d bytes: refused, and left as it was' % len(cards), refused(host, cards))
 
 
-RENAME = '    if (rename(next_path, card_path)) fail("card: rename");\n'
-SWITCH = '    name_sync();\n    close(card);\n    card = next;\n    base = length;\n'
-OPENED = '    if (next < 0) fail(next_path);\n'
-RECOVER = 'mantelorris_recover_checkpoint(state, sizeof state, checkpoint, base, log_space, kept)'
+RENAME = '    if (rename(card->next_path, card->path)) fail("card: rename");\n'
+NAME = '    card_sync_name(card);\n'
+SWITCH = '    card->file = next;\n    card->base = length;\n'
+SWITCHED = NAME + '    close(card->file);\n' + SWITCH
+OPENED = '    if (next < 0) fail(card->next_path);\n'
+RECOVER = 'mantelorris_recover_checkpoint(state, sizeof state, checkpoint, card.base, log_space, kept)'
 HEAD = '    write_at(next, head, MANTELORRIS_LOG_HEAD, length);\n'
-STORE = 'static void store(size_t length'
+STORE, TURN = 'void card_store(struct card *card', 'static void turn(void) {'
+STORED, BEGUN = '    card_store(&card, checkpoint, mantelorris_written(a), head);\n', '    memcpy(log_space, head, sizeof head);\n'
 # each with one in how many calls on the card is struck, and the log's limit
 FAULTS = {
-    'mark_before_write': (60, 0, ['    card_append(mark, length);\n', '    waits = 0;\n}'], ['', '    waits = 0;\n    card_append(mark, length);\n}']),
-    'card_not_cut': (6, 0, ['        card_cut((size_t)mantelorris_length(state));\n'], ['']),
+    'mark_before_write': (60, 0, ['    card_append(&card, log_space, mark, length);\n', '    waits = 0;\n}'],
+                          ['', '    waits = 0;\n    card_append(&card, log_space, mark, length);\n}']),
+    'card_not_cut': (6, 0, ['        card_cut(&card, (size_t)mantelorris_length(state));\n'], ['']),
     'switched_before_stored': (60, LIMIT, [RENAME, OPENED], ['', OPENED + RENAME]),
-    'calls_before_stored': (60, LIMIT, [STORE, RENAME + SWITCH],
-                            ['static void turn(void);\n' + STORE, '    card = next;\n    base = length;\n    memcpy(log_space, head, MANTELORRIS_LOG_HEAD);\n    turn();\n' + RENAME + '    name_sync();\n']),
+    'calls_before_stored': (60, LIMIT, [STORE, RENAME + SWITCHED, TURN, STORED + BEGUN],
+                            ['void turn(void);\n' + STORE, SWITCH + '    turn();\n' + RENAME + NAME, 'void turn(void);\nvoid turn(void) {', BEGUN + STORED]),
     'recover_on_a_tail': (60, LIMIT, [RECOVER], ['mantelorris_recover(state, sizeof state, log_space, kept, plan, sizeof plan)']),
     'head_not_stored': (60, LIMIT, [HEAD], ['']),
     'renamed_before_synced': (60, LIMIT, ['    if (fdatasync(next)) fail("card: sync of the checkpoint");\n'], ['']),
-    'failed_rename_ignored': (60, LIMIT, [RENAME], ['    if (rename(next_path, card_path)) return;\n']),
-    'name_not_synced': (60, LIMIT, [SWITCH], [SWITCH.replace('    name_sync();\n', '')]),
-    'name_not_synced_at_start': (30, LIMIT, ['    name_sync(); /*'], ['    /*']),
+    'failed_rename_ignored': (60, LIMIT, [RENAME], ['    if (rename(card->next_path, card->path)) return;\n']),
+    'name_not_synced': (60, LIMIT, [SWITCHED], [SWITCHED.replace(NAME, '')]),
+    'name_not_synced_at_start': (30, LIMIT, ['    card_sync_name(&card);\n'], ['']),
 }
 
 
@@ -308,9 +314,9 @@ def main():
     print('seed %d' % SEED)
     if DIST == 'dist':
         subprocess.run(['tools/lib.sh'], stdout=subprocess.DEVNULL, check=True)
-    tools = {n: build('examples/%s.c' % n, n) for n in ('relay', 'desk')}
-    tools['hook'] = build('tests/c/power.c', 'power.so', ['-shared', '-fPIC', '-ldl'])
-    host = build('examples/host.c', 'host')
+    tools = {n: build(['examples/%s.c' % n], n) for n in ('relay', 'desk')}
+    tools['hook'] = build(['tests/c/power.c'], 'power.so', ['-shared', '-fPIC', '-ldl'])
+    host = build(HOST, 'host')
     port = 20000 + SEED % 20000
     without_checkpoints(host, tools, port)
     with_checkpoints(host, tools, port + 4)

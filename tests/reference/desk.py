@@ -5,7 +5,7 @@ The last line is 'N passed, M failed'."""
 import os, random, signal, socket, struct, subprocess, sys, time
 from fractions import Fraction
 
-LOW, HIGH, FALLBACK = -1000000, 1000000, 0      # the plan of examples/plan.h
+LOW, HIGH, FALLBACK = -1000000, 1000000, 0      # the plan of examples/host.c
 READ, SET, STEP, REPORT, FAULT, PART = range(6)
 passed, failed = 0, 0
 

@@ -8,7 +8,7 @@ dist=${MANTELORRIS_DIST:-dist}
 [ "$dist" != dist ] || tools/lib.sh >/dev/null
 work=$(mktemp -d)
 trap 'rm -rf "$work"' EXIT
-cc -std=gnu11 -O1 -Wall -Wextra -Werror -I"$dist" examples/host.c "$dist/libmantelorris.a" -o "$work/host"
+cc -std=gnu11 -O1 -Wall -Wextra -Werror -I"$dist" examples/host.c examples/card.c "$dist/libmantelorris.a" -o "$work/host"
 cc -std=gnu11 -O1 -Wall -Wextra -Werror examples/relay.c -o "$work/relay"
 timeout 120 python3 tests/reference/trial.py "$work/host" "$work/relay"
 timeout 120 python3 tests/reference/desk.py "$work/host" "${PORT:-$((24000 + $$ % 20000))}" "$work/card"

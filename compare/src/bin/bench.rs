@@ -124,8 +124,16 @@ fn clients() {
     receives("a damaged result", &busy, &damaged);
 }
 
+/// A reply that lies across the end of a page takes longer, and where the
+/// stack begins is chance: both sides at two places, and the better.
 fn starts(grant: &[u8]) {
-    let times = measure(
+    let (here, below) = (starts_here(grant), starts_below(grant));
+    row("client: start", (here.0.min(below.0), here.1.min(below.1)));
+}
+
+#[inline(never)]
+fn starts_here(grant: &[u8]) -> (f64, f64) {
+    measure(
         1,
         || {
             black_box(proved::Client::start(black_box(grant)));
@@ -133,8 +141,16 @@ fn starts(grant: &[u8]) {
         || {
             let _ = black_box(start(black_box(grant)));
         },
-    );
-    row("client: start", times);
+    )
+}
+
+/// The same, a kilobyte further down.
+#[inline(never)]
+fn starts_below(grant: &[u8]) -> (f64, f64) {
+    let space = black_box([0u8; 1024]);
+    let times = starts_here(grant);
+    black_box(&space);
+    times
 }
 
 /// Sixteen calls; the client that has them open.

@@ -6,7 +6,7 @@ ghost use Prim.Native.Nat.{_<_};
 ghost use Rattle.model.specs.declared.Received.the-variants.{NotReceived};
 ghost use Rattle.model.specs.Numbers.{flip};
 ghost use Rattle.model.specs.Limits.{leaseCount};
-ghost use Rattle.model.specs.Clients.{callAt, startOf, issueOf, resendOf, receiveOf};
+ghost use Rattle.model.specs.Clients.{noCall, callAt, startOf, issueOf, resendOf, receiveOf};
 ghost use Rattle.model.specs.Leases.{newManager, openOf, renewOf, queryOf};
 ghost use Rattle.client.specs.Changes.{packetCall};
 ghost use Rattle.client_c.specs.Replies.{startReply, sendReply, Sends, receiveReply, Placed, Receives, leaseReply, leasing, changed, Leases};
@@ -304,17 +304,30 @@ fn stored_value(m: LeaseManager, c: Leasing) -> LeaseManager
 
 // ---- for C: the client. Start makes one; the others are lent it, and store what changes.
 
+// Always a place. Since it might be the number, which lies over op, point, the padding behind them and the argument, the compiler takes these as a word.
+enum Slot {
+    Number(u64),
+    Place(OpenCall),
+}
+
+// A free place in words, without a gap: start stores sixteen bytes at a time. Field by field, past the padding, it takes half as long again.
+fn whole_place() -> OpenCall
+    ensures { λ r. ⌜ r ≡ noCall ⌝ }
+{
+    let k = client::no_call();
+    let s = Slot::Place(k);
+    match s {
+        Slot::Place(p) => p,
+        Slot::Number(_n) => k,
+    }
+}
+
 #[no_mangle]
 pub extern "C" fn mantelorris_start(packet: &[u8]) -> StartReply
     ensures { λ r. ⌜ r ≡ startReply (startOf (now (packet .entry))) ⌝ }
 {
     let s = client::start_fields(packet);
-    let k = OpenCall {
-        call: 0,
-        op: 0,
-        point: 0,
-        argument: 0,
-    };
+    let k = whole_place();
     StartReply {
         client: Client {
             client: s.client,

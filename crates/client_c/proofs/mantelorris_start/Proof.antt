@@ -10,7 +10,7 @@ use Rattle.client_c.proofs.mantelorris_start.Tie as tie
 
 returns : tie.Need-returns
 unfolding startOf
-returns c = rw (c .start-fields .ensures) (start-reply (parsePacket _))
+returns c = rw (c .before .start-fields .ensures, c .whole-place .ensures) (start-reply (parsePacket _))
 
 pub mantelorris-start-spec : {M : Type 1} → statement M
-mantelorris-start-spec = tie.close (tie.spec (λ c κs. search needs) returns)
+mantelorris-start-spec = tie.close (tie.spec (λ c κs. search needs) (λ c κs. search needs) returns)
