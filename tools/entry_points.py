@@ -28,7 +28,7 @@ ENTRY = {
     'simulator': 'simulate',
 }
 # crates of leaves: they read or write at a place that their callers have tested
-LEAF_CRATES = 'format_numbers format_fields format_image_rows format_image_writer format_packet_writer format_log_writer state_rows state_sound_rows'.split()
+LEAF_CRATES = 'format_numbers format_fields format_floors format_image_rows format_image_writer format_packet_writer format_log_writer state_rows state_sound_rows'.split()
 # crates of parts of a call, on a buffer that the call's first tests have passed
 LEAF_CRATES += 'state_records state_clients server_apply state_image server_replay'.split()
 # crates of parts of the simulator, on memory that `new_yard` has laid out

@@ -31,11 +31,11 @@ fn floor_step(s: &[u8], k: usize, left: usize) -> bool
     requires { ⌜ k + floorRow * (left + 1) ≤ length (now s) ⌝ }
     ensures { λ r. ⌜ r ≡ floorStep left (drop k (now (s .entry))) ⌝ }
 {
-    let ok = format_image_rows::floor_ok(s, k);
+    let ok = format_floors::floor_ok(s, k);
     if left == 0 {
         return ok;
     }
-    let next = format_image_rows::client_before(s, k);
+    let next = format_floors::client_before(s, k);
     next & ok
 }
 
@@ -61,7 +61,7 @@ fn next_floor(s: &[u8], n: usize, x: u32, below: usize) -> usize
 {
     let mut j = below;
     while j < n {
-        let f = format_image_rows::floor_from(s, LEAST_IMAGE + FLOOR_ROW * j);
+        let f = format_floors::floor_from(s, LEAST_IMAGE + FLOOR_ROW * j);
         if x <= f.client {
             return j;
         }
@@ -78,7 +78,7 @@ fn floor_here(s: &[u8], n: usize, x: u32, j: usize) -> u32
     if n <= j {
         return 0;
     }
-    let f = format_image_rows::floor_from(s, LEAST_IMAGE + FLOOR_ROW * j);
+    let f = format_floors::floor_from(s, LEAST_IMAGE + FLOOR_ROW * j);
     if f.client == x {
         return f.floor;
     }
@@ -94,7 +94,7 @@ fn entry_fields_ok(point: u8, floor: u32, e: ImageEntry) -> bool
     let command = format_numbers::command_ok(e.op, point, e.argument);
     let outcome = format_numbers::outcome_ok(e.result.outcome, e.result.quality);
     let id = format_numbers::id_ok(e.client, e.call);
-    let window = format_image_rows::in_window(floor, e.call);
+    let window = format_floors::in_window(floor, e.call);
     command & (outcome & (id & window))
 }
 

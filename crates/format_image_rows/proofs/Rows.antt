@@ -1,5 +1,5 @@
--- Rows of an image, at their places.
---     floor-drop, entry-drop     the fields of a row at a place
+-- Completion records of an image, at their places.
+--     entry-drop     the fields of a row at a place
 -- Assumes nothing.
 use Prim.Native.Nat.{ℕ, _+_}
 use mathlib.Core.Path.{_≡_}
@@ -7,18 +7,10 @@ use mathlib.Core.List.{List}
 use native.Mathlib.Nat.{add-zero}
 use lib.ListN.{drop, getD}
 use lib.Seq.{getD-drop}
-use Rattle.model.specs.declared.Floor.{Floor}
 use Rattle.model.specs.declared.ImageEntry.{ImageEntry}
 use Rattle.model.specs.Numbers.{le32At, signedAt}
-use Rattle.model.specs.Images.{floorOfBytes, imageEntryOf}
+use Rattle.model.specs.Images.{imageEntryOf}
 use Rattle.model_laws.proofs.Numbers.{le32-drop, signed-drop}
-
-abbrev pub floorAt : List ℕ → ℕ → Floor
-floorAt s k = record { client = le32At s k; floor = le32At s (k + 4) }
-
-pub floor-drop : (s : List ℕ) (k : ℕ) → floorOfBytes (drop k s) ≡ floorAt s k
-unfolding floorOfBytes
-floor-drop s k = rw (le32-drop k s 0, le32-drop k s 4, add-zero)
 
 abbrev pub entryFrom : List ℕ → ℕ → ImageEntry
 entryFrom s k =

@@ -1,6 +1,6 @@
-// Rows and head of a moving image at their places in a slice, and the tests of one row, of two neighbours and of the head.
+// Completion records and head of a moving image at their places in a slice, and the tests of one record, of two neighbours and of the head. Its floors are
+// read and tested by `format_floors`.
 use model::CommandResult;
-use model::Floor;
 use model::ImageEntry;
 use model::ImageHead;
 use model::PlanEntry;
@@ -8,24 +8,12 @@ use model::constants;
 ghost use mathlib.Core.Path.{_≡_};
 ghost use Prim.Native.Nat.{_+_, _*_, _≤_};
 ghost use lib.ListN.{length, drop};
-ghost use lib.Dec.{ltb};
-ghost use Rattle.model.specs.Limits.{floorRow, entryRow, leastImage};
-ghost use Rattle.model.specs.Images.{floorOfBytes, imageEntryOf, imageHeadOf};
-ghost use Rattle.model.specs.Images.{imageFramed, imageHeadOk, imageParts, floorOk, inWindow, entryRowOk, entryInRange};
+ghost use Rattle.model.specs.Limits.{entryRow, leastImage};
+ghost use Rattle.model.specs.Images.{imageEntryOf, imageHeadOf};
+ghost use Rattle.model.specs.Images.{imageFramed, imageHeadOk, imageParts, entryRowOk, entryInRange};
 ghost use Rattle.format_image_rows.specs.Order.{entryBefore};
 
 // ---- rows and head, at their places
-
-// The floor in the 8 bytes from k.
-pub fn floor_from(s: &[u8], k: usize) -> Floor
-    requires { ⌜ k + floorRow ≤ length (now s) ⌝ }
-    ensures { λ r. ⌜ r ≡ floorOfBytes (drop k (now (s .entry))) ⌝ }
-{
-    Floor {
-        client: format_numbers::read_u32(s, k),
-        floor: format_numbers::read_u32(s, k + 4),
-    }
-}
 
 // The completion record in the 20 bytes from k.
 pub fn entry_from(s: &[u8], k: usize) -> ImageEntry
@@ -114,32 +102,6 @@ pub fn parts_ok(s: &[u8], h: ImageHead) -> bool
 }
 
 // ---- tests of a row
-
-// The call is from floor to floor + 15, and the client has a floor.
-pub fn in_window(floor: u32, call: u32) -> bool
-    ensures { λ r. ⌜ r ≡ inWindow floor call ⌝ }
-{
-    (1 <= floor) & ((floor <= call) & (call as u64 <= floor as u64 + constants::LAST_IN_WINDOW))
-}
-
-// The floor from k: client and floor are from 1.
-pub fn floor_ok(s: &[u8], k: usize) -> bool
-    requires { ⌜ k + floorRow ≤ length (now s) ⌝ }
-    ensures { λ r. ⌜ r ≡ floorOk (floorOfBytes (drop k (now (s .entry)))) ⌝ }
-{
-    let f = floor_from(s, k);
-    (1 <= f.client) & (1 <= f.floor)
-}
-
-// The client of the floor from k is below that of the next.
-pub fn client_before(s: &[u8], k: usize) -> bool
-    requires { ⌜ k + 2 * floorRow ≤ length (now s) ⌝ }
-    ensures { λ r. ⌜ r ≡ ltb (floorOfBytes (drop k (now (s .entry))) .client) (floorOfBytes (drop (k + floorRow) (now (s .entry))) .client) ⌝ }
-{
-    let f = floor_from(s, k);
-    let g = floor_from(s, k + constants::FLOOR_ROW);
-    f.client < g.client
-}
 
 // The zero byte of the row from k.
 pub fn entry_row_ok(s: &[u8], k: usize) -> bool

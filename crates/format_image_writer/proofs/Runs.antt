@@ -1,5 +1,5 @@
 -- Runs of stores, one after the other, as one; and the whole image.
---     two-runs, five-runs     of 4 bytes each
+--     five-runs               of 4 bytes each
 --     head-parts              the bytes before the tables, in three parts
 --     head-image              and those of an image, by its head
 --     rows-next               a row stored behind rows
@@ -22,9 +22,6 @@ use Rattle.model_laws.proofs.Written.{length-written, written-none, written-app
 use Rattle.model_laws.proofs.Tables.{length-rows, rows-snoc, bytesOf-append, bytesOf-one, length-bytesOf}
 use Rattle.model_laws.proofs.Images.{floorCodec, image-length}
 use Rattle.format_image_writer.specs.Heads.{headBytes, frameBytes, pairBytes, pointBytes}
-
-pub two-runs : (s : List ℕ) (k v w : ℕ) → written (written s k (le32 v)) (k + 4) (le32 w) ≡ written s k (le32 v ++ le32 w)
-two-runs s k v w = run-behind s k (le32 v) (le32 w) refl refl
 
 pub five-runs : (s : List ℕ) (k v w x y a b c d : ℕ)
     → written (written (written (written (written s k (le32 v)) (k + 4) (le32 w)) (k + 8) (le32 x)) (k + 12) (le32 y)) (k + 16) (quad a b c d)

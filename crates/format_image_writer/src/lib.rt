@@ -1,5 +1,4 @@
 // The writer of moving images: head, floors and completion records, each at its place. Bytes past what is written are kept.
-use model::Floor;
 use model::ImageEntry;
 use model::ImageHead;
 use model::constants;
@@ -16,15 +15,6 @@ ghost use Rattle.model.specs.Images.{floorOfBytes, floorBytes, imageEntryBytes}
 ghost use Rattle.format_image_writer.specs.Heads.{headBytes, frameBytes, pairBytes, pointBytes};
 
 // ---- rows, from a place
-
-// Stores a floor in the 8 bytes from k.
-pub fn put_floor(out: &mut [u8], k: usize, f: Floor)
-    requires { ⌜ k + floorRow ≤ length (now out) ⌝ }
-    ensures { λ r. ⌜ now (out .exit) ≡ written (now (out .entry)) k (floorBytes f) ⌝ }
-{
-    format_numbers::write_u32(out, k, f.client);
-    format_numbers::write_u32(out, k + 4, f.floor);
-}
 
 // Stores a completion record in the 20 bytes from k.
 fn put_entry(out: &mut [u8], k: usize, e: ImageEntry)
@@ -139,8 +129,8 @@ pub fn write_floors(out: &mut [u8], table: &[u8], n: usize)
 {
     let mut i = 0;
     while i < n {
-        let f = format_image_rows::floor_from(table, FLOOR_ROW * i);
-        put_floor(out, LEAST_IMAGE + FLOOR_ROW * i, f);
+        let f = format_floors::floor_from(table, FLOOR_ROW * i);
+        format_floors::put_floor(out, LEAST_IMAGE + FLOOR_ROW * i, f);
         i += 1;
     }
 }

@@ -17,7 +17,7 @@ pub fn client_place(s: &[u8], at: usize, n: usize, x: u32) -> usize
 {
     let mut i = 0;
     while i < n {
-        let f = format_image_rows::floor_from(s, at + FLOOR_ROW * i);
+        let f = format_floors::floor_from(s, at + FLOOR_ROW * i);
         if f.client == x {
             return i;
         }
@@ -34,7 +34,7 @@ pub fn floor_at(s: &[u8], at: usize, n: usize, i: usize) -> u32
     if n <= i {
         return 0;
     }
-    let f = format_image_rows::floor_from(s, at + FLOOR_ROW * i);
+    let f = format_floors::floor_from(s, at + FLOOR_ROW * i);
     f.floor
 }
 

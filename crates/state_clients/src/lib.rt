@@ -177,7 +177,7 @@ pub fn merge(s: &mut [u8], image: &[u8], n: usize)
 {
     let mut i = 0;
     while i < n {
-        let f = format_image_rows::floor_from(image, LEAST_IMAGE + FLOOR_ROW * i);
+        let f = format_floors::floor_from(image, LEAST_IMAGE + FLOOR_ROW * i);
         raise(s, f.client, f.floor);
         i += 1;
     }
@@ -191,7 +191,7 @@ pub fn merged_count(s: &[u8], image: &[u8], n: usize) -> usize
     let mut count = state::clients_of(s);
     let mut i = 0;
     while i < n {
-        let f = format_image_rows::floor_from(image, LEAST_IMAGE + FLOOR_ROW * i);
+        let f = format_floors::floor_from(image, LEAST_IMAGE + FLOOR_ROW * i);
         i += 1;
         if !is_known(s, f.client) {
             count += 1;

@@ -19,7 +19,7 @@ pub fn row(s: &[u8], i: usize) -> Floor
     requires { ⌜ Canonical (now s) × (i < length (load (now s) .floors)) ⌝ }
     ensures { λ r. ⌜ r ≡ getD (load (now (s .entry)) .floors) i noFloor ⌝ }
 {
-    format_image_rows::floor_from(s, FLOORS_START + FLOOR_ROW * i)
+    format_floors::floor_from(s, FLOORS_START + FLOOR_ROW * i)
 }
 
 // Replaces the row of index i.
@@ -27,7 +27,7 @@ pub fn set_row(s: &mut [u8], i: usize, f: Floor)
     requires { ⌜ Canonical (now s) × (i < length (load (now s) .floors)) ⌝ }
     ensures { λ r. ⌜ now (s .exit) ≡ stored (now (s .entry)) (withFloors (set (load (now (s .entry)) .floors) i f) (load (now (s .entry)))) ⌝ }
 {
-    format_image_writer::put_floor(s, FLOORS_START + FLOOR_ROW * i, f);
+    format_floors::put_floor(s, FLOORS_START + FLOOR_ROW * i, f);
 }
 
 // Adds a row behind the last.
@@ -36,7 +36,7 @@ pub fn add_row(s: &mut [u8], f: Floor)
     ensures { λ r. ⌜ now (s .exit) ≡ stored (now (s .entry)) (withFloors (load (now (s .entry)) .floors ++ (f ∷ [])) (load (now (s .entry)))) ⌝ }
 {
     let n = state_rows::clients_in(s);
-    format_image_writer::put_floor(s, FLOORS_START + FLOOR_ROW * (n as usize), f);
+    format_floors::put_floor(s, FLOORS_START + FLOOR_ROW * (n as usize), f);
     state_rows::put_clients(s, n + 1);
 }
 
@@ -45,7 +45,7 @@ pub fn drop_row(s: &mut [u8], n: usize)
     requires { ⌜ Canonical (now s) × (length (load (now s) .floors) ≡ suc n) ⌝ }
     ensures { λ r. ⌜ now (s .exit) ≡ stored (now (s .entry)) (withFloors (take n (load (now (s .entry)) .floors)) (load (now (s .entry)))) ⌝ }
 {
-    format_image_writer::put_floor(
+    format_floors::put_floor(
         s,
         FLOORS_START + FLOOR_ROW * n,
         Floor {

@@ -1,5 +1,5 @@
 // A server's state in its buffer: the counts of its head, and the rows of its tables, each at its place. The plan's entries are read by
-// `format_commands`, the clients' rows (floors) by `format_image_rows`. The module `state` reads and stores the parts of a state.
+// `format_commands`, the clients' rows by `format_floors`. The module `state` reads and stores the parts of a state.
 pub mod state;
 
 use model::Command;

@@ -291,7 +291,7 @@ pub fn floors_ok(s: &[u8], at: usize, n: usize) -> bool
 {
     let mut i = 0;
     while i < n {
-        if !format_image_rows::floor_ok(s, at + FLOOR_ROW * i) {
+        if !format_floors::floor_ok(s, at + FLOOR_ROW * i) {
             return false;
         }
         i += 1;
@@ -306,7 +306,7 @@ pub fn clients_ascend(s: &[u8], at: usize, n: usize) -> bool
 {
     let mut i = 0;
     while i + 1 < n {
-        if !format_image_rows::client_before(s, at + FLOOR_ROW * i) {
+        if !format_floors::client_before(s, at + FLOOR_ROW * i) {
             return false;
         }
         i += 1;

@@ -42,7 +42,7 @@ fn place_by(s: &[u8], n: usize, x: u32, hint: usize) -> usize
     ensures { λ r. ⌜ r ≡ placeOf x (rows floorOfBytes floorRow n (drop floorsStart (now (s .entry)))) ⌝ }
 {
     if hint < n {
-        let f = format_image_rows::floor_from(s, FLOORS_START + FLOOR_ROW * hint);
+        let f = format_floors::floor_from(s, FLOORS_START + FLOOR_ROW * hint);
         if f.client == x {
             return hint;
         }
@@ -77,7 +77,7 @@ fn record_slot(s: &[u8], n: usize, size: u64, hint: usize, k: usize) -> usize
     }
     let i = place_by(s, n, r.command.client, hint);
     let floor = floors::floor_at(s, FLOORS_START, n, i);
-    if !format_image_rows::in_window(floor, r.command.call) {
+    if !format_floors::in_window(floor, r.command.call) {
         return RECORD_COUNT;
     }
     constants::CALL_WINDOW * i + floors::call_above(r.command.call, floor)
@@ -94,7 +94,7 @@ fn hints_of(s: &[u8], n: usize) -> [u8; 256]
     let mut hints = [0u8; 256];
     let mut i = 0;
     while i < n {
-        let f = format_image_rows::floor_from(s, FLOORS_START + FLOOR_ROW * i);
+        let f = format_floors::floor_from(s, FLOORS_START + FLOOR_ROW * i);
         let j = (f.client % 256) as usize;
         hints[j] = i as u8;
         i += 1;

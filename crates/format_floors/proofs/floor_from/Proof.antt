@@ -1,9 +1,9 @@
--- `format_image_rows::floor_from` meets its contract.
+-- `format_floors::floor_from` meets its contract.
 -- Assumes nothing.
-use Rattle.format_image_rows.proofs.Rows.{floor-drop}
+use Rattle.format_floors.proofs.Rows.{floor-drop}
 use borrow.Author.Needs.{needs}
-use Rattle.format_image_rows.proofs.floor_from.Statement.{statement}
-use Rattle.format_image_rows.proofs.floor_from.Tie as tie
+use Rattle.format_floors.proofs.floor_from.Statement.{statement}
+use Rattle.format_floors.proofs.floor_from.Tie as tie
 
 returns : tie.Need-returns
 returns c =

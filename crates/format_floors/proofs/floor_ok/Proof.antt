@@ -1,9 +1,9 @@
--- `format_image_rows::floor_ok` meets its contract.
+-- `format_floors::floor_ok` meets its contract.
 -- Assumes nothing.
 use Rattle.model.specs.Images.{floorOk}
 use borrow.Author.Needs.{needs}
-use Rattle.format_image_rows.proofs.floor_ok.Statement.{statement}
-use Rattle.format_image_rows.proofs.floor_ok.Tie as tie
+use Rattle.format_floors.proofs.floor_ok.Statement.{statement}
+use Rattle.format_floors.proofs.floor_ok.Tie as tie
 
 returns : tie.Need-returns
 unfolding floorOk

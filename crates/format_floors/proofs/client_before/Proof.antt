@@ -1,8 +1,8 @@
--- `format_image_rows::client_before` meets its contract.
+-- `format_floors::client_before` meets its contract.
 -- Assumes nothing.
 use borrow.Author.Needs.{needs}
-use Rattle.format_image_rows.proofs.client_before.Statement.{statement}
-use Rattle.format_image_rows.proofs.client_before.Tie as tie
+use Rattle.format_floors.proofs.client_before.Statement.{statement}
+use Rattle.format_floors.proofs.client_before.Tie as tie
 
 returns : tie.Need-returns
 returns c = rw (c .before .before .floor-from2 .ensures, c .before .before .before .floor-from .ensures)

@@ -1,10 +1,10 @@
--- `format_image_writer::put_floor` meets its contract.
+-- `format_floors::put_floor` meets its contract.
 -- Assumes nothing.
 use Rattle.model.specs.Images.{floorBytes}
-use Rattle.format_image_writer.proofs.Runs.{two-runs}
+use Rattle.format_floors.proofs.Rows.{two-runs}
 use borrow.Author.Needs.{needs}
-use Rattle.format_image_writer.proofs.put_floor.Statement.{statement}
-use Rattle.format_image_writer.proofs.put_floor.Tie as tie
+use Rattle.format_floors.proofs.put_floor.Statement.{statement}
+use Rattle.format_floors.proofs.put_floor.Tie as tie
 
 returns : tie.Need-returns
 unfolding floorBytes

@@ -1,9 +1,9 @@
--- `format_image_rows::in_window` meets its contract.
+-- `format_floors::in_window` meets its contract.
 -- Assumes nothing.
 use Rattle.model.specs.Images.{inWindow}
 use borrow.Author.Needs.{needs}
-use Rattle.format_image_rows.proofs.in_window.Statement.{statement}
-use Rattle.format_image_rows.proofs.in_window.Tie as tie
+use Rattle.format_floors.proofs.in_window.Statement.{statement}
+use Rattle.format_floors.proofs.in_window.Tie as tie
 
 returns : tie.Need-returns
 unfolding inWindow

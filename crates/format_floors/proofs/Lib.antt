@@ -1,0 +1,2 @@
+-- Laws that the proofs of `format_floors` cite.
+pub mod Rows
