@@ -16,7 +16,7 @@ pub fn floor_from(s: &[u8], k: usize) -> Floor
 {
     Floor {
         client: format_numbers::read_u32(s, k),
-        floor: format_numbers::read_u32(s, k + 4),
+        floor: format_numbers::read_u32(s, k + constants::FLOOR_NUMBER),
     }
 }
 
@@ -26,7 +26,7 @@ pub fn put_floor(out: &mut [u8], k: usize, f: Floor)
     ensures { λ r. ⌜ now (out .exit) ≡ written (now (out .entry)) k (floorBytes f) ⌝ }
 {
     format_numbers::write_u32(out, k, f.client);
-    format_numbers::write_u32(out, k + 4, f.floor);
+    format_numbers::write_u32(out, k + constants::FLOOR_NUMBER, f.floor);
 }
 
 // The floor from k: client and floor are from 1.

@@ -61,12 +61,9 @@ pub fn framed(s: &[u8]) -> bool
     requires { ⌜ leastImage ≤ length (now s) ⌝ }
     ensures { λ r. ⌜ r ≡ imageFramed (now (s .entry)) ⌝ }
 {
+    let magic = format_numbers::starts_with(s, constants::IMAGE_MAGIC);
     let zeros = format_numbers::zeros3_at(s, constants::IMAGE_ZEROS);
-    (s[0] == constants::IMAGE_MAGIC[0])
-        & ((s[1] == constants::IMAGE_MAGIC[1])
-            & ((s[2] == constants::IMAGE_MAGIC[2])
-                & ((s[3] == constants::IMAGE_MAGIC[3])
-                    & ((s[constants::IMAGE_ZERO] == 0) & zeros))))
+    magic & ((s[constants::IMAGE_ZERO] == 0) & zeros)
 }
 
 pub fn head_ok(h: ImageHead) -> bool

@@ -1,5 +1,4 @@
 -- Runs of stores, one after the other, as one; and the whole image.
---     five-runs               of 4 bytes each
 --     head-parts              the bytes before the tables, in three parts
 --     head-image              and those of an image, by its head
 --     rows-next               a row stored behind rows
@@ -12,7 +11,6 @@ use mathlib.Core.List.{List, [], _∷_, _++_}
 use native.Mathlib.Omega.{arith}
 use lib.ListN.{length, drop}
 use Rattle.model.specs.declared.ImageHead.{ImageHead}
-use Rattle.model.specs.Numbers.{le32, quad}
 use Rattle.model.specs.Tables.{rows, bytesOf, written}
 use Rattle.model.specs.Limits.{leastImage, floorRow, entryRow}
 use Rattle.model.specs.Images.{Image, imageAt, imageHeadBytes, imageBytes, imageLength, floorOfBytes, floorBytes, imageEntryOf, imageEntryBytes}
@@ -22,15 +20,6 @@ use Rattle.model_laws.proofs.Written.{length-written, written-none, written-app
 use Rattle.model_laws.proofs.Tables.{length-rows, rows-snoc, bytesOf-append, bytesOf-one, length-bytesOf}
 use Rattle.model_laws.proofs.Images.{floorCodec, image-length}
 use Rattle.format_image_writer.specs.Heads.{headBytes, frameBytes, pairBytes, pointBytes}
-
-pub five-runs : (s : List ℕ) (k v w x y a b c d : ℕ)
-    → written (written (written (written (written s k (le32 v)) (k + 4) (le32 w)) (k + 8) (le32 x)) (k + 12) (le32 y)) (k + 16) (quad a b c d)
-    ≡ written s k (le32 v ++ (le32 w ++ (le32 x ++ (le32 y ++ quad a b c d))))
-five-runs s k v w x y a b c d =
-    ap (λ (z : List ℕ). written (written (written z (k + 8) (le32 x)) (k + 12) (le32 y)) (k + 16) (quad a b c d)) (run-behind s k (le32 v) (le32 w) refl refl)
-    ∙ ap (λ (z : List ℕ). written (written z (k + 12) (le32 y)) (k + 16) (quad a b c d)) (run-behind s k (le32 v ++ le32 w) (le32 x) refl refl)
-    ∙ ap (λ (z : List ℕ). written z (k + 16) (quad a b c d)) (run-behind s k (le32 v ++ (le32 w ++ le32 x)) (le32 y) refl refl)
-    ∙ run-behind s k (le32 v ++ (le32 w ++ (le32 x ++ le32 y))) (quad a b c d) refl refl
 
 pub head-parts : (h : ImageHead) → headBytes h ≡ frameBytes h ++ (pairBytes (h .floors) (h .entries) ++ pointBytes (h .value) (h .quality))
 unfolding headBytes frameBytes pairBytes pointBytes imageHeadBytes imageAt

@@ -26,12 +26,9 @@ pub fn head_ok(log: &[u8]) -> bool
     if log.len() < constants::HEAD_SIZE {
         return false;
     }
+    let magic = format_numbers::starts_with(log, constants::LOG_MAGIC);
     let zeros = format_numbers::zeros3_at(log, constants::HEAD_ZEROS);
-    (log[0] == constants::LOG_MAGIC[0])
-        & ((log[1] == constants::LOG_MAGIC[1])
-            & ((log[2] == constants::LOG_MAGIC[2])
-                & ((log[3] == constants::LOG_MAGIC[3])
-                    & ((log[constants::HEAD_SERVER] <= constants::LAST_SERVER) & zeros))))
+    magic & ((log[constants::HEAD_SERVER] <= constants::LAST_SERVER) & zeros)
 }
 
 pub fn head_server(log: &[u8]) -> u8

@@ -18,7 +18,7 @@ use model::constants::WORD;
 ghost use mathlib.Core.Path.{_≡_};
 ghost use Prim.Native.Nat.{_+_, _*_, _≤_, _<_, max};
 ghost use lib.ListN.{length};
-ghost use Rattle.model.specs.Numbers.{join32, word, le32At, le32, le64At, le64, signedAt, signed32, flip, zeroAt, zeros3At, quad};
+ghost use Rattle.model.specs.Numbers.{join32, word, le32At, le32, le64At, le64, signedAt, signed32, flip, zeroAt, zeros3At, quad, startsWith};
 ghost use Rattle.model.specs.Tables.{written};
 ghost use Rattle.model.specs.Plan.{inRange};
 ghost use Rattle.model_laws.specs.Bytes.{part};
@@ -129,6 +129,14 @@ pub fn zeros3_at(s: &[u8], at: usize) -> bool
     ensures { λ r. ⌜ r ≡ zeros3At (now (s .entry)) at ⌝ }
 {
     (s[at] == 0) & ((s[at + 1] == 0) & (s[at + 2] == 0))
+}
+
+// The first four bytes are those of m.
+pub fn starts_with(s: &[u8], m: [u8; 4]) -> bool
+    requires { ⌜ 4 ≤ length (now s) ⌝ }
+    ensures { λ r. ⌜ r ≡ startsWith (now (s .entry)) m ⌝ }
+{
+    (s[0] == m[0]) & ((s[1] == m[1]) & ((s[2] == m[2]) & (s[3] == m[3])))
 }
 
 // All bytes of src, from the front of out.

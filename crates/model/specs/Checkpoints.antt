@@ -16,7 +16,7 @@ use Rattle.model.specs.declared.Point.{Point}
 use Rattle.model.specs.declared.Completion.{Completion}
 use Rattle.model.specs.declared.ImageEntry.{ImageEntry}
 use Rattle.model.specs.Choice.{pick, orElse, _if_else_, passed, isPassed}
-use Rattle.model.specs.Numbers.{byteAt, le32At, le32, le64, quad}
+use Rattle.model.specs.Numbers.{byteAt, le32At, le32, le64, quad, startsWith}
 use Rattle.model.specs.Refusals.{tooShort, notSynced, badLog, unknown, unsound, noRefusal}
 use Rattle.model.specs.Limits.{stateSize, headSize, planSize, pointCount, clientCount, recordCount, floorRow, entryRow, executedSize, takeHead, leastImage}
 use Rattle.model.specs.Limits.{checkpointSize, checkpointPairs, checkpointHead, checkpointPoint, checkpointRecord}
@@ -156,10 +156,7 @@ restored s =
 unfoldable pub checkpointFramed : List ℕ → Bool
 checkpointFramed s =
     leb checkpointHead (length s)
-    && (eqb (byteAt s 0) (byteAt checkpointMagic 0)
-    && (eqb (byteAt s 1) (byteAt checkpointMagic 1)
-    && (eqb (byteAt s 2) (byteAt checkpointMagic 2)
-    && (eqb (byteAt s 3) (byteAt checkpointMagic 3)
+    && (startsWith s checkpointMagic
     && (eqb (le32At s checkpointPairs) planPart
     && (eqb (le32At s 16) planSize
     && (eqb (le32At s 20) pointsPart
@@ -169,7 +166,7 @@ checkpointFramed s =
     && (eqb (le32At s 36) (recordsPart (clientsOf s))
     && (eqb (recordsSizeIn s) (checkpointRecord * recordsOf s)
     && (leb (clientsOf s) clientCount
-    && (leb (recordsOf s) recordCount && leb (recordsPart (clientsOf s) + checkpointRecord * recordsOf s) (length s)))))))))))))))
+    && (leb (recordsOf s) recordCount && leb (recordsPart (clientsOf s) + checkpointRecord * recordsOf s) (length s))))))))))))
 
 -- the state that a checkpoint gives; none where it is off its layout, or the state unsound
 unfoldable pub checkpointState : List ℕ → Option State

@@ -14,7 +14,7 @@ use Rattle.model.specs.declared.Floor.{Floor}
 use Rattle.model.specs.declared.ImageEntry.{ImageEntry}
 use Rattle.model.specs.declared.ImageHead.{ImageHead}
 use Rattle.model.specs.Choice.{pick}
-use Rattle.model.specs.Numbers.{byteAt, le32At, le32, signedAt, signed32, zeroAt, zeros3At, quad}
+use Rattle.model.specs.Numbers.{byteAt, le32At, le32, signedAt, signed32, zeroAt, zeros3At, quad, startsWith}
 use Rattle.model.specs.Tables.{rows, everyRow, bytesOf, every}
 use Rattle.model.specs.Plan.{inRange}
 use Rattle.model.specs.Packets.{idOk, commandOk, outcomeOk}
@@ -135,10 +135,7 @@ imageAt h s =
 
 -- 4D 56 49 31, and the zero bytes
 unfoldable pub imageFramed : List ℕ → Bool
-imageFramed s =
-    eqb (byteAt s 0) (byteAt imageMagic 0)
-    && (eqb (byteAt s 1) (byteAt imageMagic 1)
-    && (eqb (byteAt s 2) (byteAt imageMagic 2) && (eqb (byteAt s 3) (byteAt imageMagic 3) && (zeroAt s 7 && zeros3At s 45))))
+imageFramed s = startsWith s imageMagic && (zeroAt s 7 && zeros3At s 45)
 
 -- three parts without gaps from byte 40 to the slice's end: 8 bytes, 8 a floor, 20 a record
 unfoldable pub imageParts : ImageHead → List ℕ → Bool

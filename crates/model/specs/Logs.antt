@@ -11,7 +11,7 @@ use Rattle.model.specs.declared.Notice.{Notice}
 use Rattle.model.specs.declared.Give.{Give}
 use Rattle.model.specs.declared.Release.{Release}
 use Rattle.model.specs.Choice.{pick}
-use Rattle.model.specs.Numbers.{byteAt, le32At, le32, signedAt, signed32, zeroAt, zeros3At, quad}
+use Rattle.model.specs.Numbers.{byteAt, le32At, le32, signedAt, signed32, zeroAt, zeros3At, quad, startsWith}
 use Rattle.model.specs.Packets.{idOk, doneOk, commandOk, outcomeOk, noticeAt, noticeOk, noticeBytes}
 use Rattle.model.specs.Images.{Image, parseImage, imageBytes, imageLength}
 use Rattle.model.specs.Limits.{lastPoint, lastServer, leastImage, greatestImage, headSize}
@@ -32,10 +32,7 @@ headServer s = byteAt s 4
 unfoldable pub headOk : List ℕ → Bool
 headOk s =
     leb headSize (length s)
-    && (eqb (byteAt s 0) (byteAt logMagic 0)
-    && (eqb (byteAt s 1) (byteAt logMagic 1)
-    && (eqb (byteAt s 2) (byteAt logMagic 2)
-    && (eqb (byteAt s 3) (byteAt logMagic 3) && (leb (headServer s) lastServer && zeros3At s 5)))))
+    && (startsWith s logMagic && (leb (headServer s) lastServer && zeros3At s 5))
 
 -- ---- records
 

@@ -68,3 +68,7 @@ zeros3At s i = zeroAt s i && (zeroAt s (i + 1) && zeroAt s (i + 2))
 -- four bytes as written
 abbrev pub quad : ℕ → ℕ → ℕ → ℕ → List ℕ
 quad a b c d = a ∷ b ∷ c ∷ d ∷ []
+
+-- the first four bytes are those of m
+abbrev pub startsWith : List ℕ → List ℕ → Bool
+startsWith s m = eqb (byteAt s 0) (byteAt m 0) && (eqb (byteAt s 1) (byteAt m 1) && (eqb (byteAt s 2) (byteAt m 2) && eqb (byteAt s 3) (byteAt m 3)))

@@ -14,7 +14,7 @@ use Rattle.model.specs.declared.Floor.{Floor}
 use Rattle.model.specs.declared.Point.{Point}
 use Rattle.model.specs.declared.Completion.{Completion}
 use Rattle.model.specs.Choice.{pick}
-use Rattle.model.specs.Numbers.{half, byteAt, le32At, le32, le64At, le64, signedAt, signed32, zeroAt, zeros3At, quad}
+use Rattle.model.specs.Numbers.{half, byteAt, le32At, le32, le64At, le64, signedAt, signed32, zeroAt, zeros3At, quad, startsWith}
 use Rattle.model.specs.Tables.{rows, everyRow, bytesOf, every, zeros}
 use Rattle.model.specs.Plan.{planEntryOf, planBytes, planRowOk, entryAt, inRange}
 use Rattle.model.specs.Packets.{idOk, commandOk, outcomeOk}
@@ -269,16 +269,13 @@ endsFrom last (r ∷ rs) = leb last (r .end) && endsFrom (r .end) rs
 -- the magic, the zero bytes, the counts and the rows past them
 unfoldable pub stateFramed : List ℕ → Bool
 stateFramed s =
-    eqb (byteAt s 0) (byteAt stateMagic 0)
-    && (eqb (byteAt s 1) (byteAt stateMagic 1)
-    && (eqb (byteAt s 2) (byteAt stateMagic 2)
-    && (eqb (byteAt s 3) (byteAt stateMagic 3)
+    startsWith s stateMagic
     && (zeros3At s 5
     && (eqb (le32At s 20) 0
     && (leb (clientsIn s) clientCount
     && (leb (recordsIn s) recordCount
     && (zeros (floorRow * (clientCount - clientsIn s)) (drop (floorsStart + floorRow * clientsIn s) s)
-    && zeros (recordRow * (recordCount - recordsIn s)) (drop (recordsStart + recordRow * recordsIn s) s)))))))))
+    && zeros (recordRow * (recordCount - recordsIn s)) (drop (recordsStart + recordRow * recordsIn s) s))))))
 
 -- the zero byte of each point's row
 unfoldable pub pointRowOk : List ℕ → Bool

@@ -17,10 +17,10 @@ use lib.Seq.{take-append-seam, take-append-add}
 use lib.Dec.{eqb, leb, ltb}
 use borrow.Author.Tests.{leb-true}
 use Rattle.model.specs.declared.PlanEntry.{PlanEntry}
-use Rattle.model.specs.Numbers.{word, byteAt, zeros3At}
+use Rattle.model.specs.Numbers.{word, zeros3At, startsWith}
 use Rattle.model.specs.Limits.{headSize, lastServer}
 use Rattle.model.specs.Tables.{keep}
-use Rattle.model.specs.Logs.{Entry, recordSize, headBytes, headServer, headOk, entriesBytes}
+use Rattle.model.specs.Logs.{logMagic, Entry, recordSize, headBytes, headServer, headOk, entriesBytes}
 use Rattle.model.specs.States.{State}
 use Rattle.model.specs.Apply.{apply, founded, replayFrom}
 use Rattle.model.specs.Operations.{recoveredAll, recoveredOn, recoveredState}
@@ -112,11 +112,7 @@ crash-state plan n s h es c d l =
 pub head-limit : (s : List ℕ) → headOk s ≡ true → headServer s ≤ lastServer
 unfolding headOk
 head-limit s e =
-    leb-true _ _
-    (joined-all
-    (leb headSize (length s) ∷ eqb (byteAt s 0) 87 ∷ eqb (byteAt s 1) 76 ∷ eqb (byteAt s 2) 71 ∷ eqb (byteAt s 3) 49 ∷ leb (headServer s) lastServer ∷ zeros3At s 5 ∷ [])
-    e
-    .1 .1 .1 .1 .1 .0)
+    leb-true _ _ (joined-all (leb headSize (length s) ∷ startsWith s logMagic ∷ leb (headServer s) lastServer ∷ zeros3At s 5 ∷ []) e .1 .1 .0)
 
 walked-end : (s : List ℕ) (es : List Entry) → headSize ≤ length s → Walked headSize (drop headSize s) es → lastEnd headSize es ≤ length s
 walked-end s es l w =

@@ -15,7 +15,7 @@ use lib.Dec.{eqb, leb, lit<}
 use borrow.Author.Tests.{eqb-true, eq-eqb, leb-true, le-leb}
 use Rattle.model.specs.declared.Point.{Point}
 use Rattle.model.specs.declared.Completion.{Completion}
-use Rattle.model.specs.Numbers.{byteAt, le32At, le32, le64, quad}
+use Rattle.model.specs.Numbers.{le32At, le32, le64, quad, startsWith}
 use Rattle.model.specs.Tables.{bytesOf}
 use Rattle.model.specs.Plan.{planBytes}
 use Rattle.model.specs.Images.{floorBytes}
@@ -37,10 +37,7 @@ use Rattle.model_laws.proofs.Fronts.{point-front-width, point-front-byt
 
 -- what the test of the frame asks, one by one
 pub record Framed (s : List ℕ) : Type 0 where
-  pub at0 : byteAt s 0 ≡ 87
-  pub at1 : byteAt s 1 ≡ 76
-  pub at2 : byteAt s 2 ≡ 71
-  pub at3 : byteAt s 3 ≡ 50
+  pub magic : startsWith s checkpointMagic ≡ true
   pub plan : le32At s 12 ≡ planPart
   pub plan-size : le32At s 16 ≡ planSize
   pub points : le32At s 20 ≡ pointsPart
@@ -55,8 +52,7 @@ pub record Framed (s : List ℕ) : Type 0 where
 
 abbrev framedTests : List ℕ → List Bool
 framedTests s =
-    leb checkpointHead (length s) ∷ eqb (byteAt s 0) (byteAt checkpointMagic 0) ∷ eqb (byteAt s 1) (byteAt checkpointMagic 1) ∷ eqb (byteAt s 2) (byteAt checkpointMagic 2)
-    ∷ eqb (byteAt s 3) (byteAt checkpointMagic 3) ∷ eqb (le32At s 12) planPart ∷ eqb (le32At s 16) planSize ∷ eqb (le32At s 20) pointsPart
+    leb checkpointHead (length s) ∷ startsWith s checkpointMagic ∷ eqb (le32At s 12) planPart ∷ eqb (le32At s 16) planSize ∷ eqb (le32At s 20) pointsPart
     ∷ eqb (le32At s 24) (checkpointPoint * pointCount) ∷ eqb (le32At s 28) clientsPart ∷ eqb (le32At s 32) (floorRow * clientsOf s)
     ∷ eqb (le32At s 36) (recordsPart (clientsOf s)) ∷ eqb (le32At s 40) (checkpointRecord * recordsOf s) ∷ leb (clientsOf s) clientCount ∷ leb (recordsOf s) recordCount
     ∷ leb (recordsPart (clientsOf s) + checkpointRecord * recordsOf s) (length s) ∷ []
@@ -65,14 +61,11 @@ pub framed-is : (s : List ℕ) → checkpointFramed s ≡ true → Framed s
 unfolding checkpointFramed
 framed-is s e =
     let t = joined-all (framedTests s) e in
-    let u = t .1 .1 .1 .1 .1 .1 .1 in
+    let u = t .1 .1 .1 .1 in
     record {
-      at0 = eqb-true (byteAt s 0) (byteAt checkpointMagic 0) (t .1 .0);
-      at1 = eqb-true (byteAt s 1) (byteAt checkpointMagic 1) (t .1 .1 .0);
-      at2 = eqb-true (byteAt s 2) (byteAt checkpointMagic 2) (t .1 .1 .1 .0);
-      at3 = eqb-true (byteAt s 3) (byteAt checkpointMagic 3) (t .1 .1 .1 .1 .0);
-      plan = eqb-true (le32At s 12) planPart (t .1 .1 .1 .1 .1 .0);
-      plan-size = eqb-true (le32At s 16) planSize (t .1 .1 .1 .1 .1 .1 .0);
+      magic = t .1 .0;
+      plan = eqb-true (le32At s 12) planPart (t .1 .1 .0);
+      plan-size = eqb-true (le32At s 16) planSize (t .1 .1 .1 .0);
       points = eqb-true (le32At s 20) pointsPart (u .0);
       points-size = eqb-true (le32At s 24) (checkpointPoint * pointCount) (u .1 .0);
       clients = eqb-true (le32At s 28) clientsPart (u .1 .1 .0);
@@ -90,37 +83,28 @@ is-framed s d =
     all-joined (framedTests s) (
       le-leb checkpointHead (length s) (omega (arith, d .whole)),
       (
-        eq-eqb (byteAt s 0) (byteAt checkpointMagic 0) (d .at0),
+        d .magic,
         (
-          eq-eqb (byteAt s 1) (byteAt checkpointMagic 1) (d .at1),
+          eq-eqb (le32At s 12) planPart (d .plan),
           (
-            eq-eqb (byteAt s 2) (byteAt checkpointMagic 2) (d .at2),
+            eq-eqb (le32At s 16) planSize (d .plan-size),
             (
-              eq-eqb (byteAt s 3) (byteAt checkpointMagic 3) (d .at3),
+              eq-eqb (le32At s 20) pointsPart (d .points),
               (
-                eq-eqb (le32At s 12) planPart (d .plan),
+                eq-eqb (le32At s 24) (checkpointPoint * pointCount) (d .points-size),
                 (
-                  eq-eqb (le32At s 16) planSize (d .plan-size),
+                  eq-eqb (le32At s 28) clientsPart (d .clients),
                   (
-                    eq-eqb (le32At s 20) pointsPart (d .points),
+                    eq-eqb (le32At s 32) (floorRow * clientsOf s) (d .clients-size),
                     (
-                      eq-eqb (le32At s 24) (checkpointPoint * pointCount) (d .points-size),
+                      eq-eqb (le32At s 36) (recordsPart (clientsOf s)) (d .records),
                       (
-                        eq-eqb (le32At s 28) clientsPart (d .clients),
+                        eq-eqb (le32At s 40) (checkpointRecord * recordsOf s) (d .records-size),
                         (
-                          eq-eqb (le32At s 32) (floorRow * clientsOf s) (d .clients-size),
+                          le-leb (clientsOf s) clientCount (d .few-clients),
                           (
-                            eq-eqb (le32At s 36) (recordsPart (clientsOf s)) (d .records),
-                            (
-                              eq-eqb (le32At s 40) (checkpointRecord * recordsOf s) (d .records-size),
-                              (
-                                le-leb (clientsOf s) clientCount (d .few-clients),
-                                (
-                                  le-leb (recordsOf s) recordCount (d .few-records),
-                                  (le-leb (recordsPart (clientsOf s) + checkpointRecord * recordsOf s) (length s) (d .whole), tt),
-                                ),
-                              ),
-                            ),
+                            le-leb (recordsOf s) recordCount (d .few-records),
+                            (le-leb (recordsPart (clientsOf s) + checkpointRecord * recordsOf s) (length s) (d .whole), tt),
                           ),
                         ),
                       ),
@@ -300,13 +284,9 @@ module _ (st : State) where
         le32-digits (checkpointRecord * length (st .records)),
       )
 
-      magic-at :
-          (byteAt (checkpointBytes st ++ rest) 0 ≡ 87)
-          × (byteAt (checkpointBytes st ++ rest) 1 ≡ 76)
-          × (byteAt (checkpointBytes st ++ rest) 2 ≡ 71)
-          × (byteAt (checkpointBytes st ++ rest) 3 ≡ 50)
+      magic-at : startsWith (checkpointBytes st ++ rest) checkpointMagic ≡ true
       unfolding checkpointBytes
-      magic-at = (refl, refl, refl, refl)
+      magic-at = refl
 
       pub front-framed : Framed (checkpointBytes st ++ rest)
       front-framed =
@@ -314,12 +294,8 @@ module _ (st : State) where
           let k : recordsOf (checkpointBytes st ++ rest) ≡ length (st .records) = records-at in
           let l : length (checkpointBytes st ++ rest) ≡ length (checkpointBytes st) + length rest = length-append (checkpointBytes st) rest in
           let p = pairs-at in
-          let m = magic-at in
           record {
-            at0 = m .0;
-            at1 = m .1;
-            at2 = m .2;
-            at3 = m .3;
+            magic = magic-at;
             plan = p .0;
             plan-size = p .1;
             points = p .2;

@@ -20,7 +20,7 @@ use borrow.Author.Tests.{eqb-true, eq-eqb, leb-true, le-leb}
 use Rattle.model.specs.declared.Floor.{Floor}
 use Rattle.model.specs.declared.ImageEntry.{ImageEntry}
 use Rattle.model.specs.declared.ImageHead.{ImageHead}
-use Rattle.model.specs.Numbers.{byteAt, flip, le32At, le32, signedAt, signed32, zeroAt, zeros3At, quad}
+use Rattle.model.specs.Numbers.{byteAt, flip, le32At, le32, signedAt, signed32, zeroAt, zeros3At, quad, startsWith}
 use Rattle.model.specs.Tables.{rows, everyRow, bytesOf}
 use Rattle.model.specs.Images.{Image, floorOfBytes, floorBytes, imageEntryOf, imageEntryBytes, imageHeadOf, imageAt, imageFramed, imageParts}
 use Rattle.model.specs.Images.{imageHeadOk, entryRowOk, imageTablesOk, imageOk, parseImage, imageLength, imageHeadBytes, imageBytes, imageMagic}
@@ -29,7 +29,7 @@ use Rattle.model_laws.specs.Bytes.{Bytes}
 use Rattle.model_laws.specs.Codec.{Codec}
 use Rattle.model_laws.specs.Fits.{FloorFits, ImageEntryFits, ImageFits, imageHead, imageWell, IsImage}
 use Rattle.model_laws.proofs.Tests.{joined-all, all-joined, choose}
-use Rattle.model_laws.proofs.Numbers.{part-join, le32-digits, quad-again, le32-again, le32-is, signed-again, le32-below, signed-below, le32-take}
+use Rattle.model_laws.proofs.Numbers.{part-join, le32-digits, quad-again, starts-again, le32-again, le32-is, signed-again, le32-below, signed-below, le32-take}
 use Rattle.model_laws.proofs.Numbers.{signed-take, flip-flip, zero-at, zeros3-at, bytes-drop, bytes-le32, bytes-append, bytes-quad, bytes-signed32}
 use Rattle.model_laws.proofs.Numbers.{bytes-run}
 use Rattle.model_laws.proofs.Tables.{length-rows, length-bytesOf, bytes-bytesOf, rows-back, everyRow-back, everyRow-true, rows-again, rows-fit}
@@ -447,17 +447,15 @@ module _ (b : List ℕ) (h : Bytes b) (t : Tested b) where
       let n : ℕ = le32At b 36 / entryRow in
       let p = placed (imageHeadOf b) b (t .parts) in
       let f = joined-all
-      (eqb (byteAt b 0) (byteAt imageMagic 0) ∷ eqb (byteAt b 1) (byteAt imageMagic 1) ∷ eqb (byteAt b 2) (byteAt imageMagic 2) ∷ eqb (byteAt b 3) (byteAt imageMagic 3)
-      ∷ zeroAt b 7 ∷ zeros3At b 45 ∷ []) (t .framed) in
-      let z = zeros3-at b 45 (f .1 .1 .1 .1 .1 .0) in
+      (startsWith b imageMagic ∷ zeroAt b 7 ∷ zeros3At b 45 ∷ []) (t .framed) in
+      let z = zeros3-at b 45 (f .1 .1 .0) in
       let l : leastImage ≤ length b = leb-true leastImage (length b) (t .least) in
       let floors : floorRow * length (rows floorOfBytes floorRow m (drop leastImage b)) ≡ floorRow * m = ap (λ (x : ℕ). floorRow * x) (length-rows floorOfBytes floorRow m (drop leastImage b)) in
       let entries : entryRow * length (rows imageEntryOf entryRow n (drop (leastImage + floorRow * m) b)) ≡ entryRow * n = ap (λ (x : ℕ). entryRow * x)
       (length-rows imageEntryOf entryRow n (drop (leastImage + floorRow * m) b)) in
       part-join b 0 4 44
-      (quad-again b 0 (omega arith) (sym (eqb-true (byteAt b 0) (byteAt imageMagic 0) (f .0))) (sym (eqb-true (byteAt b 1) (byteAt imageMagic 1) (f .1 .0)))
-      (sym (eqb-true (byteAt b 2) (byteAt imageMagic 2) (f .1 .1 .0))) (sym (eqb-true (byteAt b 3) (byteAt imageMagic 3) (f .1 .1 .1 .0))))
-      (part-join b 4 4 40 (quad-again b 4 (omega arith) refl refl refl (sym (zero-at b 7 (f .1 .1 .1 .1 .0))))
+      (starts-again b imageMagic (omega arith) (f .0))
+      (part-join b 4 4 40 (quad-again b 4 (omega arith) refl refl refl (sym (zero-at b 7 (f .1 .0))))
       (part-join b 8 4 36 (le32-again b 8 h (omega arith))
       (part-join b 12 4 32 (le32-again b 12 h (omega arith))
       (part-join b 16 4 28 (le32-is b 16 h (omega arith) (sym (p .at16)))

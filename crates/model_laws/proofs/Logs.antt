@@ -29,7 +29,7 @@ use Rattle.model.specs.declared.Executed.{Executed}
 use Rattle.model.specs.declared.Give.{Give}
 use Rattle.model.specs.declared.Release.{Release}
 use Rattle.model.specs.Choice.{pick}
-use Rattle.model.specs.Numbers.{byteAt, flip, le32At, le32, signedAt, signed32, zeroAt, zeros3At, quad}
+use Rattle.model.specs.Numbers.{byteAt, flip, le32At, le32, signedAt, signed32, zeroAt, zeros3At, quad, startsWith}
 use Rattle.model.specs.Tables.{bytesOf, keep, written}
 use Rattle.model.specs.Packets.{noticeAt, noticeOk, noticeBytes}
 use Rattle.model.specs.Images.{Image, parseImage, imageBytes, imageLength}
@@ -42,7 +42,7 @@ use Rattle.model_laws.specs.Bytes.{Bytes, All}
 use Rattle.model_laws.specs.Fits.{ExecutedFits, IsImage, recordFits, recordOk, IsRecord, EntryFrom, EntriesFrom, entriesFrom, lastEnd, Incomplete, Walked}
 use Rattle.model_laws.specs.OneWalk.{walk, entriesOf}
 use Rattle.model_laws.proofs.Tests.{and-left, and-right, joined-all, all-joined, choose}
-use Rattle.model_laws.proofs.Numbers.{part-join, le32-digits, quad-again, le32-again, le32-is, signed-again, le32-below, signed-below, le32-take}
+use Rattle.model_laws.proofs.Numbers.{part-join, le32-digits, quad-again, starts-again, le32-again, le32-is, signed-again, le32-below, signed-below, le32-take}
 use Rattle.model_laws.proofs.Numbers.{flip-flip, zero-at, zeros3-at, bytes-drop, bytes-take, bytes-quad, bytes-le32, bytes-signed32, bytes-run}
 use Rattle.model_laws.proofs.Written.{take-written-run}
 use Rattle.model_laws.proofs.Packets.{notice-at, notice-again, notice-bytes}
@@ -53,8 +53,7 @@ use Rattle.model_laws.proofs.Images.{image-length, image-least, image-l
 -- the tests of a log's head, one by one
 abbrev headTests : List ℕ → List Bool
 headTests s =
-    leb headSize (length s) ∷ eqb (byteAt s 0) (byteAt logMagic 0) ∷ eqb (byteAt s 1) (byteAt logMagic 1) ∷ eqb (byteAt s 2) (byteAt logMagic 2)
-    ∷ eqb (byteAt s 3) (byteAt logMagic 3) ∷ leb (byteAt s 4) lastServer ∷ zeros3At s 5 ∷ []
+    leb headSize (length s) ∷ startsWith s logMagic ∷ leb (byteAt s 4) lastServer ∷ zeros3At s 5 ∷ []
 
 pub head-server : (n : ℕ) (rest : List ℕ) → headServer (headBytes n ++ rest) ≡ n
 unfolding headServer headBytes
@@ -65,7 +64,7 @@ unfolding headOk headBytes headServer zeros3At
 head-back n rest h =
     let s : List ℕ = headBytes n ++ rest in
     all-joined (headTests s)
-    (le-leb headSize (length s) (omega arith), (refl, (refl, (refl, (refl, (le-leb n lastServer h, (refl, tt)))))))
+    (le-leb headSize (length s) (omega arith), (refl, (le-leb n lastServer h, (refl, tt))))
 
 pub head-take : (n : ℕ) (t : List ℕ) (c : ℕ) → headSize ≤ c → take c (headBytes n ++ t) ≡ headBytes n ++ take (c - headSize) t
 unfolding headBytes
@@ -84,10 +83,9 @@ unfolding headOk headBytes headServer
 head-again s e =
     let t = joined-all (headTests s) e in
     let l : headSize ≤ length s = leb-true headSize (length s) (t .0) in
-    let z = zeros3-at s 5 (t .1 .1 .1 .1 .1 .1 .0) in
+    let z = zeros3-at s 5 (t .1 .1 .1 .0) in
     part-join s 0 4 4
-    (quad-again s 0 (omega arith) (sym (eqb-true (byteAt s 0) (byteAt logMagic 0) (t .1 .0))) (sym (eqb-true (byteAt s 1) (byteAt logMagic 1) (t .1 .1 .0)))
-    (sym (eqb-true (byteAt s 2) (byteAt logMagic 2) (t .1 .1 .1 .0))) (sym (eqb-true (byteAt s 3) (byteAt logMagic 3) (t .1 .1 .1 .1 .0))))
+    (starts-again s logMagic (omega arith) (t .1 .0))
     (quad-again s 4 (omega arith) refl (sym (z .0)) (sym (z .1)) (sym (z .2)))
 
 pub head-length : (s : List ℕ) → headOk s ≡ true → headSize ≤ length s

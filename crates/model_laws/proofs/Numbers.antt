@@ -7,7 +7,7 @@
 --     le32-below, le64-below, signed-below  bounds of what is read
 --     bytes-..                              lists of bytes: their parts, what numbers are written to; bytes-run: fields one after the other
 --     zero-at, at-zero, zeros3-at, at-zeros3     zero bytes and their tests
---     part-join, part-quad, quad-again, le32-again, le32-is, le64-again, signed-again     what was read is written again: the same bytes
+--     part-join, part-quad, quad-again, starts-again, le32-again, le32-is, le64-again, signed-again     what was read is written again: the same bytes
 -- Assumes nothing.
 use Prim.Native.Nat.{ℕ, zero, suc, _+_, _-_, _*_, _/_, _%_, _≤_, _<_}
 use mathlib.Core.Path.{_≡_, refl, sym, ap, _∙_}
@@ -19,9 +19,9 @@ use lib.ListN.{length, getD, take, drop}
 use lib.Seq.{getD-drop, getD-take, drop-cons, drop-drop, take-add, drop-at}
 use lib.Dec.{eqb, lit<}
 use borrow.Author.Tests.{eqb-true, eq-eqb}
-use Rattle.model.specs.Numbers.{word, flip, join32, le32At, le32, le64At, le64, signedAt, signed32, zeroAt, zeros3At, quad}
+use Rattle.model.specs.Numbers.{word, flip, join32, le32At, le32, le64At, le64, signedAt, signed32, zeroAt, zeros3At, quad, byteAt, startsWith}
 use Rattle.model_laws.specs.Bytes.{Bytes, All, part, run}
-use Rattle.model_laws.proofs.Tests.{and-left, and-right}
+use Rattle.model_laws.proofs.Tests.{and-left, and-right, joined-all}
 
 -- ---- what was written is read back; a word's top byte is not cut, so that no bound is needed
 
@@ -213,6 +213,13 @@ part-quad s i h =
 pub quad-again : (s : List ℕ) (i : ℕ) {a b c d : ℕ} → i + 4 ≤ length s → a ≡ getD s i 0 → b ≡ getD s (i + 1) 0 → c ≡ getD s (i + 2) 0 → d ≡ getD s (i + 3) 0
     → quad a b c d ≡ part i 4 s
 quad-again s i h p q r t = rw (p, q, r, t) (part-quad s i h)
+
+-- those that a layout starts with
+pub starts-again : (s m : List ℕ) → 4 ≤ length s → startsWith s m ≡ true → quad (byteAt m 0) (byteAt m 1) (byteAt m 2) (byteAt m 3) ≡ part 0 4 s
+starts-again s m h e =
+    let t = joined-all (eqb (byteAt s 0) (byteAt m 0) ∷ eqb (byteAt s 1) (byteAt m 1) ∷ eqb (byteAt s 2) (byteAt m 2) ∷ eqb (byteAt s 3) (byteAt m 3) ∷ []) e in
+    quad-again s 0 h (sym (eqb-true (byteAt s 0) (byteAt m 0) (t .0))) (sym (eqb-true (byteAt s 1) (byteAt m 1) (t .1 .0))) (sym (eqb-true (byteAt s 2) (byteAt m 2) (t .1 .1 .0)))
+    (sym (eqb-true (byteAt s 3) (byteAt m 3) (t .1 .1 .1 .0)))
 
 le32-join : (a b c d : ℕ) → a < 256 → b < 256 → c < 256 → d < 256 → le32 (join32 a b c d) ≡ quad a b c d
 le32-join a b c d ha hb hc hd =

@@ -17,11 +17,11 @@ use Rattle.model.specs.Images.{floorOfBytes, floorBytes}
 use Rattle.model.specs.States.{stateMagic, stateHead, pointRow, recordRow, pointsStart, floorsStart, recordsStart, stateEnd, pointOf, pointBytes, completionOf, completionBytes}
 use Rattle.model.specs.States.{clientsIn, recordsIn, load, padded}
 use Rattle.model.specs.Limits.{headSize, planSize, pointCount, clientCount, recordCount, floorRow, checkpointPoint, checkpointRecord}
-use Rattle.model.specs.Checkpoints.{planPart, pointsPart, clientsPart, recordsPart, pairsBytes, pointFront, recordFront, checkpointBytes, clientsOf, recordsOf}
+use Rattle.model.specs.Checkpoints.{checkpointMagic, planPart, pointsPart, clientsPart, recordsPart, pairsBytes, pointFront, recordFront, checkpointBytes, clientsOf, recordsOf}
 use Rattle.model.specs.Checkpoints.{pointWhole, recordWhole, fronts, restored}
 use Rattle.model_laws.specs.Bytes.{Bytes, All, part}
 use Rattle.model_laws.specs.Fits.{Sound}
-use Rattle.model_laws.proofs.Numbers.{part-join, part-quad, quad-again, le32-is, le32-below, le32-digits, length-le64, zeros3-at}
+use Rattle.model_laws.proofs.Numbers.{part-join, part-quad, quad-again, starts-again, le32-is, le32-below, le32-digits, length-le64, zeros3-at}
 use Rattle.model_laws.proofs.Numbers.{bytes-append, bytes-take, bytes-drop, bytes-quad, bytes-le32, bytes-le64, bytes-run}
 use Rattle.model_laws.proofs.Tables.{length-rows, places, rows-again, everyRow-true, bytes-replicate, all-map}
 use Rattle.model_laws.proofs.Images.{floorCodec}
@@ -218,7 +218,7 @@ module _ (s : List ℕ) where
         ∙ ap (λ (x : List ℕ). drop (pointRow * pointCount) x) drop-plan
         ∙ drop-at pointsOfIt (floorsOfIt ++ recordsOfIt) (pointRow * pointCount) points-long
 
-    drop-floors : drop recordsStart (restored s) ≡ recordsOfIt
+    pub drop-floors : drop recordsStart (restored s) ≡ recordsOfIt
     drop-floors =
         sym (drop-drop (floorRow * clientCount) floorsStart (restored s))
         ∙ ap (λ (x : List ℕ). drop (floorRow * clientCount) x) drop-points
@@ -314,8 +314,7 @@ module _ (s : List ℕ) where
           let k : ℕ = checkpointRecord * recordsOf s in
           let e : 4 + (4 + (4 + (32 + (planSize + (checkpointPoint * pointCount + (n + k)))))) ≡ recordsPart (clientsOf s) + k = omega arith in
           rw (floors-count, records-count)
-          (part-join s 0 4 (4 + (4 + (32 + (planSize + (checkpointPoint * pointCount + (n + k))))))
-          (quad-again s 0 (omega (arith, d .whole)) (sym (d .at0)) (sym (d .at1)) (sym (d .at2)) (sym (d .at3)))
+          (part-join s 0 4 (4 + (4 + (32 + (planSize + (checkpointPoint * pointCount + (n + k)))))) (starts-again s checkpointMagic (omega (arith, d .whole)) (d .magic))
           (part-join s 4 4 (4 + (32 + (planSize + (checkpointPoint * pointCount + (n + k))))) server-again
           (part-join s 8 4 (32 + (planSize + (checkpointPoint * pointCount + (n + k)))) heard-again
           (part-join s 12 32 (planSize + (checkpointPoint * pointCount + (n + k))) pairs-again

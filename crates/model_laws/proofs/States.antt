@@ -19,7 +19,7 @@ use lib.Dec.{eqb, leb, ltb, lit<, lit≤}
 use borrow.Author.Tests.{eqb-true, eq-eqb, leb-true, le-leb}
 use Rattle.model.specs.declared.Point.{Point}
 use Rattle.model.specs.declared.Completion.{Completion}
-use Rattle.model.specs.Numbers.{byteAt, flip, le32At, le32, le64At, le64, signedAt, signed32, zeros3At, quad}
+use Rattle.model.specs.Numbers.{byteAt, flip, le32At, le32, le64At, le64, signedAt, signed32, zeros3At, quad, startsWith}
 use Rattle.model.specs.Tables.{rows, everyRow, bytesOf, every, zeros, written}
 use Rattle.model.specs.Plan.{planEntryOf, planRowOk, planBytes, entryAt, inRange}
 use Rattle.model.specs.Packets.{idOk, commandOk, outcomeOk}
@@ -32,7 +32,7 @@ use Rattle.model_laws.specs.Bytes.{Bytes, All, part}
 use Rattle.model_laws.specs.Codec.{Codec}
 use Rattle.model_laws.specs.Fits.{PointFits, CompletionFits, StateFits, Sound}
 use Rattle.model_laws.proofs.Tests.{joined-all, all-joined}
-use Rattle.model_laws.proofs.Numbers.{part-join, le32-digits, le64-digits, quad-again, le32-again, le32-is, le64-again, signed-again, le32-below}
+use Rattle.model_laws.proofs.Numbers.{part-join, le32-digits, le64-digits, quad-again, starts-again, le32-again, le32-is, le64-again, signed-again, le32-below}
 use Rattle.model_laws.proofs.Numbers.{le64-below, signed-below, le32-take, le64-take, signed-take, flip-flip, zero-at, zeros3-at, bytes-append}
 use Rattle.model_laws.proofs.Numbers.{bytes-drop, bytes-quad, bytes-le32, bytes-le64, bytes-signed32, bytes-run}
 use Rattle.model_laws.proofs.Written.{written-front, written-again}
@@ -45,8 +45,7 @@ use Rattle.model_laws.proofs.Plans.{planCodec, plan-length, plan-bytes}
 -- the tests of a state's frame, one by one
 abbrev framedTests : List ℕ → List Bool
 framedTests s =
-    eqb (byteAt s 0) (byteAt stateMagic 0) ∷ eqb (byteAt s 1) (byteAt stateMagic 1) ∷ eqb (byteAt s 2) (byteAt stateMagic 2) ∷ eqb (byteAt s 3) (byteAt stateMagic 3)
-    ∷ zeros3At s 5 ∷ eqb (le32At s 20) 0 ∷ leb (clientsIn s) clientCount ∷ leb (recordsIn s) recordCount
+    startsWith s stateMagic ∷ zeros3At s 5 ∷ eqb (le32At s 20) 0 ∷ leb (clientsIn s) clientCount ∷ leb (recordsIn s) recordCount
     ∷ zeros (floorRow * (clientCount - clientsIn s)) (drop (floorsStart + floorRow * clientsIn s) s)
     ∷ zeros (recordRow * (recordCount - recordsIn s)) (drop (recordsStart + recordRow * recordsIn s) s) ∷ []
 
@@ -444,11 +443,9 @@ module _ (st : State) where
             records = record-rows i;
           }
 
-      head-framed : ((eqb (byteAt (stateBytes st ++ rest) 0) 87 ≡ true) × (eqb (byteAt (stateBytes st ++ rest) 1) 83 ≡ true)
-          × (eqb (byteAt (stateBytes st ++ rest) 2) 84 ≡ true) × (eqb (byteAt (stateBytes st ++ rest) 3) 49 ≡ true)
-          × (zeros3At (stateBytes st ++ rest) 5 ≡ true) × (eqb (le32At (stateBytes st ++ rest) 20) 0 ≡ true))
+      head-framed : ((startsWith (stateBytes st ++ rest) stateMagic ≡ true) × (zeros3At (stateBytes st ++ rest) 5 ≡ true) × (eqb (le32At (stateBytes st ++ rest) 20) 0 ≡ true))
       unfolding stateBytes stateHeadBytes zeros3At le32At
-      head-framed = (refl, refl, refl, refl, refl, refl)
+      head-framed = (refl, refl, refl)
 
       floors-zeros : zeros (floorRow * (clientCount - clientsIn (stateBytes st ++ rest))) (drop (floorsStart + floorRow * clientsIn (stateBytes st ++ rest)) (stateBytes st ++ rest)) ≡ true
       floors-zeros =
@@ -472,20 +469,8 @@ module _ (st : State) where
               (
                 h .2,
                 (
-                  h .3,
-                  (
-                    h .4,
-                    (
-                      h .5,
-                      (
-                        rw clients-at (le-leb (length (st .floors)) clientCount (f .floors-count)),
-                        (
-                          rw records-at (le-leb (length (st .records)) recordCount (f .records-count)),
-                          (floors-zeros, (records-zeros, tt)),
-                        ),
-                      ),
-                    ),
-                  ),
+                  rw clients-at (le-leb (length (st .floors)) clientCount (f .floors-count)),
+                  (rw records-at (le-leb (length (st .records)) recordCount (f .records-count)), (floors-zeros, (records-zeros, tt))),
                 ),
               ),
             ),
@@ -528,16 +513,13 @@ sound-is s e =
     let u = joined-all (framedTests s) (t .1 .0) in
     record {
       long = leb-true stateEnd (length s) (t .0);
-      at0 = eqb-true (byteAt s 0) (byteAt stateMagic 0) (u .0);
-      at1 = eqb-true (byteAt s 1) (byteAt stateMagic 1) (u .1 .0);
-      at2 = eqb-true (byteAt s 2) (byteAt stateMagic 2) (u .1 .1 .0);
-      at3 = eqb-true (byteAt s 3) (byteAt stateMagic 3) (u .1 .1 .1 .0);
-      at5 = u .1 .1 .1 .1 .0;
-      at20 = eqb-true (le32At s 20) 0 (u .1 .1 .1 .1 .1 .0);
-      few-clients = leb-true (clientsIn s) clientCount (u .1 .1 .1 .1 .1 .1 .0);
-      few-records = leb-true (recordsIn s) recordCount (u .1 .1 .1 .1 .1 .1 .1 .0);
-      past-clients = u .1 .1 .1 .1 .1 .1 .1 .1 .0;
-      past-records = u .1 .1 .1 .1 .1 .1 .1 .1 .1 .0;
+      magic = u .0;
+      at5 = u .1 .0;
+      at20 = eqb-true (le32At s 20) 0 (u .1 .1 .0);
+      few-clients = leb-true (clientsIn s) clientCount (u .1 .1 .1 .0);
+      few-records = leb-true (recordsIn s) recordCount (u .1 .1 .1 .1 .0);
+      past-clients = u .1 .1 .1 .1 .1 .0;
+      past-records = u .1 .1 .1 .1 .1 .1 .0;
       plan-rows = t .1 .1 .0;
       point-rows = t .1 .1 .1 .0;
       state = t .1 .1 .1 .1 .0;
@@ -551,21 +533,12 @@ is-sound s d =
       le-leb stateEnd (length s) (d .long),
       (
         all-joined (framedTests s) (
-          eq-eqb (byteAt s 0) (byteAt stateMagic 0) (d .at0),
+          d .magic,
           (
-            eq-eqb (byteAt s 1) (byteAt stateMagic 1) (d .at1),
+            d .at5,
             (
-              eq-eqb (byteAt s 2) (byteAt stateMagic 2) (d .at2),
-              (
-                eq-eqb (byteAt s 3) (byteAt stateMagic 3) (d .at3),
-                (
-                  d .at5,
-                  (
-                    eq-eqb (le32At s 20) 0 (d .at20),
-                    (le-leb (clientsIn s) clientCount (d .few-clients), (le-leb (recordsIn s) recordCount (d .few-records), (d .past-clients, (d .past-records, tt)))),
-                  ),
-                ),
-              ),
+              eq-eqb (le32At s 20) 0 (d .at20),
+              (le-leb (clientsIn s) clientCount (d .few-clients), (le-leb (recordsIn s) recordCount (d .few-records), (d .past-clients, (d .past-records, tt)))),
             ),
           ),
         ),
@@ -589,7 +562,7 @@ module _ (s : List ℕ) (h : Bytes s) (d : Sound s) where
   state-head-again =
       let z = zeros3-at s 5 (d .at5) in
       let l : stateEnd ≤ length s = d .long in
-      part-join s 0 4 (stateHead - 4) (quad-again s 0 (omega arith) (sym (d .at0)) (sym (d .at1)) (sym (d .at2)) (sym (d .at3)))
+      part-join s 0 4 (stateHead - 4) (starts-again s stateMagic (omega arith) (d .magic))
       (part-join s 4 4 (stateHead - 8) (quad-again s 4 (omega arith) refl (sym (z .0)) (sym (z .1)) (sym (z .2)))
       (part-join s 8 4 (stateHead - 12) (le32-again s 8 h (omega arith))
       (part-join s 12 4 (stateHead - 16) (le32-is s 12 h (omega arith) (unfold clientsIn in loaded-floors))

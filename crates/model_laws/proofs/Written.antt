@@ -4,7 +4,7 @@
 --     getD-written-below, -past, -in; le32-written-below, -past; le64-written-below, -past; le32-written, le64-written     reading
 --     take-written, take-written-run, drop-written-past, drop-written, drop-written-at     parts
 --     written-front, written-fits   a run that fits
---     written-none, written-append, run-behind, written-comm, written-over, written-cover     several runs
+--     written-none, written-append, run-behind, five-runs, written-comm, written-over, written-cover     several runs
 --     written-same, written-again, written-le32, written-le64     a run of what stands there changes nothing
 --     nested-front, written-nested, written-first, written-second     a run within one that was stored; within one of two lists
 --     written-mid                   a run in the middle of what stands there
@@ -180,6 +180,15 @@ written-append (b ∷ s) zero (u ∷ us) vs = rw (zero-add, written-append s zer
 -- a run behind a run
 pub run-behind : (s : List ℕ) (k : ℕ) (a b : List ℕ) {n j : ℕ} → length a ≡ n → j ≡ k + n → written (written s k a) j b ≡ written s k (a ++ b)
 run-behind s k a b p q = rw (q, ← p) (sym (written-append s k a b))
+
+-- five runs, each behind the one before
+pub five-runs : (s : List ℕ) (k : ℕ) (a b c d e : List ℕ) {m n i j : ℕ} → length a ≡ m → m + length b ≡ n → n + length c ≡ i → i + length d ≡ j
+    → written (written (written (written (written s k a) (k + m) b) (k + n) c) (k + i) d) (k + j) e ≡ written s k (a ++ (b ++ (c ++ (d ++ e))))
+five-runs s k a b c d e {m} {n} {i} {j} p q r t =
+    let x : k + m + length b ≡ k + n = omega arith in
+    let y : k + n + length c ≡ k + i = omega arith in
+    let z : k + i + length d ≡ k + j = omega arith in
+    rw (written-append s k a, written-append, written-append, written-append, p, x, y, z)
 
 -- runs that are apart, in either order
 pub written-comm : (s : List ℕ) (i : ℕ) (us : List ℕ) (j : ℕ) (vs : List ℕ) → i + length us ≤ j → written (written s i us) j vs ≡ written (written s j vs) i us

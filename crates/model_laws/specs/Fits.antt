@@ -24,12 +24,12 @@ use Rattle.model.specs.declared.Completion.{Completion}
 use Rattle.model.specs.declared.Executed.{Executed}
 use Rattle.model.specs.declared.Give.{Give}
 use Rattle.model.specs.declared.Release.{Release}
-use Rattle.model.specs.Numbers.{word, byteAt, le32At, zeros3At}
+use Rattle.model.specs.Numbers.{word, le32At, zeros3At, startsWith}
 use Rattle.model.specs.Images.{Image, imageHeadOk, imageTablesOk, imageLength, imageBytes}
 use Rattle.model.specs.Logs.{LogRecord, executed, gone, gave, took, released, executedOk, giveOk, releaseOk, recordBytes, recordSize, cut, extentOf, Entry, entriesBytes}
 use Rattle.model.specs.Plan.{planEntryOk, planRowOk}
 use Rattle.model.specs.Tables.{everyRow, zeros}
-use Rattle.model.specs.States.{State, stateHead, recordRow, pointRow, pointsStart, floorsStart, recordsStart, stateEnd, clientsIn, recordsIn, load, pointRowOk, stateOk}
+use Rattle.model.specs.States.{State, stateMagic, stateHead, recordRow, pointRow, pointsStart, floorsStart, recordsStart, stateEnd, clientsIn, recordsIn, load, pointRowOk, stateOk}
 use Rattle.model.specs.Limits.{greatestImage, pointCount, clientCount, recordCount, planRow, floorRow, requestKind, resultKind, refusalKind, receiptKind, noticeKind, grantKind}
 use Rattle.model_laws.specs.Bytes.{All}
 use Rattle.model.specs.Packets.{requestOk, resultOk, refusalOk, receiptOk, noticeOk, grantOk, packetBytes}
@@ -286,10 +286,7 @@ pub record StateFits (st : State) : Type 0 where
 -- what `sound` tests, one by one
 pub record Sound (s : List ℕ) : Type 0 where
   pub long : stateEnd ≤ length s
-  pub at0 : byteAt s 0 ≡ 87
-  pub at1 : byteAt s 1 ≡ 83
-  pub at2 : byteAt s 2 ≡ 84
-  pub at3 : byteAt s 3 ≡ 49
+  pub magic : startsWith s stateMagic ≡ true
   pub at5 : zeros3At s 5 ≡ true
   pub at20 : le32At s 20 ≡ 0
   pub few-clients : clientsIn s ≤ clientCount

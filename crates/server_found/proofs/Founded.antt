@@ -8,7 +8,7 @@ use mathlib.Core.Path.{_≡_, refl, sym, ap, _∙_}
 use mathlib.Core.Bool.{Bool, true, false, not, _||_, false≢true}
 use mathlib.Core.List.{List, [], _∷_, _++_, map, map-append}
 use native.Mathlib.Omega.{arith}
-use native.Mathlib.Nat.{zero-add, sub-zero}
+use native.Mathlib.Nat.{sub-zero}
 use lib.ListN.{length, drop, replicate, length-map, length-replicate}
 use lib.Dec.{eqb, ltb}
 use borrow.Author.Tests.{eqb-true, ne-eqb, ltb-false, not-false}
@@ -27,7 +27,7 @@ use Rattle.model.specs.Operations.{after, answerOf, settle, stored, leftUnless,
 use Rattle.model_laws.specs.Bytes.{Bytes}
 use Rattle.model_laws.proofs.Tests.{and-left}
 use Rattle.model_laws.proofs.Refused.{if-passed}
-use Rattle.model_laws.proofs.Written.{length-written, written-none, written-append, written-sets, run-behind}
+use Rattle.model_laws.proofs.Written.{length-written, written-none, run-behind, five-runs}
 use Rattle.model_laws.proofs.Tables.{length-rows, rows-snoc, bytesOf-append, bytesOf-one, length-bytesOf}
 use Rattle.model_laws.proofs.Plans.{plan-again, plan-length}
 use Rattle.model_laws.proofs.States.{pointCodec}
@@ -39,13 +39,7 @@ pub head-runs : (s : List ℕ) (n : ℕ)
     ≡ written s 0 (stateHeadBytes (founded [] n))
 unfolding stateHeadBytes founded le64
 head-runs s n =
-    let a : List ℕ = stateMagic ++ quad n 0 0 0 in
-    let b : List ℕ = a ++ replicate 16 0 in
-    let c : List ℕ = b ++ le64 headSize in
-    ap (λ (x : List ℕ). written (written (written x 8 (replicate 16 0)) 24 (le64 headSize)) 32 (le64 headSize)) (run-behind s 0 stateMagic (quad n 0 0 0) refl refl)
-    ∙ ap (λ (x : List ℕ). written (written x 24 (le64 headSize)) 32 (le64 headSize)) (run-behind s 0 a (replicate 16 0) refl refl)
-    ∙ ap (λ (x : List ℕ). written x 32 (le64 headSize)) (run-behind s 0 b (le64 headSize) refl refl)
-    ∙ run-behind s 0 c (le64 headSize) refl refl
+    five-runs s 0 stateMagic (quad n 0 0 0) (replicate 16 0) (le64 headSize) (le64 headSize) refl refl refl refl
 
 head-length : (n : ℕ) → length (stateHeadBytes (founded [] n)) ≡ stateHead
 unfolding stateHeadBytes founded le64
@@ -90,11 +84,6 @@ pointed-end {n} {s₀} {t} {s} {i} o h = let e : pointCount ≡ i = omega arith 
 
 -- ---- the whole
 
-five-runs : (s a b c d e : List ℕ) {m n k j : ℕ} → length a ≡ m → m + length b ≡ n → n + length c ≡ k → k + length d ≡ j
-    → written (written (written (written (written s 0 a) m b) n c) k d) j e ≡ written s 0 (a ++ (b ++ (c ++ (d ++ e))))
-five-runs s a b c d e p q r t =
-    rw (written-append s 0 a, written-append, written-append, written-append, zero-add, p, q, r, t)
-
 padded-none : {A : Type 0} (enc : A → List ℕ) (w n : ℕ) → padded enc w n [] ≡ replicate (w * n) 0
 unfolding padded bytesOf
 padded-none enc w n = rw sub-zero
@@ -117,7 +106,8 @@ founded-runs s plan n h ok =
     let again : planBytes es ≡ plan = plan-again plan h ok in
     let long : length plan ≡ planSize = ap length (sym again) ∙ plan-length es count in
     let points : length ps ≡ pointRow * pointCount = length-bytesOf pointCodec (map (foundedPoint n) es) ∙ ap (λ (k : ℕ). pointRow * k) (length-map es (foundedPoint n) ∙ count) in
-    five-runs s (stateHeadBytes (founded [] n)) plan ps (replicate (floorRow * clientCount) 0) (replicate (recordRow * recordCount) 0) (head-length n) (omega arith) (omega arith)
+    five-runs s 0 (stateHeadBytes (founded [] n)) plan ps (replicate (floorRow * clientCount) 0) (replicate (recordRow * recordCount) 0) {n = pointsStart} {i = floorsStart}
+    {j = recordsStart} (head-length n) (omega arith) (omega arith)
     (omega (arith, length-replicate {A = ℕ} 256 0))
     ∙ ap (λ (x : List ℕ). written s 0 x) (ap (λ (x : List ℕ). stateHeadBytes (founded [] n) ++ (x ++ (ps ++ (replicate (floorRow * clientCount) 0 ++ replicate (recordRow * recordCount) 0))))
     (sym again) ∙ sym (founded-bytes es n))

@@ -7,23 +7,22 @@ use mathlib.Core.Path.{_≡_, refl, sym, ap, _∙_}
 use mathlib.Core.List.{List, _++_, append-assoc}
 use native.Mathlib.Omega.{arith}
 use native.Mathlib.Nat.{mul-suc}
-use lib.ListN.{length, take, drop, replicate, length-append, length-drop}
+use lib.ListN.{length, drop, replicate, length-drop}
 use lib.Seq.{drop-at}
 use lib.Dec.{ltb}
 use Rattle.model.specs.Choice.{pick}
 use Rattle.model.specs.Refusals.{unknown}
-use Rattle.model.specs.Numbers.{le32At, le32, le64, quad}
-use Rattle.model.specs.Limits.{headSize, planSize, pointCount, clientCount, recordCount, floorRow, entryRow, checkpointPoint, checkpointRecord}
+use Rattle.model.specs.Numbers.{le32At}
+use Rattle.model.specs.Limits.{recordCount, entryRow, checkpointRecord}
 use Rattle.model.specs.Tables.{rows, bytesOf}
-use Rattle.model.specs.States.{stateMagic, recordsStart, recordRow, recordsIn, completionOf, isId, padded, load}
-use Rattle.model.specs.Checkpoints.{planPart, pointsPart, clientsPart, recordsPart, clientsOf, recordsOf, pointWhole, recordWhole, fronts, restored}
+use Rattle.model.specs.States.{recordsStart, recordRow, recordsIn, completionOf, isId, padded, load}
+use Rattle.model.specs.Checkpoints.{recordsPart, clientsOf, recordsOf, recordWhole, fronts, restored}
 use Rattle.model.specs.Checkpoints.{inCheckpoint, placeAt, noPlace, indexOf, placeAmong, placeInCheckpoint}
 use Rattle.model_laws.proofs.Numbers.{le32-take}
 use Rattle.model_laws.proofs.Tables.{length-rows}
 use Rattle.model_laws.proofs.Fronts.{record-whole-cut, record-whole-width}
 use Rattle.model_laws.proofs.Checkpoints.{Framed}
-use Rattle.model_laws.proofs.Restored.{restored-long, restored-records}
-use Rattle.state_restore.proofs.Lengths.{padded-length}
+use Rattle.model_laws.proofs.Restored.{restored-records, drop-floors}
 use Rattle.server_inspect.specs.Places.{isRowId}
 
 -- ---- rows, and the state's rows made of them
@@ -51,11 +50,6 @@ index-wholes x c (suc n) s rest h =
 
 -- ---- in the restored bytes
 
--- what follows the last of ten
-regroup : (a b c d e f g h i j x : List ℕ)
-    → a ++ (b ++ (c ++ (d ++ (e ++ (f ++ (g ++ (h ++ (i ++ (j ++ x))))))))) ≡ (a ++ (b ++ (c ++ (d ++ (e ++ (f ++ (g ++ (h ++ (i ++ j))))))))) ++ x
-regroup a b c d e f g h i j x = rw (append-assoc, append-assoc, append-assoc, append-assoc, append-assoc, append-assoc, append-assoc, append-assoc, append-assoc)
-
 module _ (t : List ℕ) (w : Framed t) where
   abbrev n : ℕ
   n = clientsOf t
@@ -66,32 +60,8 @@ module _ (t : List ℕ) (w : Framed t) where
   abbrev own : List (List ℕ)
   own = fronts checkpointRecord m (drop (recordsPart n) t)
 
-  abbrev front : List ℕ
-  front =
-      stateMagic
-      ++ (take 8 (drop 4 t)
-      ++ (le32 n
-      ++ (le32 m
-      ++ (quad 0 0 0 0
-      ++ (le64 headSize
-      ++ (le64 headSize
-      ++ (take planSize (drop planPart t)
-      ++ (bytesOf pointWhole (fronts checkpointPoint pointCount (drop pointsPart t)) ++ padded (take floorRow) floorRow clientCount (fronts floorRow n (drop clientsPart t))))))))))
-
   within-part : checkpointRecord * m ≤ length (drop (recordsPart n) t)
   within-part = rw length-drop (omega (arith, w .whole))
-
-  last-part : drop recordsStart (restored t) ≡ padded recordWhole recordRow recordCount own
-  unfolding restored
-  last-part =
-      let records : List ℕ = padded recordWhole recordRow recordCount own in
-      let e : restored t ≡ front ++ records =
-      regroup stateMagic (take 8 (drop 4 t)) (le32 n) (le32 m) (quad 0 0 0 0) (le64 headSize) (le64 headSize) (take planSize (drop planPart t))
-      (bytesOf pointWhole (fronts checkpointPoint pointCount (drop pointsPart t))) (padded (take floorRow) floorRow clientCount (fronts floorRow n (drop clientsPart t))) records in
-      let k : length records ≡ recordRow * recordCount =
-      padded-length recordWhole checkpointRecord recordRow record-whole-width m recordCount (drop (recordsPart n) t) (w .few-records) within-part in
-      let l : length front ≡ recordsStart = omega (arith, restored-long t w, ap length e, length-append front records, k) in
-      ap (drop recordsStart) e ∙ drop-at front records recordsStart l
 
   pub kept-count : length (load (restored t) .records) ≡ m
   unfolding load
@@ -100,7 +70,7 @@ module _ (t : List ℕ) (w : Framed t) where
   pub kept-index : (x c : ℕ) → indexOf (isId x c) (load (restored t) .records) ≡ indexOf (isRowId x c) own
   unfolding load padded
   kept-index x c =
-      rw (restored-records t w, last-part)
+      rw (restored-records t w, drop-floors t w)
       (index-wholes x c m (drop (recordsPart n) t) (replicate (recordRow * (recordCount - length own)) 0) within-part)
 
   pub kept-place : (x c : ℕ) {i : ℕ} → i ≡ indexOf (isRowId x c) own

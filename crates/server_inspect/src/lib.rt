@@ -32,13 +32,6 @@ fn no_place(n: u32) -> Place
 
 // ---- refusals
 
-// A buffer of the state's size.
-fn blank() -> [u8; constants::STATE_END]
-    ensures { λ r. ⌜ length r ≡ stateEnd ⌝ }
-{
-    [0; constants::STATE_END]
-}
-
 // The checkpoint gives no state, or one of another server than the log. The state that it gives is made in a buffer apart.
 fn is_foreign(work: &mut [u8], checkpoint: &[u8], log: &[u8]) -> bool
     requires { ⌜ (length (now work) ≡ stateEnd) × (headSize ≤ length (now log)) ⌝ }
@@ -59,7 +52,7 @@ fn checkpoint_bad(checkpoint: &[u8], log: &[u8]) -> bool
     if checkpoint.len() == 0 {
         return false;
     }
-    let mut work = blank();
+    let mut work = state_rows::blank();
     is_foreign(&mut work, checkpoint, log)
 }
 

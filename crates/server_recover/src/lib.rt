@@ -179,19 +179,12 @@ fn recover_tail_with(state: &mut [u8], work: &mut [u8], checkpoint: &[u8], tail:
     settle(state, work, done)
 }
 
-// A buffer of the state's size.
-fn blank() -> [u8; constants::STATE_END]
-    ensures { λ r. ⌜ length r ≡ stateEnd ⌝ }
-{
-    [0; constants::STATE_END]
-}
-
 // 2 state too short; 1 bad plan; 14 the head or a whole record breaks its layout, or a record cannot follow the state; else the state that
 // the log's whole records give, and the mark is their end.
 pub fn recover(state: &mut [u8], log: &[u8], plan: &[u8]) -> Answer
     ensures { λ r. ⌜ after r (now (state .exit)) (now (log .entry)) [] ≡ recoverOf (now (state .entry)) (now (log .entry)) (now (plan .entry)) ⌝ }
 {
-    let mut work = blank();
+    let mut work = state_rows::blank();
     recover_with(state, &mut work, log, plan)
 }
 
@@ -200,6 +193,6 @@ pub fn recover(state: &mut [u8], log: &[u8], plan: &[u8]) -> Answer
 pub fn recover_checkpoint(state: &mut [u8], checkpoint: &[u8], tail: &[u8]) -> Answer
     ensures { λ r. ⌜ after r (now (state .exit)) (now (tail .entry)) [] ≡ recoverTailOf (now (state .entry)) (now (checkpoint .entry)) (now (tail .entry)) ⌝ }
 {
-    let mut work = blank();
+    let mut work = state_rows::blank();
     recover_tail_with(state, &mut work, checkpoint, tail)
 }

@@ -13,21 +13,20 @@ use lib.ListN.{length, take, drop, replicate, length-append, length-drop, length
 use lib.Seq.{length-take-le}
 use lib.Dec.{eqb, leb}
 use borrow.Author.Tests.{le-leb}
-use Rattle.model.specs.Numbers.{byteAt, le64}
+use Rattle.model.specs.Numbers.{le64, startsWith}
 use Rattle.model.specs.Limits.{checkpointHead}
 use Rattle.model.specs.Tables.{rows, bytesOf}
 use Rattle.model.specs.States.{stateHead, padded}
-use Rattle.model.specs.Checkpoints.{fronts, checkpointFramed}
+use Rattle.model.specs.Checkpoints.{checkpointMagic, fronts, checkpointFramed}
 use Rattle.model_laws.specs.Bytes.{part}
 use Rattle.model_laws.proofs.Tables.{places}
 use Rattle.model_laws.proofs.Fronts.{length-fronts}
 use Rattle.state_restore.specs.Parts.{fixedPairs, tablePairs, headRestored}
 
 -- the test of the frame, with the pairs tested apart
-pub framed-by : (s : List ℕ) {b : Bool} → checkpointHead ≤ length s → b ≡ fixedPairs s
-    → (eqb (byteAt s 0) 87 && (eqb (byteAt s 1) 76 && (eqb (byteAt s 2) 71 && (eqb (byteAt s 3) 50 && b)))) ≡ checkpointFramed s
+pub framed-by : (s : List ℕ) {m b : Bool} → checkpointHead ≤ length s → m ≡ startsWith s checkpointMagic → b ≡ fixedPairs s → (m && b) ≡ checkpointFramed s
 unfolding checkpointFramed fixedPairs tablePairs
-framed-by s h p = rw (p, le-leb checkpointHead (length s) h)
+framed-by s h q p = rw (q, p, le-leb checkpointHead (length s) h)
 
 -- ---- lengths
 

@@ -20,7 +20,7 @@ use Rattle.model.specs.States.{given, stateMagic, stateHead, stateEnd, pointsSt
 use Rattle.model.specs.Checkpoints.{planPart, pointsPart, clientsPart, recordsPart, clientsOf, recordsOf, pointWhole, recordWhole, fronts, restored}
 use Rattle.model_laws.specs.Bytes.{part}
 use Rattle.model_laws.proofs.Numbers.{le32-drop, length-le64}
-use Rattle.model_laws.proofs.Written.{length-written, written-none, written-append, run-behind}
+use Rattle.model_laws.proofs.Written.{length-written, written-none, written-append, run-behind, five-runs}
 use Rattle.model_laws.proofs.Tables.{rows-snoc, bytesOf-append, bytesOf-one, places}
 use Rattle.model_laws.proofs.Fronts.{fronts-take, length-fronts, point-whole-width, record-whole-width}
 use Rattle.model_laws.proofs.Checkpoints.{Framed}
@@ -125,11 +125,6 @@ head-runs s t n m h =
     let size : 24 + length (le64 headSize) ≡ 32 = rw length-le64 in
     seven-runs s stateMagic (part 4 8 t) (le32 n) (le32 m) (quad 0 0 0 0) (le64 headSize) (le64 headSize) refl (ap (λ (x : ℕ). 4 + x) (length-part 4 8 t (omega arith))) refl refl refl size
 
-five-runs : (s a b c d e : List ℕ) {m n k j : ℕ} → length a ≡ m → m + length b ≡ n → n + length c ≡ k → k + length d ≡ j
-    → written (written (written (written (written s 0 a) m b) n c) k d) j e ≡ written s 0 (a ++ (b ++ (c ++ (d ++ e))))
-five-runs s a b c d e p q r t =
-    rw (written-append s 0 a, written-append, written-append, written-append, zero-add, p, q, r, t)
-
 -- what follows the last of seven
 regroup : (a b c d e f g x : List ℕ) → a ++ (b ++ (c ++ (d ++ (e ++ (f ++ (g ++ x)))))) ≡ (a ++ (b ++ (c ++ (d ++ (e ++ (f ++ g)))))) ++ x
 regroup a b c d e f g x = rw (append-assoc, append-assoc, append-assoc, append-assoc, append-assoc, append-assoc)
@@ -173,6 +168,7 @@ module _ (t : List ℕ) (i : Framed t) where
       → s5 ≡ written s4 recordsStart (padded recordWhole recordRow recordCount (fronts checkpointRecord k (drop (recordsPart c) t))) → s5 ≡ written s 0 (restored t)
   restored-runs s p q a b d e f =
       rw (f, e, d, b, a, p, q)
-      (five-runs s (headRestored n m t) planBytes points clients records (head-length n m t (omega (arith, i .whole))) (ap (λ (x : ℕ). stateHead + x) plan-length) (ap (λ (x : ℕ). pointsStart + x) points-length)
+      (five-runs s 0 (headRestored n m t) planBytes points clients records (head-length n m t (omega (arith, i .whole)))
+      (ap (λ (x : ℕ). stateHead + x) plan-length) (ap (λ (x : ℕ). pointsStart + x) points-length)
       (ap (λ (x : ℕ). floorsStart + x) clients-length)
       ∙ ap (λ (x : List ℕ). written s 0 x) (sym parts))

@@ -1,6 +1,5 @@
 // A server's state from its checkpoint: the bytes of the state that the checkpoint keeps, with every place of the log at 8.
 use model::constants;
-use model::constants::CHECKPOINT_MAGIC;
 use model::constants::CHECKPOINT_POINT;
 use model::constants::CHECKPOINT_RECORD;
 use model::constants::CLIENTS_PART;
@@ -89,11 +88,9 @@ pub fn framed(checkpoint: &[u8]) -> bool
     if checkpoint.len() < constants::CHECKPOINT_HEAD {
         return false;
     }
+    let magic = format_numbers::starts_with(checkpoint, constants::CHECKPOINT_MAGIC);
     let pairs = pairs_ok(checkpoint);
-    (checkpoint[0] == CHECKPOINT_MAGIC[0])
-        & ((checkpoint[1] == CHECKPOINT_MAGIC[1])
-            & ((checkpoint[2] == CHECKPOINT_MAGIC[2])
-                & ((checkpoint[3] == CHECKPOINT_MAGIC[3]) & pairs)))
+    magic & pairs
 }
 
 // ---- rows

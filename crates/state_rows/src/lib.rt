@@ -12,7 +12,7 @@ ghost use Prim.Native.Nat.{_+_, _-_, _≤_};
 ghost use lib.ListN.{length, drop, replicate};
 ghost use Rattle.model.specs.Numbers.{le32, le64};
 ghost use Rattle.model.specs.Tables.{written};
-ghost use Rattle.model.specs.States.{clientsIn, recordsIn, pointOf, pointBytes, completionOf, completionBytes, pointRow, recordRow, stateHead};
+ghost use Rattle.model.specs.States.{clientsIn, recordsIn, pointOf, pointBytes, completionOf, completionBytes, pointRow, recordRow, stateHead, stateEnd};
 ghost use Rattle.model.specs.States.{clientsPlace, recordsPlace, lengthPlace, markPlace};
 
 // ---- the head
@@ -138,6 +138,13 @@ pub fn put_completion(s: &mut [u8], k: usize, r: Completion)
 }
 
 // ---- zeros
+
+// A buffer of the state's size.
+pub fn blank() -> [u8; constants::STATE_END]
+    ensures { λ r. ⌜ length r ≡ stateEnd ⌝ }
+{
+    [0; constants::STATE_END]
+}
 
 // Zeros from one place up to another.
 pub fn clear(s: &mut [u8], from: usize, to: usize)

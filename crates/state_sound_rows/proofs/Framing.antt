@@ -9,7 +9,7 @@ use mathlib.Core.List.{List, [], _∷_}
 use lib.ListN.{drop}
 use lib.Dec.{eqb, leb}
 use borrow.Author.Tests.{leb-true, not-false}
-use Rattle.model.specs.Numbers.{byteAt, le32At, zeros3At}
+use Rattle.model.specs.Numbers.{le32At, zeros3At, startsWith}
 use Rattle.model.specs.Tables.{zeros}
 use Rattle.model.specs.States.{clientsIn, recordsIn, stateFramed, floorsStart, recordRow, recordsStart, stateMagic}
 use Rattle.model.specs.Limits.{clientCount, floorRow, recordCount}
@@ -18,29 +18,26 @@ use Rattle.state_sound_rows.specs.Parts.{headFramed}
 
 abbrev tests : List ℕ → List Bool
 tests s =
-    eqb (byteAt s 0) (byteAt stateMagic 0) ∷ eqb (byteAt s 1) (byteAt stateMagic 1) ∷ eqb (byteAt s 2) (byteAt stateMagic 2) ∷ eqb (byteAt s 3) (byteAt stateMagic 3) ∷ zeros3At s 5 ∷ eqb
-    (le32At s 20) 0 ∷ leb (clientsIn s) clientCount ∷ leb (recordsIn s) recordCount ∷ []
+    startsWith s stateMagic ∷ zeros3At s 5 ∷ eqb (le32At s 20) 0 ∷ leb (clientsIn s) clientCount ∷ leb (recordsIn s) recordCount ∷ []
 
 pub few-clients : (s : List ℕ) {u : Bool} → u ≡ headFramed s → not u ≡ false → clientsIn s ≤ clientCount
 unfolding headFramed
-few-clients s {u} p q = leb-true (clientsIn s) clientCount (joined-all (tests s) (sym p ∙ not-false u q) .1 .1 .1 .1 .1 .1 .0)
+few-clients s {u} p q = leb-true (clientsIn s) clientCount (joined-all (tests s) (sym p ∙ not-false u q) .1 .1 .1 .0)
 
 pub few-records : (s : List ℕ) {u : Bool} → u ≡ headFramed s → not u ≡ false → recordsIn s ≤ recordCount
 unfolding headFramed
-few-records s {u} p q = leb-true (recordsIn s) recordCount (joined-all (tests s) (sym p ∙ not-false u q) .1 .1 .1 .1 .1 .1 .1 .0)
+few-records s {u} p q = leb-true (recordsIn s) recordCount (joined-all (tests s) (sym p ∙ not-false u q) .1 .1 .1 .1 .0)
 
 -- tests after a run of tests
-then : (a b c d e f g h x : Bool)
-    → (a && (b && (c && (d && (e && (f && (g && (h && x)))))))) ≡ ((a && (b && (c && (d && (e && (f && (g && h))))))) && x)
-then a b c d e f g h x = rw (and-assoc, and-assoc, and-assoc, and-assoc, and-assoc, and-assoc, and-assoc)
+then : (a b c d e x : Bool) → (a && (b && (c && (d && (e && x))))) ≡ ((a && (b && (c && (d && e)))) && x)
+then a b c d e x = rw (and-assoc, and-assoc, and-assoc, and-assoc)
 
 pub framed-is : (s : List ℕ)
     → stateFramed s ≡ (headFramed s && (zeros (floorRow * (clientCount - clientsIn s)) (drop (floorsStart + floorRow * clientsIn s) s) && zeros (recordRow * (recordCount - recordsIn s))
     (drop (recordsStart + recordRow * recordsIn s) s)))
 unfolding stateFramed headFramed
 framed-is s =
-    then (eqb (byteAt s 0) (byteAt stateMagic 0)) (eqb (byteAt s 1) (byteAt stateMagic 1)) (eqb (byteAt s 2) (byteAt stateMagic 2)) (eqb (byteAt s 3) (byteAt stateMagic 3)) (zeros3At s 5)
-    (eqb (le32At s 20) 0) (leb (clientsIn s) clientCount) (leb (recordsIn s) recordCount)
+    then (startsWith s stateMagic) (zeros3At s 5) (eqb (le32At s 20) 0) (leb (clientsIn s) clientCount) (leb (recordsIn s) recordCount)
     (zeros (floorRow * (clientCount - clientsIn s)) (drop (floorsStart + floorRow * clientsIn s) s) && zeros (recordRow * (recordCount - recordsIn s))
     (drop (recordsStart + recordRow * recordsIn s) s))
 

@@ -7,7 +7,7 @@ use lib.Dec.{eqb, leb, ltb}
 use Rattle.model.specs.declared.PlanEntry.{PlanEntry}
 use Rattle.model.specs.declared.Point.{Point}
 use Rattle.model.specs.Choice.{pick}
-use Rattle.model.specs.Numbers.{byteAt, le32At, zeros3At}
+use Rattle.model.specs.Numbers.{le32At, zeros3At, startsWith}
 use Rattle.model.specs.Tables.{rows, everyRow}
 use Rattle.model.specs.Plan.{planEntryOf, planRowOk, inRange}
 use Rattle.model.specs.States.{clientsIn, recordsIn, stateMagic, absent, held, releasedStatus, pointRow, pointOf, endsInOrder, notGiven, absentOk, pointOk, pointsOk, pointRowOk}
@@ -16,11 +16,7 @@ use Rattle.model.specs.Limits.{clientCount, recordCount, headSize, lastQuality,
 -- the magic, the zero bytes and the counts of the head
 unfoldable pub headFramed : List ℕ → Bool
 headFramed s =
-    eqb (byteAt s 0) (byteAt stateMagic 0)
-    && (eqb (byteAt s 1) (byteAt stateMagic 1)
-    && (eqb (byteAt s 2) (byteAt stateMagic 2)
-    && (eqb (byteAt s 3) (byteAt stateMagic 3)
-    && (zeros3At s 5 && (eqb (le32At s 20) 0 && (leb (clientsIn s) clientCount && leb (recordsIn s) recordCount))))))
+    startsWith s stateMagic && (zeros3At s 5 && (eqb (le32At s 20) 0 && (leb (clientsIn s) clientCount && leb (recordsIn s) recordCount)))
 
 -- ---- a point: the tests of its ends stand with those that its status asks for
 

@@ -85,18 +85,16 @@ fn head_framed(s: &[u8]) -> bool
     requires { ⌜ stateHead ≤ length (now s) ⌝ }
     ensures { λ r. ⌜ r ≡ headFramed (now (s .entry)) ⌝ }
 {
+    let magic = format_numbers::starts_with(s, constants::STATE_MAGIC);
     let zeros = format_numbers::zeros3_at(s, constants::STATE_ZEROS);
     let word = format_numbers::read_u32(s, constants::STATE_FILL);
     let clients = state_rows::clients_in(s);
     let records = state_rows::records_in(s);
-    (s[0] == constants::STATE_MAGIC[0])
-        & ((s[1] == constants::STATE_MAGIC[1])
-            & ((s[2] == constants::STATE_MAGIC[2])
-                & ((s[3] == constants::STATE_MAGIC[3])
-                    & (zeros
-                        & ((word == 0)
-                            & ((clients <= constants::CLIENT_COUNT_U32)
-                                & (records <= constants::RECORD_COUNT_U32)))))))
+    magic
+        & (zeros
+            & ((word == 0)
+                & ((clients <= constants::CLIENT_COUNT_U32)
+                    & (records <= constants::RECORD_COUNT_U32))))
 }
 
 // The head, and the rows past both counts.

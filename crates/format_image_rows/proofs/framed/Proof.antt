@@ -7,20 +7,8 @@ use Rattle.format_image_rows.proofs.framed.Tie as tie
 
 returns : tie.Need-returns
 unfolding imageFramed
-returns c = rw (c .before .before .before .before .before .zeros3-at .ensures)
+returns c = let zeros = c .before in rw (zeros .zeros3-at .ensures, zeros .before .starts-with .ensures)
 
 pub framed-spec : {M : Type 1} → statement M
 framed-spec =
-    tie.close
-    (tie.spec
-    (λ c κs. search needs)
-    (λ c. search needs)
-    (λ c. search needs)
-    (λ c. search needs)
-    (λ c. search needs)
-    (λ c. search needs)
-    (λ c. search needs)
-    (λ c. search needs)
-    (λ c. search needs)
-    (λ c. search needs)
-    returns)
+    tie.close (tie.spec (λ c κs. search needs) (λ c κs. search needs) (λ c. search needs) returns)

@@ -1,8 +1,9 @@
 -- `format_image_writer::put_entry` meets its contract.
 -- Assumes nothing.
+use mathlib.Core.Path.{refl}
 use Rattle.model.specs.Images.{imageEntryBytes}
-use Rattle.model.specs.Numbers.{flip}
-use Rattle.format_image_writer.proofs.Runs.{five-runs}
+use Rattle.model.specs.Numbers.{le32, signed32, quad}
+use Rattle.model_laws.proofs.Written.{five-runs}
 use borrow.Author.Needs.{needs}
 use Rattle.format_image_writer.proofs.put_entry.Statement.{statement}
 use Rattle.format_image_writer.proofs.put_entry.Tie as tie
@@ -17,8 +18,8 @@ returns c =
     let c1 = c2 .before .before .before .before in
     let start = c1 .before .before .before .args in
     rw (c5 .write-4 .ensures, c4 .write-signed2 .ensures, c3 .write-signed .ensures, c2 .write-u322 .ensures, c1 .write-u32 .ensures)
-    (five-runs (start .out .now) (start .k) (start .e .client) (start .e .call) (flip (start .e .argument)) (flip (start .e .result .value)) (start .e .op)
-    (start .e .result .outcome) (start .e .result .quality) 0)
+    (five-runs (start .out .now) (start .k) (le32 (start .e .client)) (le32 (start .e .call)) (signed32 (start .e .argument)) (signed32 (start .e .result .value))
+    (quad (start .e .op) (start .e .result .outcome) (start .e .result .quality) 0) refl refl refl refl)
 
 pub put-entry-spec : {M : Type 1} → statement M
 put-entry-spec =

@@ -13,7 +13,7 @@ returns c = search ands depth 8
 
 returns-2 : tie.Need-returns-2
 unfolding headOk headServer
-returns-2 c = go-test (le-leb _ _ (c .before .before .before .before .before .before .if1 .left)) (cc)
+returns-2 c = go-test (le-leb _ _ (c .before .before .before .if1 .left)) (cc)
 
 pub head-ok-spec : {M : Type 1} → statement M
 head-ok-spec =
@@ -21,13 +21,6 @@ head-ok-spec =
     (tie.spec
     returns
     (λ c κs. search needs)
-    (λ c. search needs)
-    (λ c. search needs)
-    (λ c. search needs)
-    (λ c. search needs)
-    (λ c. search needs)
-    (λ c. search needs)
-    (λ c. search needs)
-    (λ c. search needs)
+    (λ c κs. search needs)
     (λ c. search needs)
     returns-2)

@@ -13,10 +13,10 @@ returns c = search ands depth 24
 
 returns-2 : tie.Need-returns-2
 returns-2 c =
-    let at-pairs = c .before .before .before .before in
-    let at-if1 = at-pairs .before in
+    let at-magic = c .before in
+    let at-if1 = at-magic .before in
     let start = at-if1 .before .before in
-    framed-by (start .args .checkpoint .now) (at-if1 .if1 .left) (at-pairs .pairs-ok .ensures)
+    framed-by (start .args .checkpoint .now) (at-if1 .if1 .left) (at-magic .starts-with .ensures) (c .pairs-ok .ensures)
 
 pub framed-spec : {M : Type 1} → statement M
 framed-spec =
@@ -24,12 +24,5 @@ framed-spec =
     (tie.spec
     returns
     (λ c κs. search needs)
-    (λ c. search needs)
-    (λ c. search needs)
-    (λ c. search needs)
-    (λ c. search needs)
-    (λ c. search needs)
-    (λ c. search needs)
-    (λ c. search needs)
-    (λ c. search needs)
+    (λ c κs. search needs)
     returns-2)
