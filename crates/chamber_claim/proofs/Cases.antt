@@ -15,7 +15,7 @@ use Rattle.model.specs.Clients.{noCall, startNumber, sendNumber}
 use Rattle.chamber_claim.specs.declared.LockPoints.{LockPoints}
 use Rattle.chamber_claim.specs.declared.Chamber.{Chamber}
 use Rattle.chamber_claim.specs.declared.ChamberSend.{ChamberSend}
-use Rattle.chamber_claim.specs.Chamber.{newChamber, startIn, issueIn, receiveIn}
+use Rattle.chamber_claim.specs.Chamber.{startIn, issueIn, receiveIn}
 use Rattle.chamber_claim.proofs.Opened.{openChamber}
 
 -- ---- runs

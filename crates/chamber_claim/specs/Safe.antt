@@ -3,10 +3,9 @@
 -- Assumes nothing.
 use Prim.Native.Nat.{ℕ}
 use mathlib.Core.Path.{_≡_}
-use mathlib.Core.Bool.{true}
 use mathlib.Core.List.{List, [], _∷_}
 use mathlib.Core.Logic.{_⊎_}
-use mathlib.Core.Option.{Option, some}
+use mathlib.Core.Option.{some}
 use lib.IntN.{pos}
 use lib.ListN.{take, getElem?}
 use Rattle.model.specs.declared.Command.{Command}
@@ -14,7 +13,7 @@ use Rattle.model.specs.declared.Started.the-variants.{Running}
 use Rattle.model.specs.Limits.{readOp}
 use Rattle.model.specs.Plan.{planOf}
 use Rattle.model.specs.Sequential.{OrderEntry, Book, opened, bookAfter}
-use Rattle.claim.specs.World.{Event, outside, issue, resend, receive, packet}
+use Rattle.claim.specs.World.{Event, outside, issue, receive, packet}
 use Rattle.claim.specs.Provisos.{Provisos}
 use Rattle.claim.specs.Claim.{Issues, Explains}
 use Rattle.claim.specs.Fence.{Fenced, Fences}
@@ -22,7 +21,7 @@ use Rattle.claim.specs.Above as Above
 use Rattle.chamber_claim.specs.declared.LockPoints.{LockPoints}
 use Rattle.chamber_claim.specs.declared.Chamber.{Chamber}
 use Rattle.chamber_claim.specs.Chamber.{startIn}
-use Rattle.chamber_claim.specs.Lock.{LockEvent, kernel, begin, command, again, hear, Lock, lockProduct}
+use Rattle.chamber_claim.specs.Lock.{LockEvent, kernel, begin, Lock, lockProduct}
 
 -- both gates away from 0 is excluded
 abbrev pub OneClosed : LockPoints → Book → Type 0

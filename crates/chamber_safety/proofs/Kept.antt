@@ -31,21 +31,20 @@ use Rattle.model.specs.Packets.{parsePacket}
 use Rattle.model.specs.States.{State, pointAt, isHeld}
 use Rattle.model.specs.Refusals.{noRefusal}
 use Rattle.model.specs.Operations.{answerOf}
-use Rattle.claim.specs.World.{World, Event, request, crash, outside, OutsideCall, issue, receive, Server, nothing, running, storing, crashed, storedOf, Lent, packet, step, after}
-use Rattle.claim.specs.Provisos.{At, Provisos}
+use Rattle.claim.specs.World.{World, Event, request, crash, outside, OutsideCall, issue, receive, Server, nothing, running, storing, crashed, storedOf, Lent, packet, after}
+use Rattle.claim.specs.Provisos.{At}
 use Rattle.claim.specs.Claim.{Issues, Executes, recoveredBy, stateGiven}
-use Rattle.claim.specs.Fence.{NoticedIn, FencedIn, syncedPart, syncedState, Fenced}
+use Rattle.claim.specs.Fence.{FencedIn, syncedPart, syncedState, Fenced}
 use Rattle.claim.specs.Above.{Site, eventAt, stepSite, emptySite, runSite, siteAfter}
 use Rattle.claim.proofs.Above.{site-world, event-there, event-from}
 use Rattle.claim.proofs.Clients.{at-once, issue-is}
 use Rattle.model_laws.proofs.Tests.{and-left, and-right}
-use Rattle.proof_sanity.specs.Trace.{typedOk, keepsOk, requestAnswer, requestDone, done}
+use Rattle.proof_sanity.specs.Trace.{typedOk, keepsOk, requestDone, done}
 use Rattle.proof_sanity.proofs.Traced.{provisos-from, done-world, done-answer, answer-of}
 use Rattle.chamber_claim.specs.declared.LockPoints.{LockPoints}
 use Rattle.chamber_claim.specs.declared.Chamber.{Chamber}
-use Rattle.chamber_claim.specs.declared.ChamberStart.{ChamberStart}
 use Rattle.chamber_claim.specs.Chamber.{startIn}
-use Rattle.chamber_claim.specs.Lock.{LockEvent, kernel, begin, command, again, hear, Lock, lockEvent, lockAfter, lockProduct}
+use Rattle.chamber_claim.specs.Lock.{LockEvent, kernel, begin, command, again, hear, lockEvent, lockAfter, lockProduct}
 use Rattle.chamber_claim.specs.Safe.{events, lockAt, AtLock, Begins, IsGate, LockProvisos}
 use Rattle.chamber_safety.specs.Kept.{isNone, gateOk, asideOk, heldIn, noticeIs, heardIn, successorOk, lockOk, Look, starting, executing}
 use Rattle.chamber_safety.specs.Kept.{startedAs, startsIn, doneSilently, sameCommand, asksFor, packetAsks, executesIn, beginsIn, looked, eventOk, passes, noCrash, uncut}

@@ -3,8 +3,7 @@
 --     not-vacuous
 -- Assumes nothing.
 use Prim.Native.Nat.{ℕ}
-use mathlib.Core.Path.{_≡_, refl, ap, _∙_}
-use mathlib.Core.Bool.{true}
+use mathlib.Core.Path.{_≡_, refl}
 use mathlib.Core.List.{List}
 use mathlib.Core.Logic.{inl, inr}
 use lib.IntN.{pos}
@@ -12,7 +11,7 @@ use Rattle.model.specs.declared.Command.{Command}
 use Rattle.model.specs.Tables.{every}
 use Rattle.model.specs.Plan.{planOf}
 use Rattle.model.specs.Versions.{today}
-use Rattle.model.specs.Sequential.{ReadingZ, markedBy, opened}
+use Rattle.model.specs.Sequential.{markedBy, opened}
 use Rattle.model.specs.Yard.{yardPlan}
 use Rattle.model_laws.specs.Opened.{openNumbers, openTables, openPlan, openBook}
 use Rattle.claim.specs.World.{Event}

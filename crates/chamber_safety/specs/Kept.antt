@@ -9,7 +9,6 @@ use Rattle.model.specs.declared.Answer.{Answer}
 use Rattle.model.specs.declared.Command.{Command}
 use Rattle.model.specs.declared.Packet.{Packet}
 use Rattle.model.specs.declared.Packet.the-variants.{Malformed, Requested, Resulted, Refused, Receipted, Noticed, Granted}
-use Rattle.model.specs.declared.Started.{Started}
 use Rattle.model.specs.declared.Started.the-variants.{NotStarted, Running}
 use Rattle.model.specs.Limits.{readOp}
 use Rattle.model.specs.Packets.{parsePacket}
@@ -25,7 +24,7 @@ use Rattle.chamber_claim.specs.declared.Chamber.{Chamber}
 use Rattle.chamber_claim.specs.declared.ChamberStart.{ChamberStart}
 use Rattle.chamber_claim.specs.Chamber.{startIn}
 use Rattle.chamber_claim.specs.Lock.{LockEvent, kernel, begin, command, again, hear, Lock, lockEvent, lockAfter, lockProduct}
-use Rattle.proof_sanity.specs.Trace.{typedOk, keepsOk, Done, done}
+use Rattle.proof_sanity.specs.Trace.{typedOk, keepsOk, done}
 
 -- ---- other clients
 

@@ -5,16 +5,12 @@
 --     tail-needs-checkpoint    recovery from checkpoint and tail needs a stored checkpoint
 -- Assumes nothing.
 use Prim.Native.Nat.{ℕ, suc, _+_, _-_, _≤_, _<_}
-use mathlib.Core.Path.{_≡_, refl, sym, _∙_, ap, subst}
-use mathlib.Core.Bool.{true}
+use mathlib.Core.Path.{_≡_, refl, subst}
 use mathlib.Core.List.{List, []}
 use native.Mathlib.Omega.{arith}
-use lib.Dec.{eqb}
 use lib.ListN.{length, take, length-take}
 use borrow.Author.Tests.{eq-eqb}
-use Rattle.model.specs.Choice.{pick}
 use Rattle.model.specs.Limits.{headSize}
-use Rattle.model.specs.Operations.{answerOf}
 use Rattle.model.specs.Refusals.{noRefusal}
 use Rattle.model.specs.Checkpoints.{AfterCheckpoint, checkpointOf, recoverTailOf}
 use Rattle.model.specs.Sequential.{Marked}

@@ -1,15 +1,12 @@
 -- Demand 3: after every schedule there is one order of all surviving commands, each once, that explains every result and every
 -- final value, in real-time order.
 -- Assumes nothing.
-use Prim.Native.Nat.{ℕ, zero, suc, _+_, _≤_, _<_}
+use Prim.Native.Nat.{ℕ, suc, _+_, _≤_, _<_}
 use mathlib.Core.Path.{_≡_}
 use mathlib.Core.List.{List, [], _∷_, List·Memᴰ}
 use mathlib.Core.Logic.{_↔_}
 use mathlib.Core.Option.{Option, none, some}
-use lib.ListN.{length, take}
-use Rattle.model.specs.declared.PlanEntry.{PlanEntry}
 use Rattle.model.specs.declared.Reading.{Reading}
-use Rattle.model.specs.declared.CommandResult.{CommandResult}
 use Rattle.model.specs.declared.Command.{Command}
 use Rattle.model.specs.declared.Request.{Request}
 use Rattle.model.specs.declared.ResultPacket.{ResultPacket}
@@ -24,7 +21,7 @@ use Rattle.model.specs.Versions.{Versions}
 use Rattle.model.specs.Sequential.{Marked, markedBy, OrderEntry, parts, commands, EntryResult, one, readingMeant, resultMeant, opened, bookAfter, Answers}
 use Rattle.model.specs.Packets.{parsePacket}
 use Rattle.model.specs.States.{State, load, pointAt}
-use Rattle.model.specs.Operations.{After, answerOf, requestOf, recoveredState}
+use Rattle.model.specs.Operations.{answerOf, requestOf, recoveredState}
 use Rattle.model.specs.Checkpoints.{recoveredTail}
 use Rattle.model.specs.Clients.{callAt, issueOf, receiveOf}
 use Rattle.model.specs.Refusals.{noRefusal}

@@ -3,11 +3,10 @@
 use Prim.Native.Nat.{ℕ, _+_}
 use mathlib.Core.List.{List, [], _∷_, _++_}
 use mathlib.Core.Option.{Option, none, some}
-use Rattle.model.specs.declared.Command.{Command}
 use Rattle.model.specs.Numbers.{half}
 use Rattle.model.specs.States.{State, pointAt}
 use Rattle.model.specs.Versions.{today}
-use Rattle.model.specs.Sequential.{Marked, markedBy, OrderEntry, single, ReadingZ, readingMeant}
+use Rattle.model.specs.Sequential.{markedBy, OrderEntry, single, ReadingZ, readingMeant}
 use Rattle.model.specs.Yard.{yardPlan}
 use Rattle.claim.specs.World.{open·lease, start, issue}
 use Rattle.claim.specs.Claim.{readingAt}

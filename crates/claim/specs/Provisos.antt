@@ -8,17 +8,16 @@ use mathlib.Core.Path.{_≡_}
 use mathlib.Core.List.{List, []}
 use mathlib.Core.Option.{Option, none, some}
 use lib.ListN.{length, take, getD, getElem?}
-use Rattle.model.specs.declared.Client.{Client}
 use Rattle.model.specs.declared.Started.the-variants.{Running}
 use Rattle.model.specs.Numbers.{word}
-use Rattle.model.specs.Operations.{After, foundOf, recoverOf}
+use Rattle.model.specs.Operations.{foundOf, recoverOf}
 use Rattle.model.specs.Checkpoints.{recoverTailOf}
 use Rattle.model.specs.States.{load}
 use Rattle.model.specs.Clients.{startOf}
 use Rattle.model.specs.Refusals.{noRefusal}
 use Rattle.claim.specs.World.{OutsideCall, start, issue, resend, receive, open·lease, renew, query}
 use Rattle.claim.specs.World.{Event, found, request, fetch, sync, notice, give, image, take·image, receipt, release, recover, checkpoint, store, recover·tail, inspect, crash, outside}
-use Rattle.claim.specs.World.{Lent, WorldOf, World, Server, nothing, running, storing, crashed, storedOf, after, packet}
+use Rattle.claim.specs.World.{Lent, WorldOf, Server, nothing, running, storing, crashed, storedOf, after, packet}
 
 -- a list of bytes
 unfoldable pub Bytes : List ℕ → Type 0

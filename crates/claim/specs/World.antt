@@ -1,27 +1,22 @@
 -- All parties, run over a schedule: servers (paper: cabinets) with their bytes, clients (desks), the lease manager (lease office),
 -- and every packet and image made. Each event runs the definition that the call's contract cites.
 -- Assumes nothing.
-use Prim.Native.Nat.{ℕ, zero, suc, _+_, _-_}
-use mathlib.Core.Bool.{Bool, true, false}
+use Prim.Native.Nat.{ℕ, _+_, _-_}
 use mathlib.Core.List.{List, [], _∷_, _++_}
 use mathlib.Core.Option.{Option, none, some}
 use lib.ListN.{length, take, drop, getElem?}
 use lib.Dec.{eqb}
-use Rattle.model.specs.declared.Answer.{Answer}
 use Rattle.model.specs.declared.Client.{Client}
 use Rattle.model.specs.declared.LeaseManager.{LeaseManager}
-use Rattle.model.specs.declared.Started.{Started}
 use Rattle.model.specs.declared.Started.the-variants.{NotStarted, Running}
-use Rattle.model.specs.declared.Sent.{Sent}
-use Rattle.model.specs.declared.Sent.the-variants.{NotSent, Asked}
 use Rattle.model.specs.declared.StartAnswer.{StartAnswer}
 use Rattle.model.specs.declared.SendAnswer.{SendAnswer}
 use Rattle.model.specs.declared.LeaseAnswer.{LeaseAnswer}
 use Rattle.model.specs.Choice.{pick}
 use Rattle.model.specs.Versions.{Versions}
-use Rattle.model.specs.States.{State, load}
+use Rattle.model.specs.States.{load}
 use Rattle.model.specs.Operations.{After, foundOf, requestOf, fetchOf, syncOf, noticeOf, giveOf, imageOf, takeOf, receiptOf, releaseOf, recoverOf}
-use Rattle.model.specs.Checkpoints.{AfterCheckpoint, checkpointOf, recoverTailOf}
+use Rattle.model.specs.Checkpoints.{checkpointOf, recoverTailOf}
 use Rattle.model.specs.Limits.{headSize}
 use Rattle.model.specs.Clients.{startOf, issueOf, resendOf, receiveOf, sentBytes}
 use Rattle.model.specs.Leases.{newManager, openOf, renewOf, queryOf, toldBytes}

@@ -14,7 +14,7 @@ use mir.Val.{Val}
 use base.Fml.{Fml}
 use denote.Shadow.{shadow}
 use denote.Laws.{Is}
-use denote.RattleType.{RattleType, Denots}
+use denote.RattleType.{Denots}
 use denote.Array.{each, arrayVal, Array}
 use denote.Struct.Struct.{Struct}
 use denote.Struct.Declared.{shape, fields}

@@ -2,7 +2,7 @@
 --     elem us k d  element k of an array's cell that a part finds: it can be taken out, and put back with any value
 --     unraw        a part at the raw form of a type, as what lies behind a reference is, is a part at the type
 -- Assumes `Given` (of it `at-elems`, `elems-at`, `at-raw`, `raw-at`).
-use mathlib.Core.Path.{_≡_, refl, sym, _∙_, ap, subst}
+use mathlib.Core.Path.{_≡_, _∙_, ap, subst}
 use Prim.Native.Nat.{ℕ, zero, suc, _+_, _*_, _<_}
 use native.Mathlib.Nat.{not-suc-le-zero, le-of-suc-le-suc}
 use mathlib.Core.List.{List, [], _∷_}

@@ -1,7 +1,7 @@
 -- A command on a value in range leaves one in range.
 --     rule-in-range     the result's value is in the plan's range, its outcome is 0 to 4, its quality 0 or 1
 -- Assumes nothing.
-use Prim.Native.Nat.{ℕ, _+_, _-_, _*_, _/_, _≤_}
+use Prim.Native.Nat.{ℕ, _+_, _-_, _*_, _≤_}
 use mathlib.Core.Path.{_≡_, subst}
 use mathlib.Core.Bool.{true}
 use native.Mathlib.Omega.{arith}
@@ -14,7 +14,7 @@ use Rattle.model.specs.Versions.{Version, first, second}
 use Rattle.model.specs.Limits.{lastOutcome, lastQuality, wholePart, readOp, setOp, stepOp, reportOp, faultOp, partOp, carriedOut, outOfRange, onInvalid, fellBack, stopped, valid, invalid}
 use Rattle.model.specs.Plan.{inRange, planEntryOk}
 use Rattle.model.specs.Packets.{outcomeOk}
-use Rattle.model.specs.Rules.{rounded, result, same, sumInRange, endPast, pastEnd, setRule, stepRule, reportRule, faultRule, partRule, ruleOf, argumentOk}
+use Rattle.model.specs.Rules.{rounded, result, same, sumInRange, pastEnd, setRule, stepRule, reportRule, faultRule, partRule, ruleOf, argumentOk}
 use Rattle.model_laws.proofs.Tests.{choose}
 use Rattle.format_commands.specs.Results.{ResultOk}
 use Rattle.format_commands.proofs.Bounds.{range-bounds, sum-bounds, part-bounds, part-between, entry-ordered}

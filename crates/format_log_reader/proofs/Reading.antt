@@ -1,11 +1,11 @@
 -- Laws of the readers.
 --     parsed     what record_from answers of the log's part is what the record says
 -- Assumes nothing.
-use Prim.Native.Nat.{ℕ, _+_, _-_, _≤_, _<_}
+use Prim.Native.Nat.{ℕ, _+_, _-_}
 use mathlib.Core.Path.{_≡_, refl, sym, ap, _∙_}
 use mathlib.Core.Bool.{Bool, true, false, _&&_}
-use mathlib.Core.List.{List, [], _∷_}
-use mathlib.Core.Option.{Option, none, some}
+use mathlib.Core.List.{List}
+use mathlib.Core.Option.{none, some}
 use native.Mathlib.Omega.{arith}
 use borrow.Author.Tests.{eqb-true}
 use lib.ListN.{length, take, drop}
@@ -16,7 +16,7 @@ use Rattle.model.specs.Numbers.{byteAt, le32At, zeroAt, zeros3At}
 use Rattle.model.specs.Limits.{takeHead, executedKind, goneKind, giveKind, takeKind, releaseKind}
 use Rattle.model.specs.Packets.{noticeAt, noticeOk}
 use Rattle.model.specs.Images.{Image, imageAt, parseImage, imageOk}
-use Rattle.model.specs.Logs.{LogRecord, took, executedAt, executedOk, giveAt, giveOk, releaseAt, releaseOk, spans, extentOf, takeParsed, recordAt}
+use Rattle.model.specs.Logs.{took, executedAt, executedOk, giveAt, giveOk, releaseAt, releaseOk, spans, extentOf, takeParsed, recordAt}
 use Rattle.model_laws.proofs.Tests.{and-right, choose}
 use Rattle.model_laws.proofs.Written.{tail-part}
 use Rattle.format_log_ends.specs.Answers.{extentFrom}
@@ -24,7 +24,7 @@ use Rattle.format_log_ends.proofs.Ends.{spans-take, from-spans}
 use Rattle.format_log_reader.specs.declared.Span.{Span}
 use Rattle.format_log_reader.specs.declared.Record.{Record}
 use Rattle.format_log_reader.specs.declared.Record.the-variants.{Broken, Took}
-use Rattle.format_log_reader.specs.Answers.{imageIn, spanIn, recordMeans, recordPlaced, ImagePlaced, Parsed, executedFrom, goneFrom, giveFrom, takeFrom, releaseFrom, recordFrom}
+use Rattle.format_log_reader.specs.Answers.{imageIn, spanIn, recordMeans, recordPlaced, Parsed, executedFrom, goneFrom, giveFrom, takeFrom, releaseFrom, recordFrom}
 
 -- a choice on both sides
 pick-map : {A B : Type 0} (f : A → B) (t : Bool) {a b : A} {p q : B} → (t ≡ true → f a ≡ p) → f b ≡ q → f (pick t a b) ≡ pick t p q

@@ -8,7 +8,7 @@ use Rattle.model.specs.declared.Answer.{Answer}
 use Rattle.model.specs.Operations.{After, after, wordOf}
 use Rattle.model.specs.Checkpoints.{AfterCheckpoint}
 use Rattle.server_checkpoint.specs.Taken.{afterCheckpoint}
-use Rattle.kernel.specs.Interface.{Returned, returned, inC, CheckpointReturned, checkpointReturned, checkpointInC}
+use Rattle.kernel.specs.Interface.{returned, inC, checkpointReturned, checkpointInC}
 
 pub returned-in : {r : ℕ} {a : Answer} {s l o : List ℕ} {x : After} → r ≡ wordOf a → after a s l o ≡ x → returned r s l o ≡ inC x
 unfolding inC

@@ -1,12 +1,11 @@
 -- The one way a state changes: a log record is applied. Operations and recovery share it.
 -- Assumes nothing.
-use Prim.Native.Nat.{ℕ, zero, suc, _+_, max}
-use mathlib.Core.Bool.{Bool, _&&_, _||_, not}
+use Prim.Native.Nat.{ℕ, _+_, max}
+use mathlib.Core.Bool.{Bool, _||_, not}
 use mathlib.Core.List.{List, [], _∷_, _++_, map}
-use lib.ListN.{length, set}
+use lib.ListN.{set}
 use lib.Dec.{eqb, leb, ltb}
 use Rattle.model.specs.declared.PlanEntry.{PlanEntry}
-use Rattle.model.specs.declared.Command.{Command}
 use Rattle.model.specs.declared.Floor.{Floor}
 use Rattle.model.specs.declared.ImageEntry.{ImageEntry}
 use Rattle.model.specs.declared.Executed.{Executed}
@@ -18,7 +17,7 @@ use Rattle.model.specs.declared.Completion.{Completion}
 use Rattle.model.specs.Choice.{pick}
 use Rattle.model.specs.Tables.{keep}
 use Rattle.model.specs.Images.{Image, floorOf}
-use Rattle.model.specs.Logs.{LogRecord, executed, gone, gave, took, released, Entry, recordSize}
+use Rattle.model.specs.Logs.{LogRecord, executed, gone, gave, took, released, Entry}
 use Rattle.model.specs.States
 use Rattle.model.specs.States.{State, pointAt}
 use Rattle.model.specs.Limits.{invalid, headSize}

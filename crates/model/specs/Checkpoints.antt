@@ -4,7 +4,7 @@
 --     44 plan, 64 × 16    1068 points, 64 × 16    2092 clients, 8 bytes each    then completion records, 20 bytes each, in the state's order
 -- A row of a point or of a completion record is the front of the state's row; left out are the ends of log records, which close that row.
 -- Assumes nothing.
-use Prim.Native.Nat.{ℕ, zero, suc, _+_, _-_, _*_, _/_}
+use Prim.Native.Nat.{ℕ, suc, _+_, _-_, _*_, _/_}
 use mathlib.Core.Bool.{Bool, true, false, _&&_, _||_, not}
 use mathlib.Core.List.{List, [], _∷_, _++_, map}
 use mathlib.Core.Option.{Option, none, some}
@@ -16,13 +16,13 @@ use Rattle.model.specs.declared.Point.{Point}
 use Rattle.model.specs.declared.Completion.{Completion}
 use Rattle.model.specs.declared.ImageEntry.{ImageEntry}
 use Rattle.model.specs.Choice.{pick, orElse, _if_else_, passed, isPassed}
-use Rattle.model.specs.Numbers.{byteAt, le32At, le32, le64, quad, startsWith}
+use Rattle.model.specs.Numbers.{le32At, le32, le64, quad, startsWith}
 use Rattle.model.specs.Refusals.{tooShort, notSynced, badLog, unknown, unsound, noRefusal}
 use Rattle.model.specs.Limits.{stateSize, headSize, planSize, pointCount, clientCount, recordCount, floorRow, entryRow, executedSize, takeHead, leastImage}
 use Rattle.model.specs.Limits.{checkpointSize, checkpointPairs, checkpointHead, checkpointPoint, checkpointRecord}
 use Rattle.model.specs.Tables.{rows, bytesOf, written}
 use Rattle.model.specs.Plan.{planBytes}
-use Rattle.model.specs.Images.{Image, floorBytes}
+use Rattle.model.specs.Images.{floorBytes}
 use Rattle.model.specs.Logs.{LogRecord, executed, gone, gave, took, released, headBytes, headServer, recordAt, endsOf}
 use Rattle.model.specs.States.{State, given, stateMagic, recordRow, statusIn, takenMoveIn, pointBytes, completionBytes, padded, load, sound, isId}
 use Rattle.model.specs.Decisions.{find, isNone}

@@ -1,10 +1,10 @@
 -- The client (paper: desk), values in and values out. It keeps its number, lease end, next call number and the open calls, at
 -- most 16 numbers from the first open one: an open call stands at the place call mod 16. A refusal leaves the client as it was.
 -- Assumes nothing.
-use Prim.Native.Nat.{ℕ, zero, suc, _+_, _%_}
-use mathlib.Core.Bool.{Bool, true, false, _&&_, _||_, not}
+use Prim.Native.Nat.{ℕ, suc, _+_, _%_}
+use mathlib.Core.Bool.{Bool, _&&_, not}
 use mathlib.Core.List.{List, [], _∷_}
-use lib.ListN.{length, getD, set, replicate}
+use lib.ListN.{getD, set, replicate}
 use lib.Dec.{eqb, leb, ltb}
 use Rattle.model.specs.declared.Request.{Request}
 use Rattle.model.specs.declared.ResultPacket.{ResultPacket}
@@ -22,7 +22,6 @@ use Rattle.model.specs.declared.Received.the-variants.{NotReceived, Comp
 use Rattle.model.specs.declared.StartAnswer.{StartAnswer}
 use Rattle.model.specs.declared.SendAnswer.{SendAnswer}
 use Rattle.model.specs.declared.ReceiveAnswer.{ReceiveAnswer}
-use Rattle.model.specs.declared.Command.{Command}
 use Rattle.model.specs.declared.CommandResult.{CommandResult}
 use Rattle.model.specs.Choice.{pick, orElse}
 use Rattle.model.specs.Numbers.{half}

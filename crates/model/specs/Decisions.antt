@@ -2,23 +2,17 @@
 -- docs/REFERENCE.md; then comes what it does. Recovery asks the same functions. `free` is the space left in the log. The tests of lent
 -- memory (2, 19) stand before these, in Operations.
 -- Assumes nothing.
-use Prim.Native.Nat.{ℕ, zero, suc, _+_}
+use Prim.Native.Nat.{ℕ, suc, _+_}
 use mathlib.Core.Bool.{Bool, true, false, _&&_, _||_, not}
-use mathlib.Core.List.{List, [], _∷_, _++_, map}
+use mathlib.Core.List.{List, [], _∷_, map}
 use mathlib.Core.Option.{Option, none, some}
 use lib.ListN.{length}
 use lib.Dec.{eqb, leb, ltb}
-use Rattle.model.specs.declared.Command.{Command}
-use Rattle.model.specs.declared.Reading.{Reading}
 use Rattle.model.specs.declared.CommandResult.{CommandResult}
 use Rattle.model.specs.declared.Request.{Request}
 use Rattle.model.specs.declared.ResultPacket.{ResultPacket}
-use Rattle.model.specs.declared.RefusalPacket.{RefusalPacket}
-use Rattle.model.specs.declared.Receipt.{Receipt}
 use Rattle.model.specs.declared.Notice.{Notice}
 use Rattle.model.specs.declared.Executed.{Executed}
-use Rattle.model.specs.declared.Give.{Give}
-use Rattle.model.specs.declared.Release.{Release}
 use Rattle.model.specs.declared.ImageEntry.{ImageEntry}
 use Rattle.model.specs.declared.Point.{Point}
 use Rattle.model.specs.declared.Completion.{Completion}

@@ -1,13 +1,11 @@
 -- The lease manager (paper: lease office), values in and values out. Client numbers rise from 1 and never return. A refused call
 -- leaves time and leases as they were.
 -- Assumes nothing.
-use Prim.Native.Nat.{ℕ, zero, suc, _+_, max}
-use mathlib.Core.Bool.{Bool, true, false, _&&_, _||_, not}
+use Prim.Native.Nat.{ℕ, suc, _+_, max}
+use mathlib.Core.Bool.{Bool, _&&_, _||_, not}
 use mathlib.Core.List.{List, [], _∷_, map}
 use lib.ListN.{replicate}
 use lib.Dec.{eqb, leb, ltb}
-use Rattle.model.specs.declared.Grant.{Grant}
-use Rattle.model.specs.declared.Notice.{Notice}
 use Rattle.model.specs.declared.Lease.{Lease}
 use Rattle.model.specs.declared.LeaseManager.{LeaseManager}
 use Rattle.model.specs.declared.Told.{Told}

@@ -1,10 +1,10 @@
 -- Numbers in layouts: little-endian, signed ones in two's complement. Inside, a signed number x of 32 bits is x + 2 ^ 31.
 -- A decoder reads from the front of a list; what lies past the list's end counts as 0.
 -- Assumes nothing.
-use Prim.Native.Nat.{ℕ, zero, suc, _+_, _*_, _/_, _%_}
-use mathlib.Core.Bool.{Bool, true, false, _&&_}
+use Prim.Native.Nat.{ℕ, _+_, _*_, _/_, _%_}
+use mathlib.Core.Bool.{Bool, _&&_}
 use mathlib.Core.List.{List, [], _∷_, _++_}
-use lib.ListN.{getD, drop}
+use lib.ListN.{getD}
 use lib.Dec.{eqb, ltb}
 use lib.IntN.{ℤ, subℕ}
 use Rattle.model.specs.Choice.{pick}

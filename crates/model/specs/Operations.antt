@@ -2,16 +2,16 @@
 -- arguments. 2 and 19 come first; a refusal leaves every slice as it was, a request's refusal packet aside; bytes past what is
 -- written are kept. An operation with no output is lent the empty one.
 -- Assumes nothing.
-use Prim.Native.Nat.{ℕ, zero, suc, _+_, _-_, _*_}
-use mathlib.Core.Bool.{Bool, true, false, _&&_, _||_, not}
-use mathlib.Core.List.{List, [], _∷_, _++_}
+use Prim.Native.Nat.{ℕ, _+_, _-_, _*_}
+use mathlib.Core.Bool.{Bool, true, false, _||_, not}
+use mathlib.Core.List.{List, [], _∷_}
 use mathlib.Core.Option.{Option, none, some}
 use lib.ListN.{length}
-use lib.Dec.{eqb, leb, ltb}
+use lib.Dec.{ltb}
 use Rattle.model.specs.declared.PlanEntry.{PlanEntry}
 use Rattle.model.specs.declared.Answer.{Answer}
 use Rattle.model.specs.declared.LogEnd.{LogEnd}
-use Rattle.model.specs.Choice.{pick, Decision, refuse, deny, reply, append, marks, _if_else_, passed, isPassed, unlessRefused}
+use Rattle.model.specs.Choice.{pick, refuse, deny, reply, append, marks, _if_else_, passed, isPassed, unlessRefused}
 use Rattle.model.specs.Numbers.{word}
 use Rattle.model.specs.Refusals.{malformed, tooShort, badLog, unsound, noRefusal}
 use Rattle.model.specs.Limits.{lastServer, stateSize, headSize, resultSize, receiptSize, greatestImage}
@@ -20,7 +20,7 @@ use Rattle.model.specs.Versions.{Versions}
 use Rattle.model.specs.Plan.{planOk, planOf}
 use Rattle.model.specs.Packets.{parsePacket}
 use Rattle.model.specs.Images.{parseImage}
-use Rattle.model.specs.Logs.{LogRecord, Entry, headBytes, headServer, recordBytes, recordSize, endsOf, wholeEnd, entriesTo}
+use Rattle.model.specs.Logs.{Entry, headBytes, headServer, recordBytes, recordSize, endsOf, wholeEnd, entriesTo}
 use Rattle.model.specs.States.{State, load, stateBytes, sound}
 use Rattle.model.specs.Apply.{applyRecord, apply, founded, withMark}
 use Rattle.model.specs.Decisions.{Decided, onRequest, onFetch, onSync, onNotice, onGive, onImage, onTake, onReceipt, onRelease, follows}

@@ -13,8 +13,6 @@ use Rattle.model.specs.declared.RefusalPacket.{RefusalPacket}
 use Rattle.model.specs.declared.Receipt.{Receipt}
 use Rattle.model.specs.declared.Notice.{Notice}
 use Rattle.model.specs.declared.Grant.{Grant}
-use Rattle.model.specs.declared.Command.{Command}
-use Rattle.model.specs.declared.CommandResult.{CommandResult}
 use Rattle.model.specs.declared.Packet.{Packet}
 use Rattle.model.specs.declared.Packet.the-variants.{Malformed, Requested, Resulted, Refused, Receipted, Noticed, Granted}
 use Rattle.model.specs.Choice.{pick}

@@ -2,7 +2,7 @@
 -- It knows the plan and the commands alone, nothing of servers. Each command carries the version of its op's rule
 -- that it was executed by.
 -- Assumes nothing.
-use Prim.Native.Nat.{ℕ, zero, suc, _/_, _≤_}
+use Prim.Native.Nat.{ℕ, suc, _/_, _≤_}
 use mathlib.Core.Path.{_≡_}
 use mathlib.Core.Logic.{_≢_}
 use mathlib.Core.Bool.{Bool, _&&_}

@@ -4,7 +4,7 @@
 --     3112 clients, 32 × 8    3368 completion records, 512 × 28, in order of arrival    17704 end
 -- Rows past a count are zero, so that sound bytes and sound states correspond one to one.
 -- Assumes nothing.
-use Prim.Native.Nat.{ℕ, zero, suc, _+_, _-_, _*_}
+use Prim.Native.Nat.{ℕ, suc, _+_, _-_, _*_}
 use mathlib.Core.Bool.{Bool, true, false, _&&_, _||_, not}
 use mathlib.Core.List.{List, [], _∷_, _++_}
 use lib.ListN.{length, getD, drop, replicate}
@@ -14,7 +14,7 @@ use Rattle.model.specs.declared.Floor.{Floor}
 use Rattle.model.specs.declared.Point.{Point}
 use Rattle.model.specs.declared.Completion.{Completion}
 use Rattle.model.specs.Choice.{pick}
-use Rattle.model.specs.Numbers.{half, byteAt, le32At, le32, le64At, le64, signedAt, signed32, zeroAt, zeros3At, quad, startsWith}
+use Rattle.model.specs.Numbers.{byteAt, le32At, le32, le64At, le64, signedAt, signed32, zeroAt, zeros3At, quad, startsWith}
 use Rattle.model.specs.Tables.{rows, everyRow, bytesOf, every, zeros}
 use Rattle.model.specs.Plan.{planEntryOf, planBytes, planRowOk, entryAt, inRange}
 use Rattle.model.specs.Packets.{idOk, commandOk, outcomeOk}

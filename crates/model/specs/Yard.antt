@@ -3,12 +3,11 @@
 -- made.
 -- Assumes nothing.
 use Prim.Native.Nat.{ℕ, zero, suc, _+_, _-_, _*_, _/_, _%_}
-use mathlib.Core.Bool.{Bool, true, false, _&&_, _||_, not}
+use mathlib.Core.Bool.{Bool, true, false, _&&_, _||_}
 use mathlib.Core.List.{List, [], _∷_, _++_}
 use mathlib.Core.Option.{Option, none, some}
-use lib.ListN.{length, getD, getElem?, take, replicate}
+use lib.ListN.{length, getElem?, take, replicate}
 use lib.Dec.{eqb, leb, ltb}
-use Rattle.model.specs.declared.PlanEntry.{PlanEntry}
 use Rattle.model.specs.declared.Client.{Client}
 use Rattle.model.specs.declared.SendAnswer.{SendAnswer}
 use Rattle.model.specs.declared.ReceiveAnswer.{ReceiveAnswer}
@@ -18,7 +17,7 @@ use Rattle.model.specs.Refusals.{malformed, badMark, unknown, noRefusal}
 use Rattle.model.specs.Limits.{last32, requestKind, receiptKind, stateSize, resultSize, receiptSize, greatestImage, pointCount, callWindow}
 use Rattle.model.specs.Plan.{planBytes}
 use Rattle.model.specs.Images.{imageMagic}
-use Rattle.model.specs.States.{State, load}
+use Rattle.model.specs.States.{load}
 use Rattle.model.specs.Versions.{today}
 use Rattle.model.specs.Operations.{After, foundOf, requestOf, syncOf, giveOf, imageOf, takeOf, receiptOf, releaseOf, recoverOf}
 use Rattle.model.specs.Clients.{issueOf, resendOf, receiveOf, sendNumber, receiveNumber, brought, sentBytes, noCall}

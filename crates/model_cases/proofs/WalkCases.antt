@@ -1,8 +1,7 @@
 -- Every case of the first walk and of recovery holds: one theorem over the table; and the logs that have no head.
 -- Assumes nothing.
 use mathlib.Core.Path.{_≡_, refl}
-use mathlib.Core.List.{List, [], _∷_}
-use mathlib.Core.Option.{Option, none}
+use mathlib.Core.Option.{none}
 use lib.ListN.{take}
 use Rattle.model.specs.Logs.{headBytes, wholeEnd}
 use Rattle.model_laws.specs.Opened.{openServers}

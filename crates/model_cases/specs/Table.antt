@@ -9,12 +9,12 @@ use Rattle.model.specs.declared.PlanEntry.{PlanEntry}
 use Rattle.model.specs.declared.Reading.{Reading}
 use Rattle.model.specs.declared.CommandResult.{CommandResult}
 use Rattle.model.specs.declared.Request.{Request}
-use Rattle.model.specs.Choice.{Decision, refuse, deny, reply, append, marks}
+use Rattle.model.specs.Choice.{refuse, deny, reply, append, marks}
 use Rattle.model.specs.Numbers.{half}
 use Rattle.model.specs.Limits.{last32, pointCount, executedSize, setOp, stepOp, reportOp, faultOp, partOp, carriedOut, outOfRange, onInvalid, fellBack, stopped, valid, invalid}
 use Rattle.model.specs.Versions.{today}
 use Rattle.model.specs.Rules.{ruleOf}
-use Rattle.model.specs.Sequential.{EntryZ, ReadingZ, ResultZ, readingZ, resultZ, entryZ, readingMeant, resultMeant, ruleZ}
+use Rattle.model.specs.Sequential.{ReadingZ, ResultZ, readingZ, resultZ, entryZ, readingMeant, resultMeant, ruleZ}
 use Rattle.model.specs.Packets.{parsePacket, requestBytes}
 use Rattle.model.specs.States.{State}
 use Rattle.model.specs.Apply.{founded}

@@ -6,7 +6,6 @@ use mathlib.Core.Bool.{Bool, true, false}
 use mathlib.Core.List.{List, [], _∷_, _++_}
 use mathlib.Core.Option.{Option, none, some}
 use lib.ListN.{replicate, take}
-use Rattle.model.specs.declared.Executed.{Executed}
 use Rattle.model.specs.Numbers.{half, le32, quad}
 use Rattle.model.specs.Limits.{pointCount, setOp, carriedOut, valid, giveKind, takeKind, leastImage, greatestImage}
 use Rattle.model.specs.Logs.{headBytes, executedBytes, wholeEnd}

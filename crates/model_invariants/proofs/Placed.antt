@@ -6,7 +6,7 @@
 --     request-placed, fetch-placed, image-placed, receipt-placed     decisions, where f keeps what is synced
 --     notice-placed, give-placed, take-placed, release-placed        for every f
 -- Assumes nothing.
-use Prim.Native.Nat.{ℕ, zero, suc, _+_, _≤_, _<_, max}
+use Prim.Native.Nat.{ℕ, zero, suc, _+_, _≤_, _<_}
 use mathlib.Core.Path.{_≡_, refl, sym, ap, _∙_, fun-ext}
 use mathlib.Core.Bool.{Bool, true, false, _&&_, _||_, not}
 use mathlib.Core.List.{List, [], _∷_, _++_, map, map-map, map-id, map-append}
@@ -35,7 +35,7 @@ use Rattle.model.specs.Packets.{asRequest, asReceipt}
 use Rattle.model.specs.Images.{Image, imageLength, imageInRange, floorOf}
 use Rattle.model.specs.Logs.{LogRecord, executed, gone, gave, took, released}
 use Rattle.model.specs.States.{State, pointAt, noPoint, isHeld, isGiven, isId}
-use Rattle.model.specs.Apply.{raise, mergeFloors, executedPoint, completion, gavePoint, tookPoint, takenRecord, releasedPoint, staysOver, staysOverFloors, isOfOther, isOnOther, isNotClient}
+use Rattle.model.specs.Apply.{raise, mergeFloors, executedPoint, completion, gavePoint, tookPoint, takenRecord, releasedPoint, staysOver, staysOverFloors, isOfOther, isOnOther}
 use Rattle.model.specs.Apply.{applyExecuted, applyGone, applyGave, applyTook, applyReleased, applyRecord}
 use Rattle.model.specs.Decisions.{Decided, orMalformed, find, requestRefusal, resultOfRecord, sameCommand, heldRefusal, onHeld, resultFor, executedFor, newRefusal, onNew, onId, decideRequest, denying, onRequest}
 use Rattle.model.specs.Decisions.{fetchRefusal, onFetched, onFetch, decideNotice, onNotice, placesBad, giveRefusal, onGive, isOnPoint, entryOfRecord, imageFor, imageRefusal, onImage}

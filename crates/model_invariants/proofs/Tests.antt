@@ -16,7 +16,7 @@ use mathlib.Core.Logic.{_≢_}
 use native.Mathlib.Omega.{arith}
 use lib.ListN.{length, getD}
 use lib.Dec.{eqb, leb, ltb}
-use borrow.Author.Tests.{eqb-true, eqb-false, ltb-true, ltb-false, leb-true, leb-false, eq-eqb, ne-eqb, lt-ltb, le-leb, not-true}
+use borrow.Author.Tests.{eqb-true, eqb-false, ltb-true, leb-true, eq-eqb, ne-eqb, lt-ltb, le-leb, not-true}
 use Rattle.model.specs.declared.PlanEntry.{PlanEntry}
 use Rattle.model.specs.declared.Floor.{Floor}
 use Rattle.model.specs.declared.Point.{Point}
@@ -36,7 +36,7 @@ use Rattle.model_laws.proofs.Commands.{command-parts}
 use Rattle.model_invariants.specs.Sound.{GoodEntry, Ranged, GoodEnd, Origin, Standing, GoodPoint, Keeps, GoodFloor, Ascending, InWindow, GoodCompletion, Windowed, Other, Distinct, Arrived, SoundBy, Sound, CommandFits}
 use Rattle.model_laws.proofs.Tables.{every-all, all-every, all-getD}
 use Rattle.model_invariants.proofs.Lists.{all-to, all-with, getD-all, impossible}
-use Rattle.model_invariants.proofs.Floors.{eqb-no, tests, above-from}
+use Rattle.model_invariants.proofs.Floors.{eqb-no, above-from}
 use Rattle.model_invariants.proofs.Count.{windows-few}
 
 pub split : (s t : Bool) → (s && t) ≡ true → (s ≡ true) × (t ≡ true)

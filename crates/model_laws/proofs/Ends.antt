@@ -6,7 +6,7 @@
 --     ends-behind                   no end lies before the first place
 --     extent-alike, ends-alike      the walk sees kinds and lengths alone
 -- Assumes nothing.
-use Prim.Native.Nat.{ℕ, zero, suc, _+_, _≤_, _<_}
+use Prim.Native.Nat.{ℕ, zero, suc, _+_, _≤_}
 use mathlib.Core.Path.{_≡_, refl, sym, ap, _∙_}
 use mathlib.Core.Bool.{Bool, true, false}
 use mathlib.Core.List.{List, [], _∷_}
@@ -15,7 +15,6 @@ use native.Mathlib.Omega.{arith}
 use borrow.Author.Tests.{eqb-true}
 use lib.ListN.{length, drop, length-drop}
 use lib.Dec.{eqb}
-use Rattle.model.specs.Choice.{pick}
 use Rattle.model.specs.Numbers.{byteAt, le32At}
 use Rattle.model.specs.Logs.{Extent, off, cut, spans, within, takeExtent, extentOf, walkEnds, lastOf}
 use Rattle.model.specs.Limits.{executedSize, headSize, executedKind, giveKind, giveSize, goneKind, goneSize, releaseKind, releaseSize, takeKind}

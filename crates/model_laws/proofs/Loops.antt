@@ -4,7 +4,7 @@
 --     walk-start     what a loop that tests each row, and its order with the next one, starts from: `Walk`
 --     walk-next, walk-false, walk-true     it goes on, stops, ends
 -- Assumes nothing.
-use Prim.Native.Nat.{ℕ, zero, suc, _+_, _-_, _*_, _≤_, _<_}
+use Prim.Native.Nat.{ℕ, _+_, _-_, _*_, _≤_, _<_}
 use mathlib.Core.Path.{_≡_, refl, sym, _∙_}
 use mathlib.Core.Bool.{Bool, true, false, _&&_, not}
 use mathlib.Core.List.{List, [], _∷_}

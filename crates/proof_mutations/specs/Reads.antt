@@ -3,21 +3,20 @@
 -- is, and all is `model`'s (proofs/Same.antt). Each edit of must-fail/ puts something else for one part, so that a test, or a part of a
 -- record or of an image, is left out; `suc`, `[]`, `some`, `planOf`, `pointAt` and `founded` are named for them.
 -- Assumes nothing.
-use Prim.Native.Nat.{ℕ, suc}
-use mathlib.Core.List.{List, []}
-use mathlib.Core.Option.{Option, some}
+use Prim.Native.Nat.{ℕ}
+use mathlib.Core.List.{List}
+use mathlib.Core.Option.{Option}
 use Rattle.model.specs.declared.Floor.{Floor}
 use Rattle.model.specs.declared.Notice.{Notice}
 use Rattle.model.specs.declared.Completion.{Completion}
 use Rattle.model.specs.declared.Packet.{Packet}
 use Rattle.model.specs.Choice.{append, unlessRefused}
-use Rattle.model.specs.Plan.{planOf}
 use Rattle.model.specs.Versions.{Versions}
 use Rattle.model.specs.Packets.{asReceipt}
 use Rattle.model.specs.Images.{Image}
 use Rattle.model.specs.Logs.{LogRecord, executed, gone, gave, took, released, Entry}
-use Rattle.model.specs.States.{State, pointAt}
-use Rattle.model.specs.Apply.{apply, founded}
+use Rattle.model.specs.States.{State}
+use Rattle.model.specs.Apply.{apply}
 use Rattle.model.specs.Decisions.{Decided, orMalformed, onRequest, onFetch, onImage, takeTests, decideRelease}
 use Rattle.claim.specs.RecordWorld.{Log, recoverOf}
 

@@ -7,7 +7,7 @@ use mathlib.Core.Bool.{true}
 use mathlib.Core.List.{List, List·Memᴰ}
 use lib.ListN.{length, drop}
 use Rattle.claim.specs.Fence.{FencesBy}
-use Rattle.proof_protocol.specs.Servers.{Plan, Entry, State, replay, held, notice}
+use Rattle.proof_protocol.specs.Servers.{Plan, Entry, replay, held, notice}
 use Rattle.proof_protocol.specs.World.{Server, World, Change, stateOf, emptyWorld}
 use Rattle.proof_protocol.specs.Allowed.{Run}
 use Rattle.proof_protocol.specs.Explains.{after, Issues, Executes}

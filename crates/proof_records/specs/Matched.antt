@@ -5,7 +5,6 @@ use Prim.Native.Nat.{ℕ, _≤_, _+_, _*_, suc}
 use mathlib.Core.Path.{_≡_}
 use mathlib.Core.List.{List, [], _∷_}
 use mathlib.Core.Option.{none, some}
-use Rattle.model.specs.declared.Started.the-variants.{Running as Begun}
 use Rattle.model.specs.States.{State}
 use Rattle.model.specs.Clients.{issueOf, receiveOf}
 use Rattle.claim.specs.World.{start, issue, resend, receive, open·lease, renew, query, packet}

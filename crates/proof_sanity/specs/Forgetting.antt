@@ -18,7 +18,7 @@ use Rattle.model.specs.Operations.{recoveredState}
 use Rattle.model.specs.Yard.{yardPlan}
 use Rattle.claim.specs.World.{Event, found, outside, open·lease, start, issue, receive, sync, checkpoint, store, crash, Stored, nothingStored, Server, nothing, running, storing, crashed, run}
 use Rattle.claim.specs.Claim.{Account, account, recoveredBy}
-use Rattle.proof_sanity.specs.Trace.{Seen, off, down, Ended, Trace}
+use Rattle.proof_sanity.specs.Trace.{Seen, off, down, Trace}
 use Rattle.proof_sanity.specs.Moved.{settingAsked, settingAnswer, settingDone, newState, lentAll, lentCheckpoint, asks, idle, setter, atServer, onPacket, answering, crashing, atClient, atManager}
 
 -- ---- the states that they count with

@@ -35,7 +35,7 @@ use Rattle.model.specs.Clients.{noCall}
 use Rattle.model.specs.Yard.{yardPlan}
 use Rattle.claim.specs.World.{start, issue, receive, open·lease, query}
 use Rattle.claim.specs.World.{Event, found, request, sync, notice, give, image, take·image, receipt, release, recover, checkpoint, store, recover·tail, crash, outside, Lent, Stored, nothingStored}
-use Rattle.proof_sanity.specs.Trace.{Call, Seen, up, Ended, Trace}
+use Rattle.proof_sanity.specs.Trace.{Seen, up, Trace}
 
 -- ---- the commands
 

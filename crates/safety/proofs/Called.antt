@@ -15,7 +15,7 @@ use lib.ListN.{take}
 use borrow.Author.Tests.{eqb-true, lt-ltb}
 use Rattle.model.specs.Choice.{pick}
 use Rattle.model.specs.Versions.{Versions}
-use Rattle.model.specs.Limits.{headSize, resultSize}
+use Rattle.model.specs.Limits.{resultSize}
 use Rattle.model.specs.Packets.{parsePacket}
 use Rattle.model.specs.States.{State}
 use Rattle.model.specs.Decisions.{Decided, onRequest}
@@ -29,7 +29,7 @@ use Rattle.claim.specs.World.{withServer, making, lentState, lentLog, stateBack
 use Rattle.claim.specs.World as B
 use Rattle.claim.specs.Provisos.{Counted}
 use Rattle.claim.specs.RecordWorld as R
-use Rattle.safety.specs.Alike.{LocalAlike, RunningAlike, ServerAlike, nothing, running, storing, crashed, WorldAlike, Both, LeftAlike, LeftSeen, whole}
+use Rattle.safety.specs.Alike.{RunningAlike, ServerAlike, nothing, running, storing, crashed, Both, LeftAlike, LeftSeen, whole}
 use Rattle.safety.specs.Decoded.{roomIn, roomOf}
 use Rattle.safety.proofs.Facts.{holds-sound}
 use Rattle.safety.proofs.Worlds.{alike-server, alike-making}

@@ -13,7 +13,6 @@ use lib.Dec.{ltb}
 use borrow.Author.Tests.{ltb-false, lt-ltb}
 use lib.ListN.{length, take, drop, length-take, take-append-drop}
 use lib.Seq.{take-take, take-append-le, take-append-seam, length-front}
-use Rattle.model.specs.declared.PlanEntry.{PlanEntry}
 use Rattle.model.specs.declared.Answer.{Answer}
 use Rattle.model.specs.Choice.{pick, refuse, deny, reply, append, marks, unlessRefused}
 use Rattle.model.specs.Refusals.{tooShort, unsound, noRefusal}
@@ -22,7 +21,7 @@ use Rattle.model.specs.Limits.{stateSize, headSize}
 use Rattle.model.specs.Tables.{written}
 use Rattle.model.specs.Logs.{LogRecord, Entry, recordSize}
 use Rattle.model.specs.States.{State, load, sound, stateBytes, stateEnd}
-use Rattle.model.specs.Apply.{apply, founded, replayFrom, withMark}
+use Rattle.model.specs.Apply.{apply, replayFrom, withMark}
 use Rattle.model.specs.Decisions.{Decided}
 use Rattle.model.specs.Operations.{After, answerOf, after, short, unfit, stored, settle, lentRefusal, lent, freeIn}
 use Rattle.model_laws.specs.Bytes.{Bytes}
@@ -46,11 +45,9 @@ use Rattle.claim.specs.World as B
 use Rattle.claim.specs.Provisos.{Counted}
 use Rattle.claim.specs.RecordWorld as R
 use Rattle.safety.specs.Alike.{LocalAlike, LeftAlike, Made}
-use Rattle.safety.specs.Decoded.{roomIn, roomOf}
+use Rattle.safety.specs.Decoded.{roomIn}
 use Rattle.safety.proofs.Facts.{holds-sound, holds-mark, holds-size, held}
 use Rattle.safety.proofs.Made.{operation-made}
-use Rattle.safety.proofs.Worlds.{alike-server, alike-making}
-use Rattle.safety.proofs.Parties.{parties-server, parties-making}
 
 -- ---- answers
 

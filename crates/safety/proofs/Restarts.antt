@@ -11,7 +11,6 @@ use lib.ListN.{length, take, length-take}
 use lib.Seq.{take-at}
 use lib.Dec.{ltb}
 use borrow.Author.Tests.{le-ltb, ltb-false}
-use Rattle.model.specs.Choice.{pick}
 use Rattle.model.specs.Limits.{lastServer, stateSize, headSize}
 use Rattle.model.specs.Plan.{planOk, planOf}
 use Rattle.model.specs.Tables.{written}
@@ -44,7 +43,7 @@ use Rattle.claim.specs.Provisos as BP
 use Rattle.claim.specs.Claim.{recoveredBy}
 use Rattle.claim.specs.RecordWorld as R
 use Rattle.safety.specs.Holds.{Holds, Kept}
-use Rattle.safety.specs.Alike.{InForce, first, Continues, RunningAlike, CrashedAlike, ServerAlike, nothing, running, storing, crashed, Both}
+use Rattle.safety.specs.Alike.{first, Continues, RunningAlike, ServerAlike, nothing, running, storing, crashed, Both}
 use Rattle.proof_records.specs.Provided.{FoundOk}
 use Rattle.safety.specs.Allowed.{RecoverOk, RecoverTailOk}
 use Rattle.safety.specs.Decoded.{planIf, placeOf}

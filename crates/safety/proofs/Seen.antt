@@ -2,8 +2,8 @@
 --     decision-seen            what an operation decides
 --     left-seen                what a call leaves
 -- Assumes nothing.
-use Prim.Native.Nat.{ℕ, _+_, _-_, _≤_, _<_}
-use mathlib.Core.Path.{_≡_, refl, sym, _∙_, ap, subst}
+use Prim.Native.Nat.{ℕ, _+_, _-_, _≤_}
+use mathlib.Core.Path.{_≡_, refl, sym, _∙_, ap}
 use mathlib.Core.Bool.{Bool, true, false}
 use mathlib.Core.List.{List, [], _∷_, _++_, append-assoc, map, map-append}
 use native.Mathlib.Omega.{arith}
@@ -20,7 +20,7 @@ use Rattle.model.specs.Apply.{apply, applyRecord, applyExecuted, applyGone, app
 use Rattle.model.specs.Decisions.{Decided, onSync}
 use Rattle.model.specs.Checkpoints.{placed}
 use Rattle.model_invariants.specs.Calls.{Operation, request, fetch, sync, notice, give, image, takeIn, receipt, release, decision}
-use Rattle.model_invariants.specs.Placed.{local, seenFrom, laterEntry, later, marksFrom}
+use Rattle.model_invariants.specs.Placed.{seenFrom, laterEntry, later, marksFrom}
 use Rattle.model_invariants.proofs.Calls.{sets-mark}
 use Rattle.model_invariants.proofs.Decided.{sync-passed}
 use Rattle.model_invariants.proofs.Recovery.{apply-size}

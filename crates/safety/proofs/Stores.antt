@@ -2,7 +2,7 @@
 --     idle-alike               what changes a server over bytes alone
 --     checkpoint-alike, store-alike
 -- Assumes nothing.
-use Prim.Native.Nat.{ℕ, _+_, _-_, _≤_, _<_}
+use Prim.Native.Nat.{ℕ, _+_, _-_, _≤_}
 use mathlib.Core.Path.{_≡_, refl, sym, _∙_, ap, subst}
 use mathlib.Core.Bool.{Bool, true, false, _||_}
 use mathlib.Core.List.{List, [], _∷_, _++_, append-nil}
@@ -11,7 +11,7 @@ use native.Mathlib.Omega.{arith}
 use lib.Dec.{eqb, ltb}
 use lib.ListN.{length, take, drop}
 use lib.Seq.{take-append-seam, length-front}
-use borrow.Author.Tests.{ltb-false, not-false, eqb-true, ne-eqb}
+use borrow.Author.Tests.{ltb-false, ne-eqb}
 use Rattle.model.specs.Choice.{pick}
 use Rattle.model.specs.Limits.{stateSize, headSize, checkpointSize}
 use Rattle.model.specs.Plan.{planOf}
@@ -19,16 +19,16 @@ use Rattle.model.specs.Tables.{written}
 use Rattle.model.specs.Logs.{Entry, headBytes, entriesBytes}
 use Rattle.model.specs.States.{State, load, sound, stateEnd}
 use Rattle.model.specs.Apply.{founded, replayFrom, withMark}
-use Rattle.model.specs.Decisions.{Decided, onFetch}
+use Rattle.model.specs.Decisions.{Decided}
 use Rattle.model.specs.Operations.{answerOf, short, unfit, stored, recovered}
 use Rattle.model.specs.Checkpoints.{placed, endBefore, rebased, checkpointBytes, AfterCheckpoint, checkpointRefusal, checkpointOf}
 use Rattle.model.specs.Refusals.{tooShort, unsound, notSynced, noRefusal}
-use Rattle.model_laws.specs.Bytes.{Bytes, All}
+use Rattle.model_laws.specs.Bytes.{All}
 use Rattle.model_laws.specs.Fits.{EntriesFrom, lastEnd}
 use Rattle.model_laws.proofs.Tests.{choose}
 use Rattle.model_laws.proofs.Tables.{all-append}
 use Rattle.model_laws.proofs.Numbers.{bytes-drop}
-use Rattle.model_laws.proofs.Written.{length-written, written-front}
+use Rattle.model_laws.proofs.Written.{written-front}
 use Rattle.model_invariants.specs.Sound.{Sound}
 use Rattle.model_invariants.specs.History as History
 use Rattle.model_invariants.specs.Calls as Limits

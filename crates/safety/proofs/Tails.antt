@@ -5,31 +5,29 @@
 --     recovered-shown, recovered-some, synced-shown     what a crashed server, and the synced part of a log, come to
 -- Assumes nothing.
 use Prim.Native.Nat.{ℕ, _+_, _-_, _≤_}
-use mathlib.Core.Path.{_≡_, refl, sym, _∙_, ap, subst}
+use mathlib.Core.Path.{_≡_, refl, sym, _∙_, ap}
 use mathlib.Core.Bool.{Bool, true, false}
-use mathlib.Core.List.{List, [], _∷_, _++_, append-nil, map}
+use mathlib.Core.List.{List, [], _∷_, _++_, append-nil}
 use mathlib.Core.Option.{Option, none, some, Option·map}
 use native.Mathlib.Omega.{arith}
-use lib.Dec.{eqb, leb, ltb}
+use lib.Dec.{leb}
 use lib.ListN.{length, take, drop, take-append-drop}
 use borrow.Author.Tests.{leb-true, leb-false, le-leb, lt-leb, eq-eqb}
-use Rattle.model.specs.Choice.{pick, orElse}
-use Rattle.model.specs.Limits.{headSize, lastServer}
+use Rattle.model.specs.Limits.{headSize}
 use Rattle.model.specs.Plan.{planOf}
 use Rattle.model.specs.Tables.{keep}
 use Rattle.model.specs.Logs.{Entry, headBytes, headServer, entriesBytes}
-use Rattle.model.specs.States.{State, load}
+use Rattle.model.specs.States.{State}
 use Rattle.model.specs.Apply.{founded, replayFrom}
-use Rattle.model.specs.Operations.{recovered, recoveredOn, recoveredState, recoveredAll}
-use Rattle.model.specs.Checkpoints.{placed, rebased, checkpointBytes, checkpointFramed, checkpointState, recoveredTail}
+use Rattle.model.specs.Operations.{recovered, recoveredOn, recoveredState}
+use Rattle.model.specs.Checkpoints.{rebased, checkpointBytes, checkpointFramed, checkpointState, recoveredTail}
 use Rattle.model_laws.specs.Bytes.{All}
-use Rattle.model_laws.specs.OneWalk.{entriesOf}
 use Rattle.model_laws.specs.Fits.{EntriesFrom, lastEnd}
 use Rattle.model_laws.proofs.Tables.{keep-append}
 use Rattle.model_laws.proofs.Logs.{head-server, head-back}
 use Rattle.model_laws.proofs.TwoWalks.{recovered-on}
 use Rattle.model_invariants.specs.Sound.{Sound}
-use Rattle.model_invariants.specs.Placed.{local, seenFrom, laterEntry, later, PastHead}
+use Rattle.model_invariants.specs.Placed.{seenFrom, laterEntry, later, PastHead}
 use Rattle.model_invariants.proofs.Recovery.{recovers, recovered-replay}
 use Rattle.model_invariants.proofs.Crash.{from-end, replay-end, decided-from, log-recovers}
 use Rattle.model_invariants.proofs.Placed.{keep-map}
@@ -41,7 +39,7 @@ use Rattle.claim.specs.Provisos.{Begins}
 use Rattle.claim.specs.Claim.{recoveredBy}
 use Rattle.claim.specs.RecordWorld as R
 use Rattle.safety.specs.Holds.{Kept, keptEntries}
-use Rattle.safety.specs.Alike.{InForce, first, stored, Continues, CrashedAlike, Shown, neither, both}
+use Rattle.safety.specs.Alike.{InForce, first, stored, Continues, CrashedAlike, Shown, both}
 use Rattle.safety.proofs.Crashes.{crash-again}
 
 -- ---- the whole log

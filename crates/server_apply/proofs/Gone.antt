@@ -1,11 +1,10 @@
 -- The steps of a notice: the client goes, its records go, heard time and the log's length are stored.
 --     gone-client, gone-records, gone-heard, gone-done
 -- Assumes nothing.
-use Prim.Native.Nat.{ℕ, _*_, _<_, _≤_, max}
+use Prim.Native.Nat.{ℕ, _*_, _<_, max}
 use mathlib.Core.Path.{_≡_, ap, _∙_}
 use mathlib.Core.List.{List}
 use native.Mathlib.Omega.{arith}
-use lib.ListN.{length}
 use Rattle.model.specs.declared.Notice.{Notice}
 use Rattle.model.specs.Numbers.{word}
 use Rattle.model.specs.Tables.{keep}

@@ -3,8 +3,8 @@
 --     stage-canonical, stage-load, stage-length     what holds of a buffer on the way
 --     max-below                         the greater of two numbers below a third
 -- Assumes nothing.
-use Prim.Native.Nat.{ℕ, zero, suc, _*_, _<_, _≤_, max}
-use mathlib.Core.Path.{_≡_, refl, sym, ap, _∙_, subst}
+use Prim.Native.Nat.{ℕ, zero, suc, _*_, _<_, max}
+use mathlib.Core.Path.{_≡_, sym, ap, _∙_}
 use mathlib.Core.List.{List, [], _∷_}
 use native.Mathlib.Omega.{arith}
 use lib.ListN.{length, getD}
@@ -12,7 +12,7 @@ use lib.Dec.{lit<}
 use Rattle.model.specs.declared.Point.{Point}
 use Rattle.model.specs.declared.Give.{Give}
 use Rattle.model.specs.Numbers.{word}
-use Rattle.model.specs.States.{State, load, stateEnd, pointAt, noPoint}
+use Rattle.model.specs.States.{State, load, pointAt, noPoint}
 use Rattle.model.specs.Operations.{stored}
 use Rattle.model.specs.Apply.{gavePoint, releasedPoint}
 use Rattle.model_laws.specs.Bytes.{All}

@@ -3,7 +3,7 @@
 --     fetch-is, fetch-number, fetch-none, fetch-at
 --     notice-is, notice-other, notice-one, notice-by, notice-room
 -- Assumes nothing.
-use Prim.Native.Nat.{ℕ, _+_, _≤_}
+use Prim.Native.Nat.{ℕ, _≤_}
 use mathlib.Core.Path.{_≡_, refl, sym, ap, _∙_}
 use mathlib.Core.Bool.{Bool, true, false}
 use mathlib.Core.List.{List, [], _∷_}

@@ -6,7 +6,7 @@
 use Prim.Native.Nat.{ℕ, _+_, _-_, _*_, _≤_, _<_}
 use mathlib.Core.Path.{_≡_, refl, sym, ap, _∙_}
 use mathlib.Core.Bool.{Bool, true, false, not, _||_, false≢true}
-use mathlib.Core.List.{List, [], _∷_, _++_, map, map-append}
+use mathlib.Core.List.{List, [], _++_, map, map-append}
 use native.Mathlib.Omega.{arith}
 use native.Mathlib.Nat.{sub-zero}
 use lib.ListN.{length, drop, replicate, length-map, length-replicate}
@@ -16,7 +16,7 @@ use Rattle.model.specs.declared.PlanEntry.{PlanEntry}
 use Rattle.model.specs.declared.Point.{Point}
 use Rattle.model.specs.Limits.{lastServer, stateSize, headSize, pointCount, planRow, planSize, floorRow, clientCount, recordCount}
 use Rattle.model.specs.Refusals.{malformed, tooShort, noRefusal}
-use Rattle.model.specs.Numbers.{le32, le64, quad}
+use Rattle.model.specs.Numbers.{le64, quad}
 use Rattle.model.specs.Tables.{rows, everyRow, bytesOf, written}
 use Rattle.model.specs.Plan.{planEntryOf, planRowOk, planOk, planOf, planBytes}
 use Rattle.model.specs.Images.{floorBytes}

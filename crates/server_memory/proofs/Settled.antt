@@ -6,13 +6,13 @@
 --     replied, appended                 what a call answers that is not refused
 -- Assumes nothing.
 use Prim.Native.Nat.{ℕ, _+_, _≤_}
-use mathlib.Core.Path.{_≡_, refl, sym, ap, _∙_}
+use mathlib.Core.Path.{_≡_, refl, sym, _∙_}
 use mathlib.Core.Bool.{Bool, true, false, _||_, not}
 use mathlib.Core.List.{List}
 use native.Mathlib.Omega.{arith}
 use lib.ListN.{length}
 use lib.Dec.{ltb}
-use borrow.Author.Tests.{ne-eqb, ltb-false, not-false}
+use borrow.Author.Tests.{ne-eqb, ltb-false}
 use Rattle.model.specs.declared.Answer.{Answer}
 use Rattle.model.specs.declared.ResultPacket.{ResultPacket}
 use Rattle.model.specs.Choice.{pick, reply, append, unlessRefused}

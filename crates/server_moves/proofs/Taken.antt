@@ -5,8 +5,8 @@
 --     take-sized, take-room, take-bounds, take-settled     the record appended and applied
 -- Assumes nothing.
 use Prim.Native.Nat.{ℕ, _+_, _*_, _≤_, _<_}
-use mathlib.Core.Path.{_≡_, refl, sym, ap, _∙_}
-use mathlib.Core.Bool.{true, _&&_, not}
+use mathlib.Core.Path.{_≡_, refl, sym, _∙_}
+use mathlib.Core.Bool.{true, _&&_}
 use mathlib.Core.List.{List, []}
 use mathlib.Core.Option.{some}
 use native.Mathlib.Omega.{arith}
@@ -17,10 +17,9 @@ use Rattle.model.specs.Choice.{append, unlessRefused}
 use Rattle.model.specs.Numbers.{word}
 use Rattle.model.specs.Limits.{clientCount, recordCount, takeHead}
 use Rattle.model.specs.Tables.{written, every}
-use Rattle.model.specs.Plan.{entryAt}
-use Rattle.model.specs.Images.{Image, imageHeadOf, imageAt, imageInRange, imageLength, parseImage, imageTablesOk, floorOk, clientsAscend, imageEntryOk, idsAscend}
+use Rattle.model.specs.Images.{Image, imageHeadOf, imageAt, imageLength, parseImage, imageTablesOk, floorOk, clientsAscend, imageEntryOk, idsAscend}
 use Rattle.model.specs.Logs.{took, recordBytes, recordSize}
-use Rattle.model.specs.States.{State, load, pointAt}
+use Rattle.model.specs.States.{load}
 use Rattle.model.specs.Apply.{applyRecord, applyTook}
 use Rattle.model.specs.Decisions.{orMalformed, takeTests, decideTake, onTake}
 use Rattle.model.specs.Operations.{answerOf, after, settle, stored, lentRefusal, lent, freeIn, takeOf}

@@ -16,7 +16,7 @@ use Rattle.model.specs.Limits.{lastPoint, clientCount, recordCount, takeHead, l
 use Rattle.model.specs.Numbers.{word}
 use Rattle.model.specs.Tables.{rows, every}
 use Rattle.model.specs.Plan.{entryAt}
-use Rattle.model.specs.Images.{Image, imageAt, imageHeadOf, imageHeadOk, imageOk, imageInRange, imageLength, imageTablesOk, floorOfBytes, floorOk, clientsAscend, imageEntryOk, idsAscend}
+use Rattle.model.specs.Images.{Image, imageAt, imageHeadOf, imageInRange, imageLength, imageTablesOk, floorOfBytes, floorOk, clientsAscend, imageEntryOk, idsAscend}
 use Rattle.model.specs.Logs.{took}
 use Rattle.model.specs.States.{State, load, pointAt}
 use Rattle.model.specs.Apply.{mergeFloors, applyTook, applyRecord}

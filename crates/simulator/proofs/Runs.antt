@@ -19,7 +19,7 @@ use Rattle.model.specs.Refusals.{tooShort, noRefusal}
 use Rattle.model.specs.States.{stateEnd}
 use Rattle.model.specs.Tables.{written}
 use Rattle.model.specs.Operations.{answerOf}
-use Rattle.model.specs.Yard.{Yard, Line, Reply, Step, step, newYard, mostLines, ran, runLines, lineOf, linesFrom, linesOf, replyText, repliesText, yardOf}
+use Rattle.model.specs.Yard.{Yard, Line, Reply, step, newYard, mostLines, ran, runLines, lineOf, linesFrom, linesOf, replyText, repliesText, yardOf}
 use Rattle.model_laws.proofs.Written.{take-written-run, length-written, tail-part}
 use Rattle.model_laws.proofs.Tests.{and-left, and-right}
 use Rattle.model.specs.Letters.{lineFeed, replyRoom}

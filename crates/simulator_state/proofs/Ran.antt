@@ -2,7 +2,7 @@
 --     ran-server, ran-client     server or client 0 or 1
 --     no-server, no-client       no such one
 -- Assumes nothing.
-use Prim.Native.Nat.{ℕ, zero, suc, _≤_, _<_}
+use Prim.Native.Nat.{ℕ, zero, suc}
 use mathlib.Core.Path.{_≡_, refl, sym, ap, _∙_, subst}
 use mathlib.Core.Bool.{Bool, true, false}
 use mathlib.Core.List.{List, [], _∷_, _++_}
@@ -12,7 +12,6 @@ use lib.Dec.{eqb, ltb}
 use borrow.Author.Tests.{le-ltb}
 use lib.ListN.{length, take}
 use Rattle.model.specs.declared.SendAnswer.{SendAnswer}
-use Rattle.model.specs.declared.ReceiveAnswer.{ReceiveAnswer}
 use Rattle.model.specs.Choice.{pick}
 use Rattle.model.specs.Numbers.{half}
 use Rattle.model.specs.Refusals.{malformed, badMark, unknown, noRefusal}
@@ -26,9 +25,9 @@ use Rattle.simulator_text.specs.declared.ClientLine.{ClientLine}
 use Rattle.simulator_text.specs.declared.ClientLine.the-variants.{Issue, Resend, Receive}
 use Rattle.simulator_text.specs.Values.{serverLine, clientLine, replyIs}
 use Rattle.simulator_store.specs.Store.{numbered, packetsIn, outside, Outcome, outcome, outcomeIs, outcomeBy, sentOutcome, Next}
-use Rattle.simulator_delivery.specs.Served.{Served, served, servedBy, deliverBy, delivering}
+use Rattle.simulator_delivery.specs.Served.{served, servedBy, deliverBy, delivering}
 use Rattle.simulator_server.specs.Server.{Cutting, cutBy, cutting, serverRan}
-use Rattle.simulator_client.specs.Attended.{Attended, attended, sentBy, receivedBy, receiving, clientRan, attendedIs}
+use Rattle.simulator_client.specs.Attended.{attended, sentBy, receivedBy, receiving, clientRan, attendedIs}
 use Rattle.simulator_store.specs.declared.Made.{Made}
 use Rattle.simulator_client.specs.declared.ClientMade.{ClientMade}
 use Rattle.simulator_state.specs.declared.Memory.{Memory}

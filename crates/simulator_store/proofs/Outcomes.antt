@@ -3,13 +3,12 @@
 --     told-by, made-by               a server's call that wrote nothing, or a packet
 --     told-sent, made-sent           a client's issue or resend that was refused, or made a request
 -- Assumes nothing.
-use Prim.Native.Nat.{ℕ, zero, suc, _+_, _-_, _*_, _≤_, _<_}
-use mathlib.Core.Path.{_≡_, refl, sym, ap, _∙_}
+use Prim.Native.Nat.{ℕ, suc, _+_, _-_, _*_, _≤_}
+use mathlib.Core.Path.{_≡_, refl, sym, _∙_}
 use mathlib.Core.List.{List, [], _∷_, _++_}
 use native.Mathlib.Omega.{arith}
 use native.Mathlib.Numerals.{add-one}
-use lib.Dec.{eqb}
-use lib.ListN.{length, take, drop}
+use lib.ListN.{length, take}
 use borrow.Author.Tests.{eq-eqb, ne-eqb}
 use borrow.Rule.Slice.PartMut.{midOf, putMid}
 use Rattle.model.specs.declared.Answer.{Answer}
@@ -26,7 +25,7 @@ use Rattle.model.specs.Refusals.{noRefusal}
 use Rattle.model_laws.proofs.Written.{tail-back, written-append}
 use Rattle.simulator_text.specs.Values.{replyIs}
 use Rattle.simulator_store.specs.declared.Made.{Made}
-use Rattle.simulator_store.specs.Store.{rowHead, rowSize, lesserOf, packetIn, putIn, packetsIn, Outcome, outcome, outcomeIs, outcomeBy, sentOutcome, Room, Sendable, Next}
+use Rattle.simulator_store.specs.Store.{rowHead, rowSize, lesserOf, packetIn, putIn, packetsIn, outcomeIs, outcomeBy, sentOutcome, Room, Sendable, Next}
 use Rattle.simulator_store.proofs.Rows.{packets-put, length-packets}
 
 pub packet-part : (s : List ℕ) (k : ℕ) {n l : ℕ} → n ≡ le32At s (rowSize * k) → l ≡ lesserOf n greatestImage

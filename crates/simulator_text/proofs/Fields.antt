@@ -5,11 +5,11 @@
 --     lines-next, lines-none                the lines of a text, by the place of its first line feed
 --     digits-next, digits-off, digits-big   a number, digit by digit
 -- Assumes nothing.
-use Prim.Native.Nat.{ℕ, zero, suc, _+_, _-_, _*_, _≤_, _<_}
+use Prim.Native.Nat.{ℕ, suc, _+_, _-_, _*_, _≤_, _<_}
 use mathlib.Core.Path.{_≡_, refl, sym, ap, _∙_}
-use mathlib.Core.Bool.{Bool, true, false, _&&_}
+use mathlib.Core.Bool.{Bool, true, false}
 use mathlib.Core.List.{List, [], _∷_, _++_, append-nil}
-use mathlib.Core.Option.{Option, none, some}
+use mathlib.Core.Option.{none, some}
 use native.Mathlib.Omega.{arith}
 use native.Mathlib.Numerals.{add-one}
 use native.Mathlib.Nat.{le-of-suc-le-suc, not-suc-le-zero}
@@ -20,7 +20,7 @@ use lib.Seq.{drop-cons, take-all, append-snoc}
 use borrow.Author.Tests.{eq-eqb, ne-eqb, lt-leb, le-leb, leb-true, ltb-true, ltb-false}
 use Rattle.model.specs.Choice.{pick}
 use Rattle.model.specs.Limits.{last32}
-use Rattle.model.specs.Yard.{Line, unreadable, lineOfFields, isDigit, digitsFrom, atMost, numberIn, fieldsFrom, lineOf, endLine, linesFrom}
+use Rattle.model.specs.Yard.{unreadable, lineOfFields, isDigit, digitsFrom, atMost, numberIn, fieldsFrom, lineOf, endLine, linesFrom}
 use Rattle.model_laws.proofs.Written.{tail-part}
 use Rattle.model_laws.proofs.Tests.{and-left, and-right, choose}
 use Rattle.model.specs.Letters.{space, lineFeed, firstDigit, lastDigit}

@@ -4,17 +4,14 @@
 --     length-digits    a number's digits are at most as many as allowed
 --     length-signed, length-reply
 -- Assumes nothing.
-use Prim.Native.Nat.{ℕ, zero, suc, _+_, _-_, _*_, _/_, _%_, _≤_, _<_}
+use Prim.Native.Nat.{ℕ, zero, suc, _+_, _-_, _/_, _%_, _≤_, _<_}
 use mathlib.Core.Path.{_≡_, refl, sym, ap, _∙_}
 use mathlib.Core.List.{List, [], _∷_, _++_, append-assoc}
 use native.Mathlib.Omega.{arith}
-use native.Mathlib.Nat.{add-assoc}
-use lib.Dec.{eqb, leb, ltb}
+use lib.Dec.{ltb}
 use lib.ListN.{length, length-append}
 use borrow.Author.Tests.{lt-ltb, le-ltb}
-use Rattle.model.specs.Choice.{pick}
 use Rattle.model.specs.Numbers.{half}
-use Rattle.model.specs.Tables.{written}
 use Rattle.model.specs.Yard.{Reply, digitsOf, shown, shownSigned, replyText}
 use Rattle.model_laws.proofs.Tests.{choose}
 use Rattle.model_laws.proofs.Written.{written-append, length-written, written-none}

@@ -10,7 +10,7 @@ use mathlib.Core.Bool.{Bool, true, false, _&&_, not, and-assoc, and-true, and-fa
 use mathlib.Core.List.{List}
 use native.Mathlib.Omega.{arith}
 use lib.ListN.{getD, drop}
-use lib.Dec.{leb, ltb}
+use lib.Dec.{leb}
 use borrow.Author.Tests.{not-true, not-false}
 use Rattle.model.specs.declared.Completion.{Completion}
 use Rattle.model.specs.Limits.{headSize, callWindow, floorRow, lastPoint, recordCount, lastInWindow}

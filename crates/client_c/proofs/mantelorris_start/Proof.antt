@@ -1,6 +1,5 @@
 -- `client_c::mantelorris_start` meets its contract.
 -- Assumes nothing.
-use mathlib.Core.Path.{_∙_}
 use Rattle.model.specs.Packets.{parsePacket}
 use Rattle.model.specs.Clients.{startOf}
 use Rattle.client_c.proofs.Cases.{start-reply}

@@ -2,8 +2,6 @@
 -- Assumes nothing.
 use Prim.Native.Nat.{_-_}
 use borrow.Author.Needs.{needs}
-use lib.ListN.{drop}
-use Rattle.model.specs.Tables.{rows}
 use Rattle.model.specs.Images.{floorOfBytes, floorOk, clientsAscend}
 use Rattle.model.specs.Limits.{floorRow, leastImage}
 use Rattle.format_image_reader.specs.Walks.{floorsOk, floorStep, floorsIn}

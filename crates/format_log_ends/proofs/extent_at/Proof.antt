@@ -2,8 +2,6 @@
 -- Assumes nothing.
 use borrow.Author.Tests.{lt-leb}
 use Rattle.model_laws.proofs.Written.{tail-part}
-use Prim.Native.Nat.{ℕ}
-use mathlib.Core.List.{List}
 use mathlib.Core.Path.{ap, _∙_}
 use Rattle.model.specs.Logs.{cut, extentOf}
 use Rattle.format_numbers.proofs.Picks.{picks, no}

@@ -1,8 +1,5 @@
 -- `state_records::keep_over` meets its contract.
 -- Assumes nothing.
-use mathlib.Core.Path.{ap, _∙_}
-use lib.ListN.{length}
-use Rattle.state_rows.proofs.Chains.{length-stored}
 use Rattle.state_records.specs.Rules.{staysBy}
 use Rattle.state_records.proofs.Kept.{over-kept}
 use borrow.Author.Needs.{needs}
