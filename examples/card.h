@@ -9,7 +9,7 @@
 
 struct card {
     int file, folder;
-    size_t base;                           /* the length of its checkpoint, 0 where there is none: the log begins here */
+    size_t base;                          /* the length of its checkpoint, 0 where there is none: the log begins here */
     char path[4096], next_path[4096 + 4]; /* CARD, and CARD.new while a checkpoint is being stored */
 };
 

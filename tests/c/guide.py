@@ -22,6 +22,10 @@ def count(what, wrong):
     print('FAILED: %s: %s' % (what, wrong) if wrong else 'ok: ' + what)
 
 
+def number(text, pattern):
+    return int(re.search(pattern, text).group(1).replace(',', ''))
+
+
 def table(head):
     """the rows of the guide's table with this head"""
     text = GUIDE[GUIDE.index('| %s |' % head):].split('\n\n')[0]
@@ -44,6 +48,9 @@ def stack():
     code, said = ran(built('tests/c/stack.c', 'stack', ['-DBOUND_%s=%d' % (k.upper(), v) for k, v in bounds.items()]))
     print(said, end='')
     count('the stack of %d calls is within the table' % len(bounds), 'exit %d' % code if code else '')
+    deep, rest = number(README, r'([\d,]+) bytes of stack for'), number(README, r'([\d,]+) for everything else')
+    over = [name for name, n in bounds.items() if n > (deep if name in ('recover', 'recover_checkpoint', 'inspect') else rest)]
+    count('README.md has the stack as the table', over)
 
 
 def stale():
@@ -66,9 +73,10 @@ def sizes():
     lines = subprocess.run(['size', DIST + '/libmantelorris.a'], capture_output=True, text=True, check=True).stdout.split('\n')[1:]
     parts = [[int(n) for n in line.split()[:3]] for line in lines if line.strip()]
     code, rest = sum(p[0] for p in parts), sum(p[1] + p[2] for p in parts)
-    most = int(re.search(r'at most ([\d,]+) bytes in the whole archive', GUIDE).group(1).replace(',', ''))
+    most = number(GUIDE, r'at most ([\d,]+) bytes in the whole archive')
     print('code %d bytes' % code)
     count('code of at most %d bytes, no data' % most, code > most and code or rest)
+    count('README.md says the same', number(README, r'Code under ([\d,]+) bytes') != most and most)
     nm = subprocess.run(['nm', DIST + '/libmantelorris.a'], capture_output=True, text=True, check=True).stdout
     missing = sorted(set(re.findall(r'^ +U (\S+)', nm, flags=re.M)))
     count('the archive needs memcpy and memset alone', missing != ['memcpy', 'memset'] and missing)
@@ -87,7 +95,7 @@ def memory():
     count('%d sizes of slices and structs' % len(rows), ran(built(path, 'memory'))[0] or len(rows) != len(names))
     wrong = [row for row in table('log space | commands') if (int(row[0]) - 8) // 28 != int(row[1])]
     count('how many commands a log holds', wrong)
-    reserve = int(re.search(r'with ([\d,]+) bytes left you can still give away', GUIDE).group(1).replace(',', ''))
+    reserve = number(GUIDE, r'with ([\d,]+) bytes left you can still give away')
     header = open(DIST + '/mantelorris.h', encoding='utf-8').read()
     give, release, points = [int(re.search(r'#define MANTELORRIS_%s (\d+)' % n, header).group(1)) for n in ('LOG_GIVE', 'LOG_RELEASE', 'POINTS')]
     count('the reserve for giving all points away', reserve != points * (give + release) and reserve)
