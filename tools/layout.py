@@ -1,29 +1,56 @@
 #!/usr/bin/env python3
-"""layout.py: no line of code, definitions or proofs over 200 characters, imports aside; no chain of ten or more `.before` in a proof (bind its start by a `let`: a further local
-then changes one line). Names each place that breaks this; exits 1 if there is one."""
+"""layout.py: what a reader may expect of every file of code, definitions and proofs:
+  - no line over 200 characters, imports aside
+  - no chain of ten or more `.before` in a proof (bind its start by a `let`: a further local then changes one line)
+  - no name imported from a module that the file does not use
+Names each place that breaks this; exits 1 if there is one."""
 import glob, os, re, sys
 
 LONGEST = 200
 CHAIN = re.compile(r'(?:\.before\s*){10,}')
-IMPORT = re.compile(r'\s*(?:ghost )?use ')
+IMPORT = re.compile(r'^\s*(?:ghost )?use (\S+?)\.\{([^}]*)\}', re.M)
+IMPORT_LINE = re.compile(r'\s*(?:ghost |pub )?use ')
+COMMENT = re.compile(r'\s*(?:--|//)')
 
 
-def faults(path):
-    for number, line in enumerate(open(path, encoding='utf-8'), 1):
-        line = line.rstrip('\n')
-        if len(line) > LONGEST and not IMPORT.match(line):
+def long_lines(path, lines):
+    for number, line in enumerate(lines, 1):
+        if len(line) > LONGEST and not IMPORT_LINE.match(line):
             yield '%s:%d: %d characters' % (path, number, len(line))
         if CHAIN.search(line):
             yield '%s:%d: ten or more .before in a row' % (path, number)
 
 
+def stands(name, text):
+    """a name stands in a text by itself; an operator, _+_, by its signs"""
+    for part in [p for p in name.split('_') if p] if name.startswith('_') or name.endswith('_') else [name]:
+        if re.match(r'\w', part):
+            if not re.search(r'(?<![\w·′-])%s(?![\w·′-])' % re.escape(part), text):
+                return False
+        elif part not in text:
+            return False
+    return True
+
+
+def unused(path, lines):
+    text = '\n'.join(line for line in lines if not IMPORT_LINE.match(line) and not COMMENT.match(line))
+    for module, names in IMPORT.findall('\n'.join(lines)):
+        for name in names.split(','):
+            name = name.split(' as ')[-1].strip()
+            if name and not stands(name, text):
+                yield '%s: %s of %s is not used' % (path, name, module)
+
+
 def main():
     os.chdir(os.path.join(os.path.dirname(os.path.abspath(__file__)), '..'))
     files = [f for pattern in ('src/*.rt', 'specs/**/*.antt', 'proofs/**/*.antt') for f in glob.glob('crates/*/' + pattern, recursive=True)]
-    found = [fault for f in sorted(files) for fault in faults(f)]
+    found = []
+    for path in sorted(files):
+        lines = open(path, encoding='utf-8').read().split('\n')
+        found += list(long_lines(path, lines)) + list(unused(path, lines))
     for fault in found:
         print(fault)
-    print('%d files, %d places over the limits' % (len(files), len(found)))
+    print('%d files, %d faults' % (len(files), len(found)))
     sys.exit(1 if found else 0)
 
 
