@@ -12,11 +12,12 @@ use native.Mathlib.Omega.{arith}
 use lib.ListN.{length, drop}
 use Rattle.model.specs.declared.ImageHead.{ImageHead}
 use Rattle.model.specs.Tables.{rows, bytesOf, written}
-use Rattle.model.specs.Limits.{leastImage, floorRow, entryRow}
+use Rattle.model.specs.Limits.{imagePairs, partsStart, leastImage, floorRow, entryRow}
 use Rattle.model.specs.Images.{Image, imageAt, imageHeadBytes, imageBytes, imageLength, floorOfBytes, floorBytes, imageEntryOf, imageEntryBytes}
 use Rattle.model_laws.specs.Codec.{Codec}
+use Rattle.model_laws.specs.Runs.{last, run, storedBy, bytesBy}
 use Rattle.model_laws.specs.Fits.{imageHead}
-use Rattle.model_laws.proofs.Written.{length-written, written-none, written-append, drop-written-past, run-behind}
+use Rattle.model_laws.proofs.Written.{length-written, written-none, written-append, drop-written-past, runs-stored}
 use Rattle.model_laws.proofs.Tables.{length-rows, rows-snoc, bytesOf-append, bytesOf-one, length-bytesOf}
 use Rattle.model_laws.proofs.Images.{floorCodec, image-length}
 use Rattle.format_image_writer.specs.Heads.{headBytes, frameBytes, pairBytes, pointBytes}
@@ -27,13 +28,9 @@ head-parts h = rw (length-rows floorOfBytes floorRow (h .floors) [], length-rows
 
 pub head-written : (s : List ℕ) (h : ImageHead)
     → written (written (written s 0 (frameBytes h)) 16 (pairBytes (h .floors) (h .entries))) 40 (pointBytes (h .value) (h .quality)) ≡ written s 0 (headBytes h)
-unfolding frameBytes pairBytes
+unfolding frameBytes pairBytes storedBy bytesBy
 head-written s h =
-    let frame : List ℕ = frameBytes h in
-    let pairs : List ℕ = pairBytes (h .floors) (h .entries) in
-    let point : List ℕ = pointBytes (h .value) (h .quality) in
-    ap (λ (x : List ℕ). written x 40 point) (run-behind s 0 frame pairs refl refl)
-    ∙ run-behind s 0 (frame ++ pairs) point refl refl
+    runs-stored s 0 (run (frameBytes h) imagePairs refl (run (pairBytes (h .floors) (h .entries)) partsStart refl (last (pointBytes (h .value) (h .quality)))))
     ∙ ap (λ (x : List ℕ). written s 0 x) (sym (head-parts h))
 
 pub head-image : (i : Image) → headBytes (imageHead i) ≡ imageHeadBytes i

@@ -4,7 +4,7 @@
 --     getD-written-below, -past, -in; le32-written-below, -past; le64-written-below, -past; le32-written, le64-written     reading
 --     take-written, take-written-run, drop-written-past, drop-written, drop-written-at     parts
 --     written-front, written-fits   a run that fits
---     written-none, written-append, run-behind, five-runs, written-comm, written-over, written-cover     several runs
+--     written-none, written-append, run-behind, runs-stored, written-comm, written-over, written-cover     several runs
 --     written-same, written-again, written-le32, written-le64     a run of what stands there changes nothing
 --     nested-front, written-nested, written-first, written-second     a run within one that was stored; within one of two lists
 --     written-mid                   a run in the middle of what stands there
@@ -21,6 +21,7 @@ use lib.ListN.{length, getD, set, take, drop, length-take, length-drop, take-app
 use lib.Seq.{sets, length-sets, take-all, drop-drop, getD-take, getD-drop, set-getD, take-add, take-at}
 use Rattle.model.specs.Numbers.{le32At, le32, le64At, le64, quad}
 use Rattle.model.specs.Tables.{written}
+use Rattle.model_laws.specs.Runs.{Runs, last, run, storedBy, bytesBy}
 use Rattle.model_laws.specs.Bytes.{Bytes, part}
 use Rattle.model_laws.proofs.Numbers.{le32-quad, le32-drop, le64-drop, le32-back, le64-back, le64-parts, length-le64, bytes-cons}
 
@@ -181,14 +182,11 @@ written-append (b ∷ s) zero (u ∷ us) vs = rw (zero-add, written-append s zer
 pub run-behind : (s : List ℕ) (k : ℕ) (a b : List ℕ) {n j : ℕ} → length a ≡ n → j ≡ k + n → written (written s k a) j b ≡ written s k (a ++ b)
 run-behind s k a b p q = rw (q, ← p) (sym (written-append s k a b))
 
--- five runs, each behind the one before
-pub five-runs : (s : List ℕ) (k : ℕ) (a b c d e : List ℕ) {m n i j : ℕ} → length a ≡ m → m + length b ≡ n → n + length c ≡ i → i + length d ≡ j
-    → written (written (written (written (written s k a) (k + m) b) (k + n) c) (k + i) d) (k + j) e ≡ written s k (a ++ (b ++ (c ++ (d ++ e))))
-five-runs s k a b c d e {m} {n} {i} {j} p q r t =
-    let x : k + m + length b ≡ k + n = omega arith in
-    let y : k + n + length c ≡ k + i = omega arith in
-    let z : k + i + length d ≡ k + j = omega arith in
-    rw (written-append s k a, written-append, written-append, written-append, p, x, y, z)
+-- any number of runs, each behind the one before
+pub runs-stored : (s : List ℕ) (k : ℕ) (r : Runs k) → storedBy s r ≡ written s k (bytesBy r)
+unfolding storedBy bytesBy
+runs-stored s k (last a) = refl
+runs-stored s k (run a n p r) = runs-stored (written s k a) n r ∙ run-behind s k a (bytesBy r) refl (sym p)
 
 -- runs that are apart, in either order
 pub written-comm : (s : List ℕ) (i : ℕ) (us : List ℕ) (j : ℕ) (vs : List ℕ) → i + length us ≤ j → written (written s i us) j vs ≡ written (written s j vs) i us

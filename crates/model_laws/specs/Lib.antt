@@ -5,3 +5,4 @@ pub mod Layout
 pub mod Opened
 pub mod OneWalk
 pub mod Heads
+pub mod Runs

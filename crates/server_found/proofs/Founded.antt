@@ -20,14 +20,15 @@ use Rattle.model.specs.Numbers.{le64, quad}
 use Rattle.model.specs.Tables.{rows, everyRow, bytesOf, written}
 use Rattle.model.specs.Plan.{planEntryOf, planRowOk, planOk, planOf, planBytes}
 use Rattle.model.specs.Images.{floorBytes}
-use Rattle.model.specs.States.{stateBytes, stateHeadBytes, pointBytes, completionBytes, padded, pointsStart, floorsStart, recordsStart, pointRow, recordRow, stateHead, stateMagic}
+use Rattle.model.specs.States.{stateBytes, stateHeadBytes, pointBytes, completionBytes, padded, pointsStart, floorsStart, recordsStart, pointRow, recordRow, lengthPlace, markPlace, stateHead, stateMagic}
 use Rattle.model.specs.Apply.{founded, foundedPoint}
 use Rattle.model.specs.Logs.{headBytes}
 use Rattle.model.specs.Operations.{after, answerOf, settle, stored, leftUnless, foundRefusal, foundOf}
 use Rattle.model_laws.specs.Bytes.{Bytes}
+use Rattle.model_laws.specs.Runs.{last, run, storedBy, bytesBy}
 use Rattle.model_laws.proofs.Tests.{and-left}
 use Rattle.model_laws.proofs.Refused.{if-passed}
-use Rattle.model_laws.proofs.Written.{length-written, written-none, run-behind, five-runs}
+use Rattle.model_laws.proofs.Written.{length-written, written-none, run-behind, runs-stored}
 use Rattle.model_laws.proofs.Tables.{length-rows, rows-snoc, bytesOf-append, bytesOf-one, length-bytesOf}
 use Rattle.model_laws.proofs.Plans.{plan-again, plan-length}
 use Rattle.model_laws.proofs.States.{pointCodec}
@@ -37,9 +38,11 @@ use Rattle.model_laws.proofs.States.{pointCodec}
 pub head-runs : (s : List ℕ) (n : ℕ)
     → written (written (written (written (written s 0 stateMagic) 4 (quad n 0 0 0)) 8 (replicate 16 0)) 24 (le64 headSize)) 32 (le64 headSize)
     ≡ written s 0 (stateHeadBytes (founded [] n))
-unfolding stateHeadBytes founded le64
+unfolding stateHeadBytes founded le64 storedBy bytesBy
 head-runs s n =
-    five-runs s 0 stateMagic (quad n 0 0 0) (replicate 16 0) (le64 headSize) (le64 headSize) refl refl refl refl
+    runs-stored s 0
+    (run stateMagic 4 refl
+    (run (quad n 0 0 0) 8 refl (run (replicate 16 0) lengthPlace refl (run (le64 headSize) markPlace refl (last (le64 headSize))))))
 
 head-length : (n : ℕ) → length (stateHeadBytes (founded [] n)) ≡ stateHead
 unfolding stateHeadBytes founded le64
@@ -98,7 +101,7 @@ pub founded-runs : (s plan : List ℕ) (n : ℕ) → Bytes plan → planOk plan 
     → written (written (written (written (written s 0 (stateHeadBytes (founded [] n))) stateHead plan) pointsStart (bytesOf pointBytes (map (foundedPoint n) (planOf plan)))) floorsStart
     (replicate (floorRow * clientCount) 0)) recordsStart (replicate (recordRow * recordCount) 0)
     ≡ stored s (founded (planOf plan) n)
-unfolding stored
+unfolding stored storedBy bytesBy
 founded-runs s plan n h ok =
     let es : List PlanEntry = planOf plan in
     let ps : List ℕ = bytesOf pointBytes (map (foundedPoint n) es) in
@@ -106,9 +109,12 @@ founded-runs s plan n h ok =
     let again : planBytes es ≡ plan = plan-again plan h ok in
     let long : length plan ≡ planSize = ap length (sym again) ∙ plan-length es count in
     let points : length ps ≡ pointRow * pointCount = length-bytesOf pointCodec (map (foundedPoint n) es) ∙ ap (λ (k : ℕ). pointRow * k) (length-map es (foundedPoint n) ∙ count) in
-    five-runs s 0 (stateHeadBytes (founded [] n)) plan ps (replicate (floorRow * clientCount) 0) (replicate (recordRow * recordCount) 0) {n = pointsStart} {i = floorsStart}
-    {j = recordsStart} (head-length n) (omega arith) (omega arith)
-    (omega (arith, length-replicate {A = ℕ} 256 0))
+    runs-stored s 0
+    (run (stateHeadBytes (founded [] n)) stateHead (omega (arith, head-length n))
+    (run plan pointsStart (omega arith)
+    (run ps floorsStart (omega arith)
+    (run (replicate (floorRow * clientCount) 0) recordsStart (omega (arith, length-replicate {A = ℕ} 256 0))
+    (last (replicate (recordRow * recordCount) 0))))))
     ∙ ap (λ (x : List ℕ). written s 0 x) (ap (λ (x : List ℕ). stateHeadBytes (founded [] n) ++ (x ++ (ps ++ (replicate (floorRow * clientCount) 0 ++ replicate (recordRow * recordCount) 0))))
     (sym again) ∙ sym (founded-bytes es n))
 

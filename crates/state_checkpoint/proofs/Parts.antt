@@ -8,10 +8,9 @@ use Prim.Native.Nat.{ℕ, _+_, _-_, _*_}
 use mathlib.Core.Path.{_≡_, refl, sym, ap, _∙_}
 use mathlib.Core.List.{List, _++_}
 use native.Mathlib.Omega.{arith}
-use native.Mathlib.Nat.{zero-add}
 use borrow.Rule.Slice.PartMut.{putMid, midOf}
 use lib.ListN.{length, take, drop, length-drop}
-use Rattle.model.specs.Limits.{pointCount, planRow, planSize, floorRow, checkpointPoint, checkpointRecord}
+use Rattle.model.specs.Limits.{pointCount, planRow, planSize, floorRow, checkpointPairs, checkpointPoint, checkpointRecord}
 use Rattle.model.specs.Numbers.{le32, quad}
 use Rattle.model.specs.Tables.{bytesOf, written}
 use Rattle.model.specs.Plan.{planEntryOf, planBytes}
@@ -19,9 +18,10 @@ use Rattle.model.specs.Images.{floorBytes}
 use Rattle.model.specs.States.{State, load, clientsIn, recordsIn, stateHead, pointsStart, floorsStart, recordsStart, pointRow, recordRow}
 use Rattle.model.specs.Checkpoints.{checkpointMagic, planPart, pointsPart, clientsPart, recordsPart, pairsBytes, pointFront, recordFront, checkpointBytes, fronts}
 use Rattle.model_laws.specs.Bytes.{Bytes, part}
+use Rattle.model_laws.specs.Runs.{last, run, storedBy, bytesBy}
 use Rattle.model_laws.specs.Fits.{Sound}
 use Rattle.model_laws.proofs.Numbers.{bytes-drop}
-use Rattle.model_laws.proofs.Written.{written-append, run-behind, tail-part, tail-back}
+use Rattle.model_laws.proofs.Written.{run-behind, runs-stored, tail-part, tail-back}
 use Rattle.model_laws.proofs.Tables.{length-rows, length-bytesOf, rows-again, everyRow-true}
 use Rattle.model_laws.proofs.Plans.{planCodec, plan-length}
 use Rattle.model_laws.proofs.Images.{floorCodec}
@@ -84,21 +84,15 @@ pub pairs-runs : (s : List ℕ) (n k : ℕ)
     → written (written (written (written s 12 (pair planPart planSize)) 20 (pair pointsPart (checkpointPoint * pointCount))) 28 (pair clientsPart (floorRow * n))) 36
     (pair (recordsPart n) (checkpointRecord * k))
     ≡ written s 12 (pairsBytes n k)
-unfolding pairsBytes
+unfolding pairsBytes storedBy bytesBy
 pairs-runs s n k =
-    let a : List ℕ = pair planPart planSize in
-    let b : List ℕ = pair pointsPart (checkpointPoint * pointCount) in
-    let c : List ℕ = pair clientsPart (floorRow * n) in
-    let d : List ℕ = pair (recordsPart n) (checkpointRecord * k) in
-    ap (λ (x : List ℕ). written (written x 28 c) 36 d) (run-behind s 12 a b refl refl)
-    ∙ ap (λ (x : List ℕ). written x 36 d) (run-behind s 12 (a ++ b) c refl refl)
-    ∙ run-behind s 12 (a ++ (b ++ c)) d refl refl
+    runs-stored s checkpointPairs
+    (run (pair planPart planSize) 20 refl
+    (run (pair pointsPart (checkpointPoint * pointCount)) 28 refl
+    (run (pair clientsPart (floorRow * n)) 36 refl
+    (last (pair (recordsPart n) (checkpointRecord * k))))))
 
 -- ---- the whole
-
-six-runs : (s a b c d e f : List ℕ) {i j k l m : ℕ} → length a ≡ i → i + length b ≡ j → j + length c ≡ k → k + length d ≡ l → l + length e ≡ m
-    → written (written (written (written (written (written s 0 a) i b) j c) k d) l e) m f ≡ written s 0 (a ++ (b ++ (c ++ (d ++ (e ++ f)))))
-six-runs s a b c d e f p q r t u = rw (written-append s 0 a, written-append, written-append, written-append, written-append, zero-add, p, q, r, t, u)
 
 abbrev frame : State → List ℕ
 frame st = checkpointMagic ++ (quad (st .server) 0 0 0 ++ le32 (st .heard))
@@ -128,10 +122,15 @@ module _ (s : List ℕ) (h : Bytes s) (d : Sound s) where
       → written (written (written (written (written (written t 0 (frame (load s))) 12 (pairsBytes (clientsIn s) (recordsIn s))) planPart (planBytes (load s .plan))) pointsPart
       (bytesOf pointFront (load s .points))) clientsPart (bytesOf floorBytes (load s .floors))) (recordsPart (clientsIn s)) (bytesOf recordFront (load s .records))
       ≡ written t 0 (checkpointBytes (load s))
+  unfolding storedBy bytesBy
   checkpoint-runs t =
-      six-runs t (frame (load s)) (pairsBytes (clientsIn s) (recordsIn s)) (planBytes (load s .plan)) (bytesOf pointFront (load s .points)) (bytesOf floorBytes (load s .floors))
-      (bytesOf recordFront (load s .records)) refl (ap (λ (n : ℕ). 12 + n) (pairs-length (clientsIn s) (recordsIn s))) (ap (λ (n : ℕ). planPart + n) plan-long)
-      (ap (λ (n : ℕ). pointsPart + n) points-long) (ap (λ (n : ℕ). clientsPart + n) clients-long)
+      runs-stored t 0
+      (run (frame (load s)) checkpointPairs refl
+      (run (pairsBytes (clientsIn s) (recordsIn s)) planPart (ap (λ (n : ℕ). checkpointPairs + n) (pairs-length (clientsIn s) (recordsIn s)))
+      (run (planBytes (load s .plan)) pointsPart (ap (λ (n : ℕ). planPart + n) plan-long)
+      (run (bytesOf pointFront (load s .points)) clientsPart (ap (λ (n : ℕ). pointsPart + n) points-long)
+      (run (bytesOf floorBytes (load s .floors)) (recordsPart (clientsIn s)) (ap (λ (n : ℕ). clientsPart + n) clients-long)
+      (last (bytesOf recordFront (load s .records))))))))
       ∙ ap (λ (x : List ℕ). written t 0 x) (sym (whole s))
 
   pub checkpoint-size : recordsPart (clientsIn s) + checkpointRecord * recordsIn s ≡ length (checkpointBytes (load s))

@@ -8,7 +8,7 @@ use Prim.Native.Nat.{ℕ, _+_, _-_, _*_, _≤_, _<_}
 use mathlib.Core.Path.{_≡_, refl, sym, ap, _∙_}
 use mathlib.Core.List.{List, _++_, append-assoc}
 use native.Mathlib.Omega.{arith}
-use native.Mathlib.Nat.{add-zero, zero-add}
+use native.Mathlib.Nat.{add-zero}
 use lib.ListN.{length, getD, take, drop, replicate, length-drop}
 use lib.Seq.{getD-drop, drop-drop}
 use lib.Dec.{eqb, leb}
@@ -16,11 +16,12 @@ use Rattle.model.specs.Choice.{pick}
 use Rattle.model.specs.Numbers.{le32At, le32, le64, quad}
 use Rattle.model.specs.Limits.{headSize, planSize, pointCount, clientCount, recordCount, floorRow, checkpointHead, checkpointPoint, checkpointRecord}
 use Rattle.model.specs.Tables.{rows, bytesOf, written}
-use Rattle.model.specs.States.{given, stateMagic, stateHead, stateEnd, pointsStart, floorsStart, recordsStart, pointRow, recordRow, padded}
+use Rattle.model.specs.States.{given, stateMagic, clientsPlace, recordsPlace, lengthPlace, markPlace, stateHead, stateEnd, pointsStart, floorsStart, recordsStart, pointRow, recordRow, padded}
 use Rattle.model.specs.Checkpoints.{planPart, pointsPart, clientsPart, recordsPart, clientsOf, recordsOf, pointWhole, recordWhole, fronts, restored}
 use Rattle.model_laws.specs.Bytes.{part}
+use Rattle.model_laws.specs.Runs.{last, run, storedBy, bytesBy}
 use Rattle.model_laws.proofs.Numbers.{le32-drop, length-le64}
-use Rattle.model_laws.proofs.Written.{length-written, written-none, written-append, run-behind, five-runs}
+use Rattle.model_laws.proofs.Written.{length-written, written-none, run-behind, runs-stored}
 use Rattle.model_laws.proofs.Tables.{rows-snoc, bytesOf-append, bytesOf-one, places}
 use Rattle.model_laws.proofs.Fronts.{fronts-take, length-fronts, point-whole-width, record-whole-width}
 use Rattle.model_laws.proofs.Checkpoints.{Framed}
@@ -29,19 +30,15 @@ use Rattle.state_restore.proofs.Lengths.{length-part, rows-length, padd
 
 -- ---- rows
 
-three-runs : (s : List ℕ) (k : ℕ) (a b c : List ℕ) {m n : ℕ} → length a ≡ m → m + length b ≡ n → written (written (written s k a) (k + m) b) (k + n) c ≡ written s k (a ++ (b ++ c))
-three-runs s k a b c {m} {n} p q =
-    let e : k + m + length b ≡ k + n = omega arith in
-    rw (written-append s k a, written-append, p, e)
-
 pub point-runs : (s : List ℕ) (to : ℕ) (t : List ℕ) (from : ℕ) {g h : ℕ} → from + checkpointPoint ≤ length t → g ≡ pick (leb given (getD t from 0)) headSize 0
     → h ≡ pick (eqb (le32At t (from + 12)) 0) 0 headSize
     → written (written (written s to (part from checkpointPoint t)) (to + 16) (le64 g)) (to + 24) (le64 h) ≡ written s to (pointWhole (drop from t))
-unfolding pointWhole
+unfolding pointWhole storedBy bytesBy
 point-runs s to t from {g} {h} l p q =
     let status : getD (drop from t) 0 0 ≡ getD t from 0 = getD-drop from t 0 0 ∙ ap (λ (k : ℕ). getD t k 0) (add-zero from) in
-    let n : 16 + length (le64 g) ≡ 24 = rw length-le64 in
-    three-runs s to (part from checkpointPoint t) (le64 g) (le64 h) (length-part from checkpointPoint t l) n
+    let front : to + length (part from checkpointPoint t) ≡ to + 16 = ap (λ (k : ℕ). to + k) (length-part from checkpointPoint t l) in
+    let give : to + 16 + length (le64 g) ≡ to + 24 = rw length-le64 (omega arith) in
+    runs-stored s to (run (part from checkpointPoint t) (to + 16) front (run (le64 g) (to + 24) give (last (le64 h))))
     ∙ rw (p, q, status, le32-drop from t 12)
 
 pub record-runs : (s : List ℕ) (to : ℕ) (t : List ℕ) (from : ℕ) → from + checkpointRecord ≤ length t
@@ -112,18 +109,16 @@ record-padded s t from m h f =
 
 -- ---- the head and the whole
 
-seven-runs : (s a b c d e f g : List ℕ) {i j k l m n : ℕ} → length a ≡ i → i + length b ≡ j → j + length c ≡ k → k + length d ≡ l → l + length e ≡ m → m + length f ≡ n
-    → written (written (written (written (written (written (written s 0 a) i b) j c) k d) l e) m f) n g ≡ written s 0 (a ++ (b ++ (c ++ (d ++ (e ++ (f ++ g))))))
-seven-runs s a b c d e f g p q r t u v =
-    rw (written-append s 0 a, written-append, written-append, written-append, written-append, written-append, zero-add, p, q, r, t, u, v)
-
 pub head-runs : (s t : List ℕ) (n m : ℕ) → checkpointHead ≤ length t
     → written (written (written (written (written (written (written s 0 stateMagic) 4 (part 4 8 t)) 12 (le32 n)) 16 (le32 m)) 20 (quad 0 0 0 0)) 24 (le64 headSize)) 32 (le64 headSize)
     ≡ written s 0 (headRestored n m t)
-unfolding headRestored
+unfolding headRestored storedBy bytesBy
 head-runs s t n m h =
     let size : 24 + length (le64 headSize) ≡ 32 = rw length-le64 in
-    seven-runs s stateMagic (part 4 8 t) (le32 n) (le32 m) (quad 0 0 0 0) (le64 headSize) (le64 headSize) refl (ap (λ (x : ℕ). 4 + x) (length-part 4 8 t (omega arith))) refl refl refl size
+    runs-stored s 0
+    (run stateMagic 4 refl
+    (run (part 4 8 t) clientsPlace (ap (λ (x : ℕ). 4 + x) (length-part 4 8 t (omega arith)))
+    (run (le32 n) recordsPlace refl (run (le32 m) 20 refl (run (quad 0 0 0 0) lengthPlace refl (run (le64 headSize) markPlace size (last (le64 headSize))))))))
 
 -- what follows the last of seven
 regroup : (a b c d e f g x : List ℕ) → a ++ (b ++ (c ++ (d ++ (e ++ (f ++ (g ++ x)))))) ≡ (a ++ (b ++ (c ++ (d ++ (e ++ (f ++ g)))))) ++ x
@@ -166,9 +161,12 @@ module _ (t : List ℕ) (i : Framed t) where
   pub restored-runs : (s : List ℕ) {c k : ℕ} {s1 s2 s3 s4 s5 : List ℕ} → c ≡ n → k ≡ m → s1 ≡ written s 0 (headRestored c k t) → s2 ≡ written s1 stateHead planBytes
       → s3 ≡ written s2 pointsStart points → s4 ≡ written s3 floorsStart (padded (take floorRow) floorRow clientCount (fronts floorRow c (drop clientsPart t)))
       → s5 ≡ written s4 recordsStart (padded recordWhole recordRow recordCount (fronts checkpointRecord k (drop (recordsPart c) t))) → s5 ≡ written s 0 (restored t)
+  unfolding storedBy bytesBy
   restored-runs s p q a b d e f =
       rw (f, e, d, b, a, p, q)
-      (five-runs s 0 (headRestored n m t) planBytes points clients records (head-length n m t (omega (arith, i .whole)))
-      (ap (λ (x : ℕ). stateHead + x) plan-length) (ap (λ (x : ℕ). pointsStart + x) points-length)
-      (ap (λ (x : ℕ). floorsStart + x) clients-length)
+      (runs-stored s 0
+      (run (headRestored n m t) stateHead (omega (arith, head-length n m t (omega (arith, i .whole))))
+      (run planBytes pointsStart (ap (λ (x : ℕ). stateHead + x) plan-length)
+      (run points floorsStart (ap (λ (x : ℕ). pointsStart + x) points-length)
+      (run clients recordsStart (ap (λ (x : ℕ). floorsStart + x) clients-length) (last records)))))
       ∙ ap (λ (x : List ℕ). written s 0 x) (sym parts))

@@ -3,8 +3,9 @@
 --     point-runs, completion-runs     the stores of a row's fields, one after the other
 -- Assumes nothing.
 use Prim.Native.Nat.{ℕ, _+_}
-use mathlib.Core.Path.{_≡_, refl, ap, _∙_}
-use mathlib.Core.List.{List, _++_}
+use mathlib.Core.Path.{_≡_, refl}
+use mathlib.Core.List.{List}
+use native.Mathlib.Omega.{arith}
 use native.Mathlib.Nat.{add-zero}
 use lib.ListN.{drop, getD}
 use lib.Seq.{getD-drop}
@@ -13,8 +14,9 @@ use Rattle.model.specs.declared.Completion.{Completion}
 use Rattle.model.specs.Numbers.{le32At, le64At, le32, le64, signedAt, signed32, quad}
 use Rattle.model.specs.Tables.{written}
 use Rattle.model.specs.States.{pointOf, pointBytes, completionOf, completionBytes}
+use Rattle.model_laws.specs.Runs.{last, run, storedBy, bytesBy}
 use Rattle.model_laws.proofs.Numbers.{le32-drop, le64-drop, signed-drop}
-use Rattle.model_laws.proofs.Written.{run-behind}
+use Rattle.model_laws.proofs.Written.{runs-stored}
 
 -- ---- reads
 
@@ -55,35 +57,26 @@ pub point-runs : (s : List ℕ) (k : ℕ) (x : Point)
     → written (written (written (written (written (written s k (quad (x .status) (x .quality) (x .destination) 0)) (k + 4) (signed32 (x .value))) (k + 8) (le32 (x .moveNumber))) (k + 12)
     (le32 (x .takenMove))) (k + 16) (le64 (x .giveEnd))) (k + 24) (le64 (x .takeEnd))
     ≡ written s k (pointBytes x)
-unfolding pointBytes le64
+unfolding pointBytes le64 storedBy bytesBy
 point-runs s k x =
-    let a : List ℕ = quad (x .status) (x .quality) (x .destination) 0 in
-    let b : List ℕ = a ++ signed32 (x .value) in
-    let c : List ℕ = b ++ le32 (x .moveNumber) in
-    let d : List ℕ = c ++ le32 (x .takenMove) in
-    let e : List ℕ = d ++ le64 (x .giveEnd) in
-    ap (λ (z : List ℕ). written (written (written (written z (k + 8) (le32 (x .moveNumber))) (k + 12) (le32 (x .takenMove))) (k + 16) (le64 (x .giveEnd))) (k + 24) (le64 (x .takeEnd)))
-    (run-behind s k a (signed32 (x .value)) refl refl)
-    ∙ ap (λ (z : List ℕ). written (written (written z (k + 12) (le32 (x .takenMove))) (k + 16) (le64 (x .giveEnd))) (k + 24) (le64 (x .takeEnd))) (run-behind s k b (le32 (x .moveNumber)) refl refl)
-    ∙ ap (λ (z : List ℕ). written (written z (k + 16) (le64 (x .giveEnd))) (k + 24) (le64 (x .takeEnd))) (run-behind s k c (le32 (x .takenMove)) refl refl)
-    ∙ ap (λ (z : List ℕ). written z (k + 24) (le64 (x .takeEnd))) (run-behind s k d (le64 (x .giveEnd)) refl refl)
-    ∙ run-behind s k e (le64 (x .takeEnd)) refl refl
+    runs-stored s k
+    (run (quad (x .status) (x .quality) (x .destination) 0) (k + 4) refl
+    (run (signed32 (x .value)) (k + 8) (omega arith)
+    (run (le32 (x .moveNumber)) (k + 12) (omega arith)
+    (run (le32 (x .takenMove)) (k + 16) (omega arith)
+    (run (le64 (x .giveEnd)) (k + 24) (omega arith)
+    (last (le64 (x .takeEnd))))))))
 
 pub completion-runs : (s : List ℕ) (k : ℕ) (r : Completion)
     → written (written (written (written (written (written s k (le32 (r .command .client))) (k + 4) (le32 (r .command .call))) (k + 8) (signed32 (r .command .argument))) (k + 12)
     (signed32 (r .result .value))) (k + 16) (quad (r .command .op) (r .result .outcome) (r .result .quality) (r .command .point))) (k + 20) (le64 (r .end))
     ≡ written s k (completionBytes r)
-unfolding completionBytes le64
+unfolding completionBytes le64 storedBy bytesBy
 completion-runs s k r =
-    let q : List ℕ = quad (r .command .op) (r .result .outcome) (r .result .quality) (r .command .point) in
-    let a : List ℕ = le32 (r .command .client) in
-    let b : List ℕ = a ++ le32 (r .command .call) in
-    let c : List ℕ = b ++ signed32 (r .command .argument) in
-    let d : List ℕ = c ++ signed32 (r .result .value) in
-    let e : List ℕ = d ++ q in
-    ap (λ (z : List ℕ). written (written (written (written z (k + 8) (signed32 (r .command .argument))) (k + 12) (signed32 (r .result .value))) (k + 16) q) (k + 20) (le64 (r .end)))
-    (run-behind s k a (le32 (r .command .call)) refl refl)
-    ∙ ap (λ (z : List ℕ). written (written (written z (k + 12) (signed32 (r .result .value))) (k + 16) q) (k + 20) (le64 (r .end))) (run-behind s k b (signed32 (r .command .argument)) refl refl)
-    ∙ ap (λ (z : List ℕ). written (written z (k + 16) q) (k + 20) (le64 (r .end))) (run-behind s k c (signed32 (r .result .value)) refl refl)
-    ∙ ap (λ (z : List ℕ). written z (k + 20) (le64 (r .end))) (run-behind s k d q refl refl)
-    ∙ run-behind s k e (le64 (r .end)) refl refl
+    runs-stored s k
+    (run (le32 (r .command .client)) (k + 4) refl
+    (run (le32 (r .command .call)) (k + 8) (omega arith)
+    (run (signed32 (r .command .argument)) (k + 12) (omega arith)
+    (run (signed32 (r .result .value)) (k + 16) (omega arith)
+    (run (quad (r .command .op) (r .result .outcome) (r .result .quality) (r .command .point)) (k + 20) (omega arith)
+    (last (le64 (r .end))))))))

@@ -1,15 +1,18 @@
 -- `format_image_writer::put_entry` meets its contract.
 -- Assumes nothing.
+use Prim.Native.Nat.{_+_}
 use mathlib.Core.Path.{refl}
+use native.Mathlib.Omega.{arith}
 use Rattle.model.specs.Images.{imageEntryBytes}
 use Rattle.model.specs.Numbers.{le32, signed32, quad}
-use Rattle.model_laws.proofs.Written.{five-runs}
+use Rattle.model_laws.specs.Runs.{last, run, storedBy, bytesBy}
+use Rattle.model_laws.proofs.Written.{runs-stored}
 use borrow.Author.Needs.{needs}
 use Rattle.format_image_writer.proofs.put_entry.Statement.{statement}
 use Rattle.format_image_writer.proofs.put_entry.Tie as tie
 
 returns : tie.Need-returns
-unfolding imageEntryBytes
+unfolding imageEntryBytes storedBy bytesBy
 returns c =
     let c5 = c .before .before in
     let c4 = c5 .before .before .before .before in
@@ -17,9 +20,14 @@ returns c =
     let c2 = c3 .before .before .before .before in
     let c1 = c2 .before .before .before .before in
     let start = c1 .before .before .before .args in
+    let k = start .k in
     rw (c5 .write-4 .ensures, c4 .write-signed2 .ensures, c3 .write-signed .ensures, c2 .write-u322 .ensures, c1 .write-u32 .ensures)
-    (five-runs (start .out .now) (start .k) (le32 (start .e .client)) (le32 (start .e .call)) (signed32 (start .e .argument)) (signed32 (start .e .result .value))
-    (quad (start .e .op) (start .e .result .outcome) (start .e .result .quality) 0) refl refl refl refl)
+    (runs-stored (start .out .now) k
+    (run (le32 (start .e .client)) (k + 4) refl
+    (run (le32 (start .e .call)) (k + 8) (omega arith)
+    (run (signed32 (start .e .argument)) (k + 12) (omega arith)
+    (run (signed32 (start .e .result .value)) (k + 16) (omega arith)
+    (last (quad (start .e .op) (start .e .result .outcome) (start .e .result .quality) 0)))))))
 
 pub put-entry-spec : {M : Type 1} → statement M
 put-entry-spec =
