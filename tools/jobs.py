@@ -1,6 +1,6 @@
 """Runs rt on single crates, as many at a time as there are cores, each as soon as what it needs is done. Each worker has a folder of its own that rt takes for a repository: a
-crates.txt of one line, the crates as links, and the libraries and stamps of this repository's target/, also as links. So rt looks at one crate alone, and two runs of it
-do not disturb each other: each writes just the library and the stamp of its own crate."""
+crates.txt of one line, the crates as links, and the libraries, stamps and programs of this repository's target/, also as links. So rt looks at one crate alone, and two runs
+of it do not disturb each other: each writes just what it makes of its own crate."""
 import os, shutil, subprocess, tempfile, threading
 
 
@@ -15,7 +15,7 @@ class Root:
     def __init__(self, folder):
         self.folder, self.lines = folder, lines()
         os.makedirs(folder + '/target')
-        for part in ('rlib', 'stamp'):
+        for part in ('rlib', 'stamp', 'bin'):
             os.makedirs('target/' + part, exist_ok=True)
             os.symlink(os.path.abspath('target/' + part), '%s/target/%s' % (folder, part))
 
