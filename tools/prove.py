@@ -81,7 +81,8 @@ def main():
     left = jobs.run(todo + [Library(c, first) for c in crates if all_of_it and exports(c)] + trials)
     for job in left:
         print('   NOT TRIED: %s %s' % (type(job).__name__.lower(), job.crate))
-    print('   %d edits in %d checks; %d s' % (tried.total, tried.checks, time.time() - began), flush=True)
+    said = '%d edits in %d checks; ' % (tried.total, tried.checks) if all_of_it else ''
+    print('   %s%d s' % (said, time.time() - began), flush=True)
     status = subprocess.run([sys.executable, 'tools/progress.py', 'rt', 'check']).returncode
     failed = len(report.failed) + len(tried.failed) + len(left)
     failed += 1 if status and not failed else 0
