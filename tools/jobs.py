@@ -70,7 +70,6 @@ def run(jobs):
                 more = job.run(root) or []
             except BaseException as e:
                 failed.append(e)
-                raise
             finally:
                 with lock:
                     waiting.extend(more)

@@ -62,8 +62,8 @@ module _ (plan : List ℕ) (s : LockPoints) (ls : List LockEvent) where
     -- a controller's client is called through the controller alone
     pub own-issue : (n x op p a : ℕ) (ch : Chamber) → AtLock n (kernel (outside (issue x op p a))) → lockAt n .controllers x ≡ some ch → ⊥
     pub own-receive : (n x p : ℕ) (ch : Chamber) → AtLock n (kernel (outside (receive x p))) → lockAt n .controllers x ≡ some ch → ⊥
-    -- "a lost one's successor starts with no gate being moved", and once each holder's "synced heard time" is "not under that of the old
-    -- client's notice": a server has the gate open
+    -- the next controller starts "with no gate being moved", which a server has open, and once that server has synced a heard time
+    -- "not under that of the old client's notice"
     pub successor : (n x y p : ℕ) → Begins n y → lockAt n .latest ≡ some x → IsGate p → Fenced plan events n x p
 
 -- the claim, on the kernel's promises alone
