@@ -15,6 +15,7 @@ pub mod Checkpoints
 pub mod Restored
 pub mod Calls
 pub mod Running
+pub mod Alike
 pub mod Placed
 pub mod Seen
 pub mod Fronts

@@ -19,8 +19,10 @@ use Rattle.model.specs.Apply.{replayFrom, withMark}
 use Rattle.model.specs.Decisions.{Decided, onRequest, onFetch, onSync, onNotice, onGive, onImage, onTake, onReceipt, onRelease}
 use Rattle.model.specs.Operations.{After, freeIn, lent, foundOf, requestOf, fetchOf, syncOf, noticeOf, giveOf, imageOf, takeOf, receiptOf, releaseOf, recoverOf}
 use Rattle.model.specs.Refusals.{noRefusal}
+use Rattle.model.specs.Checkpoints.{AfterCheckpoint}
 use Rattle.model_laws.specs.Bytes.{Bytes}
 use Rattle.model_laws.specs.Fits.{lastEnd}
+use Rattle.model_laws.specs.Alike.{Alike}
 use Rattle.model_invariants.specs.History.{Decides, entryFor, DecidedFrom}
 
 pub data Operation : Type 0 where
@@ -127,6 +129,19 @@ abbrev pub CallBytes : Call → Type 0
 CallBytes (found plan n) = Bytes plan
 CallBytes (operate o) = LentBytes o
 CallBytes (recover plan) = Bytes plan
+
+-- what two calls leave: all alike, but for what lies behind the state's last completion record
+pub record AlikeAfter (a b : After) : Type 0 where
+  pub answer : b .answer ≡ a .answer
+  pub state : Alike (a .state) (b .state)
+  pub log : b .log ≡ a .log
+  pub out : b .out ≡ a .out
+
+pub record AlikeCheckpoint (a b : AfterCheckpoint) : Type 0 where
+  pub answer : b .answer ≡ a .answer
+  pub state : Alike (a .state) (b .state)
+  pub checkpoint : b .checkpoint ≡ a .checkpoint
+  pub tail : b .tail ≡ a .tail
 
 -- ---- between calls
 

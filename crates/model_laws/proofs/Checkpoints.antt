@@ -22,7 +22,7 @@ use Rattle.model.specs.Images.{floorBytes}
 use Rattle.model.specs.States.{State, recordRow, pointBytes, completionBytes, stateHeadBytes, padded, stateBytes}
 use Rattle.model.specs.Limits.{headSize, planSize, pointCount, clientCount, recordCount, floorRow, checkpointHead, checkpointPoint, checkpointRecord}
 use Rattle.model.specs.Checkpoints.{placedPoint, placedRecord, placed, endBefore, rebased, checkpointMagic, planPart, pointsPart, clientsPart, recordsPart}
-use Rattle.model.specs.Checkpoints.{pairsBytes, pointFront, recordFront, checkpointBytes, clientsOf, recordsOf, pointWhole, recordWhole, fronts, restored, checkpointFramed}
+use Rattle.model.specs.Checkpoints.{pairsBytes, pointFront, recordFront, checkpointBytes, clientsOf, recordsOf, pointWhole, recordWhole, fronts, restoredBytes, restored, checkpointFramed}
 use Rattle.model_laws.specs.Bytes.{Bytes, All}
 use Rattle.model_laws.specs.Fits.{PointFits, CompletionFits, StateFits}
 use Rattle.model_laws.proofs.Tests.{joined-all, all-joined}
@@ -317,25 +317,17 @@ module _ (st : State) where
         (clientsBytes ++ (recordsBytes ++ rest)) (R .points)
         ∙ sym (bytesOf-map pointBytes (placedPoint endBefore) (st .points)))
 
-    completions-at : padded recordWhole recordRow recordCount
+    completions-at : bytesOf recordWhole
         (fronts checkpointRecord (recordsOf (checkpointBytes st ++ rest)) (drop (recordsPart (clientsOf (checkpointBytes st ++ rest))) (checkpointBytes st ++ rest)))
-        ≡ padded completionBytes recordRow recordCount (map (placedRecord endBefore) (st .records))
-    unfolding padded
+        ≡ bytesOf completionBytes (map (placedRecord endBefore) (st .records))
     completions-at =
-        rw (
-          clients-at (R .fits) rest,
-          records-at (R .fits) rest,
-          drop-clients (R .fits) rest,
-          length-fronts checkpointRecord (length (st .records)) (recordsBytes ++ rest),
-          length-map (st .records) (placedRecord endBefore),
-        )
-        (ap (λ (x : List ℕ). x ++ replicate (recordRow * (recordCount - length (st .records))) 0)
+        rw (clients-at (R .fits) rest, records-at (R .fits) rest, drop-clients (R .fits) rest)
         (fronts-back (λ (r : Completion). endBefore (r .end) ≡ headSize) recordFront (λ (r : Completion). completionBytes (placedRecord endBefore r)) checkpointRecord recordWhole
         (λ r t. record-front-width r) record-whole (st .records) rest (R .records)
-        ∙ sym (bytesOf-map completionBytes (placedRecord endBefore) (st .records))))
+        ∙ sym (bytesOf-map completionBytes (placedRecord endBefore) (st .records)))
 
-    pub restored-front : restored (checkpointBytes st ++ rest) ≡ stateBytes (rebased st)
-    unfolding restored stateBytes stateHeadBytes rebased placed le64
+    pub restored-front : restoredBytes (checkpointBytes st ++ rest) ≡ stateBytes (rebased st)
+    unfolding restoredBytes stateBytes stateHeadBytes rebased placed le64
     restored-front =
         rw (
           completions-at,
@@ -349,3 +341,7 @@ module _ (st : State) where
           R .mark,
           length-map (st .records) (placedRecord endBefore),
         )
+
+    pub restored-blank : restored (checkpointBytes st ++ rest) ≡ stateBytes (rebased st) ++ replicate (recordRow * (recordCount - length (st .records))) 0
+    unfolding restored
+    restored-blank = rw (restored-front, records-at (R .fits) rest)

@@ -13,6 +13,7 @@ pub mod Ends
 pub mod TwoWalks
 pub mod Plans
 pub mod States
+pub mod Alike
 pub mod Fronts
 pub mod Checkpoints
 pub mod Restored

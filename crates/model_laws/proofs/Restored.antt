@@ -1,5 +1,5 @@
 -- Laws of the state that is read from a checkpoint: any bytes that are framed.
---     restored-long, restored-fit   17,704 bytes
+--     restored-long, restored-fit   their number, and that they are bytes
 --     restored-.., drop-..          what stands in them: the head's fields, the tables
 --     restored-again                where they are sound, the state's checkpoint are the bytes that were read
 -- Assumes nothing.
@@ -18,7 +18,7 @@ use Rattle.model.specs.States.{stateMagic, stateHead, pointRow, recordRow, poin
 use Rattle.model.specs.States.{clientsIn, recordsIn, load, padded}
 use Rattle.model.specs.Limits.{headSize, planSize, pointCount, clientCount, recordCount, floorRow, checkpointPoint, checkpointRecord}
 use Rattle.model.specs.Checkpoints.{checkpointMagic, planPart, pointsPart, clientsPart, recordsPart, pairsBytes, pointFront, recordFront, checkpointBytes, clientsOf, recordsOf}
-use Rattle.model.specs.Checkpoints.{pointWhole, recordWhole, fronts, restored}
+use Rattle.model.specs.Checkpoints.{pointWhole, recordWhole, fronts, restoredBytes, restored}
 use Rattle.model_laws.specs.Bytes.{Bytes, All, part}
 use Rattle.model_laws.specs.Fits.{Sound}
 use Rattle.model_laws.proofs.Numbers.{part-join, part-quad, quad-again, starts-again, le32-is, le32-below, le32-digits, length-le64, zeros3-at}
@@ -72,12 +72,19 @@ module _ (s : List ℕ) where
       ++ (quad (byteAt s 8) (byteAt s 9) (byteAt s 10) (byteAt s 11)
       ++ (le32 (clientsOf s) ++ (le32 (recordsOf s) ++ (quad 0 0 0 0 ++ (le64 headSize ++ le64 headSize))))))
 
+  restored-run : restored s
+      ≡ stateMagic ++ (take 8 (drop 4 s) ++ (le32 (clientsOf s) ++ (le32 (recordsOf s) ++ (quad 0 0 0 0 ++ (le64 headSize ++ (le64 headSize ++ tables))))))
+  unfolding restored restoredBytes
+  restored-run =
+      let rows : recordsOfIt ≡ bytesOf recordWhole (fronts checkpointRecord (recordsOf s) (drop (recordsPart (clientsOf s)) s)) ++ replicate (recordRow * (recordCount - recordsOf s)) 0 =
+      unfold padded in rw (length-fronts checkpointRecord (recordsOf s) (drop (recordsPart (clientsOf s)) s)) in
+      rw rows (simp append-assoc)
+
   -- ---- bytes
 
   pub restored-fit : Bytes s → Bytes (restored s)
-  unfolding restored
   restored-fit h =
-      bytes-run
+      rw restored-run (bytes-run
       (stateMagic ∷ take 8 (drop 4 s) ∷ le32 (clientsOf s) ∷ le32 (recordsOf s) ∷ quad 0 0 0 0 ∷ le64 headSize ∷ le64 headSize ∷ planOfIt ∷ pointsOfIt ∷ floorsOfIt ∷ recordsOfIt ∷ []) (
         bytes-quad 87 83 84 49 (lit< tt) (lit< tt) (lit< tt) (lit< tt),
         (
@@ -117,7 +124,7 @@ module _ (s : List ℕ) where
             ),
           ),
         ),
-      )
+      ))
 
   module _ (d : Framed s) where
     -- ---- lengths
@@ -162,8 +169,8 @@ module _ (s : List ℕ) where
     head-bytes = sym (part-join s 4 4 4 (part-quad s 4 (omega (arith, d .whole))) (part-quad s 8 (omega (arith, d .whole))))
 
     restored-parts : restored s ≡ headOfIt ++ tables
-    unfolding restored le64
-    restored-parts = rw head-bytes
+    unfolding le64
+    restored-parts = rw (restored-run, head-bytes)
 
     head-long : length headOfIt ≡ stateHead
     unfolding le64

@@ -24,7 +24,7 @@ use Rattle.model.specs.Tables.{rows, everyRow, bytesOf, every, zeros, written}
 use Rattle.model.specs.Plan.{planEntryOf, planRowOk, planBytes, entryAt, inRange}
 use Rattle.model.specs.Packets.{idOk, commandOk, outcomeOk}
 use Rattle.model.specs.Images.{floorOfBytes, floorBytes, floorOf, floorOk, inWindow, clientsAscend}
-use Rattle.model.specs.States.{State, stateMagic, stateHead, pointRow, recordRow, pointsStart, floorsStart, recordsStart, stateEnd, pointOf}
+use Rattle.model.specs.States.{State, stateMagic, stateHead, pointRow, recordRow, pointsStart, floorsStart, recordsStart, stateEnd, recordsEnd, pointOf}
 use Rattle.model.specs.States.{pointBytes, completionOf, completionBytes, clientsIn, recordsIn, load, stateHeadBytes, padded, stateBytes, pointAt}
 use Rattle.model.specs.States.{pointsOk, keepsRecords, completionOk, idsDiffer, endsFrom, stateFramed, pointRowOk, stateOk, sound}
 use Rattle.model.specs.Limits.{lastServer, headSize, pointCount, clientCount, recordCount, planRow, floorRow, planSize, callWindow}
@@ -46,8 +46,7 @@ use Rattle.model_laws.proofs.Plans.{planCodec, plan-length, plan-bytes}
 abbrev framedTests : List ℕ → List Bool
 framedTests s =
     startsWith s stateMagic ∷ zeros3At s 5 ∷ eqb (le32At s 20) 0 ∷ leb (clientsIn s) clientCount ∷ leb (recordsIn s) recordCount
-    ∷ zeros (floorRow * (clientCount - clientsIn s)) (drop (floorsStart + floorRow * clientsIn s) s)
-    ∷ zeros (recordRow * (recordCount - recordsIn s)) (drop (recordsStart + recordRow * recordsIn s) s) ∷ []
+    ∷ zeros (floorRow * (clientCount - clientsIn s)) (drop (floorsStart + floorRow * clientsIn s) s) ∷ []
 
 -- ---- a point's row
 
@@ -313,19 +312,22 @@ module _ (st : State) where
     floors-length : length (padded floorBytes floorRow clientCount (st .floors)) ≡ floorRow * clientCount
     floors-length = padded-length floorCodec clientCount (st .floors) (f .floors-count)
 
-    records-length : length (padded completionBytes recordRow recordCount (st .records)) ≡ recordRow * recordCount
-    records-length = padded-length completionCodec recordCount (st .records) (f .records-count)
+    records-length : length (bytesOf completionBytes (st .records)) ≡ recordRow * length (st .records)
+    records-length = length-bytesOf completionCodec (st .records)
 
-    pub state-length : length (stateBytes st) ≡ stateEnd
+    pub state-length : length (stateBytes st) ≡ recordsEnd (length (st .records))
     unfolding stateBytes
-    state-length = simp (length-append, state-head-length, plan-length (st .plan) (f .plan-count), points-length, floors-length, records-length)
+    state-length = simp (length-append, state-head-length, plan-length (st .plan) (f .plan-count), points-length, floors-length, records-length) (omega arith)
+
+    pub state-within : length (stateBytes st) ≤ stateEnd
+    state-within = omega (arith, state-length, f .records-count)
 
     pub state-bytes : Bytes (stateBytes st)
     unfolding stateBytes stateHeadBytes
     state-bytes =
         bytes-run
         (stateHeadBytes st ∷ planBytes (st .plan) ∷ bytesOf pointBytes (st .points) ∷ padded floorBytes floorRow clientCount (st .floors)
-        ∷ padded completionBytes recordRow recordCount (st .records) ∷ []) (
+        ∷ bytesOf completionBytes (st .records) ∷ []) (
           bytes-run
               (stateMagic ∷ quad (st .server) 0 0 0 ∷ le32 (st .heard) ∷ le32 (length (st .floors)) ∷ le32 (length (st .records)) ∷ quad 0 0 0 0 ∷ le64 (st .size) ∷ le64 (st .mark) ∷ []) (
                 bytes-quad (byteAt stateMagic 0) (byteAt stateMagic 1) (byteAt stateMagic 2) (byteAt stateMagic 3) (lit< tt) (lit< tt) (lit< tt) (lit< tt),
@@ -352,7 +354,7 @@ module _ (st : State) where
               bytes-bytesOf pointCodec (st .points) (f .points),
               (
                 padded-bytes floorCodec clientCount (st .floors) (f .floors),
-                (padded-bytes completionCodec recordCount (st .records) (f .records), tt),
+                (bytes-bytesOf completionCodec (st .records) (f .records), tt),
               ),
             ),
           ),
@@ -360,32 +362,32 @@ module _ (st : State) where
 
     module _ (rest : List ℕ) where
       drop-head : drop stateHead (stateBytes st ++ rest)
-          ≡ planBytes (st .plan) ++ (bytesOf pointBytes (st .points) ++ (padded floorBytes floorRow clientCount (st .floors) ++ (padded completionBytes recordRow recordCount (st .records) ++ rest)))
+          ≡ planBytes (st .plan) ++ (bytesOf pointBytes (st .points) ++ (padded floorBytes floorRow clientCount (st .floors) ++ (bytesOf completionBytes (st .records) ++ rest)))
       unfolding stateBytes stateHeadBytes le64
       drop-head = simp append-assoc
 
       drop-plan : drop pointsStart (stateBytes st ++ rest)
-          ≡ bytesOf pointBytes (st .points) ++ (padded floorBytes floorRow clientCount (st .floors) ++ (padded completionBytes recordRow recordCount (st .records) ++ rest))
+          ≡ bytesOf pointBytes (st .points) ++ (padded floorBytes floorRow clientCount (st .floors) ++ (bytesOf completionBytes (st .records) ++ rest))
       drop-plan =
           sym (drop-drop planSize stateHead (stateBytes st ++ rest))
           ∙ ap (λ (x : List ℕ). drop planSize x) drop-head
           ∙ drop-at (planBytes (st .plan))
-          (bytesOf pointBytes (st .points) ++ (padded floorBytes floorRow clientCount (st .floors) ++ (padded completionBytes recordRow recordCount (st .records) ++ rest)))
+          (bytesOf pointBytes (st .points) ++ (padded floorBytes floorRow clientCount (st .floors) ++ (bytesOf completionBytes (st .records) ++ rest)))
           planSize (plan-length (st .plan) (f .plan-count))
 
       drop-points : drop floorsStart (stateBytes st ++ rest)
-          ≡ padded floorBytes floorRow clientCount (st .floors) ++ (padded completionBytes recordRow recordCount (st .records) ++ rest)
+          ≡ padded floorBytes floorRow clientCount (st .floors) ++ (bytesOf completionBytes (st .records) ++ rest)
       drop-points =
           sym (drop-drop (pointRow * pointCount) pointsStart (stateBytes st ++ rest))
           ∙ ap (λ (x : List ℕ). drop (pointRow * pointCount) x) drop-plan
-          ∙ drop-at (bytesOf pointBytes (st .points)) (padded floorBytes floorRow clientCount (st .floors) ++ (padded completionBytes recordRow recordCount (st .records) ++ rest))
+          ∙ drop-at (bytesOf pointBytes (st .points)) (padded floorBytes floorRow clientCount (st .floors) ++ (bytesOf completionBytes (st .records) ++ rest))
           (pointRow * pointCount) points-length
 
-      drop-floors : drop recordsStart (stateBytes st ++ rest) ≡ padded completionBytes recordRow recordCount (st .records) ++ rest
+      drop-floors : drop recordsStart (stateBytes st ++ rest) ≡ bytesOf completionBytes (st .records) ++ rest
       drop-floors =
           sym (drop-drop (floorRow * clientCount) floorsStart (stateBytes st ++ rest))
           ∙ ap (λ (x : List ℕ). drop (floorRow * clientCount) x) drop-points
-          ∙ drop-at (padded floorBytes floorRow clientCount (st .floors)) (padded completionBytes recordRow recordCount (st .records) ++ rest) (floorRow * clientCount) floors-length
+          ∙ drop-at (padded floorBytes floorRow clientCount (st .floors)) (bytesOf completionBytes (st .records) ++ rest) (floorRow * clientCount) floors-length
 
       clients-at : clientsIn (stateBytes st ++ rest) ≡ length (st .floors)
       unfolding clientsIn stateBytes stateHeadBytes le32At
@@ -400,18 +402,18 @@ module _ (st : State) where
       plan-rows =
           rw (drop-head, ← f .plan-count)
           (rows-back planCodec (st .plan)
-          (bytesOf pointBytes (st .points) ++ (padded floorBytes floorRow clientCount (st .floors) ++ (padded completionBytes recordRow recordCount (st .records) ++ rest))) (f .plan))
+          (bytesOf pointBytes (st .points) ++ (padded floorBytes floorRow clientCount (st .floors) ++ (bytesOf completionBytes (st .records) ++ rest))) (f .plan))
 
       point-rows : rows pointOf pointRow pointCount (drop pointsStart (stateBytes st ++ rest)) ≡ st .points
       point-rows =
           rw (drop-plan, ← f .points-count)
-          (rows-back pointCodec (st .points) (padded floorBytes floorRow clientCount (st .floors) ++ (padded completionBytes recordRow recordCount (st .records) ++ rest)) (f .points))
+          (rows-back pointCodec (st .points) (padded floorBytes floorRow clientCount (st .floors) ++ (bytesOf completionBytes (st .records) ++ rest)) (f .points))
 
       floor-rows : rows floorOfBytes floorRow (clientsIn (stateBytes st ++ rest)) (drop floorsStart (stateBytes st ++ rest)) ≡ st .floors
-      floor-rows = rw (drop-points, clients-at) (padded-rows floorCodec clientCount (st .floors) (padded completionBytes recordRow recordCount (st .records) ++ rest) (f .floors))
+      floor-rows = rw (drop-points, clients-at) (padded-rows floorCodec clientCount (st .floors) (bytesOf completionBytes (st .records) ++ rest) (f .floors))
 
       record-rows : rows completionOf recordRow (recordsIn (stateBytes st ++ rest)) (drop recordsStart (stateBytes st ++ rest)) ≡ st .records
-      record-rows = rw (drop-floors, records-at) (padded-rows completionCodec recordCount (st .records) rest (f .records))
+      record-rows = rw (drop-floors, records-at) (rows-back completionCodec (st .records) rest (f .records))
 
       server-at : byteAt (stateBytes st ++ rest) 4 ≡ st .server
       unfolding stateBytes stateHeadBytes
@@ -450,12 +452,7 @@ module _ (st : State) where
       floors-zeros : zeros (floorRow * (clientCount - clientsIn (stateBytes st ++ rest))) (drop (floorsStart + floorRow * clientsIn (stateBytes st ++ rest)) (stateBytes st ++ rest)) ≡ true
       floors-zeros =
           rw (clients-at, ← drop-drop (floorRow * length (st .floors)) floorsStart (stateBytes st ++ rest), drop-points)
-          (padded-zeros floorCodec clientCount (st .floors) (padded completionBytes recordRow recordCount (st .records) ++ rest))
-
-      records-zeros : zeros (recordRow * (recordCount - recordsIn (stateBytes st ++ rest))) (drop (recordsStart + recordRow * recordsIn (stateBytes st ++ rest)) (stateBytes st ++ rest)) ≡ true
-      records-zeros =
-          rw (records-at, ← drop-drop (recordRow * length (st .records)) recordsStart (stateBytes st ++ rest), drop-floors)
-          (padded-zeros completionCodec recordCount (st .records) rest)
+          (padded-zeros floorCodec clientCount (st .floors) (bytesOf completionBytes (st .records) ++ rest))
 
       framed : stateFramed (stateBytes st ++ rest) ≡ true
       unfolding stateFramed
@@ -470,7 +467,7 @@ module _ (st : State) where
                 h .2,
                 (
                   rw clients-at (le-leb (length (st .floors)) clientCount (f .floors-count)),
-                  (rw records-at (le-leb (length (st .records)) recordCount (f .records-count)), (floors-zeros, (records-zeros, tt))),
+                  (rw records-at (le-leb (length (st .records)) recordCount (f .records-count)), (floors-zeros, tt)),
                 ),
               ),
             ),
@@ -481,27 +478,29 @@ module _ (st : State) where
       plan-tests =
           rw (drop-head, ← f .plan-count)
           (everyRow-back planCodec (st .plan)
-          (bytesOf pointBytes (st .points) ++ (padded floorBytes floorRow clientCount (st .floors) ++ (padded completionBytes recordRow recordCount (st .records) ++ rest))) (f .plan))
+          (bytesOf pointBytes (st .points) ++ (padded floorBytes floorRow clientCount (st .floors) ++ (bytesOf completionBytes (st .records) ++ rest))) (f .plan))
 
       point-tests : everyRow pointRowOk pointRow pointCount (drop pointsStart (stateBytes st ++ rest)) ≡ true
       point-tests =
           rw (drop-plan, ← f .points-count)
-          (everyRow-back pointCodec (st .points) (padded floorBytes floorRow clientCount (st .floors) ++ (padded completionBytes recordRow recordCount (st .records) ++ rest)) (f .points))
+          (everyRow-back pointCodec (st .points) (padded floorBytes floorRow clientCount (st .floors) ++ (bytesOf completionBytes (st .records) ++ rest)) (f .points))
 
-      pub sound-front : stateOk st ≡ true → sound (stateBytes st ++ rest) ≡ true
+      pub sound-front : stateEnd ≤ length (stateBytes st ++ rest) → stateOk st ≡ true → sound (stateBytes st ++ rest) ≡ true
       unfolding sound
-      sound-front ok =
+      sound-front long ok =
           let b : List ℕ = stateBytes st ++ rest in
           all-joined
           (leb stateEnd (length b) ∷ stateFramed b ∷ everyRow planRowOk planRow pointCount (drop stateHead b) ∷ everyRow pointRowOk pointRow pointCount (drop pointsStart b) ∷ stateOk (load b) ∷ [])
-          (le-leb stateEnd (length b) (omega (arith, length-append (stateBytes st) rest, state-length)), (framed, (plan-tests, (point-tests, (rw load-front ok, tt)))))
+          (le-leb stateEnd (length b) long, (framed, (plan-tests, (point-tests, (rw load-front ok, tt)))))
 
     -- in a buffer
     pub load-back : (s : List ℕ) → stateEnd ≤ length s → load (written s 0 (stateBytes st)) ≡ st
-    load-back s h = rw (written-front s (stateBytes st) (rw state-length h)) (load-front (drop (length (stateBytes st)) s))
+    load-back s h = rw (written-front s (stateBytes st) (omega (arith, state-within))) (load-front (drop (length (stateBytes st)) s))
 
     pub sound-back : (s : List ℕ) → stateEnd ≤ length s → stateOk st ≡ true → sound (written s 0 (stateBytes st)) ≡ true
-    sound-back s h ok = rw (written-front s (stateBytes st) (rw state-length h)) (sound-front (drop (length (stateBytes st)) s) ok)
+    sound-back s h ok =
+        rw (written-front s (stateBytes st) (omega (arith, state-within)))
+        (sound-front (drop (length (stateBytes st)) s) (omega (arith, state-within, length-append (stateBytes st) (drop (length (stateBytes st)) s), length-drop (length (stateBytes st)) s)) ok)
 
 -- ---- soundness, as a test and as a record
 
@@ -519,7 +518,6 @@ sound-is s e =
       few-clients = leb-true (clientsIn s) clientCount (u .1 .1 .1 .0);
       few-records = leb-true (recordsIn s) recordCount (u .1 .1 .1 .1 .0);
       past-clients = u .1 .1 .1 .1 .1 .0;
-      past-records = u .1 .1 .1 .1 .1 .1 .0;
       plan-rows = t .1 .1 .0;
       point-rows = t .1 .1 .1 .0;
       state = t .1 .1 .1 .1 .0;
@@ -538,7 +536,7 @@ is-sound s d =
             d .at5,
             (
               eq-eqb (le32At s 20) 0 (d .at20),
-              (le-leb (clientsIn s) clientCount (d .few-clients), (le-leb (recordsIn s) recordCount (d .few-records), (d .past-clients, (d .past-records, tt)))),
+              (le-leb (clientsIn s) clientCount (d .few-clients), (le-leb (recordsIn s) recordCount (d .few-records), (d .past-clients, tt))),
             ),
           ),
         ),
@@ -570,20 +568,26 @@ module _ (s : List ℕ) (h : Bytes s) (d : Sound s) where
       (part-join s 20 4 (stateHead - 24) (le32-is s 20 h (omega arith) (sym (d .at20)))
       (part-join s 24 8 (stateHead - 32) (le64-again s 24 h (omega arith)) (le64-again s 32 h (omega arith))))))))
 
-  state-again : stateBytes (load s) ≡ part 0 stateEnd s
+  pub state-again : stateBytes (load s) ≡ part 0 (recordsEnd (recordsIn s)) s
   unfolding stateBytes load planBytes
   state-again =
       let l : stateEnd ≤ length s = d .long in
-      part-join s 0 stateHead (stateEnd - stateHead) state-head-again
-      (part-join s stateHead planSize (stateEnd - pointsStart) (rows-again planCodec pointCount (drop stateHead s) (bytes-drop stateHead s h) (omega (arith, length-drop stateHead s)) (d .plan-rows))
-      (part-join s pointsStart (pointRow * pointCount) (stateEnd - floorsStart)
+      let m : recordsIn s ≤ recordCount = d .few-records in
+      let k : ℕ = recordRow * recordsIn s in
+      let e : stateHead + (planSize + (pointRow * pointCount + (floorRow * clientCount + k))) ≡ recordsEnd (recordsIn s) = omega arith in
+      part-join s 0 stateHead (planSize + (pointRow * pointCount + (floorRow * clientCount + k))) state-head-again
+      (part-join s stateHead planSize (pointRow * pointCount + (floorRow * clientCount + k))
+      (rows-again planCodec pointCount (drop stateHead s) (bytes-drop stateHead s h) (omega (arith, length-drop stateHead s)) (d .plan-rows))
+      (part-join s pointsStart (pointRow * pointCount) (floorRow * clientCount + k)
       (rows-again pointCodec pointCount (drop pointsStart s) (bytes-drop pointsStart s h) (omega (arith, length-drop pointsStart s)) (d .point-rows))
-      (part-join s floorsStart (floorRow * clientCount) (stateEnd - recordsStart)
+      (part-join s floorsStart (floorRow * clientCount) k
       (padded-again floorCodec clientCount s floorsStart (clientsIn s) h (d .few-clients) (omega arith) (everyRow-true floorRow (clientsIn s) (drop floorsStart s)) (d .past-clients))
-      (padded-again completionCodec recordCount s recordsStart (recordsIn s) h (d .few-records) (omega arith) (everyRow-true recordRow (recordsIn s) (drop recordsStart s)) (d .past-records)))))
+      (rows-again completionCodec (recordsIn s) (drop recordsStart s) (bytes-drop recordsStart s h) (omega (arith, length-drop recordsStart s))
+      (everyRow-true recordRow (recordsIn s) (drop recordsStart s))))))
+      ∙ ap (λ (x : ℕ). part 0 x s) e
 
   pub written-state : written s 0 (stateBytes (load s)) ≡ s
-  written-state = written-again s 0 stateEnd (stateBytes (load s)) state-again
+  written-state = written-again s 0 (recordsEnd (recordsIn s)) (stateBytes (load s)) state-again
 
   pub load-fits : StateFits (load s)
   unfolding load

@@ -38,8 +38,7 @@ fn take_tables(s: &mut [u8], image: &[u8], h: ImageHead, end: u64)
     ensures { λ r. ⌜ now (s .exit) ≡ stored (now (s .entry)) (tabled (now (image .entry)) h end (load (now (s .entry)))) ⌝ }
 {
     state_clients::merge(s, image, h.floors as usize);
-    state_records::keep_records(s, Rule::OnOther(h.point));
-    state_records::keep_records(s, Rule::OverFloors);
+    state_records::keep_records(s, Rule::Beside(h.point));
     state_records::append_image(s, image, h, end);
 }
 

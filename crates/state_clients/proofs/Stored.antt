@@ -10,11 +10,11 @@ use native.Mathlib.Nat.{mul-suc}
 use lib.ListN.{length, set, getD, take, drop, replicate, length-set, length-append, replicate-append-replicate, length-replicate}
 use lib.Seq.{take-all, take-suc, length-take-le, drop-at, take-at}
 use Rattle.model.specs.declared.Floor.{Floor}
-use Rattle.model.specs.Limits.{clientCount, floorRow, recordCount}
+use Rattle.model.specs.Limits.{clientCount, floorRow}
 use Rattle.model.specs.Numbers.{le32}
 use Rattle.model.specs.Tables.{bytesOf, written}
 use Rattle.model.specs.Images.{floorBytes}
-use Rattle.model.specs.States.{load, clientsIn, stateBytes, padded, floorsStart, completionBytes, recordRow}
+use Rattle.model.specs.States.{load, clientsIn, stateBytes, padded, floorsStart, completionBytes}
 use Rattle.model.specs.Operations.{stored}
 use Rattle.model_laws.specs.Codec.{Codec}
 use Rattle.model_laws.specs.Layout.{headWith, layout, withFloors}
@@ -82,7 +82,7 @@ module _ (s : List ℕ) (w : Canonical s) where
   F = padded floorBytes floorRow clientCount (load s .floors)
 
   abbrev R : List ℕ
-  R = padded completionBytes recordRow recordCount (load s .records)
+  R = bytesOf completionBytes (load s .records)
 
   -- as many rows
   with-floors : (gs : List Floor) → length gs ≡ m → layout (load s) m n (padded floorBytes floorRow clientCount gs) R ≡ stateBytes (withFloors gs (load s))
