@@ -56,6 +56,7 @@ part guide-pictures tools/guide_pictures.py --check; count $?
 part progress tests/progress.sh; count $?
 part planted-faults tests/gate.sh; count $?
 part claims tools/claims.py; count $?
+part claims-tool tests/claims.sh; count $?
 part edit-table tools/edit_table.py --check; count $?
 part entry-points tools/entry_points.py; count $?
 part callers tools/callers.py; count $?
