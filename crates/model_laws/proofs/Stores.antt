@@ -2,11 +2,11 @@
 -- these laws are about a layout, which is the state's bytes once count and table agree (layout-state).
 --     put-heard, put-clients, put-count, put-size, put-mark     the head's fields; put-clients and put-count: the two counts
 --     put-point                     a point
---     put-floors, put-records       a run of stores inside the clients' or the completion records' table
---     records-stored, floors-stored     rows of a table and their count: the state with that table replaced
+--     put-floors                    a run of stores inside the clients' table
+--     records-replaced, floors-stored     rows of a table and their count: the state with that table replaced
+--     stored-over, stored-own       one state stored over another
 --     bytesOf-set, padded-set       one row of a table replaced
 --     padded-from                   the rows from an index on replaced by at least as many: rows added, or inserted
---     padded-fewer                  fewer rows, and zeros in the place of those that went
 -- Assumes nothing.
 use Prim.Native.Nat.{ℕ, zero, suc, _+_, _-_, _*_, _≤_, _<_}
 use mathlib.Core.Path.{_≡_, refl, sym, ap, _∙_}
@@ -29,7 +29,7 @@ use Rattle.model_laws.specs.Codec.{Codec}
 use Rattle.model_laws.specs.Fits.{StateFits}
 use Rattle.model_laws.specs.Layout.{headWith, layout, withHeard, withSize, withPoint, withFloors, withRecords}
 use Rattle.model_laws.proofs.Written.{nested-front, written-first, written-second, written-front, written-none, written-append, written-comm, written-cover, written-prefix, written-suffix}
-use Rattle.model_laws.proofs.Tables.{length-bytesOf, bytesOf-append, places}
+use Rattle.model_laws.proofs.Tables.{length-bytesOf, bytesOf-append}
 use Rattle.model_laws.proofs.States.{pointCodec, point-width, completionCodec, padded-length, state-length}
 use Rattle.model_laws.proofs.Images.{floorCodec}
 use Rattle.model_laws.proofs.Plans.{plan-length}
@@ -102,21 +102,6 @@ module _ {A : Type 0} (C : Codec A) where
         let left : n - length ts ≡ x + y = omega arith in
         let rooms : w * (n - length ts) ≡ w * x + w * y = rw left (mul-add w x y) in
         rw (split, rooms, over-end (bytesOf (C .enc) (take i ts)) (bytesOf (C .enc) (drop i ts)) (bytesOf (C .enc) us) (w * i) (w * x) (w * y) kept new, count, bytesOf-append, append-assoc)
-
-    -- fewer rows, and zeros in the place of those that went
-    pub padded-fewer : (ts ks : List A) → length ks ≤ length ts → length ts ≤ n
-        → written (padded (C .enc) (C .width) n ts) 0 (bytesOf (C .enc) ks ++ replicate (C .width * (length ts - length ks)) 0) ≡ padded (C .enc) (C .width) n ks
-    unfolding padded
-    padded-fewer ts ks a b =
-        let w : ℕ = C .width in
-        let size : length (bytesOf (C .enc) ks ++ replicate (w * (length ts - length ks)) 0) ≡ length (bytesOf (C .enc) ts) + 0 =
-        rw (length-append, length-bytesOf C ks, length-replicate, length-bytesOf C ts, add-zero) (places w (length ks) (length ts) a) in
-        let left : length ts - length ks + (n - length ts) ≡ n - length ks = omega arith in
-        let rooms : w * (length ts - length ks) + w * (n - length ts) ≡ w * (n - length ks) = rw (← mul-add, left) in
-        let none : w * (n - length ts) ≡ 0 + w * (n - length ts) = omega arith in
-        rw none
-        (over-end [] (bytesOf (C .enc) ts) (bytesOf (C .enc) ks ++ replicate (w * (length ts - length ks)) 0) 0 0 (w * (n - length ts)) refl size
-        ∙ rw (append-assoc, replicate-append-replicate, rooms))
 
 -- ---- the head
 

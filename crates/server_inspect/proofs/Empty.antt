@@ -14,7 +14,7 @@ use Rattle.model.specs.Refusals.{unknown}
 use Rattle.model.specs.Numbers.{le32At, le64}
 use Rattle.model.specs.Tables.{rows, every, bytesOf}
 use Rattle.model.specs.States.{load, isId, recordsIn, completionOf, padded}
-use Rattle.model.specs.Checkpoints.{noPlace, fronts, indexOf, placeAmong, placeInCheckpoint, restored, clientsOf, recordsOf, pointWhole, recordWhole}
+use Rattle.model.specs.Checkpoints.{noPlace, fronts, indexOf, placeAmong, placeInCheckpoint, restoredBytes, restored, clientsOf, recordsOf, pointWhole, recordWhole}
 use Rattle.model_laws.proofs.Tests.{and-left, and-right}
 
 abbrev ofNobody : Completion → Bool
@@ -31,7 +31,7 @@ nobody x c h (r ∷ rs) e =
 
 -- what lies where the empty slice's completion records would is zero
 empty-records : every ofNobody (load (restored []) .records) ≡ true
-unfolding every load restored recordsIn le32At rows completionOf padded bytesOf fronts clientsOf recordsOf pointWhole recordWhole le64
+unfolding every load restored restoredBytes recordsIn le32At rows completionOf padded bytesOf fronts clientsOf recordsOf pointWhole recordWhole le64
 empty-records = refl
 
 pub empty-place : (x c : ℕ) → 1 ≤ x → placeInCheckpoint x c [] ≡ noPlace unknown

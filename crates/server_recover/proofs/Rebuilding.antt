@@ -7,7 +7,7 @@
 --     recover-refused, long-passed, plan-passed, recover-done     the answers of the operation on a log
 --     tail-short, tail-done         and on a checkpoint and its tail
 -- Assumes nothing.
-use Prim.Native.Nat.{ℕ, _≤_, _<_}
+use Prim.Native.Nat.{ℕ, _+_, _≤_, _<_}
 use mathlib.Core.Path.{_≡_, refl, sym, ap, _∙_}
 use mathlib.Core.Bool.{Bool, true, false, not, false≢true}
 use mathlib.Core.List.{List, []}

@@ -48,9 +48,9 @@ module _ (t : List ℕ) {u : Bool} (p : u ≡ checkpointFramed t) where
               ∙ sym (take-at bs (replicate k 0) n (sym size));
         }
 
-    pub restored-as : Bytes t → {s s' : List ℕ} {r : Bool} → length s ≡ stateEnd → s' ≡ written s 0 (restoredBytes t) → Bytes s' → r ≡ sound s' → RestoredBy t s' r
+    pub restored-as : Bytes t → (s : List ℕ) {s' : List ℕ} {r : Bool} → length s ≡ stateEnd → s' ≡ written s 0 (restoredBytes t) → Bytes s' → r ≡ sound s' → RestoredBy t s' r
     unfolding stateIn checkpointState
-    restored-as h {s} {s'} {r} l e b f =
+    restored-as h s {s'} {r} l e b f =
         let a : Alike (restored t) s' = rw e (restored-in s l) in
         let g : r ≡ sound (restored t) = f ∙ sound-alike (restored t) s' a (restored-fit t h) b in
         record { state = by a r g; sound = λ (y : r ≡ true). sym f ∙ y }

@@ -17,7 +17,7 @@ fits c = record { point = omega arith; quality = omega arith; value = omega arit
 
 -- ---- the places on the way
 
-abbrev merged-at : tie.After-keep-records → tie.After-merge
+abbrev merged-at : tie.After-drop-records → tie.After-merge
 merged-at c = c .before .before .before .before
 
 abbrev known-at : tie.After-merge → tie.After-shared-slice-known
@@ -41,13 +41,13 @@ first c =
     let start = start-of c in
     taken-merged (start .pre .0) (start .args .image .now) (λ i. known .shared-slice-known .given i .fits) (start .args .h) (start .args .end) (start .pre .2) (c .merge .ensures)
 
-third : (c : tie.After-keep-records) → Stage (start-of (merged-at c) .args .s .now) (c .keep-records .last .0)
+third : (c : tie.After-drop-records) → Stage (start-of (merged-at c) .args .s .now) (c .drop-records .last .0)
     (keptOf (start-of (merged-at c) .args .h) (start-of (merged-at c) .args .image .now) (load (start-of (merged-at c) .args .s .now)))
 unfolding withFloors
-third c = kept-stage (first (merged-at c)) (start-of (merged-at c) .pre .0) refl (Beside (start-of (merged-at c) .args .h .point)) (c .keep-records .ensures)
+third c = kept-stage (first (merged-at c)) (start-of (merged-at c) .pre .0) refl (Beside (start-of (merged-at c) .args .h .point)) (c .drop-records .ensures)
 
-keep-records-requires : tie.Need-keep-records-requires
-keep-records-requires c κs = stage-canonical (first (c .before .before .before))
+drop-records-requires : tie.Need-drop-records-requires
+drop-records-requires c κs = stage-canonical (first (c .before .before .before))
 
 append-image-requires : tie.Need-append-image-requires
 append-image-requires c κs =
@@ -73,7 +73,7 @@ take-tables-spec =
     (tie.spec
     (λ c. search needs)
     merge-requires
-    keep-records-requires
+    drop-records-requires
     append-image-requires
     (λ c. search needs)
     returns)
