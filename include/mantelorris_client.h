@@ -21,7 +21,7 @@
 extern "C" {
 #endif
 
-/* argument is the command's argument + 2^31, here and in no packet: 2147483648 for 0 */
+/* call 0: no call stands here. argument is the command's argument + 2^31, here and in no packet: 2147483648 for 0 */
 struct mantelorris_open_call {
     uint32_t call;
     uint8_t op;
