@@ -150,7 +150,7 @@ def picture(crates, direct):
             (x, y, w), (u, v, s) = place[n], place[d]
             a, b, c, e = x + w / 2, y + HIGH, u + s / 2, v
             if v <= y:
-                b, e = y + HIGH / 2, v + HIGH / 2
+                a, b, c, e = x + w, y + HIGH / 2, u, v + HIGH / 2
             m = (b + e) / 2
             lines.append('<path d="M%.0f %.0f C%.0f %.0f %.0f %.0f %.0f %.0f" fill="none" stroke="#7a93ad" stroke-width="1" opacity="0.55" marker-end="url(#head)"/>' % (a, b, a, m, c, m, c, e))
     boxes = []
