@@ -17,7 +17,7 @@
  * read level1, read level2, set upper.
  *
  * Values. The controller is given and returned by value: keep the one that a call returns, in place of the one that it was given. Its fields are
- * the library's: keep them, read them, do not change them. Copy it whole; compare field by field, since bytes between fields are any. There is one
+ * the library's: keep them, read them, do not change them. Copy it whole; compare field by field, since bytes between fields may hold anything. There is one
  * current value; an older one must not be used again. A refused call returns the controller as it was given.
  *
  * number is MANTELORRIS_OK or one of these:
