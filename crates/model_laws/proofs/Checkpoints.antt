@@ -174,8 +174,8 @@ module _ (st : State) where
     module _ (rest : List ℕ) where
       numbers-at : nth (gotAll checkpointFields (checkpointBytes st ++ rest) 0) ≡ nth numbers
       numbers-at =
-          rw (checkpoint-writes, append-assoc)
-          (all-front checkpointFields numbers ((planBytes (st .plan) ++ (frontsBytes ++ (clientsBytes ++ recordsBytes))) ++ rest) numbers-bounded)
+          let tables : List ℕ = planBytes (st .plan) ++ (frontsBytes ++ (clientsBytes ++ recordsBytes)) in
+          rw (checkpoint-writes st, append-assoc (putAll checkpointFields numbers) tables rest) (all-front checkpointFields numbers (tables ++ rest) numbers-bounded)
 
       clients-at : clientsOf (checkpointBytes st ++ rest) ≡ length (st .floors)
       unfolding clientsOf

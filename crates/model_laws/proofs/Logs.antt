@@ -44,9 +44,10 @@ use Rattle.model_laws.specs.Codec.{Codec}
 use Rattle.model_laws.specs.Fields.{byte, word32, signed, fixed, Layout, Computes}
 use Rattle.model_laws.specs.Fits.{ExecutedFits, GiveFits, ReleaseFits, IsImage, recordFits, recordOk, IsRecord, EntryFrom, EntriesFrom, entriesFrom, lastEnd, Incomplete, Walked}
 use Rattle.model_laws.specs.OneWalk.{walk, entriesOf}
-use Rattle.model_laws.proofs.Tests.{and-left, and-right, and-both, joined-all, all-joined, choose}
+use Rattle.model_laws.proofs.Tests.{and-left, and-right, and-both, choose}
 use Rattle.model_laws.proofs.Numbers.{part-join, le32-digits, quad-again, starts-again, le32-is, le32-take}
 use Rattle.model_laws.proofs.Numbers.{zeros3-at, bytes-drop, bytes-take, bytes-quad, bytes-le32, bytes-run}
+use Rattle.model_laws.proofs.Reflects.{Test, le, flag, facts, passed}
 use Rattle.model_laws.proofs.Written.{take-written-run}
 use Rattle.model_laws.proofs.Packets.{noticeCodec}
 use Rattle.model_laws.proofs.Fields.{codec}
@@ -55,9 +56,8 @@ use Rattle.model_laws.proofs.Images.{image-length, image-least, image-l
 -- ---- the head
 
 -- the tests of a log's head, one by one
-abbrev headTests : List ℕ → List Bool
-headTests s =
-    leb headSize (length s) ∷ startsWith s logMagic ∷ leb (byteAt s 4) lastServer ∷ zeros3At s 5 ∷ []
+abbrev headTests : List ℕ → List Test
+headTests s = le headSize (length s) ∷ flag (startsWith s logMagic) ∷ le (byteAt s 4) lastServer ∷ flag (zeros3At s 5) ∷ []
 
 pub head-server : (n : ℕ) (rest : List ℕ) → headServer (headBytes n ++ rest) ≡ n
 unfolding headServer headBytes
@@ -65,10 +65,7 @@ head-server n rest = refl
 
 pub head-back : (n : ℕ) (rest : List ℕ) → n ≤ lastServer → headOk (headBytes n ++ rest) ≡ true
 unfolding headOk headBytes headServer zeros3At
-head-back n rest h =
-    let s : List ℕ = headBytes n ++ rest in
-    all-joined (headTests s)
-    (le-leb headSize (length s) (omega arith), (refl, (le-leb n lastServer h, (refl, tt))))
+head-back n rest h = passed (headTests (headBytes n ++ rest)) (omega arith) refl h refl
 
 pub head-take : (n : ℕ) (t : List ℕ) (c : ℕ) → headSize ≤ c → take c (headBytes n ++ t) ≡ headBytes n ++ take (c - headSize) t
 unfolding headBytes
@@ -85,17 +82,13 @@ head-bytes n h =
 pub head-again : (s : List ℕ) → headOk s ≡ true → headBytes (headServer s) ≡ take headSize s
 unfolding headOk headBytes headServer
 head-again s e =
-    let t = joined-all (headTests s) e in
-    let l : headSize ≤ length s = leb-true headSize (length s) (t .0) in
-    let z = zeros3-at s 5 (t .1 .1 .1 .0) in
-    part-join s 0 4 4
-    (starts-again s logMagic (omega arith) (t .1 .0))
-    (quad-again s 4 (omega arith) refl (sym (z .0)) (sym (z .1)) (sym (z .2)))
+    let p = facts (headTests s) e in
+    let z = zeros3-at s 5 (p 3) in
+    part-join s 0 4 4 (starts-again s logMagic (omega (arith, p 0)) (p 1)) (quad-again s 4 (omega (arith, p 0)) refl (sym (z .0)) (sym (z .1)) (sym (z .2)))
 
 pub head-length : (s : List ℕ) → headOk s ≡ true → headSize ≤ length s
 unfolding headOk headServer
-head-length s e =
-    leb-true headSize (length s) (joined-all (headTests s) e .0)
+head-length s e = facts (headTests s) e 0
 
 -- ---- the records' layouts; log record 2 is a notice's
 
