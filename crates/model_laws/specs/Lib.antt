@@ -1,5 +1,6 @@
 pub mod Bytes
 pub mod Codec
+pub mod Fields
 pub mod Fits
 pub mod Layout
 pub mod Opened
