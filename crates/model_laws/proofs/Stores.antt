@@ -30,7 +30,7 @@ use Rattle.model_laws.specs.Fits.{StateFits}
 use Rattle.model_laws.specs.Layout.{headWith, layout, withHeard, withSize, withPoint, withFloors, withRecords}
 use Rattle.model_laws.proofs.Written.{nested-front, written-first, written-second, written-front, written-none, written-append, written-comm, written-cover, written-prefix, written-suffix}
 use Rattle.model_laws.proofs.Tables.{length-bytesOf, bytesOf-append}
-use Rattle.model_laws.proofs.States.{pointCodec, point-width, completionCodec, padded-length, state-length}
+use Rattle.model_laws.proofs.States.{pointCodec, completionCodec, padded-length, state-length}
 use Rattle.model_laws.proofs.Images.{floorCodec}
 use Rattle.model_laws.proofs.Plans.{plan-length}
 
@@ -157,7 +157,7 @@ module _ (s : List ℕ) (st : State) (m n : ℕ) (fs rs : List ℕ) where
     pub put-point : (p : ℕ) (x : Point) → p < length (st .points)
         → written (written s 0 (layout st m n fs rs)) (pointsStart + pointRow * p) (pointBytes x) ≡ written s 0 (layout (withPoint p x st) m n fs rs)
     put-point p x h =
-        let size : length (pointBytes x) ≡ pointRow = point-width x in
+        let size : length (pointBytes x) ≡ pointRow = pointCodec .enc-width x in
         let all : length (bytesOf pointBytes (st .points)) ≡ pointRow * length (st .points) = length-bytesOf pointCodec (st .points) in
         let fits : pointRow * p + length (pointBytes x) ≤ length (bytesOf pointBytes (st .points)) = omega arith in
         nested-front s (layout st m n fs rs) (pointsStart + pointRow * p) (pointBytes x) (rw layout-length (omega arith))

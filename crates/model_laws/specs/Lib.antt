@@ -1,5 +1,6 @@
 pub mod Bytes
 pub mod Codec
+pub mod Fields
 pub mod Fits
 pub mod Alike
 pub mod Layout
@@ -7,3 +8,6 @@ pub mod Opened
 pub mod OneWalk
 pub mod Heads
 pub mod Runs
+pub mod ClientForm
+pub mod LeaseForm
+pub mod Results

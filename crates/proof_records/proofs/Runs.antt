@@ -12,7 +12,7 @@ use native.Mathlib.Omega.{arith}
 use lib.ListN.{length, take, getElem?}
 use Rattle.model.specs.declared.PlanEntry.{PlanEntry}
 use Rattle.model.specs.Plan.{planOf}
-use Rattle.leases.proofs.Kept.{new-well}
+use Rattle.model_laws.proofs.LeasesKept.{new-well}
 use Rattle.model_invariants.specs.Calls.{decision}
 use Rattle.model_invariants.specs.Calls as Calls
 use Rattle.proof_protocol.specs.World as W

@@ -15,9 +15,9 @@ use Rattle.model.specs.Limits.{lastOutcome, lastQuality, wholePart, readOp, set
 use Rattle.model.specs.Plan.{inRange, planEntryOk}
 use Rattle.model.specs.Packets.{outcomeOk}
 use Rattle.model.specs.Rules.{rounded, result, same, sumInRange, pastEnd, setRule, stepRule, reportRule, faultRule, partRule, ruleOf, argumentOk}
 use Rattle.model_laws.proofs.Tests.{choose}
-use Rattle.format_commands.specs.Results.{ResultOk}
-use Rattle.format_commands.proofs.Bounds.{range-bounds, sum-bounds, part-bounds, part-between, entry-ordered}
+use Rattle.model_laws.specs.Results.{ResultOk}
+use Rattle.model_laws.proofs.Bounds.{range-bounds, sum-bounds, part-bounds, part-between, entry-ordered}
 
 module _ (e : PlanEntry) where
   result-ok : (n v q : ℕ) → n ≤ lastOutcome → q ≤ lastQuality → e .low ≤ v → v ≤ e .high → ResultOk e (result n v q)

@@ -26,9 +26,9 @@ use Rattle.model.specs.declared.Started.the-variants.{Running}
 use Rattle.model.specs.declared.Sent.the-variants.{Asked}
 use Rattle.model.specs.Packets.{commandOk, requestOk, grantOk, requestBytes, packetBytes, parsePacket}
 use Rattle.model.specs.Clients.{callAt, withCalls, withCall, newCall, requestFor, startWith, startOf, issueOf, resendOf, receiveOf}
-use Rattle.client.specs.WellFormed.{WellFormed}
-use Rattle.client.proofs.Open.{open-below}
-use Rattle.client.proofs.Kept.{start-well, receive-well, issue-well, issue-ok, resend-ok}
+use Rattle.model_laws.specs.ClientForm.{WellFormed}
+use Rattle.model_laws.proofs.OpenCalls.{open-below}
+use Rattle.model_laws.proofs.ClientsKept.{start-well, receive-well, issue-well, issue-ok, resend-ok}
 
 pub command-fits : (op point a : ℕ) → commandOk op point a ≡ true → (op < 256) × (point < 256) × (a < 4294967296)
 command-fits op point a e =

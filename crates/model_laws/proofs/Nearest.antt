@@ -17,7 +17,7 @@ use Rattle.model.specs.Numbers.{nearest}
 use Rattle.model.specs.Versions.{second}
 use Rattle.model.specs.Limits.{wholePart, carriedOut, valid}
 use Rattle.model.specs.Sequential.{EntryZ, resultZ, absolute, distance, Even, Nearest, quotientNearest, roundedZ, partZ}
-use Rattle.format_commands.proofs.Meaning.{lt-or-ge, sub-pos, sub-neg}
+use Rattle.model_laws.proofs.Meaning.{lt-or-ge, sub-pos, sub-neg}
 
 -- ---- distances
 

@@ -17,13 +17,13 @@ use lib.Dec.{eqb}
 use lib.ListN.{length, getD, set}
 use lib.Seq.{getD-set-same, getD-set-other}
 use borrow.Author.Tests.{eqb-true, eqb-false}
 use Rattle.model_laws.proofs.Least.{least-over, least-found, Found}
 use Rattle.model_laws.proofs.Clients.{Open, not-open, place-under, open-from}
 use Rattle.model.specs.declared.OpenCall.{OpenCall}
 use Rattle.model.specs.declared.Client.{Client}
 use Rattle.model.specs.Clients.{noCall, placeOf, callAt, isOpen, firstOpen, withCalls, withCall, closed}
 use Rattle.model.specs.Limits.{callWindow}
-use Rattle.client.specs.WellFormed.{WellFormed, callIn}
+use Rattle.model_laws.specs.ClientForm.{WellFormed, callIn}
 
 -- ---- a well-formed client
 

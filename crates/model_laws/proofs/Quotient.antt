@@ -10,7 +10,7 @@ use borrow.Author.Tests.{le-leb, lt-ltb}
 use lib.IntN.{ℤ, pos, negsuc, _+ℤ_, _*ℤ_, negℤ}
 use lib.Signed.{leZ, ltZ}
 use Rattle.model.specs.Sequential.{quotientDown}
-use Rattle.format_commands.proofs.Meaning.{sub-is-neg}
+use Rattle.model_laws.proofs.Meaning.{sub-is-neg}
 
 -- −k ≤ −1 − m, and the other side
 neg-le : (k m : ℕ) → m < k → leZ (negℤ (pos k)) (negsuc m) ≡ true

@@ -32,8 +32,8 @@ use Rattle.model.specs.declared.ReceiveAnswer.{ReceiveAnswer}
 use Rattle.model.specs.Packets.{commandOk, idOk, doneOk, requestOk}
 use Rattle.model.specs.Clients.{noCall, placeOf, callAt, firstOpen, withCalls, withLease, closed, requestFor, startWith, newCall, withCall, notSent, sent, issueOf, resendOf, notReceived, receiveWith}
 use Rattle.model.specs.Limits.{callWindow, last32, lastInWindow}
-use Rattle.client.specs.WellFormed.{WellFormed}
-use Rattle.client.proofs.Open.{open-below, first-from, issued-at, issued-keeps, issued-next, issued-open, issued-only, closed-off, closed-keeps, closed-open, closed-only}
+use Rattle.model_laws.specs.ClientForm.{WellFormed}
+use Rattle.model_laws.proofs.OpenCalls.{open-below, first-from, issued-at, issued-keeps, issued-next, issued-open, issued-only, closed-off, closed-keeps, closed-open, closed-only}
 
 -- ---- start
 

@@ -33,12 +33,12 @@ use Rattle.model.specs.Tables.{every}
 use Rattle.model.specs.Leases.{noLease, newManager, timeAt, runningAt, leaseEnd, isTaken, withNewLease, extended, spanOk, manager, notTold, granted, openOf, renewOf, queryOf}
 use Rattle.model.specs.Limits.{last32, leaseCount}
 use Rattle.model.specs.Refusals.{malformed, leasesFull, numbersOut, unknown}
-use Rattle.leases.specs.WellFormed.{Fresh, Distinct, Placed, WellFormed, Lasts, Covers, Gone, LeaseCall, answerOf, givenTime}
-use Rattle.leases.proofs.Answers.{both-fit}
-use Rattle.leases.proofs.Lists.{pos-of, all-mono, all-entered, all-extended, length-entered, length-extended, running-placed, fresh-running}
-use Rattle.leases.proofs.Lists.{fresh-entered, fresh-extended, fresh-end, end-fresh, end-zero, end-within, end-known, distinct-running}
-use Rattle.leases.proofs.Lists.{distinct-entered, distinct-extended, lasts-not, lasts-running, lasts-entered, lasts-extended, entered-lasts}
-use Rattle.leases.proofs.Lists.{extended-lasts, end-lasts}
+use Rattle.model_laws.specs.LeaseForm.{Fresh, Distinct, Placed, WellFormed, Lasts, Covers, Gone, LeaseCall, answerOf, givenTime}
+use Rattle.model_laws.proofs.Tests.{both-fit}
+use Rattle.model_laws.proofs.LeaseLists.{pos-of, all-mono, all-entered, all-extended, length-entered, length-extended, running-placed, fresh-running}
+use Rattle.model_laws.proofs.LeaseLists.{fresh-entered, fresh-extended, fresh-end, end-fresh, end-zero, end-within, end-known, distinct-running}
+use Rattle.model_laws.proofs.LeaseLists.{distinct-entered, distinct-extended, lasts-not, lasts-running, lasts-entered, lasts-extended, entered-lasts}
+use Rattle.model_laws.proofs.LeaseLists.{extended-lasts, end-lasts}
 
 -- ---- the exits: every call is refused, or leaves the manager at the time now with the leases that run then, one of them changed
 

@@ -26,7 +26,7 @@ use Rattle.model.specs.Plan.{inRange, planEntryOk}
 use Rattle.model.specs.Rules.{rounded, sumInRange, endPast, pastEnd, setRule, stepRule, reportRule, faultRule, partRule, ruleOf, argumentRange, inArguments, argumentOk}
 use Rattle.model.specs.Sequential.{resultZ, entryZ, readingMeant, resultMeant, inRangeZ, quotientDown, quotientNearest, roundedZ, readZ, setZ, pastEndZ, stepZ, reportZ, faultZ, partZ, ruleZ}
 use Rattle.model.specs.Limits.{wholePart, readOp, setOp, stepOp, reportOp, faultOp, partOp, carriedOut, stopped, valid, invalid}
-use Rattle.format_commands.proofs.Bounds.{sum-bounds, part-bounds, entry-ordered}
+use Rattle.model_laws.proofs.Bounds.{sum-bounds, part-bounds, entry-ordered}
 
 -- ---- a difference of two numbers, as an integer
 

@@ -17,14 +17,14 @@ use native.Mathlib.Omega.{arith}
 use lib.Dec.{eqb, leb}
 use lib.ListN.{length}
 use borrow.Author.Tests.{eqb-true, eqb-false, leb-true, leb-false}
 use Rattle.model_laws.specs.Bytes.{All}
 use Rattle.model_laws.proofs.Tests.{choose}
 use Rattle.model.specs.declared.Lease.{Lease}
 use Rattle.model.specs.Choice.{pick}
 use Rattle.model.specs.Tables.{every}
 use Rattle.model.specs.Leases.{noLease, endedAt, runningAt, leaseEnd, isTaken, withNewLease, extended}
 use Rattle.model.specs.Limits.{last32}
-use Rattle.leases.specs.WellFormed.{Fresh, Distinct, Placed, Lasts}
+use Rattle.model_laws.specs.LeaseForm.{Fresh, Distinct, Placed, Lasts}
 
 -- ---- tests
 
