@@ -1,7 +1,7 @@
 #!/usr/bin/env bash
 # make demo: a host with a file as its card, a desk, and a line between them that loses, repeats and delays; the host is killed and started again
 # while commands are under way. Its log may have 2000 bytes: then a checkpoint replaces it, and the card stays small. Prints what was sent, lost, repeated
-# and carried out, and what the card has. Then a lock with its controller.
+# and carried out, and what the card has. Then a plant of two cabinets and a lease manager (plant.sh), and a lock with its controller.
 set -eu
 cd "$(dirname "$0")/.."
 commands=${COMMANDS:-600}
@@ -31,6 +31,9 @@ wait "$relay" || true
 cat "$work/desk.out" "$work/line"
 card=$("$work/host" "$work/card")
 echo "host: killed with SIGKILL $starts times; the log's limit is $limit bytes, so the card has $(wc -c <"$work/card") where the whole log would have $((8 + 28 * (commands + 1))) and more: $card"
+echo
+echo "a plant: a point moves between two cabinets, a lease manager keeps its file, each is killed again and again"
+examples/plant.sh
 echo
 echo "a lock: its controller fills, opens, closes and empties the chamber, is lost on the way, and has a successor"
 "$work/lock"

@@ -12,7 +12,7 @@
 #include <sys/socket.h>
 #include <unistd.h>
 
-enum { HELD = 32, LONGEST = 64 };
+enum { HELD = 32, LONGEST = 2048 };
 
 struct datagram {
     int to_host;
@@ -104,7 +104,7 @@ int main(int argc, char **argv) {
     sigaction(SIGINT, &action, NULL);
     while (!ending) {
         struct pollfd ready[2] = {{.fd = desk_side, .events = POLLIN}, {.fd = host_side, .events = POLLIN}};
-        poll(ready, 2, 2);
+        poll(ready, 2, holding ? 2 : 100);
         while (receive(desk_side, 1) || receive(host_side, 0)) {
         }
         /* what was held comes late, and in another order */
