@@ -18,7 +18,8 @@
  *
  * Values. The controller is given and returned by value: keep the one that a call returns, in place of the one that it was given. Its fields are
  * the library's: keep them, read them, do not change them. Copy it whole; compare field by field, since bytes between fields may hold anything. There is one
- * current value; an older one must not be used again. A refused call returns the controller as it was given.
+ * current value; an older one must not be used again. A refused call returns the controller as it was given. mantelorris_lock_issue, _resend and _receive
+ * take it by pointer and put the new one there.
  *
  * number is MANTELORRIS_OK or one of these:
  *     1   MALFORMED     start: a point over 63, two equal points, or not a grant. issue: no such command, a point that is none of the five, another op
@@ -84,6 +85,26 @@ struct mantelorris_chamber_start_reply mantelorris_chamber_start(const uint8_t *
 struct mantelorris_chamber_send_reply mantelorris_chamber_issue(struct mantelorris_chamber chamber, uint32_t op, uint32_t point, int32_t argument);
 struct mantelorris_chamber_send_reply mantelorris_chamber_resend(struct mantelorris_chamber chamber, uint32_t call);
 struct mantelorris_chamber_receive_reply mantelorris_chamber_receive(struct mantelorris_chamber chamber, const uint8_t *packet, size_t length);
+
+/* ---- the same three with the controller in its place: it becomes the one that the call returns, so that no older one is left */
+
+static inline struct mantelorris_send_reply mantelorris_lock_issue(struct mantelorris_chamber *lock, uint32_t op, uint32_t point, int32_t argument) {
+    struct mantelorris_chamber_send_reply s = mantelorris_chamber_issue(*lock, op, point, argument);
+    *lock = s.chamber;
+    return s.reply;
+}
+
+static inline struct mantelorris_send_reply mantelorris_lock_resend(struct mantelorris_chamber *lock, uint32_t call) {
+    struct mantelorris_chamber_send_reply s = mantelorris_chamber_resend(*lock, call);
+    *lock = s.chamber;
+    return s.reply;
+}
+
+static inline struct mantelorris_receive_reply mantelorris_lock_receive(struct mantelorris_chamber *lock, const uint8_t *packet, size_t length) {
+    struct mantelorris_chamber_receive_reply r = mantelorris_chamber_receive(*lock, packet, length);
+    *lock = r.chamber;
+    return r.reply;
+}
 
 /* the layouts that the library has */
 MANTELORRIS_HAS_SIZE(struct mantelorris_lock_points, 5);
