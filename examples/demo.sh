@@ -16,6 +16,7 @@ for p in desk relay lock; do cc -std=gnu11 -O2 -Wall -Wextra -Idist examples/$p.
 bg+=("$relay")
 "$work/desk" "$port" "$commands" >"$work/desk.out" & desk=$!
 bg+=("$desk")
+"$work/host" --found "$work/card" >/dev/null
 starts=0
 while kill -0 "$desk" 2>/dev/null; do
   "$work/host" "$work/card" $((port + 1)) "$limit" & host=$!

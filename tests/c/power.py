@@ -1,31 +1,40 @@
 #!/usr/bin/env python3
-"""power.py: the example host (examples/host.c and card.c) under power cuts. Prints what it did; the last line is 'N passed, M failed'.
-  - killed with SIGKILL at random moments and inside its writes, syncs and cuts, at least KILLS times; after each kill the card is cut to any
-    length from what it had for certain to what it has; the desk's commands complete all the same, each once, and the gate's value is their sum
+"""power.py: a host under power cuts. Prints what it did; the last line is 'N passed, M failed'. Without --serve it tries the example (examples/host.c with card.c and
+with card_raw.c):
+  - killed with SIGKILL at random moments and inside its writes and syncs, at least KILLS times; after each kill the card is cut to any length from what it had for
+    certain to what it has; a sync may fail, and then the host has to end; the desk's commands complete all the same, each once, and the gate's value is their sum
   - the same with a small limit, so that it makes and stores checkpoints all the time, killed at each step of that, or the step fails and the host has to end
     by itself; where the name of the new file is not certain, the old one may come back; the card stays small
+  - the same on raw sectors: each sector that was not certain is lost, kept, torn or garbled, or the process alone has ended and all is still in the cache
   - a card cut at every byte of its last records starts with just the whole records; so does one with a checkpoint, cut in its tail
   - damaged cards are refused with a message that says where, and stay as they were; so is another server's card, which recovery itself takes
   - printing what a card has changes nothing on it or beside it, needs no more than to read it, and may be done beside a host that serves
-  - hosts with a planted fault fail the first tests: the mark set before the write; the card not cut after recover; eight ways to store a checkpoint wrongly or to start from it
+  - only --found founds, and only on an empty card; a second program does not get a card that is in use; the gate is driven after a start; a state that something else has
+    written into is recovered from the card
+  - hosts with a planted fault fail the first tests: FAULTS and RAW_FAULTS
+--serve 'COMMAND {card} {port}' --found 'COMMAND {card}' tries your own host (docs/GUIDE.md, Power cuts on your own host); --sectors: its card is raw sectors.
 POWER_SEED sets the seed, POWER_KILLS the number of kills. MANTELORRIS_DIST names a folder with archive and headers; without it `make lib` makes dist/."""
-import os, random, shutil, signal, struct, subprocess, sys, tempfile, threading, time
+import argparse, glob, os, random, shlex, shutil, signal, socket, struct, subprocess, sys, tempfile, threading, time
+from concurrent.futures import ThreadPoolExecutor
 
 ROOT = os.path.join(os.path.dirname(os.path.abspath(__file__)), '..', '..')
+FROM = os.getcwd()
 os.chdir(ROOT)
 SEED = int(os.environ.get('POWER_SEED', '0')) or random.SystemRandom().randrange(1, 1 << 30)
 KILLS = int(os.environ.get('POWER_KILLS', '220'))
 DIST = os.environ.get('MANTELORRIS_DIST') or 'dist'
-HOST = ['examples/host.c', 'examples/card.c']
+HOST, RAW = ['examples/host.c', 'examples/card.c'], ['examples/host.c', 'examples/card_raw.c']
 FLAGS = ['-std=gnu11', '-O1', '-Wall', '-Wextra', '-Werror', '-I' + DIST, '-Iexamples']
-WORK = tempfile.mkdtemp(prefix='mantelorris-power-')
+WORK = os.path.realpath(tempfile.mkdtemp(prefix='mantelorris-power-'))
 LIMIT = 400  # bytes of log, for hosts that make checkpoints
 LARGEST = 12588 + LIMIT + 256 * 28  # a checkpoint, and a log that was just under the limit before a turn of 256 commands
 GATE = 5
-PLACES = {'w': 'in a write', 's': 'between write and sync', 'a': 'after a sync', 'c': 'before a cut'}
-STORING = {'b': "before the checkpoint's write", 't': 'in a write of it', 'h': "before its tail's head", 'y': 'before its sync', 'z': 'after its sync',
-           'n': 'before the rename', 'r': 'after it', 'd': "before the folder's sync", 'e': 'after that'}
-FAILING = 'BHYND'  # steps of storing that fail, by their letters above
+SECTOR = 512
+PLACES = {'w': 'in a write', 's': 'between write and sync', 'a': 'after a sync'}
+STORING = {'b': 'before what is stored is written', 't': 'in a write of it', 'y': 'before its sync', 'z': 'after its sync', 'n': 'before the rename', 'r': 'after it',
+           'd': "before the folder's sync", 'e': 'after that'}
+BEHIND = {'h': "between a checkpoint and its tail's head"}
+FAILING = 'SBYND'  # calls that fail, by their letters above
 passed, failed = 0, 0
 
 
@@ -40,30 +49,49 @@ def told(what, wrong):
 
 
 def build(sources, name, more=()):
+    """a program of the examples"""
     out = os.path.join(WORK, name)
     subprocess.run(['cc', *FLAGS, *more, *sources, DIST + '/libmantelorris.a', '-o', out], check=True)
     return out
 
 
-def changed(name, old, new, more=()):
-    """the host with a line or two changed, moved or left out, each where it stands, in host.c or in card.c"""
-    texts = [open(path, encoding='utf-8').read() for path in HOST]
+def changed(name, old, new, more=(), sources=HOST):
+    """the host with a line or two changed, moved or left out, each where it stands, in host.c or in its card's file"""
+    texts = [open(path, encoding='utf-8').read() for path in sources]
     for a, b in zip(old, new):
         if sum(text.count(a) for text in texts) != 1:
-            sys.exit('power.py: the change %s does not fit %s' % (name, ' and '.join(HOST)))
+            sys.exit('power.py: the change %s does not fit %s: %s' % (name, ' and '.join(sources), a))
         texts = [text.replace(a, b) for text in texts]
-    paths = [os.path.join(WORK, name + '_' + os.path.basename(path)) for path in HOST]
+    paths = [os.path.join(WORK, name + '_' + os.path.basename(path)) for path in sources]
     for path, text in zip(paths, texts):
         open(path, 'w', encoding='utf-8').write(text)
-    return build(paths, name, ['-Wno-unused-function', '-Wno-unused-parameter', *more])
+    return build(paths, name, ['-Wno-unused-function', '-Wno-unused-parameter', '-Wno-unused-variable', *more])
+
+
+class Host:
+    """how a host is called: the example's program, or a maker's own commands"""
+
+    def __init__(self, program=None, serve='', found=''):
+        self.serve_words = shlex.split(serve) if serve else [program, '{card}', '{port}']
+        self.found_words = shlex.split(found) if serve else [program, '--found', '{card}']
+        self.program = program
+
+    def serve(self, card, port, size):
+        return [w.replace('{card}', card).replace('{port}', str(port)) for w in self.serve_words] + ([str(size)] if size else [])
+
+    def found(self, card):
+        return [w.replace('{card}', card) for w in self.found_words]
 
 
 class Card:
-    """the card's file, the one that may come back in its place (.old), the one that was to be the next (.new), and what each has for certain, by inode"""
+    """a folder of its own with the card's file, the one that may come back in its place (.old) and those that were to be the next; beside it what each has for
+    certain, by inode: the hook's notes"""
+    env = {}
 
     def __init__(self, name):
-        self.path, self.notes = os.path.join(WORK, name), os.path.join(WORK, name + '.notes')
-        self.old, self.new = self.path + '.old', self.path + '.new'
+        folder = os.path.join(WORK, name + '.card')
+        os.mkdir(folder)
+        self.path, self.old, self.notes = os.path.join(folder, 'card'), os.path.join(folder, 'card.old'), folder + '.notes'
         open(self.notes, 'wb').close()
 
     def lines(self):
@@ -72,33 +100,93 @@ class Card:
     def places(self):
         return ''.join(line[0] for line in self.lines() if len(line) == 1)
 
+    def failed_since(self, places):
+        """whether a call has failed since the places were these"""
+        return any(letter.isupper() for letter in self.places()[len(places):])
+
     def aim(self, rng, places):
         """every other time the place that was struck least"""
         return min(places, key=self.places().count) if rng.randrange(2) else '-'
 
-    def shorten(self, rng, path):
-        sure = {int(line[0]): int(line[1]) for line in self.lines() if len(line) == 2}
-        about = os.stat(path)
-        os.truncate(path, rng.randint(min(sure.get(about.st_ino, 0), about.st_size), about.st_size))
+    def certain(self):
+        """by inode: the length that was synced; once a sync of a file has failed, later ones of it prove nothing"""
+        sure, lost = {}, set()
+        for inode, length, *cut in (line for line in self.lines() if len(line) > 1):
+            if length == 'lost':
+                lost.add(inode)
+            elif length == '0' or cut:
+                lost.discard(inode)
+            if inode not in lost:
+                sure[int(inode)] = int(length)
+        return sure
+
+    def syncs(self):
+        return sum(len(line) == 2 and line[1] != '0' for line in self.lines())
 
     def cut(self, rng):
-        """a power cut; of three between a rename and its folder's sync, one is the end of the process alone and leaves the question open"""
-        if os.path.exists(self.old):
-            luck = rng.randrange(3)
-            if luck == 0 and not os.path.samefile(self.old, self.path):
-                os.replace(self.old, self.path)
-            elif luck < 2:
-                os.unlink(self.old)
-            else:
-                return
-        for path in (self.path, self.new):
-            if os.path.exists(path):
-                self.shorten(rng, path)
+        """a power cut; one in four is the end of the process alone, and all is still in the cache"""
+        if rng.randrange(4) == 0:
+            return
+        if os.path.exists(self.old):  # a rename that is not certain
+            os.unlink(self.old) if rng.randrange(2) or os.path.samefile(self.old, self.path) else os.replace(self.old, self.path)
+        sure = self.certain()
+        for path in glob.glob(self.path + '*'):
+            about = os.stat(path)
+            left = rng.randint(min(sure.get(about.st_ino, 0), about.st_size), about.st_size)
+            os.truncate(path, left)
+            open(self.notes, 'a').write('%d %d cut\n' % (about.st_ino, left))
 
 
-def started(host, card, port, hook, seed, chance, aim, size):
-    env = dict(os.environ, LD_PRELOAD=hook, POWER_CARD=card.path, POWER_FILE=card.notes, POWER_SEED=str(seed), POWER_CHANCE=str(chance), POWER_AIM=aim)
-    return subprocess.Popen([host, card.path, str(port), *([str(size)] if size else [])], env=env, stderr=subprocess.PIPE)
+class Sectors(Card):
+    """a card of raw sectors, at first with bytes of an earlier life; beside it what each sector had before it was written, since the last sync"""
+
+    def __init__(self, name):
+        super().__init__(name)
+        self.before, self.seen = self.notes + '.sectors', dict.fromkeys(('lost', 'kept', 'torn', 'garbled'), 0)
+        self.env = {'POWER_SECTORS': self.before}
+        open(self.before, 'wb').close()
+        open(self.path, 'wb').write(random.Random(SEED).randbytes(40 * SECTOR))
+
+    def after(self, rng, versions):
+        """what a sector has after the cut, of what was written to it one after the other"""
+        how = rng.choice(list(self.seen))
+        self.seen[how] += 1
+        if how == 'torn':
+            k, (first, rest) = rng.randrange(SECTOR), rng.choices(versions, k=2)
+            return first[:k] + rest[k:]
+        return {'lost': versions[0], 'kept': rng.choice(versions[1:]), 'garbled': rng.randbytes(SECTOR)}[how]
+
+    def cut(self, rng):
+        """a power cut; one in four is the end of the process alone"""
+        if rng.randrange(4) == 0:
+            return
+        entries, versions = open(self.before, 'rb').read(), {}
+        for at in range(0, len(entries), 8 + SECTOR):
+            versions.setdefault(struct.unpack_from('<Q', entries, at)[0], []).append(entries[at + 8:at + 8 + SECTOR])
+        versions.pop((1 << 64) - 1, None)
+        with open(self.path, 'r+b') as card:
+            for sector in sorted(versions):
+                card.seek(sector * SECTOR)
+                versions[sector].append(card.read(SECTOR))
+                card.seek(sector * SECTOR)
+                card.write(self.after(rng, versions[sector]))
+        open(self.before, 'wb').close()
+
+
+def hooked(words, card, hook, seed, chance, aim):
+    env = dict(os.environ, **card.env, LD_PRELOAD=hook, POWER_CARD=card.path, POWER_FILE=card.notes, POWER_SEED=str(seed), POWER_CHANCE=str(chance), POWER_AIM=aim)
+    return subprocess.Popen(words, env=env, stdout=subprocess.DEVNULL, stderr=subprocess.PIPE, cwd=FROM)
+
+
+def founded(host, card, hook, seed, rng, places, chance):
+    """the founding, cut off too, or a call of it fails, until it ends by itself: it is done, or it was and is refused"""
+    for i in range(100):
+        before = card.places()
+        founder = hooked(host.found(card.path), card, hook, seed + 500000 + i, 20 if chance else 0, card.aim(rng, places))
+        founder.communicate()
+        if founder.returncode != -signal.SIGKILL and not card.failed_since(before):
+            return
+        card.cut(rng)
 
 
 def parties(tools, port, seed, commands):
@@ -118,58 +206,81 @@ def left_alone(server, desk, until):
     return alive
 
 
-def gate_at(host, card, commands):
-    end = subprocess.run([host, card.path], capture_output=True, text=True).stdout
-    return '' if 'value %d,' % commands in end else 'the gate is not at %d: %s' % (commands, end.strip())
+def read_gate(port, seconds=20):
+    """the gate's value, asked for over the line by a client of a high number; None: no answer"""
+    line = socket.socket(socket.AF_INET, socket.SOCK_DGRAM)
+    line.settimeout(0.1)
+    until = time.time() + seconds
+    while time.time() < until:
+        line.sendto(struct.pack('<BBBBIIIIi', 1, 0, GATE, 0, 0xFFFFFFF0, 1, 1, 0xFFFFFFFF, 0), ('127.0.0.1', port))
+        try:
+            packet = line.recv(64)
+        except OSError:
+            continue
+        if len(packet) == 16 and packet[0] == 2:
+            return struct.unpack_from('<i', packet, 12)[0]
+    return None
 
 
-def gave_up(server, card):
-    """what a host said that ended by itself, '' where a step of storing had failed: then it has to"""
+def gate_at(host, card, port, hook, commands, size):
+    """the host starts once more, and is asked"""
+    server = hooked(host.serve(card.path, port, size), card, hook, 1, 0, '-')
+    value = read_gate(port)
+    server.kill()
+    said = server.communicate()[1].decode().strip()
+    return '' if value == commands else 'the gate is at %s, not at %d: %s' % (value, commands, said)
+
+
+def gave_up(server, card, before):
+    """what a host said that ended by itself, '' where a call on the card had failed: then it has to"""
     said = server.stderr.read().decode().strip()
-    if server.returncode == 1 and card.places()[-1:].isupper() and said.startswith('card: '):
-        return ''
-    return 'the host gave up: ' + said
+    return '' if server.returncode > 0 and card.failed_since(before) else 'the host gave up: ' + (said or 'exit %d' % server.returncode)
 
 
-def session(host, tools, name, port, seed, kills, commands, limit, chance=60, size=0):
+def session(host, tools, name, port, seed, kills, commands, limit, chance=60, size=0, kind=Card):
     """desk, relay and a host that is killed again and again, with a limit of `size` bytes for its log; returns what went wrong or '', and what was seen"""
-    rng, card, places = random.Random(seed), Card(name), [*PLACES, *([*STORING, *FAILING] if size else [])]
+    host = Host(host) if isinstance(host, str) else host
+    rng, card = random.Random(seed), kind(name)
+    places = [*PLACES, 'S'] if kind is Sectors else [*PLACES, *STORING, *(BEHIND if size else ''), *FAILING]
+    founded(host, card, tools['hook'], seed, rng, places, chance if kills else 0)
     relay, desk = parties(tools, port, seed, commands)
-    began, starts, ended, outside, largest, wrong = time.time(), 0, 0, 0, 0, ''
+    began, starts, ended, outside, largest, wrong, errors = time.time(), 0, 0, 0, 0, '', ''
     while desk.poll() is None and not wrong:
-        quiet = starts - ended >= kills
-        server = started(host, card, port + 1, tools['hook'], seed + starts, 0 if quiet else chance, card.aim(rng, places), size)
+        quiet, before = starts - ended >= kills, card.places()
+        server = hooked(host.serve(card.path, port + 1, size), card, tools['hook'], seed + starts, 0 if quiet else chance, card.aim(rng, places))
         starts += 1
         outside += left_alone(server, desk, time.time() + (limit if quiet else rng.uniform(0.004, 0.08)))
         if os.path.exists(card.path):
             largest = max(largest, os.path.getsize(card.path))
         if server.returncode != -signal.SIGKILL:
-            wrong, ended = gave_up(server, card), ended + 1
+            wrong, ended = gave_up(server, card, before), ended + 1
         elif time.time() - began > limit:
             wrong = 'not done after %d s' % limit
-        if desk.poll() is None:
-            card.cut(rng)
+        else:
+            errors += server.stderr.read().decode()
         server.stderr.close()
+        if desk.poll() is None and (server.returncode == -signal.SIGKILL or rng.randrange(4) == 0):
+            card.cut(rng)  # where the host has ended by itself, the power is mostly still there
     if desk.poll() is None:
         desk.kill()
-    said, errors = desk.communicate()
+    said, complaint = desk.communicate()
     relay.terminate()
     lines = relay.communicate()[0].strip()
     if not wrong and desk.returncode != 0:
-        wrong = 'the desk: ' + errors.strip().split('\n')[-1]
-    wrong = wrong or gate_at(host, card, commands)
-    return wrong, {'starts': starts, 'ended': ended, 'outside': outside, 'places': card.places(), 'desk': said.strip(), 'line': lines, 'card': card.path,
-                   'largest': largest, 'seconds': time.time() - began}
+        wrong = 'the desk: ' + complaint.strip().split('\n')[-1]
+    wrong = wrong or gate_at(host, card, port + 1, tools['hook'], commands, size)
+    return wrong, {'starts': starts, 'ended': ended, 'outside': outside, 'places': card.places(), 'desk': said.strip(), 'line': lines, 'card': card,
+                   'largest': largest, 'errors': errors, 'seconds': time.time() - began}
 
 
 def reported(wrong, seen, places):
-    """prints what a session did; whether each of these places was struck"""
+    """prints what a session did; whether it had its kills, and each of these places was struck"""
     kinds = {text: seen['places'].count(letter) for letter, text in places.items()}
     print('%d starts, killed: %d at any moment, %s; %.1f s'
           % (seen['starts'], seen['outside'], ', '.join('%d %s' % (n, text) for text, n in kinds.items()), seen['seconds']))
     print(seen['line'])
     print(seen['desk'] or wrong)
-    return seen['starts'] - seen['ended'] > KILLS and min(kinds.values()) > 0
+    return seen['starts'] - seen['ended'] > KILLS and min(kinds.values(), default=0) > 0
 
 
 def parts(card):
@@ -288,13 +399,18 @@ def looked_at(host, cards):
     return ''
 
 
-def looking(host, tools, port, log, card):
+def looking(host, raw, tools, port, log, card):
     torn = log[:-1], card[:-1]
     cards = [('no card', None, 1, 'No such file'), ('an empty card', b'', 0, '0 bytes: no server was founded'), ('a part of a head', log[:7], 0, '7 bytes: no server was founded'),
              *[('a card', c, 0, seen_on(c)) for c in (log, card)], *[('a torn card', c, 0, seen_on(c)) for c in torn], ('a damaged card', with_byte(log, 8, 9)[1], 1, 'log: bad log')]
     told('%d cards are printed and left as they were, by one who may only read them' % len(cards), looked_at(host, cards))
-    count('a host that opens its card to print it is found', looked_at(changed('opens', ['        card_look(&card, argv[1]);\n'], ['        card_open(&card, argv[1]);\n']), cards[1:]))
-    path, said, ended = os.path.join(WORK, 'served'), [], threading.Event()
+    count('a host that opens its card to print it is found', looked_at(changed('opens', ['        card_look(&card, argv[1]);\n'], ['        card_open(&card, argv[1], 0);\n']), cards[1:]))
+    for name, program, kind in (('served', host, Card), ('served_raw', raw, Sectors)):
+        printed_beside(name, program, kind, tools, port)
+
+
+def printed_beside(name, host, kind, tools, port):
+    path, said, ended = os.path.join(WORK, name + '.card', 'card'), [], threading.Event()
 
     def again():
         while not ended.is_set():
@@ -303,11 +419,11 @@ def looking(host, tools, port, log, card):
 
     thread = threading.Thread(target=again)
     thread.start()
-    wrong, seen = session(host, tools, 'served', port, SEED, 0, 300, 30, size=LIMIT)
+    wrong, seen = session(host, tools, name, port, SEED, 0, 300, 30, size=LIMIT, kind=kind)
     ended.set()
     thread.join()
     bad = [done.stderr for done in said if done.returncode]
-    told('a card is printed %d times while a host serves from it' % len(said), wrong or ''.join(bad[:1]) or ('' if len(said) > 9 else 'too seldom'))
+    told('%s: a card is printed %d times while a host serves from it' % (name, len(said)), wrong or ''.join(bad[:1]) or ('' if len(said) > 9 else 'too seldom'))
 
 
 def swapped(starts, log, card):
@@ -315,21 +431,70 @@ def swapped(starts, log, card):
     one = changed('cabinet_1', *starts, ['-DSERVER=1'])
     want = 'card: of server 0, and this is server 1'
     told("another server's card is refused, and left as it was", refused(one, [('a log', log, want), ('a checkpoint and its tail', card, want)]))
-    (done, founded), (again, _) = ran(one, 'own', b''), ran(one, 'own', b'WLG1' + bytes([1, 0, 0, 0]))
-    count('it founds and takes its own', founded[:5] == b'WLG1\1' and done.stdout == again.stdout and done.stdout.startswith('server 1, log 8 bytes,'))
-    blind = changed('cabinet_1_blind', [*starts[0], '        own_card();\n'], [*starts[1], ''], ['-DSERVER=1'])
+    own = os.path.join(WORK, 'own_1')
+    done = subprocess.run([one, '--found', own], capture_output=True, text=True)
+    again = subprocess.run([one, own, '0'], capture_output=True, text=True)
+    count('it founds and takes its own', open(own, 'rb').read()[:5] == b'WLG1\1' and done.stdout == again.stdout and done.stdout.startswith('server 1, log 8 bytes,'))
+    blind = changed('cabinet_1_blind', [*starts[0], '    own_card();\n'], [*starts[1], ''], ['-DSERVER=1'])
     taken = [ran(blind, 'taken', c)[0] for c in (log, card)]
     count('a host that does not compare the numbers takes both, as server 0', all(done.returncode == 0 and done.stdout.startswith('server 0, ') for done in taken))
 
 
-def without_checkpoints(host, starter, tools, port):
-    wrong, seen = session(host, tools, 'card', port, SEED, KILLS, 14 * KILLS, 90)
-    each = reported(wrong, seen, PLACES)
+def foundings(host, starter, log, card):
+    """only the word founds, and only where there is nothing; a missing card is not made"""
+    missing, empty = os.path.join(WORK, 'missing'), os.path.join(WORK, 'empty')
+    done = subprocess.run([starter, missing, '0'], capture_output=True, text=True)
+    told('a name without a card founds nothing', '' if done.returncode == 1 and 'No such file' in done.stderr and not os.path.exists(missing) else done.stdout + done.stderr)
+    told('nor does an empty card, or one with a part of a head', refused(starter, [('%d bytes' % k, log[:k], 'card: no server was founded on it') for k in range(8)]))
+    wrong = ''
+    for text, status in [(log[:k], 0) for k in range(8)] + [(log, 1), (card, 1), (bytes(8), 1)]:
+        open(empty, 'wb').write(text)
+        done = subprocess.run([host, '--found', empty], capture_output=True, text=True)
+        if done.returncode != status or open(empty, 'rb').read() != (text if status else log[:8]):
+            wrong = '%d bytes: exit %d, %s%s' % (len(text), done.returncode, done.stdout, done.stderr)
+    told('--found founds on such a card, and on no other', wrong)
+
+
+def in_use(hosts, port):
+    """a host serves, and stores a checkpoint every few commands; a second program gets its card neither to start from it nor to found on it"""
+    for name, (host, second, unlocked, kind) in hosts.items():
+        card, wrong = kind(name + '_in_use'), ''
+        subprocess.run([host, '--found', card.path], stdout=subprocess.DEVNULL, check=True)
+        server = subprocess.Popen([host, card.path, str(port), '8'])
+        read_gate(port)
+        for words in ([second, card.path, '0'], [host, '--found', card.path]):
+            done = subprocess.run(words, capture_output=True, text=True)
+            if done.returncode != 1 or 'another program has' not in done.stderr:
+                wrong += done.stdout + done.stderr
+        told('%s: a card in use is not given to a second program' % name, wrong)
+        count('%s: a host that does not lock it is found' % name, subprocess.run([unlocked, card.path, '0'], capture_output=True).returncode == 0)
+        server.kill()
+        server.wait()
+
+
+def driven(driver, log, card):
+    """after a start, by value, status and quality"""
+    said = [ran(driver, 'driven', c)[0].stdout for c in (log, card, b'WLG1' + bytes(4))]
+    values = [whole_records(*parts(c))[-1][1] for c in (log, card)]
+    count('the gate is driven after a start, where its value is valid', [text.split('server')[0] for text in said] == ['gate to %d; ' % v for v in values] + [''])
+    one = changed('driver_1', *DRIVES, ['-DSERVER=1'])
+    count('and not where the point is not held', ran(one, 'driven_1', b'WLG1\1' + bytes(3))[0].stdout.startswith('server 1, '))
+
+
+def written_into(tools, port):
+    host = changed('written_into', ['static void turn(void) {\n'], ['static void turn(void) {\n    static int turns;\n    if (++turns % 40 == 0) state[0] ^= 1;\n'])
+    wrong, seen = session(host, tools, 'written_into', port, SEED, 0, 300, 30, size=LIMIT)
+    times = seen['errors'].count('not sound')
+    told('the state is written into: the host stops, recovers and goes on, %d times' % times, wrong or ('' if times > 3 else 'too seldom'))
+
+
+def without_checkpoints(starter, wrong, seen):
+    each = reported(wrong, seen, {**PLACES, **STORING})
     told('every command carried out once, whatever was cut off', wrong)
     count('%d kills or more, each place among them' % KILLS, each)
     if wrong:
         return b''
-    log = open(seen['card'], 'rb').read()
+    log = open(seen['card'].path, 'rb').read()
     bad, tried = cuts(starter, log, 10)
     told('a card cut at each of %d bytes starts with its whole records' % tried, bad)
     log = log[:whole_records(b'', log)[-1][0]]
@@ -337,15 +502,14 @@ def without_checkpoints(host, starter, tools, port):
     return log
 
 
-def with_checkpoints(host, starter, tools, port):
-    wrong, seen = session(host, tools, 'checkpoints', port, SEED + 7, KILLS, 14 * KILLS, 90, size=LIMIT)
-    each = reported(wrong, seen, {**PLACES, **STORING})
+def with_checkpoints(host, starter, tools, port, wrong, seen):
+    each = reported(wrong, seen, {**PLACES, **STORING, **BEHIND})
     told('every command carried out once, with checkpoints made and cut off all the time', wrong)
     count('%d kills or more, each place of writing and of storing among them' % KILLS, each)
-    count('the host ended by itself %d times, where a step of storing had failed, each of them among these' % seen['ended'], all(seen['places'].count(c) for c in FAILING))
+    count('the host ended by itself %d times, where a sync or a step of storing had failed, each of them among these' % seen['ended'], all(seen['places'].count(c) for c in FAILING))
     count('the card never has more than %d bytes: %d' % (LARGEST, seen['largest']), 0 < seen['largest'] <= LARGEST)
-    wrong, seen = session(host, tools, 'tail', port + 2, SEED, 0, 24, 20, size=LIMIT)
-    card = open(seen['card'], 'rb').read()
+    wrong, seen = session(host, tools, 'tail', port, SEED, 0, 24, 30, size=LIMIT)
+    card = open(seen['card'].path, 'rb').read()
     checkpoint, log = parts(card)
     ends = whole_records(checkpoint, log)
     told('a card with a checkpoint and %d records behind it' % (len(ends) - 1), wrong or ('' if checkpoint and len(ends) > 3 else 'no such card'))
@@ -356,54 +520,160 @@ def with_checkpoints(host, starter, tools, port):
     return card
 
 
+def on_sectors(wrong, seen):
+    each, fates = reported(wrong, seen, PLACES), seen['card'].seen
+    print('sectors not certain at a cut: ' + ', '.join('%d %s' % (n, how) for how, n in fates.items()))
+    told('raw sectors: every command carried out once', wrong)
+    count('%d kills or more, each place among them, and each fate of a sector' % KILLS, each and min(fates.values()) > 9)
+    count('the host ended by itself %d times, where a sync had failed' % seen['ended'], seen['ended'])
+
+
 RENAME = '    if (rename(card->next_path, card->path)) fail("card: rename");\n'
-NAME = '    card_sync_name(card);\n'
-SWITCH = '    card->file = next;\n    card->base = length;\n'
-SWITCHED = NAME + '    close(card->file);\n' + SWITCH
-OPENED = '    if (next < 0) fail(card->next_path);\n'
+NAME = '    if (fsync(card->folder)) fail("card: folder");\n'
+SYNC, SYNCED = '    if (fdatasync(card->file)) fail("card: sync");\n', '    if (fdatasync(next)) fail("card: sync of what is stored");\n'
+OPENED = '    if (next < 0 || flock(next, LOCK_EX | LOCK_NB)) fail(card->next_path);\n'
 RECOVER = 'mantelorris_recover_checkpoint(state, sizeof state, checkpoint, card.base, log_space, kept)'
-HEAD = '    write_at(next, head, MANTELORRIS_LOG_HEAD, length);\n'
-STORE, TURN = 'void card_store(struct card *card', 'static void turn(void) {'
-STORED, BEGUN = '    card_store(&card, checkpoint, mantelorris_written(a), head);\n', '    memcpy(log_space, head, sizeof head);\n'
-# a host that ends where it would serve
+STORED, BEGUN = '    card_store(&card, checkpoint, mantelorris_written(a), head, sizeof head);\n', '    memcpy(log_space, head, sizeof head);\n'
+CUT = '    card_store(&card, checkpoint, card.base, log_space, (size_t)mantelorris_length(state));\n'
+MAKE = 'static void make_checkpoint(void) {\n'
+# a host that ends where it would serve; one that says where its gate goes, too
 STARTS = ['    serve(atoi(argv[2]));\n'], ['    print_state();\n']
+DRIVES = [*STARTS[0], '    (void)value; /* yours: the actuator goes to this value */\n'], [*STARTS[1], '    printf("gate to %d; ", value);\n']
+UNLOCKED = [*STARTS[0], '    if (flock(card->file, LOCK_EX | LOCK_NB)) fail("card: another program has it");\n'], [*STARTS[1], '']
 # each with one in how many calls on the card is struck, and the log's limit
 FAULTS = {
-    'mark_before_write': (60, 0, ['    card_append(&card, log_space, mark, length);\n', '    waits = 0;\n}'],
-                          ['', '    waits = 0;\n    card_append(&card, log_space, mark, length);\n}']),
-    'card_not_cut': (6, 0, ['        card_cut(&card, (size_t)mantelorris_length(state));\n'], ['']),
+    'mark_before_write': (60, 0, ['    card_append(&card, log_space, mark, length);\n', '    waits = 0;\n    if (sound &&'],
+                          ['', '    waits = 0;\n    card_append(&card, log_space, mark, length);\n    if (sound &&']),
+    'card_not_cut': (6, 0, [CUT], ['']),
+    'cut_in_place': (30, 0, [CUT, '#include <arpa/inet.h>\n'],
+                     ['    if (ftruncate(card.file, (off_t)(card.base + mantelorris_length(state))) || fdatasync(card.file) || fsync(card.folder)) exit(1);\n',
+                      '#include <arpa/inet.h>\n#include <unistd.h>\n']),
+    'sync_tried_again': (30, 0, [SYNC], [SYNC.replace('fdatasync(card->file)', 'fdatasync(card->file) && fdatasync(card->file)')]),
     'switched_before_stored': (60, LIMIT, [RENAME, OPENED], ['', OPENED + RENAME]),
-    'calls_before_stored': (60, LIMIT, [STORE, RENAME + SWITCHED, TURN, STORED + BEGUN],
-                            ['void turn(void);\n' + STORE, SWITCH + '    turn();\n' + RENAME + NAME, 'void turn(void);\nvoid turn(void) {', BEGUN + STORED]),
+    'calls_before_stored': (60, LIMIT, [MAKE, STORED + BEGUN], ['static void turn(void);\n' + MAKE, BEGUN + '    turn();\n' + STORED]),
     'recover_on_a_tail': (60, LIMIT, [RECOVER], ['mantelorris_recover(state, sizeof state, log_space, kept, plan, sizeof plan)']),
-    'head_not_stored': (60, LIMIT, [HEAD], ['']),
-    'renamed_before_synced': (60, LIMIT, ['    if (fdatasync(next)) fail("card: sync of the checkpoint");\n'], ['']),
+    'head_not_stored': (60, LIMIT, [STORED], [STORED.replace('sizeof head', '0')]),
+    'renamed_before_synced': (60, LIMIT, [SYNCED], ['']),
     'failed_rename_ignored': (60, LIMIT, [RENAME], ['    if (rename(card->next_path, card->path)) return;\n']),
-    'name_not_synced': (60, LIMIT, [SWITCHED], [SWITCHED.replace(NAME, '')]),
-    'name_not_synced_at_start': (30, LIMIT, ['    card_sync_name(&card);\n'], ['']),
+    'name_not_synced': (60, LIMIT, [NAME], ['']),
+}
+SLOT, SLOT_READ = '    put32(super + IN_FORCE, card->slot);\n', '    card->slot = mantelorris_number_at(super, IN_FORCE);\n'
+WORD = '    uint8_t word[SECTOR] = {(uint8_t)card->slot};\n    write_sectors(card->file, word, SECTOR, SUPER);\n    sync_card(card);\n'
+WORD_READ = '    uint8_t word[SECTOR];\n    read_at(card->file, word, SECTOR, SUPER);\n    card->slot = word[0] & 1;\n'
+THROUGH = '    sync_card(card);\n    if (posix_fadvise(card->file, 0, 0, POSIX_FADV_DONTNEED)) stop("card: its cache cannot be emptied");\n'
+SUPER, READ_SLOT = '    write_sectors(card->file, super, SUPER, card->sequence % 2 ? COPY : 0);\n', 'static size_t read_slot('
+LENGTH = '    size_t length = mantelorris_number_at(super, LOG),'
+LENGTH_GREATER = '    size_t length = greater(card, mantelorris_number_at(super, IN_FORCE)),'
+# two words for each slot, written in turn, each with its complement
+LENGTH_WORDS = """    uint8_t words[SECTOR] = {0};
+    put32(words, (uint32_t)length);
+    put32(words + 4, ~(uint32_t)length);
+    write_sectors(card->file, words, SECTOR, SUPER + (2 * card->slot + card->sequence % 2) * SECTOR);
+"""
+GREATER = """static size_t greater(const struct card *card, uint32_t slot) {
+    uint8_t words[2 * SECTOR];
+    size_t most = 0;
+    read_at(card->file, words, sizeof words, SUPER + 2 * slot * SECTOR);
+    for (int i = 0; i < 2; i++) {
+        uint32_t length = mantelorris_number_at(words, (size_t)(i * SECTOR));
+        if (mantelorris_number_at(words, (size_t)(i * SECTOR + 4)) == ~length && length > most) most = length;
+    }
+    return most;
+}
+
+"""
+SHORT, LONG = 120, 1500  # limits: a checkpoint every few commands; a log of some sectors
+RAW_FAULTS = {
+    'last_sector_not_copied': (LIMIT, ['    read_at(card->file, log, length - last,', '    memcpy(log + length - last, super + LAST, last);\n'],
+                               ['    read_at(card->file, log, length,', '']),
+    'greater_length_wins': (SHORT, [SUPER, READ_SLOT, LENGTH], [LENGTH_WORDS + SUPER, GREATER + READ_SLOT, LENGTH_GREATER]),
+    'slot_in_a_word_alone': (SHORT, [SLOT, SLOT_READ], [WORD, WORD_READ]),
+    'one_copy': (SHORT, ['card->sequence % 2 ? COPY : 0'], ['0']),
+    'no_checksum': (LIMIT, ['checksum(super, CHECK) == mantelorris_number_at(super, CHECK) && '], ['']),
+    'superblock_before_log': (LONG, ['    sync_card(card);\n    write_super(card, log, %s);\n' % n for n in ('end', 'length')],
+                              ['    write_super(card, log, %s);\n' % n for n in ('end', 'length')]),
+    'read_through_a_cache': (SHORT, [THROUGH], ['']),
+    'raw_sync_tried_again': (SHORT, [SYNC], [SYNC.replace('fdatasync(card->file)', 'fdatasync(card->file) && fdatasync(card->file)')]),
 }
 
 
+def planted(name, bad_host, tools, port, chance, size, kind):
+    """whether it is found in four tries, and how; that it was slow is no finding"""
+    found, tries = '', 0
+    while not found and tries < 4:
+        found, seen = session(bad_host, tools, name + str(tries), port, SEED + 1000 * tries, 1000, 3000, 30, chance, size, kind)
+        found, tries = '' if found.startswith('not done') else found, tries + 1
+    return 'the host with the fault %s is found%s' % (name, ' after %d starts, %.1f s: %s' % (seen['starts'], seen['seconds'], found) if found else ''), found
+
+
+def all_planted(tools, port):
+    """four at a time: they mostly wait"""
+    jobs = [(name, changed(name, old, new), tools, port + 4 * i, chance, size, Card) for i, (name, (chance, size, old, new)) in enumerate(FAULTS.items())]
+    jobs += [(name, changed(name, old, new, sources=RAW), tools, port + 80 + 4 * i, 30, size, Sectors) for i, (name, (size, old, new)) in enumerate(RAW_FAULTS.items())]
+    with ThreadPoolExecutor(4) as pool:
+        for result in [pool.submit(planted, *job) for job in jobs]:
+            count(*result.result())
+
+
+def own(words, tools, port):
+    """a maker's host: one session, and what is asked of every host"""
+    wrong, seen = session(Host(serve=words.serve, found=words.found), tools, 'own', port, SEED, KILLS, 14 * KILLS, words.seconds, kind=Sectors if words.sectors else Card)
+    places = {letter: text for letter, text in {**PLACES, 'c': 'before a cut', **STORING, **BEHIND}.items() if letter in seen['places']}
+    reported(wrong, seen, places)
+    told('its syncs of the card are seen', '' if seen['card'].syncs() else 'it is linked statically, or calls others than fdatasync and fsync')
+    killed = seen['starts'] - seen['ended'] - 1
+    told('every command carried out once, with %d kills' % killed, wrong or ('' if killed >= KILLS else 'the desk was done too early'))
+
+
+def own_hosts(hosts):
+    """power.py as a maker calls it, from a folder of his: with the examples' programs, and with one that has a fault"""
+    for name, (program, more, status) in hosts.items():
+        words = [sys.executable, os.path.abspath('tests/c/power.py'), '--serve', './%s {card} {port} 400' % os.path.basename(program)]
+        words += ['--found', program + ' --found {card}', *more]
+        env = dict(os.environ, POWER_KILLS='25' if status == 0 else '1000', POWER_SEED=str(SEED), MANTELORRIS_DIST=os.path.abspath(DIST))
+        done = subprocess.run(words, cwd=WORK, env=env, capture_output=True, text=True)
+        told('a maker tries %s' % name, '' if done.returncode == status and ', %d failed' % status in done.stdout else done.stdout + done.stderr)
+
+
+def example(tools, port):
+    host, starter, raw = build(HOST, 'host'), changed('starter', *STARTS), build(RAW, 'raw')
+    with ThreadPoolExecutor(3) as pool:
+        sessions = [pool.submit(session, program, tools, name, port + 2 * i, SEED + i, KILLS, 14 * KILLS, 120, size=size, kind=kind) for i, (name, program, size, kind)
+                    in enumerate([('card', host, 0, Card), ('checkpoints', host, LIMIT, Card), ('sectors', raw, LONG, Sectors)])]
+    log = without_checkpoints(starter, *sessions[0].result())
+    card = with_checkpoints(host, starter, tools, port + 8, *sessions[1].result())
+    on_sectors(*sessions[2].result())
+    if log and card:
+        looking(host, raw, tools, port + 10, log, card)
+        swapped(STARTS, log, card)
+        foundings(host, starter, log, card)
+        driven(changed('driver', *DRIVES), log, card)
+    in_use({'file': (host, starter, changed('unlocked', *UNLOCKED), Card),
+            'raw': (raw, changed('raw_starter', *STARTS, sources=RAW), changed('raw_unlocked', *UNLOCKED, sources=RAW), Sectors)}, port + 12)
+    written_into(tools, port + 14)
+    all_planted(tools, port + 16)
+    own_hosts({'a card in a file': (host, [], 0), 'raw sectors': (raw, ['--sectors'], 0), 'one with a fault': (os.path.join(WORK, 'mark_before_write'), [], 1)})
+
+
 def main():
+    words = argparse.ArgumentParser(description=__doc__, formatter_class=argparse.RawDescriptionHelpFormatter)
+    words.add_argument('--serve')
+    words.add_argument('--found')
+    words.add_argument('--sectors', action='store_true')
+    words.add_argument('--seconds', type=int, default=300)
+    words = words.parse_args()
+    if bool(words.serve) != bool(words.found):
+        sys.exit('power.py: --serve and --found belong together')
     print('seed %d' % SEED)
     if DIST == 'dist':
         subprocess.run(['tools/lib.sh'], stdout=subprocess.DEVNULL, check=True)
     tools = {n: build(['examples/%s.c' % n], n) for n in ('relay', 'desk')}
     tools['hook'] = build(['tests/c/power.c'], 'power.so', ['-shared', '-fPIC', '-ldl'])
-    host, starter = build(HOST, 'host'), changed('starter', *STARTS)
     port = 20000 + SEED % 20000
-    log = without_checkpoints(host, starter, tools, port)
-    card = with_checkpoints(host, starter, tools, port + 4)
-    if log and card:
-        looking(host, tools, port + 8, log, card)
-        swapped(STARTS, log, card)
-    for i, (name, (chance, size, old, new)) in enumerate(FAULTS.items()):
-        found, tries = '', 0
-        bad_host = changed(name, old, new)
-        while not found and tries < 4:
-            found, seen = session(bad_host, tools, name + str(tries), port + 10 + 4 * i, SEED + 1000 * tries, 1000, 3000, 20, chance, size)
-            tries += 1
-        count('the host with the fault %s is found%s' % (name, ' after %d starts, %.1f s: %s' % (seen['starts'], seen['seconds'], found) if found else ''), found)
+    if words.serve:
+        own(words, tools, port)
+    else:
+        example(tools, port)
     print('%d passed, %d failed' % (passed, failed))
     shutil.rmtree(WORK)
     sys.exit(1 if failed else 0)

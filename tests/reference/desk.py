@@ -158,6 +158,7 @@ class Line:
 class Host:
     def __init__(self, path, port, card):
         self.path, self.port, self.card, self.process = path, port, card, None
+        subprocess.run([path, '--found', card], stdout=subprocess.DEVNULL, check=True)
         self.start()
 
     def start(self):

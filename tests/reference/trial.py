@@ -148,6 +148,7 @@ class Client:
 class Cabinet:
     def __init__(self, path, card, port):
         self.path, self.card, self.port, self.kills, self.proc = path, card, port, 0, None
+        subprocess.run([path, '--found', card], stdout=subprocess.DEVNULL, check=True)
         self.up()
 
     def up(self):
