@@ -101,6 +101,7 @@ compared() {
 
 in_c() {
   part client-in-c tests/c/client.sh; count $?
+  part helpers-in-c tests/c/helpers.sh; count $?
   part link-in-c tests/c/link.sh; count $?
   part lock-in-c tests/c/lock.sh; count $?
   part earlier-logs tests/logs/run.sh; count $?

@@ -4,6 +4,7 @@
   - the worked example of a card that is not cut (tests/c/stale.c): the bytes in the guide are those of the run
   - the examples in bytes of docs/FORMATS.md (tests/c/bytes.c)
   - the archive's code size and undefined symbols; the sizes of slices and structs; how many commands a log holds
+  - the names of refusals are those of the header
   - the example in README.md compiles, and prints what README.md says
   - the example host, copied to an empty folder, is built by the line that README.md and docs/GUIDE.md have, founds its card there, and prints what it has
 MANTELORRIS_DIST names a folder with archive and headers; without it `make lib` makes dist/."""
@@ -110,6 +111,13 @@ def readme():
     count('the example of README.md, %d lines, prints what it says' % source.count('\n'), code or (said != shown and said))
 
 
+def refusal_names():
+    """the names of refusals in the guide's table are the header's"""
+    header = open(DIST + '/mantelorris.h', encoding='utf-8').read()
+    named = re.findall(r'^    X\(\w+, (\d+), "([^"]+)"\)', header, flags=re.M)
+    count('%d names of refusals' % len(named), [row[:2] for row in table('number | name | calls | what to do')] != [list(n) for n in named])
+
+
 def copied():
     lines = [re.search(r'^    (cc host\.c .*)$', text, flags=re.M).group(1) for text in (README, GUIDE)]
     empty = os.path.join(WORK, 'empty')
@@ -132,7 +140,7 @@ def copied():
 def main():
     if DIST == 'dist':
         subprocess.run(['tools/lib.sh'], check=True, stdout=subprocess.DEVNULL)
-    for part in (stack, stale, examples, sizes, memory, readme, copied):
+    for part in (stack, stale, examples, sizes, memory, refusal_names, readme, copied):
         part()
     print('%d passed, %d failed' % (passed, failed))
     shutil.rmtree(WORK)
