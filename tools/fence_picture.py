@@ -12,7 +12,8 @@ LEFT, LANE, PANEL, TOP, ROW = 70, 130, 560, 84, 30
 def said():
     dist = os.environ.get('MANTELORRIS_DIST')
     if not dist:
-        subprocess.run(['tools/lib.sh'], check=True, stdout=subprocess.DEVNULL)
+        if subprocess.run(['tools/lib.sh'], stdout=subprocess.DEVNULL).returncode:
+            sys.exit('no picture: the schedule runs on the library')
         dist = 'dist'
     with tempfile.TemporaryDirectory() as work:
         program = os.path.join(work, 'fence')
