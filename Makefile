@@ -49,7 +49,7 @@ bench:
 bench-peer:
 	@tools/bench_peer.py
 
-#: docs/pictures/house.svg: the crates by layer, with their real imports
+#: docs/pictures/house.svg: the crates by layer, and which layer rests on which
 house:
 	@tools/house.py
 
