@@ -3,6 +3,7 @@
 # line and by CMake, which refuses a later version. `make install` with DESTDIR.
 set -eu
 cd "$(dirname "$0")/.."
+top=$PWD
 work=$(mktemp -d)
 trap 'rm -rf "$work"' EXIT
 tools/dist.sh >"$work/said"
@@ -52,13 +53,16 @@ flags="-Iinclude -Llib -lmantelorris"
 if command -v pkg-config >/dev/null; then flags=$(PKG_CONFIG_PATH=$PWD/lib/pkgconfig pkg-config --cflags --libs mantelorris); fi
 cc examples/host.c examples/card.c $flags -o "$work/host"
 "$work/host" >/dev/null 2>&1 && exit 1 # it asks for a card
+# and by the guide's line
+$(sed -nE 's/^    (cc examples\/host.c .* -Llib .*)$/\1/p' "$top/docs/GUIDE.md")
+rm host
 if command -v cmake >/dev/null; then
   printf 'cmake_minimum_required(VERSION 3.5)\nproject(user C)\nfind_package(mantelorris 1.0 REQUIRED)\nfind_package(mantelorris 2.0 QUIET)\nif(mantelorris_FOUND)\n  message(FATAL_ERROR "2.0")\nendif()\n' >"$work/CMakeLists.txt"
   printf 'add_executable(user %s/examples/host.c %s/examples/card.c)\ntarget_link_libraries(user mantelorris::mantelorris)\n' "$PWD" "$PWD" >>"$work/CMakeLists.txt"
   cmake -S "$work" -B "$work/build" -DCMAKE_PREFIX_PATH="$PWD" >"$work/cmake" 2>&1 && cmake --build "$work/build" >>"$work/cmake" 2>&1 || { cat "$work/cmake"; exit 1; }
   "$work/build/user" >/dev/null 2>&1 && exit 1
 fi
-cd - >/dev/null
+cd "$top"
 make --no-print-directory install PREFIX=/usr DESTDIR="$work/root" >/dev/null
 [ -f "$work/root/usr/lib/libmantelorris.a" ] && [ -f "$work/root/usr/include/mantelorris.h" ]
 echo "one archive from two folders: $(sha256sum <"$archive" | cut -d ' ' -f 1)"
