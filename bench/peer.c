@@ -38,11 +38,11 @@ static void write_request(uint8_t *p, uint32_t i, uint32_t first) {
     p[1] = set ? MANTELORRIS_SET : MANTELORRIS_STEP;
     p[2] = (uint8_t)(i % MANTELORRIS_POINTS);
     p[3] = 0;
-    mantelorris_put_number(p, 4, client + 1);
-    mantelorris_put_number(p, 8, call);
-    mantelorris_put_number(p, 12, done);
-    mantelorris_put_number(p, 16, 1); /* lease end: no notice is heard here */
-    mantelorris_put_number(p, 20, set ? 0 : 1);
+    put32(p + 4, client + 1);
+    put32(p + 8, call);
+    put32(p + 12, done);
+    put32(p + 16, 1); /* lease end: no notice is heard here */
+    put32(p + 20, set ? 0 : 1);
 }
 
 static int64_t sum(const int32_t *values, size_t n) {

@@ -3,6 +3,11 @@
 #define EXAMPLE_PLAN_H
 
 #include "mantelorris.h"
+#include <string.h>
+
+static inline void put32(uint8_t *p, uint32_t v) {
+    mantelorris_put_number(p, 0, v);
+}
 
 static inline void make_plan(uint8_t plan[MANTELORRIS_PLAN_SIZE]) {
     for (uint32_t point = 0; point < MANTELORRIS_POINTS; point++) mantelorris_plan_row(plan, point, -1000000, 1000000, 0, 0);
