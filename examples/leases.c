@@ -46,12 +46,16 @@ static void fail(const char *what) {
 
 /* ---- the file */
 
-/* returns when the disk has it for certain; the other copy stays as it was */
+/* returns when the disk has it for certain; the other copy stays as it was. Where this fails, the program ends and has answered nothing */
+static void put_copy(void) {
+    if (pwrite(file, &book, sizeof book, (off_t)(book.sequence % 2 * COPY_AT)) != (ssize_t)sizeof book) fail("leases: write");
+    if (fdatasync(file)) fail("leases: sync");
+}
+
 static void store(void) {
     book.sequence++;
     book.sum = sum_of(&book, offsetof(struct book, sum));
-    if (pwrite(file, &book, sizeof book, (off_t)(book.sequence % 2 * COPY_AT)) != (ssize_t)sizeof book) fail("leases: write");
-    if (fdatasync(file)) fail("leases: sync");
+    put_copy();
 }
 
 static int whole(const struct book *copy, size_t length) {
@@ -70,13 +74,14 @@ static void load(const char *path) {
     exit(1);
 }
 
-/* two managers on one file would give each number out twice; what is read is made certain before a copy is written over */
+/* Two managers on one file would give each number out twice. What was read may be in the system's cache alone, after a sync that failed even where the next one answers 0: it is
+ * written once more, in its place, before the other copy is written over. */
 static void take_file(const char *path) {
     file = open(path, O_RDWR);
     if (file < 0) fail(path);
     if (flock(file, LOCK_EX | LOCK_NB)) fail("leases: a lease manager runs on this file");
     load(path);
-    if (fdatasync(file)) fail("leases: sync");
+    put_copy();
 }
 
 static void found(const char *path) {

@@ -171,7 +171,7 @@ class Party:
         text = '' if has_to or self.process.returncode == -signal.SIGKILL else '%s: %d %s' % (self.words[:2], self.process.returncode, self.process.stderr.read())
         if self.is_card and self.starts:
             about = os.stat(self.path)
-            sure = {line[0]: int(line[1]) for line in self.lines() if len(line) == 2}.get(str(about.st_ino))
+            sure = {line[0]: int(line[1]) for line in self.lines() if len(line) == 2 and line[1].isdigit()}.get(str(about.st_ino))
             if sure is not None:
                 os.truncate(self.path, self.rng.randint(min(sure, about.st_size), about.st_size))
         return text
