@@ -12,7 +12,7 @@ run:
 picture:
 	@tools/picture.sh "$(SCHEDULE)" "$(OUT)"
 
-#: a host, a desk and a poor line between them, with kills; a lock
+#: a host, a desk and a poor line between them, with kills; a plant of two hosts and a lease manager; a lock
 demo: lib
 	@examples/demo.sh
 

@@ -49,11 +49,6 @@ static size_t cabinet(const uint8_t *packet, size_t length, uint8_t out[MANTELOR
     return mantelorris_written(a);
 }
 
-/* the greatest time in a notice that the cabinet has heard of; right after a save its card has it */
-static uint32_t heard(void) {
-    return mantelorris_number_at(state, 8);
-}
-
 /* ---- the line: a packet there and its reply back, each of which may be lost; yours is a radio. Each takes a second by the lease manager's clock */
 
 static uint32_t seed = 1, now;
@@ -260,7 +255,7 @@ static uint32_t tell(struct mantelorris_lease_reply n) {
 static void fence(uint32_t old) {
     struct mantelorris_lease_reply n = notice_of(old);
     uint32_t time = mantelorris_number_at(n.packet, 8);
-    if (tell(n) == MANTELORRIS_UNKNOWN && heard() < time) {
+    if (tell(n) == MANTELORRIS_UNKNOWN && mantelorris_heard(state) < time) {
         /* it was lost before the cabinet had heard of it, and its first packet may be on the way: the notice of another client, later than this one, does the same */
         struct mantelorris_client other = new_desk(1);
         complete(&other, MANTELORRIS_READ, LEVEL1, 0);
@@ -268,7 +263,7 @@ static void fence(uint32_t old) {
         printf("  the cabinet does not know controller %u: another client's notice\n", (unsigned)old);
         tell(notice_of(other.client));
     }
-    if (heard() < time) fail("not fenced off");
+    if (mantelorris_heard(state) < time) fail("not fenced off");
     if (mantelorris_status(state, UPPER) != MANTELORRIS_HELD || mantelorris_status(state, LOWER) != MANTELORRIS_HELD) fail("a gate is being moved: wait for its take");
 }
 

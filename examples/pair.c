@@ -43,29 +43,35 @@ static uint32_t looked(const char *call, uint64_t answer) {
 
 /* ---- start, checkpoint and gate: as in host.c */
 
+static int never_founded(size_t kept) {
+    return card.base == 0 && kept < MANTELORRIS_LOG_HEAD;
+}
+
 static void found(void) {
-    size_t kept = card_read(&card, checkpoint, log_space, sizeof log_space);
-    if (card.base || kept >= MANTELORRIS_LOG_HEAD) {
-        fprintf(stderr, "pair: a server was founded on this card before\n");
+    if (!never_founded(card_read(&card, checkpoint, log_space, sizeof log_space))) {
+        fprintf(stderr, "pair: the card is not empty, so no server is founded on it\n");
         exit(1);
     }
     uint32_t number = mantelorris_number(mantelorris_found(state, sizeof state, log_space, sizeof log_space, plan, sizeof plan, server));
     if (number) stop("found", number);
-    card_append(&card, log_space, 0, MANTELORRIS_LOG_HEAD);
-    card_sync_name(&card);
+    card_store(&card, checkpoint, 0, log_space, MANTELORRIS_LOG_HEAD);
 }
 
 static void recover(void) {
     size_t kept = card_read(&card, checkpoint, log_space, sizeof log_space);
+    if (never_founded(kept)) {
+        fprintf(stderr, "pair: no server was founded on this card; is it the right one?\n");
+        exit(1);
+    }
     uint64_t a = card.base ? mantelorris_recover_checkpoint(state, sizeof state, checkpoint, card.base, log_space, kept)
                            : mantelorris_recover(state, sizeof state, log_space, kept, plan, sizeof plan);
-    if (mantelorris_number(a)) card_refused(&card, mantelorris_number(a), checkpoint, log_space, kept);
+    if (mantelorris_number(a)) stop("recover", mantelorris_number(a)); /* host.c says where the card is damaged */
 }
 
 static void move_gate(void) {
-    if (mantelorris_status(state, GATE) != MANTELORRIS_HELD) return; /* the other cabinet drives it, or nobody until it is taken */
+    if (mantelorris_status(state, GATE) != MANTELORRIS_HELD || mantelorris_quality(state, GATE) != MANTELORRIS_VALID) return;
     int32_t value = mantelorris_value(state, GATE);
-    (void)value; /* yours: drive the actuator to this value; at quality 1 by your plant's rule */
+    (void)value; /* yours: drive the actuator to this value. Where the point is not held here, the other cabinet drives it, or nobody until it is taken */
 }
 
 static void start(void) {
@@ -74,8 +80,7 @@ static void start(void) {
         fprintf(stderr, "pair: the card is of server %u, and this is server %u\n", mantelorris_server(state), server);
         exit(1);
     }
-    card_cut(&card, (size_t)mantelorris_length(state));
-    card_sync_name(&card);
+    card_store(&card, checkpoint, card.base, log_space, (size_t)mantelorris_length(state));
     move_gate();
 }
 
@@ -83,15 +88,14 @@ static void make_checkpoint(void) {
     uint8_t head[MANTELORRIS_LOG_HEAD];
     uint64_t a = mantelorris_checkpoint(state, sizeof state, log_space, sizeof log_space, checkpoint, sizeof checkpoint, head, sizeof head);
     if (mantelorris_number(a)) stop("checkpoint", mantelorris_number(a));
-    card_store(&card, checkpoint, mantelorris_written(a), head);
+    card_store(&card, checkpoint, mantelorris_written(a), head, sizeof head);
     memcpy(log_space, head, sizeof head);
 }
 
 static void print_card(void) {
-    static const char *const names[] = {"absent", "held", "given", "released"};
     recover();
     printf("server %u, log %llu bytes, point %d: %s, value %d, move %u\n", mantelorris_server(state), (unsigned long long)mantelorris_length(state), GATE,
-           names[mantelorris_status(state, GATE)], mantelorris_value(state, GATE), mantelorris_move(state, GATE));
+           mantelorris_status_name(mantelorris_status(state, GATE)), mantelorris_value(state, GATE), mantelorris_move(state, GATE));
 }
 
 /* ---- the lease manager */
@@ -201,7 +205,7 @@ static void answer(const struct owed *o) {
     if (o->kind == LINE_SAVED) {
         out[1] = (uint8_t)server;
         put32(out + 4, o->a);
-        memcpy(out + 8, state + 8, 4); /* heard time, and all of it is synced */
+        put32(out + 8, mantelorris_heard(state)); /* all of the log is synced */
         n = SAVED_SIZE;
     }
     if (o->kind == LINE_PLACE) {
@@ -257,7 +261,7 @@ int main(int argc, char **argv) {
     make_plan(plan);
     if (argc == 4 && strcmp(argv[1], "--found") == 0) {
         server = (uint32_t)atoi(argv[3]);
-        card_open(&card, argv[2]);
+        card_open(&card, argv[2], 1);
         found();
     } else if (argc == 2) {
         card_look(&card, argv[1]);
@@ -266,7 +270,7 @@ int main(int argc, char **argv) {
         server = (uint32_t)atoi(argv[2]);
         leases = line_address(argv[4]);
         other = line_address(argv[5]);
-        card_open(&card, argv[1]);
+        card_open(&card, argv[1], 0);
         start();
         serve(argv[3]);
     } else {
