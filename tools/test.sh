@@ -106,6 +106,7 @@ in_c() {
   part power-cuts tests/c/power.py; count $?
   grep -E '^(seed|[0-9]+ starts|line:)' "$logs/power-cuts" | sed 's/^/   /'
   part plant tests/c/plant.py; count $?
+  grep -E '^(seed|starts)' "$logs/plant" | sed 's/^/   /'
   part guide tests/c/guide.py; count $?
   part reference tests/reference/run.sh; count $?
   # the simulator's case, and the host program in C
