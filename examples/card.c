@@ -35,7 +35,8 @@ static void write_at(int file, const uint8_t *bytes, size_t count, size_t at) {
 static void read_at(int file, uint8_t *bytes, size_t count, size_t at) {
     for (size_t done = 0; done < count;) {
         ssize_t n = pread(file, bytes + done, count - done, (off_t)(at + done));
-        if (n <= 0) fail("card: read");
+        if (n < 0) fail("card: read");
+        if (n == 0) stop("card: its end is missing");
         done += (size_t)n;
     }
 }

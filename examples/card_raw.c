@@ -59,7 +59,8 @@ static void write_sectors(int file, const uint8_t *bytes, size_t count, size_t a
 static void read_at(int file, uint8_t *bytes, size_t count, size_t at) {
     for (size_t done = 0; done < count;) {
         ssize_t n = pread(file, bytes + done, count - done, (off_t)(at + done));
-        if (n <= 0) fail("card: read");
+        if (n < 0) fail("card: read");
+        if (n == 0) stop("card: its end is missing");
         done += (size_t)n;
     }
 }
@@ -119,13 +120,18 @@ static size_t slot_at(const struct card *card) {
     return 2 * COPY + card->slot * (size_t)SLOT;
 }
 
+static void check_size(const struct card *card) {
+    if (lseek(card->file, 0, SEEK_END) < CARD_SIZE) stop("card: it is smaller than a card of this kind");
+}
+
 /* Between us and the flash may be a cache, with a superblock that the flash lacks; the next one goes over the other copy, and a tear would leave none. So what the cache
  * has goes to the flash, and what is read comes from there, even where a sync had failed. */
 void card_open(struct card *card, const char *path, int found) {
     card->file = open(path, found ? O_RDWR | O_CREAT : O_RDWR, 0644);
     if (card->file < 0) fail(path);
     if (flock(card->file, LOCK_EX | LOCK_NB)) fail("card: another program has it");
-    if (found && lseek(card->file, 0, SEEK_END) < CARD_SIZE && ftruncate(card->file, CARD_SIZE)) fail("card: size"); /* a flash has its size */
+    if (found && lseek(card->file, 0, SEEK_END) == 0 && ftruncate(card->file, CARD_SIZE)) fail("card: size"); /* a flash has its size */
+    check_size(card);
     sync_card(card);
     if (posix_fadvise(card->file, 0, 0, POSIX_FADV_DONTNEED)) stop("card: its cache cannot be emptied");
 }
@@ -133,6 +139,7 @@ void card_open(struct card *card, const char *path, int found) {
 void card_look(struct card *card, const char *path) {
     card->file = open(path, O_RDONLY);
     if (card->file < 0) fail(path);
+    check_size(card);
 }
 
 /* what the superblock that counts says, all of it together; its copy of the log's last sector goes over that one, which an append may have torn */

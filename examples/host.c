@@ -116,6 +116,18 @@ static void own_card(void) {
     exit(1);
 }
 
+/* all of the log is synced; until the checkpoint is stored, nothing else of this server is called */
+static void make_checkpoint(void) {
+    uint8_t head[MANTELORRIS_LOG_HEAD];
+    uint64_t a = mantelorris_checkpoint(state, sizeof state, log_space, sizeof log_space, checkpoint, sizeof checkpoint, head, sizeof head);
+    if (mantelorris_number(a)) {
+        refused("checkpoint", mantelorris_number(a));
+        return;
+    }
+    card_store(&card, checkpoint, mantelorris_written(a), head, sizeof head);
+    memcpy(log_space, head, sizeof head);
+}
+
 static void start(void) {
     size_t kept = card_read(&card, checkpoint, log_space, sizeof log_space);
     if (never_founded(kept)) {
@@ -129,6 +141,7 @@ static void start(void) {
     news = 0;
     sound = 1;
     drive_gate();
+    if (mantelorris_length(state) > limit) make_checkpoint();
 }
 
 /* on an empty card alone: a server that is founded a second time has forgotten what desks were told */
@@ -164,18 +177,6 @@ static void print_card(void) {
 
 static void send_to(const struct sockaddr_in *to, const uint8_t *bytes, size_t length) {
     sendto(line, bytes, length, 0, (const struct sockaddr *)to, sizeof *to); /* a lost packet is asked for again */
-}
-
-/* all of the log is synced; until the checkpoint is stored, nothing else of this server is called */
-static void make_checkpoint(void) {
-    uint8_t head[MANTELORRIS_LOG_HEAD];
-    uint64_t a = mantelorris_checkpoint(state, sizeof state, log_space, sizeof log_space, checkpoint, sizeof checkpoint, head, sizeof head);
-    if (mantelorris_number(a)) {
-        refused("checkpoint", mantelorris_number(a));
-        return;
-    }
-    card_store(&card, checkpoint, mantelorris_written(a), head, sizeof head);
-    memcpy(log_space, head, sizeof head);
 }
 
 /* a result that its desk has said it has, or whose lease has ended since, is unknown: nobody waits for it */

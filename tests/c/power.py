@@ -146,6 +146,7 @@ class Sectors(Card):
         self.env = {'POWER_SECTORS': self.before}
         open(self.before, 'wb').close()
         open(self.path, 'wb').write(random.Random(SEED).randbytes(40 * SECTOR))
+        os.truncate(self.path, 16 << 20)
 
     def after(self, rng, versions):
         """what a sector has after the cut, of what was written to it one after the other"""
@@ -234,7 +235,7 @@ def gate_at(host, card, port, hook, commands, size):
 def gave_up(server, card, before):
     """what a host said that ended by itself, '' where a call on the card had failed: then it has to"""
     said = server.stderr.read().decode().strip()
-    return '' if server.returncode > 0 and card.failed_since(before) else 'the host gave up: ' + (said or 'exit %d' % server.returncode)
+    return '' if server.returncode and card.failed_since(before) else 'the host gave up: ' + (said or 'exit %d' % server.returncode)
 
 
 def session(host, tools, name, port, seed, kills, commands, limit, chance=60, size=0, kind=Card):
@@ -440,7 +441,7 @@ def swapped(starts, log, card):
     count('a host that does not compare the numbers takes both, as server 0', all(done.returncode == 0 and done.stdout.startswith('server 0, ') for done in taken))
 
 
-def foundings(host, starter, log, card):
+def foundings(host, starter, raw, log, card):
     """only the word founds, and only where there is nothing; a missing card is not made"""
     missing, empty = os.path.join(WORK, 'missing'), os.path.join(WORK, 'empty')
     done = subprocess.run([starter, missing, '0'], capture_output=True, text=True)
@@ -453,6 +454,13 @@ def foundings(host, starter, log, card):
         if done.returncode != status or open(empty, 'rb').read() != (text if status else log[:8]):
             wrong = '%d bytes: exit %d, %s%s' % (len(text), done.returncode, done.stdout, done.stderr)
     told('--found founds on such a card, and on no other', wrong)
+    for text in (log, card):
+        open(empty, 'wb').write(text)
+        done = subprocess.run([raw, '--found', empty], capture_output=True, text=True)
+        count("nor, on raw sectors, on a file's card: " + done.stderr.strip(), done.returncode == 1 and open(empty, 'rb').read() == text)
+    open(empty, 'wb').write(log)
+    done = subprocess.run([starter, empty, '0', '8'], capture_output=True, text=True)
+    count('a log over the limit becomes a checkpoint at the start', 'checkpoint' in done.stdout and open(empty, 'rb').read()[:4] == b'WLG2')
 
 
 def in_use(hosts, port):
@@ -646,7 +654,7 @@ def example(tools, port):
     if log and card:
         looking(host, raw, tools, port + 10, log, card)
         swapped(STARTS, log, card)
-        foundings(host, starter, log, card)
+        foundings(host, starter, raw, log, card)
         driven(changed('driver', *DRIVES), log, card)
     in_use({'file': (host, starter, changed('unlocked', *UNLOCKED), Card),
             'raw': (raw, changed('raw_starter', *STARTS, sources=RAW), changed('raw_unlocked', *UNLOCKED, sources=RAW), Sectors)}, port + 12)
