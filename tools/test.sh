@@ -50,7 +50,7 @@ same_kit() {
 
 part kit same_kit; count $?
 part format rt fmt --check; count $?
-part yard-cases tools/yard_cases.py --check; count $?
+part simulator-cases tools/simulator_cases.py --check; count $?
 part pictures tools/picture.py --check; count $?
 part guide-pictures tools/guide_pictures.py --check; count $?
 part progress tests/progress.sh; count $?

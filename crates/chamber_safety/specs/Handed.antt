@@ -9,7 +9,7 @@ use Rattle.model.specs.declared.Command.{Command}
 use Rattle.model.specs.Numbers.{half}
 use Rattle.model.specs.Limits.{stateSize, resultSize, headSize, readOp, setOp, reportOp}
 use Rattle.model.specs.Versions.{today}
-use Rattle.model.specs.Yard.{yardPlan}
+use Rattle.model.specs.Simulator.{simulatorPlan}
 use Rattle.claim.specs.World.{Lent, found, request, sync, notice, outside, start, issue, open·lease, query}
 use Rattle.chamber_claim.specs.declared.LockPoints.{LockPoints}
 use Rattle.chamber_claim.specs.Lock.{LockEvent, kernel, begin, command, again, hear}
@@ -43,7 +43,7 @@ noticeNumber = 14
 
 unfoldable pub handed : List LockEvent
 handed =
-    kernel (found 0 (replicate stateSize 0) (replicate headSize 0) yardPlan 0)
+    kernel (found 0 (replicate stateSize 0) (replicate headSize 0) simulatorPlan 0)
     ∷ kernel (outside (open·lease 0 100))
     ∷ kernel (outside (open·lease 0 1000))
     ∷ begin 0

@@ -5,7 +5,7 @@ use mathlib.Core.List.{List, [], _∷_}
 use mathlib.Core.Option.{Option, none, some}
 use lib.ListN.{length}
 use Rattle.model.specs.Versions.{today}
-use Rattle.model.specs.Yard.{yardPlan}
+use Rattle.model.specs.Simulator.{simulatorPlan}
 use Rattle.claim.specs.World.{open·lease, start, issue, receive}
 use Rattle.claim.specs.RecordWorld.{Event, found, request, sync, give, image, take·image, receipt, release, recover, crash, outside, Log, World, keptBy, step, emptyWorld}
 use Rattle.claim.specs.RecordProvisos.{lengthOf, markOf}
@@ -14,17 +14,17 @@ use Rattle.claim.specs.RecordProvisos.{lengthOf, markOf}
 -- call 2 finds a log slice shorter than the log (19), one without space (9), and one with space
 unfoldable pub lost : List Event
 lost =
-    found 0 yardPlan 0
+    found 0 simulatorPlan 0
     ∷ outside (open·lease 0 1000)
     ∷ outside (start 0)
     ∷ outside (issue 1 1 5 2147483688)
     ∷ request 0 1 today 100
     ∷ request 0 1 today 100
     ∷ crash 0 35
-    ∷ recover 0 yardPlan
+    ∷ recover 0 simulatorPlan
     ∷ request 0 1 today 100
     ∷ crash 0 36
-    ∷ recover 0 yardPlan
+    ∷ recover 0 simulatorPlan
     ∷ request 0 1 today 100
     ∷ outside (receive 1 3)
     ∷ outside (issue 1 2 5 2147483649)
@@ -36,8 +36,8 @@ lost =
 -- point 5 moves from server 0 to server 1 with its record: a repeat there is told once the take is synced, and server 0 releases the point
 unfoldable pub moved : List Event
 moved =
-    found 0 yardPlan 0
-    ∷ found 1 yardPlan 1
+    found 0 simulatorPlan 0
+    ∷ found 1 simulatorPlan 1
     ∷ outside (open·lease 0 1000)
     ∷ outside (start 0)
     ∷ outside (issue 1 1 5 2147483688)

@@ -19,4 +19,4 @@ pub mod Checkpoints
 pub mod Clients
 pub mod Leases
 pub mod Letters
-pub mod Yard
+pub mod Simulator

@@ -11,7 +11,7 @@ use Rattle.model.specs.Numbers.{half}
 use Rattle.model.specs.Tables.{keep}
 use Rattle.model.specs.Versions.{today}
 use Rattle.model.specs.Logs.{LogRecord, executed, gone, gave, took, released}
-use Rattle.model.specs.Yard.{yardPlan}
+use Rattle.model.specs.Simulator.{simulatorPlan}
 use Rattle.claim.specs.World.{open·lease, start, issue, receive, query}
 use Rattle.claim.specs.RecordWorld.{Event, found, request, fetch, sync, notice, give, image, take·image, receipt, release, recover, crash, outside, Log, keptBy}
 use Rattle.proof_mutations.specs.World.{run}
@@ -19,8 +19,8 @@ use Rattle.proof_mutations.specs.World.{run}
 -- servers 0 and 1; client 1 has a lease of this span, and sets point 5 to 40: call 1
 unfoldable pub begun : ℕ → List Event
 begun span =
-    found 0 yardPlan 0
-    ∷ found 1 yardPlan 1
+    found 0 simulatorPlan 0
+    ∷ found 1 simulatorPlan 1
     ∷ outside (open·lease 0 span)
     ∷ outside (start 0)
     ∷ outside (issue 1 1 5 (half + 40))
@@ -39,7 +39,7 @@ ended =
 -- two leases end, and server 0 hears of the later end first; a late repeat is refused with 4
 unfoldable pub endedTwice : List Event
 endedTwice =
-    found 0 yardPlan 0
+    found 0 simulatorPlan 0
     ∷ outside (open·lease 0 18)
     ∷ outside (open·lease 0 10)
     ∷ outside (start 0)
@@ -144,7 +144,7 @@ unsyncedGive =
     ∷ image 0 5 999
     ∷ take·image 1 2 999
     ∷ crash 0 8
-    ∷ recover 0 yardPlan
+    ∷ recover 0 simulatorPlan
     ∷ request 0 1 today 999
     ∷ request 1 1 today 999
     ∷ [])
@@ -169,8 +169,8 @@ returned =
 -- the point goes to server 1 and back and is given to it again; the receipt of the first move does not let it go before it has an image
 unfoldable pub givenAgain : List Event
 givenAgain =
-    found 0 yardPlan 0
-    ∷ found 1 yardPlan 1
+    found 0 simulatorPlan 0
+    ∷ found 1 simulatorPlan 1
     ∷ give 0 5 1 999
     ∷ sync 0 16 999
     ∷ image 0 5 999
@@ -196,7 +196,7 @@ regained =
     ++ (request 0 1 today 999
     ∷ sync 0 36 999
     ∷ crash 0 36
-    ∷ recover 0 yardPlan
+    ∷ recover 0 simulatorPlan
     ∷ request 0 1 today 999
     ∷ [])
 

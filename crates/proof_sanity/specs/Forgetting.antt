@@ -15,7 +15,7 @@ use Rattle.model.specs.States.{State, load}
 use Rattle.model.specs.Apply.{apply, founded}
 use Rattle.model.specs.Checkpoints.{checkpointBytes}
 use Rattle.model.specs.Operations.{recoveredState}
-use Rattle.model.specs.Yard.{yardPlan}
+use Rattle.model.specs.Simulator.{simulatorPlan}
 use Rattle.claim.specs.World.{Event, found, outside, open·lease, start, issue, receive, sync, checkpoint, store, crash, Stored, nothingStored, Server, nothing, running, storing, crashed, run}
 use Rattle.claim.specs.Claim.{Account, account, recoveredBy}
 use Rattle.proof_sanity.specs.Trace.{Seen, off, down, Trace}
@@ -57,7 +57,7 @@ module _ (plan : List ℕ) (es : List Event) where
 
 abbrev pub afterSet : List Event → List Event
 afterSet es =
-    found 0 newState (replicate 8 0) yardPlan 0 ∷ outside (open·lease 0 10) ∷ outside (start 0) ∷ outside (issue 1 1 5 (half + 40)) ∷ asks 0 1 ∷ sync 0 36 lentAll ∷ es
+    found 0 newState (replicate 8 0) simulatorPlan 0 ∷ outside (open·lease 0 10) ∷ outside (start 0) ∷ outside (issue 1 1 5 (half + 40)) ∷ asks 0 1 ∷ sync 0 36 lentAll ∷ es
 
 abbrev pub rowsAfterSet : List Seen → List Seen
 rowsAfterSet rs =
@@ -71,7 +71,7 @@ rowsAfterSet rs =
 
 -- the server's state then
 unfoldable pub setState : State
-setState = apply (founded (planOf yardPlan) 0) (record { item = executed settingDone; end = 36 })
+setState = apply (founded (planOf simulatorPlan) 0) (record { item = executed settingDone; end = 36 })
 
 -- ---- the server crashes
 

@@ -32,7 +32,7 @@ use Rattle.model.specs.Plan.{planOf}
 use Rattle.model.specs.declared.Notice.{Notice}
 use Rattle.model.specs.Operations.{answerOf}
 use Rattle.model.specs.Clients.{noCall}
-use Rattle.model.specs.Yard.{yardPlan}
+use Rattle.model.specs.Simulator.{simulatorPlan}
 use Rattle.claim.specs.World.{start, issue, receive, open·lease, query}
 use Rattle.claim.specs.World.{Event, found, request, sync, notice, give, image, take·image, receipt, release, recover, checkpoint, store, recover·tail, crash, outside, Lent, Stored, nothingStored}
 use Rattle.proof_sanity.specs.Trace.{Seen, up, Trace}
@@ -129,7 +129,7 @@ keptTail = headBytes 1 ++ executedBytes (stepDone 3)
 -- the checkpoint that is stored: server 1 has taken the point, got the notice, and executed the second step
 unfoldable pub takenState : State
 takenState =
-    replayFrom (founded (planOf yardPlan) 1)
+    replayFrom (founded (planOf simulatorPlan) 1)
     (record { item = took movedImage; end = 120 } ∷ record { item = gone setterGone; end = 132 } ∷ record { item = executed (stepDone 2); end = 160 } ∷ [])
 
 abbrev pub storedBytes : List ℕ
@@ -145,8 +145,8 @@ asks c p = request c p today lentAll
 
 unfoldable pub schedule : List Event
 schedule =
-    found 0 newState (replicate 8 0) yardPlan 0
-    ∷ found 1 newState (replicate 8 0) yardPlan 1
+    found 0 newState (replicate 8 0) simulatorPlan 0
+    ∷ found 1 newState (replicate 8 0) simulatorPlan 1
     ∷ outside (open·lease 0 10)
     ∷ outside (open·lease 0 1000)
     ∷ outside (start 0)
@@ -159,14 +159,14 @@ schedule =
     ∷ outside (issue 2 2 5 (half + 1))
     ∷ asks 0 4
     ∷ crash 0 50
-    ∷ recover 0 newState keptFirst yardPlan
+    ∷ recover 0 newState keptFirst simulatorPlan
     ∷ asks 0 4
     ∷ give 0 5 1 lentAll
     ∷ sync 0 72 lentAll
     ∷ image 0 5 lentImage
     ∷ take·image 1 5 lentAll
     ∷ crash 1 120
-    ∷ recover 1 newState keptSecond yardPlan
+    ∷ recover 1 newState keptSecond simulatorPlan
     ∷ asks 1 4
     ∷ outside (receive 2 6)
     ∷ outside (query 1 20)
