@@ -51,7 +51,7 @@ asideOk s l (recover c state log p) = true
 asideOk s l (checkpoint c tail t) = true
 asideOk s l (store c) = true
 asideOk s l (recover·tail c state k tail) = true
-asideOk s l (inspect c x k) = true
+asideOk s l (inspect c k x n t) = true
 asideOk s l (crash c k) = true
 asideOk s l (outside (start p)) = true
 asideOk s l (outside (issue x op p a)) = isNone (l .controllers x) && gateOk s op p
@@ -148,7 +148,7 @@ executesIn k w (recover c state log p) a = false
 executesIn k w (checkpoint c tail t) a = false
 executesIn k w (store c) a = false
 executesIn k w (recover·tail c state n tail) a = false
-executesIn k w (inspect c x n) a = false
+executesIn k w (inspect c s x n t) a = false
 executesIn k w (crash c n) a = false
 executesIn k w (outside e) a = false
 
@@ -194,7 +194,7 @@ noCrash (recover c state log p) = true
 noCrash (checkpoint c tail t) = true
 noCrash (store c) = true
 noCrash (recover·tail c state k tail) = true
-noCrash (inspect c x k) = true
+noCrash (inspect c k x n t) = true
 noCrash (crash c k) = false
 noCrash (outside e) = true
 

@@ -137,7 +137,7 @@ module _ (plan : List ℕ) (es : List Event) where
     step-becomes (checkpoint c t l) h = as-still (checkpoint c t l) (checkpoint-clients _ _ _ _ _)
     step-becomes (store c) h = as-still (store c) (store-clients _ _ _)
     step-becomes (recover·tail c state k t) h = as-still (recover·tail c state k t) (found-clients _ _ _ _)
-    step-becomes (inspect c y k) h = as-still (inspect c y k) refl
+    step-becomes (inspect c k y m l) h = as-still (inspect c k y m l) (calls-clients _ _ _ _ _)
     step-becomes (crash c k) h = as-still (crash c k) (crash-clients _ _ _ _)
     step-becomes (outside (start p)) h = go (packet (after es n) p) refl
       where

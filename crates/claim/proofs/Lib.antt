@@ -4,3 +4,5 @@ pub mod Values
 pub mod Above
 pub mod Clients
 pub mod Stored
+pub mod Completed
+pub mod Marks

@@ -131,8 +131,6 @@ module _ (plan : List ℕ) (seen : Account) where
     -- "a command completed before another was issued stands first"
     pub real-time : (m n : ℕ) (a b : OrderEntry) (r : EntryResult) → seen .Completes m (commands a) r → seen .Issues n (commands b) → m < n
         → a ∈ order → b ∈ order → Before a b order
-    -- a completed command survives
-    pub completed : (n : ℕ) (ks : List Command) (r : EntryResult) → seen .Completes n ks r → (a : OrderEntry) × (commands a ≡ ks) × (a ∈ order)
     -- the order keeps each point's sequence of surviving executions. With `once` this leaves a command one surviving execution at the
     -- most: two by one version would put its entry before itself, two by different versions its id into two entries
     pub sequence : (m n : ℕ) (j k : Marked) (a b : OrderEntry) → seen .SurvivesAt m j → seen .SurvivesAt n k → m < n

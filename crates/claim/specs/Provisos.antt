@@ -54,7 +54,7 @@ Typed (recover c state log plan) = Bytes state
 Typed (checkpoint c tail l) = Counted l
 Typed (store c) = Unit
 Typed (recover·tail c state k tail) = Bytes state
-Typed (inspect c x k) = Unit
+Typed (inspect c k x n l) = Counted l
 Typed (crash c k) = Unit
 Typed (outside e) = OutsideTyped e
 

@@ -1,5 +1,5 @@
 -- All parties, run over a schedule: servers (paper: cabinets) with their bytes, clients (desks), the lease manager (lease office),
--- and every packet and image made. Each event runs the definition that the call's contract cites.
+-- and every packet and image made. Each event runs the definition that the call's contract cites, at a party that is there; a call at one that is not is none.
 -- Assumes nothing.
 use Prim.Native.Nat.{ℕ, _+_, _-_}
 use mathlib.Core.List.{List, [], _∷_, _++_}
@@ -15,8 +15,8 @@ use Rattle.model.specs.declared.LeaseAnswer.{LeaseAnswer}
 use Rattle.model.specs.Choice.{pick}
 use Rattle.model.specs.Versions.{Versions}
 use Rattle.model.specs.States.{load}
-use Rattle.model.specs.Operations.{After, foundOf, requestOf, fetchOf, syncOf, noticeOf, giveOf, imageOf, takeOf, receiptOf, releaseOf, recoverOf}
-use Rattle.model.specs.Checkpoints.{checkpointOf, recoverTailOf}
+use Rattle.model.specs.Operations.{After, answerOf, foundOf, requestOf, fetchOf, syncOf, noticeOf, giveOf, imageOf, takeOf, receiptOf, releaseOf, recoverOf}
+use Rattle.model.specs.Checkpoints.{checkpointOf, recoverTailOf, inspectOf}
 use Rattle.model.specs.Limits.{headSize}
 use Rattle.model.specs.Clients.{startOf, issueOf, resendOf, receiveOf, sentBytes}
 use Rattle.model.specs.Leases.{newManager, openOf, renewOf, queryOf, toldBytes}
@@ -88,7 +88,7 @@ pub data Event : Type 0 where
   checkpoint : ℕ → List ℕ → Lent → Event  -- server, buffer of the tail's head; the output is the checkpoint's buffer
   store : ℕ → Event  -- server: the host has stored its checkpoint with the tail's head
   recover·tail : ℕ → List ℕ → List ℕ → List ℕ → Event  -- server, state buffer, checkpoint, kept tail
-  inspect : ℕ → ℕ → ℕ → Event  -- server, client, call
+  inspect : ℕ → List ℕ → ℕ → ℕ → Lent → Event  -- server, checkpoint slice, client, call; the log is the tail
   crash : ℕ → ℕ → Event  -- server, bytes kept
   outside : OutsideCall → Event  -- a call of a client or of the lease manager
 
@@ -138,6 +138,10 @@ calls c l f (crashed k kept mark) w = w
 unfoldable pub callsOn : ℕ → Lent → (List ℕ → List ℕ → List ℕ → After) → Option (List ℕ) → World → World
 callsOn c l f none w = w
 callsOn c l f (some b) w = calls c l (λ s g. f s g b) (w .servers c) w
+
+-- what a call that only reads leaves, with its answer's number: what it was lent, and it makes nothing
+unfoldable pub looked : ℕ → List ℕ → List ℕ → List ℕ → After
+looked n state log out = record { answer = answerOf n 0; state = state; log = log; out = out }
 
 -- what is in force
 unfoldable pub storedOf : Server → Stored
@@ -227,7 +231,7 @@ step w (recover c state log plan) = foundAs c (storedOf (w .servers c)) (recover
 step w (checkpoint c tail l) = checkpoints c tail l (w .servers c) w
 step w (store c) = stores c (w .servers c) w
 step w (recover·tail c state k tail) = foundAs c (storedOf (w .servers c)) (recoverTailOf state k tail) w
-step w (inspect c x k) = w
+step w (inspect c k x n l) = calls c l (λ s g. looked (inspectOf s k g x n .refusal) s g (l .out)) (w .servers c) w
 step w (crash c k) = crashAt c k (w .servers c) w
 step w (outside e) = outsideStep w e
 

@@ -5,7 +5,7 @@
 --     sets-mark           only sync sets a mark
 --     call-sound          number 0: the buffer passes the test of soundness
 --     call-bytes          state and log stay bytes
---     call-kept           a call on a sound buffer, refused or not, leaves a sound buffer
+--     call-kept           a call on a sound buffer, refused or not, leaves a sound buffer (of the two calls with a checkpoint: TailCalls)
 -- Assumes nothing.
 use Prim.Native.Nat.{ℕ, _+_, _-_, _*_, _≤_, _<_}
 use mathlib.Core.Path.{_≡_, refl, sym, subst}
@@ -297,27 +297,29 @@ sets-mark (release packet) st free m e = absurd (no-mark (only-release st free (
 
 -- ---- every call leaves a sound state
 
--- a call was not refused, or the buffer was sound before it
-abbrev Begun : After → List ℕ → Type 0
-Begun a state = (a .answer .refusal ≡ Refusals.noRefusal) ⊎ (sound state ≡ true)
+-- a call that answers n was not refused, or the buffer was sound before it
+abbrev pub Begun : ℕ → List ℕ → Type 0
+Begun n state = (n ≡ Refusals.noRefusal) ⊎ (sound state ≡ true)
 
-refused : (state : List ℕ) (n : ℕ) → (n ≡ Refusals.noRefusal → ⊥) → (n ≡ Refusals.noRefusal) ⊎ (sound state ≡ true) → sound state ≡ true
+pub refused : (state : List ℕ) (n : ℕ) → (n ≡ Refusals.noRefusal → ⊥) → Begun n state → sound state ≡ true
 refused state n h (inl e) = absurd (h e)
 refused state n h (inr e) = e
 
-begun-sound : (c : Call) (state log out : List ℕ) → Bytes state → Bytes log → length log < word * word → CallBytes c → Begun (left c state log out) state
-    → sound (left c state log out .state) ≡ true
+abbrev SoundAfter : List ℕ → After → Type 0
+SoundAfter state a = Begun (a .answer .refusal) state → sound (a .state) ≡ true
+
+begun-sound : (c : Call) (state log out : List ℕ) → Bytes state → Bytes log → length log < word * word → CallBytes c → SoundAfter state (left c state log out)
 unfolding left decidedOn settle
 begun-sound (found plan n) state log out b c z h =
-    found-elim (λ a. Begun a state → sound (a .state) ≡ true) state log plan n h (refused state Refusals.tooShort (λ e. omega arith)) (refused state Refusals.malformed (λ e. omega arith))
+    found-elim (SoundAfter state) state log plan n h (refused state Refusals.tooShort (λ e. omega arith)) (refused state Refusals.malformed (λ e. omega arith))
     (λ l k g p m e. stored-sound state (founded (planOf plan) n) (founded-sound (planOf plan) n g m) (omega arith))
 begun-sound (operate o) state log out b c z h =
-    subst (λ (a : After). Begun a state → sound (a .state) ≡ true) (sym (operated-is o state log out))
-    (lent-elim (λ d. Begun (settle state log (output o out) d) state → sound (settle state log (output o out) d .state) ≡ true) state log (output o out) (outputSize o)
+    subst (SoundAfter state) (sym (operated-is o state log out))
+    (lent-elim (λ d. SoundAfter state (settle state log (output o out) d)) state log (output o out) (outputSize o)
     (decision o (load state) (freeIn state log)) (refused state Refusals.tooShort (λ e. omega arith)) (refused state Refusals.unsound (λ e. omega arith))
     (λ l s f e. settled state log (output o out) (decision o (load state) (freeIn state log)) b l s f z (decision-allowed o state log h)))
 begun-sound (recover plan) state log out b c z h =
-    recover-elim (λ a. Begun a state → sound (a .state) ≡ true) state log plan (refused state Refusals.tooShort (λ e. omega arith)) (refused state Refusals.malformed (λ e. omega arith))
+    recover-elim (SoundAfter state) state log plan (refused state Refusals.tooShort (λ e. omega arith)) (refused state Refusals.malformed (λ e. omega arith))
     (refused state Refusals.badLog (λ e. omega arith))
     (λ st l g r e. stored-sound state (withMark (st .size) st) (recovered-bytes (planOf plan) log st (plan-good plan h g) c z r .marked) (omega arith))
 

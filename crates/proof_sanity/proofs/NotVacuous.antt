@@ -1,7 +1,9 @@
 -- The claim speaks of something: the schedule of Moved, with a move, crashes and recoveries from logs and from a checkpoint with its tail, a lease
--- end and a late repeat, keeps all its provisos. Four commands survive and are completed, the first before the second is issued, one of them executed
--- before the checkpoint and one on its tail; and point 5 has a holder at move 1.
+-- end and a late repeat, keeps all its provisos. Six commands survive and are completed, the first before the second is issued, one of them executed
+-- before the checkpoint and one on its tail; and point 5 has a holder at move 1. Of two equal steps past the range's end a program of the first version
+-- executed one and today's the other: their results differ, and no order explains the schedule in which one of them has another mark.
 --     not-vacuous
+--     marks-kept
 -- Assumes nothing.
 use Prim.Native.Nat.{ℕ, zero, suc, _+_, _≤_}
 use mathlib.Core.Path.{_≡_, refl, sym, ap, _∙_, subst}
@@ -11,15 +13,16 @@ use native.Mathlib.Omega.{arith}
 use lib.Dec.{lit≤, lit<}
 use lib.ListN.{drop, getElem?}
 use Rattle.model.specs.declared.Client.{Client}
+use Rattle.model.specs.declared.Command.{Command}
 use Rattle.model.specs.declared.Point.{Point}
 use Rattle.model.specs.declared.Request.{Request}
 use Rattle.model.specs.declared.ResultPacket.{ResultPacket}
 use Rattle.model.specs.declared.Packet.the-variants.{Requested}
 use Rattle.model.specs.declared.Received.the-variants.{Completed}
 use Rattle.model.specs.declared.Sent.the-variants.{Asked}
-use mathlib.Core.List.{[], _∷_}
-use Rattle.model.specs.Versions.{today}
-use Rattle.model.specs.Sequential.{markedBy, one, resultMeant}
+use mathlib.Core.List.{List, [], _∷_, List·Memᴰ·head, List·Memᴰ·tail}
+use Rattle.model.specs.Versions.{Versions, first, second, today}
+use Rattle.model.specs.Sequential.{Marked, markedBy, OrderEntry, single, parts, one, resultMeant}
 use Rattle.model.specs.Numbers.{half}
 use Rattle.model.specs.Limits.{refusalSize, stepOp}
 use Rattle.model.specs.Tables.{every}
@@ -30,10 +33,10 @@ use Rattle.model.specs.Clients.{placeOf, callAt, issueOf, receiveOf}
 use Rattle.model.specs.Yard.{yardPlan}
 use Rattle.claim.specs.World.{Event, request, sync, give, crash, outside, issue, receive, Stored, nothingStored, nothing, storedOf, packet, run, after}
 use Rattle.claim.specs.Provisos.{reachOf, At, Provisos}
-use Rattle.claim.specs.Claim.{commandAt, Executes, Crashes, SurvivesAt, Completes, Issues, stateGiven, finalState, Holder}
+use Rattle.claim.specs.Claim.{commandAt, Executes, Crashes, SurvivesAt, Completes, Issues, stateGiven, finalState, Holder, _∈_, Once, one-more, Explains}
 use Rattle.proof_sanity.specs.Trace.{Cut, Call, Seen, requestAnswer, callSeen, up, standsAt, Ended, endSeen, keepsMany, below, callWith, done}
 use Rattle.model_laws.specs.Opened.{openNumbers, openRules, openPackets, openClients}
-use Rattle.proof_sanity.specs.Moved.{setting, stepCommand, stepping, settingResult, stepResult, steppingResult, settingAsked, stepAsked, settingAnswer, stepAnswer, lentAll, firstStored, asks, schedule, idle, setter, stepper, answering, giverPoint, takerPoint, rowsSeen, traceSeen}
+use Rattle.proof_sanity.specs.Moved.{setting, stepCommand, stepping, settingResult, stepResult, steppingResult, settingAsked, stepAsked, farAsked, settingAnswer, stepAnswer, farAnswer, farCommand, stayedResult, stoppedResult, before, lentAll, firstStored, asksOf, asks, schedule, idle, setter, stepper, farStepper, answering, giverPoint, takerPoint, rowsSeen, traceSeen}
 use Rattle.proof_sanity.proofs.Traced.{call-at, end-at, provisos-kept, untouched, up-of, executes-seen, survives-seen, completes-seen, done-answer}
 use Rattle.proof_sanity.proofs.Computed.{trace-is}
 
@@ -54,26 +57,32 @@ provisos = provisos-kept yardPlan 5 schedule traceSeen trace-is refl
 abbrev Parses : Request → Type 0
 Parses q = parsePacket (requestBytes q) ≡ Requested q
 
-parsed : Parses settingAsked × Parses (stepAsked 1) × Parses (stepAsked 2) × Parses (stepAsked 3)
+parsed : Parses settingAsked × Parses (stepAsked 1) × Parses (stepAsked 2) × Parses (stepAsked 3) × Parses (farAsked 4) × Parses (farAsked 5)
 unfolding openNumbers openRules openPackets
-parsed = (refl, refl, refl, refl)
+parsed = (refl, refl, refl, refl, refl, refl)
 
 abbrev Gets : Client → ResultPacket → Type 0
 Gets d r = receiveOf d (resultBytes r) .answer ≡ Completed r
 
 received : Gets setter settingAnswer × Gets (stepper 1) (stepAnswer 1) × Gets (stepper 2) (stepAnswer 2) × Gets (stepper 3) (stepAnswer 3)
+    × Gets (farStepper 4) (farAnswer 4 stayedResult) × Gets (farStepper 5) (farAnswer 5 stoppedResult)
 unfolding openNumbers openPackets openClients
-received = (refl, refl, refl, refl)
+received = (refl, refl, refl, refl, refl, refl)
 
 issued : issueOf (idle 2 1000 1) 2 5 (half + 1) .answer ≡ Asked (stepAsked 1)
 unfolding openRules openPackets openClients
 issued = refl
 
--- event n executes q at server c and survives: its log then reaches `reach`, and no later crash keeps less
+-- event n executes q at server c by v and survives: its log then reaches `reach`, and no later crash keeps less
+survives-by : (v : Versions) (n c p size reach : ℕ) (q : Request) → At yardPlan schedule n (asksOf v c p) → Parses q
+    → callSeen (after schedule n) (asksOf v c p) ≡ answering size (requestBytes q) 0 0 .call → reachOf (after schedule (suc n) .servers c) ≡ reach
+    → every (keepsMany c reach) (drop (suc n) rowsSeen) ≡ true → SurvivesAt yardPlan schedule n (markedBy v (q .command))
+unfolding traceSeen
+survives-by v n c p size reach q a b s r h = survives-seen yardPlan schedule 5 traceSeen trace-is n c p size reach v lentAll q a b s r h
+
 survives : (n c p size reach : ℕ) (q : Request) → At yardPlan schedule n (asks c p) → Parses q → callSeen (after schedule n) (asks c p) ≡ answering size (requestBytes q) 0 0 .call
     → reachOf (after schedule (suc n) .servers c) ≡ reach → every (keepsMany c reach) (drop (suc n) rowsSeen) ≡ true → SurvivesAt yardPlan schedule n (markedBy today (q .command))
-unfolding traceSeen
-survives n c p size reach q a b s r h = survives-seen yardPlan schedule 5 traceSeen trace-is n c p size reach today lentAll q a b s r h
+survives = survives-by today
 
 set-survives : SurvivesAt yardPlan schedule 7 (markedBy today setting)
 unfolding At schedule rowsSeen callSeen callWith done every keepsMany
@@ -95,6 +104,17 @@ tail-survives : SurvivesAt yardPlan schedule 39 (markedBy today (stepCommand 3))
 unfolding At schedule rowsSeen callSeen callWith done every keepsMany
 tail-survives =
     survives 39 1 12 160 188 (stepAsked 3) refl (parsed .3) (row 39 (asks 1 12) _ refl refl) (ap (λ (x : Call). x .size) (row 40 (sync 1 36 lentAll) _ refl refl)) refl
+
+stayed-survives : SurvivesAt yardPlan schedule 47 (markedBy before (farCommand 4))
+unfolding At schedule rowsSeen callSeen callWith done every keepsMany
+stayed-survives =
+    survives-by before 47 1 14 188 216 (farAsked 4) refl (parsed .4) (row 47 (asksOf before 1 14) _ refl refl)
+    (ap (λ (x : Call). x .size) (row 48 (sync 1 64 lentAll) _ refl refl)) refl
+
+stopped-survives : SurvivesAt yardPlan schedule 52 (markedBy today (farCommand 5))
+unfolding At schedule rowsSeen callSeen callWith done every keepsMany
+stopped-survives =
+    survives 52 1 16 216 244 (farAsked 5) refl (parsed .5) (row 52 (asks 1 16) _ refl refl) (ap (λ (x : Call). x .size) (row 53 (sync 1 92 lentAll) _ refl refl)) refl
 
 -- event 13 keeps 50 bytes, counted from the founding
 first-cut : Crashes yardPlan schedule 13 0 50
@@ -138,6 +158,16 @@ before-completed = completes-seen yardPlan schedule 37 2 11 (stepper 2) (stepAns
 tail-completed : Completes yardPlan schedule 45 (stepCommand 3 ∷ []) (one (resultMeant (stepResult 3)))
 unfolding At schedule rowsSeen commandAt callAt placeOf
 tail-completed = completes-seen yardPlan schedule 45 2 13 (stepper 3) (stepAnswer 3) refl (received .3) (row 45 (outside (receive 2 13)) _ refl refl)
+
+stayed-completed : Completes yardPlan schedule 50 (farCommand 4 ∷ []) (one (resultMeant stayedResult))
+unfolding At schedule rowsSeen commandAt callAt placeOf
+stayed-completed =
+    completes-seen yardPlan schedule 50 2 15 (farStepper 4) (farAnswer 4 stayedResult) refl (received .4) (row 50 (outside (receive 2 15)) _ refl refl)
+
+stopped-completed : Completes yardPlan schedule 55 (farCommand 5 ∷ []) (one (resultMeant stoppedResult))
+unfolding At schedule rowsSeen commandAt callAt placeOf
+stopped-completed =
+    completes-seen yardPlan schedule 55 2 17 (farStepper 5) (farAnswer 5 stoppedResult) refl (received .5) (row 55 (outside (receive 2 17)) _ refl refl)
 
 step-issued : Issues yardPlan schedule 11 (stepping ∷ [])
 unfolding At schedule rowsSeen callSeen callWith done
@@ -211,7 +241,7 @@ in-force = ap storedOf (up-of 5 (run schedule .servers 1) firstStored takerPoint
 
 -- events 7 and 15 execute the two commands and survive, events 10 and 23 complete them, and event 11 issues the second; event 12 executes
 -- it first, and is cut off; event 26 is the late repeat. Event 30 executes before the checkpoint that event 33 stores, event 39 on its tail; events 37 and 45
--- complete these
+-- complete these. Events 47 and 52 step past the end by the first version and by today's, events 50 and 55 complete these
 pub not-vacuous : Provisos yardPlan schedule
     × SurvivesAt yardPlan schedule 7 (markedBy today setting)
     × Completes yardPlan schedule 10 (setting ∷ []) (one (resultMeant settingResult))
@@ -226,6 +256,10 @@ pub not-vacuous : Provisos yardPlan schedule
     × SurvivesAt yardPlan schedule 39 (markedBy today (stepCommand 3))
     × Completes yardPlan schedule 45 (stepCommand 3 ∷ []) (one (resultMeant (stepResult 3)))
     × (storedOf (run schedule .servers 1) ≡ firstStored)
+    × SurvivesAt yardPlan schedule 47 (markedBy before (farCommand 4))
+    × Completes yardPlan schedule 50 (farCommand 4 ∷ []) (one (resultMeant stayedResult))
+    × SurvivesAt yardPlan schedule 52 (markedBy today (farCommand 5))
+    × Completes yardPlan schedule 55 (farCommand 5 ∷ []) (one (resultMeant stoppedResult))
 not-vacuous = (
   provisos,
   set-survives,
@@ -241,4 +275,31 @@ not-vacuous = (
   tail-survives,
   tail-completed,
   in-force,
+  stayed-survives,
+  stayed-completed,
+  stopped-survives,
+  stopped-completed,
 )
+
+-- ---- marks
+
+-- an id stands in one entry
+apart : (a b : Marked) → a .command ≡ b .command → {o : OrderEntry} {os : List OrderEntry} → Once (o ∷ os) → single a ∈ os → single b ≡ o → ⊥
+unfolding parts
+apart a b e (one-more h k) i q =
+    h (single a) a b i (List·Memᴰ·head refl) (subst (λ (x : OrderEntry). b ∈ parts x) q (List·Memᴰ·head refl)) (ap (λ (x : Command). x .client) e) (ap (λ (x : Command). x .call) e)
+
+once-marked : (a b : Marked) → a .command ≡ b .command → {order : List OrderEntry} → Once order → single a ∈ order → single b ∈ order → a .version ≡ b .version
+once-marked a b e h (List·Memᴰ·head p) (List·Memᴰ·head q) = let r : single a ≡ single b = p ∙ sym q in cc
+once-marked a b e h (List·Memᴰ·head p) (List·Memᴰ·tail j) = absurd (apart b a (sym e) h j p)
+once-marked a b e h (List·Memᴰ·tail i) (List·Memᴰ·head q) = absurd (apart a b e h i q)
+once-marked a b e (one-more h k) (List·Memᴰ·tail i) (List·Memᴰ·tail j) = once-marked a b e k i j
+
+-- in every order that explains the schedule, both steps past the end have the mark of the program that executed them: with another mark it explains nothing
+pub marks-kept : (order : List OrderEntry) → Explains yardPlan schedule order → (m : Marked) → single m ∈ order
+    → (m .command ≡ farCommand 4 → m .version ≡ first) × (m .command ≡ farCommand 5 → m .version ≡ second)
+unfolding parts
+marks-kept order E m i = (kept 47 (markedBy before (farCommand 4)) stayed-survives, kept 52 (markedBy today (farCommand 5)) stopped-survives)
+  where
+    kept : (n : ℕ) (k : Marked) → SurvivesAt yardPlan schedule n k → m .command ≡ k .command → m .version ≡ k .version
+    kept n k s e = once-marked m k e (E .once) i (E .survivors (single k) .0 (record { part = k; among = List·Memᴰ·head refl; at = n; survives = s }))

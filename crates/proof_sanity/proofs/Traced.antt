@@ -93,7 +93,7 @@ typed-ok (recover c state log plan) h = bytes-ok state h
 typed-ok (checkpoint c tail l) h = counted-ok l h
 typed-ok (store c) h = tt
 typed-ok (recover·tail c state k tail) h = bytes-ok state h
-typed-ok (inspect c x k) h = tt
+typed-ok (inspect c k x n l) h = counted-ok l h
 typed-ok (crash c k) h = tt
 typed-ok (outside (start p)) h = tt
 typed-ok (outside (issue x op p a)) h = tt
@@ -195,7 +195,7 @@ done-world w (recover c state log p) = refl
 done-world w (checkpoint c tail l) = refl
 done-world w (store c) = refl
 done-world w (recover·tail c state k tail) = refl
-done-world w (inspect c x k) = refl
+done-world w (inspect c k x n l) = refl
 done-world w (crash c k) = refl
 done-world w (outside e) = refl
 
@@ -403,7 +403,7 @@ module _ (d : ℕ) where
     step-other w (checkpoint c t l) h = checkpoint-other c t l (w .servers c) w (other c h)
     step-other w (store c) h = store-other c (w .servers c) w (other c h)
     step-other w (recover·tail c state n t) h = found-other c _ _ w (other c h)
-    step-other w (inspect c x n) h = refl
+    step-other w (inspect c s x n t) h = calls-other c t _ (w .servers c) w (other c h)
     step-other w (crash c b) h = crash-other c b (w .servers c) w (other c h)
     step-other w (outside e) h = outside-servers w d e
 

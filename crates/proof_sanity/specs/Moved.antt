@@ -3,7 +3,8 @@
 -- recovers from the take; there client 2 receives its result. The lease of client 1 ends, server 1 gets the notice, and refuses the late
 -- repeat of client 1's request. Server 0 releases the point. Client 2 steps again. Server 1 makes a checkpoint, which is stored, crashes with
 -- nothing of the tail but its head, recovers from both, and answers out of the checkpoint. A third step is executed on the tail; the next
--- checkpoint is lost by a crash before it is stored, and the server recovers from the first one and its tail; there client 2 gets its result.
+-- checkpoint is lost by a crash before it is stored, and the server recovers from the first one and its tail; there client 2 gets its result. Then client 2
+-- steps past the range's end twice: a program of the first version executes the one and changes nothing, today's executes the other and stops at the end.
 -- Assumes nothing.
 use Prim.Native.Nat.{ℕ, suc, _+_, _-_}
 use mathlib.Core.Bool.{true}
@@ -18,9 +19,9 @@ use Rattle.model.specs.declared.Executed.{Executed}
 use Rattle.model.specs.declared.Request.{Request}
 use Rattle.model.specs.declared.ResultPacket.{ResultPacket}
 use Rattle.model.specs.declared.Point.{Point}
-use Rattle.model.specs.Versions.{today}
+use Rattle.model.specs.Versions.{Versions, first, today}
 use Rattle.model.specs.Numbers.{half}
-use Rattle.model.specs.Limits.{stateSize, headSize, checkpointSize, greatestImage, resultSize, refusalSize, noticeKind, setOp, stepOp, carriedOut, valid}
+use Rattle.model.specs.Limits.{stateSize, headSize, checkpointSize, greatestImage, resultSize, refusalSize, noticeKind, setOp, stepOp, carriedOut, outOfRange, stopped, valid}
 use Rattle.model.specs.Packets.{requestBytes, resultBytes, receiptBytes, noticeBytes, grantBytes}
 use Rattle.model.specs.Images.{Image, imageBytes}
 use Rattle.model.specs.Tables.{written}
@@ -58,6 +59,20 @@ stepResult c = record { outcome = carriedOut; value = half + (40 + c); quality =
 abbrev pub steppingResult : CommandResult
 steppingResult = stepResult 1
 
+-- its steps past the range's end: by the first version the value stays, by today's it is the end
+abbrev pub farCommand : ℕ → Command
+farCommand c = record { client = 2; call = c; op = stepOp; point = 5; argument = half + 1000 }
+
+abbrev pub stayedResult : CommandResult
+stayedResult = record { outcome = outOfRange; value = half + 43; quality = valid }
+
+abbrev pub stoppedResult : CommandResult
+stoppedResult = record { outcome = stopped; value = half + 1000; quality = valid }
+
+-- a program from before the second versions
+abbrev pub before : Versions
+before op = first
+
 -- as requests, with the lease ends 10 and 1000, and their result packets
 abbrev pub settingAsked : Request
 settingAsked = record { command = setting; done = 1; lease = 10 }
@@ -65,11 +80,17 @@ settingAsked = record { command = setting; done = 1; lease = 10 }
 abbrev pub stepAsked : ℕ → Request
 stepAsked c = record { command = stepCommand c; done = c; lease = 1000 }
 
+abbrev pub farAsked : ℕ → Request
+farAsked c = record { command = farCommand c; done = c; lease = 1000 }
+
 abbrev pub settingAnswer : ResultPacket
 settingAnswer = record { client = 1; call = 1; point = 5; result = settingResult }
 
 abbrev pub stepAnswer : ℕ → ResultPacket
 stepAnswer c = record { client = 2; call = c; point = 5; result = stepResult c }
+
+abbrev pub farAnswer : ℕ → CommandResult → ResultPacket
+farAnswer c r = record { client = 2; call = c; point = 5; result = r }
 
 -- in the log
 abbrev pub settingDone : Executed
@@ -140,8 +161,11 @@ abbrev pub firstStored : Stored
 firstStored = record { checkpoint = storedBytes; replaced = 152 }
 
 -- the number of a request's packet among those made
+abbrev pub asksOf : Versions → ℕ → ℕ → Event
+asksOf v c p = request c p v lentAll
+
 abbrev pub asks : ℕ → ℕ → Event
-asks c p = request c p today lentAll
+asks c p = asksOf today c p
 
 unfoldable pub schedule : List Event
 schedule =
@@ -191,6 +215,16 @@ schedule =
     ∷ recover·tail 1 newState (written (replicate checkpointSize 0) 0 storedBytes) keptTail
     ∷ asks 1 12
     ∷ outside (receive 2 13)
+    ∷ outside (issue 2 2 5 (half + 1000))
+    ∷ asksOf before 1 14
+    ∷ sync 1 64 lentAll
+    ∷ asks 1 14
+    ∷ outside (receive 2 15)
+    ∷ outside (issue 2 2 5 (half + 1000))
+    ∷ asks 1 16
+    ∷ sync 1 92 lentAll
+    ∷ asks 1 16
+    ∷ outside (receive 2 17)
     ∷ []
 
 -- ---- what is seen of it
@@ -216,6 +250,9 @@ setter = waiting 10 setting
 
 abbrev pub stepper : ℕ → Client
 stepper c = waiting 1000 (stepCommand c)
+
+abbrev pub farStepper : ℕ → Client
+farStepper c = waiting 1000 (farCommand c)
 
 abbrev pub atServer : ℕ → Seen
 atServer size = record { ok = true; call = record { client = none; packet = none; size = size; answer = none; cut = none } }
@@ -283,6 +320,16 @@ rowsSeen =
     ∷ atServer 188
     ∷ answering 188 (requestBytes (stepAsked 3)) 0 resultSize
     ∷ atClient (stepper 3) (some (resultBytes (stepAnswer 3)))
+    ∷ atClient (idle 2 1000 4) none
+    ∷ answering 188 (requestBytes (farAsked 4)) 0 0
+    ∷ atServer 216
+    ∷ answering 216 (requestBytes (farAsked 4)) 0 resultSize
+    ∷ atClient (farStepper 4) (some (resultBytes (farAnswer 4 stayedResult)))
+    ∷ atClient (idle 2 1000 5) none
+    ∷ answering 216 (requestBytes (farAsked 5)) 0 0
+    ∷ atServer 244
+    ∷ answering 244 (requestBytes (farAsked 5)) 0 resultSize
+    ∷ atClient (farStepper 5) (some (resultBytes (farAnswer 5 stoppedResult)))
     ∷ []
 
 -- server 0 has released the point, server 1 holds it, taken before its checkpoint; both with move number 1
@@ -291,7 +338,7 @@ giverPoint =
     record { status = releasedStatus; quality = valid; destination = 1; value = half + 41; moveNumber = 1; takenMove = 0; giveEnd = 72; takeEnd = 0 }
 
 abbrev pub takerPoint : Point
-takerPoint = record { status = held; quality = valid; destination = 0; value = half + 43; moveNumber = 1; takenMove = 1; giveEnd = 0; takeEnd = headSize }
+takerPoint = record { status = held; quality = valid; destination = 0; value = half + 1000; moveNumber = 1; takenMove = 1; giveEnd = 0; takeEnd = headSize }
 
 unfoldable pub traceSeen : Trace
 traceSeen =

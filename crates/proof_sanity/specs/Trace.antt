@@ -45,7 +45,7 @@ typedOk (recover c state log plan) = bytesOk state
 typedOk (checkpoint c tail l) = countedOk l
 typedOk (store c) = true
 typedOk (recover·tail c state k tail) = bytesOk state
-typedOk (inspect c x k) = true
+typedOk (inspect c k x n l) = countedOk l
 typedOk (crash c k) = true
 typedOk (outside (start p)) = true
 typedOk (outside (issue x op p a)) = true
@@ -100,7 +100,7 @@ keepsOk plan w (recover c state log p) = sameBytes p plan && (keptIs log (keptBy
 keepsOk plan w (checkpoint c tail l) = true
 keepsOk plan w (store c) = true
 keepsOk plan w (recover·tail c state k tail) = keptIs tail (keptBy (w .servers c)) && beginsOk (storedOf (w .servers c) .checkpoint) k
-keepsOk plan w (inspect c x k) = true
+keepsOk plan w (inspect c k x n l) = true
 keepsOk plan w (crash c k) = leb (markOf (w .servers c)) k && leb k (lengthOf (w .servers c))
 keepsOk plan w (outside (start p)) = startsNew w (packet w p)
 keepsOk plan w (outside (issue x op p a)) = true
@@ -163,7 +163,7 @@ done w (recover c state log p) = record { world = step w (recover c state log p)
 done w (checkpoint c tail l) = record { world = step w (checkpoint c tail l); answer = none }
 done w (store c) = record { world = step w (store c); answer = none }
 done w (recover·tail c state k tail) = record { world = step w (recover·tail c state k tail); answer = none }
-done w (inspect c x k) = record { world = step w (inspect c x k); answer = none }
+done w (inspect c k x n l) = record { world = step w (inspect c k x n l); answer = none }
 done w (crash c k) = record { world = step w (crash c k); answer = none }
 done w (outside e) = record { world = step w (outside e); answer = none }
 
@@ -192,7 +192,7 @@ callWith w (recover c state log p) a = atServer (w .servers c) none none
 callWith w (checkpoint c tail l) a = atServer (w .servers c) none none
 callWith w (store c) a = atServer (w .servers c) none none
 callWith w (recover·tail c state k tail) a = atServer (w .servers c) none none
-callWith w (inspect c x k) a = atServer (w .servers c) none none
+callWith w (inspect c k x n l) a = atServer (w .servers c) none none
 callWith w (crash c k) a = atCrash c k (w .servers c)
 callWith w (outside (start p)) a = atClient none (packet w p)
 callWith w (outside (issue x op p a)) r = atClient (w .clients x) none
@@ -291,6 +291,6 @@ below k (recover c state log p) = ltb c k
 below k (checkpoint c tail l) = ltb c k
 below k (store c) = ltb c k
 below k (recover·tail c state n tail) = ltb c k
-below k (inspect c x n) = ltb c k
+below k (inspect c s x n l) = ltb c k
 below k (crash c b) = ltb c k
 below k (outside e) = true

@@ -1,4 +1,5 @@
 -- A call of a running server, over bytes and over records, by the server's own log.
+--     same-state, same-log     buffers that come back as they were lent
 --     settled                  every decision, carried out in both, by the server's own log
 --     call-left                a call of a running server: what was answered, what was made, and the server
 --     made-bytes               what a call makes is bytes
@@ -87,11 +88,11 @@ module _ {start : State} {log : R.Log} {state bytes : List ℕ} (K : LocalAlike 
   g = lentLog t bytes
 
   -- what comes back as it was lent
-  same-state : (a : After) → a .state ≡ s → stateBack t state a ≡ state
+  pub same-state : (a : After) → a .state ≡ s → stateBack t state a ≡ state
   unfolding stateBack lentState
   same-state a e = rw e (take-append-drop (t .state) state)
 
-  same-log : (a : After) → a .state ≡ s → a .log ≡ g → logBack t state bytes a ≡ bytes
+  pub same-log : (a : After) → a .state ≡ s → a .log ≡ g → logBack t state bytes a ≡ bytes
   unfolding logBack lentLog
   same-log a e f =
       let b : load (stateBack t state a) .size ≡ length bytes = ap (λ (x : List ℕ). load x .size) (same-state a e) ∙ holds-size (K .holds) in

@@ -175,7 +175,7 @@ module _ (plan : List ℕ) {r : R.World} {b : B.World} (l : WorldAlike plan r b)
   decodes (B.checkpoint c tail u) a = plain _ _ refl tt
   decodes (B.store c) a = plain _ _ refl tt
   decodes (B.recover·tail c state k tail) a = recovery _ c (planIf (recoverTailOf state k tail) plan) (tail-ok (recoverTailOf state k tail))
-  decodes (B.inspect c x k) a = plain _ _ refl tt
+  decodes (B.inspect c k x n u) a = plain _ _ refl tt
   decodes (B.crash c n) a =
       let x = crash-ok c n (a .crashes c n refl .0) (a .crashes c n refl .1) in
       record {

@@ -1,13 +1,13 @@
 -- The claim over records speaks of something: the schedule of `proof_sanity` over bytes (Moved: a move, crashes and recoveries, a lease end and a late
--- repeat, two checkpoints) is one over records that keeps all its provisos; four commands survive and are completed there, one of them told from the
--- checkpoint that replaced its record over bytes.
+-- repeat, two checkpoints) is one over records that keeps all its provisos; six commands survive and are completed there, one of them told from the
+-- checkpoint that replaced its record over bytes, and one executed by the first version of its op's rule.
 --     not-vacuous
 -- Assumes nothing.
 use mathlib.Core.List.{[], _∷_}
 use Rattle.model.specs.Versions.{today}
 use Rattle.model.specs.Sequential.{markedBy, one, resultMeant}
 use Rattle.model.specs.Yard.{yardPlan}
-use Rattle.proof_sanity.specs.Moved.{setting, stepCommand, stepping, settingResult, stepResult, steppingResult}
+use Rattle.proof_sanity.specs.Moved.{setting, stepCommand, stepping, farCommand, before, settingResult, stepResult, steppingResult, stayedResult, stoppedResult}
 use Rattle.proof_sanity.specs.Moved as Moved
 use Rattle.proof_sanity.proofs.NotVacuous as Bytes
 use Rattle.claim.specs.RecordWorld.{Event}
@@ -31,6 +31,10 @@ pub not-vacuous : Provisos yardPlan moved
     × Completes yardPlan moved 37 (stepCommand 2 ∷ []) (one (resultMeant (stepResult 2)))
     × SurvivesAt yardPlan moved 39 (markedBy today (stepCommand 3))
     × Completes yardPlan moved 45 (stepCommand 3 ∷ []) (one (resultMeant (stepResult 3)))
+    × SurvivesAt yardPlan moved 47 (markedBy before (farCommand 4))
+    × Completes yardPlan moved 50 (farCommand 4 ∷ []) (one (resultMeant stayedResult))
+    × SurvivesAt yardPlan moved 52 (markedBy today (farCommand 5))
+    × Completes yardPlan moved 55 (farCommand 5 ∷ []) (one (resultMeant stoppedResult))
 not-vacuous =
     let x = Bytes.not-vacuous in
     let P = x .0 in (
@@ -44,4 +48,8 @@ not-vacuous =
       completes-here yardPlan Moved.schedule P 37 _ _ (x .10),
       survives-here yardPlan Moved.schedule P 39 _ (x .11),
       completes-here yardPlan Moved.schedule P 45 _ _ (x .12),
+      survives-here yardPlan Moved.schedule P 47 _ (x .14),
+      completes-here yardPlan Moved.schedule P 50 _ _ (x .15),
+      survives-here yardPlan Moved.schedule P 52 _ (x .16),
+      completes-here yardPlan Moved.schedule P 55 _ _ (x .17),
     )

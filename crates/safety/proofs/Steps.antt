@@ -22,7 +22,7 @@ use Rattle.safety.proofs.Worlds.{same-packet, alike-outside}
 use Rattle.safety.proofs.Parties.{packet-made, parties-outside}
 use Rattle.safety.proofs.Called.{call-alike}
 use Rattle.safety.proofs.Restarts.{crash-alike, found-alike, recover-alike, recover-tail-alike}
-use Rattle.safety.proofs.Stores.{idle-alike, checkpoint-alike, store-alike}
+use Rattle.safety.proofs.Stores.{checkpoint-alike, store-alike, look-alike}
 
 module _ (plan : List ℕ) {r : R.World} {b : B.World} (l : Both plan r b) where
   -- a call on a packet: what was made is bytes
@@ -43,7 +43,7 @@ module _ (plan : List ℕ) {r : R.World} {b : B.World} (l : Both plan r b) where
   step-alike (B.checkpoint c tail u) a = checkpoint-alike l c _ u tail
   step-alike (B.store c) a = store-alike l c _
   step-alike (B.recover·tail c state k tail) a = recover-tail-alike plan l c state (a .typed) k tail (a .recovers·tail c state k tail refl)
-  step-alike (B.inspect c x k) a = idle-alike l c _
+  step-alike (B.inspect c k x n u) a = look-alike l c _ u _
   step-alike (B.crash c k) a = let x = a .crashes c k refl in crash-alike l c k (x .0) (x .1)
   step-alike (B.request c p vs u) a = on-alike c _ p u _ _ (λ bs x. call-alike (request vs bs) x u (a .typed) l c)
   step-alike (B.fetch c x n u) a = call-alike (fetch x n) tt u (a .typed) l c

@@ -53,7 +53,7 @@ decoded plan w (B.recover c state log p) = R.recover c (planIf (recoverOf state 
 decoded plan w (B.checkpoint c tail t) = idle c
 decoded plan w (B.store c) = idle c
 decoded plan w (B.recover·tail c state k tail) = R.recover c (planIf (recoverTailOf state k tail) plan)
-decoded plan w (B.inspect c x k) = idle c
+decoded plan w (B.inspect c k x n t) = idle c
 decoded plan w (B.crash c k) = R.crash c (placeOf (w .servers c) k)
 decoded plan w (B.outside e) = R.outside e
 
