@@ -13,7 +13,7 @@ use Rattle.model.specs.Limits.{lastPoint}
 use Rattle.model.specs.Refusals.{malformed}
 use Rattle.model.specs.Tables.{every}
 use Rattle.model_laws.proofs.Tests.{and-left, and-right}
-use Rattle.client_c.proofs.Cases.{command-past}
+use Rattle.model_laws.proofs.Commands.{command-past}
 use Rattle.leases.proofs.Places.{or-left, or-right}
 use Rattle.chamber_claim.specs.declared.LockPoints.{LockPoints}
 use Rattle.chamber_claim.specs.declared.Chamber.{Chamber}

@@ -309,6 +309,7 @@ module _ (plan : List ℕ) (s : LockPoints) (c k : ℕ) where
         let P = requests-of m h (and-right (doneSilently (operationDone d t (w .servers d) h w .answer)) _ l) in
         let o : A .operation ≡ request (P .0) (P .1) = (let y : some (A .operation) ≡ some (request (P .0) (P .1)) = sym (A .handed) ∙ P .3 in cc) in
         let b = request-packet (packet w) v (P .0) p (P .1) (P .3) in
+        let own : A .operation ≡ request v (P .1) = o ∙ ap (λ (u : Versions). request u (P .1)) (sym (b .0)) in
         record {
           number = p;
           versions = v;
@@ -320,8 +321,7 @@ module _ (plan : List ℕ) (s : LockPoints) (c k : ℕ) where
           up = A .up;
           bytes = P .1;
           delivered = b .1;
-          answer =
-              subst (λ (x : Operation). operated x (lentState t (A .state)) (lentLog t (A .log)) (t .out) .answer ≡ answerOf noRefusal 0) (o ∙ ap (λ (u : Versions). request u (P .1)) (sym (b .0))) (A .answer);
+          answer = subst (λ (x : Operation). operated x (lentState t (A .state)) (lentLog t (A .log)) (t .out) .answer ≡ answerOf noRefusal 0) own (A .answer);
           asked = P .2;
           parsed = P .4;
           its = ap (markedBy v) (P .5);

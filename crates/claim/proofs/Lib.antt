@@ -6,3 +6,4 @@ pub mod Clients
 pub mod Stored
 pub mod Completed
 pub mod Marks
+pub mod Events

@@ -39,8 +39,8 @@ use Rattle.model.specs.Decisions.{find, requestRefusal, newRefusal, resultFor, 
 use Rattle.model_laws.specs.Bytes.{All}
 use Rattle.model_laws.proofs.Tests.{and-both}
 use Rattle.model_laws.proofs.Commands.{command-parts}
-use Rattle.format_commands.specs.Results.{ResultOk}
-use Rattle.format_commands.proofs.Range.{rule-in-range}
+use Rattle.model_laws.specs.Results.{ResultOk}
+use Rattle.model_laws.proofs.Range.{rule-in-range}
 use Rattle.model_invariants.specs.Sound.{GoodEntry, Ranged, GoodPoint, SoundBy, Sound, GoodRequest, GoodExecuted, GoodRecord}
 use Rattle.model_invariants.specs.Passed.{PassedRequest, PassedGive, PassedTake, PassedRelease}
 use Rattle.model_invariants.specs.History.{GoodPlan, StartBy, Start, Decides, byRequest, byNotice, byGive, byTake, byRelease}

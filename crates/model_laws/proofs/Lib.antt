@@ -21,3 +21,13 @@ pub mod Loops
 pub mod Ands
 pub mod Least
 pub mod Clients
+pub mod Bounds
+pub mod Meaning
+pub mod Nearest
+pub mod Quotient
+pub mod Range
+pub mod OpenCalls
+pub mod ClientsKept
+pub mod ClientsBytes
+pub mod LeaseLists
+pub mod LeasesKept

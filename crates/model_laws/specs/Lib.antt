@@ -6,3 +6,6 @@ pub mod Opened
 pub mod OneWalk
 pub mod Heads
 pub mod Runs
+pub mod ClientForm
+pub mod LeaseForm
+pub mod Results

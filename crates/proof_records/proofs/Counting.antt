@@ -18,7 +18,7 @@ use Rattle.proof_protocol.specs.Servers as S
 use Rattle.proof_protocol.specs.World as W
 use Rattle.proof_protocol.specs.Fence as PF
 use Rattle.proof_protocol.proofs.Basics.{impossible}
-use Rattle.claim.specs.RecordWorld.{World, Event, Log, keptBy, recoveredFrom}
+use Rattle.claim.specs.RecordWorld.{World, Log, keptBy, recoveredFrom}
 use Rattle.claim.specs.RecordWorld as R
 use Rattle.claim.specs.RecordProvisos.{markOf}
 use Rattle.claim.specs.RecordClaim.{stateGiven}

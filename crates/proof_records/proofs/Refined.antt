@@ -34,7 +34,7 @@ use Rattle.model.specs.Images.{idBefore, imageBytes, floorOf}
 use Rattle.model.specs.Logs.{LogRecord, executed}
 use Rattle.model.specs.States.{State, pointAt, held, given, isId, releasedStatus}
 use Rattle.model.specs.Decisions.{find, resultOfRecord, resultFor, executedFor, isOnPoint, entryOfRecord, insertEntry, sortEntries, imageFor}
-use Rattle.format_commands.proofs.Meaning.{rule-tie}
+use Rattle.model_laws.proofs.Meaning.{rule-tie}
 use Rattle.model_laws.specs.Bytes.{All}
 use Rattle.model_laws.specs.Fits.{IsPacket}
 use Rattle.model_laws.proofs.Tests.{and-left, and-both}

@@ -12,7 +12,7 @@ use native.Mathlib.Omega.{arith}
 use lib.ListN.{length, take, getElem?}
 use Rattle.model.specs.declared.PlanEntry.{PlanEntry}
 use Rattle.model.specs.Plan.{planOf}
-use Rattle.leases.proofs.Kept.{new-well}
+use Rattle.model_laws.proofs.LeasesKept.{new-well}
 use Rattle.proof_protocol.specs.World as W
 use Rattle.proof_protocol.specs.Allowed.{Run, ended, then}
 use Rattle.claim.specs.World.{start}
@@ -21,7 +21,7 @@ use Rattle.claim.specs.RecordWorld as R
 use Rattle.claim.specs.RecordProvisos.{Typed, Provisos, At}
 use Rattle.proof_records.specs.Worlds.{WorldLike}
 use Rattle.proof_records.specs.Provided.{Provided}
-use Rattle.proof_records.specs.Matched.{Quiet, Matched, Stepped, Follows, done, more, Pairing}
+use Rattle.proof_records.specs.Matched.{Matched, Stepped, Follows, done, more, Pairing}
 use Rattle.proof_records.proofs.Worlds.{like-nothing}
 use Rattle.proof_records.proofs.Calls.{call-step}
 use Rattle.proof_records.proofs.Starts.{found-step, recover-step, crash-step}

@@ -33,7 +33,7 @@ use borrow.Author.Tests.{eqb-true}
 use Rattle.model.specs.declared.Client.{Client}
 use Rattle.model.specs.declared.LeaseManager.{LeaseManager}
 use Rattle.model.specs.Choice.{pick}
-use Rattle.leases.specs.WellFormed as Leases
+use Rattle.model_laws.specs.LeaseForm as Leases
 use Rattle.proof_protocol.specs.Servers.{Packet}
 use Rattle.proof_protocol.specs.Allowed.{Made}
 use Rattle.proof_protocol.specs.Allowed as P

@@ -142,7 +142,8 @@ step-cut = (executes-seen yardPlan schedule 12 0 4 36 today lentAll (stepAsked 1
 late-repeat : operationAnswer lentAll (after schedule 26 .servers 1) (handed (packet (after schedule 26)) (request today 2)) ≡ some (answerOf 4 refusalSize)
 unfolding schedule rowsSeen callSeen callWith done
 late-repeat =
-    sym (done-answer 1 lentAll (after schedule 26 .servers 1) (handed (packet (after schedule 26)) (request today 2)) (after schedule 26)) ∙ ap (λ (x : Call). x .answer) (row 26 (asks 1 2) _ refl refl)
+    sym (done-answer 1 lentAll (after schedule 26 .servers 1) (handed (packet (after schedule 26)) (request today 2)) (after schedule 26))
+    ∙ ap (λ (x : Call). x .answer) (row 26 (asks 1 2) _ refl refl)
 
 set-completed : Completes schedule 10 (setting ∷ []) (one (resultMeant settingResult))
 unfolding At schedule rowsSeen commandAt callAt placeOf

@@ -9,7 +9,6 @@ use lib.ListN.{getElem?}
 use Rattle.model.specs.Choice.{orElse}
 use Rattle.model.specs.States.{State}
 use Rattle.model.specs.Decisions.{Decided}
-use Rattle.model.specs.Operations.{After}
 use Rattle.model_laws.specs.Bytes.{Bytes}
 use Rattle.model.specs.Calls.{OperationOf, Operation, handed, request, fetch, sync, notice, give, image, takeIn, receipt, release, decision, operated}
 use Rattle.model_invariants.specs.Calls.{outputSize, outputFor, output, LentBytes}
@@ -60,7 +59,8 @@ module _ (plan : List ℕ) {r : R.World} {b : B.World} (l : Both plan r b) where
   operation-alike c o u ok = rw (handed-whole (packet r) (B.storedOf (b .servers c) .replaced) o, same-handed o) (go (handed (packet b) o) refl)
     where
       go : (x : Option Operation) → handed (packet b) o ≡ x
-          → Both plan (R.callsOn c (roomOf (b .servers c) u (outputFor (outputSize o) (u .out)) (outputSize o)) (orElse x none (λ (y : Operation). some (whole (B.storedOf (b .servers c) .replaced) y))) r)
+          → Both plan
+          (R.callsOn c (roomOf (b .servers c) u (outputFor (outputSize o) (u .out)) (outputSize o)) (orElse x none (λ (y : Operation). some (whole (B.storedOf (b .servers c) .replaced) y))) r)
           (B.callsOn c u x b)
       go none z = l
       go (some x) z =
