@@ -27,12 +27,12 @@ use Rattle.model.specs.Packets.{parsePacket}
 use Rattle.model.specs.Sequential.{Marked, markedBy, OrderEntry, single, one, ReadingZ, Book, resultMeant, opened, answerTo, bookWith, bookAfter}
 use Rattle.claim.specs.World.{Event, outside, issue, after, packet}
 use Rattle.claim.specs.Claim.{Issues, Completes, Executes, SurvivesAt, Explains}
-use Rattle.claim.specs.Fence.{Fenced, Fences}
+use Rattle.claim.specs.Fence.{Fences}
 use Rattle.claim.proofs.Clients.{at-once, issue-one, issue-rises}
 use Rattle.chamber_claim.specs.declared.LockPoints.{LockPoints}
 use Rattle.chamber_claim.specs.Chamber.{isOpening, roleIn, mayOpen, readAt, pointsOk}
 use Rattle.chamber_claim.specs.Lock.{LockEvent, kernel}
-use Rattle.chamber_claim.specs.Safe.{OneClosed, events, lockAt, AtLock, Begins, IsGate, LockProvisos, ChamberSafe}
+use Rattle.chamber_claim.specs.Safe.{OneClosed, events, lockAt, AtLock, Begins, IsGate, FencedOff, LockProvisos, ChamberSafe}
 use Rattle.chamber_claim.proofs.Orders.{Stands, GateOp, place-of, one-command, part-of, is-part, its-commands, before-places, book-step, book-past, answered, other-value, read-opens-none}
 use Rattle.chamber_claim.proofs.Orders.{gate-value, read-value}
 use Rattle.chamber_claim.proofs.Commands.{Gates, up, down, gates-differ, Closed, closed-seen, passed}
@@ -262,27 +262,27 @@ module _ (plan : List ℕ) (s : LockPoints) (ls : List LockEvent) (pr : LockProv
             let t = subst (λ (z : ℕ). SurvivesAt es z y) b (q .its .survives) in
             not-read (ap (λ (z : Marked). z .command) (executes-one plan es (rr .time) _ _ (r .marked) y (rr .survives .executes) (t .executes)))
         go (inr (inr b)) =
-            let f = succeeded plan s ls pr (q .start) (p .start) _ _ (q .begins) (p .begins) h in
+            let u = succeeded plan s ls pr (q .start) (p .start) _ _ (q .begins) (p .begins) h g' (gate-is (w .gates)) in
             let a = after-begin plan s ls pr (p .start) (m .command .client) (rr .event) (r .marked .command) (p .begins) (rr .issues, r .by) in
             let c = rr .soon in
-            fences .fence (f .0) (y .command .client) g' (f .2 g' (gate-is (w .gates))) (q .its .time) _ y (omega (arith, f .1)) (q .its .survives .executes) refl (w .on)
+            fences .fence (u .0) (y .command .client) g' (u .2) (q .its .time) _ y (omega (arith, u .1)) (q .its .survives .executes) refl (w .on)
 
     -- O's controller started first: O was executed before Y's controller read g
     fenced-after : p .start < q .start → ⊥
-    fenced-after h = go (ltb (p .its .time) (f .0)) refl
+    fenced-after h = go (ltb (p .its .time) (u .0)) refl
       where
-        f : (n : ℕ) × (n ≤ q .start) × ((z : ℕ) → IsGate plan s ls z → Fenced plan es n (m .command .client) z)
-        f = succeeded plan s ls pr (p .start) (q .start) _ _ (p .begins) (q .begins) h
+        u : FencedOff plan s ls (q .start) (m .command .client) g
+        u = succeeded plan s ls pr (p .start) (q .start) _ _ (p .begins) (q .begins) h g (gate-is (o .gates))
 
-        go : (b : Bool) → ltb (p .its .time) (f .0) ≡ b → ⊥
-        go false e = fences .fence (f .0) (m .command .client) g (f .2 g (gate-is (o .gates))) (p .its .time) _ m (ltb-false _ _ e) (p .its .survives .executes) refl (o .on)
+        go : (b : Bool) → ltb (p .its .time) (u .0) ≡ b → ⊥
+        go false e = fences .fence (u .0) (m .command .client) g (u .2) (p .its .time) _ m (ltb-false _ _ e) (p .its .survives .executes) refl (o .on)
         go true e =
             let t = read-of l y w q in
-            let u = ran (t .place) (t .marked) (t .stands) in
-            let a = after-begin plan s ls pr (q .start) (y .command .client) (u .event) (t .marked .command) (q .begins) (u .issues, t .by) in
-            let b : p .its .time < f .0 = ltb-true _ _ e in
-            let c = u .soon in
-            let d = in-sequence k (t .place) m (t .marked) (o .stands) (t .stands) (p .its) u (omega (arith, f .1)) (o .on ∙ sym (t .on)) in
+            let v = ran (t .place) (t .marked) (t .stands) in
+            let a = after-begin plan s ls pr (q .start) (y .command .client) (v .event) (t .marked .command) (q .begins) (v .issues, t .by) in
+            let b : p .its .time < u .0 = ltb-true _ _ e in
+            let c = v .soon in
+            let d = in-sequence k (t .place) m (t .marked) (o .stands) (t .stands) (p .its) v (omega (arith, u .1)) (o .on ∙ sym (t .on)) in
             let i = by-time (t .place) l (q .its .event) (t .marked) y (t .stands) (w .stands) (t .done) (q .its .issues) in
             omega arith
 

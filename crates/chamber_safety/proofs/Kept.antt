@@ -35,7 +35,7 @@ use Rattle.model.specs.Calls.{Operation, request, fetch, sync, notice, give, im
 use Rattle.claim.specs.World.{World, Event, call, crash, outside, OutsideCall, issue, receive, Lent, lentState, lentLog, packet, after}
 use Rattle.claim.specs.Provisos.{At}
 use Rattle.claim.specs.Claim.{Issues, Executes, stateGiven}
-use Rattle.claim.specs.Fence.{FencedIn, syncedState, Fenced}
+use Rattle.claim.specs.Fence.{FencedIn, syncedState}
 use Rattle.claim.specs.Above.{Site, eventAt, stepSite, emptySite, runSite, siteAfter}
 use Rattle.claim.proofs.Above.{site-world, event-there, event-from}
 use Rattle.claim.proofs.Clients.{at-once, issue-is}
@@ -46,7 +46,8 @@ use Rattle.chamber_claim.specs.declared.LockPoints.{LockPoints}
 use Rattle.chamber_claim.specs.declared.Chamber.{Chamber}
 use Rattle.chamber_claim.specs.Chamber.{startIn}
 use Rattle.chamber_claim.specs.Lock.{LockEvent, kernel, begin, command, again, hear, lockEvent, lockAfter, lockProduct}
-use Rattle.chamber_claim.specs.Safe.{events, lockAt, AtLock, Begins, IsGate, LockProvisos}
+use Rattle.chamber_claim.specs.Safe.{events, AtLock, Begins, IsGate, LockProvisos, FencedAtStart}
+use Rattle.chamber_claim.proofs.Successors.{fenced-at-start}
 use Rattle.chamber_safety.specs.Kept.{isNone, gateOk, asideOk, heldIn, noticeIs, heardIn, successorOk, lockOk, Look, starting, executing}
 use Rattle.chamber_safety.specs.Kept.{startedAs, startsIn, doneSilently, sameCommand, asksFor, requests, executesIn, beginsIn, looked, eventOk, passes, noCrash, uncut}
 
@@ -259,7 +260,7 @@ module _ (plan : List ℕ) (s : LockPoints) (c k : ℕ) where
         let gate : IsGate plan s ls (i .point) = subst (IsGate plan s ls) (ap (λ (y : Command). y .point) q) g in
         ap (λ (y : Command). y .op) q ∙ reads-gate s (i .op) (i .point) (own-issue n (i .client) (i .op) (i .point) (i .argument) at .1) gate
 
-    fenced-start : (n x y p : ℕ) → Begins plan s ls n y → lockAt plan s ls n .latest ≡ some x → IsGate plan s ls p → Fenced plan es n x p
+    fenced-start : FencedAtStart plan s ls
     unfolding AtLock lockOk
     fenced-start n x y p B l g =
         let z = lock-part n (begin (B .number)) (B .event) in
@@ -274,7 +275,7 @@ module _ (plan : List ℕ) (s : LockPoints) (c k : ℕ) where
           only = reads-only;
           own-issue = λ n x op p a ch e q. none-of (site n .parts .controllers x) ch (own-issue n x op p a e .0) q;
           own-receive = λ n x p ch e q. none-of (site n .parts .controllers x) ch (own-receive n x p e) q;
-          successor = fenced-start;
+          successor = fenced-at-start plan s ls fenced-start;
         }
 
     -- ---- what is looked for

@@ -8,7 +8,7 @@ use Prim.Native.Nat.{ℕ, suc, _+_, _-_, _*_, _/_}
 use mathlib.Core.Bool.{Bool, true, false, _&&_, _||_, not}
 use mathlib.Core.List.{List, [], _∷_, _++_, map}
 use mathlib.Core.Option.{Option, none, some}
-use lib.ListN.{length, take, drop}
+use lib.ListN.{length, take, drop, replicate}
 use lib.Dec.{eqb, leb, ltb}
 use Rattle.model.specs.declared.Answer.{Answer}
 use Rattle.model.specs.declared.Place.{Place}
@@ -137,9 +137,9 @@ recordWhole s = take checkpointRecord s ++ le64 headSize
 unfoldable pub fronts : ℕ → ℕ → List ℕ → List (List ℕ)
 fronts w n s = rows (λ r. r) w n s
 
--- the state's 17,704 bytes: length and mark are 8
-unfoldable pub restored : List ℕ → List ℕ
-restored s =
+-- the state's bytes: length and mark are 8
+unfoldable pub restoredBytes : List ℕ → List ℕ
+restoredBytes s =
     stateMagic
     ++ (take 8 (drop 4 s)
     ++ (le32 (clientsOf s)
@@ -150,7 +150,11 @@ restored s =
     ++ (take planSize (drop planPart s)
     ++ (bytesOf pointWhole (fronts checkpointPoint pointCount (drop pointsPart s))
     ++ (padded (take floorRow) floorRow clientCount (fronts floorRow (clientsOf s) (drop clientsPart s))
-    ++ padded recordWhole recordRow recordCount (fronts checkpointRecord (recordsOf s) (drop (recordsPart (clientsOf s)) s)))))))))))
+    ++ bytesOf recordWhole (fronts checkpointRecord (recordsOf s) (drop (recordsPart (clientsOf s)) s)))))))))))
+
+-- in a buffer of zeros, as long as the state's own test asks
+unfoldable pub restored : List ℕ → List ℕ
+restored s = restoredBytes s ++ replicate (recordRow * (recordCount - recordsOf s)) 0
 
 -- 57 4C 47 32, and the pairs: without gaps from byte 44, all within the slice. Bytes past the last part are not read
 unfoldable pub checkpointFramed : List ℕ → Bool

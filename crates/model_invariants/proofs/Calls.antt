@@ -1,5 +1,6 @@
 -- Every call not refused leaves the state sound.
---     lent-elim, found-elim, recover-elim     what a call comes to, case by case
+--     lent-number, found-number, recover-number     the refusal's number of a call, case by case
+--     lent-elim, found-elim, recover-elim     what a call comes to
 --     operated-is         a call of an operation carries out what it decides
 --     decision-allowed    it appends only what some operation decides, and sets only a mark within the log
 --     sets-mark           only sync sets a mark
@@ -185,56 +186,73 @@ sync-kept state log m = go (onSync (load state) m) refl (only-sync (load state) 
 
 -- ---- what a call comes to
 
-fit-parts : (state log : List ℕ) → unfit state log ≡ false → (sound state ≡ true) × (load state .size ≤ length log)
+pub fit-parts : (state log : List ℕ) → unfit state log ≡ false → (sound state ≡ true) × (load state .size ≤ length log)
 unfolding unfit
 fit-parts state log e = (
   not-false _ (or-left-no (not (sound state)) (ltb (length log) (load state .size)) e),
   ltb-false _ _ (or-right-no (not (sound state)) (ltb (length log) (load state .size)) e),
 )
 
--- 2, 19, or what the operation decides on a sound state with its log
-pub lent-elim : (P : Decided → Type 0) (state log out : List ℕ) (need : ℕ) (d : Decided) → P (refuse Refusals.tooShort) → P (refuse Refusals.unsound)
-    → (stateSize ≤ length state → sound state ≡ true → load state .size ≤ length log → P d) → P (lent state log out need d)
-unfolding lent lentRefusal short unlessRefused
-lent-elim P state log out need d two nineteen k =
-    choose (λ (n : ℕ). P (unlessRefused n d)) (ltb (length state) stateSize || ltb (length out) need) (λ e. two)
+-- 2, 19, or a sound state with its log: the refusal's number
+pub lent-number : (P : ℕ → Type 0) (state log : List ℕ) (n need : ℕ) → P Refusals.tooShort → P Refusals.unsound
+    → (stateSize ≤ length state → sound state ≡ true → load state .size ≤ length log → P Refusals.noRefusal) → P (lentRefusal state log n need)
+unfolding lentRefusal short
+lent-number P state log n need two nineteen k =
+    choose P (ltb (length state) stateSize || ltb n need) (λ e. two)
     (λ e.
-    choose (λ (n : ℕ). P (unlessRefused n d)) (unfit state log) (λ f. nineteen)
+    choose P (unfit state log) (λ f. nineteen)
     (λ f.
     let g = fit-parts state log f in
-    k (ltb-false _ _ (or-left-no (ltb (length state) stateSize) (ltb (length out) need) e)) (g .0) (g .1)))
+    k (ltb-false _ _ (or-left-no (ltb (length state) stateSize) (ltb n need) e)) (g .0) (g .1)))
 
--- 2, 1, or the founding state
+-- or what the operation decides
+pub lent-elim : (P : Decided → Type 0) (state log out : List ℕ) (need : ℕ) (d : Decided) → P (refuse Refusals.tooShort) → P (refuse Refusals.unsound)
+    → (stateSize ≤ length state → sound state ≡ true → load state .size ≤ length log → P d) → P (lent state log out need d)
+unfolding lent unlessRefused
+lent-elim P state log out need d two nineteen k = lent-number (λ (n : ℕ). P (unlessRefused n d)) state log (length out) need two nineteen k
+
+-- 2, 1, or a plan and a server number for lent memory that is long enough
+pub found-number : (P : ℕ → Type 0) (states logs : ℕ) (plan : List ℕ) (n : ℕ) → Bytes plan → P Refusals.tooShort → P Refusals.malformed
+    → (stateSize ≤ states → headSize ≤ logs → GoodPlan (planOf plan) → planOk plan ≡ true → n ≤ lastServer → P Refusals.noRefusal) → P (foundRefusal states logs (planOk plan) n)
+unfolding foundRefusal
+found-number P states logs plan n b two one k =
+    let s : Bool = ltb states stateSize in
+    let l : Bool = ltb logs headSize in
+    choose P (s || l) (λ e. two)
+    (λ e.
+    choose P (not (planOk plan) || ltb lastServer n) (λ f. one)
+    (λ f.
+    let p : planOk plan ≡ true = not-false _ (or-left-no (not (planOk plan)) (ltb lastServer n) f) in
+    k (ltb-false _ _ (or-left-no s l e)) (ltb-false _ _ (or-right-no s l e)) (plan-good plan b p) p (ltb-false _ _ (or-right-no (not (planOk plan)) (ltb lastServer n) f))))
+
+-- or the founding state
 pub found-elim : (P : After → Type 0) (state log plan : List ℕ) (n : ℕ) → Bytes plan → P (after (answerOf Refusals.tooShort 0) state log [])
     → P (after (answerOf Refusals.malformed 0) state log [])
     → (stateSize ≤ length state → headSize ≤ length log → GoodPlan (planOf plan) → planOk plan ≡ true → n ≤ lastServer
     → P (after (answerOf Refusals.noRefusal 0) (stored state (founded (planOf plan) n)) (written log 0 (headBytes n)) []))
     → P (foundOf state log plan n)
-unfolding foundOf foundRefusal leftUnless settle
+unfolding foundOf leftUnless settle
 found-elim P state log plan n b two one k =
     let a : After = after (answerOf Refusals.noRefusal 0) (stored state (founded (planOf plan) n)) (written log 0 (headBytes n)) [] in
-    let s : Bool = ltb (length state) stateSize in
-    let l : Bool = ltb (length log) headSize in
-    choose (λ (m : ℕ). P (leftUnless m state log a)) (s || l) (λ e. two)
-    (λ e.
-    choose (λ (m : ℕ). P (leftUnless m state log a)) (not (planOk plan) || ltb lastServer n) (λ f. one)
-    (λ f.
-    let p : planOk plan ≡ true = not-false _ (or-left-no (not (planOk plan)) (ltb lastServer n) f) in
-    k (ltb-false _ _ (or-left-no s l e)) (ltb-false _ _ (or-right-no s l e)) (plan-good plan b p) p (ltb-false _ _ (or-right-no (not (planOk plan)) (ltb lastServer n) f))))
+    found-number (λ (m : ℕ). P (leftUnless m state log a)) (length state) (length log) plan n b two one k
 
--- 2, 1, 14, or the state that the log gives
+-- 2, 1, or a plan for lent memory that is long enough
+pub recover-number : (P : ℕ → Type 0) (states : ℕ) (plan : List ℕ) → P Refusals.tooShort → P Refusals.malformed
+    → (stateSize ≤ states → planOk plan ≡ true → P Refusals.noRefusal) → P (recoverRefusal states (planOk plan))
+unfolding recoverRefusal
+recover-number P states plan two one k =
+    choose P (ltb states stateSize) (λ e. two) (λ e. choose P (not (planOk plan)) (λ f. one) (λ f. k (ltb-false _ _ e) (not-false _ f)))
+
+-- 14, or the state that the log gives
 pub recover-elim : (P : After → Type 0) (state log plan : List ℕ) → P (after (answerOf Refusals.tooShort 0) state log [])
     → P (after (answerOf Refusals.malformed 0) state log []) → P (after (answerOf Refusals.badLog 0) state log [])
     → ((st : State) → stateSize ≤ length state → planOk plan ≡ true → recoveredState (planOf plan) log ≡ some st
     → P (after (answerOf Refusals.noRefusal 0) (stored state (withMark (st .size) st)) log []))
     → P (recoverOf state log plan)
-unfolding recoverOf recoverRefusal leftUnless settle settleRecovered
+unfolding recoverOf leftUnless settle settleRecovered
 recover-elim P state log plan two one fourteen k =
     let a : After = settleRecovered state log (recoveredState (planOf plan) log) in
-    choose (λ (m : ℕ). P (leftUnless m state log a)) (ltb (length state) stateSize) (λ e. two)
-    (λ e.
-    choose (λ (m : ℕ). P (leftUnless m state log a)) (not (planOk plan)) (λ f. one)
-    (λ f. go (recoveredState (planOf plan) log) refl (ltb-false _ _ e) (not-false _ f)))
+    recover-number (λ (m : ℕ). P (leftUnless m state log a)) (length state) plan two one (λ l g. go (recoveredState (planOf plan) log) refl l g)
   where
     go : (o : Option State) → recoveredState (planOf plan) log ≡ o → stateSize ≤ length state → planOk plan ≡ true → P (settleRecovered state log o)
     go none r l g = fourteen

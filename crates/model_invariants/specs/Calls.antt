@@ -19,8 +19,10 @@ use Rattle.model.specs.Decisions.{Decided}
 use Rattle.model.specs.Operations.{After, freeIn, lent, foundOf, recoverOf}
 use Rattle.model.specs.Calls.{OperationOf, Operation, request, fetch, sync, notice, give, image, takeIn, receipt, release, operated, decision}
 use Rattle.model.specs.Refusals.{noRefusal}
+use Rattle.model.specs.Checkpoints.{AfterCheckpoint}
 use Rattle.model_laws.specs.Bytes.{Bytes}
 use Rattle.model_laws.specs.Fits.{lastEnd}
+use Rattle.model_laws.specs.Alike.{Alike}
 use Rattle.model_invariants.specs.History.{Decides, entryFor, DecidedFrom}
 
 -- ---- operations
@@ -99,6 +101,20 @@ abbrev pub CallBytes : Call → Type 0
 CallBytes (found plan n) = Bytes plan
 CallBytes (operate o) = LentBytes o
 CallBytes (recover plan) = Bytes plan
+
+-- what two calls leave: all alike, but for what lies behind the state's last completion record
+pub record AlikeAfter (a b : After) : Type 0 where
+  pub answer : b .answer ≡ a .answer
+  pub state : Alike (a .state) (b .state)
+  pub log : b .log ≡ a .log
+  pub out : b .out ≡ a .out
+
+pub record AlikeCheckpoint (a b : AfterCheckpoint) : Type 0 where
+  pub answer : b .answer ≡ a .answer
+  pub state : Alike (a .state) (b .state)
+  pub log : b .log ≡ a .log
+  pub checkpoint : b .checkpoint ≡ a .checkpoint
+  pub tail : b .tail ≡ a .tail
 
 -- ---- between calls
 

@@ -1,6 +1,8 @@
 pub mod Bytes
 pub mod Codec
+pub mod Fields
 pub mod Fits
+pub mod Alike
 pub mod Layout
 pub mod Opened
 pub mod OneWalk

@@ -28,7 +28,7 @@ openRebased = tt
 
 unfoldable openLayout : Opens
 unfolding Checkpoints.pairsBytes Checkpoints.pointFront Checkpoints.recordFront Checkpoints.checkpointBytes Checkpoints.clientsOf Checkpoints.recordsOf
-    Checkpoints.pointWhole Checkpoints.recordWhole Checkpoints.fronts Checkpoints.restored
+    Checkpoints.pointWhole Checkpoints.recordWhole Checkpoints.fronts Checkpoints.restoredBytes Checkpoints.restored
 openLayout = tt
 
 unfoldable openCheckpoints : Opens
