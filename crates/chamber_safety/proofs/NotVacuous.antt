@@ -38,23 +38,23 @@ provisos = lock-provisos simulatorPlan lockPoints 0 noticeNumber handed looks ha
     fall p (inr z) = rw z (falls-to .1)
 
 -- there is no crash
-stands : (n : ℕ) (k : Command) → Executes simulatorPlan es n 0 (markedBy today k) → SurvivesAt simulatorPlan es n (markedBy today k)
+stands : (n : ℕ) (k : Command) → Executes es n 0 (markedBy today k) → SurvivesAt es n (markedBy today k)
 unfolding handed every uncut noCrash
 stands n k e = record { server = 0; executes = e; kept = λ j b h a. absurd (no-crash simulatorPlan lockPoints handed refl j 0 (a .kept) (a .event)) }
 
-upper-opened : SurvivesAt simulatorPlan es 32 (markedBy today upperOpened)
+upper-opened : SurvivesAt es 32 (markedBy today upperOpened)
 unfolding handed looks
 upper-opened = stands 32 upperOpened (executes-there simulatorPlan lockPoints 0 noticeNumber handed looks handed-passes 32 0 13 today lentAll upperOpened refl refl)
 
-lower-opened : SurvivesAt simulatorPlan es 62 (markedBy today lowerOpened)
+lower-opened : SurvivesAt es 62 (markedBy today lowerOpened)
 unfolding handed looks
 lower-opened = stands 62 lowerOpened (executes-there simulatorPlan lockPoints 0 noticeNumber handed looks handed-passes 62 0 26 today lentAll lowerOpened refl refl)
 
 pub not-vacuous : LockProvisos simulatorPlan lockPoints handed
     × Begins simulatorPlan lockPoints handed 3 1
-    × SurvivesAt simulatorPlan es 32 (markedBy today upperOpened)
+    × SurvivesAt es 32 (markedBy today upperOpened)
     × Begins simulatorPlan lockPoints handed 38 3
-    × SurvivesAt simulatorPlan es 62 (markedBy today lowerOpened)
+    × SurvivesAt es 62 (markedBy today lowerOpened)
 unfolding handed looks
 not-vacuous = (
   provisos,
