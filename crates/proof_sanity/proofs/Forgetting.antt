@@ -200,7 +200,9 @@ received = refl
 -- event 7 completes the command
 pub store-completed : Completes setAndStore 7 (setting ∷ []) (one (resultMeant settingResult))
 unfolding At setAndStore setAndStoreSeen commandAt callAt placeOf
-store-completed = completes-seen simulatorPlan setAndStore 7 1 2 setter settingAnswer refl received (call-at simulatorPlan 5 setAndStore setAndStoreSeen store-trace-is 7 (outside (receive 1 2)) _ refl refl)
+store-completed =
+    completes-seen simulatorPlan setAndStore 7 1 2 setter settingAnswer refl received
+    (call-at simulatorPlan 5 setAndStore setAndStoreSeen store-trace-is 7 (outside (receive 1 2)) _ refl refl)
 
 store-down : run setAndStore .servers 0 ≡ crashed setStored (headBytes 0) 8
 unfolding endSeen setAndStoreSeen
