@@ -1,8 +1,9 @@
 # make run: what the product does today; with SCHEDULE=path, that schedule of the simulator. make picture SCHEDULE=path: its picture, an SVG.
-# make check: every proof, without edits and tests. make test: the whole check. make bench: nanoseconds per call of the proved code and of the second
+# make check: the proofs of what is changed since it was proved. make edits CRATES="a b": the must-fail edits of these crates; without names, of all. Neither is the verdict.
+# make test: the whole check, the toolchain's gate `rt ci` and the tests. make bench: nanoseconds per call of the proved code and of the second
 # program. make bench-peer: a durable job on the kernel and on SQLite. make lib, install: the archive for C. make demo: the example programs.
 # make house: the picture of the crates.
-.PHONY: run picture check test bench bench-peer lib install demo house
+.PHONY: run picture check edits test bench bench-peer lib install demo house
 
 run:
 	@tools/run.sh "$(SCHEDULE)"
@@ -11,7 +12,10 @@ picture:
 	@tools/picture.sh "$(SCHEDULE)" "$(OUT)"
 
 check:
-	@tools/prove.py --proofs
+	@tools/progress.py rt check && echo "no verdict: what was proved before was not proved again; make test is the verdict"
+
+edits:
+	@tools/edits.sh $(CRATES)
 
 test:
 	@tools/test.sh

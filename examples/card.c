@@ -1,5 +1,5 @@
 /* The card of card.h, with pwrite, fdatasync, ftruncate and rename. Its size tells how long the log is: enough where a crash leaves a prefix of what was
- * written; if you are not certain, keep a length word (docs/GUIDE.md, The card). */
+ * written; if you are not certain, keep a superblock (docs/GUIDE.md, The card). */
 #define _POSIX_C_SOURCE 200809L
 #include "card.h"
 #include <errno.h>
@@ -54,6 +54,11 @@ void card_open(struct card *card, const char *path) {
     memcpy(copy, card->path, sizeof copy);
     card->folder = open(dirname(copy), O_RDONLY | O_DIRECTORY);
     if (card->folder < 0) fail("card: folder");
+}
+
+void card_look(struct card *card, const char *path) {
+    card->file = open(path, O_RDONLY);
+    if (card->file < 0) fail(path);
 }
 
 /* the length of the checkpoint that a card of this size begins with, 0 if it begins with none */

@@ -16,6 +16,9 @@ struct card {
 /* Opens the card; one that is not there is made, and empty. Keep: the rest of a checkpoint that was not stored never counts. */
 void card_open(struct card *card, const char *path);
 
+/* Opens the card to look at it, be a host serving from it or not. Keep: nothing on the card changes. card_read is all that may follow. */
+void card_look(struct card *card, const char *path);
+
 /* Reads the checkpoint, if there is one, and the log; returns the log's length. Keep: just the bytes that the card kept, a prefix of what was written with
  * all that was certain; no byte behind them, no hole. Whether there is a checkpoint is told by the first four bytes, never by trying. */
 size_t card_read(struct card *card, uint8_t checkpoint[MANTELORRIS_CHECKPOINT_SIZE], uint8_t *log, size_t log_space);

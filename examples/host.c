@@ -1,13 +1,13 @@
 /* A host for one server: its card is a file (card.h), its line UDP. Copy it and put your card, your line, your plan and your gate in.
  *
  *     host CARD PORT [LIMIT]   serves on 127.0.0.1:PORT until it is killed, at any moment, as often as you like
- *     host CARD                starts from the card, prints what it found, and ends
+ *     host CARD                prints what the card has, and ends; the card is only read, and a host may be serving from it
  *
  * The order of work is what matters:
  *   1. a request is executed in memory: nothing is sent for it;
  *   2. the log's new bytes are written to the card, and the card has them for certain;
  *   3. the mark is set (sync), and only then results leave and the gate moves.
- * After a start the card is cut to the log's length before anything is appended: the rest of a torn record must not stay behind a new one.
+ * A start takes no card of another server. After it the card is cut to the log's length before anything is appended: the rest of a torn record must not stay behind a new one.
  * When the log is longer than LIMIT, a checkpoint takes its place, so that the card never fills:
  *   4. it is made in memory: the card stays as it is, and nothing of this server is called until step 6;
  *   5. it is stored with its tail's head, both or neither, and the card has them for certain;
@@ -20,6 +20,10 @@
 #include <stdlib.h>
 #include <string.h>
 #include <sys/socket.h>
+
+#ifndef SERVER
+#define SERVER 0 /* yours: the number of this cabinet, from its own wiring or program, never from the card */
+#endif
 
 enum {
     WAITING = 256, /* packets in one turn at most */
@@ -47,9 +51,13 @@ static void make_plan(void) {
 /* ---- start: a card without a whole head was never founded; any other is recovered, with its checkpoint if it has one */
 
 static void found(void) {
-    uint64_t a = mantelorris_found(state, sizeof state, log_space, sizeof log_space, plan, sizeof plan, 0);
-    if (mantelorris_number(a)) exit(1); /* a bad plan: nothing else is refused here */
+    uint64_t a = mantelorris_found(state, sizeof state, log_space, sizeof log_space, plan, sizeof plan, SERVER);
+    if (mantelorris_number(a)) exit(1); /* a bad plan or number: nothing else is refused here */
     card_append(&card, log_space, 0, MANTELORRIS_LOG_HEAD);
+}
+
+static int never_founded(size_t kept) {
+    return card.base == 0 && kept < MANTELORRIS_LOG_HEAD;
 }
 
 /* never mantelorris_recover on a tail: it looks like a whole log, and all that was before it would be forgotten */
@@ -58,16 +66,46 @@ static uint32_t recovered(size_t kept) {
     return mantelorris_number(mantelorris_recover(state, sizeof state, log_space, kept, plan, sizeof plan));
 }
 
+static void recover(size_t kept) {
+    uint32_t number = recovered(kept);
+    if (number) card_refused(&card, number, checkpoint, log_space, kept);
+}
+
+/* all servers have one plan, so recovery takes the card of any of them: only the number tells */
+static void own_card(void) {
+    if (mantelorris_server(state) == SERVER) return;
+    fprintf(stderr, "card: of server %u, and this is server %d: put its own card in\n", mantelorris_server(state), SERVER);
+    exit(1);
+}
+
 static void start(void) {
     size_t kept = card_read(&card, checkpoint, log_space, sizeof log_space);
-    if (card.base == 0 && kept < MANTELORRIS_LOG_HEAD) {
+    if (never_founded(kept)) {
         found();
     } else {
-        uint32_t number = recovered(kept);
-        if (number) card_refused(&card, number, checkpoint, log_space, kept);
+        recover(kept);
+        own_card();
         card_cut(&card, (size_t)mantelorris_length(state));
     }
     card_sync_name(&card);
+}
+
+static void print_state(void) {
+    printf("server %u, ", mantelorris_server(state));
+    if (card.base) printf("checkpoint %zu bytes, ", card.base);
+    printf("log %llu bytes, point %d: value %d, quality %u\n", (unsigned long long)mantelorris_length(state), GATE, mantelorris_value(state, GATE),
+           mantelorris_quality(state, GATE));
+}
+
+/* what is on the card, whosever it is; nothing is written, cut or founded */
+static void print_card(void) {
+    size_t kept = card_read(&card, checkpoint, log_space, sizeof log_space);
+    if (never_founded(kept)) {
+        printf("%zu bytes: no server was founded on this card\n", kept);
+        return;
+    }
+    recover(kept);
+    print_state();
 }
 
 /* all of the log is synced; until the checkpoint is stored, nothing else of this server is called */
@@ -157,11 +195,12 @@ int main(int argc, char **argv) {
         return 2;
     }
     make_plan();
+    if (argc == 2) {
+        card_look(&card, argv[1]);
+        print_card();
+        return 0;
+    }
     card_open(&card, argv[1]);
     start();
-    if (argc > 2) serve(atoi(argv[2]));
-    if (card.base) printf("checkpoint %zu bytes, ", card.base);
-    printf("log %llu bytes, point %d: value %d, quality %u\n", (unsigned long long)mantelorris_length(state), GATE,
-           mantelorris_value(state, GATE), mantelorris_quality(state, GATE));
-    return 0;
+    serve(atoi(argv[2]));
 }

@@ -26,6 +26,8 @@
  * as the log slice, exactly these: bytes behind them would be read as records. The next calls are lent the whole space again, which
  * begins with the same bytes. An incomplete last record is dropped; mantelorris_length(state) is the log's length then, and all of it
  * counts as synced. Until recover has answered 0, call nothing else; after a refusal call it again.
+ * Both recoveries take the server's number from the card and compare it with nothing: all servers have one plan, so the card of another one is as good.
+ * Compare mantelorris_server(state) with the number of this cabinet before anything else is done, and do not serve where they differ.
  * Recover without a crash (another program takes over) is lent the log up to its recorded length, which the card must have.
  *
  * Log end. Recover walks the log twice: it finds the ends of all records, then it replays them. mantelorris_log_end is the first walk by itself, on
@@ -38,7 +40,7 @@
  * the log must be synced (7). The order of work of the host:
  *     1. checkpoint; the old log and the checkpoint stored before, if there is one, stay in force
  *     2. store the checkpoint and the tail's 8 bytes so that the card has both or neither (write a new file, sync it, rename it; or two slots and
- *        one word that names the valid one)
+ *        a superblock that says which of them counts, and both lengths: docs/GUIDE.md, The card)
  *     3. only then drop the old log, and go on: the log slice of every later call begins with the tail's head
  * Between 1 and 3 call nothing else of this server. If storing fails, or the power does, what was in force is still: recover from that. examples/card.c
  * does it in one file.
@@ -259,7 +261,11 @@ static inline uint32_t mantelorris_written(uint64_t answer) {
     return (uint32_t)(answer >> 32);
 }
 
-/* ---- what a state says, after a call on it that answered 0: the recorded length of the log, and the sync mark */
+/* ---- what a state says, after a call on it that answered 0: the server's number, the recorded length of the log, and the sync mark */
+
+static inline uint32_t mantelorris_server(const uint8_t *state) {
+    return state[4];
+}
 
 static inline uint64_t mantelorris_word_at(const uint8_t *state, size_t at) {
     uint64_t word = 0;

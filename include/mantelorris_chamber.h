@@ -17,8 +17,8 @@
  * read level1, read level2, set upper.
  *
  * Values. The controller is given and returned by value: keep the one that a call returns, in place of the one that it was given. Its fields are
- * the library's: keep them, read them, do not change them. There is one current value; an older one must not be used again. A refused call returns the
- * controller as it was given.
+ * the library's: keep them, read them, do not change them. Copy it whole; compare field by field, since bytes between fields may hold anything. There is one
+ * current value; an older one must not be used again. A refused call returns the controller as it was given.
  *
  * number is MANTELORRIS_OK or one of these:
  *     1   MALFORMED     start: a point over 63, two equal points, or not a grant. issue: no such command, a point that is none of the five, another op
@@ -48,7 +48,7 @@ struct mantelorris_lock_points {
     uint8_t level3;
 };
 
-/* a point's latest read that has its result; call 0: none yet. value is the point's value + 2^31 */
+/* a point's latest read that has its result; call 0: none yet. value is the point's value + 2^31, as the argument of an open call is the command's + 2^31 */
 struct mantelorris_latest_read {
     uint32_t call;
     uint32_t value;

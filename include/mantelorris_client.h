@@ -1,7 +1,7 @@
 /* The client (paper: desk) and the lease manager (paper: lease office), from libmantelorris.a. C11, and C++.
  *
  * A client is made by mantelorris_start, a lease manager by mantelorris_leases; both are lent to the other calls. Their fields are the
- * library's: keep them, read them, do not change them.
+ * library's: keep them, read them, do not change them. Copy them whole; compare them field by field, since bytes between fields may hold anything.
  * number is MANTELORRIS_OK or the refusal's number (mantelorris.h has their names); a refused call leaves the client or the manager as it was.
  * A byte slice is a pointer and its length. It must not overlap what is lent beside it.
  *
@@ -21,6 +21,7 @@
 extern "C" {
 #endif
 
+/* call 0: no call stands here. argument is the command's argument + 2^31, here and in no packet: 2147483648 for 0 */
 struct mantelorris_open_call {
     uint32_t call;
     uint8_t op;

@@ -1,5 +1,5 @@
 #!/usr/bin/env bash
-# tools/progress.py on what rt prints, by a program of that name: crates with their number of how many, edits, errors only where something is not
+# tools/progress.py on what rt prints, by a program of that name: rt's lines on crates and edits with their number of how many, the prover's words only where something is not
 # proved, rt's exit status.
 set -eu
 cd "$(dirname "$0")/.."
@@ -9,6 +9,7 @@ mkdir -p "$folder/bin" "$folder/tools" "$folder/crates/b/must-fail"
 cp tools/progress.py tools/kit-id "$folder/tools"
 printf '# two crates\na:\nb: a io\nc: a\n' >"$folder/crates.txt"
 : >"$folder/crates/b/must-fail/one.edit"
+: >"$folder/crates/b/must-fail/two.edit"
 
 # says STATUS: what rt is to print comes from standard input
 says() {
@@ -17,13 +18,12 @@ says() {
   chmod +x "$folder/bin/rt"
 }
 
-# due STATUS WORDS..: progress.py of these words gives this status; its output is due on standard input, a line's seconds aside
+# due STATUS WORDS..: progress.py of these words gives this status; its output is due on standard input
 due() {
   local status=$1 have=0
   shift
   PATH=$folder/bin:$PATH PROGRESS_LOG=$folder/log "$folder/tools/progress.py" rt "$@" >"$folder/have" || have=$?
-  sed -E 's/ +$//' >"$folder/due"
-  sed -i -E 's/(, )[0-9]+ s$/\1N s/' "$folder/have"
+  cat >"$folder/due"
   [ "$have" = "$status" ] || { echo "rt $*: status $have, not $status"; exit 1; }
   diff "$folder/due" "$folder/have" || { echo "rt $*: not as due"; exit 1; }
   cmp "$folder/said" "$folder/log"
@@ -36,9 +36,9 @@ rt: b proved (unchanged since it was last proved)
 rt: ok, 2 crates proved
 END
 due 0 check b <<'END'
-   1/2 a                  12 s
-   2/2 1 unchanged since it was proved
-   2 crates proved, N s
+1/2 rt: a proved (12 s)
+2/2 1 unchanged
+rt: ok, 2 crates proved
 END
 
 says 1 <<'END'
@@ -49,25 +49,29 @@ rt: b NOT PROVED (exit 1, 4 s)
 rt: FAILED: b
 END
 due 1 check b <<'END'
-   1/2 a                   1 s
-   crates/b/src/lib.rt:3:1: error: it is not so
-   rt: b NOT PROVED (exit 1, 4 s)
-   rt: FAILED: b
+1/2 rt: a proved (1 s)
+crates/b/src/lib.rt:3:1: error: it is not so
+2/2 rt: b NOT PROVED (exit 1, 4 s)
+rt: FAILED: b
 END
 
-says 0 <<'END'
+says 1 <<'END'
 rt: a proved (1 s)
 rt: b proved (2 s)
+fn c::g: proved
 rt: c proved (3 s)
 rt: must-fail b/one: refused, as it must be (first at src/lib.rt:1:1; 5 s)
-rt: ok, 3 crates proved, 1 must-fail edits refused
-4 passed, 0 failed
+rt: must-fail b/two: NOT REFUSED: the crate is still proved with this edit (5 s)
+rt: FAILED: b/two
+4 passed, 1 failed
 END
-due 0 ci <<'END'
-   1/3 a                   1 s
-   2/3 b                   2 s
-   3/3 c                   3 s
-   1/1 edit b/one                                refused, N s
-   3 crates proved, 1 edits refused, N s
+due 1 ci <<'END'
+1/3 rt: a proved (1 s)
+2/3 rt: b proved (2 s)
+3/3 rt: c proved (3 s)
+1/2 rt: must-fail b/one: refused, as it must be (first at src/lib.rt:1:1; 5 s)
+2/2 rt: must-fail b/two: NOT REFUSED: the crate is still proved with this edit (5 s)
+rt: FAILED: b/two
+4 passed, 1 failed
 END
 echo "progress.py: 3 cases"

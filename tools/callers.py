@@ -11,7 +11,6 @@ ROOT = pathlib.Path(__file__).resolve().parent.parent
 ALLOWED = {
     name: "by value, for a host in Rattle; C is given what a call changes" for name in ("leases::open_lease", "leases::renew", "leases::query")
 }
-ALLOWED["server_inspect::shown"] = "the bytes as a part of a slice, for a host in Rattle; C is given their place"
 
 HEAD = re.compile(r"^(?P<indent> *)(?P<pub>pub )?(?P<extern>extern \"C\" )?fn (?P<name>\w+)", re.M)
 USE = re.compile(r"^use ([\w:]+);", re.M)

@@ -3,13 +3,16 @@
   - sentences and rows to the same numbers, from 1 on, each once, in order
   - every row to at least one carrier, and every carrier to something that is there: `Module.name` declared in a module of that name below crates/*/specs or
     crates/*/proofs, or a field of a type; fn `name` and const `NAME` in crates/*/src; must-fail edit `label` in crates/*/must-fail; crate NAME; paths
-  - every link of README.md and docs/*.md to a file, and to a heading where it names one.
+  - every link of README.md and docs/*.md to a file, and to a heading where it names one; every `Module.name`, crate and file of a crate that they cite to one that
+    is there; README.md's table of crates to all of them
+  - figures that can be counted to what is counted (tools/figures.py).
 Prints what is missing and exits non-zero."""
 import glob, os, re, sys
+import figures
 
 os.chdir(os.path.join(os.path.dirname(os.path.abspath(__file__)), '..'))
 read = lambda path: open(path, encoding='utf-8').read()
-bad = []
+bad = figures.wrong()
 
 declared = {}
 for path in glob.glob('crates/*/specs/*.antt') + glob.glob('crates/*/proofs/*.antt'):
@@ -17,6 +20,8 @@ for path in glob.glob('crates/*/specs/*.antt') + glob.glob('crates/*/proofs/*.an
     names = set(re.findall(r'^\s*(?:(?:unfoldable|abbrev|pub|data|record|ruleset) )*(\S+)(?: \{[^}]*\})?(?: \([^)]*\))* :', text, flags=re.M))
     names |= set(re.findall(r'^\s*(?:pub )?(?:data|record) (\S+)', text, flags=re.M))
     declared.setdefault(module, set()).update(names)
+    for record, fields in re.findall(r'^ *pub record (\w+).* where\n((?: +.*\n)+)', text, flags=re.M):
+        declared.setdefault(record, set()).update(re.findall(r'^ +(?:pub )?(\S+) :', fields, flags=re.M))
 code = [read(path) for path in glob.glob('crates/*/src/*.rt')]
 functions, constants = set(), set()
 for text in code:
@@ -24,6 +29,7 @@ for text in code:
     constants |= set(re.findall(r'\bconst (\w+)', text))
     for m in re.finditer(r'pub (?:struct|enum) (\w+) \{(.*?)\n\}', text, flags=re.S):
         declared.setdefault(m.group(1), set()).update(re.findall(r'(?:pub )?(\w+)[:(,]', m.group(2)))
+crates = set(os.listdir('crates'))
 edits = {os.path.basename(path)[:-5] for path in glob.glob('crates/*/must-fail/*.edit')}
 
 
@@ -48,9 +54,24 @@ def carriers(part, where):
         if not glob.glob(path.rstrip('.')):
             bad.append('%s: no file %s' % (where, path))
     for name in re.findall(r'\bcrate (\w+)', part):
-        if not os.path.isdir('crates/' + name):
+        if name not in crates:
             bad.append('%s: no crate %s' % (where, name))
     return n
+
+
+def cited(path, text):
+    """`Module.name`, (crate NAME), NAME/specs/.., NAME/proofs/.. and tables of crates in a document; what is not there goes to bad. Returns what the tables list"""
+    for module, name in re.findall(r'`([A-Z]\w*)\.([^\s`]+)`', text):
+        if name != 'antt' and name not in declared.get(module, ()):
+            bad.append('%s: %s.%s is not there' % (path, module, name))
+    tables = ''.join(re.findall(r'^\| crates? \| .*\n\|[-|]+\n((?:\|.*\n)+)', text, flags=re.M))
+    listed = set(re.findall(r'\w+', ' '.join(row.split('|')[1] for row in tables.split('\n')[:-1])))
+    for name in sorted((listed | set(re.findall(r'\(crate `?(\w+)', text))) - crates):
+        bad.append('%s: no crate %s' % (path, name))
+    for file in re.findall(r'(?<![\w/.])(?:crates/)?(\w+/(?:specs|proofs)/\w+)', text):
+        if not glob.glob('crates/%s*' % file):
+            bad.append('%s: no file crates/%s' % (path, file))
+    return listed
 
 
 def in_order(what, numbers):
@@ -69,7 +90,7 @@ in_order('docs/REFERENCE.md', sentences)
 in_order('docs/CLAIMS.md', [int(n) for n, _, _ in rows])
 if len(sentences) != len(rows):
     bad.append('%d sentences and %d rows' % (len(sentences), len(rows)))
-for path in ['README.md'] + sorted(glob.glob('docs/*.md')):
+for path in figures.documents():
     for n in re.findall(r'\bR(\d+)\b', read(path)):
         if int(n) not in sentences:
             bad.append('%s: R%s is cited and not there' % (path, n))
@@ -81,7 +102,9 @@ for n, paper, carried in rows:
         bad.append('R%s: a sentence without a carrier' % n)
     if not paper.strip():
         bad.append('R%s: no section is named' % n)
-for path in ['README.md'] + sorted(glob.glob('docs/*.md')):
+listed = {path: cited(path, read(path)) for path in figures.documents() if path != 'docs/CLAIMS.md'}
+bad += ['README.md: its table lacks the crate ' + name for name in sorted(crates - listed['README.md'])]
+for path in figures.documents():
     for link in re.findall(r'\]\(([^)\s]+)\)', read(path)):
         file, _, anchor = link.partition('#')
         target = os.path.normpath(os.path.join(os.path.dirname(path), file)) if file else path

@@ -2,6 +2,7 @@
 """guide_pictures.py [--check]: draws the five pictures of docs/GUIDE.md into docs/pictures; with --check, compares them with what is stored. Fails where a text
 overlaps another or leaves the picture."""
 import os, sys
+import figures
 
 os.chdir(os.path.join(os.path.dirname(os.path.abspath(__file__)), '..'))
 INK, SOFT, BLUE, GREEN, RED, PAPER = '#1c2733', '#6b7785', '#dbe8f6', '#dff1e1', '#b3261e', '#ffffff'
@@ -51,7 +52,7 @@ def host():
     p = Picture(820, 380)
     p.box(230, 20, 370, 340, '', fill='#f4f6f8')
     p.text(415, 44, 'your host program', bold=True)
-    p.box(300, 130, 230, 90, 'the kernel', ['fourteen calls,', 'no memory of its own'], fill=GREEN)
+    p.box(300, 130, 230, 90, 'the kernel', [figures.WORDS[figures.counted()['server-calls']] + ' calls,', 'no memory of its own'], fill=GREEN)
     p.box(250, 250, 150, 86, 'state', ['32,768 bytes', 'in memory'])
     p.box(430, 250, 150, 86, 'log space', ['your choice', 'in memory'])
     p.line([(345, 250), (345, 220)], head=False)
@@ -71,7 +72,7 @@ def host():
     p.line([(530, 155), (680, 155)])
     p.text(639, 146, 'value', small=True)
     p.text(639, 172, 'if synced', small=True)
-    p.box(300, 62, 230, 46, 'plan, clock, server number', fill=PAPER)
+    p.box(300, 62, 230, 46, 'plan, server number', fill=PAPER)
     p.line([(415, 108), (415, 130)])
     return p
 
@@ -127,7 +128,7 @@ def point():
 
 
 def boot():
-    p = Picture(820, 470)
+    p = Picture(820, 550)
     p.box(300, 14, 220, 40, 'power on: read the card', fill=PAPER)
     p.line([(410, 54), (410, 84)])
     p.box(300, 84, 220, 46, 'was this server founded?', fill=PAPER)
@@ -140,20 +141,26 @@ def boot():
     p.line([(520, 173), (610, 173)], color=RED)
     p.text(565, 166, '14', small=True, color=RED)
     p.box(610, 140, 190, 66, 'stop', ['wrong plan or', 'damaged card'], stroke=RED, fill='#fdeceb')
-    p.line([(170, 196), (170, 240)])
-    p.line([(410, 196), (410, 240)])
-    p.text(422, 222, '0', anchor='start', small=True)
-    p.box(70, 240, 200, 62, 'write the head,', ['make it durable'])
-    p.box(300, 240, 220, 62, 'cut the card to length,', ['make it durable'])
-    p.line([(170, 302), (170, 370), (300, 370)])
-    p.line([(410, 302), (410, 346)])
-    p.box(300, 346, 220, 50, 'gates from the state', fill=PAPER)
-    p.line([(410, 396), (410, 420)])
-    p.box(300, 420, 220, 38, 'serve', fill=GREEN)
-    p.line([(520, 440), (670, 440), (670, 380)])
-    p.box(580, 330, 180, 50, '19 from a call', stroke=RED, fill='#fdeceb')
-    p.line([(596, 330), (596, 34), (520, 34)], color=RED, dash=True)
-    p.text(604, 290, 'as after a crash', anchor='start', small=True, color=RED)
+    p.line([(410, 196), (410, 230)])
+    p.text(422, 218, '0', anchor='start', small=True)
+    p.box(300, 230, 220, 56, "this cabinet's number?", ['mantelorris_server(state)'], fill=PAPER)
+    p.line([(520, 258), (610, 258)], color=RED)
+    p.text(565, 251, 'no', small=True, color=RED)
+    p.box(610, 228, 190, 60, 'stop', ["another cabinet's card"], stroke=RED, fill='#fdeceb')
+    p.line([(410, 286), (410, 320)])
+    p.text(422, 308, 'yes', anchor='start', small=True)
+    p.line([(170, 196), (170, 320)])
+    p.box(70, 320, 200, 62, 'write the head,', ['make it durable'])
+    p.box(300, 320, 220, 62, 'cut the card to length,', ['make it durable'])
+    p.line([(170, 382), (170, 450), (300, 450)])
+    p.line([(410, 382), (410, 426)])
+    p.box(300, 426, 220, 50, 'gates from the state', fill=PAPER)
+    p.line([(410, 476), (410, 500)])
+    p.box(300, 500, 220, 38, 'serve', fill=GREEN)
+    p.line([(520, 520), (670, 520), (670, 460)])
+    p.box(580, 410, 180, 50, '19 from a call', stroke=RED, fill='#fdeceb')
+    p.line([(596, 410), (596, 34), (520, 34)], color=RED, dash=True)
+    p.text(604, 370, 'as after a crash', anchor='start', small=True, color=RED)
     return p
 
 

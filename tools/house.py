@@ -1,7 +1,7 @@
 #!/usr/bin/env python3
 """house.py [--check]: draws docs/pictures/house.svg, the crates by layer with their real imports: what a crate's sources, definitions and
-proofs name of another. An import that follows from others is left out. Fails if crates.txt lists a crate that is not named, or lacks one that is;
---check also fails if the stored picture is not the one made now."""
+proofs name of another. An import that follows from others is left out. Fails if crates.txt lists a crate that is not named, or lacks one that is, or if an import goes up, or
+from what is claimed and proved into code; --check also fails if the stored picture is not the one made now."""
 import glob, os, re, sys
 
 os.chdir(os.path.join(os.path.dirname(os.path.abspath(__file__)), '..'))
@@ -9,7 +9,7 @@ PICTURE = 'docs/pictures/house.svg'
 
 # the layers from top to bottom, on the left the product, on the right what is claimed and proved of it; a crate belongs to the first whose test it passes
 PRODUCT = [
-    ('programs and C interfaces', lambda n: n in ('yard', 'kernel', 'client_c') or n.endswith('_c')),
+    ('programs and C interfaces', lambda n: n in ('yard', 'inspector', 'kernel', 'client_c') or n.endswith('_c')),
     ('above the kernel: the lock chamber controller', lambda n: n == 'chamber'),
     ('simulator', lambda n: n.startswith('simulator')),
     ('parties beside the server', lambda n: n in ('client', 'leases')),
@@ -55,6 +55,17 @@ def below(name, direct, known):
         for d in direct[name]:
             known[name] |= {d} | below(d, direct, known)
     return known[name]
+
+
+def layer(name):
+    """a crate's column, 0 the product, 1 what is claimed and proved, 2 the base, and its layer there, counted from the top"""
+    return next((c, i) for c, bands in enumerate((PRODUCT, PROOF, BASE)) for i, (_, test) in enumerate(bands) if test(name))
+
+
+def goes_down(name, other):
+    """an import stays in its layer or goes to a lower one; from code also to what is claimed of it"""
+    (column, i), (below, j) = layer(name), layer(other)
+    return below > column or (below == column and j >= i)
 
 
 def reduced(direct):
@@ -139,14 +150,16 @@ def picture(crates, direct):
             (x, y, w), (u, v, s) = place[n], place[d]
             a, b, c, e = x + w / 2, y + HIGH, u + s / 2, v
             if v <= y:
-                b, e = y + HIGH / 2, v + HIGH / 2
+                a, b, c, e = x + w, y + HIGH / 2, u, v + HIGH / 2
             m = (b + e) / 2
-            lines.append('<path d="M%.0f %.0f C%.0f %.0f %.0f %.0f %.0f %.0f" fill="none" stroke="#7a93ad" stroke-width="1" opacity="0.55"/>' % (a, b, a, m, c, m, c, e))
+            lines.append('<path d="M%.0f %.0f C%.0f %.0f %.0f %.0f %.0f %.0f" fill="none" stroke="#7a93ad" stroke-width="1" opacity="0.55" marker-end="url(#head)"/>' % (a, b, a, m, c, m, c, e))
     boxes = []
     for n, (x, y, w) in sorted(place.items()):
         boxes.append('<rect x="%.0f" y="%.0f" width="%.0f" height="%d" rx="4" fill="#ffffff" stroke="#33475b"/>' % (x, y, w, HIGH))
         boxes.append('<text x="%.0f" y="%.0f" text-anchor="middle" font-size="12">%s</text>' % (x + w / 2, y + 16, n))
-    head = '<svg xmlns="http://www.w3.org/2000/svg" width="1100" height="%d" font-family="monospace">\n<rect width="1100" height="%d" fill="#ffffff"/>' % (top, top)
+    head = '<svg xmlns="http://www.w3.org/2000/svg" width="1100" height="%d" font-family="monospace">\n' % top
+    head += '<defs><marker id="head" viewBox="0 0 8 8" refX="7" refY="4" markerWidth="7" markerHeight="7" orient="auto"><path d="M0 0L8 4L0 8z" fill="#7a93ad"/></marker></defs>\n'
+    head += '<rect width="1100" height="%d" fill="#ffffff"/>' % top
     return '\n'.join([head] + out + lines + boxes + ['</svg>']) + '\n'
 
 
@@ -157,6 +170,7 @@ def main():
     for n in sorted(crates):
         bad += ['crates.txt: %s lists %s and does not name it' % (n, d) for d in sorted((crates[n] & set(crates)) - direct[n])]
         bad += ['crates.txt: %s names %s and does not list it' % (n, d) for d in sorted(direct[n] - crates[n])]
+        bad += ['%s rests on %s, which lies above it or is code' % (n, d) for d in sorted(direct[n]) if not goes_down(n, d)]
     made = picture(crates, direct)
     if '--check' in sys.argv[1:]:
         if not os.path.exists(PICTURE) or open(PICTURE, encoding='utf-8').read() != made:

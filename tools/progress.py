@@ -1,17 +1,13 @@
 #!/usr/bin/env python3
-"""progress.py rt check|prove|ci|must-fail|staticlib [NAME..]: runs this rt command and shows its way: each crate as it is proved, with its
-number of how many and its seconds, each must-fail edit likewise, each library and each run of a program. Crates that are unchanged since they
-were proved share a line. What the prover says is shown where something is not proved. PROGRESS_LOG names a file for all that rt says.
-Exits as rt does. Two runs of rt in one repository would disturb each other: a second one waits."""
+"""progress.py rt check|prove|ci|must-fail|staticlib [NAME..]: runs this rt command and shows rt's own lines as they come, each crate and each must-fail edit behind its number
+of how many. Crates that are unchanged since they were proved share a line. What the prover says is shown where something is not proved. PROGRESS_LOG names a file for all
+that rt says. Exits as rt does. Two runs of rt in one repository would disturb each other: a second one waits."""
 import fcntl, glob, os, queue, re, subprocess, sys, threading, time
 
 UNCHANGED = re.compile(r'rt: (\S+) proved \(unchanged')
-PROVED = re.compile(r'rt: (\S+) proved \((\d+) s\)')
-NOT_PROVED = re.compile(r'rt: (\S+) (?:NOT PROVED.*|proved, and its run FAILED.*)')
-EDIT = re.compile(r'rt: must-fail (\S+): (refused|NOT REFUSED|BAD EDIT).*')
-RAN = re.compile(r"rt: (\S+) ran.*\((\d+) s\)")
-LIBRARY = re.compile(r'rt: (target/staticlib/\S+) has')
-QUIET = re.compile(r'rt: ok, |\d+ passed, \d+ failed$')
+CRATE = re.compile(r'rt: \S+ (?:proved \(|NOT PROVED)')
+EDIT = re.compile(r'rt: must-fail ')
+GOOD = re.compile(r'rt: (?:\S+ proved \(|\S+ ran\b|must-fail \S+ refused|ok, |target/staticlib/)|\d+ passed, \d+ failed$')
 
 
 def listed():
@@ -39,79 +35,50 @@ def reached(names):
 class Progress:
     def __init__(self, command, names):
         crates = reached(names)
-        edits = [e for c in crates for e in glob.glob('crates/%s/must-fail/*.edit' % c)] if command in ('ci', 'must-fail') else []
-        self.command, self.crates, self.edits = command, len(crates), len(edits)
-        self.done = self.unchanged = self.tried = self.shown_unchanged = 0
-        self.pending, self.began, self.live = [], time.time(), sys.stdout.isatty()
+        tried = crates if command in ('ci', 'must-fail') else ()
+        self.total = {CRATE: len(crates), EDIT: sum(len(glob.glob('crates/%s/must-fail/*.edit' % c)) for c in tried)}
+        self.done = {CRATE: 0, EDIT: 0}
+        self.command, self.unchanged, self.pending = command, 0, []
+        self.began, self.live = time.time(), sys.stdout.isatty()
 
     def say(self, text):
-        print(('\r\x1b[K' if self.live else '') + '   ' + text, flush=True)
+        print(('\r\x1b[K' if self.live else '') + text, flush=True)
 
     def tick(self):
         if self.live:
-            count = '%d/%d crates' % (self.done, self.crates) if not self.tried else '%d/%d edits' % (self.tried, self.edits)
-            print('\r\x1b[K   .. %s, %d s' % (count, time.time() - self.began), end='', flush=True)
-
-    def of(self, number, total):
-        width = len(str(total))
-        return '%*d/%d' % (width, number, total)
+            what = EDIT if self.done[EDIT] else CRATE
+            print('\r\x1b[K   .. %d/%d %s, %d s' % (self.done[what], self.total[what], 'edits' if what is EDIT else 'crates', time.time() - self.began), end='', flush=True)
 
     def flush_unchanged(self):
-        new = self.unchanged - self.shown_unchanged
-        if new and self.command != 'staticlib':
-            self.say('%s %d unchanged since %s' % (self.of(self.done, self.crates), new, 'it was proved' if new == 1 else 'they were proved'))
-        self.shown_unchanged = self.unchanged
+        if self.unchanged and self.command != 'staticlib':
+            self.say('%d/%d %d unchanged' % (self.done[CRATE], self.total[CRATE], self.unchanged))
+        self.unchanged = 0
 
     def line(self, text):
-        m = UNCHANGED.match(text)
-        if m:
-            self.done, self.unchanged = self.done + 1, self.unchanged + 1
+        if UNCHANGED.match(text):
+            self.done[CRATE] += 1
+            self.unchanged += 1
             return
-        self.flush_unchanged()
-        m = PROVED.match(text)
-        if m:
-            self.done += 1
-            self.say('%s %-16s %4s s' % (self.of(self.done, self.crates), m[1], m[2]))
-        elif NOT_PROVED.match(text):
-            self.done += 1
-            self.refused(text)
-        elif EDIT.match(text):
-            self.edit(text)
-        elif RAN.match(text):
-            self.say('%s ran, and wrote what its file stdout has' % RAN.match(text)[1])
-        elif LIBRARY.match(text):
-            self.say('%s, %d s' % (LIBRARY.match(text)[1], time.time() - self.began))
-        elif text.startswith('rt: ') and not QUIET.match(text):
-            self.refused(text)
-        elif not QUIET.match(text):
+        if not text.startswith('rt: ') and not GOOD.match(text):
             self.pending.append(text)
             return
-        self.pending = []
-
-    def edit(self, text):
-        m = EDIT.match(text)
-        self.tried += 1
-        seconds = re.search(r'(\d+) s\)$', text)
-        if m[2] == 'refused':
-            self.say('%s edit %-36s refused, %s s' % (self.of(self.tried, self.edits), m[1], seconds[1] if seconds else '?'))
-        else:
-            self.refused(text)
-
-    def refused(self, text):
-        for line in self.pending + [text]:
-            self.say(line)
-        self.pending = []
+        self.flush_unchanged()
+        if not GOOD.match(text):
+            for line in self.pending:
+                self.say(line)
+        self.pending, number = [], ''
+        for what in (CRATE, EDIT):
+            if what.match(text):
+                self.done[what] += 1
+                number = '%d/%d ' % (self.done[what], self.total[what])
+        self.say(number + text)
 
     def finish(self, status):
         self.flush_unchanged()
-        if status:
-            for line in self.pending:
-                self.say(line)
+        for line in self.pending if status else []:
+            self.say(line)
         if self.live:
             print('\r\x1b[K', end='')
-        if not status and self.command != 'staticlib':
-            edits = ', %d edits refused' % self.tried if self.edits else ''
-            self.say('%d crates proved%s, %d s' % (self.done, edits, time.time() - self.began))
 
 
 def main():

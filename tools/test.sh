@@ -1,8 +1,8 @@
 #!/usr/bin/env bash
-# The whole check: the kit's identity, the format, every proof and must-fail edit, the tests of the second program,
-# the comparison of both, the simulator's too, the C programs, `make run`; that documents cite what is there, that stored pictures are what is
-# drawn, and that entry points have no `requires`.
-# Prints seconds per part and per crate; the last line is 'N passed, M failed'; any failure exits non-zero.
+# The whole check: the kit's identity, the format; that documents cite what is there, that stored pictures are what is drawn, and that entry points have no `requires`; then the
+# toolchain's own gate, `rt ci`: every crate from nothing, every must-fail edit by itself, every program; then the tests of the second program, the comparison of both, the
+# simulator's too, the C programs, `make run`.
+# Prints seconds per part, and what rt says of each crate and edit; the last line is 'N passed, M failed' over all; any failure exits non-zero.
 set -u
 cd "$(dirname "$0")/.." || exit 2
 began=$SECONDS
@@ -54,25 +54,25 @@ part yard-cases tools/yard_cases.py --check; count $?
 part pictures tools/picture.py --check; count $?
 part guide-pictures tools/guide_pictures.py --check; count $?
 part progress tests/progress.sh; count $?
-part edits-tool tests/edits.sh; count $?
-part prove-tool tests/prove.sh; count $?
+part planted-faults tests/gate.sh; count $?
 part claims tools/claims.py; count $?
+part claims-tool tests/claims.sh; count $?
+part edit-table tools/edit_table.py --check; count $?
 part entry-points tools/entry_points.py; count $?
 part callers tools/callers.py; count $?
 part house tools/house.py --check; count $?
 part layout tools/layout.py; count $?
 
-# every proof from nothing, every must-fail edit, the static libraries, each shown as it comes
-echo "== proofs and edits"
+# the toolchain's verdict, its lines as they come; what it counted is counted here, and it fails with its exit status too
+echo "== rt ci"
 start=$SECONDS
-tools/prove.py | tee "$logs/proofs" | sed -u -E '/^[0-9]+ passed, [0-9]+ failed$/d'
-proofs=${PIPESTATUS[0]}
-if [ "$proofs" = 0 ]; then echo "   ok, $((SECONDS - start)) s"; else echo "   FAILED: proofs and edits, $((SECONDS - start)) s"; fi
-n=$(sed -nE 's/^([0-9]+) passed, [0-9]+ failed$/\1/p' "$logs/proofs")
-passed=$((passed + ${n:-0}))
-n=$(sed -nE 's/^[0-9]+ passed, ([0-9]+) failed$/\1/p' "$logs/proofs")
-failed=$((failed + ${n:-0}))
-[ "$proofs" = 0 ] || [ "${n:-0}" != 0 ] || failed=$((failed + 1))
+PROGRESS_LOG=$logs/rt-ci tools/progress.py rt ci
+verdict=$?
+echo "   $([ $verdict = 0 ] && echo ok || echo FAILED: rt ci), $((SECONDS - start)) s"
+read -r good bad < <(sed -nE 's/^([0-9]+) passed, ([0-9]+) failed$/\1 \2/p' "$logs/rt-ci" | tail -n 1) || { good=0; bad=1; }
+passed=$((passed + good))
+failed=$((failed + bad))
+[ $verdict = 0 ] || [ "$bad" != 0 ] || failed=$((failed + 1))
 
 # tests PACKAGE WORDS..: the tests of a cargo package, each counted; one that hangs fails
 tests() {

@@ -1,9 +1,11 @@
 //! One server of both programs, called in lockstep: each call has the same answer,
-//! output, log and state on both sides, byte by byte.
+//! output, log and state on both sides, byte by byte, and behind the state's last
+//! completion record the buffer is as before the call.
 
 use crate::kernel::Call;
-use crate::states::{self, STATE_END};
+use crate::states;
 use second::answer::{Answer, Refusal};
+use second::random::Random;
 use second::server::{Server, STATE_LEN};
 use std::fmt::Debug;
 
@@ -64,7 +66,6 @@ pub struct Pair {
     pub server_log: Vec<u8>,
     /// The space for the log.
     pub room: usize,
-    wanted: Vec<u8>,
 }
 
 impl Pair {
@@ -77,7 +78,6 @@ impl Pair {
             server_log: log.clone(),
             log,
             room,
-            wanted: vec![0; STATE_LEN],
         }
     }
 
@@ -92,7 +92,16 @@ impl Pair {
     pub fn set(&mut self, server: Server) {
         self.server = server;
         states::put_buffer(&self.server, &mut self.state);
-        self.before[..STATE_END].copy_from_slice(&self.state[..STATE_END]);
+        states::put_buffer(&self.server, &mut self.before);
+    }
+
+    /// Any bytes in the rows past the last completion record, which no call reads.
+    pub fn stir(&mut self, random: &mut Random) {
+        let from = states::end(&self.server);
+        for word in self.state[from..].chunks_mut(8) {
+            word.copy_from_slice(&random.next_u64().to_le_bytes()[..word.len()]);
+        }
+        self.before[from..].copy_from_slice(&self.state[from..]);
     }
 
     pub fn whole(&self, outputs: &Outputs) -> Lent {
@@ -158,21 +167,18 @@ impl Pair {
 
     fn compare_changed(&mut self, call: &dyn Debug) {
         assert!(self.log == self.server_log, "log: {call:02x?}");
-        states::put_buffer(&self.server, &mut self.wanted);
+        states::put_buffer(&self.server, &mut self.before);
         assert!(
-            self.state[..STATE_END] == self.wanted[..STATE_END],
+            self.state == self.before,
             "state: {call:02x?}, {:?}",
             self.server
         );
-        let behind = &self.state[STATE_END..];
-        assert!(behind == &self.before[STATE_END..], "behind: {call:02x?}");
-        self.before[..STATE_END].copy_from_slice(&self.state[..STATE_END]);
     }
 
     /// The proved server's buffer has any content, as after a crash.
     pub fn forget(&mut self, junk: u8) {
-        self.state[..STATE_END].fill(junk);
-        self.before.copy_from_slice(&self.state);
+        self.state.fill(junk);
+        self.before.fill(junk);
     }
 
     /// A call of the proved server alone, on this buffer, which no call leaves: it

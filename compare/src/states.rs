@@ -13,12 +13,13 @@ pub const PLAN_AT: usize = 40;
 pub const POINTS_AT: usize = 1064;
 pub const CLIENTS_AT: usize = 3112;
 pub const RECORDS_AT: usize = 3368;
+/// Where 512 completion records end.
 pub const STATE_END: usize = 17_704;
 
 /// The log that a server's recorded length is of.
 pub const LOG_LEN: usize = 4096;
 
-/// What stands behind the layout's end: those bytes are the host's.
+/// What stands behind the last completion record: no call reads or writes there.
 pub const BEHIND: u8 = 0x5A;
 
 // ---- the buffer
@@ -30,9 +31,14 @@ pub fn buffer(server: &Server) -> Vec<u8> {
     b
 }
 
-/// The same up to the layout's end.
+/// Where its last completion record ends.
+pub fn end(server: &Server) -> usize {
+    RECORDS_AT + 28 * server.records.len()
+}
+
+/// The same up to there; what lies behind stays.
 pub fn put_buffer(server: &Server, b: &mut [u8]) {
-    b[..STATE_END].fill(0);
+    b[..RECORDS_AT].fill(0);
     b[..4].copy_from_slice(&[0x57, 0x53, 0x54, 0x31]);
     b[4] = server.cabinet;
     put_u32(b, 8, server.heard);

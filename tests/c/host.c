@@ -83,7 +83,7 @@ struct slot {
     size_t length;
 };
 
-/* two slots, and the word that names the one in force */
+/* two slots, and the word that names the one in force; on a real card that word and the slots' lengths are one superblock (docs/GUIDE.md, The card) */
 struct card {
     struct slot slots[2];
     int word;
@@ -124,6 +124,7 @@ struct server {
     uint8_t state[MANTELORRIS_STATE_SIZE];
     uint8_t log[LOG_SPACE];
     struct card card;
+    uint32_t number; /* the cabinet's, which no card tells */
     struct waiting waiting[LINE];
     size_t waits;
     int knows_ended; /* a notice answered 0 here */
@@ -147,6 +148,7 @@ static size_t log_length(const struct server *s) {
 static void found(struct server *s, uint32_t number) {
     uint64_t a = mantelorris_found(s->state, sizeof s->state, s->log, sizeof s->log, plan, sizeof plan, number);
     expect("found", a, 0);
+    s->number = number;
     expect("found: length", log_length(s), MANTELORRIS_LOG_HEAD);
     card_write(&s->card, 0, s->log, log_length(s));
 }
@@ -170,7 +172,7 @@ static void save(struct server *s) {
 }
 
 /* A server starts again from its card. The log's space begins with the kept bytes; recover is lent exactly these. An incomplete last record
- * is dropped, and the card's next write begins at the recorded length. Once a checkpoint is stored, it is the start, and never the plan. */
+ * is dropped, and the card's next write begins at the recorded length. Another server's card would be taken as well: the number tells. Once a checkpoint is stored, it is the start, and never the plan. */
 static void restart(struct server *s) {
     struct slot *slot = in_force(&s->card);
     memcpy(s->log, slot->bytes, slot->length);
@@ -180,6 +182,7 @@ static void restart(struct server *s) {
         need("recover", mantelorris_recover_checkpoint(s->state, sizeof s->state, slot->checkpoint, slot->replaced, s->log, slot->length), 0);
     else
         need("recover", mantelorris_recover(s->state, sizeof s->state, s->log, slot->length, plan, sizeof plan), 0);
+    need("recover: its own card", mantelorris_server(s->state), s->number);
     expect("log end: recover's length", whole.end, mantelorris_length(s->state));
     slot->length = log_length(s);
     expect("recover: mark", mantelorris_mark(s->state), log_length(s));

@@ -5,10 +5,11 @@
   - the same with a small limit, so that it makes and stores checkpoints all the time, killed at each step of that, or the step fails and the host has to end
     by itself; where the name of the new file is not certain, the old one may come back; the card stays small
   - a card cut at every byte of its last records starts with just the whole records; so does one with a checkpoint, cut in its tail
-  - damaged cards are refused with a message that says where, and stay as they were
+  - damaged cards are refused with a message that says where, and stay as they were; so is another server's card, which recovery itself takes
+  - printing what a card has changes nothing on it or beside it, needs no more than to read it, and may be done beside a host that serves
   - hosts with a planted fault fail the first tests: the mark set before the write; the card not cut after recover; eight ways to store a checkpoint wrongly or to start from it
 POWER_SEED sets the seed, POWER_KILLS the number of kills. MANTELORRIS_DIST names a folder with archive and headers; without it `make lib` makes dist/."""
-import os, random, re, shutil, signal, struct, subprocess, sys, tempfile, time
+import os, random, shutil, signal, struct, subprocess, sys, tempfile, threading, time
 
 ROOT = os.path.join(os.path.dirname(os.path.abspath(__file__)), '..', '..')
 os.chdir(ROOT)
@@ -44,17 +45,17 @@ def build(sources, name, more=()):
     return out
 
 
-def faulty(name, old, new):
+def changed(name, old, new, more=()):
     """the host with a line or two changed, moved or left out, each where it stands, in host.c or in card.c"""
     texts = [open(path, encoding='utf-8').read() for path in HOST]
     for a, b in zip(old, new):
         if sum(text.count(a) for text in texts) != 1:
-            sys.exit('power.py: the fault %s does not fit %s' % (name, ' and '.join(HOST)))
+            sys.exit('power.py: the change %s does not fit %s' % (name, ' and '.join(HOST)))
         texts = [text.replace(a, b) for text in texts]
     paths = [os.path.join(WORK, name + '_' + os.path.basename(path)) for path in HOST]
     for path, text in zip(paths, texts):
         open(path, 'w', encoding='utf-8').write(text)
-    return build(paths, name, ['-Wno-unused-function', '-Wno-unused-parameter'])
+    return build(paths, name, ['-Wno-unused-function', '-Wno-unused-parameter', *more])
 
 
 class Card:
@@ -118,11 +119,7 @@ def left_alone(server, desk, until):
 
 
 def gate_at(host, card, commands):
-    """the last start, beside the rest of a checkpoint that was not stored"""
-    open(card.new, 'wb').write(b'WLG2')
     end = subprocess.run([host, card.path], capture_output=True, text=True).stdout
-    if os.path.exists(card.new):
-        return card.new + ' was left'
     return '' if 'value %d,' % commands in end else 'the gate is not at %d: %s' % (commands, end.strip())
 
 
@@ -198,32 +195,40 @@ def whole_records(checkpoint, log):
     return ends
 
 
-def ran(host, name, card):
-    """the host on a card of these bytes, and the card after it"""
+def ran(starter, name, card):
+    """a start from a card of these bytes, beside the rest of a checkpoint that was not stored, and the card after it"""
     path = os.path.join(WORK, name)
     open(path, 'wb').write(card)
-    done = subprocess.run([host, path], capture_output=True, text=True)
-    return done, open(path, 'rb').read()
+    open(path + '.new', 'wb').write(b'WLG2')
+    done = subprocess.run([starter, path, '0'], capture_output=True, text=True)
+    return done, open(path, 'rb').read() + (b'.new was left' if os.path.exists(path + '.new') else b'')
 
 
-def cuts(host, card, records):
+def seen_on(card):
+    """what a host says of a card of server 0"""
+    checkpoint, log = parts(card)
+    length, value = whole_records(checkpoint, log)[-1]
+    return 'server 0, %slog %d bytes, point %d: value %d,' % ('checkpoint %d bytes, ' % len(checkpoint) if checkpoint else '', length, GATE, value)
+
+
+def cuts(starter, card, records):
     """the card cut at every byte from so many records before its end; all of the log if that is more"""
     checkpoint, log = parts(card)
-    ends, said = whole_records(checkpoint, log), 'checkpoint %d bytes, ' % len(checkpoint) if checkpoint else ''
+    ends = whole_records(checkpoint, log)
     first = ends[-min(records, len(ends))][0]
     for k in range(first, len(log) + 1):
-        length, value = [e for e in ends if e[0] <= k][-1]
-        done, after = ran(host, 'cut', checkpoint + log[:k])
-        want = '%slog %d bytes, point %d: value %d,' % (said, length, GATE, value)
+        length = [e[0] for e in ends if e[0] <= k][-1]
+        done, after = ran(starter, 'cut', checkpoint + log[:k])
+        want = seen_on(checkpoint + log[:k])
         if done.returncode or not done.stdout.startswith(want) or after != checkpoint + log[:length]:
             return 'cut at %d: %s%s, card of %d bytes, and %s is due' % (k, done.stdout, done.stderr, len(after), want), k - first
     return '', len(log) + 1 - first
 
 
-def refused(host, cards):
+def refused(starter, cards):
     """each card, with what the host has to say of it; the card stays as it was"""
     for what, card, want in cards:
-        done, after = ran(host, 'damaged', card)
+        done, after = ran(starter, 'refused', card)
         if done.returncode != 1 or want not in done.stderr or after != card:
             return '%s: exit %d, %s%s, and %s is due%s' % (what, done.returncode, done.stdout, done.stderr, want, '' if after == card else '; the card has changed')
     return ''
@@ -253,20 +258,86 @@ def damaged_checkpoints(card):
     return cards
 
 
-def without_checkpoints(host, tools, port):
+def files(folder):
+    return {name: open(os.path.join(folder, name), 'rb').read() for name in os.listdir(folder)}
+
+
+def by_a_reader(words):
+    """run by a user who may read and not write, where there is one and our folder is open to him"""
+    try:
+        return subprocess.run(words, capture_output=True, text=True, user=65534 if os.geteuid() == 0 else None)
+    except PermissionError:
+        return subprocess.run(words, capture_output=True, text=True)
+
+
+def looked_at(host, cards):
+    """what the host prints of each card, with its exit status, in a folder where it may read and not write; None: there is no card"""
+    os.chmod(WORK, 0o711)
+    for what, card, status, want in cards:
+        folder = tempfile.mkdtemp(dir=WORK)
+        for name, text in (('card', card), ('card.new', b'WLG2')):
+            if text is not None:
+                open(os.path.join(folder, name), 'wb').write(text)
+                os.chmod(os.path.join(folder, name), 0o444)
+        os.chmod(folder, 0o555)
+        before = files(folder)
+        done = by_a_reader([host, os.path.join(folder, 'card')])
+        os.chmod(folder, 0o755)
+        if done.returncode != status or want not in done.stdout + done.stderr or files(folder) != before:
+            return '%s: exit %d, %s%s, and %s is due%s' % (what, done.returncode, done.stdout, done.stderr, want, '' if files(folder) == before else '; something has changed')
+    return ''
+
+
+def looking(host, tools, port, log, card):
+    torn = log[:-1], card[:-1]
+    cards = [('no card', None, 1, 'No such file'), ('an empty card', b'', 0, '0 bytes: no server was founded'), ('a part of a head', log[:7], 0, '7 bytes: no server was founded'),
+             *[('a card', c, 0, seen_on(c)) for c in (log, card)], *[('a torn card', c, 0, seen_on(c)) for c in torn], ('a damaged card', with_byte(log, 8, 9)[1], 1, 'log: bad log')]
+    told('%d cards are printed and left as they were, by one who may only read them' % len(cards), looked_at(host, cards))
+    count('a host that opens its card to print it is found', looked_at(changed('opens', ['        card_look(&card, argv[1]);\n'], ['        card_open(&card, argv[1]);\n']), cards[1:]))
+    path, said, ended = os.path.join(WORK, 'served'), [], threading.Event()
+
+    def again():
+        while not ended.is_set():
+            if os.path.exists(path):
+                said.append(subprocess.run([host, path], capture_output=True, text=True))
+
+    thread = threading.Thread(target=again)
+    thread.start()
+    wrong, seen = session(host, tools, 'served', port, SEED, 0, 300, 30, size=LIMIT)
+    ended.set()
+    thread.join()
+    bad = [done.stderr for done in said if done.returncode]
+    told('a card is printed %d times while a host serves from it' % len(said), wrong or ''.join(bad[:1]) or ('' if len(said) > 9 else 'too seldom'))
+
+
+def swapped(starts, log, card):
+    """cards of server 0, without and with a checkpoint, in cabinet 1"""
+    one = changed('cabinet_1', *starts, ['-DSERVER=1'])
+    want = 'card: of server 0, and this is server 1'
+    told("another server's card is refused, and left as it was", refused(one, [('a log', log, want), ('a checkpoint and its tail', card, want)]))
+    (done, founded), (again, _) = ran(one, 'own', b''), ran(one, 'own', b'WLG1' + bytes([1, 0, 0, 0]))
+    count('it founds and takes its own', founded[:5] == b'WLG1\1' and done.stdout == again.stdout and done.stdout.startswith('server 1, log 8 bytes,'))
+    blind = changed('cabinet_1_blind', [*starts[0], '        own_card();\n'], [*starts[1], ''], ['-DSERVER=1'])
+    taken = [ran(blind, 'taken', c)[0] for c in (log, card)]
+    count('a host that does not compare the numbers takes both, as server 0', all(done.returncode == 0 and done.stdout.startswith('server 0, ') for done in taken))
+
+
+def without_checkpoints(host, starter, tools, port):
     wrong, seen = session(host, tools, 'card', port, SEED, KILLS, 14 * KILLS, 90)
     each = reported(wrong, seen, PLACES)
     told('every command carried out once, whatever was cut off', wrong)
     count('%d kills or more, each place among them' % KILLS, each)
     if wrong:
-        return
+        return b''
     log = open(seen['card'], 'rb').read()
-    bad, tried = cuts(host, log, 10)
+    bad, tried = cuts(starter, log, 10)
     told('a card cut at each of %d bytes starts with its whole records' % tried, bad)
-    told('a damaged card is refused, and left as it was', refused(host, damaged_logs(log[:whole_records(b'', log)[-1][0]])))
+    log = log[:whole_records(b'', log)[-1][0]]
+    told('a damaged card is refused, and left as it was', refused(starter, damaged_logs(log)))
+    return log
 
 
-def with_checkpoints(host, tools, port):
+def with_checkpoints(host, starter, tools, port):
     wrong, seen = session(host, tools, 'checkpoints', port, SEED + 7, KILLS, 14 * KILLS, 90, size=LIMIT)
     each = reported(wrong, seen, {**PLACES, **STORING})
     told('every command carried out once, with checkpoints made and cut off all the time', wrong)
@@ -278,10 +349,11 @@ def with_checkpoints(host, tools, port):
     checkpoint, log = parts(card)
     ends = whole_records(checkpoint, log)
     told('a card with a checkpoint and %d records behind it' % (len(ends) - 1), wrong or ('' if checkpoint and len(ends) > 3 else 'no such card'))
-    bad, tried = cuts(host, card, 1000)
+    bad, tried = cuts(starter, card, 1000)
     told('it is cut at each of %d bytes behind its checkpoint, and starts with its whole records' % tried, bad)
     cards = damaged_checkpoints(card)
-    told('it is damaged or cut at each of %d bytes: refused, and left as it was' % len(cards), refused(host, cards))
+    told('it is damaged or cut at each of %d bytes: refused, and left as it was' % len(cards), refused(starter, cards))
+    return card
 
 
 RENAME = '    if (rename(card->next_path, card->path)) fail("card: rename");\n'
@@ -293,6 +365,8 @@ RECOVER = 'mantelorris_recover_checkpoint(state, sizeof state, checkpoint, card.
 HEAD = '    write_at(next, head, MANTELORRIS_LOG_HEAD, length);\n'
 STORE, TURN = 'void card_store(struct card *card', 'static void turn(void) {'
 STORED, BEGUN = '    card_store(&card, checkpoint, mantelorris_written(a), head);\n', '    memcpy(log_space, head, sizeof head);\n'
+# a host that ends where it would serve
+STARTS = ['    serve(atoi(argv[2]));\n'], ['    print_state();\n']
 # each with one in how many calls on the card is struck, and the log's limit
 FAULTS = {
     'mark_before_write': (60, 0, ['    card_append(&card, log_space, mark, length);\n', '    waits = 0;\n}'],
@@ -316,13 +390,16 @@ def main():
         subprocess.run(['tools/lib.sh'], stdout=subprocess.DEVNULL, check=True)
     tools = {n: build(['examples/%s.c' % n], n) for n in ('relay', 'desk')}
     tools['hook'] = build(['tests/c/power.c'], 'power.so', ['-shared', '-fPIC', '-ldl'])
-    host = build(HOST, 'host')
+    host, starter = build(HOST, 'host'), changed('starter', *STARTS)
     port = 20000 + SEED % 20000
-    without_checkpoints(host, tools, port)
-    with_checkpoints(host, tools, port + 4)
+    log = without_checkpoints(host, starter, tools, port)
+    card = with_checkpoints(host, starter, tools, port + 4)
+    if log and card:
+        looking(host, tools, port + 8, log, card)
+        swapped(STARTS, log, card)
     for i, (name, (chance, size, old, new)) in enumerate(FAULTS.items()):
         found, tries = '', 0
-        bad_host = faulty(name, old, new)
+        bad_host = changed(name, old, new)
         while not found and tries < 4:
             found, seen = session(bad_host, tools, name + str(tries), port + 10 + 4 * i, SEED + 1000 * tries, 1000, 3000, 20, chance, size)
             tries += 1

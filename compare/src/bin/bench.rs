@@ -550,7 +550,7 @@ impl Both {
     /// The state's test, as a refused sync has it, and a plain pass in C over the same bytes.
     fn passed(&self) -> (f64, f64) {
         let (mut state, mut log) = (self.state.clone(), self.log.clone());
-        let bytes = self.state[..states::STATE_END].to_vec();
+        let bytes = self.state[..states::end(&self.server)].to_vec();
         let call = Call::Sync(0);
         measure(
             1,
@@ -579,7 +579,7 @@ impl Both {
             count as u64,
             || {
                 if restore {
-                    let end = states::STATE_END;
+                    let end = states::end(&self.server);
                     both.state[..end].copy_from_slice(&self.state[..end]);
                 }
                 for call in calls {
@@ -645,7 +645,7 @@ fn calls() {
     rules();
 }
 
-/// The plan is read, and the whole state written.
+/// The plan is read, and the state written up to its first completion record.
 fn founds() {
     let base = Both::new(0, 0, 0);
     row("found", base.times(&[Call::Found(base.plan(), 0)], SPACE));

@@ -104,6 +104,6 @@ fn spoil(random: &mut Random, state: &mut [u8]) {
         1 => state[5 + random.below(3) as usize] = 1,
         2 => state[4] = 16,
         3 => state[12] = 33,
-        _ => state[states::STATE_END - 1] = 0xFF,
+        _ => state[20 + random.below(4) as usize] = 1,
     }
 }

@@ -2,7 +2,7 @@
 //! first walk over each log: random worlds of servers, clients and a lease
 //! manager, with packets late, repeated, astray and damaged, short slices, full
 //! logs, moves and crashes. Each call has the same answer, output, log and state
-//! on both sides, byte by byte.
+//! on both sides, byte by byte, whatever lies behind the last completion record.
 
 mod checkpoints;
 mod logs;
@@ -10,7 +10,7 @@ mod logs;
 use compare::inputs::{self, Tables};
 use compare::kernel::Call;
 use compare::pair::{Lent, Outputs, Pair, FILL};
-use compare::states::{self, POINTS_AT, RECORDS_AT, STATE_END};
+use compare::states::{self, POINTS_AT, RECORDS_AT};
 use compare::tally::{runs, seed, Tally};
 use second::answer::Answer;
 use second::bytes::{get_u32, put_u32};
@@ -29,7 +29,7 @@ const LOG_LEN: usize = 48_000;
 const OUT_LEN: usize = IMAGE_MAX + 8;
 
 /// A call and its number; a number that has several causes by its cause.
-const CLASSES: [&str; 83] = [
+const CLASSES: [&str; 84] = [
     "found: 0",
     "found: 1",
     "found: 2",
@@ -113,6 +113,7 @@ const CLASSES: [&str; 83] = [
     "log end: 0, not recovered",
     "log end: 14",
     "damaged state: 19",
+    "other bytes past the last completion record",
 ];
 
 /// The space for a log: soon full, or never.
@@ -127,8 +128,8 @@ fn room(random: &mut Random) -> usize {
 
 /// Not founded; memory has any content.
 fn pair(random: &mut Random, room: usize) -> Pair {
-    let mut state = vec![states::BEHIND; STATE_LEN];
-    state[..STATE_END].fill_with(|| inputs::byte(random));
+    let mut state = vec![0; STATE_LEN];
+    state.fill_with(|| inputs::byte(random));
     Pair::new(state, vec![FILL; LOG_LEN], room)
 }
 
@@ -662,8 +663,16 @@ impl World {
         tally.meet("damaged state: 19");
     }
 
+    /// What lies past the last completion record changes nothing.
+    fn stir(&mut self, tally: &mut Tally) {
+        let i = self.any();
+        self.pairs[i].stir(&mut self.random);
+        tally.meet("other bytes past the last completion record");
+    }
+
     fn step(&mut self, tally: &mut Tally) {
         match self.random.below(200) {
+            187 | 188 => self.stir(tally),
             180 => self.crash(tally),
             181..=184 => self.damaged_log(tally),
             185 => self.damaged_state(tally),

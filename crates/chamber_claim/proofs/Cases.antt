@@ -126,6 +126,7 @@ cases =
     -- the order: a gate read after the levels asks for the levels again; the latest read counts
     ∷ case (reads 20 300 ∷ reads 21 300 ∷ reads 11 0 ∷ sets 10 50 ∷ []) notSafe
     ∷ case (reads 20 300 ∷ reads 11 0 ∷ reads 21 300 ∷ sets 10 50 ∷ []) notSafe
+    ∷ case (reads 21 300 ∷ reads 11 0 ∷ reads 20 300 ∷ sets 10 50 ∷ []) notSafe
     ∷ case (reads 11 0 ∷ reads 20 300 ∷ reads 21 300 ∷ reads 11 0 ∷ sets 10 50 ∷ []) notSafe
     ∷ case (reads 11 0 ∷ reads 20 300 ∷ reads 21 300 ∷ reads 11 0 ∷ reads 20 300 ∷ reads 21 300 ∷ sets 10 50 ∷ []) noRefusal
     ∷ case (reads 11 0 ∷ reads 20 300 ∷ reads 21 300 ∷ reads 20 400 ∷ sets 10 50 ∷ []) notSafe

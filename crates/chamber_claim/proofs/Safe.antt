@@ -27,12 +27,12 @@ use Rattle.model.specs.Packets.{parsePacket}
 use Rattle.model.specs.Sequential.{Marked, markedBy, OrderEntry, single, one, ReadingZ, Book, resultMeant, opened, answerTo, bookWith, bookAfter}
 use Rattle.claim.specs.World.{Event, outside, issue, after, packet}
 use Rattle.claim.specs.Claim.{Issues, Completes, Executes, SurvivesAt, Explains}
-use Rattle.claim.specs.Fence.{Fenced, Fences}
+use Rattle.claim.specs.Fence.{Fences}
 use Rattle.claim.proofs.Clients.{at-once, issue-one, issue-rises}
 use Rattle.chamber_claim.specs.declared.LockPoints.{LockPoints}
 use Rattle.chamber_claim.specs.Chamber.{isOpening, roleIn, mayOpen, readAt, pointsOk}
 use Rattle.chamber_claim.specs.Lock.{LockEvent, kernel}
-use Rattle.chamber_claim.specs.Safe.{OneClosed, events, lockAt, AtLock, Begins, IsGate, LockProvisos, ChamberSafe}
+use Rattle.chamber_claim.specs.Safe.{OneClosed, events, lockAt, AtLock, Begins, IsGate, FencedOff, LockProvisos, ChamberSafe}
 use Rattle.chamber_claim.proofs.Orders.{Stands, GateOp, place-of, one-command, part-of, is-part, its-commands, before-places, book-step, book-past, answered, other-value, read-opens-none}
 use Rattle.chamber_claim.proofs.Orders.{gate-value, read-value}
 use Rattle.chamber_claim.proofs.Commands.{Gates, up, down, gates-differ, Closed, closed-seen, passed}
@@ -58,7 +58,7 @@ module _ (s : LockPoints) where
   apart ok down e = gates-differ s ok (sym e)
 
 -- an event executes one command
-executes-one : (plan : List ℕ) (es : List Event) (n c d : ℕ) (j m : Marked) → Executes plan es n c j → Executes plan es n d m → j ≡ m
+executes-one : (plan : List ℕ) (es : List Event) (n c d : ℕ) (j m : Marked) → Executes es n c j → Executes es n d m → j ≡ m
 executes-one plan es n c d j m x y =
     let e = at-once plan es n _ _ (x .event) (y .event) in
     let p : x .number ≡ y .number = cc in
@@ -88,21 +88,21 @@ module _ (plan : List ℕ) (s : LockPoints) (ls : List LockEvent) (pr : LockProv
   -- an entry of the order was issued, then executed
   record Ran (m : Marked) : Type 0 where
     time : ℕ
-    survives : SurvivesAt plan es time m
+    survives : SurvivesAt es time m
     event : ℕ
     soon : event < time
-    issues : Issues plan es event (m .command ∷ [])
+    issues : Issues es event (m .command ∷ [])
 
   ran : (k : ℕ) (m : Marked) → Stands order k m → Ran m
   ran k m h =
       let v = explains .survivors (single m) .1 (place-of order k (single m) h) in
       let e = part-of m (v .part) (v .among) in
-      let t : SurvivesAt plan es (v .at) m = subst (SurvivesAt plan es (v .at)) e (v .survives) in
+      let t : SurvivesAt es (v .at) m = subst (SurvivesAt es (v .at)) e (v .survives) in
       let i = fences .issued (v .at) (t .server) m (t .executes) in
       record { time = v .at; survives = t; event = i .0; soon = i .1; issues = i .2 }
 
   -- by `real-time` and `sequence`
-  by-time : (i j n : ℕ) (k m : Marked) → Stands order i k → Stands order j m → Done plan s ls n (k .command) → Issues plan es n (m .command ∷ []) → i < j
+  by-time : (i j n : ℕ) (k m : Marked) → Stands order i k → Stands order j m → Done plan s ls n (k .command) → Issues es n (m .command ∷ []) → i < j
   by-time i j n k m p q d e =
       before-places (explains .once) i j k m p q
       (explains .real-time (d .at) n (single k) (single m) (d .result) (rw (its-commands k) at (d .completes)) (rw (its-commands m) at e) (d .soon) (place-of order i _ p) (place-of order j _ q))
@@ -197,7 +197,7 @@ module _ (plan : List ℕ) (s : LockPoints) (ls : List LockEvent) (pr : LockProv
                   at = r .at;
                   soon = soon;
                   result = one (resultMeant (r .result));
-                  completes = subst (λ (z : Command). Completes plan es (r .at) (z ∷ []) (one (resultMeant (r .result)))) (sym q) (r .completes);
+                  completes = subst (λ (z : Command). Completes es (r .at) (z ∷ []) (one (resultMeant (r .result)))) (sym q) (r .completes);
                 };
           }
 
@@ -230,7 +230,7 @@ module _ (plan : List ℕ) (s : LockPoints) (ls : List LockEvent) (pr : LockProv
             let f = r .fresh in
             omega arith
         later h (inr (inl b)) =
-            let u = issue-one plan es (p .its .event) (m .command) (y .command) (p .its .issues) (subst (λ (z : ℕ). Issues plan es z (y .command ∷ [])) b (q .its .issues)) in
+            let u = issue-one plan es (p .its .event) (m .command) (y .command) (p .its .issues) (subst (λ (z : ℕ). Issues es z (y .command ∷ [])) b (q .its .issues)) in
             apart s (begins-points plan s ls _ _ (p .begins)) (o .gates) (sym (o .on) ∙ ap (λ (z : Command). z .point) u ∙ w .on)
         later h (inr (inr b)) =
             let d = all-done plan s ls pr (q .its .event) (y .command) (q .command .chamber) (q .its .issues) (q .command .there) (p .its .event) (m .command) b (p .its .issues) e in
@@ -246,7 +246,7 @@ module _ (plan : List ℕ) (s : LockPoints) (ls : List LockEvent) (pr : LockProv
             let f = by-time l (r .place) (rr .event) y (r .marked) (w .stands) (r .stands) d (rr .issues) in
             omega arith
         first (inr (inl b)) =
-            not-read (issue-one plan es (rr .event) (r .marked .command) (y .command) (rr .issues) (subst (λ (z : ℕ). Issues plan es z (y .command ∷ [])) b (q .its .issues)))
+            not-read (issue-one plan es (rr .event) (r .marked .command) (y .command) (rr .issues) (subst (λ (z : ℕ). Issues es z (y .command ∷ [])) b (q .its .issues)))
         first (inr (inr b)) = later b (compare (q .its .event) (p .its .event))
 
     -- Y's controller started first: it is fenced off from g' before R was issued
@@ -259,30 +259,30 @@ module _ (plan : List ℕ) (s : LockPoints) (ls : List LockEvent) (pr : LockProv
         go : (q .its .time < rr .time) ⊎ ((q .its .time ≡ rr .time) ⊎ (rr .time < q .its .time)) → ⊥
         go (inl b) = let f = in-sequence l (r .place) y (r .marked) (w .stands) (r .stands) (q .its) rr b on in omega arith
         go (inr (inl b)) =
-            let t = subst (λ (z : ℕ). SurvivesAt plan es z y) b (q .its .survives) in
+            let t = subst (λ (z : ℕ). SurvivesAt es z y) b (q .its .survives) in
             not-read (ap (λ (z : Marked). z .command) (executes-one plan es (rr .time) _ _ (r .marked) y (rr .survives .executes) (t .executes)))
         go (inr (inr b)) =
-            let f = succeeded plan s ls pr (q .start) (p .start) _ _ (q .begins) (p .begins) h in
+            let u = succeeded plan s ls pr (q .start) (p .start) _ _ (q .begins) (p .begins) h g' (gate-is (w .gates)) in
             let a = after-begin plan s ls pr (p .start) (m .command .client) (rr .event) (r .marked .command) (p .begins) (rr .issues, r .by) in
             let c = rr .soon in
-            fences .fence (f .0) (y .command .client) g' (f .2 g' (gate-is (w .gates))) (q .its .time) _ y (omega (arith, f .1)) (q .its .survives .executes) refl (w .on)
+            fences .fence (u .0) (y .command .client) g' (u .2) (q .its .time) _ y (omega (arith, u .1)) (q .its .survives .executes) refl (w .on)
 
     -- O's controller started first: O was executed before Y's controller read g
     fenced-after : p .start < q .start → ⊥
-    fenced-after h = go (ltb (p .its .time) (f .0)) refl
+    fenced-after h = go (ltb (p .its .time) (u .0)) refl
       where
-        f : (n : ℕ) × (n ≤ q .start) × ((z : ℕ) → IsGate plan s ls z → Fenced plan es n (m .command .client) z)
-        f = succeeded plan s ls pr (p .start) (q .start) _ _ (p .begins) (q .begins) h
+        u : FencedOff plan s ls (q .start) (m .command .client) g
+        u = succeeded plan s ls pr (p .start) (q .start) _ _ (p .begins) (q .begins) h g (gate-is (o .gates))
 
-        go : (b : Bool) → ltb (p .its .time) (f .0) ≡ b → ⊥
-        go false e = fences .fence (f .0) (m .command .client) g (f .2 g (gate-is (o .gates))) (p .its .time) _ m (ltb-false _ _ e) (p .its .survives .executes) refl (o .on)
+        go : (b : Bool) → ltb (p .its .time) (u .0) ≡ b → ⊥
+        go false e = fences .fence (u .0) (m .command .client) g (u .2) (p .its .time) _ m (ltb-false _ _ e) (p .its .survives .executes) refl (o .on)
         go true e =
             let t = read-of l y w q in
-            let u = ran (t .place) (t .marked) (t .stands) in
-            let a = after-begin plan s ls pr (q .start) (y .command .client) (u .event) (t .marked .command) (q .begins) (u .issues, t .by) in
-            let b : p .its .time < f .0 = ltb-true _ _ e in
-            let c = u .soon in
-            let d = in-sequence k (t .place) m (t .marked) (o .stands) (t .stands) (p .its) u (omega (arith, f .1)) (o .on ∙ sym (t .on)) in
+            let v = ran (t .place) (t .marked) (t .stands) in
+            let a = after-begin plan s ls pr (q .start) (y .command .client) (v .event) (t .marked .command) (q .begins) (v .issues, t .by) in
+            let b : p .its .time < u .0 = ltb-true _ _ e in
+            let c = v .soon in
+            let d = in-sequence k (t .place) m (t .marked) (o .stands) (t .stands) (p .its) v (omega (arith, u .1)) (o .on ∙ sym (t .on)) in
             let i = by-time (t .place) l (q .its .event) (t .marked) y (t .stands) (w .stands) (t .done) (q .its .issues) in
             omega arith
 

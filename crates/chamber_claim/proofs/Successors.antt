@@ -1,11 +1,12 @@
 -- Controllers of one lock one after another.
 --     begins-points     a controller's points passed the test of start
 --     same-begin        an event starts one controller
+--     fenced-at-start   a successor who starts as the customer says starts as the proviso does
 --     succeeded         who started earlier is fenced off from both gates when the later one starts
 --     issue-by          an issue is another's, or a command of the controller of its client
 --     all-done          when a controller's command is issued, those before it are completed
 -- Assumes nothing.
-use Prim.Native.Nat.{ℕ, zero, suc, _<_, _≤_}
+use Prim.Native.Nat.{ℕ, zero, suc, _<_}
 use mathlib.Core.Path.{_≡_, refl, sym, _∙_, ap, subst}
 use mathlib.Core.Bool.{true}
 use mathlib.Core.List.{List, [], _∷_}
@@ -18,7 +19,6 @@ use Rattle.model.specs.declared.Started.{Started}
 use Rattle.model.specs.declared.Started.the-variants.{NotStarted, Running}
 use Rattle.claim.specs.World.{Event, outside, issue, packet}
 use Rattle.claim.specs.Claim.{Issues}
-use Rattle.claim.specs.Fence.{Fenced}
 use Rattle.claim.specs.Above.{Site}
 use Rattle.claim.proofs.Above.{site-world, site-past}
 use Rattle.claim.proofs.Clients.{issue-is, issuer}
@@ -26,7 +26,7 @@ use Rattle.chamber_claim.specs.declared.LockPoints.{LockPoints}
 use Rattle.chamber_claim.specs.declared.Chamber.{Chamber}
 use Rattle.chamber_claim.specs.Chamber.{pointsOk, startIn}
 use Rattle.chamber_claim.specs.Lock.{LockEvent, kernel, begin, command, again, hear, Lock, withController, startsAs, startsOn, changes, hears, lockAfter, lockProduct}
-use Rattle.chamber_claim.specs.Safe.{events, lockAt, AtLock, Begins, IsGate, LockProvisos}
+use Rattle.chamber_claim.specs.Safe.{events, lockAt, AtLock, Begins, IsGate, FencedOff, FencedAtStart, LockProvisos}
 use Rattle.chamber_claim.proofs.Commands.{started}
 use Rattle.chamber_claim.proofs.Frame.{last-or, world, at-lock-once, lock-after, Commands, issue-from, begins-after}
 use Rattle.chamber_claim.proofs.Controllers.{Done, held, none-open}
@@ -87,38 +87,43 @@ module _ (plan : List ℕ) (s : LockPoints) (ls : List LockEvent) where
           go (inl b) = inl b
           go (inr q) = inr (ap (λ (z : Lock). z .latest) (lock-after plan s ls n o e) ∙ q)
 
-  -- after n events x is fenced off from both gates
-  abbrev FencedOff : ℕ → ℕ → Type 0
-  FencedOff n x = (p : ℕ) → IsGate plan s ls p → Fenced plan es n x p
+  -- the customer's proviso is the case of equality
+  pub fenced-at-start : FencedAtStart plan s ls → (n x y p : ℕ) → Begins plan s ls n y → lock n .latest ≡ some x → IsGate plan s ls p → FencedOff plan s ls n x p
+  fenced-at-start f n x y p b e g = (n, omega arith, f n x y p b e g)
+
+  -- by then x was fenced off from both gates
+  abbrev FromBoth : ℕ → ℕ → Type 0
+  FromBoth n x = (p : ℕ) → IsGate plan s ls p → FencedOff plan s ls n x p
+
+  still : (n x : ℕ) → FromBoth n x → FromBoth (suc n) x
+  still n x f p g = let u = f p g in (u .0, omega (arith, u .1), u .2)
 
   module _ (pr : LockProvisos plan s ls) where
-    latest-or : (b x : ℕ) → Begins plan s ls b x → (n : ℕ) → b < n → (lock n .latest ≡ some x) ⊎ ((m : ℕ) × (m < n) × FencedOff m x)
+    latest-or : (b x : ℕ) → Begins plan s ls b x → (n : ℕ) → b < n → (lock n .latest ≡ some x) ⊎ FromBoth n x
     latest-or b x h zero l = absurd (omega arith)
     latest-or b x h (suc n) l = go (last-or b n l) (λ k. latest-or b x h n k)
       where
-        more : (lock n .latest ≡ some x) ⊎ ((m : ℕ) × (m < n) × FencedOff m x) → (lock (suc n) .latest ≡ some x) ⊎ ((m : ℕ) × (m < suc n) × FencedOff m x)
-        more (inr f) = inr (f .0, omega (arith, f .1), f .2)
+        more : (lock n .latest ≡ some x) ⊎ FromBoth n x → (lock (suc n) .latest ≡ some x) ⊎ FromBoth (suc n) x
+        more (inr f) = inr (still n x f)
         more (inl e) = next (latest-step n)
           where
-            next : ((y : ℕ) × Begins plan s ls n y) ⊎ (lock (suc n) .latest ≡ lock n .latest)
-                → (lock (suc n) .latest ≡ some x) ⊎ ((m : ℕ) × (m < suc n) × FencedOff m x)
-            next (inl y) = inr (n, omega arith, λ p g. pr .successor n x (y .0) p (y .1) e g)
+            next : ((y : ℕ) × Begins plan s ls n y) ⊎ (lock (suc n) .latest ≡ lock n .latest) → (lock (suc n) .latest ≡ some x) ⊎ FromBoth (suc n) x
+            next (inl y) = inr (still n x (λ p g. pr .successor n x (y .0) p (y .1) e g))
             next (inr q) = inl (q ∙ e)
 
-        go : (b < n) ⊎ (b ≡ n) → (b < n → (lock n .latest ≡ some x) ⊎ ((m : ℕ) × (m < n) × FencedOff m x))
-            → (lock (suc n) .latest ≡ some x) ⊎ ((m : ℕ) × (m < suc n) × FencedOff m x)
+        go : (b < n) ⊎ (b ≡ n) → (b < n → (lock n .latest ≡ some x) ⊎ FromBoth n x) → (lock (suc n) .latest ≡ some x) ⊎ FromBoth (suc n) x
         go (inl k) ih = more (ih k)
         go (inr k) ih = inl (subst (λ (z : ℕ). lock (suc z) .latest ≡ some x) k (begins-after plan s ls b x h .1))
 
-    pub succeeded : (a b x y : ℕ) → Begins plan s ls a x → Begins plan s ls b y → a < b → (m : ℕ) × (m ≤ b) × FencedOff m x
+    pub succeeded : (a b x y : ℕ) → Begins plan s ls a x → Begins plan s ls b y → a < b → FromBoth b x
     succeeded a b x y h k l = go (latest-or a x h b l)
       where
-        go : (lock b .latest ≡ some x) ⊎ ((m : ℕ) × (m < b) × FencedOff m x) → (m : ℕ) × (m ≤ b) × FencedOff m x
-        go (inl e) = (b, omega arith, λ p g. pr .successor b x y p k e g)
-        go (inr f) = (f .0, omega (arith, f .1), f .2)
+        go : (lock b .latest ≡ some x) ⊎ FromBoth b x → FromBoth b x
+        go (inl e) = λ p g. pr .successor b x y p k e g
+        go (inr f) = f
 
     -- an issue is another's, or a command of the controller of its client
-    pub issue-by : (n : ℕ) (k : Command) → Issues plan es n (k ∷ [])
+    pub issue-by : (n : ℕ) (k : Command) → Issues es n (k ∷ [])
         → AtLock plan s ls n (kernel (outside (issue (k .client) (k .op) (k .point) (k .argument)))) ⊎ Commands plan s ls n (k .client) (k .op) (k .point) (k .argument)
     issue-by n k i =
         let e = issue-is plan es n k i in
@@ -128,8 +133,8 @@ module _ (plan : List ℕ) (s : LockPoints) (ls : List LockEvent) where
         let a : i .argument ≡ k .argument = ap (λ (z : Command). z .argument) (sym e) in
         issue-from plan s ls n _ _ _ _ (rw (x, o, p, a) at (i .event))
 
-    pub all-done : (n : ℕ) (k : Command) (ch : Chamber) → Issues plan es n (k ∷ []) → lock n .controllers (k .client) ≡ some ch
-        → (j : ℕ) (l : Command) → j < n → Issues plan es j (l ∷ []) → l .client ≡ k .client → Done plan s ls n l
+    pub all-done : (n : ℕ) (k : Command) (ch : Chamber) → Issues es n (k ∷ []) → lock n .controllers (k .client) ≡ some ch
+        → (j : ℕ) (l : Command) → j < n → Issues es j (l ∷ []) → l .client ≡ k .client → Done plan s ls n l
     all-done n k ch i e j l h m q = go (issue-by n k i)
       where
         go : AtLock plan s ls n (kernel (outside (issue (k .client) (k .op) (k .point) (k .argument)))) ⊎ Commands plan s ls n (k .client) (k .op) (k .point) (k .argument) → Done plan s ls n l

@@ -1,7 +1,7 @@
 -- The lock's theorem: for every schedule of kernel calls and controllers' calls under the provisos, and for every order that explains it, at no
 -- place in the order are both gates away from 0. It rests on what `claim` says of the kernel: an order that explains, and the fence.
 -- Assumes nothing.
-use Prim.Native.Nat.{ℕ}
+use Prim.Native.Nat.{ℕ, _≤_}
 use mathlib.Core.Path.{_≡_}
 use mathlib.Core.List.{List, [], _∷_}
 use mathlib.Core.Logic.{_⊎_}
@@ -52,19 +52,28 @@ module _ (plan : List ℕ) (s : LockPoints) (ls : List LockEvent) where
   abbrev pub IsGate : ℕ → Type 0
   IsGate p = (p ≡ s .upper) ⊎ (p ≡ s .lower)
 
+  -- after n events, or at some moment before, client x was fenced off from point p
+  abbrev pub FencedOff : ℕ → ℕ → ℕ → Type 0
+  FencedOff n x p = (m : ℕ) × (m ≤ n) × Fenced plan events m x p
+
   pub record LockProvisos : Type 0 where
     -- demand 3's
     pub kernels : Provisos plan events
     -- "Gate value 0 is closed and is both gates' fallback"
     pub fallback : (p : ℕ) → IsGate p → opened (planOf plan) p .value ≡ pos 0
     -- "provided only this controller commands the gates": what others issue on a gate is a read
-    pub only : (n : ℕ) (e : Event) (k : Command) → AtLock n (kernel e) → Issues plan events n (k ∷ []) → IsGate (k .point) → k .op ≡ readOp
+    pub only : (n : ℕ) (e : Event) (k : Command) → AtLock n (kernel e) → Issues events n (k ∷ []) → IsGate (k .point) → k .op ≡ readOp
     -- a controller's client is called through the controller alone
     pub own-issue : (n x op p a : ℕ) (ch : Chamber) → AtLock n (kernel (outside (issue x op p a))) → lockAt n .controllers x ≡ some ch → ⊥
     pub own-receive : (n x p : ℕ) (ch : Chamber) → AtLock n (kernel (outside (receive x p))) → lockAt n .controllers x ≡ some ch → ⊥
-    -- the next controller starts "with no gate being moved", which a server has open, and once that server has synced a heard time
-    -- "not under that of the old client's notice"
-    pub successor : (n x y p : ℕ) → Begins n y → lockAt n .latest ≡ some x → IsGate p → Fenced plan events n x p
+    -- the next controller starts once the old client was fenced off from each gate, from each at a moment of its own: the fence lasts, and gates may be moved
+    -- from then on
+    pub successor : (n x y p : ℕ) → Begins n y → lockAt n .latest ≡ some x → IsGate p → FencedOff n x p
+
+  -- the customer's proviso, with both moments at the start itself: the next controller starts "with no gate being moved", which a server has open, and once
+  -- that server has synced a heard time "not under that of the old client's notice"
+  abbrev pub FencedAtStart : Type 0
+  FencedAtStart = (n x y p : ℕ) → Begins n y → lockAt n .latest ≡ some x → IsGate p → Fenced plan events n x p
 
 -- the claim, on the kernel's promises alone
 unfoldable pub ChamberSafe : Type 0

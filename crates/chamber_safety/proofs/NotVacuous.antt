@@ -38,23 +38,23 @@ provisos = lock-provisos yardPlan lockPoints 0 noticeNumber handed looks handed-
     fall p (inr z) = rw z (falls-to .1)
 
 -- there is no crash
-stands : (n : ℕ) (k : Command) → Executes yardPlan es n 0 (markedBy today k) → SurvivesAt yardPlan es n (markedBy today k)
+stands : (n : ℕ) (k : Command) → Executes es n 0 (markedBy today k) → SurvivesAt es n (markedBy today k)
 unfolding handed every uncut noCrash
 stands n k e = record { server = 0; executes = e; kept = λ j b h a. absurd (no-crash yardPlan lockPoints handed refl j 0 (a .kept) (a .event)) }
 
-upper-opened : SurvivesAt yardPlan es 32 (markedBy today upperOpened)
+upper-opened : SurvivesAt es 32 (markedBy today upperOpened)
 unfolding handed looks
 upper-opened = stands 32 upperOpened (executes-there yardPlan lockPoints 0 noticeNumber handed looks handed-passes 32 0 13 today lentAll upperOpened refl refl)
 
-lower-opened : SurvivesAt yardPlan es 62 (markedBy today lowerOpened)
+lower-opened : SurvivesAt es 62 (markedBy today lowerOpened)
 unfolding handed looks
 lower-opened = stands 62 lowerOpened (executes-there yardPlan lockPoints 0 noticeNumber handed looks handed-passes 62 0 26 today lentAll lowerOpened refl refl)
 
 pub not-vacuous : LockProvisos yardPlan lockPoints handed
     × Begins yardPlan lockPoints handed 3 1
-    × SurvivesAt yardPlan es 32 (markedBy today upperOpened)
+    × SurvivesAt es 32 (markedBy today upperOpened)
     × Begins yardPlan lockPoints handed 38 3
-    × SurvivesAt yardPlan es 62 (markedBy today lowerOpened)
+    × SurvivesAt es 62 (markedBy today lowerOpened)
 unfolding handed looks
 not-vacuous = (
   provisos,

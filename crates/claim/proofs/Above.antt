@@ -2,15 +2,17 @@
 --     site-world                  the site's world after n events is the kernel's after n events of its schedule
 --     event-there, event-from     event n of the kernel's schedule is the one that the product's event n is, and comes from one
 --     site-step, site-past        a site after one event more, and past the schedule's end
+--     events-first, site-first    of the first k events
 --     quiet-clients               the quiet call changes no client
 -- Assumes nothing.
-use Prim.Native.Nat.{ℕ, zero, suc}
+use Prim.Native.Nat.{ℕ, zero, suc, _≤_}
 use mathlib.Core.Path.{_≡_, refl, sym, _∙_, ap}
 use mathlib.Core.Bool.{Bool, true, false}
 use mathlib.Core.List.{List, [], _∷_}
 use mathlib.Core.Option.{Option, none, some}
 use native.Mathlib.Omega.{arith}
 use lib.ListN.{take, getElem?}
+use lib.Seq.{take-take}
 use lib.Dec.{eqb}
 use borrow.Author.Tests.{eqb-true}
 use Rattle.model.specs.declared.Client.{Client}
@@ -52,6 +54,20 @@ module _ (made : Product) where
   past-from s [] (suc n) e = refl
   past-from s (x ∷ os) zero e = let z : _≡_ {A = ℕ} 0 1 = cc in absurd (omega arith)
   past-from s (x ∷ os) (suc n) e = past-from (stepSite made s x) os n e
+
+  cut-from : (s : Site made) (os : List (made .Outer)) (k : ℕ) → eventsFrom made s (take k os) ≡ take k (eventsFrom made s os)
+  unfolding eventsFrom
+  cut-from s os zero = refl
+  cut-from s [] (suc k) = refl
+  cut-from s (o ∷ os) (suc k) = ap (λ (es : List Event). eventAt made s o ∷ es) (cut-from (stepSite made s o) os k)
+
+  pub events-first : (os : List (made .Outer)) (k : ℕ) → events made (take k os) ≡ take k (events made os)
+  unfolding events
+  events-first = cut-from (emptySite made)
+
+  pub site-first : (os : List (made .Outer)) (k n : ℕ) → n ≤ k → siteAfter made (take k os) n ≡ siteAfter made os n
+  unfolding siteAfter
+  site-first os k n h = ap (runSite made (emptySite made)) (take-take n k os h)
 
   module _ (os : List (made .Outer)) (n : ℕ) where
     pub site-world : siteAfter made os n .world ≡ after (events made os) n

@@ -2,7 +2,9 @@ pub mod Opened
 pub mod Cases
 pub mod Values
 pub mod Above
+pub mod Moments
 pub mod Clients
 pub mod Stored
 pub mod Completed
 pub mod Marks
+pub mod Events

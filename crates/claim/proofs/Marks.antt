@@ -8,5 +8,5 @@ use Rattle.model.specs.Sequential.{Marked, markedBy}
 use Rattle.claim.specs.World.{Event}
 use Rattle.claim.specs.Claim.{Executes}
 
-pub marked-by : (plan : List ℕ) (es : List Event) (n c : ℕ) (m : Marked) (x : Executes plan es n c m) → m ≡ markedBy (x .versions) (x .asked .command)
-marked-by plan es n c m x = sym (x .its)
+pub marked-by : (es : List Event) (n c : ℕ) (m : Marked) (x : Executes es n c m) → m ≡ markedBy (x .versions) (x .asked .command)
+marked-by es n c m x = sym (x .its)

@@ -7,10 +7,11 @@ use Rattle.model.specs.Numbers.{half}
 use Rattle.model.specs.States.{State, pointAt}
 use Rattle.model.specs.Versions.{today}
 use Rattle.model.specs.Sequential.{markedBy, OrderEntry, single, ReadingZ, readingMeant}
+use Rattle.model.specs.Calls.{request, sync}
 use Rattle.model.specs.Yard.{yardPlan}
 use Rattle.claim.specs.World.{open·lease, start, issue}
 use Rattle.claim.specs.Claim.{readingAt}
-use Rattle.claim.specs.RecordWorld.{Event, found, request, sync, recover, crash, outside}
+use Rattle.claim.specs.RecordWorld.{Event, found, call, recover, crash, outside}
 
 -- a client sets point 5 to 40; its record is synced, and the server crashes
 unfoldable pub kept : List Event
@@ -19,8 +20,8 @@ kept =
     ∷ outside (open·lease 0 1000)
     ∷ outside (start 0)
     ∷ outside (issue 1 1 5 (half + 40))
-    ∷ request 0 1 today 100
-    ∷ sync 0 36 100
+    ∷ call 0 (request today 1) 100
+    ∷ call 0 (sync 36) 100
     ∷ crash 0 36
     ∷ []
 

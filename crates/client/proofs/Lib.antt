@@ -1,7 +1,4 @@
 -- Laws that the proofs of `client` cite, and laws of the definitions for other crates.
 pub mod Places
 pub mod Answers
-pub mod Open
-pub mod Kept
-pub mod Bytes
 pub mod Others

@@ -1,20 +1,16 @@
--- The reply of each case, and a command whose op or point is past a byte.
+-- The reply of each case.
 --     reply-none, reply-request      what issue and resend give
 --     lease-none, lease-grant, lease-notice      what the lease manager gives
 --     leases-change                  and what is stored in it
---     command-past, past-byte      such a command is malformed, so issue refuses it with 1
---     both-under     and the test for it
 --     sends-past, sends-change, receives-change      what is stored and replied makes the answer
 --     start-reply    what start gives is made of its numbers
 -- Assumes nothing.
-use mathlib.Core.Path.{_≡_, refl, sym, ap, _∙_}
-use mathlib.Core.Bool.{Bool, true, false, _||_, false≢true}
+use mathlib.Core.Path.{_≡_, refl, ap, _∙_}
+use mathlib.Core.Bool.{true, _||_}
 use mathlib.Core.List.{List}
-use Prim.Native.Nat.{ℕ, _<_}
-use native.Mathlib.Omega.{arith}
+use Prim.Native.Nat.{ℕ}
 use lib.Dec.{ltb}
 use lib.ListN.{length, replicate}
-use borrow.Author.Tests.{ltb-false, le-ltb}
 use Rattle.model.specs.declared.Request.{Request}
 use Rattle.model.specs.declared.Grant.{Grant}
 use Rattle.model.specs.declared.Notice.{Notice}
@@ -29,11 +25,11 @@ use Rattle.model.specs.declared.Packet.the-variants.{Malformed, Requested, Resu
 use Rattle.model.specs.declared.Sent.the-variants.{NotSent, Asked}
 use Rattle.model.specs.declared.Told.the-variants.{NotTold, ByGrant, ByNotice}
 use Rattle.model.specs.Limits.{callWindow, noticeKind, grantKind, requestSize, grantSize, noticeSize}
-use Rattle.model.specs.Packets.{commandOk, requestBytes, grantBytes, noticeBytes}
-use Rattle.model.specs.Clients.{noCall, receiveOf, callAt, withCalls, startNumber, startWith, sendNumber, sentBytes, notSent, issueOf}
+use Rattle.model.specs.Packets.{requestBytes, grantBytes, noticeBytes}
+use Rattle.model.specs.Clients.{noCall, receiveOf, callAt, withCalls, startNumber, startWith, sendNumber, sentBytes, issueOf}
 use Rattle.model.specs.Leases.{toldNumber, toldBytes}
 use Rattle.model.specs.Refusals.{noRefusal, malformed}
-use Rattle.model_laws.proofs.Commands.{CommandParts, command-parts}
+use Rattle.model_laws.proofs.Clients.{past-byte}
 use Rattle.leases.specs.declared.LeaseChange.{LeaseChange}
 use Rattle.leases.specs.Changes.{answered, Changes}
 use Rattle.client.specs.declared.SendChange.{SendChange}
@@ -76,30 +72,6 @@ lease-notice n e = rw e refl
 pub leases-change : (m : LeaseManager) (c : LeaseChange) {a : LeaseAnswer} {r : Leasing} → Changes m c a → r ≡ leasing c → Leases m r a
 unfolding answered
 leases-change m c (under, whole) e = rw e (ap (λ (x : LeaseAnswer). leaseReply (x .answer)) whole, under, ap (λ (x : LeaseAnswer). x .manager) whole)
-
--- ---- an op or a point past a byte
-
-pub command-past : (op point a : ℕ) → (ltb 255 op || ltb 255 point) ≡ true → commandOk op point a ≡ false
-command-past op point a e = go (commandOk op point a) refl
-  where
-    under : CommandParts op point a → (ltb 255 op || ltb 255 point) ≡ false
-    under c = let o = c .op in let p = c .point in rw (le-ltb 255 op (omega arith), le-ltb 255 point (omega arith)) refl
-
-    go : (b : Bool) → commandOk op point a ≡ b → commandOk op point a ≡ false
-    go true f = absurd (false≢true (sym (under (command-parts op point a f)) ∙ e))
-    go false f = f
-
-pub past-byte : (d : Client) (op point a : ℕ) → (ltb 255 op || ltb 255 point) ≡ true → record { client = d; answer = NotSent malformed } ≡ issueOf d op point a
-unfolding issueOf notSent
-past-byte d op point a e = rw (command-past op point a e) refl
-
-pub both-under : (op point : ℕ) → (ltb 255 op || ltb 255 point) ≡ false → (op < 256) × (point < 256)
-both-under op point e = go (ltb 255 op) (ltb 255 point) refl refl e
-  where
-    go : (u v : Bool) → ltb 255 op ≡ u → ltb 255 point ≡ v → (u || v) ≡ false → (op < 256) × (point < 256)
-    go true v p q r = absurd (false≢true (sym r))
-    go false true p q r = absurd (false≢true (sym r))
-    go false false p q r = let h = ltb-false 255 op p in let k = ltb-false 255 point q in (omega arith, omega arith)
 
 -- ---- what is stored and replied
 

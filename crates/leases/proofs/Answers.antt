@@ -4,7 +4,7 @@
 --     grant-bad, grant-refused, grant-out, grant-done      the exits of a grant
 --     open-some, open-none, renew-some, renew-none, query-some, query-none     where some place must be cleared, where none
 --     query-unknown
---     both-fit, all-fit                            what the tests of sums tell
+--     all-fit                                      what the tests of sums tell
 -- Assumes nothing.
 use mathlib.Core.Path.{_≡_, refl, sym, _∙_}
 use mathlib.Core.Bool.{Bool, true, false, _||_}
@@ -25,13 +25,10 @@ use Rattle.model.specs.Limits.{last32, leaseCount}
 use Rattle.leases.specs.declared.LeaseChange.{LeaseChange}
 use Rattle.leases.specs.declared.Holder.{Holder}
 use Rattle.leases.specs.Changes.{leasePlace, keptAt, stored, answered, Changes, noChange, noPlace, notRunning, newHolder, holderOf, grantTo, toldEnd, queryAmong}
-use Rattle.leases.proofs.Places.{or-left, or-right, place-end, place-under, place-full, place-free, place-new, place-extended}
+use Rattle.model_laws.proofs.Tests.{or-left, or-right, both-fit}
+use Rattle.leases.proofs.Places.{place-end, place-under, place-full, place-free, place-new, place-extended}
 
--- neither of two numbers is past k
-pub both-fit : (k a b : ℕ) → (ltb k a || ltb k b) ≡ false → (a ≤ k) × (b ≤ k)
-both-fit k a b e = (ltb-false k a (or-left _ _ e), ltb-false k b (or-right (ltb k a) _ e))
-
--- nor of three
+-- none of three numbers is past k
 pub all-fit : (k a b c : ℕ) → (ltb k a || (ltb k b || ltb k c)) ≡ false → (a ≤ k) × (b ≤ k) × (c ≤ k)
 all-fit k a b c e = let f = both-fit k b c (or-right (ltb k a) _ e) in (ltb-false k a (or-left _ _ e), f .0, f .1)
 

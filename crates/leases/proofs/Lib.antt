@@ -1,5 +1,3 @@
 -- Laws that the proofs of `leases` cite, and laws of the definitions for other crates.
 pub mod Places
 pub mod Answers
-pub mod Lists
-pub mod Kept

@@ -20,6 +20,7 @@ use Rattle.model.specs.declared.Lease.{Lease}
 use Rattle.model.specs.Choice.{pick}
 use Rattle.model.specs.Tables.{every}
 use Rattle.model.specs.Leases.{noLease, endedAt, runningAt, leaseEnd, isTaken, withNewLease, extended}
+use Rattle.model_laws.proofs.Tests.{or-left, or-right}
 use Rattle.leases.specs.Changes.{leasePlace}
 
 -- ---- the running leases
@@ -37,14 +38,6 @@ unfolding runningAt
 run-end now ls out i h p = rw (p, take-all i out h, drop-of-length-le out h, append-nil) refl
 
 -- ---- whether any has ended
-
-pub or-left : (u v : Bool) → (u || v) ≡ false → u ≡ false
-or-left true v q = q
-or-left false v q = refl
-
-pub or-right : (u v : Bool) → (u || v) ≡ false → v ≡ false
-or-right true v q = absurd (false≢true (sym q))
-or-right false v q = q
 
 -- what need not be cleared is left by the clearing
 pub clear-not : (now : ℕ) (l : Lease) {u : Bool} → u ≡ (leb (l .lease) now || eqb (l .client) 0)

@@ -1,2 +1,1 @@
-pub mod WellFormed
 pub mod Changes

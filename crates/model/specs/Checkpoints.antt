@@ -8,7 +8,7 @@ use Prim.Native.Nat.{ℕ, suc, _+_, _-_, _*_, _/_}
 use mathlib.Core.Bool.{Bool, true, false, _&&_, _||_, not}
 use mathlib.Core.List.{List, [], _∷_, _++_, map}
 use mathlib.Core.Option.{Option, none, some}
-use lib.ListN.{length, take, drop}
+use lib.ListN.{length, take, drop, replicate}
 use lib.Dec.{eqb, leb, ltb}
 use Rattle.model.specs.declared.Answer.{Answer}
 use Rattle.model.specs.declared.Place.{Place}
@@ -137,9 +137,9 @@ recordWhole s = take checkpointRecord s ++ le64 headSize
 unfoldable pub fronts : ℕ → ℕ → List ℕ → List (List ℕ)
 fronts w n s = rows (λ r. r) w n s
 
--- the state's 17,704 bytes: length and mark are 8
-unfoldable pub restored : List ℕ → List ℕ
-restored s =
+-- the state's bytes: length and mark are 8
+unfoldable pub restoredBytes : List ℕ → List ℕ
+restoredBytes s =
     stateMagic
     ++ (take 8 (drop 4 s)
     ++ (le32 (clientsOf s)
@@ -150,7 +150,11 @@ restored s =
     ++ (take planSize (drop planPart s)
     ++ (bytesOf pointWhole (fronts checkpointPoint pointCount (drop pointsPart s))
     ++ (padded (take floorRow) floorRow clientCount (fronts floorRow (clientsOf s) (drop clientsPart s))
-    ++ padded recordWhole recordRow recordCount (fronts checkpointRecord (recordsOf s) (drop (recordsPart (clientsOf s)) s)))))))))))
+    ++ bytesOf recordWhole (fronts checkpointRecord (recordsOf s) (drop (recordsPart (clientsOf s)) s)))))))))))
+
+-- in a buffer of zeros, as long as the state's own test asks
+unfoldable pub restored : List ℕ → List ℕ
+restored s = restoredBytes s ++ replicate (recordRow * (recordCount - recordsOf s)) 0
 
 -- 57 4C 47 32, and the pairs: without gaps from byte 44, all within the slice. Bytes past the last part are not read
 unfoldable pub checkpointFramed : List ℕ → Bool
@@ -179,6 +183,7 @@ checkpointState s = pick (checkpointFramed s && sound (restored s)) (some (load 
 pub record AfterCheckpoint : Type 0 where
   pub answer : Answer
   pub state : List ℕ
+  pub log : List ℕ
   pub checkpoint : List ℕ
   pub tail : List ℕ
 
@@ -197,10 +202,11 @@ checkpointOf state log checkpoint tail =
     (record {
       answer = answerOf noRefusal (length (checkpointBytes st));
       state = stored state (rebased st);
+      log = log;
       checkpoint = written checkpoint 0 (checkpointBytes st);
       tail = written tail 0 (headBytes (st .server));
     })
-    (record { answer = answerOf n 0; state = state; checkpoint = checkpoint; tail = tail })
+    (record { answer = answerOf n 0; state = state; log = log; checkpoint = checkpoint; tail = tail })
 
 -- ---- Recover from checkpoint and tail: 2; 14, also for a checkpoint of another server than the tail; else the replay of the tail's whole
 -- records, and the mark is their end
@@ -266,10 +272,12 @@ unfoldable pub latestIn : ℕ → ℕ → List ℕ → ℕ → List ℕ → Plac
 latestIn x c log k [] found = found
 latestIn x c log k (e ∷ es) found = latestIn x c log e es (latestOf x c k (recordAt (drop k log)) found)
 
--- in the checkpoint. The empty one has no entry of a client from 1 on, and the state's completion records are of such clients
+-- in the checkpoint; before the first one that slice is empty
 unfoldable pub placeInCheckpoint : ℕ → ℕ → List ℕ → Place
 placeInCheckpoint x c checkpoint =
-    placeAmong inCheckpoint (recordsPart (clientsOf checkpoint)) checkpointRecord (isId x c) (load (restored checkpoint) .records)
+    pick (leb 1 (length checkpoint))
+    (placeAmong inCheckpoint (recordsPart (clientsOf checkpoint)) checkpointRecord (isId x c) (load (restored checkpoint) .records)
+    (noPlace unknown))
     (noPlace unknown)
 
 -- there is a checkpoint, but no state in it, or that of a server other than the tail's

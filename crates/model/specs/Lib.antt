@@ -16,6 +16,7 @@ pub mod Apply
 pub mod Decisions
 pub mod Operations
 pub mod Checkpoints
+pub mod Calls
 pub mod Clients
 pub mod Leases
 pub mod Letters

@@ -42,7 +42,7 @@ doneOk done call = leb 1 done && (leb done call && leb call (done + lastInWindow
 unfoldable pub commandOk : ℕ → ℕ → ℕ → Bool
 commandOk op point a = argumentOk op a && leb point lastPoint
 
--- outcome 0 to 3, quality 0 or 1
+-- outcome 0 to 4, quality 0 or 1
 unfoldable pub outcomeOk : ℕ → ℕ → Bool
 outcomeOk outcome quality = leb outcome lastOutcome && leb quality lastQuality
 

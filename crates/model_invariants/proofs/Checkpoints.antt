@@ -5,28 +5,28 @@
 --     restored-back, framed-back, checkpoint-back     a checkpoint with any bytes behind it gives the state that it was made of, places aside
 --     checkpoint-length, checkpoint-fits, checkpoint-bytes     its length, and that it is bytes
 -- Assumes nothing.
-use Prim.Native.Nat.{ℕ, _+_, _*_, _≤_, _<_}
+use Prim.Native.Nat.{_-_, ℕ, _+_, _*_, _≤_, _<_}
 use mathlib.Core.Path.{_≡_, refl, sym, _∙_, subst}
 use mathlib.Core.Bool.{Bool, true, false, _&&_, _||_}
-use mathlib.Core.List.{List, [], _∷_, _++_, map, append-nil}
+use mathlib.Core.List.{List, [], _∷_, _++_, map}
 use mathlib.Core.Logic.{_≢_}
 use mathlib.Core.Option.{some}
 use native.Mathlib.Omega.{arith}
-use lib.ListN.{length, getD, length-map, List·getD-map}
+use lib.ListN.{length, getD, replicate, length-append, length-replicate, length-map, List·getD-map}
 use lib.Dec.{eqb, leb, ltb, lit<}
 use borrow.Author.Tests.{eqb-true, ltb-true, leb-true, leb-false, eq-eqb, ne-eqb}
 use Rattle.model.specs.declared.PlanEntry.{PlanEntry}
 use Rattle.model.specs.declared.Point.{Point}
 use Rattle.model.specs.declared.Completion.{Completion}
 use Rattle.model.specs.Choice.{pick}
-use Rattle.model.specs.Limits.{lastPoint, headSize, checkpointSize, checkpointRecord}
+use Rattle.model.specs.Limits.{lastPoint, recordCount, headSize, checkpointSize, checkpointRecord}
 use Rattle.model.specs.Plan.{entryAt}
-use Rattle.model.specs.States.{State, pointAt, noPoint, endsInOrder, stateBytes, load, sound, absent as absentStatus, held as heldStatus, given as givenStatus}
-use Rattle.model.specs.Checkpoints.{placedPoint, placedRecord, placed, endBefore, rebased, recordsPart, checkpointBytes, restored, checkpointFramed, checkpointState}
+use Rattle.model.specs.States.{State, pointAt, noPoint, endsInOrder, stateEnd, recordRow, stateBytes, load, sound, absent as absentStatus, held as heldStatus, given as givenStatus}
+use Rattle.model.specs.Checkpoints.{placedPoint, placedRecord, placed, endBefore, rebased, recordsPart, checkpointBytes, restoredBytes, checkpointFramed, checkpointState}
 use Rattle.model_laws.specs.Bytes.{Bytes, All}
-use Rattle.model_laws.proofs.States.{load-front, sound-front}
+use Rattle.model_laws.proofs.States.{state-length, load-front, sound-front}
 use Rattle.model_laws.proofs.Fronts.{Told}
-use Rattle.model_laws.proofs.Checkpoints.{Restorable, restored-front, is-framed, front-framed, checkpoint-bytes-length, checkpoint-bytes-fit}
+use Rattle.model_laws.proofs.Checkpoints.{Restorable, restored-front, restored-blank, is-framed, front-framed, checkpoint-bytes-length, checkpoint-bytes-fit}
 use Rattle.model_invariants.specs.Sound.{GoodEnd, Standing, GoodPoint, GoodCompletion, Windowed, Keeps, Other, Distinct, Arrived, SoundBy, Sound}
 use Rattle.model_invariants.specs.History.{StartBy}
 use Rattle.model_invariants.proofs.Lists.{all-to, all-image, getD-all}
@@ -335,22 +335,27 @@ module _ (st : State) (S : Sound st) where
         records = ends-before st S;
       }
 
-  pub restored-back : (rest : List ℕ) → restored (checkpointBytes st ++ rest) ≡ stateBytes (rebased st)
+  pub restored-back : (rest : List ℕ) → restoredBytes (checkpointBytes st ++ rest) ≡ stateBytes (rebased st)
   restored-back rest = restored-front st restorable rest
 
   pub framed-back : (rest : List ℕ) → checkpointFramed (checkpointBytes st ++ rest) ≡ true
   framed-back rest = is-framed (checkpointBytes st ++ rest) (front-framed st (fits-of st S) rest)
 
-  pub rebased-bytes : (sound (stateBytes (rebased st)) ≡ true) × (load (stateBytes (rebased st)) ≡ rebased st)
+  abbrev past : List ℕ
+  past = replicate (recordRow * (recordCount - length (st .records))) 0
+
+  pub rebased-bytes : (sound (stateBytes (rebased st) ++ past) ≡ true) × (load (stateBytes (rebased st) ++ past) ≡ rebased st)
   rebased-bytes =
-      let R : Sound (rebased st) = rebased-sound64 st S in (
-        rw append-nil at (sound-front (rebased st) (fits-of (rebased st) R) [] (state-of (rebased st) R)),
-        rw append-nil at (load-front (rebased st) (fits-of (rebased st) R) []),
-      )
+      let R : Sound (rebased st) = rebased-sound64 st S in
+      let n : length (rebased st .records) ≡ length (st .records) = unfold rebased placed in length-map (st .records) (placedRecord endBefore) in
+      let m : length past ≡ recordRow * (recordCount - length (st .records)) = length-replicate (recordRow * (recordCount - length (st .records))) 0 in
+      let long : stateEnd ≤ length (stateBytes (rebased st) ++ past) =
+      omega (arith, length-append (stateBytes (rebased st)) past, state-length (rebased st) (fits-of (rebased st) R), n, S .count, m) in
+      (sound-front (rebased st) (fits-of (rebased st) R) past long (state-of (rebased st) R), load-front (rebased st) (fits-of (rebased st) R) past)
 
   pub checkpoint-back : (rest : List ℕ) → checkpointState (checkpointBytes st ++ rest) ≡ some (rebased st)
   unfolding checkpointState
-  checkpoint-back rest = rw (framed-back rest, restored-back rest, rebased-bytes .0, rebased-bytes .1)
+  checkpoint-back rest = rw (framed-back rest, restored-blank st restorable rest, rebased-bytes .0, rebased-bytes .1)
 
   -- its length, and that it is bytes
   pub checkpoint-length : length (checkpointBytes st) ≡ recordsPart (length (st .floors)) + checkpointRecord * length (st .records)

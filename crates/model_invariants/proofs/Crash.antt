@@ -15,7 +15,6 @@ use native.Mathlib.Omega.{arith}
 use lib.ListN.{length, take, drop, length-append, length-drop}
 use lib.Seq.{take-append-seam, take-append-add}
 use lib.Dec.{leb, ltb}
-use borrow.Author.Tests.{leb-true}
 use Rattle.model.specs.declared.PlanEntry.{PlanEntry}
 use Rattle.model.specs.Numbers.{word, zeros3At, startsWith}
 use Rattle.model.specs.Limits.{headSize, lastServer}
@@ -27,7 +26,7 @@ use Rattle.model.specs.Operations.{recoveredAll, recoveredOn, recoveredState}
 use Rattle.model_laws.specs.Bytes.{Bytes}
 use Rattle.model_laws.specs.OneWalk.{entriesOf}
 use Rattle.model_laws.specs.Fits.{EntryFrom, EntriesFrom, lastEnd, Incomplete, Walked}
-use Rattle.model_laws.proofs.Tests.{joined-all}
+use Rattle.model_laws.proofs.Reflects.{le, flag, facts}
 use Rattle.model_laws.proofs.Logs.{head-server, head-back, head-length, entries-length, from-append, entries-back, entries-take, cut-split, entries-are}
 use Rattle.model_laws.proofs.TwoWalks.{recovered-on, recovered-off}
 use Rattle.model_invariants.specs.Sound.{Sound}
@@ -111,8 +110,7 @@ crash-state plan n s h es c d l =
 
 pub head-limit : (s : List ℕ) → headOk s ≡ true → headServer s ≤ lastServer
 unfolding headOk
-head-limit s e =
-    leb-true _ _ (joined-all (leb headSize (length s) ∷ startsWith s logMagic ∷ leb (headServer s) lastServer ∷ zeros3At s 5 ∷ []) e .1 .1 .0)
+head-limit s e = facts (le headSize (length s) ∷ flag (startsWith s logMagic) ∷ le (headServer s) lastServer ∷ flag (zeros3At s 5) ∷ []) e 2
 
 walked-end : (s : List ℕ) (es : List Entry) → headSize ≤ length s → Walked headSize (drop headSize s) es → lastEnd headSize es ≤ length s
 walked-end s es l w =

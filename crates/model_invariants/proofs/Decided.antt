@@ -32,7 +32,7 @@ use Rattle.model.specs.Choice.{pick, reply, append, marks, _if_else_, passed}
 use Rattle.model.specs.Refusals.{malformed, clientsFull, logFull}
 use Rattle.model.specs.Limits.{lastPoint, clientCount, executedSize, goneSize, giveSize, takeHead, releaseSize}
 use Rattle.model.specs.Tables.{every}
-use Rattle.model.specs.Plan.{entryAt, inRange, noEntry}
+use Rattle.model.specs.Plan.{entryAt, noEntry}
 use Rattle.model.specs.Packets.{resultBytes}
 use Rattle.model.specs.Images.{Image, floorOf, notKnown, imageLength, imageInRange, entryInRange}
 use Rattle.model.specs.Logs.{LogRecord, executed, gone, gave, took, released}
@@ -40,14 +40,14 @@ use Rattle.model.specs.States.{State, pointAt, isHeld, isGiven, isSynced, isId,
 use Rattle.model.specs.Apply.{foundedPoint, founded}
 use Rattle.model.specs.Decisions.{Decided, find, sameCommand, requestRefusal, heldRefusal, onHeld, newRefusal, onNew, onId, executedFor, decideRequest, fetchRefusal, noticeRefusal, decideNotice, placesBad, giveRefusal, onGive, imageRefusal, freeFor, takeRefusal, takeTests, decideTake, receiptRefusal, releaseRefusal, decideRelease, syncRefusal, onSync, resultOfRecord}
 use Rattle.model_laws.specs.Bytes.{All}
-use Rattle.model_laws.proofs.Tests.{and-left, and-right}
+use Rattle.model_laws.proofs.Reflects.{flag, of, both}
 use Rattle.model_laws.proofs.Refused.{unless-passed, unless-does, unless-appends, passing, small-if, other-if, other-test}
-use Rattle.model_invariants.specs.Sound.{GoodValues}
+use Rattle.model_invariants.specs.Sound.{Ranged, GoodValues}
 use Rattle.model_invariants.specs.Passed.{Fresh, Admits, FirstRequest, PassedRequest, PassedGive, FreeFor, PassedTake, PassedRelease}
 use Rattle.model_laws.proofs.Tables.{every-all}
 use Rattle.model_invariants.proofs.Lists.{all-to, impossible}
 use Rattle.model_invariants.proofs.Floors.{eqb-no}
-use Rattle.model_invariants.proofs.Tests.{is-id, id-is, id-not, not-id, in-range}
+use Rattle.model_invariants.proofs.Tests.{is-id, id-is, id-not, not-id, range-says}
 
 -- ---- choices
 
@@ -286,12 +286,10 @@ release-passed st free p m r e =
 pub image-in-range : (e : PlanEntry) (i : Image) → imageInRange e i ≡ true → GoodValues e i
 unfolding imageInRange entryInRange
 image-in-range e i h =
-    record {
-      value = in-range e (i .value) (and-left (inRange e (i .value)) (every (entryInRange e) (i .entries)) h);
-      values =
-          all-to (i .entries) (λ (r : ImageEntry) (k : entryInRange e r ≡ true). in-range e (r .result .value) k)
-          (every-all (entryInRange e) (i .entries) (and-right (inRange e (i .value)) (every (entryInRange e) (i .entries)) h));
-    }
+    let p = both (of (range-says e (i .value))) (flag (every (entryInRange e) (i .entries))) .holds h in
+    let values : All (λ (r : ImageEntry). Ranged e (r .result .value)) (i .entries) =
+    all-to (i .entries) (λ (r : ImageEntry) (k : entryInRange e r ≡ true). range-says e (r .result .value) .holds tt k) (every-all (entryInRange e) (i .entries) (p .1)) in
+    record { value = p .0; values = values }
 
 -- an id held for another point, as a test and as a fact
 one-free : (p : ℕ) (e : ImageEntry) (r : Completion) → (not (isId (e .client) (e .call) r) || eqb (r .command .point) p) ≡ true

@@ -12,7 +12,6 @@ use mathlib.Core.Bool.{true}
 use mathlib.Core.List.{List, [], _∷_}
 use mathlib.Core.Option.{Option, none, some}
 use native.Mathlib.Omega.{arith}
-use lib.Dec.{leb}
 use borrow.Author.Tests.{leb-true, le-leb}
 use Rattle.model.specs.Versions.{Versions}
 use Rattle.model.specs.declared.Executed.{Executed}
@@ -30,12 +29,12 @@ use Rattle.model.specs.States.{State}
 use Rattle.model.specs.Decisions.{imageFor, Decided, orMalformed, decideRequest, denying, onRequest, decideNotice, onNotice, onTake, decideRelease, onRelease}
 use Rattle.model_laws.specs.Bytes.{Bytes}
 use Rattle.model_laws.specs.Fits.{RequestFits, NoticeFits, IsPacket, ExecutedFits, recordFits, recordOk, EntriesFrom, lastEnd}
-use Rattle.model_laws.proofs.Tests.{and-left, and-both}
+use Rattle.model_laws.proofs.Reflects.{le, both}
 use Rattle.model_laws.proofs.Packets.{packet-is, request-of, receipt-of, notice-of}
 use Rattle.model_laws.proofs.Images.{image-is, image-back}
 use Rattle.model_invariants.specs.Sound.{SoundBy, In64, GoodImage, GoodRequest, GoodExecuted, GoodNotice, GoodRecord}
 use Rattle.model_invariants.specs.History.{Decides, byRequest, byNotice, byTake, byRelease, Chained}
-use Rattle.model_invariants.proofs.Tests.{split, command-fits, outcome-fits}
+use Rattle.model_invariants.proofs.Tests.{command-fits, outcome-fits}
 use Rattle.model_invariants.proofs.Steps.{tested}
 use Rattle.model_invariants.proofs.Images.{image-of, image-well, image-fits, image-good}
 
@@ -45,9 +44,7 @@ pub good-record : (r : LogRecord) → recordOk r ≡ true → recordFits r → G
 unfolding noticeOk giveOk releaseOk
 good-record (executed x) h f = record { ok = h; client = f .client; call = f .call; value = f .value }
 good-record (gone n) h f = record { ok = leb-true _ _ h; client = f .client; time = f .time }
-good-record (gave g) h f =
-    let a = split (leb (g .point) lastPoint) (leb (g .destination) lastServer) h in
-    record { point = leb-true _ _ (a .0); destination = leb-true _ _ (a .1); moveNumber = f .moveNumber }
+good-record (gave g) h f = let a = both (le (g .point) lastPoint) (le (g .destination) lastServer) .holds h in record { point = a .0; destination = a .1; moveNumber = f .moveNumber }
 good-record (took i) h f = image-of i h f
 good-record (released r) h f = record { point = leb-true _ _ h; moveNumber = f .moveNumber }
 
@@ -73,7 +70,7 @@ unfolding noticeOk giveOk releaseOk
 record-good (executed x) g = (g .ok, executed-fits x g)
 record-good (gone n) g = (le-leb _ _ (g .ok), record { client = g .client; time = g .time })
 record-good (gave x) g = (
-  and-both (leb (x .point) lastPoint) (leb (x .destination) lastServer) (le-leb _ _ (g .point)) (le-leb _ _ (g .destination)),
+  both (le (x .point) lastPoint) (le (x .destination) lastServer) .passes (g .point, g .destination),
   record { point = omega (arith, g .point); destination = omega (arith, g .destination); moveNumber = g .moveNumber },
 )
 record-good (took i) g = (image-well i g, image-fits i g)
@@ -98,7 +95,7 @@ pub parsed-receipt : (b : List ℕ) (r : Receipt) → Bytes b → parsePacket b 
 unfolding receiptOk
 parsed-receipt b r h e =
     let p : IsPacket b (Receipted r) = packet-is b h (Receipted r) e (λ k. let z : _≡_ {A = ℕ} 0 1 = cc in omega arith) in
-    leb-true _ _ (and-left (leb (r .point) lastPoint) (leb (r .server) lastServer) (p .ok))
+    both (le (r .point) lastPoint) (le (r .server) lastServer) .holds (p .ok) .0
 
 pub parsed-image : (b : List ℕ) (i : Image) → Bytes b → parseImage b ≡ some i → GoodImage i
 parsed-image b i h e = let p = image-is b h i e in image-of i (p .ok) (p .fits)

@@ -1,6 +1,6 @@
 -- Images: the tests against their propositions, and the image of a sound state's given point.
 --     before, before-test                idBefore;    entries-ascend, ascend-entries: idsAscend
---     good-image-entry, image-entry-good     imageEntryOk
+--     image-entry-fits                   what imageEntryOk says, fits
 --     image-of, image-well, image-fits   a well-formed image that fits is GoodImage
 --     sort-all, sort-length, sort-ascending     sortEntries
 --     image-good                         the image of a point of a sound state is well formed, its values in range
@@ -13,8 +13,8 @@ use mathlib.Core.List.{List, [], _∷_, map}
 use mathlib.Core.Logic.{_≢_}
 use native.Mathlib.Omega.{arith}
 use lib.ListN.{length, length-map}
-use lib.Dec.{eqb, leb, ltb}
-use borrow.Author.Tests.{eqb-true, ltb-true, ltb-false, leb-true, eq-eqb, lt-ltb, le-leb}
+use lib.Dec.{eqb, ltb}
+use borrow.Author.Tests.{eqb-true, ltb-true, ltb-false}
 use Rattle.model.specs.declared.Floor.{Floor}
 use Rattle.model.specs.declared.Completion.{Completion}
 use Rattle.model.specs.declared.ImageEntry.{ImageEntry}
@@ -23,46 +23,45 @@ use Rattle.model.specs.Tables.{every, keep}
 use Rattle.model.specs.Limits.{lastPoint, lastServer, lastQuality, clientCount, greatestImage}
 use Rattle.model.specs.Plan.{entryAt}
 use Rattle.model.specs.Packets.{commandOk, outcomeOk, idOk}
-use Rattle.model.specs.Images.{Image, floorOf, inWindow, clientsAscend, idBefore, idsAscend, floorOk, imageEntryOk, imageHeadOk, imageTablesOk, imageLength}
+use Rattle.model.specs.Images.{Image, floorOf, clientsAscend, idBefore, idsAscend, floorOk, imageEntryOk, imageHeadOk, imageTablesOk, imageLength}
 use Rattle.model.specs.States.{State, pointAt}
 use Rattle.model.specs.Apply.{takenRecord}
 use Rattle.model.specs.Decisions.{isOnPoint, entryOfRecord, insertEntry, sortEntries, imageFor}
-use Rattle.model_laws.specs.Bytes.{All, joined}
+use Rattle.model_laws.specs.Bytes.{All}
 use Rattle.model_laws.specs.Fits.{ImageEntryFits, ImageFits, imageHead, imageWell}
-use Rattle.model_laws.proofs.Tests.{and-both, joined-all, all-joined}
+use Rattle.model_laws.proofs.Tests.{and-both}
+use Rattle.model_laws.proofs.Reflects.{Reflects, Test, le, lt, eq, flag, of, both, facts, passed, reflects, rows-hold, rows-pass, choose-or}
 use Rattle.model_invariants.specs.Sound.{GoodEntry, Ranged, GoodPoint, GoodCompletion, Windowed, Distinct, SoundBy, Before, EntriesAscending, GoodImageEntry, GoodImage, GoodValues}
-use Rattle.model_laws.proofs.Tables.{all-keep, every-all, all-every, length-keep}
+use Rattle.model_laws.proofs.Tables.{all-keep, length-keep}
 use Rattle.model_invariants.proofs.Lists.{all-to, all-with, all-image, keep-passes}
 use Rattle.model_invariants.proofs.Floors.{eqb-no}
 use Rattle.model_invariants.proofs.Count.{distinct-keep, windows-few}
-use Rattle.model_invariants.proofs.Tests.{sound-entry, split, in-window, window-in, good-floor, floor-good, floor-fits, command-fits, outcome-fits, ascends, ascend-test}
+use Rattle.model_invariants.proofs.Tests.{sound-entry, split, window-says, floor-says, floor-fits, command-fits, outcome-fits, ascends, ascend-test}
 use Rattle.model_invariants.proofs.Steps.{taken-distinct}
 
 -- ---- the order of ids
 
-pub before : (e f : ImageEntry) → idBefore (e .client) (e .call) (f .client) (f .call) ≡ true → Before e f
+before-says : (e f : ImageEntry) → Reflects Unit (idBefore (e .client) (e .call) (f .client) (f .call)) (Before e f)
 unfolding idBefore
-before e f h = go (ltb (e .client) (f .client)) refl h
-  where
-    go : (b : Bool) → ltb (e .client) (f .client) ≡ b → (b || (eqb (e .client) (f .client) && ltb (e .call) (f .call))) ≡ true → Before e f
-    go true q k =
-        let l : e .client < f .client = ltb-true _ _ q in
-        record { client = omega arith; call = λ (c : e .client ≡ f .client). absurd (omega arith) }
-    go false q k =
-        let a = split (eqb (e .client) (f .client)) (ltb (e .call) (f .call)) k in
-        let c : e .client ≡ f .client = eqb-true _ _ (a .0) in
-        record { client = omega arith; call = λ (d : e .client ≡ f .client). ltb-true _ _ (a .1) }
+before-says e f =
+    let same = eqb (e .client) (f .client) && ltb (e .call) (f .call) in
+    record {
+      holds = λ u. choose-or (λ t. t ≡ true → Before e f) (ltb (e .client) (f .client)) same
+          (λ q h. let l : e .client < f .client = ltb-true _ _ q in record { client = omega arith; call = λ (c : e .client ≡ f .client). absurd (omega arith) })
+          (λ q h.
+          let p = both (eq (e .client) (f .client)) (lt (e .call) (f .call)) .holds h in
+          record { client = omega (arith, p .0); call = λ (c : e .client ≡ f .client). p .1 });
+      passes = λ b. choose-or (λ t. t ≡ true) (ltb (e .client) (f .client)) same (λ q. refl)
+          (λ q.
+          let c : e .client ≡ f .client = omega (arith, b .client, ltb-false (e .client) (f .client) q) in
+          both (eq (e .client) (f .client)) (lt (e .call) (f .call)) .passes (c, b .call c));
+    }
+
+pub before : (e f : ImageEntry) → idBefore (e .client) (e .call) (f .client) (f .call) ≡ true → Before e f
+before e f h = before-says e f .holds tt h
 
 pub before-test : (e f : ImageEntry) → Before e f → idBefore (e .client) (e .call) (f .client) (f .call) ≡ true
-unfolding idBefore
-before-test e f b = go (ltb (e .client) (f .client)) refl
-  where
-    go : (t : Bool) → ltb (e .client) (f .client) ≡ t → (t || (eqb (e .client) (f .client) && ltb (e .call) (f .call))) ≡ true
-    go true q = refl
-    go false q =
-        let l : f .client ≤ e .client = ltb-false _ _ q in
-        let c : e .client ≡ f .client = omega (arith, b .client) in
-        and-both (eqb (e .client) (f .client)) (ltb (e .call) (f .call)) (eq-eqb _ _ c) (lt-ltb _ _ (b .call c))
+before-test e f b = before-says e f .passes b
 
 -- another id
 abbrev OtherEntry : ImageEntry → ImageEntry → Type 0
@@ -114,40 +113,24 @@ ascend-entries (e ∷ (f ∷ fs)) a =
 
 -- ---- tables
 
-pub good-image-entry : (p : ℕ) (fs : List Floor) (e : ImageEntry) → imageEntryOk p fs e ≡ true
-    → ImageEntryFits e → GoodImageEntry p fs e
+image-entry-says : (p : ℕ) (fs : List Floor) (e : ImageEntry) → Reflects (ImageEntryFits e) (imageEntryOk p fs e) (GoodImageEntry p fs e)
 unfolding imageEntryOk idOk
-good-image-entry p fs e h f =
-    let c = commandOk (e .op) p (e .argument) in
-    let o = outcomeOk (e .result .outcome) (e .result .quality) in
-    let i = leb 1 (e .client) && leb 1 (e .call) in
-    let w = inWindow (floorOf (e .client) fs) (e .call) in
-    let k1 = split c (o && (i && w)) h in
-    let k2 = split o (i && w) (k1 .1) in
-    let k3 = split i w (k2 .1) in
-    let j = split (leb 1 (e .client)) (leb 1 (e .call)) (k3 .0) in
+image-entry-says p fs e =
+    reflects
+    (flag (commandOk (e .op) p (e .argument)) ∷ flag (outcomeOk (e .result .outcome) (e .result .quality)) ∷ both (le 1 (e .client)) (le 1 (e .call))
+    ∷ of (window-says (floorOf (e .client) fs) (e .call)) ∷ [])
+    (λ f q.
     record {
-      command = k1 .0;
-      outcome = k2 .0;
-      client = leb-true _ _ (j .0);
-      call = leb-true _ _ (j .1);
+      command = q 0;
+      outcome = q 1;
+      client = q 2 .0;
+      call = q 2 .1;
       client-fits = f .client;
       call-fits = f .call;
       value-fits = f .value;
-      window = in-window (floorOf (e .client) fs) (e .call) (k3 .1);
-    }
-
-pub image-entry-good : (p : ℕ) (fs : List Floor) (e : ImageEntry) → GoodImageEntry p fs e → imageEntryOk p fs e ≡ true
-unfolding imageEntryOk idOk
-image-entry-good p fs e g =
-    let c = commandOk (e .op) p (e .argument) in
-    let o = outcomeOk (e .result .outcome) (e .result .quality) in
-    let i = leb 1 (e .client) && leb 1 (e .call) in
-    let w = inWindow (floorOf (e .client) fs) (e .call) in
-    and-both c (o && (i && w)) (g .command)
-    (and-both o (i && w) (g .outcome)
-    (and-both i w (and-both (leb 1 (e .client)) (leb 1 (e .call)) (le-leb _ _ (g .client)) (le-leb _ _ (g .call)))
-    (window-in (floorOf (e .client) fs) (e .call) (g .window))))
+      window = q 3;
+    })
+    (λ g k. k (g .command) (g .outcome) (g .client, g .call) (g .window))
 
 pub image-entry-fits : (p : ℕ) (fs : List Floor) (e : ImageEntry) → GoodImageEntry p fs e → ImageEntryFits e
 image-entry-fits p fs e g =
@@ -172,54 +155,38 @@ entries-few p fs es h a =
     = all-image (Windowed fs) (takenRecord 0 0) es (all-to es (λ (e : ImageEntry) (g : GoodImageEntry p fs e). g .window) h) in
     omega (arith, windows-few fs rs w (taken-distinct 0 0 es a), length-map es (takenRecord 0 0))
 
--- the tests of a head
-record Headed (i : Image) : Type 0 where
-  point : i .point ≤ lastPoint
-  destination : i .destination ≤ lastServer
-  source : i .source ≤ lastServer
-  quality : i .quality ≤ lastQuality
-  clients : length (i .floors) ≤ clientCount
+-- the tests of a head and of the tables
+abbrev headTests : Image → List Test
+headTests i =
+    le (i .point) lastPoint ∷ le (i .destination) lastServer ∷ le (i .source) lastServer ∷ le (i .quality) lastQuality ∷ le (length (i .floors)) clientCount ∷ []
 
-headed : (i : Image) → imageHeadOk (imageHead i) ≡ true → Headed i
-unfolding imageHeadOk imageHead
-headed i h =
-    let t =
-    joined-all
-    (leb (i .point) lastPoint ∷ leb (i .destination) lastServer ∷ leb (i .source) lastServer ∷ leb (i .quality) lastQuality ∷ leb (length (i .floors)) clientCount ∷ [])
-    h in
-    record {
-      point = leb-true _ _ (t .0);
-      destination = leb-true _ _ (t .1 .0);
-      source = leb-true _ _ (t .1 .1 .0);
-      quality = leb-true _ _ (t .1 .1 .1 .0);
-      clients = leb-true _ _ (t .1 .1 .1 .1 .0);
-    }
+abbrev tableTests : Image → List Test
+tableTests i =
+    flag (every floorOk (i .floors)) ∷ flag (clientsAscend (i .floors)) ∷ flag (every (imageEntryOk (i .point) (i .floors)) (i .entries)) ∷ flag (idsAscend (i .entries)) ∷ []
+
+abbrev imageTests : Image → List Test
+imageTests i = flag (imageHeadOk (imageHead i)) ∷ le (imageLength i) greatestImage ∷ flag (imageTablesOk i) ∷ []
 
 pub image-of : (i : Image) → imageWell i ≡ true → ImageFits i → GoodImage i
-unfolding imageWell imageTablesOk
+unfolding imageWell imageTablesOk imageHeadOk imageHead
 image-of i h F =
-    let c1 = every floorOk (i .floors) in
-    let c2 = clientsAscend (i .floors) in
-    let c3 = every (imageEntryOk (i .point) (i .floors)) (i .entries) in
-    let c4 = idsAscend (i .entries) in
-    let w = joined-all (imageHeadOk (imageHead i) ∷ leb (imageLength i) greatestImage ∷ (c1 && (c2 && (c3 && c4))) ∷ []) h in
-    let t = joined-all (c1 ∷ c2 ∷ c3 ∷ c4 ∷ []) (w .1 .1 .0) in
-    let H = headed i (w .0) in
-    let entries : All (GoodImageEntry (i .point) (i .floors)) (i .entries)
-    = all-with (i .entries) (good-image-entry (i .point) (i .floors)) (every-all (imageEntryOk (i .point) (i .floors)) (i .entries) (t .1 .1 .0)) (F .entries) in
-    let ids : EntriesAscending (i .entries) = entries-ascend (i .entries) (t .1 .1 .1 .0) in
+    let w = facts (imageTests i) h in
+    let p = facts (headTests i) (w 0) in
+    let t = facts (tableTests i) (w 2) in
+    let entries : All (GoodImageEntry (i .point) (i .floors)) (i .entries) = rows-hold (image-entry-says (i .point) (i .floors)) (i .entries) (F .entries) (t 2) in
+    let ids : EntriesAscending (i .entries) = entries-ascend (i .entries) (t 3) in
     record {
-      point = H .point;
-      destination = H .destination;
-      source = H .source;
-      quality = H .quality;
+      point = p 0;
+      destination = p 1;
+      source = p 2;
+      quality = p 3;
       moveNumber = F .moveNumber;
       heard = F .heard;
       value = F .value;
-      clients = H .clients;
-      floors = all-with (i .floors) good-floor (every-all floorOk (i .floors) (t .0)) (F .floors);
-      ascending = ascends (i .floors) (t .1 .0);
-      count = omega (arith, entries-few (i .point) (i .floors) (i .entries) entries ids, H .clients);
+      clients = p 4;
+      floors = rows-hold floor-says (i .floors) (F .floors) (t 0);
+      ascending = ascends (i .floors) (t 1);
+      count = omega (arith, entries-few (i .point) (i .floors) (i .entries) entries ids, p 4);
       entries = entries;
       ids = ids;
     }
@@ -231,31 +198,9 @@ image-short i G = omega (arith, G .clients, G .count)
 pub image-well : (i : Image) → GoodImage i → imageWell i ≡ true
 unfolding imageWell imageTablesOk imageHeadOk imageHead
 image-well i G =
-    let c1 = every floorOk (i .floors) in
-    let c2 = clientsAscend (i .floors) in
-    let c3 = every (imageEntryOk (i .point) (i .floors)) (i .entries) in
-    let c4 = idsAscend (i .entries) in
-    let head = leb (i .point) lastPoint ∷ leb (i .destination) lastServer ∷ leb (i .source) lastServer ∷ leb (i .quality) lastQuality ∷ leb (length (i .floors)) clientCount ∷ [] in
-    all-joined (joined head ∷ leb (imageLength i) greatestImage ∷ (c1 && (c2 && (c3 && c4))) ∷ []) (
-      all-joined head
-          (le-leb _ _ (G .point), (le-leb _ _ (G .destination), (le-leb _ _ (G .source), (le-leb _ _ (G .quality), (le-leb _ _ (G .clients), tt))))),
-      (
-        le-leb _ _ (image-short i G),
-        (
-          all-joined (c1 ∷ c2 ∷ c3 ∷ c4 ∷ []) (
-            all-every floorOk (i .floors) (all-to (i .floors) floor-good (G .floors)),
-            (
-              ascend-test (i .floors) (G .ascending),
-              (
-                all-every (imageEntryOk (i .point) (i .floors)) (i .entries) (all-to (i .entries) (image-entry-good (i .point) (i .floors)) (G .entries)),
-                (ascend-entries (i .entries) (G .ids), tt),
-              ),
-            ),
-          ),
-          tt,
-        ),
-      ),
-    )
+    passed (imageTests i) (passed (headTests i) (G .point) (G .destination) (G .source) (G .quality) (G .clients)) (image-short i G)
+    (passed (tableTests i) (rows-pass floor-says (i .floors) (G .floors)) (ascend-test (i .floors) (G .ascending))
+    (rows-pass (image-entry-says (i .point) (i .floors)) (i .entries) (G .entries)) (ascend-entries (i .entries) (G .ids)))
 
 pub image-fits : (i : Image) → GoodImage i → ImageFits i
 image-fits i G =

@@ -27,7 +27,7 @@ use Rattle.model.specs.declared.Release.{Release}
 use Rattle.model.specs.declared.Completion.{Completion}
 use Rattle.model.specs.Choice.{pick, append, marks, isPassed}
 use Rattle.model.specs.Limits.{lastPoint, lastServer, headSize, executedSize, giveSize, takeHead, releaseSize, invalid}
-use Rattle.model.specs.Plan.{entryAt, noEntry, inRange}
+use Rattle.model.specs.Plan.{entryAt, noEntry}
 use Rattle.model.specs.Rules.{argumentOk}
 use Rattle.model.specs.Packets.{commandOk, outcomeOk, idOk, doneOk, requestOk}
 use Rattle.model.specs.Images.{Image, imageLength, floorOf}
@@ -38,14 +38,15 @@ use Rattle.model.specs.Apply.{applyRecord, applyExecuted, applyGone, applyGave,
 use Rattle.model.specs.Decisions.{find, requestRefusal, newRefusal, resultFor, executedFor, decideRequest, decideNotice, placesBad, giveRefusal, onGive, takeTests, decideTake, releaseRefusal, decideRelease, onSync, isNone, follows}
 use Rattle.model_laws.specs.Bytes.{All}
 use Rattle.model_laws.proofs.Tests.{and-both}
+use Rattle.model_laws.proofs.Reflects.{eq, flag, of, both, facts}
 use Rattle.model_laws.proofs.Commands.{command-parts}
-use Rattle.format_commands.specs.Results.{ResultOk}
-use Rattle.format_commands.proofs.Range.{rule-in-range}
+use Rattle.model_laws.specs.Results.{ResultOk}
+use Rattle.model_laws.proofs.Range.{rule-in-range}
 use Rattle.model_invariants.specs.Sound.{GoodEntry, Ranged, GoodPoint, SoundBy, Sound, GoodRequest, GoodExecuted, GoodRecord}
 use Rattle.model_invariants.specs.Passed.{PassedRequest, PassedGive, PassedTake, PassedRelease}
 use Rattle.model_invariants.specs.History.{GoodPlan, StartBy, Start, Decides, byRequest, byNotice, byGive, byTake, byRelease}
 use Rattle.model_invariants.proofs.Floors.{eqb-same, eqb-no}
-use Rattle.model_invariants.proofs.Tests.{sound-entry, split, entry-good, in-range, range-in}
+use Rattle.model_invariants.proofs.Tests.{sound-entry, split, entry-good, range-says}
 use Rattle.model_invariants.proofs.Steps.{sound-executed, sound-gone, sound-gave, sound-took, sound-released, sound-mark}
 use Rattle.model_invariants.proofs.Decided.{find-fresh, request-tests, new-tests, give-tests, take-tests, release-tests, request-again, new-again, notice-again, give-again, take-again, release-again, Requested, requested, requested-appends, request-passed, request-terms, notice-passed, give-passed, take-passed, release-passed, sync-passed}
 
@@ -159,24 +160,20 @@ executed-follows st x h =
     let first : ℕ = requestRefusal (pointAt st (x .command .point)) false f (x .command .call) in
     let second : ℕ = newRefusal f (length (st .floors)) executedSize in
     let free : Bool = isNone (find (x .command .client) (x .command .call) (st .records)) in
-    let ranged : Bool = inRange (entryAt (st .plan) (x .command .point)) (x .result .value) in
-    let k = split (isPassed first) (free && (isPassed second && ranged)) h in
-    let l = split free (isPassed second && ranged) (k .1) in
-    let m = split (isPassed second) ranged (l .1) in
-    let a = request-tests (pointAt st (x .command .point)) false f (x .command .call) (is-zero first (k .0)) in
-    let n = find-fresh (x .command .client) (x .command .call) (st .records) (none-is (find (x .command .client) (x .command .call) (st .records)) (l .0)) in
-    let p = new-tests f (length (st .floors)) executedSize (is-zero second (m .0)) in
-    (record { held = a .0; over = a .2; fresh = n; place = p .0 }, in-range (entryAt (st .plan) (x .command .point)) (x .result .value) (m .1))
+    let t = facts
+    (flag (isPassed first) ∷ flag free ∷ flag (isPassed second) ∷ of (range-says (entryAt (st .plan) (x .command .point)) (x .result .value)) ∷ []) h in
+    let a = request-tests (pointAt st (x .command .point)) false f (x .command .call) (is-zero first (t 0)) in
+    let n = find-fresh (x .command .client) (x .command .call) (st .records) (none-is (find (x .command .client) (x .command .call) (st .records)) (t 1)) in
+    let p = new-tests f (length (st .floors)) executedSize (is-zero second (t 2)) in
+    (record { held = a .0; over = a .2; fresh = n; place = p .0 }, t 3)
 
 pub gave-follows : (st : State) (g : Give) → follows st (gave g) ≡ true
     → PassedGive st (g .point) (g .destination) × (g .moveNumber ≡ suc (pointAt st (g .point) .moveNumber))
 unfolding follows
 gave-follows st g h =
     let n : ℕ = giveRefusal (pointAt st (g .point)) (st .server) giveSize (g .destination) in
-    let e : Bool = eqb (g .moveNumber) (suc (pointAt st (g .point) .moveNumber)) in
-    let k = split (not (placesBad (g .point) (g .destination))) (isPassed n && e) h in
-    let l = split (isPassed n) e (k .1) in
-    (give-tests st giveSize (g .point) (g .destination) (not-true _ (k .0)) (is-zero n (l .0)) .0, eqb-true _ _ (l .1))
+    let t = facts (flag (not (placesBad (g .point) (g .destination))) ∷ flag (isPassed n) ∷ eq (g .moveNumber) (suc (pointAt st (g .point) .moveNumber)) ∷ []) h in
+    (give-tests st giveSize (g .point) (g .destination) (not-true _ (t 0)) (is-zero n (t 1)) .0, t 2)
 
 pub took-follows : (st : State) (i : Image) → follows st (took i) ≡ true → PassedTake st i
 unfolding follows
@@ -187,8 +184,8 @@ pub released-follows : (st : State) (r : Release) → follows st (released r) �
 unfolding follows
 released-follows st r h =
     let n : ℕ = releaseRefusal (pointAt st (r .point)) releaseSize (r .moveNumber) in
-    let k = split (isPassed n) (eqb (r .moveNumber) (pointAt st (r .point) .moveNumber)) h in
-    (release-tests st releaseSize (r .point) (r .moveNumber) (is-zero n (k .0)) .0, eqb-true _ _ (k .1))
+    let t = both (flag (isPassed n)) (eq (r .moveNumber) (pointAt st (r .point) .moveNumber)) .holds h in
+    (release-tests st releaseSize (r .point) (r .moveNumber) (is-zero n (t .0)) .0, t .1)
 
 pub follows-sound : {P : ℕ → Type 0} (st : State) (r : LogRecord) → SoundBy P st → GoodRecord r → follows st r ≡ true → P (st .size + recordSize r)
     → SoundBy P (applyRecord r (st .size + recordSize r) st)
@@ -223,7 +220,7 @@ result-good v st q S G =
     let e = entryAt (st .plan) (q .command .point) in
     let P : GoodPoint (st .server) (st .size) e x = S .point (q .command .point) (A .point) in
     rule-in-range e (q .command .op) (q .command .argument) (record { value = x .value; quality = x .quality })
-    (entry-good e (sound-entry st S (q .command .point) (A .point))) (range-in e (x .value) (P .value)) (P .quality) (A .argument) (v (q .command .op))
+    (entry-good e (sound-entry st S (q .command .point) (A .point))) (range-says e (x .value) .passes (P .value)) (P .quality) (A .argument) (v (q .command .op))
 
 request-good : {P : ℕ → Type 0} (v : Versions) (st : State) (q : Request) → SoundBy P st → GoodRequest q → GoodExecuted (executedFor v st q)
 unfolding executedFor executedOk

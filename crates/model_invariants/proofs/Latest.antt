@@ -13,7 +13,7 @@ use mathlib.Core.Option.{some}
 use native.Mathlib.Omega.{arith}
 use lib.ListN.{length, length-append}
 use lib.Dec.{eqb, ltb}
-use borrow.Author.Tests.{eqb-true, ltb-true, lt-ltb, not-true, eq-eqb}
+use borrow.Author.Tests.{ltb-true, lt-ltb, not-true}
 use Rattle.model.specs.declared.Completion.{Completion}
 use Rattle.model.specs.declared.ImageEntry.{ImageEntry}
 use Rattle.model.specs.declared.Executed.{Executed}
@@ -29,7 +29,7 @@ use Rattle.model.specs.Decisions.{follows, entryOfRecord}
 use Rattle.model.specs.Checkpoints.{inRecord, inImage, placeAt, indexOf, placeAmong, isEntryId, latestOf}
 use Rattle.model_laws.specs.Bytes.{All}
 use Rattle.model_laws.specs.Fits.{EntriesFrom, lastEnd}
-use Rattle.model_laws.proofs.Tests.{and-left, and-right, and-both}
+use Rattle.model_laws.proofs.Reflects.{eq, both}
 use Rattle.model_laws.proofs.Tables.{all-member, keep-member, every-member, every-keep}
 use Rattle.model_invariants.specs.Sound.{GoodRecord, Before, EntriesAscending}
 use Rattle.model_invariants.specs.Passed.{FreeFor}
@@ -123,14 +123,11 @@ found-more start first es e r p (inTake a b i s f c u v t n q) =
 
 entry-id : (x c : ℕ) (e : ImageEntry) → isEntryId x c e ≡ true → (e .client ≡ x) × (e .call ≡ c)
 unfolding isEntryId
-entry-id x c e h = (
-  eqb-true _ _ (and-left (eqb (e .client) x) (eqb (e .call) c) h),
-  eqb-true _ _ (and-right (eqb (e .client) x) (eqb (e .call) c) h),
-)
+entry-id x c e h = both (eq (e .client) x) (eq (e .call) c) .holds h
 
 id-entry : (x c : ℕ) (e : ImageEntry) → e .client ≡ x → e .call ≡ c → isEntryId x c e ≡ true
 unfolding isEntryId
-id-entry x c e p q = and-both (eqb (e .client) x) (eqb (e .call) c) (eq-eqb _ _ p) (eq-eqb _ _ q)
+id-entry x c e p q = both (eq (e .client) x) (eq (e .call) c) .passes (p, q)
 
 entries-once : (x c : ℕ) (es : List ImageEntry) → EntriesAscending es → Once (isEntryId x c) es
 entries-once x c [] a = tt
@@ -184,16 +181,15 @@ module _ (start : State) (first : Place) (x c : ℕ) where
         go : (b : Bool) → (eqb (y .command .client) x && eqb (y .command .call) c) ≡ b → List·Memᴰ r (st .records) ⊎ List·Memᴰ r (completion y (st .size + executedSize) ∷ [])
             → Found start first (es ++ (entryFor st (executed y) ∷ [])) r (pick b (placeAt inRecord (lastEnd headSize es) executedSize) p)
         go true i (inl old) =
-            let a = eqb-true _ _ (and-left (eqb (y .command .client) x) (eqb (y .command .call) c) i) in
-            let d = eqb-true _ _ (and-right (eqb (y .command .client) x) (eqb (y .command .call) c) i) in
-            absurd (all-member _ (executed-follows st y h .0 .fresh) old (k ∙ sym a) (l ∙ sym d))
+            let a = both (eq (y .command .client) x) (eq (y .command .call) c) .holds i in
+            absurd (all-member _ (executed-follows st y h .0 .fresh) old (k ∙ sym (a .0)) (l ∙ sym (a .1)))
         go true i (inr here) = new (List·Memᴰ·eq-of-singleton here)
         go false i (inl old) = found-more start first es (entryFor st (executed y)) r p (S r old k l)
         go false i (inr here) =
             let q = List·Memᴰ·eq-of-singleton here in
             let a : y .command .client ≡ x = sym (ap (λ (j : Completion). j .command .client) q) ∙ k in
             let d : y .command .call ≡ c = sym (ap (λ (j : Completion). j .command .call) q) ∙ l in
-            impossible (sym (and-both (eqb (y .command .client) x) (eqb (y .command .call) c) (eq-eqb _ _ a) (eq-eqb _ _ d)) ∙ i)
+            impossible (sym (both (eq (y .command .client) x) (eq (y .command .call) c) .passes (a, d)) ∙ i)
 
     -- an image is taken that has an entry of the id: no completion record of another point has it
     took-other : (i : Image) → follows st (took i) ≡ true → Has (isEntryId x c) (i .entries) → (r : Completion) → List·Memᴰ r (keep (isOnOther (i .point)) (st .records))

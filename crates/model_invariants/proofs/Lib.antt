@@ -16,6 +16,7 @@ pub mod Restored
 pub mod Calls
 pub mod TailCalls
 pub mod Running
+pub mod Alike
 pub mod Placed
 pub mod Seen
 pub mod Fronts

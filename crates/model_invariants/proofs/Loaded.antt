@@ -22,14 +22,14 @@ use Rattle.model_laws.proofs.States.{load-fits, load-back, sound-back, sound-is
 use Rattle.model_invariants.specs.Sound.{Sound}
 use Rattle.model_invariants.specs.History.{GoodPlan}
 use Rattle.model_invariants.proofs.Lists.{all-to}
-use Rattle.model_invariants.proofs.Tests.{good-entry, sound-of, state-of, fits-of}
+use Rattle.model_invariants.proofs.Tests.{entry-says, sound-of, state-of, fits-of}
 
 pub plan-good : (s : List ℕ) → Bytes s → planOk s ≡ true → GoodPlan (planOf s)
 unfolding planOf
 plan-good s h e =
     record {
       length = length-rows planEntryOf planRow pointCount s;
-      entries = all-to (planOf s) (λ (x : PlanEntry) (f : PlanEntryFits x). good-entry x (f .ok) (f .high)) (plan-fits s h e);
+      entries = all-to (planOf s) (λ (x : PlanEntry) (f : PlanEntryFits x). entry-says x .holds (f .high) (f .ok)) (plan-fits s h e);
     }
 
 pub loaded-sound : (s : List ℕ) → Bytes s → sound s ≡ true → Sound (load s)

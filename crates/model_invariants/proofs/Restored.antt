@@ -17,7 +17,7 @@ use Rattle.model.specs.Limits.{headSize, checkpointSize, checkpointRecord}
 use Rattle.model.specs.Tables.{written}
 use Rattle.model.specs.States.{State, stateEnd, load, sound}
 use Rattle.model.specs.Operations.{stored}
-use Rattle.model.specs.Checkpoints.{rebased, recordsPart, checkpointBytes, clientsOf, recordsOf, restored, checkpointFramed, checkpointState}
+use Rattle.model.specs.Checkpoints.{rebased, recordsPart, checkpointBytes, clientsOf, recordsOf, restoredBytes, restored, checkpointFramed, checkpointState}
 use Rattle.model_laws.specs.Bytes.{Bytes}
 use Rattle.model_laws.proofs.Tests.{choose}
 use Rattle.model_laws.proofs.Written.{written-front}
@@ -79,7 +79,7 @@ checkpoint-again s h st e =
     ap (λ (k : ℕ). take k s) l ∙ sym same
 
 pub state-checkpoint : (s cp : List ℕ) → Bytes s → sound s ≡ true → checkpointSize ≤ length cp
-    → written s 0 (restored (written cp 0 (checkpointBytes (load s)))) ≡ stored s (rebased (load s))
+    → written s 0 (restoredBytes (written cp 0 (checkpointBytes (load s)))) ≡ stored s (rebased (load s))
 unfolding stored
 state-checkpoint s cp h ok l =
     let S : Sound (load s) = loaded-sound s h ok in

@@ -2,7 +2,7 @@
 --     founded-holds, found-holds     founding: no records
 --     operation-holds      an operation: one record more where it decided to append one, else the same
 --     recover-holds        recovery from the first c bytes of the log: the records that end at or under c. It is not refused
---     part-load, holds-part     what holds depends on the state's 17,704 bytes and on the log up to its recorded length alone
+--     part-load, holds-part     what holds depends on the state's bytes and on the log up to its recorded length alone
 -- Assumes nothing.
 use Prim.Native.Nat.{ℕ, _+_, _*_, _≤_, _<_}
 use mathlib.Core.Path.{_≡_, refl, sym, ap, _∙_, subst}
@@ -10,8 +10,7 @@ use mathlib.Core.Bool.{true}
 use mathlib.Core.List.{List, [], _∷_, _++_, append-nil, append-assoc}
 use mathlib.Core.Option.{none, some}
 use native.Mathlib.Omega.{arith}
-use native.Mathlib.Nat.{zero-add}
-use lib.ListN.{length, take, drop, take-append-drop}
+use lib.ListN.{length, take, length-take}
 use lib.Seq.{take-at, take-take}
 use lib.Dec.{leb, ltb}
 use borrow.Author.Tests.{le-ltb}
@@ -21,21 +20,22 @@ use Rattle.model.specs.Limits.{lastServer, stateSize, headSize}
 use Rattle.model.specs.Tables.{keep, written}
 use Rattle.model.specs.Plan.{planOk, planOf}
 use Rattle.model.specs.Logs.{LogRecord, Entry, recordSize, recordBytes, headBytes, entriesBytes}
-use Rattle.model.specs.States.{State, load, sound, stateEnd, stateBytes}
+use Rattle.model.specs.States.{State, load, sound, stateEnd, recordsEnd, recordsIn}
 use Rattle.model.specs.Apply.{applyRecord, apply, founded, replayFrom, withMark}
 use Rattle.model.specs.Decisions.{Decided}
 use Rattle.model.specs.Operations.{After, answerOf, after, freeIn, stored, settle, lent, foundOf, leftUnless, recoverRefusal, recoverOf, settleRecovered, recoveredState}
 use Rattle.model.specs.Refusals.{noRefusal}
+use Rattle.model.specs.Calls.{Operation, decision, operated}
 use Rattle.model_laws.specs.Bytes.{Bytes}
 use Rattle.model_laws.specs.Fits.{EntriesFrom, lastEnd}
 use Rattle.model_laws.proofs.Written.{take-written-run}
-use Rattle.model_laws.proofs.States.{state-length, load-front, sound-front, sound-is, written-state, load-fits}
+use Rattle.model_laws.proofs.States.{sound-is}
+use Rattle.model_laws.proofs.Alike.{front-load, front-sound}
 use Rattle.model_laws.proofs.Logs.{log-length, entries-append, log-appended, cut-split, cut-end, cut-from}
 use Rattle.model_invariants.specs.Sound.{Sound}
 use Rattle.model_invariants.specs.History
 use Rattle.model_invariants.specs.History.{GoodPlan, Start, Decides, entryFor, next}
-use Rattle.model_invariants.specs.Calls.{refuses, denies, replies, appends, sets, Allowed, Operation, decision, output, outputSize, decidedOn, operated, LentBytes, Holds, entriesAfter, Recovered}
-use Rattle.model_invariants.proofs.Tests.{state-of}
+use Rattle.model_invariants.specs.Calls.{refuses, denies, replies, appends, sets, Allowed, output, outputSize, decidedOn, LentBytes, Holds, entriesAfter, Recovered}
 use Rattle.model_invariants.proofs.Steps.{sound-mark}
 use Rattle.model_invariants.proofs.Kept.{founded-start, founded-sound, decided-sound, decided-space, decides-mark, apply-mark}
 use Rattle.model_invariants.proofs.Recovery.{from-next, recovers}
@@ -223,23 +223,15 @@ found-holds state log plan n b =
 
 -- ---- parts of the buffers
 
--- a sound buffer opens with its state's bytes
-front : (s : List ℕ) → Bytes s → sound s ≡ true → take stateEnd s ≡ stateBytes (load s)
-front s b e =
-    let d = sound-is s e in
-    let f = load-fits s b d in
-    let n : length (stateBytes (load s)) ≡ stateEnd = state-length (load s) f in
-    let w = take-written-run s 0 (stateBytes (load s)) (omega (arith, d .long)) in
-    ap (λ (x : List ℕ). take stateEnd x) (sym (written-state s b d)) ∙ subst (λ (x : ℕ). take x (written s 0 (stateBytes (load s))) ≡ stateBytes (load s)) n (rw zero-add at w)
-
 -- buffers that open alike hold the same state
 pub part-load : (state state′ : List ℕ) → Bytes state → sound state ≡ true → take stateEnd state′ ≡ take stateEnd state → (load state′ ≡ load state) × (sound state′ ≡ true)
 part-load state state′ b h p =
-    let st = load state in
-    let f = load-fits state b (sound-is state h) in
-    let rest : List ℕ = drop stateEnd state′ in
-    let w : state′ ≡ stateBytes st ++ rest = sym (take-append-drop stateEnd state′) ∙ ap (λ (x : List ℕ). x ++ rest) (p ∙ front state b h) in
-    (ap load w ∙ load-front st f rest, ap sound w ∙ sound-front st f rest (state-of st (loaded-sound state b h)))
+    let d = sound-is state h in
+    let n : ℕ = recordsEnd (recordsIn state) in
+    let few : n ≤ stateEnd = omega (arith, d .few-records) in
+    let same : take n state′ ≡ take n state = sym (take-take n stateEnd state′ few) ∙ ap (λ (x : List ℕ). take n x) p ∙ take-take n stateEnd state few in
+    let long : stateEnd ≤ length state′ = omega (arith, ap length p, length-take stateEnd state′, length-take stateEnd state, d .long) in
+    (front-load state state′ b h same, front-sound state state′ b h same long)
 
 pub holds-part : (start : State) (es : List Entry) (state log state′ log′ : List ℕ) → Bytes state → Holds start es state log
     → take stateEnd state′ ≡ take stateEnd state → take (lastEnd headSize es) log′ ≡ take (lastEnd headSize es) log → Holds start es state′ log′

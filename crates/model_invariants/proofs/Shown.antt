@@ -14,7 +14,7 @@ use native.Mathlib.Omega.{arith}
 use lib.ListN.{length, take, drop, length-append, take-append-drop}
 use lib.Seq.{take-at, drop-at}
 use lib.Dec.{eqb, leb}
-use borrow.Author.Tests.{eq-eqb, lt-ltb, le-ltb}
+use borrow.Author.Tests.{eq-eqb, lt-ltb, le-ltb, le-leb}
 use Rattle.model.specs.declared.Completion.{Completion}
 use Rattle.model.specs.declared.ImageEntry.{ImageEntry}
 use Rattle.model.specs.declared.Executed.{Executed}
@@ -37,9 +37,9 @@ use Rattle.model_laws.specs.Bytes.{Bytes, All}
 use Rattle.model_laws.specs.Fits.{ImageEntryFits, recordFits, EntriesFrom, lastEnd, CompletionFits}
 use Rattle.model_laws.proofs.Tests.{impossible}
 use Rattle.model_laws.proofs.Tables.{length-rows, bytesOf-append, length-bytesOf, all-member}
-use Rattle.model_laws.proofs.Images.{floorCodec, entryCodec, entry-width, entry-at}
-use Rattle.model_laws.proofs.States.{completion-at}
-use Rattle.model_laws.proofs.Logs.{head-server, head-back, executed-at, record-length, log-length, entries-append, entries-back}
+use Rattle.model_laws.proofs.Images.{floorCodec, entryCodec}
+use Rattle.model_laws.proofs.States.{completionCodec}
+use Rattle.model_laws.proofs.Logs.{head-server, head-back, executedCodec, record-length, log-length, entries-append, entries-back}
 use Rattle.model_laws.proofs.TwoWalks.{entries-same, recovered-on}
 use Rattle.model_laws.proofs.Fronts.{length-each, record-front-width, record-whole}
 use Rattle.model_laws.proofs.Checkpoints.{framed-is}
@@ -144,7 +144,7 @@ module _ (n : ℕ) (es : List Entry) (tail : List ℕ) (logged : take (lastEnd h
       = tail-split a b (record { item = took i; end = end }) q
       ∙ ap (λ (j : List ℕ). h ++ (j ++ u)) (take-split i front rest e s)
       ∙ rw (append-assoc h w (r ++ (v ++ u)), append-assoc w (r ++ v) u, append-assoc r v u) in
-      part-at tail (h ++ w) r (v ++ u) k entryRow t (omega (arith, z, length-append h w, log-length n a f, front-length i front)) (entry-width e)
+      part-at tail (h ++ w) r (v ++ u) k entryRow t (omega (arith, z, length-append h w, log-length n a f, front-length i front)) (entryCodec .enc-width e)
 
 -- ---- the row of a checkpoint
 
@@ -204,7 +204,7 @@ module _ (x c : ℕ) (s : List ℕ) (b : Bytes s) (st : State) (e : checkpointSt
     unfolding placeInCheckpoint placeAmong rowAt
     row-place =
         let g = gives s st e in
-        rw (g .same, lt-ltb _ _ (split-below (isId x c) (st .records) row), row .index)
+        rw (le-leb 1 (length s) (omega (arith, framed-is s (g .framed) .whole)), g .same, lt-ltb _ _ (split-below (isId x c) (st .records) row), row .index)
 
     checkpoint-shown : take (rowAt + checkpointRecord - rowAt) (drop rowAt s) ≡ recordFront r
     unfolding rowAt bytesOf
@@ -285,11 +285,11 @@ row-tells r f z =
     let b : endBefore (r .end) ≡ headSize = rw z in
     let q : placedRecord endBefore r ≡ r = λ i. record { command = r .command; result = r .result; end = (b ∙ sym z) i } in
     let w : recordWhole (recordFront r) ≡ completionBytes (placedRecord endBefore r) = rw append-nil at (record-whole r [] b) in
-    ap completionOf (w ∙ ap completionBytes q) ∙ rw append-nil at (completion-at r [] f)
+    ap completionOf (w ∙ ap completionBytes q) ∙ rw append-nil at (completionCodec .dec-enc r [] f)
 
 shows-tells : {start : State} {r : Completion} {p : Place} {part : List ℕ} (es : List Entry) → EntriesFrom headSize es → CompletionFits r → Shows start es r p part → Tells r p part
 shows-tells {start} {r} {p} {part} es g f (ofRecord y m c t q n e) =
-    let k : executedAt part ≡ y = ap executedAt e ∙ rw append-nil at (executed-at y [] (from-member headSize es g m)) in
+    let k : executedAt part ≡ y = ap executedAt e ∙ rw append-nil at (executedCodec .dec-enc y [] (from-member headSize es g m)) in
     record {
       record-tells = λ h. (ap (λ (j : Executed). j .command) k ∙ c, ap (λ (j : Executed). j .result) k ∙ t);
       image-tells = λ h. absurd (omega (arith, q, h));
@@ -298,7 +298,7 @@ shows-tells {start} {r} {p} {part} es g f (ofRecord y m c t q n e) =
 shows-tells {start} {r} {p} {part} es g f (ofImage i m c q n u e) =
     record {
       record-tells = λ h. absurd (omega (arith, q, h));
-      image-tells = λ h. ap imageEntryOf e ∙ rw append-nil at (entry-at (entryOfRecord r) [] (entry-fits r f));
+      image-tells = λ h. ap imageEntryOf e ∙ rw append-nil at (entryCodec .dec-enc (entryOfRecord r) [] (entry-fits r f));
       checkpoint-tells = λ h. absurd (omega (arith, q, h));
     }
 shows-tells {start} {r} {p} {part} es g f (ofCheckpoint m z q e) =

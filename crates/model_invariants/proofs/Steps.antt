@@ -4,7 +4,7 @@
 -- Assumes nothing.
 use Prim.Native.Nat.{ℕ, suc, _+_, _≤_, _<_, max}
 use mathlib.Core.Path.{_≡_, refl, sym, _∙_, subst}
-use mathlib.Core.Bool.{Bool, true, false, _&&_, _||_, not}
+use mathlib.Core.Bool.{Bool, true, false, _||_, not}
 use mathlib.Core.List.{List, [], _∷_, _++_, map}
 use mathlib.Core.Logic.{_≢_}
 use native.Mathlib.Omega.{arith}
@@ -23,7 +23,7 @@ use Rattle.model.specs.declared.Give.{Give}
 use Rattle.model.specs.declared.Release.{Release}
 use Rattle.model.specs.Numbers.{word}
 use Rattle.model.specs.Tables.{keep}
-use Rattle.model.specs.Limits.{lastPoint, lastServer, lastQuality, lastOutcome, pointCount, executedSize, goneSize, giveSize, takeHead, releaseSize, headSize, clientCount, recordCount, lastInWindow}
+use Rattle.model.specs.Limits.{lastPoint, lastServer, lastQuality, pointCount, executedSize, goneSize, giveSize, takeHead, releaseSize, headSize, clientCount, recordCount, lastInWindow}
 use Rattle.model.specs.Plan.{entryAt}
 use Rattle.model.specs.Packets.{commandOk, outcomeOk, idOk, doneOk}
 use Rattle.model.specs.Images.{Image, floorOf, imageLength}
@@ -32,14 +32,14 @@ use Rattle.model.specs.States.{State, pointAt, noPoint, endsInOrder, absent as 
 use Rattle.model.specs.Apply
 use Rattle.model.specs.Apply.{raise, mergeFloors, isNotClient, staysOver, staysOverFloors, isOfOther, isOnOther, completion, takenRecord, applyExecuted, applyGone, applyGave, applyTook, applyReleased, withMark}
 use Rattle.model_laws.specs.Bytes.{All}
-use Rattle.model_laws.proofs.Tests.{and-left, and-right}
+use Rattle.model_laws.proofs.Reflects.{le, flag, both, facts}
 use Rattle.model_invariants.specs.Sound.{Ranged, GoodEnd, GoodPoint, Keeps, GoodFloor, Ascending, InWindow, GoodCompletion, Windowed, Other, Distinct, NotBelow, Arrived, SoundBy, Before, EntriesAscending, GoodImageEntry, GoodImage, GoodExecuted, GoodNotice, GoodGive, Tested}
 use Rattle.model_invariants.specs.Passed.{PassedRequest, PassedGive, PassedTake, PassedRelease}
 use Rattle.model_laws.proofs.Tables.{all-keep, all-append, length-keep}
 use Rattle.model_invariants.proofs.Lists.{all-to, all-with, all-any, all-image, all-swap, keep-passes}
 use Rattle.model_invariants.proofs.Floors.{eqb-no, raise-same, raise-other, raise-ascending, raise-good, raise-length, raise-known, merge-ascending, merge-good, merge-floor, ascending-keep, without-other}
 use Rattle.model_invariants.proofs.Count.{pairs-keep, pairs-append, distinct-keep, distinct-append, windows-few}
-use Rattle.model_invariants.proofs.Tests.{command-fits}
+use Rattle.model_invariants.proofs.Tests.{command-fits, outcome-fits}
 
 -- ---- what the log's growth keeps
 
@@ -164,30 +164,21 @@ reached-stays x fs r h t = go (eqb (r .command .client) x) refl t
     go false e k = record { known = h .known; low = h .low (eqb-no _ _ e); high = h .high }
 
 pub tested : (x : Executed) → executedOk x ≡ true → Tested x
-unfolding executedOk outcomeOk idOk doneOk
+unfolding executedOk idOk doneOk
 tested x e =
-    let c = commandOk (x .command .op) (x .command .point) (x .command .argument) in
-    let o1 = leb (x .result .outcome) lastOutcome in
-    let o2 = leb (x .result .quality) lastQuality in
-    let i1 = leb 1 (x .command .client) in
-    let i2 = leb 1 (x .command .call) in
-    let d1 = leb 1 (x .done) in
-    let d2 = leb (x .done) (x .command .call) in
-    let d3 = leb (x .command .call) (x .done + lastInWindow) in
-    let r1 = and-right c ((o1 && o2) && ((i1 && i2) && (d1 && (d2 && d3)))) e in
-    let o = and-left (o1 && o2) ((i1 && i2) && (d1 && (d2 && d3))) r1 in
-    let r2 = and-right (o1 && o2) ((i1 && i2) && (d1 && (d2 && d3))) r1 in
-    let i = and-left (i1 && i2) (d1 && (d2 && d3)) r2 in
-    let d = and-right (i1 && i2) (d1 && (d2 && d3)) r2 in
+    let c = x .command in
+    let p = facts
+    (flag (commandOk (c .op) (c .point) (c .argument)) ∷ flag (outcomeOk (x .result .outcome) (x .result .quality)) ∷ both (le 1 (c .client)) (le 1 (c .call))
+    ∷ le 1 (x .done) ∷ le (x .done) (c .call) ∷ le (c .call) (x .done + lastInWindow) ∷ []) e in
     record {
-      command = and-left c ((o1 && o2) && ((i1 && i2) && (d1 && (d2 && d3)))) e;
-      outcome = o;
-      quality = leb-true _ _ (and-right o1 o2 o);
-      client = leb-true _ _ (and-left i1 i2 i);
-      call = leb-true _ _ (and-right i1 i2 i);
-      done = leb-true _ _ (and-left d1 (d2 && d3) d);
-      low = leb-true _ _ (and-left d2 d3 (and-right d1 (d2 && d3) d));
-      high = leb-true _ _ (and-right d2 d3 (and-right d1 (d2 && d3) d));
+      command = p 0;
+      outcome = p 1;
+      quality = outcome-fits (x .result .outcome) (x .result .quality) (p 1) .1;
+      client = p 2 .0;
+      call = p 2 .1;
+      done = p 3;
+      low = p 4;
+      high = p 5;
     }
 
 executed-point : (server size : ℕ) (e : PlanEntry) (x : Executed) (q : Point) → GoodPoint server size e q → q .status ≡ heldStatus → x .result .quality ≤ lastQuality

@@ -45,13 +45,14 @@ module _ (state log k tail : List ℕ) where
       record {
         answer = answerOf Refusals.noRefusal (length (checkpointBytes (load state)));
         state = stored state (rebased (load state));
+        log = log;
         checkpoint = written k 0 (checkpointBytes (load state));
         tail = written tail 0 (headBytes (load state .server));
       }
 
   -- where n refuses
   abbrev pub notCheckpointed : ℕ → AfterCheckpoint
-  notCheckpointed n = record { answer = answerOf n 0; state = state; checkpoint = k; tail = tail }
+  notCheckpointed n = record { answer = answerOf n 0; state = state; log = log; checkpoint = k; tail = tail }
 
   pub checkpoint-elim : (P : AfterCheckpoint → Type 0) → ((n : ℕ) → 1 ≤ n → P (notCheckpointed n)) → (PassedCheckpoint state k tail → P checkpointed) → P (checkpointOf state log k tail)
   unfolding checkpointOf checkpointRefusal short unfit

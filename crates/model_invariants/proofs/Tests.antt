@@ -1,16 +1,15 @@
 -- The tests of States and Plan against their propositions, both ways.
---     good-entry, entry-good             planEntryOk
---     in-range, range-in                 inRange
+--     entry-says, range-says             planEntryOk (entry-good: one way), inRange
 --     command-fits, outcome-fits         commandOk, outcomeOk
---     good-point, point-good             pointOk;     points-length, points-at, at-points: pointsOk
---     good-floor, floor-good             floorOk;     ascends, ascend-test: clientsAscend
---     in-window, window-in               inWindow;    good-completion, completion-good: completionOk
+--     point-says                         pointOk;     points-length, points-at, at-points: pointsOk
+--     floor-says                         floorOk;     ascends, ascend-test: clientsAscend
+--     window-says, completion-says       inWindow (in-window: one way), completionOk
 --     differ, differ-test                idsDiffer;   arrives, arrive-test: endsFrom
 --     sound-of, state-of, fits-of        stateOk, of a state that fits, is Sound
 -- Assumes nothing.
 use Prim.Native.Nat.{ℕ, zero, suc, _+_, _*_, _≤_, _<_}
 use mathlib.Core.Path.{_≡_, refl, sym, ap, _∙_}
-use mathlib.Core.Bool.{Bool, true, false, _&&_, _||_, not, false≢true}
+use mathlib.Core.Bool.{Bool, true, false, _&&_, not, false≢true}
 use mathlib.Core.List.{List, [], _∷_}
 use mathlib.Core.Logic.{_≢_}
 use native.Mathlib.Omega.{arith}
@@ -21,7 +20,6 @@ use Rattle.model.specs.declared.PlanEntry.{PlanEntry}
 use Rattle.model.specs.declared.Floor.{Floor}
 use Rattle.model.specs.declared.Point.{Point}
 use Rattle.model.specs.declared.Completion.{Completion}
-use Rattle.model.specs.Choice.{pick}
 use Rattle.model.specs.Numbers.{word}
 use Rattle.model.specs.Limits.{lastPoint, lastServer, lastOutcome, lastQuality, headSize, invalid, lastInWindow}
 use Rattle.model.specs.Tables.{every}
@@ -31,7 +29,8 @@ use Rattle.model.specs.Images.{floorOf, floorOk, inWindow, clientsAscend}
 use Rattle.model.specs.States.{State, pointAt, noPoint, isHeld, isGiven, endOk, endsInOrder, notGiven, originOk, absentOk, heldOk, givenOk, statusOk, pointOk, pointsOk, keepsRecords, completionOk, isId, idsDiffer, endsFrom, stateOk, absent as absentStatus, held as heldStatus, given as givenStatus, releasedStatus}
 use Rattle.model_laws.specs.Bytes.{All}
 use Rattle.model_laws.specs.Fits.{FloorFits, PlanEntryFits, PointFits, CompletionFits, StateFits}
-use Rattle.model_laws.proofs.Tests.{and-left, and-right, and-both, joined-all, all-joined}
+use Rattle.model_laws.proofs.Tests.{and-left, and-right, and-both, choose}
+use Rattle.model_laws.proofs.Reflects.{Reflects, Test, le, eq, ne, flag, of, both, SaysAt, facts, passed, reflects, rows-hold, rows-pass, choose-or, not-of-false}
 use Rattle.model_laws.proofs.Commands.{command-parts}
 use Rattle.model_invariants.specs.Sound.{GoodEntry, Ranged, GoodEnd, Origin, Standing, GoodPoint, Keeps, GoodFloor, Ascending, InWindow, GoodCompletion, Windowed, Other, Distinct, Arrived, SoundBy, Sound, CommandFits}
 use Rattle.model_laws.proofs.Tables.{every-all, all-every, all-getD}
@@ -42,36 +41,20 @@ use Rattle.model_invariants.proofs.Count.{windows-few}
 pub split : (s t : Bool) → (s && t) ≡ true → (s ≡ true) × (t ≡ true)
 split s t e = (and-left s t e, and-right s t e)
 
-pub not-of-true : (t : Bool) → t ≡ true → not t ≡ false
-not-of-true true e = refl
-not-of-true false e = sym e
-
-pub not-of-false : (t : Bool) → t ≡ false → not t ≡ true
-not-of-false true e = sym e
-not-of-false false e = refl
-
 -- ---- plan and ranges
 
-pub good-entry : (e : PlanEntry) → planEntryOk e ≡ true → e .high < word → GoodEntry e
+pub entry-says : (e : PlanEntry) → Reflects (e .high < word) (planEntryOk e) (GoodEntry e)
 unfolding planEntryOk
-good-entry e h f =
-    let a = split (leb (e .home) lastServer) (leb (e .low) (e .fallback) && leb (e .fallback) (e .high)) h in
-    let b = split (leb (e .low) (e .fallback)) (leb (e .fallback) (e .high)) (a .1) in
-    record { home = leb-true _ _ (a .0); low = leb-true _ _ (b .0); high = leb-true _ _ (b .1); fits = f }
+entry-says e =
+    reflects (le (e .home) lastServer ∷ le (e .low) (e .fallback) ∷ le (e .fallback) (e .high) ∷ []) (λ f p. record { home = p 0; low = p 1; high = p 2; fits = f })
+    (λ g k. k (g .home) (g .low) (g .high))
 
 pub entry-good : (e : PlanEntry) → GoodEntry e → planEntryOk e ≡ true
-unfolding planEntryOk
-entry-good e g =
-    and-both (leb (e .home) lastServer) (leb (e .low) (e .fallback) && leb (e .fallback) (e .high)) (le-leb _ _ (g .home))
-    (and-both (leb (e .low) (e .fallback)) (leb (e .fallback) (e .high)) (le-leb _ _ (g .low)) (le-leb _ _ (g .high)))
+entry-good e g = entry-says e .passes g
 
-pub in-range : (e : PlanEntry) (v : ℕ) → inRange e v ≡ true → Ranged e v
+pub range-says : (e : PlanEntry) (v : ℕ) → Reflects Unit (inRange e v) (Ranged e v)
 unfolding inRange
-in-range e v h = let a = split (leb (e .low) v) (leb v (e .high)) h in record { low = leb-true _ _ (a .0); high = leb-true _ _ (a .1) }
-
-pub range-in : (e : PlanEntry) (v : ℕ) → Ranged e v → inRange e v ≡ true
-unfolding inRange
-range-in e v h = and-both (leb (e .low) v) (leb v (e .high)) (le-leb _ _ (h .low)) (le-leb _ _ (h .high))
+range-says e v = reflects (le (e .low) v ∷ le v (e .high) ∷ []) (λ u p. record { low = p 0; high = p 1 }) (λ h k. k (h .low) (h .high))
 
 -- ---- commands and outcomes
 
@@ -80,218 +63,127 @@ command-fits op p a h = let c = command-parts op p a h in record { op = c .op; p
 
 pub outcome-fits : (o q : ℕ) → outcomeOk o q ≡ true → (o ≤ lastOutcome) × (q ≤ lastQuality)
 unfolding outcomeOk
-outcome-fits o q h = let a = split (leb o lastOutcome) (leb q lastQuality) h in (leb-true _ _ (a .0), leb-true _ _ (a .1))
+outcome-fits o q h = both (le o lastOutcome) (le q lastQuality) .holds h
 
 -- ---- points
 
-pub good-end : (size end : ℕ) → endOk size end ≡ true → GoodEnd size end
+end-says : (size end : ℕ) → Reflects Unit (endOk size end) (GoodEnd size end)
 unfolding endOk
-good-end size end h = go (eqb end 0) refl h
-  where
-    go : (b : Bool) → eqb end 0 ≡ b → (b || (leb headSize end && leb end size)) ≡ true → GoodEnd size end
-    go true e k =
-        let z : end ≡ 0 = eqb-true _ _ e in
-        record { past = λ (n : end ≢ 0). absurd (n z); within = omega arith }
-    go false e k =
-        let a = split (leb headSize end) (leb end size) k in
-        record { past = λ (n : end ≢ 0). leb-true _ _ (a .0); within = leb-true _ _ (a .1) }
-
-pub end-good : (size end : ℕ) → GoodEnd size end → endOk size end ≡ true
-unfolding endOk
-end-good size end g = go (eqb end 0) refl
-  where
-    go : (b : Bool) → eqb end 0 ≡ b → (b || (leb headSize end && leb end size)) ≡ true
-    go true e = refl
-    go false e = and-both (leb headSize end) (leb end size) (le-leb _ _ (g .past (eqb-no _ _ e))) (le-leb _ _ (g .within))
+end-says size end =
+    let ts = le headSize end ∷ le end size ∷ [] in
+    let late = leb headSize end && leb end size in
+    record {
+      holds = λ u. choose-or (λ t. t ≡ true → GoodEnd size end) (eqb end 0) late
+          (λ e h. let z : end ≡ 0 = eqb-true _ _ e in record { past = λ (n : end ≢ 0). absurd (n z); within = omega arith })
+          (λ e h. record { past = λ (n : end ≢ 0). facts ts h 0; within = facts ts h 1 });
+      passes = λ g. choose-or (λ t. t ≡ true) (eqb end 0) late (λ e. refl) (λ e. passed ts (g .past (eqb-no _ _ e)) (g .within));
+    }
 
 -- where a point came from
-origin-of : (server : ℕ) (e : PlanEntry) (x : Point) → originOk server e x ≡ true → Origin server (e .home) (x .takenMove) (x .takeEnd)
+origin-says : (server : ℕ) (e : PlanEntry) (x : Point) → Reflects Unit (originOk server e x) (Origin server (e .home) (x .takenMove) (x .takeEnd))
 unfolding originOk
-origin-of server e x h = go (eqb (x .takenMove) 0) refl h
-  where
-    go : (b : Bool) → eqb (x .takenMove) 0 ≡ b → pick b (eqb (x .takeEnd) 0 && eqb (e .home) server) (leb 1 (x .takeEnd)) ≡ true
-        → Origin server (e .home) (x .takenMove) (x .takeEnd)
-    go true t k =
-        let a = split (eqb (x .takeEnd) 0) (eqb (e .home) server) k in
-        let z = eqb-true _ _ t in
-        record {
-          founded = λ (l : x .takenMove ≡ 0). eqb-true _ _ (a .1);
-          untaken = λ (l : x .takenMove ≡ 0). eqb-true _ _ (a .0);
-          takenAt = λ (l : x .takenMove ≢ 0). absurd (l z);
-        }
-    go false t k =
-        record {
-          founded = λ (l : x .takenMove ≡ 0). absurd (eqb-false _ _ t l);
-          untaken = λ (l : x .takenMove ≡ 0). absurd (eqb-false _ _ t l);
-          takenAt = λ (l : x .takenMove ≢ 0). leb-true _ _ k;
-        }
-
-of-origin : (server : ℕ) (e : PlanEntry) (x : Point) → Origin server (e .home) (x .takenMove) (x .takeEnd) → originOk server e x ≡ true
-unfolding originOk
-of-origin server e x o = go (eqb (x .takenMove) 0) refl
-  where
-    go : (b : Bool) → eqb (x .takenMove) 0 ≡ b → pick b (eqb (x .takeEnd) 0 && eqb (e .home) server) (leb 1 (x .takeEnd)) ≡ true
-    go true t =
-        let z = eqb-true _ _ t in
-        and-both (eqb (x .takeEnd) 0) (eqb (e .home) server) (eq-eqb _ _ (o .untaken z)) (eq-eqb _ _ (o .founded z))
-    go false t = le-leb _ _ (o .takenAt (eqb-no _ _ t))
-
-abbrev absentTests : ℕ → PlanEntry → Point → List Bool
-absentTests server e x =
-    not (eqb (e .home) server) ∷ eqb (x .value) (e .fallback) ∷ eqb (x .quality) invalid ∷ eqb (x .moveNumber) 0 ∷ eqb (x .takenMove) 0 ∷ eqb (x .takeEnd) 0
-    ∷ eqb (x .destination) 0 ∷ eqb (x .giveEnd) 0 ∷ []
+origin-says server e x =
+    let ts = eq (x .takeEnd) 0 ∷ eq (e .home) server ∷ [] in
+    let P : Type 0 = Origin server (e .home) (x .takenMove) (x .takeEnd) in
+    record {
+      holds = λ u. choose (λ t. t ≡ true → P) (eqb (x .takenMove) 0)
+          (λ t h. record { founded = λ l. facts ts h 1; untaken = λ l. facts ts h 0; takenAt = λ l. absurd (l (eqb-true _ _ t)) })
+          (λ t h. record { founded = λ l. absurd (eqb-false _ _ t l); untaken = λ l. absurd (eqb-false _ _ t l); takenAt = λ l. leb-true _ _ h });
+      passes = λ o. choose (λ t. t ≡ true) (eqb (x .takenMove) 0)
+          (λ t. passed ts (o .untaken (eqb-true _ _ t)) (o .founded (eqb-true _ _ t)))
+          (λ t. le-leb _ _ (o .takenAt (eqb-no _ _ t)));
+    }
 
 -- what a status says, by status
-absent-standing : (server : ℕ) (e : PlanEntry) (x : Point) → x .status ≡ absentStatus → absentOk server e x ≡ true → Standing server e x
-unfolding absentOk notGiven
-absent-standing server e x s h =
-    let a = joined-all (absentTests server e x) h in
-    record {
-      absent =
-          λ (k : x .status ≡ absentStatus).
-          record {
-            home = eqb-no _ _ (not-true _ (a .0));
-            value = eqb-true _ _ (a .1 .0);
-            quality = eqb-true _ _ (a .1 .1 .0);
-            moveNumber = eqb-true _ _ (a .1 .1 .1 .0);
-            takenMove = eqb-true _ _ (a .1 .1 .1 .1 .0);
-            takeEnd = eqb-true _ _ (a .1 .1 .1 .1 .1 .0);
-          };
-      held = λ (k : x .status ≡ heldStatus). absurd (omega arith);
-      given = λ (k : givenStatus ≤ x .status). absurd (omega arith);
-      away = λ (k : givenStatus ≤ x .status). absurd (omega arith);
-      ended = λ (k : givenStatus ≤ x .status). absurd (omega arith);
-      stays = λ (k : x .status < givenStatus). eqb-true _ _ (a .1 .1 .1 .1 .1 .1 .0);
-      unended = λ (k : x .status < givenStatus). eqb-true _ _ (a .1 .1 .1 .1 .1 .1 .1 .0);
-      origin = λ (k : heldStatus ≤ x .status). absurd (omega arith);
-    }
+module _ (server : ℕ) (e : PlanEntry) (x : Point) where
+  abbrev absentTests : List Test
+  absentTests =
+      ne (e .home) server ∷ eq (x .value) (e .fallback) ∷ eq (x .quality) invalid ∷ eq (x .moveNumber) 0 ∷ eq (x .takenMove) 0 ∷ eq (x .takeEnd) 0 ∷ eq (x .destination) 0
+      ∷ eq (x .giveEnd) 0 ∷ []
 
-held-standing : (server : ℕ) (e : PlanEntry) (x : Point) → x .status ≡ heldStatus → heldOk server e x ≡ true → Standing server e x
-unfolding heldOk notGiven
-held-standing server e x s h =
-    let a = split (eqb (x .moveNumber) (x .takenMove)) ((eqb (x .destination) 0 && eqb (x .giveEnd) 0) && originOk server e x) h in
-    let b = split (eqb (x .destination) 0 && eqb (x .giveEnd) 0) (originOk server e x) (a .1) in
-    let c = split (eqb (x .destination) 0) (eqb (x .giveEnd) 0) (b .0) in
-    record {
-      absent = λ (k : x .status ≡ absentStatus). absurd (omega arith);
-      held = λ (k : x .status ≡ heldStatus). eqb-true _ _ (a .0);
-      given = λ (k : givenStatus ≤ x .status). absurd (omega arith);
-      away = λ (k : givenStatus ≤ x .status). absurd (omega arith);
-      ended = λ (k : givenStatus ≤ x .status). absurd (omega arith);
-      stays = λ (k : x .status < givenStatus). eqb-true _ _ (c .0);
-      unended = λ (k : x .status < givenStatus). eqb-true _ _ (c .1);
-      origin = λ (k : heldStatus ≤ x .status). origin-of server e x (b .1);
-    }
+  abbrev heldTests : List Test
+  heldTests = eq (x .moveNumber) (x .takenMove) ∷ both (eq (x .destination) 0) (eq (x .giveEnd) 0) ∷ of (origin-says server e x) ∷ []
 
-given-standing : (server : ℕ) (e : PlanEntry) (x : Point) → givenStatus ≤ x .status → givenOk server e x ≡ true → Standing server e x
-unfolding givenOk
-given-standing server e x s h =
-    let a = joined-all (eqb (x .moveNumber) (suc (x .takenMove)) ∷ not (eqb (x .destination) server) ∷ endsInOrder (x .takeEnd) (x .giveEnd) ∷ originOk server e x ∷ []) h in
-    record {
-      absent = λ (k : x .status ≡ absentStatus). absurd (omega arith);
-      held = λ (k : x .status ≡ heldStatus). absurd (omega arith);
-      given = λ (k : givenStatus ≤ x .status). eqb-true _ _ (a .0);
-      away = λ (k : givenStatus ≤ x .status). eqb-no _ _ (not-true _ (a .1 .0));
-      ended = λ (k : givenStatus ≤ x .status). a .1 .1 .0;
-      stays = λ (k : x .status < givenStatus). absurd (omega arith);
-      unended = λ (k : x .status < givenStatus). absurd (omega arith);
-      origin = λ (k : heldStatus ≤ x .status). origin-of server e x (a .1 .1 .1 .0);
-    }
+  abbrev givenTests : List Test
+  givenTests =
+      eq (x .moveNumber) (suc (x .takenMove)) ∷ ne (x .destination) server ∷ flag (endsInOrder (x .takeEnd) (x .giveEnd)) ∷ of (origin-says server e x) ∷ []
 
--- which status it is
-past-held : (n : ℕ) → n ≢ absentStatus → n ≢ heldStatus → givenStatus ≤ n
-past-held n p q = omega arith
+  -- which status it is
+  by-status : {R : Type 0} → (x .status ≡ absentStatus → R) → (x .status ≡ heldStatus → R) → (givenStatus ≤ x .status → R) → R
+  by-status {R} f g h = go (eqb (x .status) absentStatus) (eqb (x .status) heldStatus) refl refl
+    where
+      past-held : x .status ≢ absentStatus → x .status ≢ heldStatus → givenStatus ≤ x .status
+      past-held p q = omega arith
 
-standing-of : (server : ℕ) (e : PlanEntry) (x : Point) → statusOk server e x ≡ true → Standing server e x
-unfolding statusOk
-standing-of server e x h = go (eqb (x .status) absentStatus) (eqb (x .status) heldStatus) refl refl h
-  where
-    go : (b d : Bool) → eqb (x .status) absentStatus ≡ b → eqb (x .status) heldStatus ≡ d → pick b (absentOk server e x) (pick d (heldOk server e x) (givenOk server e x)) ≡ true
-        → Standing server e x
-    go true d p q k = absent-standing server e x (eqb-true _ _ p) k
-    go false true p q k = held-standing server e x (eqb-true _ _ q) k
-    go false false p q k = given-standing server e x (past-held (x .status) (eqb-no _ _ p) (eqb-no _ _ q)) k
+      go : (b d : Bool) → eqb (x .status) absentStatus ≡ b → eqb (x .status) heldStatus ≡ d → R
+      go true d p q = f (eqb-true _ _ p)
+      go false true p q = g (eqb-true _ _ q)
+      go false false p q = h (past-held (eqb-no _ _ p) (eqb-no _ _ q))
 
-of-standing : (server : ℕ) (e : PlanEntry) (x : Point) → Standing server e x → statusOk server e x ≡ true
-unfolding statusOk absentOk heldOk givenOk notGiven
-of-standing server e x g = go (eqb (x .status) absentStatus) (eqb (x .status) heldStatus) refl refl
-  where
-    go : (b d : Bool) → eqb (x .status) absentStatus ≡ b → eqb (x .status) heldStatus ≡ d
-        → pick b (absentOk server e x) (pick d (heldOk server e x) (givenOk server e x)) ≡ true
-    go true d p q =
-        let z : x .status ≡ absentStatus = eqb-true _ _ p in
-        let u = g .absent z in
-        all-joined (absentTests server e x) (
-          not-of-false _ (ne-eqb _ _ (u .home)),
-          (
-            eq-eqb _ _ (u .value),
-            (
-              eq-eqb _ _ (u .quality),
-              (
-                eq-eqb _ _ (u .moveNumber),
-                (eq-eqb _ _ (u .takenMove), (eq-eqb _ _ (u .takeEnd), (eq-eqb _ _ (g .stays (omega arith)), (eq-eqb _ _ (g .unended (omega arith)), tt)))),
-              ),
-            ),
-          ),
-        )
-    go false true p q =
-        let z : x .status ≡ heldStatus = eqb-true _ _ q in
-        and-both (eqb (x .moveNumber) (x .takenMove)) ((eqb (x .destination) 0 && eqb (x .giveEnd) 0) && originOk server e x) (eq-eqb _ _ (g .held z))
-        (and-both (eqb (x .destination) 0 && eqb (x .giveEnd) 0) (originOk server e x)
-        (and-both (eqb (x .destination) 0) (eqb (x .giveEnd) 0) (eq-eqb _ _ (g .stays (omega arith))) (eq-eqb _ _ (g .unended (omega arith))))
-        (of-origin server e x (g .origin (omega arith))))
-    go false false p q =
-        let l : givenStatus ≤ x .status = past-held (x .status) (eqb-no _ _ p) (eqb-no _ _ q) in
-        all-joined (eqb (x .moveNumber) (suc (x .takenMove)) ∷ not (eqb (x .destination) server) ∷ endsInOrder (x .takeEnd) (x .giveEnd) ∷ originOk server e x ∷ [])
-        (eq-eqb _ _ (g .given l), (not-of-false _ (ne-eqb _ _ (g .away l)), (g .ended l, (of-origin server e x (g .origin (omega arith)), tt))))
+  -- the tests of one status are those of all
+  status-absent : x .status ≡ absentStatus → statusOk server e x ≡ absentOk server e x
+  unfolding statusOk
+  status-absent z = rw (eq-eqb (x .status) absentStatus z)
 
--- the latest taken move is not above the move number
-taken-low : (server : ℕ) (e : PlanEntry) (x : Point) → Standing server e x → x .takenMove ≤ x .moveNumber
-taken-low server e x g = go (eqb (x .status) absentStatus) (eqb (x .status) heldStatus) refl refl
-  where
-    go : (b d : Bool) → eqb (x .status) absentStatus ≡ b → eqb (x .status) heldStatus ≡ d → x .takenMove ≤ x .moveNumber
-    go true d p q = omega (arith, g .absent (eqb-true _ _ p) .takenMove)
-    go false true p q = omega (arith, g .held (eqb-true _ _ q))
-    go false false p q = omega (arith, g .given (past-held (x .status) (eqb-no _ _ p) (eqb-no _ _ q)))
+  status-held : x .status ≡ heldStatus → statusOk server e x ≡ heldOk server e x
+  unfolding statusOk
+  status-held z = rw (ne-eqb (x .status) absentStatus (λ y. absurd (omega arith)), eq-eqb (x .status) heldStatus z)
 
-abbrev pointTests : ℕ → ℕ → PlanEntry → Point → List Bool
-pointTests server size e x =
-    leb (x .status) releasedStatus ∷ leb (x .quality) lastQuality ∷ leb (x .destination) lastServer ∷ inRange e (x .value) ∷ endOk size (x .giveEnd) ∷ endOk size (x .takeEnd)
-    ∷ statusOk server e x ∷ []
+  status-given : givenStatus ≤ x .status → statusOk server e x ≡ givenOk server e x
+  unfolding statusOk
+  status-given z = rw (ne-eqb (x .status) absentStatus (λ y. absurd (omega arith)), ne-eqb (x .status) heldStatus (λ y. absurd (omega arith)))
 
-pub good-point : (server size : ℕ) (e : PlanEntry) (x : Point) → pointOk server size e x ≡ true → x .moveNumber < word → GoodPoint server size e x
+  standing-says : Reflects Unit (statusOk server e x) (Standing server e x)
+  unfolding absentOk heldOk givenOk notGiven
+  standing-says =
+      record {
+        holds = λ u t.
+            let A : x .status ≡ absentStatus → (k : ℕ) → SaysAt absentTests k = λ z. facts absentTests (sym (status-absent z) ∙ t) in
+            let H : x .status ≡ heldStatus → (k : ℕ) → SaysAt heldTests k = λ z. facts heldTests (sym (status-held z) ∙ t) in
+            let G : givenStatus ≤ x .status → (k : ℕ) → SaysAt givenTests k = λ z. facts givenTests (sym (status-given z) ∙ t) in
+            record {
+              absent = λ z. record { home = A z 0; value = A z 1; quality = A z 2; moveNumber = A z 3; takenMove = A z 4; takeEnd = A z 5 };
+              held = λ z. H z 0;
+              given = λ z. G z 0;
+              away = λ z. G z 1;
+              ended = λ z. G z 2;
+              stays = λ l. by-status (λ z. A z 6) (λ z. H z 1 .0) (λ z. absurd (omega arith));
+              unended = λ l. by-status (λ z. A z 7) (λ z. H z 1 .1) (λ z. absurd (omega arith));
+              origin = λ l. by-status (λ z. absurd (omega arith)) (λ z. H z 2) (λ z. G z 3);
+            };
+        passes = λ g. by-status
+            (λ z.
+            let u = g .absent z in
+            status-absent z
+            ∙ passed absentTests (u .home) (u .value) (u .quality) (u .moveNumber) (u .takenMove) (u .takeEnd) (g .stays (omega arith)) (g .unended (omega arith)))
+            (λ z. status-held z ∙ passed heldTests (g .held z) (g .stays (omega arith), g .unended (omega arith)) (g .origin (omega arith)))
+            (λ z. status-given z ∙ passed givenTests (g .given z) (g .away z) (g .ended z) (g .origin (omega arith)));
+      }
+
+  -- the latest taken move is not above the move number
+  taken-low : Standing server e x → x .takenMove ≤ x .moveNumber
+  taken-low g =
+      by-status (λ z. omega (arith, g .absent z .takenMove)) (λ z. omega (arith, g .held z)) (λ z. omega (arith, g .given z))
+
+pub point-says : (server size : ℕ) (e : PlanEntry) (x : Point) → Reflects (x .moveNumber < word) (pointOk server size e x) (GoodPoint server size e x)
 unfolding pointOk
-good-point server size e x h f =
-    let t = joined-all (pointTests server size e x) h in
-    let g = standing-of server e x (t .1 .1 .1 .1 .1 .1 .0) in
+point-says server size e x =
+    reflects
+    (le (x .status) releasedStatus ∷ le (x .quality) lastQuality ∷ le (x .destination) lastServer ∷ of (range-says e (x .value)) ∷ of (end-says size (x .giveEnd))
+    ∷ of (end-says size (x .takeEnd)) ∷ of (standing-says server e x) ∷ [])
+    (λ f p.
     record {
-      status = leb-true _ _ (t .0);
-      quality = leb-true _ _ (t .1 .0);
-      destination = leb-true _ _ (t .1 .1 .0);
-      value = in-range e (x .value) (t .1 .1 .1 .0);
-      giveEnd = good-end size (x .giveEnd) (t .1 .1 .1 .1 .0);
-      takeEnd = good-end size (x .takeEnd) (t .1 .1 .1 .1 .1 .0);
-      standing = g;
-      takenMove = taken-low server e x g;
+      status = p 0;
+      quality = p 1;
+      destination = p 2;
+      value = p 3;
+      giveEnd = p 4;
+      takeEnd = p 5;
+      standing = p 6;
+      takenMove = taken-low server e x (p 6);
       moveNumber = f;
-    }
-
-pub point-good : (server size : ℕ) (e : PlanEntry) (x : Point) → GoodPoint server size e x → pointOk server size e x ≡ true
-unfolding pointOk
-point-good server size e x g =
-    all-joined (pointTests server size e x) (
-      le-leb _ _ (g .status),
-      (
-        le-leb _ _ (g .quality),
-        (
-          le-leb _ _ (g .destination),
-          (
-            range-in e (x .value) (g .value),
-            (end-good size (x .giveEnd) (g .giveEnd), (end-good size (x .takeEnd) (g .takeEnd), (of-standing server e x (g .standing), tt))),
-          ),
-        ),
-      ),
-    )
+    })
+    (λ g k. k (g .status) (g .quality) (g .destination) (g .value) (g .giveEnd) (g .takeEnd) (g .standing))
 
 pub points-length : (server size : ℕ) (es : List PlanEntry) (xs : List Point) → pointsOk server size es xs ≡ true → length xs ≡ length es
 unfolding pointsOk
@@ -323,15 +215,11 @@ at-points server size (e ∷ es) (x ∷ xs) n h =
 
 -- ---- floors
 
-pub good-floor : (f : Floor) → floorOk f ≡ true → FloorFits f → GoodFloor f
+pub floor-says : (f : Floor) → Reflects (FloorFits f) (floorOk f) (GoodFloor f)
 unfolding floorOk
-good-floor f h k =
-    let a = split (leb 1 (f .client)) (leb 1 (f .floor)) h in
-    record { client = leb-true _ _ (a .0); floor = leb-true _ _ (a .1); client-fits = k .client; floor-fits = k .floor }
-
-pub floor-good : (f : Floor) → GoodFloor f → floorOk f ≡ true
-unfolding floorOk
-floor-good f g = and-both (leb 1 (f .client)) (leb 1 (f .floor)) (le-leb _ _ (g .client)) (le-leb _ _ (g .floor))
+floor-says f =
+    reflects (le 1 (f .client) ∷ le 1 (f .floor) ∷ []) (λ h p. record { client = p 0; floor = p 1; client-fits = h .client; floor-fits = h .floor })
+    (λ g k. k (g .client) (g .floor))
 
 pub floor-fits : (f : Floor) → GoodFloor f → FloorFits f
 floor-fits f g = record { client = g .client-fits; floor = g .floor-fits }
@@ -355,44 +243,25 @@ ascend-test (f ∷ (g ∷ gs)) a =
 
 -- ---- completion records
 
-pub in-window : (floor call : ℕ) → inWindow floor call ≡ true → InWindow floor call
+pub window-says : (floor call : ℕ) → Reflects Unit (inWindow floor call) (InWindow floor call)
 unfolding inWindow
-in-window floor call h =
-    let a = split (leb 1 floor) (leb floor call && leb call (floor + lastInWindow)) h in
-    let b = split (leb floor call) (leb call (floor + lastInWindow)) (a .1) in
-    record { known = leb-true _ _ (a .0); low = leb-true _ _ (b .0); high = leb-true _ _ (b .1) }
+window-says floor call =
+    reflects (le 1 floor ∷ le floor call ∷ le call (floor + lastInWindow) ∷ []) (λ u p. record { known = p 0; low = p 1; high = p 2 }) (λ w k. k (w .known) (w .low) (w .high))
 
-pub window-in : (floor call : ℕ) → InWindow floor call → inWindow floor call ≡ true
-unfolding inWindow
-window-in floor call w =
-    and-both (leb 1 floor) (leb floor call && leb call (floor + lastInWindow)) (le-leb _ _ (w .known))
-    (and-both (leb floor call) (leb call (floor + lastInWindow)) (le-leb _ _ (w .low)) (le-leb _ _ (w .high)))
+pub in-window : (floor call : ℕ) → inWindow floor call ≡ true → InWindow floor call
+in-window floor call h = window-says floor call .holds tt h
 
 -- a point whose records stay
-keeps : (x : Point) → keepsRecords x ≡ true → Keeps x
+keeps-says : (x : Point) → Reflects Unit (keepsRecords x) (Keeps x)
 unfolding keepsRecords isHeld isGiven
-keeps x h = go (eqb (x .status) heldStatus) refl h
-  where
-    go : (b : Bool) → eqb (x .status) heldStatus ≡ b → (b || eqb (x .status) givenStatus) ≡ true → Keeps x
-    go true e k = let z : x .status ≡ heldStatus = eqb-true _ _ e in record { low = omega arith; high = omega arith }
-    go false e k = let z : x .status ≡ givenStatus = eqb-true _ _ k in record { low = omega arith; high = omega arith }
-
-keeps-test : (x : Point) → Keeps x → keepsRecords x ≡ true
-unfolding keepsRecords isHeld isGiven
-keeps-test x k = go (eqb (x .status) heldStatus) refl
-  where
-    go : (b : Bool) → eqb (x .status) heldStatus ≡ b → (b || eqb (x .status) givenStatus) ≡ true
-    go true e = refl
-    go false e =
-        let n : x .status ≢ heldStatus = eqb-no _ _ e in
-        let z : x .status ≡ givenStatus = omega (arith, k .low, k .high) in
-        eq-eqb _ _ z
-
-abbrev completionTests : State → Completion → List Bool
-completionTests st r =
-    commandOk (r .command .op) (r .command .point) (r .command .argument) ∷ outcomeOk (r .result .outcome) (r .result .quality) ∷ (leb 1 (r .command .client) && leb 1 (r .command .call))
-    ∷ inRange (entryAt (st .plan) (r .command .point)) (r .result .value) ∷ keepsRecords (pointAt st (r .command .point)) ∷ leb headSize (r .end) ∷ leb (r .end) (st .size)
-    ∷ inWindow (floorOf (r .command .client) (st .floors)) (r .command .call) ∷ []
+keeps-says x =
+    record {
+      holds = λ u. choose-or (λ t. t ≡ true → Keeps x) (eqb (x .status) heldStatus) (eqb (x .status) givenStatus)
+          (λ e h. let z : x .status ≡ heldStatus = eqb-true _ _ e in record { low = omega arith; high = omega arith })
+          (λ e h. let z : x .status ≡ givenStatus = eqb-true _ _ h in record { low = omega arith; high = omega arith });
+      passes = λ k. choose-or (λ t. t ≡ true) (eqb (x .status) heldStatus) (eqb (x .status) givenStatus) (λ e. refl)
+          (λ e. let n : x .status ≢ heldStatus = eqb-no _ _ e in eq-eqb (x .status) givenStatus (omega (arith, k .low, k .high)));
+    }
 
 -- what the test of a completion record says
 pub record Passed (st : State) (r : Completion) : Type 0 where
@@ -400,62 +269,43 @@ pub record Passed (st : State) (r : Completion) : Type 0 where
   pub kept : Keeps (pointAt st (r .command .point))
   pub window : Windowed (st .floors) r
 
-pub good-completion : (st : State) (r : Completion) → completionOk st r ≡ true → CompletionFits r → Passed st r
+pub completion-says : (st : State) (r : Completion) → Reflects (CompletionFits r) (completionOk st r) (Passed st r)
 unfolding completionOk idOk
-good-completion st r h f =
-    let t = joined-all (completionTests st r) h in
-    let j = split (leb 1 (r .command .client)) (leb 1 (r .command .call)) (t .1 .1 .0) in
+completion-says st r =
+    let c = r .command in
+    reflects
+    (flag (commandOk (c .op) (c .point) (c .argument)) ∷ flag (outcomeOk (r .result .outcome) (r .result .quality)) ∷ both (le 1 (c .client)) (le 1 (c .call))
+    ∷ of (range-says (entryAt (st .plan) (c .point)) (r .result .value)) ∷ of (keeps-says (pointAt st (c .point))) ∷ le headSize (r .end) ∷ le (r .end) (st .size)
+    ∷ of (window-says (floorOf (c .client) (st .floors)) (c .call)) ∷ [])
+    (λ f p.
     record {
       good =
           record {
-            command = t .0;
-            outcome = t .1 .0;
-            client = leb-true _ _ (j .0);
-            call = leb-true _ _ (j .1);
+            command = p 0;
+            outcome = p 1;
+            client = p 2 .0;
+            call = p 2 .1;
             client-fits = f .client;
             call-fits = f .call;
-            value = in-range (entryAt (st .plan) (r .command .point)) (r .result .value) (t .1 .1 .1 .0);
-            past = leb-true _ _ (t .1 .1 .1 .1 .1 .0);
-            within = leb-true _ _ (t .1 .1 .1 .1 .1 .1 .0);
+            value = p 3;
+            past = p 5;
+            within = p 6;
           };
-      kept = keeps (pointAt st (r .command .point)) (t .1 .1 .1 .1 .0);
-      window = in-window (floorOf (r .command .client) (st .floors)) (r .command .call) (t .1 .1 .1 .1 .1 .1 .1 .0);
-    }
-
-pub completion-good : (st : State) (r : Completion) → Passed st r → completionOk st r ≡ true
-unfolding completionOk idOk
-completion-good st r p =
-    let g = p .good in
-    all-joined (completionTests st r) (
-      g .command,
-      (
-        g .outcome,
-        (
-          and-both (leb 1 (r .command .client)) (leb 1 (r .command .call)) (le-leb _ _ (g .client)) (le-leb _ _ (g .call)),
-          (
-            range-in (entryAt (st .plan) (r .command .point)) (r .result .value) (g .value),
-            (
-              keeps-test (pointAt st (r .command .point)) (p .kept),
-              (
-                le-leb _ _ (g .past),
-                (le-leb _ _ (g .within), (window-in (floorOf (r .command .client) (st .floors)) (r .command .call) (p .window), tt)),
-              ),
-            ),
-          ),
-        ),
-      ),
-    )
+      kept = p 4;
+      window = p 7;
+    })
+    (λ q k. let g = q .good in k (g .command) (g .outcome) (g .client, g .call) (g .value) (q .kept) (g .past) (g .within) (q .window))
 
 -- ---- ids
 
 -- an id against a record's
 pub is-id : (x c : ℕ) (r : Completion) → isId x c r ≡ true → (r .command .client ≡ x) × (r .command .call ≡ c)
 unfolding isId
-is-id x c r e = let a = split (eqb (r .command .client) x) (eqb (r .command .call) c) e in (eqb-true _ _ (a .0), eqb-true _ _ (a .1))
+is-id x c r e = both (eq (r .command .client) x) (eq (r .command .call) c) .holds e
 
 pub id-is : (x c : ℕ) (r : Completion) → r .command .client ≡ x → r .command .call ≡ c → isId x c r ≡ true
 unfolding isId
-id-is x c r p q = and-both (eqb (r .command .client) x) (eqb (r .command .call) c) (eq-eqb _ _ p) (eq-eqb _ _ q)
+id-is x c r p q = both (eq (r .command .client) x) (eq (r .command .call) c) .passes (p, q)
 
 pub id-not : (x c : ℕ) (r : Completion) → (r .command .client ≡ x → r .command .call ≡ c → ⊥) → isId x c r ≡ false
 id-not x c r h = go (isId x c r) refl
@@ -513,52 +363,51 @@ arrive-test last (r ∷ rs) h a = and-both (leb last (r .end)) (endsFrom (r .end
 
 -- ---- the whole state
 
-abbrev stateTests : State → List Bool
+abbrev stateTests : State → List Test
 stateTests st =
-    leb (st .server) lastServer ∷ leb headSize (st .mark) ∷ leb (st .mark) (st .size) ∷ pointsOk (st .server) (st .size) (st .plan) (st .points)
-    ∷ every floorOk (st .floors) ∷ clientsAscend (st .floors) ∷ every (completionOk st) (st .records) ∷ idsDiffer (st .records)
-    ∷ endsFrom headSize (st .records) ∷ []
+    le (st .server) lastServer ∷ le headSize (st .mark) ∷ le (st .mark) (st .size) ∷ flag (pointsOk (st .server) (st .size) (st .plan) (st .points))
+    ∷ flag (every floorOk (st .floors)) ∷ flag (clientsAscend (st .floors)) ∷ flag (every (completionOk st) (st .records)) ∷ flag (idsDiffer (st .records))
+    ∷ flag (endsFrom headSize (st .records)) ∷ []
 
 pub sound-of : (st : State) → stateOk st ≡ true → StateFits st → Sound st
 unfolding stateOk pointAt entryAt
 sound-of st h F =
-    let t = joined-all (stateTests st) h in
-    let rs : All (Passed st) (st .records)
-    = all-with (st .records) (good-completion st) (every-all (completionOk st) (st .records) (t .1 .1 .1 .1 .1 .1 .0)) (F .records) in
+    let p = facts (stateTests st) h in
+    let rs : All (Passed st) (st .records) = rows-hold (completion-says st) (st .records) (F .records) (p 6) in
     let windows : All (Windowed (st .floors)) (st .records) = all-to (st .records) (λ (r : Completion) (k : Passed st r). k .window) rs in
-    let ids : Distinct (st .records) = differ (st .records) (t .1 .1 .1 .1 .1 .1 .1 .0) in
+    let ids : Distinct (st .records) = differ (st .records) (p 7) in
     record {
-      server = leb-true _ _ (t .0);
+      server = p 0;
       heard = F .heard;
-      head = leb-true _ _ (t .1 .0);
-      mark = leb-true _ _ (t .1 .1 .0);
+      head = p 1;
+      mark = p 2;
       size = F .size;
       plan = F .plan-count;
-      entries = all-to (st .plan) (λ (e : PlanEntry) (f : PlanEntryFits e). good-entry e (f .ok) (f .high)) (F .plan);
+      entries = all-to (st .plan) (λ (e : PlanEntry) (f : PlanEntryFits e). entry-says e .holds (f .high) (f .ok)) (F .plan);
       points = F .points-count;
-      point = λ (p : ℕ) (l : p ≤ lastPoint). point-of p l (t .1 .1 .1 .0);
+      point = λ (q : ℕ) (l : q ≤ lastPoint). point-of q l (p 3);
       clients = F .floors-count;
-      floors = all-with (st .floors) good-floor (every-all floorOk (st .floors) (t .1 .1 .1 .1 .0)) (F .floors);
-      ascending = ascends (st .floors) (t .1 .1 .1 .1 .1 .0);
+      floors = rows-hold floor-says (st .floors) (F .floors) (p 4);
+      ascending = ascends (st .floors) (p 5);
       count = omega (arith, windows-few (st .floors) (st .records) windows ids, F .floors-count);
       records = all-to (st .records) (λ (r : Completion) (k : Passed st r). k .good) rs;
       windows = windows;
       kept = all-to (st .records) (λ (r : Completion) (k : Passed st r). k .kept) rs;
       ids = ids;
-      arrived = arrives headSize (st .records) (t .1 .1 .1 .1 .1 .1 .1 .1 .0);
+      arrived = arrives headSize (st .records) (p 8);
     }
   where
     point-of : (p : ℕ) → p ≤ lastPoint → pointsOk (st .server) (st .size) (st .plan) (st .points) ≡ true
         → GoodPoint (st .server) (st .size) (entryAt (st .plan) p) (pointAt st p)
     point-of p l k =
-        good-point (st .server) (st .size) (getD (st .plan) p noEntry) (getD (st .points) p noPoint)
-        (points-at (st .server) (st .size) (st .plan) (st .points) k p (omega (arith, F .plan-count)))
+        point-says (st .server) (st .size) (getD (st .plan) p noEntry) (getD (st .points) p noPoint) .holds
         (all-getD PointFits (st .points) p noPoint (F .points) (omega (arith, F .points-count)) .moveNumber)
+        (points-at (st .server) (st .size) (st .plan) (st .points) k p (omega (arith, F .plan-count)))
 
 pub state-of : (st : State) → Sound st → stateOk st ≡ true
 unfolding stateOk pointAt entryAt
 state-of st S =
-    let passed : All (Passed st) (st .records)
+    let passes : All (Passed st) (st .records)
     = all-with (st .records)
     (λ (r : Completion) (g : GoodCompletion (st .plan) (st .size) r) (k : Keeps (pointAt st (r .command .point)) × Windowed (st .floors) r).
     record { good = g; kept = k .0; window = k .1 })
@@ -566,34 +415,14 @@ state-of st S =
     (all-with (st .records) (λ (r : Completion) (k : Keeps (pointAt st (r .command .point))) (w : Windowed (st .floors) r). (k, w)) (S .kept) (S .windows)) in
     let past : All (λ (r : Completion). headSize ≤ r .end) (st .records)
     = all-to (st .records) (λ (r : Completion) (g : GoodCompletion (st .plan) (st .size) r). omega (arith, g .past)) (S .records) in
-    all-joined (stateTests st) (
-      le-leb _ _ (S .server),
-      (
-        le-leb _ _ (S .head),
-        (
-          le-leb _ _ (S .mark),
-          (
-            points,
-            (
-              all-every floorOk (st .floors) (all-to (st .floors) floor-good (S .floors)),
-              (
-                ascend-test (st .floors) (S .ascending),
-                (
-                  all-every (completionOk st) (st .records) (all-to (st .records) (completion-good st) passed),
-                  (differ-test (st .records) (S .ids), (arrive-test headSize (st .records) past (S .arrived), tt)),
-                ),
-              ),
-            ),
-          ),
-        ),
-      ),
-    )
+    passed (stateTests st) (S .server) (S .head) (S .mark) points (rows-pass floor-says (st .floors) (S .floors)) (ascend-test (st .floors) (S .ascending))
+    (rows-pass (completion-says st) (st .records) passes) (differ-test (st .records) (S .ids)) (arrive-test headSize (st .records) past (S .arrived))
   where
     points : pointsOk (st .server) (st .size) (st .plan) (st .points) ≡ true
     points =
         at-points (st .server) (st .size) (st .plan) (st .points) (S .points ∙ sym (S .plan))
         (λ (p : ℕ) (l : p < length (st .plan)).
-        point-good (st .server) (st .size) (getD (st .plan) p noEntry) (getD (st .points) p noPoint) (S .point p (omega (arith, S .plan))))
+        point-says (st .server) (st .size) (getD (st .plan) p noEntry) (getD (st .points) p noPoint) .passes (S .point p (omega (arith, S .plan))))
 
 -- the entry of a point in a sound state
 pub sound-entry : {P : ℕ → Type 0} (st : State) → SoundBy P st → (p : ℕ) → p ≤ lastPoint → GoodEntry (entryAt (st .plan) p)

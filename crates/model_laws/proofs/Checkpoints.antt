@@ -1,18 +1,18 @@
 -- Laws of a checkpoint: what was written is read back.
 --     Framed, framed-is, is-framed  the frame, as a record and as a test
 --     Restorable                    a state that fits, with ends that its checkpoint tells
---     checkpoint-bytes-length, pairs-bytes, checkpoint-bytes-fit     the bytes of a checkpoint
+--     checkpointFields, checkpointNumbers, checkpoint-writes     the head
+--     checkpoint-bytes-length, checkpoint-bytes-fit     the bytes of a checkpoint
 --     front-framed, restored-front  a checkpoint with any bytes behind it is framed, and gives the state's bytes, places aside
 -- Assumes nothing.
 use Prim.Native.Nat.{ℕ, _+_, _-_, _*_, _/_, _≤_}
 use mathlib.Core.Path.{_≡_, refl, sym, ap, _∙_}
-use mathlib.Core.Bool.{Bool, true}
+use mathlib.Core.Bool.{true}
 use mathlib.Core.List.{List, [], _∷_, _++_, map, append-assoc}
 use native.Mathlib.Omega.{arith}
 use lib.ListN.{length, take, drop, replicate, length-append, length-map}
 use lib.Seq.{drop-at, drop-drop, take-at}
-use lib.Dec.{eqb, leb, lit<}
-use borrow.Author.Tests.{eqb-true, eq-eqb, leb-true, le-leb}
+use lib.Dec.{lit<}
 use Rattle.model.specs.declared.Point.{Point}
 use Rattle.model.specs.declared.Completion.{Completion}
 use Rattle.model.specs.Numbers.{le32At, le32, le64, quad, startsWith}
@@ -22,11 +22,14 @@ use Rattle.model.specs.Images.{floorBytes}
 use Rattle.model.specs.States.{State, recordRow, pointBytes, completionBytes, stateHeadBytes, padded, stateBytes}
 use Rattle.model.specs.Limits.{headSize, planSize, pointCount, clientCount, recordCount, floorRow, checkpointHead, checkpointPoint, checkpointRecord}
 use Rattle.model.specs.Checkpoints.{placedPoint, placedRecord, placed, endBefore, rebased, checkpointMagic, planPart, pointsPart, clientsPart, recordsPart}
-use Rattle.model.specs.Checkpoints.{pairsBytes, pointFront, recordFront, checkpointBytes, clientsOf, recordsOf, pointWhole, recordWhole, fronts, restored, checkpointFramed}
+use Rattle.model.specs.Checkpoints.{pairsBytes, pointFront, recordFront, checkpointBytes, clientsOf, recordsOf, pointWhole, recordWhole, fronts, restoredBytes, restored, checkpointFramed}
 use Rattle.model_laws.specs.Bytes.{Bytes, All}
+use Rattle.model_laws.specs.Fields.{Field, byte, word32, fixed, fixedAll, gotAll, putAll, nth, Bounded, fixedBytes}
 use Rattle.model_laws.specs.Fits.{PointFits, CompletionFits, StateFits}
-use Rattle.model_laws.proofs.Tests.{joined-all, all-joined}
-use Rattle.model_laws.proofs.Numbers.{le32-digits, bytes-quad, bytes-le32, bytes-run}
+use Rattle.model_laws.proofs.Tests.{joined-all}
+use Rattle.model_laws.proofs.Reflects.{Test, le, eq, flag, facts, passed}
+use Rattle.model_laws.proofs.Numbers.{bytes-run}
+use Rattle.model_laws.proofs.Fields.{all-bytes, all-front}
 use Rattle.model_laws.proofs.Tables.{length-bytesOf, bytes-bytesOf, all-map}
 use Rattle.model_laws.proofs.Images.{floorCodec}
 use Rattle.model_laws.proofs.Plans.{plan-length, plan-bytes}
@@ -50,73 +53,37 @@ pub record Framed (s : List ℕ) : Type 0 where
   pub few-records : recordsOf s ≤ recordCount
   pub whole : recordsPart (clientsOf s) + checkpointRecord * recordsOf s ≤ length s
 
-abbrev framedTests : List ℕ → List Bool
+abbrev framedTests : List ℕ → List Test
 framedTests s =
-    leb checkpointHead (length s) ∷ startsWith s checkpointMagic ∷ eqb (le32At s 12) planPart ∷ eqb (le32At s 16) planSize ∷ eqb (le32At s 20) pointsPart
-    ∷ eqb (le32At s 24) (checkpointPoint * pointCount) ∷ eqb (le32At s 28) clientsPart ∷ eqb (le32At s 32) (floorRow * clientsOf s)
-    ∷ eqb (le32At s 36) (recordsPart (clientsOf s)) ∷ eqb (le32At s 40) (checkpointRecord * recordsOf s) ∷ leb (clientsOf s) clientCount ∷ leb (recordsOf s) recordCount
-    ∷ leb (recordsPart (clientsOf s) + checkpointRecord * recordsOf s) (length s) ∷ []
+    le checkpointHead (length s) ∷ flag (startsWith s checkpointMagic) ∷ eq (le32At s 12) planPart ∷ eq (le32At s 16) planSize ∷ eq (le32At s 20) pointsPart
+    ∷ eq (le32At s 24) (checkpointPoint * pointCount) ∷ eq (le32At s 28) clientsPart ∷ eq (le32At s 32) (floorRow * clientsOf s) ∷ eq (le32At s 36) (recordsPart (clientsOf s))
+    ∷ eq (le32At s 40) (checkpointRecord * recordsOf s) ∷ le (clientsOf s) clientCount ∷ le (recordsOf s) recordCount
+    ∷ le (recordsPart (clientsOf s) + checkpointRecord * recordsOf s) (length s) ∷ []
 
 pub framed-is : (s : List ℕ) → checkpointFramed s ≡ true → Framed s
 unfolding checkpointFramed
 framed-is s e =
-    let t = joined-all (framedTests s) e in
-    let u = t .1 .1 .1 .1 in
+    let p = facts (framedTests s) e in
     record {
-      magic = t .1 .0;
-      plan = eqb-true (le32At s 12) planPart (t .1 .1 .0);
-      plan-size = eqb-true (le32At s 16) planSize (t .1 .1 .1 .0);
-      points = eqb-true (le32At s 20) pointsPart (u .0);
-      points-size = eqb-true (le32At s 24) (checkpointPoint * pointCount) (u .1 .0);
-      clients = eqb-true (le32At s 28) clientsPart (u .1 .1 .0);
-      clients-size = eqb-true (le32At s 32) (floorRow * clientsOf s) (u .1 .1 .1 .0);
-      records = eqb-true (le32At s 36) (recordsPart (clientsOf s)) (u .1 .1 .1 .1 .0);
-      records-size = eqb-true (le32At s 40) (checkpointRecord * recordsOf s) (u .1 .1 .1 .1 .1 .0);
-      few-clients = leb-true (clientsOf s) clientCount (u .1 .1 .1 .1 .1 .1 .0);
-      few-records = leb-true (recordsOf s) recordCount (u .1 .1 .1 .1 .1 .1 .1 .0);
-      whole = leb-true (recordsPart (clientsOf s) + checkpointRecord * recordsOf s) (length s) (u .1 .1 .1 .1 .1 .1 .1 .1 .0);
+      magic = p 1;
+      plan = p 2;
+      plan-size = p 3;
+      points = p 4;
+      points-size = p 5;
+      clients = p 6;
+      clients-size = p 7;
+      records = p 8;
+      records-size = p 9;
+      few-clients = p 10;
+      few-records = p 11;
+      whole = p 12;
     }
 
 pub is-framed : (s : List ℕ) → Framed s → checkpointFramed s ≡ true
 unfolding checkpointFramed
 is-framed s d =
-    all-joined (framedTests s) (
-      le-leb checkpointHead (length s) (omega (arith, d .whole)),
-      (
-        d .magic,
-        (
-          eq-eqb (le32At s 12) planPart (d .plan),
-          (
-            eq-eqb (le32At s 16) planSize (d .plan-size),
-            (
-              eq-eqb (le32At s 20) pointsPart (d .points),
-              (
-                eq-eqb (le32At s 24) (checkpointPoint * pointCount) (d .points-size),
-                (
-                  eq-eqb (le32At s 28) clientsPart (d .clients),
-                  (
-                    eq-eqb (le32At s 32) (floorRow * clientsOf s) (d .clients-size),
-                    (
-                      eq-eqb (le32At s 36) (recordsPart (clientsOf s)) (d .records),
-                      (
-                        eq-eqb (le32At s 40) (checkpointRecord * recordsOf s) (d .records-size),
-                        (
-                          le-leb (clientsOf s) clientCount (d .few-clients),
-                          (
-                            le-leb (recordsOf s) recordCount (d .few-records),
-                            (le-leb (recordsPart (clientsOf s) + checkpointRecord * recordsOf s) (length s) (d .whole), tt),
-                          ),
-                        ),
-                      ),
-                    ),
-                  ),
-                ),
-              ),
-            ),
-          ),
-        ),
-      ),
-    )
+    passed (framedTests s) (omega (arith, d .whole)) (d .magic) (d .plan) (d .plan-size) (d .points) (d .points-size) (d .clients) (d .clients-size) (d .records) (d .records-size)
+    (d .few-clients) (d .few-records) (d .whole)
 
 -- ---- the whole checkpoint: what was written is read back
 
@@ -128,26 +95,21 @@ pub record Restorable (st : State) : Type 0 where
   pub points : All Told (st .points)
   pub records : All (λ (r : Completion). endBefore (r .end) ≡ headSize) (st .records)
 
-pub pairs-bytes : (n k : ℕ) → n ≤ clientCount → k ≤ recordCount → Bytes (pairsBytes n k)
-unfolding pairsBytes
-pairs-bytes n k few some =
-    bytes-run
-    (le32 planPart ∷ le32 planSize ∷ le32 pointsPart ∷ le32 (checkpointPoint * pointCount) ∷ le32 clientsPart ∷ le32 (floorRow * n) ∷ le32 (recordsPart n) ∷ le32 (checkpointRecord * k) ∷ []) (
-      bytes-le32 planPart (lit< tt),
-      (
-        bytes-le32 planSize (lit< tt),
-        (
-          bytes-le32 pointsPart (lit< tt),
-          (
-            bytes-le32 (checkpointPoint * pointCount) (lit< tt),
-            (
-              bytes-le32 clientsPart (lit< tt),
-              (bytes-le32 (floorRow * n) (omega arith), (bytes-le32 (recordsPart n) (omega arith), (bytes-le32 (checkpointRecord * k) (omega arith), tt))),
-            ),
-          ),
-        ),
-      ),
-    )
+-- the head's fields; its numbers with n clients and k completion records
+abbrev pub checkpointFields : List Field
+checkpointFields =
+    fixedAll checkpointMagic
+    ++ (byte ∷ fixed 0 ∷ fixed 0 ∷ fixed 0 ∷ word32 ∷ word32 ∷ word32 ∷ word32 ∷ word32 ∷ word32 ∷ word32 ∷ word32 ∷ word32 ∷ [])
+
+abbrev pub checkpointNumbers : ℕ → ℕ → ℕ → ℕ → List ℕ
+checkpointNumbers server heard n k =
+    server ∷ heard ∷ planPart ∷ planSize ∷ pointsPart ∷ (checkpointPoint * pointCount) ∷ clientsPart ∷ (floorRow * n) ∷ recordsPart n ∷ (checkpointRecord * k) ∷ []
+
+pub checkpoint-writes : (st : State) → checkpointBytes st
+    ≡ putAll checkpointFields (checkpointNumbers (st .server) (st .heard) (length (st .floors)) (length (st .records)))
+    ++ (planBytes (st .plan) ++ (bytesOf pointFront (st .points) ++ (bytesOf floorBytes (st .floors) ++ bytesOf recordFront (st .records))))
+unfolding checkpointBytes pairsBytes
+checkpoint-writes st = refl
 
 over-floor : (n : ℕ) → floorRow * n / floorRow ≡ n
 over-floor n = omega arith
@@ -183,47 +145,45 @@ module _ (st : State) where
     checkpoint-bytes-length =
         simp (length-append, plan-length (st .plan) (f .plan-count), points-length, clients-length, records-length) (omega arith)
 
+    abbrev numbers : List ℕ
+    numbers = checkpointNumbers (st .server) (st .heard) (length (st .floors)) (length (st .records))
+
+    numbers-bounded : Bounded checkpointFields numbers
+    numbers-bounded =
+        let n : length (st .floors) ≤ clientCount = f .floors-count in
+        let k : length (st .records) ≤ recordCount = f .records-count in
+        (f .server, (f .heard, (lit< tt, (lit< tt, (lit< tt, (lit< tt, (lit< tt, (omega arith, (omega arith, (omega arith, tt))))))))))
+
     pub checkpoint-bytes-fit : Bytes (checkpointBytes st)
-    unfolding checkpointBytes pairsBytes
     checkpoint-bytes-fit =
-        let n : ℕ = length (st .floors) in
-        let k : ℕ = length (st .records) in
-        let few : n ≤ clientCount = f .floors-count in
-        let some : k ≤ recordCount = f .records-count in
-        bytes-run
-        (checkpointMagic ∷ quad (st .server) 0 0 0 ∷ le32 (st .heard)
-        ∷ pairsBytes n k
-        ∷ planBytes (st .plan) ∷ frontsBytes ∷ clientsBytes ∷ recordsBytes ∷ []) (
-          bytes-quad 87 76 71 50 (lit< tt) (lit< tt) (lit< tt) (lit< tt),
+        rw checkpoint-writes
+        (bytes-run (putAll checkpointFields numbers ∷ planBytes (st .plan) ∷ frontsBytes ∷ clientsBytes ∷ recordsBytes ∷ []) (
+          all-bytes checkpointFields numbers (joined-all (fixedBytes checkpointFields) refl) numbers-bounded,
           (
-            bytes-quad (st .server) 0 0 0 (f .server) (lit< tt) (lit< tt) (lit< tt),
+            plan-bytes (st .plan) (f .plan),
             (
-              bytes-le32 (st .heard) (f .heard),
+              bytes-each pointFront (st .points) (all-map PointFits (λ (x : Point). Bytes (pointFront x)) point-front-bytes (st .points) (f .points)),
               (
-                pairs-bytes n k few some,
-                (
-                  plan-bytes (st .plan) (f .plan),
-                  (
-                    bytes-each pointFront (st .points) (all-map PointFits (λ (x : Point). Bytes (pointFront x)) point-front-bytes (st .points) (f .points)),
-                    (
-                      bytes-bytesOf floorCodec (st .floors) (f .floors),
-                      (bytes-each recordFront (st .records) (all-map CompletionFits (λ (r : Completion). Bytes (recordFront r)) record-front-bytes (st .records) (f .records)), tt),
-                    ),
-                  ),
-                ),
+                bytes-bytesOf floorCodec (st .floors) (f .floors),
+                (bytes-each recordFront (st .records) (all-map CompletionFits (λ (r : Completion). Bytes (recordFront r)) record-front-bytes (st .records) (f .records)), tt),
               ),
             ),
           ),
-        )
+        ))
 
     module _ (rest : List ℕ) where
+      numbers-at : nth (gotAll checkpointFields (checkpointBytes st ++ rest) 0) ≡ nth numbers
+      numbers-at =
+          let tables : List ℕ = planBytes (st .plan) ++ (frontsBytes ++ (clientsBytes ++ recordsBytes)) in
+          rw (checkpoint-writes st, append-assoc (putAll checkpointFields numbers) tables rest) (all-front checkpointFields numbers (tables ++ rest) numbers-bounded)
+
       clients-at : clientsOf (checkpointBytes st ++ rest) ≡ length (st .floors)
-      unfolding clientsOf checkpointBytes pairsBytes le32At
-      clients-at = ap (λ (k : ℕ). k / floorRow) (le32-digits (floorRow * length (st .floors))) ∙ over-floor (length (st .floors))
+      unfolding clientsOf
+      clients-at = (λ i. numbers-at i 7 / floorRow) ∙ over-floor (length (st .floors))
 
       records-at : recordsOf (checkpointBytes st ++ rest) ≡ length (st .records)
-      unfolding recordsOf checkpointBytes pairsBytes le32At
-      records-at = ap (λ (k : ℕ). k / checkpointRecord) (le32-digits (checkpointRecord * length (st .records))) ∙ over-record (length (st .records))
+      unfolding recordsOf
+      records-at = (λ i. numbers-at i 9 / checkpointRecord) ∙ over-record (length (st .records))
 
       head-at : take 8 (drop 4 (checkpointBytes st ++ rest)) ≡ quad (st .server) 0 0 0 ++ le32 (st .heard)
       unfolding checkpointBytes
@@ -268,22 +228,6 @@ module _ (st : State) where
             take-at clientsBytes (recordsBytes ++ rest) (floorRow * length (st .floors)) clients-length,
           )
 
-      pairs-at : ((le32At (checkpointBytes st ++ rest) 12 ≡ planPart) × (le32At (checkpointBytes st ++ rest) 16 ≡ planSize)
-          × (le32At (checkpointBytes st ++ rest) 20 ≡ pointsPart) × (le32At (checkpointBytes st ++ rest) 24 ≡ checkpointPoint * pointCount)
-          × (le32At (checkpointBytes st ++ rest) 28 ≡ clientsPart) × (le32At (checkpointBytes st ++ rest) 32 ≡ floorRow * length (st .floors))
-          × (le32At (checkpointBytes st ++ rest) 36 ≡ recordsPart (length (st .floors))) × (le32At (checkpointBytes st ++ rest) 40 ≡ checkpointRecord * length (st .records)))
-      unfolding checkpointBytes pairsBytes le32At
-      pairs-at = (
-        refl,
-        refl,
-        refl,
-        refl,
-        refl,
-        le32-digits (floorRow * length (st .floors)),
-        le32-digits (recordsPart (length (st .floors))),
-        le32-digits (checkpointRecord * length (st .records)),
-      )
-
       magic-at : startsWith (checkpointBytes st ++ rest) checkpointMagic ≡ true
       unfolding checkpointBytes
       magic-at = refl
@@ -293,17 +237,16 @@ module _ (st : State) where
           let n : clientsOf (checkpointBytes st ++ rest) ≡ length (st .floors) = clients-at in
           let k : recordsOf (checkpointBytes st ++ rest) ≡ length (st .records) = records-at in
           let l : length (checkpointBytes st ++ rest) ≡ length (checkpointBytes st) + length rest = length-append (checkpointBytes st) rest in
-          let p = pairs-at in
           record {
             magic = magic-at;
-            plan = p .0;
-            plan-size = p .1;
-            points = p .2;
-            points-size = p .3;
-            clients = p .4;
-            clients-size = p .5 ∙ ap (λ (x : ℕ). floorRow * x) (sym n);
-            records = p .6 ∙ ap recordsPart (sym n);
-            records-size = p .7 ∙ ap (λ (x : ℕ). checkpointRecord * x) (sym k);
+            plan = λ i. numbers-at i 2;
+            plan-size = λ i. numbers-at i 3;
+            points = λ i. numbers-at i 4;
+            points-size = λ i. numbers-at i 5;
+            clients = λ i. numbers-at i 6;
+            clients-size = (λ i. numbers-at i 7) ∙ ap (λ (x : ℕ). floorRow * x) (sym n);
+            records = (λ i. numbers-at i 8) ∙ ap recordsPart (sym n);
+            records-size = (λ i. numbers-at i 9) ∙ ap (λ (x : ℕ). checkpointRecord * x) (sym k);
             few-clients = rw n (f .floors-count);
             few-records = rw k (f .records-count);
             whole = rw (n, k) (omega (arith, l, checkpoint-bytes-length));
@@ -317,25 +260,17 @@ module _ (st : State) where
         (clientsBytes ++ (recordsBytes ++ rest)) (R .points)
         ∙ sym (bytesOf-map pointBytes (placedPoint endBefore) (st .points)))
 
-    completions-at : padded recordWhole recordRow recordCount
+    completions-at : bytesOf recordWhole
         (fronts checkpointRecord (recordsOf (checkpointBytes st ++ rest)) (drop (recordsPart (clientsOf (checkpointBytes st ++ rest))) (checkpointBytes st ++ rest)))
-        ≡ padded completionBytes recordRow recordCount (map (placedRecord endBefore) (st .records))
-    unfolding padded
+        ≡ bytesOf completionBytes (map (placedRecord endBefore) (st .records))
     completions-at =
-        rw (
-          clients-at (R .fits) rest,
-          records-at (R .fits) rest,
-          drop-clients (R .fits) rest,
-          length-fronts checkpointRecord (length (st .records)) (recordsBytes ++ rest),
-          length-map (st .records) (placedRecord endBefore),
-        )
-        (ap (λ (x : List ℕ). x ++ replicate (recordRow * (recordCount - length (st .records))) 0)
+        rw (clients-at (R .fits) rest, records-at (R .fits) rest, drop-clients (R .fits) rest)
         (fronts-back (λ (r : Completion). endBefore (r .end) ≡ headSize) recordFront (λ (r : Completion). completionBytes (placedRecord endBefore r)) checkpointRecord recordWhole
         (λ r t. record-front-width r) record-whole (st .records) rest (R .records)
-        ∙ sym (bytesOf-map completionBytes (placedRecord endBefore) (st .records))))
+        ∙ sym (bytesOf-map completionBytes (placedRecord endBefore) (st .records)))
 
-    pub restored-front : restored (checkpointBytes st ++ rest) ≡ stateBytes (rebased st)
-    unfolding restored stateBytes stateHeadBytes rebased placed le64
+    pub restored-front : restoredBytes (checkpointBytes st ++ rest) ≡ stateBytes (rebased st)
+    unfolding restoredBytes stateBytes stateHeadBytes rebased placed le64
     restored-front =
         rw (
           completions-at,
@@ -349,3 +284,7 @@ module _ (st : State) where
           R .mark,
           length-map (st .records) (placedRecord endBefore),
         )
+
+    pub restored-blank : restored (checkpointBytes st ++ rest) ≡ stateBytes (rebased st) ++ replicate (recordRow * (recordCount - length (st .records))) 0
+    unfolding restored
+    restored-blank = rw (restored-front, records-at (R .fits) rest)

@@ -6,17 +6,18 @@
 --     issue-case, resend-case, receive-case     the exits of each call, with what each was told
 --     issue-asked, resend-asked        what an issue or a resend that is not refused does
 --     issue-refused, resend-same       a refused issue and a resend leave the client
+--     past-byte                        an issue whose op or point is past a byte is refused with 1
 --     start-fresh                      a started client: 16 places, the next number 1
 --     issue-command, issue-next        an issue that is not refused takes next and raises it by 1
 --     issue-keeps, receive-next        a client keeps its number; next never falls, and only an issue raises it
 -- Assumes nothing.
 use mathlib.Core.Path.{_≡_, refl, sym, _∙_, ap}
-use mathlib.Core.Bool.{Bool, true, false, _&&_}
+use mathlib.Core.Bool.{Bool, true, false, _&&_, _||_}
 use mathlib.Core.List.{List}
 use mathlib.Core.Option.{Option, none, some}
 use Prim.Native.Nat.{ℕ, suc, _+_, _≤_, _<_}
 use native.Mathlib.Omega.{arith}
-use lib.Dec.{eqb, leb}
+use lib.Dec.{eqb, leb, ltb}
 use lib.ListN.{length, getD}
 use borrow.Author.Tests.{leb-true, leb-false, eqb-true, le-leb, eq-eqb}
 use Rattle.model.specs.declared.Client.{Client}
@@ -38,6 +39,7 @@ use Rattle.model.specs.Clients.{newCall, withCall, notSent, sent, issueOf, rese
 use Rattle.model.specs.Limits.{last32, callWindow}
 use Rattle.model.specs.Refusals.{malformed, windowFull, numbersOut, unknown}
 use Rattle.model_laws.proofs.Tests.{and-left, and-right, and-both, impossible}
+use Rattle.model_laws.proofs.Commands.{command-past}
 use Rattle.model_laws.proofs.Least.{least-under, least-each}
 
 -- ---- what it is to be open
@@ -250,3 +252,7 @@ receive-next d p = go (receive-case d p)
     go (ReceiveCase.completed r q o e) = rw e (refl, refl)
     go (ReceiveCase.denied r q o e) = rw e (refl, refl)
     go (ReceiveCase.extended g q o l e) = rw e (refl, refl)
+
+pub past-byte : (d : Client) (op point a : ℕ) → (ltb 255 op || ltb 255 point) ≡ true → record { client = d; answer = NotSent malformed } ≡ issueOf d op point a
+unfolding issueOf notSent
+past-byte d op point a e = rw (command-past op point a e) refl

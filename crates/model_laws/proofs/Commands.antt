@@ -2,14 +2,15 @@
 --     in-arguments       an argument in a range is from its least to its greatest
 --     argument-parts     an op that has an argument is one of the six, and the argument has 32 bits
 --     command-parts      all that the test asks
+--     command-past       an op or a point past a byte is malformed
 -- Assumes nothing.
 use Prim.Native.Nat.{ℕ, _≤_, _<_}
-use mathlib.Core.Path.{_≡_, refl, subst}
-use mathlib.Core.Bool.{Bool, true, false}
+use mathlib.Core.Path.{_≡_, refl, sym, subst, _∙_}
+use mathlib.Core.Bool.{Bool, true, false, _||_, false≢true}
 use native.Mathlib.Omega.{arith}
 use lib.ListN.{List·getD-eq-default}
 use lib.Dec.{leb, ltb}
-use borrow.Author.Tests.{leb-true, ltb-true, ltb-false}
+use borrow.Author.Tests.{leb-true, ltb-true, ltb-false, le-ltb}
 use Rattle.model.specs.declared.ArgumentRange.{ArgumentRange}
 use Rattle.model.specs.Numbers.{word}
 use Rattle.model.specs.Limits.{lastOp, lastPoint, last32}
@@ -57,3 +58,13 @@ command-parts op point a h =
       ranged = ranged;
       fits = parts .1;
     }
+
+pub command-past : (op point a : ℕ) → (ltb 255 op || ltb 255 point) ≡ true → commandOk op point a ≡ false
+command-past op point a e = go (commandOk op point a) refl
+  where
+    under : CommandParts op point a → (ltb 255 op || ltb 255 point) ≡ false
+    under c = let o = c .op in let p = c .point in rw (le-ltb 255 op (omega arith), le-ltb 255 point (omega arith)) refl
+
+    go : (b : Bool) → commandOk op point a ≡ b → commandOk op point a ≡ false
+    go true f = absurd (false≢true (sym (under (command-parts op point a f)) ∙ e))
+    go false f = f

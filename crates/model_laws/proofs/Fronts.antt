@@ -27,7 +27,7 @@ use Rattle.model_laws.specs.Bytes.{Bytes, All}
 use Rattle.model_laws.specs.Fits.{PointFits, CompletionFits}
 use Rattle.model_laws.proofs.Numbers.{le32-digits, length-le64, bytes-take, bytes-drop, bytes-append, bytes-nil, bytes-le64}
 use Rattle.model_laws.proofs.Tables.{length-rows}
-use Rattle.model_laws.proofs.States.{point-bytes, completion-bytes}
+use Rattle.model_laws.proofs.States.{pointCodec, completionCodec}
 
 -- ---- rows with all that follows them
 
@@ -115,7 +115,7 @@ point-whole x rest t =
 
 pub point-front-bytes : (x : Point) → PointFits x → Bytes (pointFront x)
 unfolding pointFront
-point-front-bytes x h = bytes-take checkpointPoint (pointBytes x) (point-bytes x h)
+point-front-bytes x h = bytes-take checkpointPoint (pointBytes x) (pointCodec .enc-bytes x h)
 
 -- ---- a completion record's front
 
@@ -125,7 +125,7 @@ record-front-width r = refl
 
 pub record-front-bytes : (r : Completion) → CompletionFits r → Bytes (recordFront r)
 unfolding recordFront
-record-front-bytes r h = bytes-take checkpointRecord (completionBytes r) (completion-bytes r h)
+record-front-bytes r h = bytes-take checkpointRecord (completionBytes r) (completionCodec .enc-bytes r h)
 
 placed-record-split : (r : Completion) → completionBytes (placedRecord endBefore r) ≡ recordFront r ++ le64 (endBefore (r .end))
 unfolding recordFront completionBytes placedRecord

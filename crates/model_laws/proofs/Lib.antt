@@ -2,8 +2,10 @@ pub mod Tests
 pub mod Book
 pub mod Refused
 pub mod Numbers
+pub mod Reflects
 pub mod Written
 pub mod Tables
+pub mod Fields
 pub mod Packets
 pub mod Commands
 pub mod Images
@@ -13,6 +15,7 @@ pub mod Ends
 pub mod TwoWalks
 pub mod Plans
 pub mod States
+pub mod Alike
 pub mod Fronts
 pub mod Checkpoints
 pub mod Restored
@@ -21,3 +24,13 @@ pub mod Loops
 pub mod Ands
 pub mod Least
 pub mod Clients
+pub mod Bounds
+pub mod Meaning
+pub mod Nearest
+pub mod Quotient
+pub mod Range
+pub mod OpenCalls
+pub mod ClientsKept
+pub mod ClientsBytes
+pub mod LeaseLists
+pub mod LeasesKept

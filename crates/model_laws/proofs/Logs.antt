@@ -16,7 +16,7 @@
 -- Assumes nothing.
 use Prim.Native.Nat.{ℕ, zero, suc, _+_, _-_, _≤_, _<_}
 use mathlib.Core.Path.{_≡_, refl, sym, ap, _∙_, subst}
-use mathlib.Core.Bool.{Bool, true, false, _&&_, _||_}
+use mathlib.Core.Bool.{Bool, true, false, _&&_, _||_, and-assoc}
 use mathlib.Core.List.{List, [], _∷_, _++_, append-nil, append-assoc}
 use mathlib.Core.Option.{Option, none, some}
 use native.Mathlib.Omega.{arith}
@@ -24,36 +24,40 @@ use native.Mathlib.Nat.{add-zero}
 use lib.ListN.{length, take, drop, length-append, length-take, length-drop, take-append-drop}
 use lib.Seq.{take-all, take-take, getD-take, take-at, drop-at, take-append-add, length-take-le, take-nil}
 use lib.Dec.{eqb, leb, ltb, lit<, lit≤}
-use borrow.Author.Tests.{eqb-true, leb-true, le-leb, lt-leb, lt-ltb, le-ltb, ltb-true, ltb-false, leb-false}
+use borrow.Author.Tests.{eqb-true, eq-eqb, leb-true, le-leb, lt-leb, lt-ltb, le-ltb, ltb-true, ltb-false, leb-false}
 use Rattle.model.specs.declared.Executed.{Executed}
 use Rattle.model.specs.declared.Give.{Give}
+use Rattle.model.specs.declared.Notice.{Notice}
 use Rattle.model.specs.declared.Release.{Release}
 use Rattle.model.specs.Choice.{pick}
-use Rattle.model.specs.Numbers.{byteAt, flip, le32At, le32, signedAt, signed32, zeroAt, zeros3At, quad, startsWith}
+use Rattle.model.specs.Numbers.{byteAt, le32At, le32, zeroAt, zeros3At, quad, startsWith}
 use Rattle.model.specs.Tables.{bytesOf, keep, written}
 use Rattle.model.specs.Packets.{noticeAt, noticeOk, noticeBytes}
 use Rattle.model.specs.Images.{Image, parseImage, imageBytes, imageLength}
 use Rattle.model.specs.Logs.{logMagic, headBytes, headServer, headOk, LogRecord, executed, gone, gave, took, released, executedAt, executedOk}
 use Rattle.model.specs.Logs.{executedBytes, giveAt, giveOk, giveBytes, takeBytes, releaseAt, releaseOk, releaseBytes, recordBytes, recordSize, Extent}
 use Rattle.model.specs.Logs.{off, cut, spans, within, takeExtent, extentOf, takeParsed, recordAt, Entry, entriesBytes}
-use Rattle.model.specs.Limits.{lastServer, leastImage, greatestImage, headSize, executedSize, giveSize, takeHead, releaseSize}
-use Rattle.model.specs.Limits.{executedKind, giveKind, goneKind, goneSize, releaseKind, takeKind}
+use Rattle.model.specs.Limits.{lastServer, leastImage, greatestImage, headSize, takeHead}
+use Rattle.model.specs.Limits.{executedKind, giveKind, goneKind, releaseKind, takeKind}
 use Rattle.model_laws.specs.Bytes.{Bytes, All}
-use Rattle.model_laws.specs.Fits.{ExecutedFits, IsImage, recordFits, recordOk, IsRecord, EntryFrom, EntriesFrom, entriesFrom, lastEnd, Incomplete, Walked}
+use Rattle.model_laws.specs.Codec.{Codec}
+use Rattle.model_laws.specs.Fields.{byte, word32, signed, fixed, Layout, Computes}
+use Rattle.model_laws.specs.Fits.{ExecutedFits, GiveFits, ReleaseFits, IsImage, recordFits, recordOk, IsRecord, EntryFrom, EntriesFrom, entriesFrom, lastEnd, Incomplete, Walked}
 use Rattle.model_laws.specs.OneWalk.{walk, entriesOf}
-use Rattle.model_laws.proofs.Tests.{and-left, and-right, joined-all, all-joined, choose}
-use Rattle.model_laws.proofs.Numbers.{part-join, le32-digits, quad-again, starts-again, le32-again, le32-is, signed-again, le32-below, signed-below, le32-take}
-use Rattle.model_laws.proofs.Numbers.{flip-flip, zero-at, zeros3-at, bytes-drop, bytes-take, bytes-quad, bytes-le32, bytes-signed32, bytes-run}
+use Rattle.model_laws.proofs.Tests.{and-left, and-right, and-both, choose}
+use Rattle.model_laws.proofs.Numbers.{part-join, le32-digits, quad-again, starts-again, le32-is, le32-take}
+use Rattle.model_laws.proofs.Numbers.{zeros3-at, bytes-drop, bytes-take, bytes-quad, bytes-le32, bytes-run}
+use Rattle.model_laws.proofs.Reflects.{Test, le, flag, facts, passed}
 use Rattle.model_laws.proofs.Written.{take-written-run}
-use Rattle.model_laws.proofs.Packets.{notice-at, notice-again, notice-bytes}
+use Rattle.model_laws.proofs.Packets.{noticeCodec}
+use Rattle.model_laws.proofs.Fields.{codec}
 use Rattle.model_laws.proofs.Images.{image-length, image-least, image-limit, image-bytes, image-back, image-is}
 
 -- ---- the head
 
 -- the tests of a log's head, one by one
-abbrev headTests : List ℕ → List Bool
-headTests s =
-    leb headSize (length s) ∷ startsWith s logMagic ∷ leb (byteAt s 4) lastServer ∷ zeros3At s 5 ∷ []
+abbrev headTests : List ℕ → List Test
+headTests s = le headSize (length s) ∷ flag (startsWith s logMagic) ∷ le (byteAt s 4) lastServer ∷ flag (zeros3At s 5) ∷ []
 
 pub head-server : (n : ℕ) (rest : List ℕ) → headServer (headBytes n ++ rest) ≡ n
 unfolding headServer headBytes
@@ -61,10 +65,7 @@ head-server n rest = refl
 
 pub head-back : (n : ℕ) (rest : List ℕ) → n ≤ lastServer → headOk (headBytes n ++ rest) ≡ true
 unfolding headOk headBytes headServer zeros3At
-head-back n rest h =
-    let s : List ℕ = headBytes n ++ rest in
-    all-joined (headTests s)
-    (le-leb headSize (length s) (omega arith), (refl, (le-leb n lastServer h, (refl, tt))))
+head-back n rest h = passed (headTests (headBytes n ++ rest)) (omega arith) refl h refl
 
 pub head-take : (n : ℕ) (t : List ℕ) (c : ℕ) → headSize ≤ c → take c (headBytes n ++ t) ≡ headBytes n ++ take (c - headSize) t
 unfolding headBytes
@@ -81,43 +82,74 @@ head-bytes n h =
 pub head-again : (s : List ℕ) → headOk s ≡ true → headBytes (headServer s) ≡ take headSize s
 unfolding headOk headBytes headServer
 head-again s e =
-    let t = joined-all (headTests s) e in
-    let l : headSize ≤ length s = leb-true headSize (length s) (t .0) in
-    let z = zeros3-at s 5 (t .1 .1 .1 .0) in
-    part-join s 0 4 4
-    (starts-again s logMagic (omega arith) (t .1 .0))
-    (quad-again s 4 (omega arith) refl (sym (z .0)) (sym (z .1)) (sym (z .2)))
+    let p = facts (headTests s) e in
+    let z = zeros3-at s 5 (p 3) in
+    part-join s 0 4 4 (starts-again s logMagic (omega (arith, p 0)) (p 1)) (quad-again s 4 (omega (arith, p 0)) refl (sym (z .0)) (sym (z .1)) (sym (z .2)))
 
 pub head-length : (s : List ℕ) → headOk s ≡ true → headSize ≤ length s
 unfolding headOk headServer
-head-length s e =
-    leb-true headSize (length s) (joined-all (headTests s) e .0)
+head-length s e = facts (headTests s) e 0
 
--- ---- records: what was written is read back
+-- ---- the records' layouts; log record 2 is a notice's
 
-pub executed-at : (x : Executed) (rest : List ℕ) → ExecutedFits x → executedAt (executedBytes x ++ rest) ≡ x
-unfolding executedAt executedBytes le32At signedAt
-executed-at x rest h =
-    let s : List ℕ = executedBytes x ++ rest in
-    let client : le32At s 4 ≡ x .command .client = le32-digits (x .command .client) in
-    let call : le32At s 8 ≡ x .command .call = le32-digits (x .command .call) in
-    let done : le32At s 12 ≡ x .done = le32-digits (x .done) in
-    let argument : flip (le32At s 16) ≡ x .command .argument = ap flip (le32-digits (flip (x .command .argument))) ∙ flip-flip (x .command .argument) (h .argument) in
-    let value : flip (le32At s 20) ≡ x .result .value = ap flip (le32-digits (flip (x .result .value))) ∙ flip-flip (x .result .value) (h .value) in
-    λ i.
+abbrev executedLayout : Layout Executed
+executedLayout =
     record {
-      command = record { client = client i; call = call i; op = x .command .op; point = x .command .point; argument = argument i };
-      done = done i;
-      result = record { outcome = x .result .outcome; value = value i; quality = x .result .quality };
+      fields = fixed executedKind ∷ byte ∷ byte ∷ byte ∷ word32 ∷ word32 ∷ word32 ∷ signed ∷ signed ∷ byte ∷ fixed 0 ∷ fixed 0 ∷ fixed 0 ∷ [];
+      to = λ v. record { command = record { client = v 3; call = v 4; op = v 0; point = v 1; argument = v 6 }; done = v 5; result = record { outcome = v 2; value = v 7; quality = v 8 } };
+      from = λ a. a .command .op ∷ a .command .point ∷ a .result .outcome ∷ a .command .client ∷ a .command .call ∷ a .done ∷ a .command .argument ∷ a .result .value ∷ a .result .quality ∷ [];
+      Fit = ExecutedFits;
+      fits = λ a h. (h .op, (h .point, (h .outcome, (h .client, (h .call, (h .done, (h .argument, (h .value, (h .quality, tt)))))))));
+      fitted = λ v p. record { op = p 0; point = p 1; outcome = p 2; client = p 3; call = p 4; done = p 5; argument = p 6; value = p 7; quality = p 8 };
     }
 
-pub give-at : (g : Give) (rest : List ℕ) → giveAt (giveBytes g ++ rest) ≡ g
-unfolding giveAt giveBytes le32At
-give-at g rest = let number : le32At (giveBytes g ++ rest) 4 ≡ g .moveNumber = le32-digits (g .moveNumber) in λ i. record { point = g .point; destination = g .destination; moveNumber = number i }
+pub executed-computes : Computes executedLayout executedAt executedBytes (λ s. eqb (byteAt s 0) executedKind && zeros3At s 25)
+unfolding executedAt executedBytes zeros3At
+executed-computes = record { reads = λ s. refl; writes = λ a. refl; tests = λ s. refl; plain = refl; back = λ a. refl; forth = λ s. refl }
 
-pub release-at : (r : Release) (rest : List ℕ) → releaseAt (releaseBytes r ++ rest) ≡ r
-unfolding releaseAt releaseBytes le32At
-release-at r rest = let number : le32At (releaseBytes r ++ rest) 4 ≡ r .moveNumber = le32-digits (r .moveNumber) in λ i. record { point = r .point; moveNumber = number i }
+abbrev pub executedCodec : Codec Executed
+executedCodec = codec executed-computes
+
+abbrev giveLayout : Layout Give
+giveLayout =
+    record {
+      fields = fixed giveKind ∷ byte ∷ byte ∷ fixed 0 ∷ word32 ∷ [];
+      to = λ v. record { point = v 0; destination = v 1; moveNumber = v 2 };
+      from = λ a. a .point ∷ a .destination ∷ a .moveNumber ∷ [];
+      Fit = GiveFits;
+      fits = λ a h. (h .point, (h .destination, (h .moveNumber, tt)));
+      fitted = λ v p. record { point = p 0; destination = p 1; moveNumber = p 2 };
+    }
+
+pub give-computes : Computes giveLayout giveAt giveBytes (λ s. eqb (byteAt s 0) giveKind && zeroAt s 3)
+unfolding giveAt giveBytes
+give-computes = record { reads = λ s. refl; writes = λ a. refl; tests = λ s. refl; plain = refl; back = λ a. refl; forth = λ s. refl }
+
+abbrev pub giveCodec : Codec Give
+giveCodec = codec give-computes
+
+abbrev releaseLayout : Layout Release
+releaseLayout =
+    record {
+      fields = fixed releaseKind ∷ byte ∷ fixed 0 ∷ fixed 0 ∷ word32 ∷ [];
+      to = λ v. record { point = v 0; moveNumber = v 1 };
+      from = λ a. a .point ∷ a .moveNumber ∷ [];
+      Fit = ReleaseFits;
+      fits = λ a h. (h .point, (h .moveNumber, tt));
+      fitted = λ v p. record { point = p 0; moveNumber = p 1 };
+    }
+
+pub release-computes : Computes releaseLayout releaseAt releaseBytes (λ s. eqb (byteAt s 0) releaseKind && (zeroAt s 2 && zeroAt s 3))
+unfolding releaseAt releaseBytes
+release-computes = record { reads = λ s. refl; writes = λ a. refl; tests = λ s. refl; plain = refl; back = λ a. refl; forth = λ s. refl }
+
+abbrev pub releaseCodec : Codec Release
+releaseCodec = codec release-computes
+
+abbrev goneCodec : Codec Notice
+goneCodec = noticeCodec goneKind refl
+
+-- ---- records: what was written is read back
 
 pub record-length : (r : LogRecord) → length (recordBytes r) ≡ recordSize r
 unfolding recordBytes recordSize executedBytes noticeBytes giveBytes takeBytes releaseBytes
@@ -136,33 +168,14 @@ record-least (took i) = omega arith
 record-least (released r) = lit≤ tt
 
 pub record-bytes : (r : LogRecord) → recordOk r ≡ true → recordFits r → Bytes (recordBytes r)
-unfolding recordBytes executedBytes giveBytes takeBytes releaseBytes
-record-bytes (executed x) ok f =
-    bytes-run
-    (quad executedKind (x .command .op) (x .command .point) (x .result .outcome) ∷ le32 (x .command .client) ∷ le32 (x .command .call) ∷ le32 (x .done) ∷ signed32 (x .command .argument)
-    ∷ signed32 (x .result .value) ∷ quad (x .result .quality) 0 0 0 ∷ []) (
-      bytes-quad executedKind (x .command .op) (x .command .point) (x .result .outcome) (lit< tt) (f .op) (f .point) (f .outcome),
-      (
-        bytes-le32 (x .command .client) (f .client),
-        (
-          bytes-le32 (x .command .call) (f .call),
-          (
-            bytes-le32 (x .done) (f .done),
-            (bytes-signed32 (x .command .argument), (bytes-signed32 (x .result .value), (bytes-quad (x .result .quality) 0 0 0 (f .quality) (lit< tt) (lit< tt) (lit< tt), tt))),
-          ),
-        ),
-      ),
-    )
-record-bytes (gone n) ok f = notice-bytes 2 n (lit< tt) f
-record-bytes (gave g) ok f =
-    bytes-run (quad giveKind (g .point) (g .destination) 0 ∷ le32 (g .moveNumber) ∷ [])
-    (bytes-quad giveKind (g .point) (g .destination) 0 (lit< tt) (f .point) (f .destination) (lit< tt), (bytes-le32 (g .moveNumber) (f .moveNumber), tt))
+unfolding recordBytes takeBytes
+record-bytes (executed x) ok f = executedCodec .enc-bytes x f
+record-bytes (gone n) ok f = goneCodec .enc-bytes n f
+record-bytes (gave g) ok f = giveCodec .enc-bytes g f
 record-bytes (took i) ok f =
     bytes-run (quad takeKind 0 0 0 ∷ le32 (imageLength i) ∷ imageBytes i ∷ [])
     (bytes-quad takeKind 0 0 0 (lit< tt) (lit< tt) (lit< tt) (lit< tt), (bytes-le32 (imageLength i) (omega (arith, image-limit i ok)), (image-bytes i ok f, tt)))
-record-bytes (released r) ok f =
-    bytes-run (quad releaseKind (r .point) 0 0 ∷ le32 (r .moveNumber) ∷ [])
-    (bytes-quad releaseKind (r .point) 0 0 (lit< tt) (f .point) (lit< tt) (lit< tt), (bytes-le32 (r .moveNumber) (f .moveNumber), tt))
+record-bytes (released r) ok f = releaseCodec .enc-bytes r f
 
 take-length : (i : Image) (rest : List ℕ) → le32At (takeBytes i ++ rest) 4 ≡ imageLength i
 unfolding takeBytes le32At
@@ -170,11 +183,11 @@ take-length i rest = le32-digits (imageLength i)
 
 pub record-back : (r : LogRecord) (rest : List ℕ) → recordOk r ≡ true → recordFits r → recordAt (recordBytes r ++ rest) ≡ some r
 unfolding recordAt recordBytes executedBytes noticeBytes giveBytes takeBytes releaseBytes zeros3At takeParsed
-record-back (executed x) rest ok f = rw (executed-at x rest f, ok)
-record-back (gone n) rest ok f = rw (notice-at 2 n rest, ok)
-record-back (gave g) rest ok f = rw (give-at g rest, ok)
+record-back (executed x) rest ok f = rw (executedCodec .dec-enc x rest f, ok)
+record-back (gone n) rest ok f = rw (goneCodec .dec-enc n rest f, ok)
+record-back (gave g) rest ok f = rw (giveCodec .dec-enc g rest f, ok)
 record-back (took i) rest ok f = rw (take-length i rest, take-at (imageBytes i) rest (imageLength i) (image-length i), image-back i f ok)
-record-back (released r) rest ok f = rw (release-at r rest, ok)
+record-back (released r) rest ok f = rw (releaseCodec .dec-enc r rest f, ok)
 
 -- ---- extents
 
@@ -239,26 +252,6 @@ extent-cut r rest (suc j) ok h =
 
 -- ---- records: what was read is written again
 
-pub executed-again : (s : List ℕ) → Bytes s → executedSize ≤ length s → byteAt s 0 ≡ executedKind → zeros3At s 25 ≡ true → executedBytes (executedAt s) ≡ take executedSize s
-unfolding executedBytes executedAt
-executed-again s h b k z =
-    let o = zeros3-at s 25 z in
-    part-join s 0 4 24 (quad-again s 0 (omega arith) (sym k) refl refl refl)
-    (part-join s 4 4 20 (le32-again s 4 h (omega arith))
-    (part-join s 8 4 16 (le32-again s 8 h (omega arith))
-    (part-join s 12 4 12 (le32-again s 12 h (omega arith))
-    (part-join s 16 4 8 (signed-again s 16 h (omega arith))
-    (part-join s 20 4 4 (signed-again s 20 h (omega arith)) (quad-again s 24 (omega arith) refl (sym (o .0)) (sym (o .1)) (sym (o .2))))))))
-
-pub give-again : (s : List ℕ) → Bytes s → giveSize ≤ length s → byteAt s 0 ≡ giveKind → zeroAt s 3 ≡ true → giveBytes (giveAt s) ≡ take giveSize s
-unfolding giveBytes giveAt
-give-again s h b k z = part-join s 0 4 4 (quad-again s 0 (omega arith) (sym k) refl refl (sym (zero-at s 3 z))) (le32-again s 4 h (omega arith))
-
-pub release-again : (s : List ℕ) → Bytes s → releaseSize ≤ length s → byteAt s 0 ≡ releaseKind → zeroAt s 2 ≡ true → zeroAt s 3 ≡ true → releaseBytes (releaseAt s) ≡ take releaseSize s
-unfolding releaseBytes releaseAt
-release-again s h b k y z =
-    part-join s 0 4 4 (quad-again s 0 (omega arith) (sym k) refl (sym (zero-at s 2 y)) (sym (zero-at s 3 z))) (le32-again s 4 h (omega arith))
-
 pub take-again : (s : List ℕ) (i : Image) → Bytes s → takeHead + le32At s 4 ≤ length s → byteAt s 0 ≡ takeKind → zeros3At s 1 ≡ true
     → imageBytes i ≡ take (le32At s 4) (drop takeHead s) → takeBytes i ≡ take (takeHead + le32At s 4) s
 unfolding takeBytes
@@ -290,65 +283,37 @@ module _ (s : List ℕ) (h : Bytes s) (m : ℕ) (ext : extentOf s ≡ spans m) (
       choose (λ o. o ≡ some r → IsRecord s m r) t (λ u e. let q : x ≡ r = cc in subst (IsRecord s m) q (f u))
       (λ u e. let z : _≡_ {A = ℕ} 0 1 = cc in absurd (omega arith))
 
+  -- of one kind, whose zero bytes pass their test
+  found-kind : {A : Type 0} (C : Codec A) (p : A → LogRecord) (zeros : Bool) (ok : A → Bool) → within s (C .width) ≡ spans m → (zeros ≡ true → C .test s ≡ true)
+      → ((a : A) → ok a ≡ true → C .Fit a → m ≡ C .width → m ≤ length s → C .enc a ≡ take m s → IsRecord s m (p a)) → (zeros && ok (C .dec s)) ≡ true → IsRecord s m (p (C .dec s))
+  found-kind C p zeros ok w z f t =
+      let n : (m ≡ C .width) × (C .width ≤ length s) = within-spans s (C .width) m w in
+      let c : C .test s ≡ true = z (and-left zeros (ok (C .dec s)) t) in
+      f (C .dec s) (and-right zeros (ok (C .dec s)) t) (C .dec-fit s h c) (n .0) (omega (arith, n)) (C .enc-dec s h (n .1) c ∙ ap (λ (k : ℕ). take k s) (sym (n .0)))
+
   found-executed : byteAt s 0 ≡ executedKind → (zeros3At s 25 && executedOk (executedAt s)) ≡ true → IsRecord s m (executed (executedAt s))
-  unfolding recordBytes recordSize extentOf executedAt
-  found-executed k t =
-      let w : (m ≡ executedSize) × (executedSize ≤ length s) = within-spans s executedSize m (rw k at ext) in
-      record {
-        ok = and-right (zeros3At s 25) (executedOk (executedAt s)) t;
-        fits =
-            record {
-              op = h 1;
-              point = h 2;
-              outcome = h 3;
-              client = le32-below s 4 h;
-              call = le32-below s 8 h;
-              done = le32-below s 12 h;
-              argument = signed-below s 16;
-              value = signed-below s 20;
-              quality = h 24;
-            };
-        size = w .0;
-        whole = omega arith;
-        same = executed-again s h (w .1) k (and-left (zeros3At s 25) (executedOk (executedAt s)) t) ∙ ap (λ (n : ℕ). take n s) (sym (w .0));
-      }
+  unfolding recordBytes recordSize extentOf
+  found-executed k =
+      found-kind executedCodec executed (zeros3At s 25) executedOk (rw k at ext) (and-both (eqb (byteAt s 0) executedKind) (zeros3At s 25) (eq-eqb (byteAt s 0) executedKind k))
+      (λ a o f n l e. record { ok = o; fits = f; size = n; whole = l; same = e })
 
   found-gone : byteAt s 0 ≡ goneKind → (zeros3At s 1 && noticeOk (noticeAt s)) ≡ true → IsRecord s m (gone (noticeAt s))
-  unfolding recordBytes recordSize extentOf noticeAt
-  found-gone k t =
-      let w : (m ≡ goneSize) × (goneSize ≤ length s) = within-spans s goneSize m (rw k at ext) in
-      record {
-        ok = and-right (zeros3At s 1) (noticeOk (noticeAt s)) t;
-        fits = record { client = le32-below s 4 h; time = le32-below s 8 h };
-        size = w .0;
-        whole = omega arith;
-        same = notice-again 2 s h (w .1) k (and-left (zeros3At s 1) (noticeOk (noticeAt s)) t) ∙ ap (λ (n : ℕ). take n s) (sym (w .0));
-      }
+  unfolding recordBytes recordSize extentOf
+  found-gone k =
+      found-kind goneCodec gone (zeros3At s 1) noticeOk (rw k at ext) (and-both (eqb (byteAt s 0) goneKind) (zeros3At s 1) (eq-eqb (byteAt s 0) goneKind k))
+      (λ a o f n l e. record { ok = o; fits = f; size = n; whole = l; same = e })
 
   found-gave : byteAt s 0 ≡ giveKind → (zeroAt s 3 && giveOk (giveAt s)) ≡ true → IsRecord s m (gave (giveAt s))
-  unfolding recordBytes recordSize extentOf giveAt
-  found-gave k t =
-      let w : (m ≡ giveSize) × (giveSize ≤ length s) = within-spans s giveSize m (rw k at ext) in
-      record {
-        ok = and-right (zeroAt s 3) (giveOk (giveAt s)) t;
-        fits = record { point = h 1; destination = h 2; moveNumber = le32-below s 4 h };
-        size = w .0;
-        whole = omega arith;
-        same = give-again s h (w .1) k (and-left (zeroAt s 3) (giveOk (giveAt s)) t) ∙ ap (λ (n : ℕ). take n s) (sym (w .0));
-      }
+  unfolding recordBytes recordSize extentOf
+  found-gave k =
+      found-kind giveCodec gave (zeroAt s 3) giveOk (rw k at ext) (and-both (eqb (byteAt s 0) giveKind) (zeroAt s 3) (eq-eqb (byteAt s 0) giveKind k))
+      (λ a o f n l e. record { ok = o; fits = f; size = n; whole = l; same = e })
 
-  found-released : byteAt s 0 ≡ releaseKind → (zeroAt s 2 && (zeroAt s 3 && releaseOk (releaseAt s))) ≡ true → IsRecord s m (released (releaseAt s))
-  unfolding recordBytes recordSize extentOf releaseAt
-  found-released k t =
-      let w : (m ≡ releaseSize) × (releaseSize ≤ length s) = within-spans s releaseSize m (rw k at ext) in
-      let o = joined-all (zeroAt s 2 ∷ zeroAt s 3 ∷ releaseOk (releaseAt s) ∷ []) t in
-      record {
-        ok = o .1 .1 .0;
-        fits = record { point = h 1; moveNumber = le32-below s 4 h };
-        size = w .0;
-        whole = omega arith;
-        same = release-again s h (w .1) k (o .0) (o .1 .0) ∙ ap (λ (n : ℕ). take n s) (sym (w .0));
-      }
+  found-released : byteAt s 0 ≡ releaseKind → ((zeroAt s 2 && zeroAt s 3) && releaseOk (releaseAt s)) ≡ true → IsRecord s m (released (releaseAt s))
+  unfolding recordBytes recordSize extentOf
+  found-released k =
+      found-kind releaseCodec released (zeroAt s 2 && zeroAt s 3) releaseOk (rw k at ext) (and-both (eqb (byteAt s 0) releaseKind) (zeroAt s 2 && zeroAt s 3) (eq-eqb (byteAt s 0) releaseKind k))
+      (λ a o f n l e. record { ok = o; fits = f; size = n; whole = l; same = e })
 
   found-took : byteAt s 0 ≡ takeKind → zeros3At s 1 ≡ true → (i : Image) → parseImage (take (le32At s 4) (drop takeHead s)) ≡ some i → IsRecord s m (took i)
   unfolding recordBytes recordSize extentOf
@@ -385,7 +350,8 @@ module _ (s : List ℕ) (h : Bytes s) (m : ℕ) (ext : extentOf s ≡ spans m) (
       (λ k. choose P (zeros3At s 1) (λ t. found-image (eqb-true (byteAt s 0) takeKind k) t (parseImage (take (le32At s 4) (drop takeHead s))) refl)
       (λ t e. let z : _≡_ {A = ℕ} 0 1 = cc in absurd (omega arith)))
       (λ k4. choose P (eqb (byteAt s 0) releaseKind)
-      (λ k. found (zeroAt s 2 && (zeroAt s 3 && releaseOk (releaseAt s))) (released (releaseAt s)) (found-released (eqb-true (byteAt s 0) releaseKind k)))
+      (λ k. found (zeroAt s 2 && (zeroAt s 3 && releaseOk (releaseAt s))) (released (releaseAt s))
+      (λ t. found-released (eqb-true (byteAt s 0) releaseKind k) (and-assoc (zeroAt s 2) (zeroAt s 3) (releaseOk (releaseAt s)) ∙ t)))
       (λ k5 e. let z : _≡_ {A = ℕ} 0 1 = cc in absurd (omega arith))))))
 
 -- ---- the walk over entries that were written

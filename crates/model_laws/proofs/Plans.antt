@@ -1,84 +1,64 @@
 -- Laws of the plan.
---     planCodec                     an entry's row, as a codec; plan-entry-..: its laws one by one
+--     planCodec                     an entry's row, as a codec
 --     plan-length, plan-bytes       the bytes of a plan
 --     plan-back                     what was written is read back, and is a plan
 --     plan-again, plan-fits         a plan that was read is written again: the same bytes; and it fits
 -- Assumes nothing.
-use Prim.Native.Nat.{ℕ, _+_, _*_, _≤_, _<_}
-use mathlib.Core.Path.{_≡_, refl, sym, ap, _∙_}
+use Prim.Native.Nat.{ℕ, _+_, _*_, _<_}
+use mathlib.Core.Path.{_≡_, refl, ap, _∙_}
 use mathlib.Core.Bool.{true}
 use mathlib.Core.List.{List, [], _∷_, _++_, append-nil}
 use native.Mathlib.Omega.{arith}
 use lib.ListN.{length, take}
-use lib.Seq.{take-all, getD-take}
-use lib.Dec.{eqb, lit<, lit≤}
+use lib.Seq.{take-all}
+use lib.Dec.{eqb}
 use borrow.Author.Tests.{eqb-true, eq-eqb}
 use Rattle.model.specs.declared.PlanEntry.{PlanEntry}
-use Rattle.model.specs.Numbers.{byteAt, flip, le32At, signedAt, signed32, zeros3At, quad}
+use Rattle.model.specs.Numbers.{word, zeros3At}
 use Rattle.model.specs.Tables.{rows, everyRow, bytesOf}
 use Rattle.model.specs.Plan.{planEntryOf, planEntryBytes, planEntryOk, planRowOk, planOk, planOf, planBytes}
 use Rattle.model.specs.Limits.{pointCount, planSize, planRow, callWindow}
 use Rattle.model_laws.specs.Bytes.{Bytes, All}
 use Rattle.model_laws.specs.Codec.{Codec}
+use Rattle.model_laws.specs.Fields.{byte, signed, fixed, Layout, Computes}
 use Rattle.model_laws.specs.Fits.{PlanEntryFits}
 use Rattle.model_laws.proofs.Tests.{and-left, and-right}
-use Rattle.model_laws.proofs.Numbers.{part-join, le32-digits, quad-again, signed-again, signed-below, signed-take, zeros3-take, flip-flip, zeros3-at, bytes-quad, bytes-signed32, bytes-run}
+use Rattle.model_laws.proofs.Fields.{codec}
 use Rattle.model_laws.proofs.Tables.{length-bytesOf, bytes-bytesOf, rows-back, everyRow-back, rows-again, rows-fit}
 
-pub plan-entry-width : (e : PlanEntry) → length (planEntryBytes e) ≡ planRow
-unfolding planEntryBytes
-plan-entry-width e = refl
+-- ---- a row
 
-pub plan-entry-bytes : (e : PlanEntry) → PlanEntryFits e → Bytes (planEntryBytes e)
-unfolding planEntryBytes
-plan-entry-bytes e h =
-    bytes-run (signed32 (e .low) ∷ signed32 (e .high) ∷ signed32 (e .fallback) ∷ quad (e .home) 0 0 0 ∷ [])
-    (bytes-signed32 (e .low), (bytes-signed32 (e .high), (bytes-signed32 (e .fallback), (bytes-quad (e .home) 0 0 0 (h .home) (lit< tt) (lit< tt) (lit< tt), tt))))
+-- the numbers and the zeros
+abbrev entryLayout : Layout PlanEntry
+entryLayout =
+    record {
+      fields = signed ∷ signed ∷ signed ∷ byte ∷ fixed 0 ∷ fixed 0 ∷ fixed 0 ∷ [];
+      to = λ v. record { low = v 0; high = v 1; fallback = v 2; home = v 3 };
+      from = λ e. e .low ∷ e .high ∷ e .fallback ∷ e .home ∷ [];
+      Fit = λ e. (e .low < word) × (e .high < word) × (e .fallback < word) × (e .home < 256);
+      fits = λ e h. (h .0, (h .1, (h .2, (h .3, tt))));
+      fitted = λ v p. (p 0, p 1, p 2, p 3);
+    }
 
-pub plan-entry-take : (s : List ℕ) → planEntryOf (take planRow s) ≡ planEntryOf s
-unfolding planEntryOf
-plan-entry-take s =
-    let low : signedAt (take 16 s) 0 ≡ signedAt s 0 = signed-take 16 s 0 (lit≤ tt) in
-    let high : signedAt (take 16 s) 4 ≡ signedAt s 4 = signed-take 16 s 4 (lit≤ tt) in
-    let fallback : signedAt (take 16 s) 8 ≡ signedAt s 8 = signed-take 16 s 8 (lit≤ tt) in
-    let home : byteAt (take 16 s) 12 ≡ byteAt s 12 = getD-take 16 s 12 0 (lit< tt) in
-    λ i. record { low = low i; high = high i; fallback = fallback i; home = home i }
+pub entry-computes : Computes entryLayout planEntryOf planEntryBytes (λ s. zeros3At s 13)
+unfolding planEntryOf planEntryBytes zeros3At
+entry-computes = record { reads = λ s. refl; writes = λ a. refl; tests = λ s. refl; plain = refl; back = λ a. refl; forth = λ s. refl }
 
+abbrev entryCodec : Codec PlanEntry
+entryCodec = codec entry-computes
+
+-- and the order of the numbers
 pub plan-test-take : (s : List ℕ) → planRowOk (take planRow s) ≡ planRowOk s
 unfolding planRowOk
-plan-test-take s = rw (zeros3-take 16 s 13 (lit≤ tt), plan-entry-take s)
-
-pub plan-entry-at : (e : PlanEntry) (rest : List ℕ) → PlanEntryFits e → planEntryOf (planEntryBytes e ++ rest) ≡ e
-unfolding planEntryOf planEntryBytes le32At signedAt
-plan-entry-at e rest h =
-    let s : List ℕ = planEntryBytes e ++ rest in
-    let low : flip (le32At s 0) ≡ e .low = ap flip (le32-digits (flip (e .low))) ∙ flip-flip (e .low) (h .low) in
-    let high : flip (le32At s 4) ≡ e .high = ap flip (le32-digits (flip (e .high))) ∙ flip-flip (e .high) (h .high) in
-    let fallback : flip (le32At s 8) ≡ e .fallback = ap flip (le32-digits (flip (e .fallback))) ∙ flip-flip (e .fallback) (h .fallback) in
-    λ i. record { low = low i; high = high i; fallback = fallback i; home = e .home }
+plan-test-take s = rw (entryCodec .test-take s, entryCodec .dec-take s)
 
 pub plan-entry-test : (e : PlanEntry) (rest : List ℕ) → PlanEntryFits e → planRowOk (planEntryBytes e ++ rest) ≡ true
-unfolding planRowOk planEntryBytes zeros3At
-plan-entry-test e rest h = rw (plan-entry-at e rest h) (h .ok)
+unfolding planRowOk
+plan-entry-test e rest h = rw (entryCodec .test-enc e rest (h .low, h .high, h .fallback, h .home), entryCodec .dec-enc e rest (h .low, h .high, h .fallback, h .home)) (h .ok)
 
-pub plan-entry-again : (s : List ℕ) → Bytes s → planRow ≤ length s → planRowOk s ≡ true → planEntryBytes (planEntryOf s) ≡ take planRow s
-unfolding planEntryOf planEntryBytes planRowOk
-plan-entry-again s h b t =
-    let z = zeros3-at s 13 (and-left (zeros3At s 13) (planEntryOk (planEntryOf s)) t) in
-    part-join s 0 4 12 (signed-again s 0 h (omega arith))
-    (part-join s 4 4 8 (signed-again s 4 h (omega arith))
-    (part-join s 8 4 4 (signed-again s 8 h (omega arith)) (quad-again s 12 (omega arith) refl (sym (z .0)) (sym (z .1)) (sym (z .2)))))
-
-pub plan-entry-fit : (s : List ℕ) → Bytes s → planRowOk s ≡ true → PlanEntryFits (planEntryOf s)
-unfolding planEntryOf planRowOk
-plan-entry-fit s h t =
-    record {
-      low = signed-below s 0;
-      high = signed-below s 4;
-      fallback = signed-below s 8;
-      home = h 12;
-      ok = and-right (zeros3At s 13) (planEntryOk (planEntryOf s)) t;
-    }
+pub plan-row : (s : List ℕ) → planRowOk s ≡ true → (zeros3At s 13 ≡ true) × (planEntryOk (planEntryOf s) ≡ true)
+unfolding planRowOk
+plan-row s t = (and-left (zeros3At s 13) (planEntryOk (planEntryOf s)) t, and-right (zeros3At s 13) (planEntryOk (planEntryOf s)) t)
 
 abbrev pub planCodec : Codec PlanEntry
 planCodec =
@@ -88,14 +68,14 @@ planCodec =
       width = planRow;
       test = planRowOk;
       Fit = PlanEntryFits;
-      enc-width = plan-entry-width;
-      enc-bytes = plan-entry-bytes;
-      dec-take = plan-entry-take;
+      enc-width = entryCodec .enc-width;
+      enc-bytes = λ e h. entryCodec .enc-bytes e (h .low, h .high, h .fallback, h .home);
+      dec-take = entryCodec .dec-take;
       test-take = plan-test-take;
-      dec-enc = plan-entry-at;
+      dec-enc = λ e rest h. entryCodec .dec-enc e rest (h .low, h .high, h .fallback, h .home);
       test-enc = plan-entry-test;
-      enc-dec = plan-entry-again;
-      dec-fit = plan-entry-fit;
+      enc-dec = λ s h b t. entryCodec .enc-dec s h b (plan-row s t .0);
+      dec-fit = λ s h t. let f = entryCodec .dec-fit s h (plan-row s t .0) in record { low = f .0; high = f .1; fallback = f .2; home = f .3; ok = plan-row s t .1 };
     }
 
 -- ---- the whole plan

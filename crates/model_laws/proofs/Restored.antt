@@ -1,35 +1,39 @@
 -- Laws of the state that is read from a checkpoint: any bytes that are framed.
---     restored-long, restored-fit   17,704 bytes
+--     restored-long, restored-fit   their number, and that they are bytes
 --     restored-.., drop-..          what stands in them: the head's fields, the tables
 --     restored-again                where they are sound, the state's checkpoint are the bytes that were read
 -- Assumes nothing.
 use Prim.Native.Nat.{ℕ, _+_, _-_, _*_, _≤_}
 use mathlib.Core.Path.{_≡_, refl, sym, ap, _∙_}
+use mathlib.Core.Bool.{true, and-assoc}
 use mathlib.Core.List.{List, [], _∷_, _++_, append-assoc, append-nil}
 use native.Mathlib.Omega.{arith}
 use lib.ListN.{length, take, drop, replicate, length-append, length-drop, length-replicate}
 use lib.Seq.{drop-at, drop-drop, take-at, length-take-le}
 use lib.Dec.{lit<}
-use Rattle.model.specs.Numbers.{byteAt, le32At, le32, le64At, le64, zeros3At, quad}
+use Rattle.model.specs.Numbers.{byteAt, le32At, le32, le64At, le64, zeros3At, quad, startsWith}
 use Rattle.model.specs.Tables.{bytesOf}
 use Rattle.model.specs.Plan.{planBytes}
 use Rattle.model.specs.Images.{floorOfBytes, floorBytes}
 use Rattle.model.specs.States.{stateMagic, stateHead, pointRow, recordRow, pointsStart, floorsStart, recordsStart, stateEnd, pointOf, pointBytes, completionOf, completionBytes}
 use Rattle.model.specs.States.{clientsIn, recordsIn, load, padded}
 use Rattle.model.specs.Limits.{headSize, planSize, pointCount, clientCount, recordCount, floorRow, checkpointPoint, checkpointRecord}
-use Rattle.model.specs.Checkpoints.{checkpointMagic, planPart, pointsPart, clientsPart, recordsPart, pairsBytes, pointFront, recordFront, checkpointBytes, clientsOf, recordsOf}
-use Rattle.model.specs.Checkpoints.{pointWhole, recordWhole, fronts, restored}
+use Rattle.model.specs.Checkpoints.{checkpointMagic, planPart, pointsPart, clientsPart, recordsPart, pointFront, recordFront, checkpointBytes, clientsOf, recordsOf}
+use Rattle.model.specs.Checkpoints.{pointWhole, recordWhole, fronts, restoredBytes, restored}
 use Rattle.model_laws.specs.Bytes.{Bytes, All, part}
+use Rattle.model_laws.specs.Fields.{gotAll, putAll, testsOf, passAll}
 use Rattle.model_laws.specs.Fits.{Sound}
-use Rattle.model_laws.proofs.Numbers.{part-join, part-quad, quad-again, starts-again, le32-is, le32-below, le32-digits, length-le64, zeros3-at}
+use Rattle.model_laws.proofs.Tests.{and-both, joined-all}
+use Rattle.model_laws.proofs.Numbers.{part-join, part-quad, le32-below, le32-digits, length-le64}
 use Rattle.model_laws.proofs.Numbers.{bytes-append, bytes-take, bytes-drop, bytes-quad, bytes-le32, bytes-le64, bytes-run}
+use Rattle.model_laws.proofs.Fields.{all-again}
 use Rattle.model_laws.proofs.Tables.{length-rows, places, rows-again, everyRow-true, bytes-replicate, all-map}
 use Rattle.model_laws.proofs.Images.{floorCodec}
 use Rattle.model_laws.proofs.Plans.{planCodec}
-use Rattle.model_laws.proofs.States.{pointCodec, completionCodec, point-width, completion-width}
+use Rattle.model_laws.proofs.States.{pointCodec, completionCodec}
 use Rattle.model_laws.proofs.Fronts.{fronts-take, length-fronts, fronts-long, fronts-bytes, length-each, bytes-each, fronts-same, point-cut, record-cut}
 use Rattle.model_laws.proofs.Fronts.{point-whole-width, point-whole-cut, point-whole-bytes, record-whole-width, record-whole-cut, record-whole-bytes}
-use Rattle.model_laws.proofs.Checkpoints.{Framed}
+use Rattle.model_laws.proofs.Checkpoints.{Framed, checkpointFields, checkpointNumbers, checkpoint-writes}
 
 -- ---- a table with places past its rows
 
@@ -72,12 +76,19 @@ module _ (s : List ℕ) where
       ++ (quad (byteAt s 8) (byteAt s 9) (byteAt s 10) (byteAt s 11)
       ++ (le32 (clientsOf s) ++ (le32 (recordsOf s) ++ (quad 0 0 0 0 ++ (le64 headSize ++ le64 headSize))))))
 
+  restored-run : restored s
+      ≡ stateMagic ++ (take 8 (drop 4 s) ++ (le32 (clientsOf s) ++ (le32 (recordsOf s) ++ (quad 0 0 0 0 ++ (le64 headSize ++ (le64 headSize ++ tables))))))
+  unfolding restored restoredBytes
+  restored-run =
+      let rows : recordsOfIt ≡ bytesOf recordWhole (fronts checkpointRecord (recordsOf s) (drop (recordsPart (clientsOf s)) s)) ++ replicate (recordRow * (recordCount - recordsOf s)) 0 =
+      unfold padded in rw (length-fronts checkpointRecord (recordsOf s) (drop (recordsPart (clientsOf s)) s)) in
+      rw rows (simp append-assoc)
+
   -- ---- bytes
 
   pub restored-fit : Bytes s → Bytes (restored s)
-  unfolding restored
   restored-fit h =
-      bytes-run
+      rw restored-run (bytes-run
       (stateMagic ∷ take 8 (drop 4 s) ∷ le32 (clientsOf s) ∷ le32 (recordsOf s) ∷ quad 0 0 0 0 ∷ le64 headSize ∷ le64 headSize ∷ planOfIt ∷ pointsOfIt ∷ floorsOfIt ∷ recordsOfIt ∷ []) (
         bytes-quad 87 83 84 49 (lit< tt) (lit< tt) (lit< tt) (lit< tt),
         (
@@ -117,7 +128,7 @@ module _ (s : List ℕ) where
             ),
           ),
         ),
-      )
+      ))
 
   module _ (d : Framed s) where
     -- ---- lengths
@@ -162,8 +173,8 @@ module _ (s : List ℕ) where
     head-bytes = sym (part-join s 4 4 4 (part-quad s 4 (omega (arith, d .whole))) (part-quad s 8 (omega (arith, d .whole))))
 
     restored-parts : restored s ≡ headOfIt ++ tables
-    unfolding restored le64
-    restored-parts = rw head-bytes
+    unfolding le64
+    restored-parts = rw (restored-run, head-bytes)
 
     head-long : length headOfIt ≡ stateHead
     unfolding le64
@@ -247,7 +258,8 @@ module _ (s : List ℕ) where
 
       points-again : bytesOf pointFront (load (restored s) .points) ≡ part pointsPart (checkpointPoint * pointCount) s
       points-again =
-          fronts-same pointBytes pointFront pointWhole checkpointPoint pointRow point-width point-cut point-whole-width point-whole-cut (load (restored s) .points) pointCount (drop pointsPart s)
+          fronts-same pointBytes pointFront pointWhole checkpointPoint pointRow (pointCodec .enc-width) point-cut point-whole-width point-whole-cut (load (restored s) .points) pointCount
+          (drop pointsPart s)
           (unfold load in length-rows pointOf pointRow pointCount (drop pointsStart (restored s))) (rw length-drop (omega (arith, d .whole))) points-rows
 
       floors-count : length (load (restored s) .floors) ≡ clientsOf s
@@ -282,43 +294,27 @@ module _ (s : List ℕ) where
 
       records-again : bytesOf recordFront (load (restored s) .records) ≡ part (recordsPart (clientsOf s)) (checkpointRecord * recordsOf s) s
       records-again =
-          fronts-same completionBytes recordFront recordWhole checkpointRecord recordRow completion-width record-cut record-whole-width record-whole-cut (load (restored s) .records) (recordsOf s)
+          fronts-same completionBytes recordFront recordWhole checkpointRecord recordRow (completionCodec .enc-width) record-cut record-whole-width record-whole-cut (load (restored s) .records)
+          (recordsOf s)
           (drop (recordsPart (clientsOf s)) s) records-count (rw length-drop (omega (arith, d .whole))) records-rows
 
-      pairs-again : pairsBytes (clientsOf s) (recordsOf s) ≡ part 12 32 s
-      unfolding pairsBytes
-      pairs-again =
-          let l : pointsPart ≤ length s = omega (arith, d .whole) in
-          part-join s 12 4 28 (le32-is s 12 h (omega arith) (sym (d .plan)))
-          (part-join s 16 4 24 (le32-is s 16 h (omega arith) (sym (d .plan-size)))
-          (part-join s 20 4 20 (le32-is s 20 h (omega arith) (sym (d .points)))
-          (part-join s 24 4 16 (le32-is s 24 h (omega arith) (sym (d .points-size)))
-          (part-join s 28 4 12 (le32-is s 28 h (omega arith) (sym (d .clients)))
-          (part-join s 32 4 8 (le32-is s 32 h (omega arith) (sym (d .clients-size)))
-          (part-join s 36 4 4 (le32-is s 36 h (omega arith) (sym (d .records))) (le32-is s 40 h (omega arith) (sym (d .records-size)))))))))
-
-      server-again : quad (load (restored s) .server) 0 0 0 ≡ part 4 4 s
-      unfolding load
-      server-again =
-          let z = zeros3-at s 5 (sym restored-zeros ∙ D .at5) in
-          quad-again s 4 (omega (arith, d .whole)) restored-server (sym (z .0)) (sym (z .1)) (sym (z .2))
-
-      heard-again : le32 (load (restored s) .heard) ≡ part 8 4 s
-      unfolding load
-      heard-again = le32-is s 8 h (omega (arith, d .whole)) restored-heard
+      head-again : putAll checkpointFields (checkpointNumbers (load (restored s) .server) (load (restored s) .heard) (clientsOf s) (recordsOf s)) ≡ take planPart s
+      unfolding load zeros3At
+      head-again =
+          let same : checkpointNumbers (load (restored s) .server) (load (restored s) .heard) (clientsOf s) (recordsOf s) ≡ gotAll checkpointFields s 0 =
+          λ j. restored-server j ∷ restored-heard j ∷ sym (d .plan) j ∷ sym (d .plan-size) j ∷ sym (d .points) j ∷ sym (d .points-size) j ∷ sym (d .clients) j ∷ sym (d .clients-size) j
+          ∷ sym (d .records) j ∷ sym (d .records-size) j ∷ [] in
+          let tests : passAll checkpointFields s 0 ≡ true = simp and-assoc at (and-both (startsWith s checkpointMagic) (zeros3At s 5) (d .magic) (sym restored-zeros ∙ D .at5)) in
+          ap (putAll checkpointFields) same ∙ all-again checkpointFields s 0 h (omega (arith, d .whole)) (joined-all (testsOf checkpointFields s 0) tests)
 
       pub restored-again : checkpointBytes (load (restored s)) ≡ take (recordsPart (clientsOf s) + checkpointRecord * recordsOf s) s
-      unfolding checkpointBytes
       restored-again =
           let n : ℕ = floorRow * clientsOf s in
           let k : ℕ = checkpointRecord * recordsOf s in
-          let e : 4 + (4 + (4 + (32 + (planSize + (checkpointPoint * pointCount + (n + k)))))) ≡ recordsPart (clientsOf s) + k = omega arith in
-          rw (floors-count, records-count)
-          (part-join s 0 4 (4 + (4 + (32 + (planSize + (checkpointPoint * pointCount + (n + k)))))) (starts-again s checkpointMagic (omega (arith, d .whole)) (d .magic))
-          (part-join s 4 4 (4 + (32 + (planSize + (checkpointPoint * pointCount + (n + k))))) server-again
-          (part-join s 8 4 (32 + (planSize + (checkpointPoint * pointCount + (n + k)))) heard-again
-          (part-join s 12 32 (planSize + (checkpointPoint * pointCount + (n + k))) pairs-again
+          let e : planPart + (planSize + (checkpointPoint * pointCount + (n + k))) ≡ recordsPart (clientsOf s) + k = omega arith in
+          rw (checkpoint-writes (load (restored s)), floors-count, records-count)
+          (part-join s 0 planPart (planSize + (checkpointPoint * pointCount + (n + k))) head-again
           (part-join s planPart planSize (checkpointPoint * pointCount + (n + k)) plan-again
           (part-join s pointsPart (checkpointPoint * pointCount) (n + k) points-again
-          (part-join s clientsPart n k floors-again records-again))))))
+          (part-join s clientsPart n k floors-again records-again)))
           ∙ ap (λ (x : ℕ). take x s) e)

@@ -1,5 +1,5 @@
 -- Laws of a server's state in its buffer.
---     pointCodec, completionCodec   the rows, as codecs; point-.., completion-..: their laws one by one
+--     pointCodec, completionCodec   the rows, as codecs
 --     padded-..                     a table with zeros past its rows
 --     state-length, state-bytes     the 17,704 bytes of a state
 --     load-back, sound-back         a state that fits is read back from the buffer it was written to, which is sound if the state is
@@ -9,33 +9,35 @@
 --     state-records                 512 completion records always suffice
 -- Assumes nothing.
 use Prim.Native.Nat.{ℕ, _+_, _-_, _*_, _≤_, _<_}
-use mathlib.Core.Path.{_≡_, refl, sym, ap, _∙_}
-use mathlib.Core.Bool.{Bool, true}
+use mathlib.Core.Path.{_≡_, refl, sym, ap, _∙_, subst}
+use mathlib.Core.Bool.{Bool, true, and-assoc}
 use mathlib.Core.List.{List, [], _∷_, _++_, append-assoc}
 use native.Mathlib.Omega.{arith}
 use lib.ListN.{length, take, drop, replicate, length-append, length-drop, length-replicate}
-use lib.Seq.{getD-take, drop-at, drop-drop}
-use lib.Dec.{eqb, leb, lit<, lit≤}
+use lib.Seq.{drop-at, drop-drop}
+use lib.Dec.{eqb, leb, lit<}
 use borrow.Author.Tests.{eqb-true, eq-eqb, leb-true, le-leb}
 use Rattle.model.specs.declared.Point.{Point}
 use Rattle.model.specs.declared.Completion.{Completion}
-use Rattle.model.specs.Numbers.{byteAt, flip, le32At, le32, le64At, le64, signedAt, signed32, zeros3At, quad, startsWith}
+use Rattle.model.specs.Numbers.{byteAt, le32At, le64At, le64, zeros3At, startsWith}
 use Rattle.model.specs.Tables.{rows, everyRow, bytesOf, every, zeros, written}
 use Rattle.model.specs.Plan.{planEntryOf, planRowOk, planBytes, entryAt, inRange}
 use Rattle.model.specs.Packets.{idOk, commandOk, outcomeOk}
 use Rattle.model.specs.Images.{floorOfBytes, floorBytes, floorOf, floorOk, inWindow, clientsAscend}
-use Rattle.model.specs.States.{State, stateMagic, stateHead, pointRow, recordRow, pointsStart, floorsStart, recordsStart, stateEnd, pointOf}
+use Rattle.model.specs.States.{State, stateMagic, stateHead, pointRow, recordRow, pointsStart, floorsStart, recordsStart, stateEnd, recordsEnd, pointOf}
 use Rattle.model.specs.States.{pointBytes, completionOf, completionBytes, clientsIn, recordsIn, load, stateHeadBytes, padded, stateBytes, pointAt}
 use Rattle.model.specs.States.{pointsOk, keepsRecords, completionOk, idsDiffer, endsFrom, stateFramed, pointRowOk, stateOk, sound}
 use Rattle.model.specs.Limits.{lastServer, headSize, pointCount, clientCount, recordCount, planRow, floorRow, planSize, callWindow}
 use Rattle.model_laws.specs.Bytes.{Bytes, All, part}
 use Rattle.model_laws.specs.Codec.{Codec}
+use Rattle.model_laws.specs.Fields.{Field, byte, word32, signed, word64, fixed, fixedAll, gotAll, putAll, testsOf, passAll, nth, Bounded, fixedBytes, Layout, Computes}
 use Rattle.model_laws.specs.Fits.{PointFits, CompletionFits, StateFits, Sound}
-use Rattle.model_laws.proofs.Tests.{joined-all, all-joined}
-use Rattle.model_laws.proofs.Numbers.{part-join, le32-digits, le64-digits, quad-again, starts-again, le32-again, le32-is, le64-again, signed-again, le32-below}
-use Rattle.model_laws.proofs.Numbers.{le64-below, signed-below, le32-take, le64-take, signed-take, flip-flip, zero-at, zeros3-at, bytes-append}
-use Rattle.model_laws.proofs.Numbers.{bytes-drop, bytes-quad, bytes-le32, bytes-le64, bytes-signed32, bytes-run}
+use Rattle.model_laws.proofs.Tests.{and-both, joined-all, all-joined}
+use Rattle.model_laws.proofs.Numbers.{part-join, le32-below}
+use Rattle.model_laws.proofs.Numbers.{le64-below, bytes-append}
+use Rattle.model_laws.proofs.Numbers.{bytes-drop, bytes-run}
 use Rattle.model_laws.proofs.Written.{written-front, written-again}
+use Rattle.model_laws.proofs.Fields.{codec, all-bytes, all-front, all-again}
 use Rattle.model_laws.proofs.Tables.{length-rows, length-bytesOf, bytes-bytesOf, rows-back, everyRow-back, everyRow-true, rows-again, rows-fit}
 use Rattle.model_laws.proofs.Tables.{places, every-imp, zeros-back, zeros-again, bytes-replicate}
 use Rattle.model_laws.proofs.Images.{floorCodec}
@@ -46,219 +48,49 @@ use Rattle.model_laws.proofs.Plans.{planCodec, plan-length, plan-bytes}
 abbrev framedTests : List ℕ → List Bool
 framedTests s =
     startsWith s stateMagic ∷ zeros3At s 5 ∷ eqb (le32At s 20) 0 ∷ leb (clientsIn s) clientCount ∷ leb (recordsIn s) recordCount
-    ∷ zeros (floorRow * (clientCount - clientsIn s)) (drop (floorsStart + floorRow * clientsIn s) s)
-    ∷ zeros (recordRow * (recordCount - recordsIn s)) (drop (recordsStart + recordRow * recordsIn s) s) ∷ []
+    ∷ zeros (floorRow * (clientCount - clientsIn s)) (drop (floorsStart + floorRow * clientsIn s) s) ∷ []
 
--- ---- a point's row
+-- ---- the rows
 
-pub point-width : (x : Point) → length (pointBytes x) ≡ pointRow
-unfolding pointBytes le64
-point-width x = refl
-
-pub point-bytes : (x : Point) → PointFits x → Bytes (pointBytes x)
-unfolding pointBytes
-point-bytes x h =
-    bytes-run (quad (x .status) (x .quality) (x .destination) 0 ∷ signed32 (x .value) ∷ le32 (x .moveNumber) ∷ le32 (x .takenMove) ∷ le64 (x .giveEnd) ∷ le64 (x .takeEnd) ∷ []) (
-      bytes-quad (x .status) (x .quality) (x .destination) 0 (h .status) (h .quality) (h .destination) (lit< tt),
-      (
-        bytes-signed32 (x .value),
-        (bytes-le32 (x .moveNumber) (h .moveNumber), (bytes-le32 (x .takenMove) (h .takenMove), (bytes-le64 (x .giveEnd) (h .giveEnd), (bytes-le64 (x .takeEnd) (h .takeEnd), tt)))),
-      ),
-    )
-
-pub point-take : (s : List ℕ) → pointOf (take pointRow s) ≡ pointOf s
-unfolding pointOf
-point-take s =
-    let status : byteAt (take pointRow s) 0 ≡ byteAt s 0 = getD-take pointRow s 0 0 (lit< tt) in
-    let quality : byteAt (take pointRow s) 1 ≡ byteAt s 1 = getD-take pointRow s 1 0 (lit< tt) in
-    let destination : byteAt (take pointRow s) 2 ≡ byteAt s 2 = getD-take pointRow s 2 0 (lit< tt) in
-    let value : signedAt (take pointRow s) 4 ≡ signedAt s 4 = signed-take pointRow s 4 (lit≤ tt) in
-    let number : le32At (take pointRow s) 8 ≡ le32At s 8 = le32-take pointRow s 8 (lit≤ tt) in
-    let taken : le32At (take pointRow s) 12 ≡ le32At s 12 = le32-take pointRow s 12 (lit≤ tt) in
-    let gave : le64At (take pointRow s) 16 ≡ le64At s 16 = le64-take pointRow s 16 (lit≤ tt) in
-    let took : le64At (take pointRow s) 24 ≡ le64At s 24 = le64-take pointRow s 24 (lit≤ tt) in
-    λ i.
+abbrev pointLayout : Layout Point
+pointLayout =
     record {
-      status = status i;
-      quality = quality i;
-      destination = destination i;
-      value = value i;
-      moveNumber = number i;
-      takenMove = taken i;
-      giveEnd = gave i;
-      takeEnd = took i;
+      fields = byte ∷ byte ∷ byte ∷ fixed 0 ∷ signed ∷ word32 ∷ word32 ∷ word64 ∷ word64 ∷ [];
+      to = λ v. record { status = v 0; quality = v 1; destination = v 2; value = v 3; moveNumber = v 4; takenMove = v 5; giveEnd = v 6; takeEnd = v 7 };
+      from = λ x. x .status ∷ x .quality ∷ x .destination ∷ x .value ∷ x .moveNumber ∷ x .takenMove ∷ x .giveEnd ∷ x .takeEnd ∷ [];
+      Fit = PointFits;
+      fits = λ x h. (h .status, (h .quality, (h .destination, (h .value, (h .moveNumber, (h .takenMove, (h .giveEnd, (h .takeEnd, tt))))))));
+      fitted = λ v p. record { status = p 0; quality = p 1; destination = p 2; value = p 3; moveNumber = p 4; takenMove = p 5; giveEnd = p 6; takeEnd = p 7 };
     }
 
-pub point-test-take : (s : List ℕ) → pointRowOk (take pointRow s) ≡ pointRowOk s
-unfolding pointRowOk
-point-test-take s = ap (λ (x : ℕ). eqb x 0) (getD-take pointRow s 3 0 (lit< tt))
-
-pub point-at : (x : Point) (rest : List ℕ) → PointFits x → pointOf (pointBytes x ++ rest) ≡ x
-unfolding pointOf pointBytes le32At le64At le64 signedAt
-point-at x rest h =
-    let s : List ℕ = pointBytes x ++ rest in
-    let value : signedAt s 4 ≡ x .value = ap flip (le32-digits (flip (x .value))) ∙ flip-flip (x .value) (h .value) in
-    let number : le32At s 8 ≡ x .moveNumber = le32-digits (x .moveNumber) in
-    let taken : le32At s 12 ≡ x .takenMove = le32-digits (x .takenMove) in
-    let gave : le64At s 16 ≡ x .giveEnd = le64-digits (x .giveEnd) in
-    let took : le64At s 24 ≡ x .takeEnd = le64-digits (x .takeEnd) in
-    λ i.
-    record {
-      status = x .status;
-      quality = x .quality;
-      destination = x .destination;
-      value = value i;
-      moveNumber = number i;
-      takenMove = taken i;
-      giveEnd = gave i;
-      takeEnd = took i;
-    }
-
-pub point-test : (x : Point) (rest : List ℕ) → pointRowOk (pointBytes x ++ rest) ≡ true
-unfolding pointRowOk pointBytes
-point-test x rest = refl
-
-pub point-again : (s : List ℕ) → Bytes s → pointRow ≤ length s → pointRowOk s ≡ true → pointBytes (pointOf s) ≡ take pointRow s
-unfolding pointOf pointBytes pointRowOk
-point-again s h b t =
-    part-join s 0 4 (pointRow - 4) (quad-again s 0 (omega arith) refl refl refl (sym (zero-at s 3 t)))
-    (part-join s 4 4 (pointRow - 8) (signed-again s 4 h (omega arith))
-    (part-join s 8 4 (pointRow - 12) (le32-again s 8 h (omega arith))
-    (part-join s 12 4 (pointRow - 16) (le32-again s 12 h (omega arith))
-    (part-join s 16 8 (pointRow - 24) (le64-again s 16 h (omega arith)) (le64-again s 24 h (omega arith))))))
-
-pub point-fit : (s : List ℕ) → Bytes s → PointFits (pointOf s)
-unfolding pointOf
-point-fit s h =
-    record {
-      status = h 0;
-      quality = h 1;
-      destination = h 2;
-      value = signed-below s 4;
-      moveNumber = le32-below s 8 h;
-      takenMove = le32-below s 12 h;
-      giveEnd = le64-below s 16 h;
-      takeEnd = le64-below s 24 h;
-    }
+pub point-computes : Computes pointLayout pointOf pointBytes pointRowOk
+unfolding pointOf pointBytes pointRowOk le64
+point-computes = record { reads = λ s. refl; writes = λ a. refl; tests = λ s. refl; plain = refl; back = λ a. refl; forth = λ s. refl }
 
 abbrev pub pointCodec : Codec Point
-pointCodec =
+pointCodec = codec point-computes
+
+abbrev completionLayout : Layout Completion
+completionLayout =
     record {
-      dec = pointOf;
-      enc = pointBytes;
-      width = pointRow;
-      test = pointRowOk;
-      Fit = PointFits;
-      enc-width = point-width;
-      enc-bytes = point-bytes;
-      dec-take = point-take;
-      test-take = point-test-take;
-      dec-enc = point-at;
-      test-enc = λ x rest h. point-test x rest;
-      enc-dec = point-again;
-      dec-fit = λ s h t. point-fit s h;
+      fields = word32 ∷ word32 ∷ signed ∷ signed ∷ byte ∷ byte ∷ byte ∷ byte ∷ word64 ∷ [];
+      to = λ v. record {
+        command = record { client = v 0; call = v 1; op = v 4; point = v 7; argument = v 2 };
+        result = record { outcome = v 5; value = v 3; quality = v 6 };
+        end = v 8;
+      };
+      from = λ r. r .command .client ∷ r .command .call ∷ r .command .argument ∷ r .result .value ∷ r .command .op ∷ r .result .outcome ∷ r .result .quality ∷ r .command .point ∷ r .end ∷ [];
+      Fit = CompletionFits;
+      fits = λ r h. (h .client, (h .call, (h .argument, (h .value, (h .op, (h .outcome, (h .quality, (h .point, (h .end, tt)))))))));
+      fitted = λ v p. record { client = p 0; call = p 1; argument = p 2; value = p 3; op = p 4; outcome = p 5; quality = p 6; point = p 7; end = p 8 };
     }
 
--- ---- a completion record's row
-
-pub completion-width : (r : Completion) → length (completionBytes r) ≡ recordRow
-unfolding completionBytes le64
-completion-width r = refl
-
-pub completion-bytes : (r : Completion) → CompletionFits r → Bytes (completionBytes r)
-unfolding completionBytes
-completion-bytes r h =
-    bytes-run (le32 (r .command .client) ∷ le32 (r .command .call) ∷ signed32 (r .command .argument) ∷ signed32 (r .result .value)
-    ∷ quad (r .command .op) (r .result .outcome) (r .result .quality) (r .command .point) ∷ le64 (r .end) ∷ []) (
-      bytes-le32 (r .command .client) (h .client),
-      (
-        bytes-le32 (r .command .call) (h .call),
-        (
-          bytes-signed32 (r .command .argument),
-          (
-            bytes-signed32 (r .result .value),
-            (bytes-quad (r .command .op) (r .result .outcome) (r .result .quality) (r .command .point) (h .op) (h .outcome) (h .quality) (h .point), (bytes-le64 (r .end) (h .end), tt)),
-          ),
-        ),
-      ),
-    )
-
-pub completion-take : (s : List ℕ) → completionOf (take recordRow s) ≡ completionOf s
-unfolding completionOf
-completion-take s =
-    let client : le32At (take recordRow s) 0 ≡ le32At s 0 = le32-take recordRow s 0 (lit≤ tt) in
-    let call : le32At (take recordRow s) 4 ≡ le32At s 4 = le32-take recordRow s 4 (lit≤ tt) in
-    let argument : signedAt (take recordRow s) 8 ≡ signedAt s 8 = signed-take recordRow s 8 (lit≤ tt) in
-    let value : signedAt (take recordRow s) 12 ≡ signedAt s 12 = signed-take recordRow s 12 (lit≤ tt) in
-    let op : byteAt (take recordRow s) 16 ≡ byteAt s 16 = getD-take recordRow s 16 0 (lit< tt) in
-    let outcome : byteAt (take recordRow s) 17 ≡ byteAt s 17 = getD-take recordRow s 17 0 (lit< tt) in
-    let quality : byteAt (take recordRow s) 18 ≡ byteAt s 18 = getD-take recordRow s 18 0 (lit< tt) in
-    let point : byteAt (take recordRow s) 19 ≡ byteAt s 19 = getD-take recordRow s 19 0 (lit< tt) in
-    let end : le64At (take recordRow s) 20 ≡ le64At s 20 = le64-take recordRow s 20 (lit≤ tt) in
-    λ i.
-    record {
-      command = record { client = client i; call = call i; op = op i; point = point i; argument = argument i };
-      result = record { outcome = outcome i; value = value i; quality = quality i };
-      end = end i;
-    }
-
-pub completion-at : (r : Completion) (rest : List ℕ) → CompletionFits r → completionOf (completionBytes r ++ rest) ≡ r
-unfolding completionOf completionBytes le32At le64At le64 signedAt
-completion-at r rest h =
-    let s : List ℕ = completionBytes r ++ rest in
-    let client : le32At s 0 ≡ r .command .client = le32-digits (r .command .client) in
-    let call : le32At s 4 ≡ r .command .call = le32-digits (r .command .call) in
-    let argument : signedAt s 8 ≡ r .command .argument = ap flip (le32-digits (flip (r .command .argument))) ∙ flip-flip (r .command .argument) (h .argument) in
-    let value : signedAt s 12 ≡ r .result .value = ap flip (le32-digits (flip (r .result .value))) ∙ flip-flip (r .result .value) (h .value) in
-    let end : le64At s 20 ≡ r .end = le64-digits (r .end) in
-    λ i.
-    record {
-      command = record { client = client i; call = call i; op = r .command .op; point = r .command .point; argument = argument i };
-      result = record { outcome = r .result .outcome; value = value i; quality = r .result .quality };
-      end = end i;
-    }
-
-pub completion-again : (s : List ℕ) → Bytes s → recordRow ≤ length s → completionBytes (completionOf s) ≡ take recordRow s
-unfolding completionOf completionBytes
-completion-again s h b =
-    part-join s 0 4 (recordRow - 4) (le32-again s 0 h (omega arith))
-    (part-join s 4 4 (recordRow - 8) (le32-again s 4 h (omega arith))
-    (part-join s 8 4 (recordRow - 12) (signed-again s 8 h (omega arith))
-    (part-join s 12 4 (recordRow - 16) (signed-again s 12 h (omega arith))
-    (part-join s 16 4 (recordRow - 20) (quad-again s 16 (omega arith) refl refl refl refl) (le64-again s 20 h (omega arith))))))
-
-pub completion-fit : (s : List ℕ) → Bytes s → CompletionFits (completionOf s)
-unfolding completionOf
-completion-fit s h =
-    record {
-      client = le32-below s 0 h;
-      call = le32-below s 4 h;
-      argument = signed-below s 8;
-      value = signed-below s 12;
-      op = h 16;
-      outcome = h 17;
-      quality = h 18;
-      point = h 19;
-      end = le64-below s 20 h;
-    }
+pub completion-computes : Computes completionLayout completionOf completionBytes (λ s. true)
+unfolding completionOf completionBytes le64
+completion-computes = record { reads = λ s. refl; writes = λ a. refl; tests = λ s. refl; plain = refl; back = λ a. refl; forth = λ s. refl }
 
 abbrev pub completionCodec : Codec Completion
-completionCodec =
-    record {
-      dec = completionOf;
-      enc = completionBytes;
-      width = recordRow;
-      test = λ s. true;
-      Fit = CompletionFits;
-      enc-width = completion-width;
-      enc-bytes = completion-bytes;
-      dec-take = completion-take;
-      test-take = λ s. refl;
-      dec-enc = completion-at;
-      test-enc = λ r rest h. refl;
-      enc-dec = λ s h b t. completion-again s h b;
-      dec-fit = λ s h t. completion-fit s h;
-    }
+completionCodec = codec completion-computes
 
 -- ---- a table with places past its rows
 
@@ -299,6 +131,21 @@ module _ {A : Type 0} (C : Codec A) (n : ℕ) where
       (part-join s i (w * m) (w * (n - m)) (rows-again C m (drop i s) (bytes-drop i s h) (omega (arith, length-drop i s)) t) o
       ∙ ap (λ (x : ℕ). part i x s) p)
 
+-- ---- the head's fields
+
+abbrev headFields : List Field
+headFields = fixedAll stateMagic ++ (byte ∷ fixed 0 ∷ fixed 0 ∷ fixed 0 ∷ word32 ∷ word32 ∷ word32 ∷ word32 ∷ word64 ∷ word64 ∷ [])
+
+abbrev headNumbers : State → List ℕ
+headNumbers st = st .server ∷ st .heard ∷ length (st .floors) ∷ length (st .records) ∷ 0 ∷ st .size ∷ st .mark ∷ []
+
+head-writes : (st : State) → stateHeadBytes st ≡ putAll headFields (headNumbers st)
+unfolding stateHeadBytes le64
+head-writes st = refl
+
+head-bounded : (st : State) → StateFits st → Bounded headFields (headNumbers st)
+head-bounded st f = (f .server, (f .heard, (omega (arith, f .floors-count), (omega (arith, f .records-count), (lit< tt, (f .size, (f .mark, tt)))))))
+
 -- ---- the whole state: what was written is read back
 
 module _ (st : State) where
@@ -313,46 +160,30 @@ module _ (st : State) where
     floors-length : length (padded floorBytes floorRow clientCount (st .floors)) ≡ floorRow * clientCount
     floors-length = padded-length floorCodec clientCount (st .floors) (f .floors-count)
 
-    records-length : length (padded completionBytes recordRow recordCount (st .records)) ≡ recordRow * recordCount
-    records-length = padded-length completionCodec recordCount (st .records) (f .records-count)
+    records-length : length (bytesOf completionBytes (st .records)) ≡ recordRow * length (st .records)
+    records-length = length-bytesOf completionCodec (st .records)
 
-    pub state-length : length (stateBytes st) ≡ stateEnd
+    pub state-length : length (stateBytes st) ≡ recordsEnd (length (st .records))
     unfolding stateBytes
-    state-length = simp (length-append, state-head-length, plan-length (st .plan) (f .plan-count), points-length, floors-length, records-length)
+    state-length = simp (length-append, state-head-length, plan-length (st .plan) (f .plan-count), points-length, floors-length, records-length) (omega arith)
+
+    pub state-within : length (stateBytes st) ≤ stateEnd
+    state-within = omega (arith, state-length, f .records-count)
 
     pub state-bytes : Bytes (stateBytes st)
-    unfolding stateBytes stateHeadBytes
+    unfolding stateBytes
     state-bytes =
         bytes-run
         (stateHeadBytes st ∷ planBytes (st .plan) ∷ bytesOf pointBytes (st .points) ∷ padded floorBytes floorRow clientCount (st .floors)
-        ∷ padded completionBytes recordRow recordCount (st .records) ∷ []) (
-          bytes-run
-              (stateMagic ∷ quad (st .server) 0 0 0 ∷ le32 (st .heard) ∷ le32 (length (st .floors)) ∷ le32 (length (st .records)) ∷ quad 0 0 0 0 ∷ le64 (st .size) ∷ le64 (st .mark) ∷ []) (
-                bytes-quad (byteAt stateMagic 0) (byteAt stateMagic 1) (byteAt stateMagic 2) (byteAt stateMagic 3) (lit< tt) (lit< tt) (lit< tt) (lit< tt),
-                (
-                  bytes-quad (st .server) 0 0 0 (f .server) (lit< tt) (lit< tt) (lit< tt),
-                  (
-                    bytes-le32 (st .heard) (f .heard),
-                    (
-                      bytes-le32 (length (st .floors)) (omega arith),
-                      (
-                        bytes-le32 (length (st .records)) (omega arith),
-                        (
-                          bytes-quad 0 0 0 0 (lit< tt) (lit< tt) (lit< tt) (lit< tt),
-                          (bytes-le64 (st .size) (f .size), (bytes-le64 (st .mark) (f .mark), tt)),
-                        ),
-                      ),
-                    ),
-                  ),
-                ),
-              ),
+        ∷ bytesOf completionBytes (st .records) ∷ []) (
+          subst Bytes (sym (head-writes st)) (all-bytes headFields (headNumbers st) (joined-all (fixedBytes headFields) refl) (head-bounded st f)),
           (
             plan-bytes (st .plan) (f .plan),
             (
               bytes-bytesOf pointCodec (st .points) (f .points),
               (
                 padded-bytes floorCodec clientCount (st .floors) (f .floors),
-                (padded-bytes completionCodec recordCount (st .records) (f .records), tt),
+                (bytes-bytesOf completionCodec (st .records) (f .records), tt),
               ),
             ),
           ),
@@ -360,83 +191,75 @@ module _ (st : State) where
 
     module _ (rest : List ℕ) where
       drop-head : drop stateHead (stateBytes st ++ rest)
-          ≡ planBytes (st .plan) ++ (bytesOf pointBytes (st .points) ++ (padded floorBytes floorRow clientCount (st .floors) ++ (padded completionBytes recordRow recordCount (st .records) ++ rest)))
+          ≡ planBytes (st .plan) ++ (bytesOf pointBytes (st .points) ++ (padded floorBytes floorRow clientCount (st .floors) ++ (bytesOf completionBytes (st .records) ++ rest)))
       unfolding stateBytes stateHeadBytes le64
       drop-head = simp append-assoc
 
       drop-plan : drop pointsStart (stateBytes st ++ rest)
-          ≡ bytesOf pointBytes (st .points) ++ (padded floorBytes floorRow clientCount (st .floors) ++ (padded completionBytes recordRow recordCount (st .records) ++ rest))
+          ≡ bytesOf pointBytes (st .points) ++ (padded floorBytes floorRow clientCount (st .floors) ++ (bytesOf completionBytes (st .records) ++ rest))
       drop-plan =
           sym (drop-drop planSize stateHead (stateBytes st ++ rest))
           ∙ ap (λ (x : List ℕ). drop planSize x) drop-head
           ∙ drop-at (planBytes (st .plan))
-          (bytesOf pointBytes (st .points) ++ (padded floorBytes floorRow clientCount (st .floors) ++ (padded completionBytes recordRow recordCount (st .records) ++ rest)))
+          (bytesOf pointBytes (st .points) ++ (padded floorBytes floorRow clientCount (st .floors) ++ (bytesOf completionBytes (st .records) ++ rest)))
           planSize (plan-length (st .plan) (f .plan-count))
 
       drop-points : drop floorsStart (stateBytes st ++ rest)
-          ≡ padded floorBytes floorRow clientCount (st .floors) ++ (padded completionBytes recordRow recordCount (st .records) ++ rest)
+          ≡ padded floorBytes floorRow clientCount (st .floors) ++ (bytesOf completionBytes (st .records) ++ rest)
       drop-points =
           sym (drop-drop (pointRow * pointCount) pointsStart (stateBytes st ++ rest))
           ∙ ap (λ (x : List ℕ). drop (pointRow * pointCount) x) drop-plan
-          ∙ drop-at (bytesOf pointBytes (st .points)) (padded floorBytes floorRow clientCount (st .floors) ++ (padded completionBytes recordRow recordCount (st .records) ++ rest))
+          ∙ drop-at (bytesOf pointBytes (st .points)) (padded floorBytes floorRow clientCount (st .floors) ++ (bytesOf completionBytes (st .records) ++ rest))
           (pointRow * pointCount) points-length
 
-      drop-floors : drop recordsStart (stateBytes st ++ rest) ≡ padded completionBytes recordRow recordCount (st .records) ++ rest
+      drop-floors : drop recordsStart (stateBytes st ++ rest) ≡ bytesOf completionBytes (st .records) ++ rest
       drop-floors =
           sym (drop-drop (floorRow * clientCount) floorsStart (stateBytes st ++ rest))
           ∙ ap (λ (x : List ℕ). drop (floorRow * clientCount) x) drop-points
-          ∙ drop-at (padded floorBytes floorRow clientCount (st .floors)) (padded completionBytes recordRow recordCount (st .records) ++ rest) (floorRow * clientCount) floors-length
+          ∙ drop-at (padded floorBytes floorRow clientCount (st .floors)) (bytesOf completionBytes (st .records) ++ rest) (floorRow * clientCount) floors-length
+
+      numbers-at : nth (gotAll headFields (stateBytes st ++ rest) 0) ≡ nth (headNumbers st)
+      unfolding stateBytes
+      numbers-at =
+          rw (head-writes st, append-assoc)
+          (all-front headFields (headNumbers st)
+          ((planBytes (st .plan) ++ (bytesOf pointBytes (st .points) ++ (padded floorBytes floorRow clientCount (st .floors) ++ bytesOf completionBytes (st .records)))) ++ rest)
+          (head-bounded st f))
 
       clients-at : clientsIn (stateBytes st ++ rest) ≡ length (st .floors)
-      unfolding clientsIn stateBytes stateHeadBytes le32At
-      clients-at = le32-digits (length (st .floors))
+      unfolding clientsIn
+      clients-at = λ i. numbers-at i 2
 
       records-at : recordsIn (stateBytes st ++ rest) ≡ length (st .records)
-      unfolding recordsIn stateBytes stateHeadBytes le32At
-      records-at = le32-digits (length (st .records))
+      unfolding recordsIn
+      records-at = λ i. numbers-at i 3
 
       plan-rows : rows planEntryOf planRow pointCount (drop stateHead (stateBytes st ++ rest)) ≡ st .plan
       unfolding planBytes
       plan-rows =
           rw (drop-head, ← f .plan-count)
           (rows-back planCodec (st .plan)
-          (bytesOf pointBytes (st .points) ++ (padded floorBytes floorRow clientCount (st .floors) ++ (padded completionBytes recordRow recordCount (st .records) ++ rest))) (f .plan))
+          (bytesOf pointBytes (st .points) ++ (padded floorBytes floorRow clientCount (st .floors) ++ (bytesOf completionBytes (st .records) ++ rest))) (f .plan))
 
       point-rows : rows pointOf pointRow pointCount (drop pointsStart (stateBytes st ++ rest)) ≡ st .points
       point-rows =
           rw (drop-plan, ← f .points-count)
-          (rows-back pointCodec (st .points) (padded floorBytes floorRow clientCount (st .floors) ++ (padded completionBytes recordRow recordCount (st .records) ++ rest)) (f .points))
+          (rows-back pointCodec (st .points) (padded floorBytes floorRow clientCount (st .floors) ++ (bytesOf completionBytes (st .records) ++ rest)) (f .points))
 
       floor-rows : rows floorOfBytes floorRow (clientsIn (stateBytes st ++ rest)) (drop floorsStart (stateBytes st ++ rest)) ≡ st .floors
-      floor-rows = rw (drop-points, clients-at) (padded-rows floorCodec clientCount (st .floors) (padded completionBytes recordRow recordCount (st .records) ++ rest) (f .floors))
+      floor-rows = rw (drop-points, clients-at) (padded-rows floorCodec clientCount (st .floors) (bytesOf completionBytes (st .records) ++ rest) (f .floors))
 
       record-rows : rows completionOf recordRow (recordsIn (stateBytes st ++ rest)) (drop recordsStart (stateBytes st ++ rest)) ≡ st .records
-      record-rows = rw (drop-floors, records-at) (padded-rows completionCodec recordCount (st .records) rest (f .records))
-
-      server-at : byteAt (stateBytes st ++ rest) 4 ≡ st .server
-      unfolding stateBytes stateHeadBytes
-      server-at = refl
-
-      heard-at : le32At (stateBytes st ++ rest) 8 ≡ st .heard
-      unfolding stateBytes stateHeadBytes le32At
-      heard-at = le32-digits (st .heard)
-
-      size-at : le64At (stateBytes st ++ rest) 24 ≡ st .size
-      unfolding stateBytes stateHeadBytes le64At le32At le64
-      size-at = le64-digits (st .size)
-
-      mark-at : le64At (stateBytes st ++ rest) 32 ≡ st .mark
-      unfolding stateBytes stateHeadBytes le64At le32At le64
-      mark-at = le64-digits (st .mark)
+      record-rows = rw (drop-floors, records-at) (rows-back completionCodec (st .records) rest (f .records))
 
       pub load-front : load (stateBytes st ++ rest) ≡ st
       unfolding load
       load-front = λ i.
           record {
-            server = server-at i;
-            heard = heard-at i;
-            size = size-at i;
-            mark = mark-at i;
+            server = numbers-at i 0;
+            heard = numbers-at i 1;
+            size = numbers-at i 5;
+            mark = numbers-at i 6;
             plan = plan-rows i;
             points = point-rows i;
             floors = floor-rows i;
@@ -450,12 +273,7 @@ module _ (st : State) where
       floors-zeros : zeros (floorRow * (clientCount - clientsIn (stateBytes st ++ rest))) (drop (floorsStart + floorRow * clientsIn (stateBytes st ++ rest)) (stateBytes st ++ rest)) ≡ true
       floors-zeros =
           rw (clients-at, ← drop-drop (floorRow * length (st .floors)) floorsStart (stateBytes st ++ rest), drop-points)
-          (padded-zeros floorCodec clientCount (st .floors) (padded completionBytes recordRow recordCount (st .records) ++ rest))
-
-      records-zeros : zeros (recordRow * (recordCount - recordsIn (stateBytes st ++ rest))) (drop (recordsStart + recordRow * recordsIn (stateBytes st ++ rest)) (stateBytes st ++ rest)) ≡ true
-      records-zeros =
-          rw (records-at, ← drop-drop (recordRow * length (st .records)) recordsStart (stateBytes st ++ rest), drop-floors)
-          (padded-zeros completionCodec recordCount (st .records) rest)
+          (padded-zeros floorCodec clientCount (st .floors) (bytesOf completionBytes (st .records) ++ rest))
 
       framed : stateFramed (stateBytes st ++ rest) ≡ true
       unfolding stateFramed
@@ -470,7 +288,7 @@ module _ (st : State) where
                 h .2,
                 (
                   rw clients-at (le-leb (length (st .floors)) clientCount (f .floors-count)),
-                  (rw records-at (le-leb (length (st .records)) recordCount (f .records-count)), (floors-zeros, (records-zeros, tt))),
+                  (rw records-at (le-leb (length (st .records)) recordCount (f .records-count)), (floors-zeros, tt)),
                 ),
               ),
             ),
@@ -481,27 +299,29 @@ module _ (st : State) where
       plan-tests =
           rw (drop-head, ← f .plan-count)
           (everyRow-back planCodec (st .plan)
-          (bytesOf pointBytes (st .points) ++ (padded floorBytes floorRow clientCount (st .floors) ++ (padded completionBytes recordRow recordCount (st .records) ++ rest))) (f .plan))
+          (bytesOf pointBytes (st .points) ++ (padded floorBytes floorRow clientCount (st .floors) ++ (bytesOf completionBytes (st .records) ++ rest))) (f .plan))
 
       point-tests : everyRow pointRowOk pointRow pointCount (drop pointsStart (stateBytes st ++ rest)) ≡ true
       point-tests =
           rw (drop-plan, ← f .points-count)
-          (everyRow-back pointCodec (st .points) (padded floorBytes floorRow clientCount (st .floors) ++ (padded completionBytes recordRow recordCount (st .records) ++ rest)) (f .points))
+          (everyRow-back pointCodec (st .points) (padded floorBytes floorRow clientCount (st .floors) ++ (bytesOf completionBytes (st .records) ++ rest)) (f .points))
 
-      pub sound-front : stateOk st ≡ true → sound (stateBytes st ++ rest) ≡ true
+      pub sound-front : stateEnd ≤ length (stateBytes st ++ rest) → stateOk st ≡ true → sound (stateBytes st ++ rest) ≡ true
       unfolding sound
-      sound-front ok =
+      sound-front long ok =
           let b : List ℕ = stateBytes st ++ rest in
           all-joined
           (leb stateEnd (length b) ∷ stateFramed b ∷ everyRow planRowOk planRow pointCount (drop stateHead b) ∷ everyRow pointRowOk pointRow pointCount (drop pointsStart b) ∷ stateOk (load b) ∷ [])
-          (le-leb stateEnd (length b) (omega (arith, length-append (stateBytes st) rest, state-length)), (framed, (plan-tests, (point-tests, (rw load-front ok, tt)))))
+          (le-leb stateEnd (length b) long, (framed, (plan-tests, (point-tests, (rw load-front ok, tt)))))
 
     -- in a buffer
     pub load-back : (s : List ℕ) → stateEnd ≤ length s → load (written s 0 (stateBytes st)) ≡ st
-    load-back s h = rw (written-front s (stateBytes st) (rw state-length h)) (load-front (drop (length (stateBytes st)) s))
+    load-back s h = rw (written-front s (stateBytes st) (omega (arith, state-within))) (load-front (drop (length (stateBytes st)) s))
 
     pub sound-back : (s : List ℕ) → stateEnd ≤ length s → stateOk st ≡ true → sound (written s 0 (stateBytes st)) ≡ true
-    sound-back s h ok = rw (written-front s (stateBytes st) (rw state-length h)) (sound-front (drop (length (stateBytes st)) s) ok)
+    sound-back s h ok =
+        rw (written-front s (stateBytes st) (omega (arith, state-within)))
+        (sound-front (drop (length (stateBytes st)) s) (omega (arith, state-within, length-append (stateBytes st) (drop (length (stateBytes st)) s), length-drop (length (stateBytes st)) s)) ok)
 
 -- ---- soundness, as a test and as a record
 
@@ -519,7 +339,6 @@ sound-is s e =
       few-clients = leb-true (clientsIn s) clientCount (u .1 .1 .1 .0);
       few-records = leb-true (recordsIn s) recordCount (u .1 .1 .1 .1 .0);
       past-clients = u .1 .1 .1 .1 .1 .0;
-      past-records = u .1 .1 .1 .1 .1 .1 .0;
       plan-rows = t .1 .1 .0;
       point-rows = t .1 .1 .1 .0;
       state = t .1 .1 .1 .1 .0;
@@ -538,7 +357,7 @@ is-sound s d =
             d .at5,
             (
               eq-eqb (le32At s 20) 0 (d .at20),
-              (le-leb (clientsIn s) clientCount (d .few-clients), (le-leb (recordsIn s) recordCount (d .few-records), (d .past-clients, (d .past-records, tt)))),
+              (le-leb (clientsIn s) clientCount (d .few-clients), (le-leb (recordsIn s) recordCount (d .few-records), (d .past-clients, tt))),
             ),
           ),
         ),
@@ -558,32 +377,33 @@ module _ (s : List ℕ) (h : Bytes s) (d : Sound s) where
   loaded-records = length-rows completionOf recordRow (recordsIn s) (drop recordsStart s)
 
   state-head-again : stateHeadBytes (load s) ≡ take stateHead s
-  unfolding stateHeadBytes load
+  unfolding load zeros3At clientsIn recordsIn
   state-head-again =
-      let z = zeros3-at s 5 (d .at5) in
-      let l : stateEnd ≤ length s = d .long in
-      part-join s 0 4 (stateHead - 4) (starts-again s stateMagic (omega arith) (d .magic))
-      (part-join s 4 4 (stateHead - 8) (quad-again s 4 (omega arith) refl (sym (z .0)) (sym (z .1)) (sym (z .2)))
-      (part-join s 8 4 (stateHead - 12) (le32-again s 8 h (omega arith))
-      (part-join s 12 4 (stateHead - 16) (le32-is s 12 h (omega arith) (unfold clientsIn in loaded-floors))
-      (part-join s 16 4 (stateHead - 20) (le32-is s 16 h (omega arith) (unfold recordsIn in loaded-records))
-      (part-join s 20 4 (stateHead - 24) (le32-is s 20 h (omega arith) (sym (d .at20)))
-      (part-join s 24 8 (stateHead - 32) (le64-again s 24 h (omega arith)) (le64-again s 32 h (omega arith))))))))
+      let same : headNumbers (load s) ≡ gotAll headFields s 0 =
+      λ j. byteAt s 4 ∷ le32At s 8 ∷ loaded-floors j ∷ loaded-records j ∷ sym (d .at20) j ∷ le64At s 24 ∷ le64At s 32 ∷ [] in
+      let tests : passAll headFields s 0 ≡ true = simp and-assoc at (and-both (startsWith s stateMagic) (zeros3At s 5) (d .magic) (d .at5)) in
+      head-writes (load s) ∙ ap (putAll headFields) same ∙ all-again headFields s 0 h (omega (arith, d .long)) (joined-all (testsOf headFields s 0) tests)
 
-  state-again : stateBytes (load s) ≡ part 0 stateEnd s
+  pub state-again : stateBytes (load s) ≡ part 0 (recordsEnd (recordsIn s)) s
   unfolding stateBytes load planBytes
   state-again =
       let l : stateEnd ≤ length s = d .long in
-      part-join s 0 stateHead (stateEnd - stateHead) state-head-again
-      (part-join s stateHead planSize (stateEnd - pointsStart) (rows-again planCodec pointCount (drop stateHead s) (bytes-drop stateHead s h) (omega (arith, length-drop stateHead s)) (d .plan-rows))
-      (part-join s pointsStart (pointRow * pointCount) (stateEnd - floorsStart)
+      let m : recordsIn s ≤ recordCount = d .few-records in
+      let k : ℕ = recordRow * recordsIn s in
+      let e : stateHead + (planSize + (pointRow * pointCount + (floorRow * clientCount + k))) ≡ recordsEnd (recordsIn s) = omega arith in
+      part-join s 0 stateHead (planSize + (pointRow * pointCount + (floorRow * clientCount + k))) state-head-again
+      (part-join s stateHead planSize (pointRow * pointCount + (floorRow * clientCount + k))
+      (rows-again planCodec pointCount (drop stateHead s) (bytes-drop stateHead s h) (omega (arith, length-drop stateHead s)) (d .plan-rows))
+      (part-join s pointsStart (pointRow * pointCount) (floorRow * clientCount + k)
       (rows-again pointCodec pointCount (drop pointsStart s) (bytes-drop pointsStart s h) (omega (arith, length-drop pointsStart s)) (d .point-rows))
-      (part-join s floorsStart (floorRow * clientCount) (stateEnd - recordsStart)
+      (part-join s floorsStart (floorRow * clientCount) k
       (padded-again floorCodec clientCount s floorsStart (clientsIn s) h (d .few-clients) (omega arith) (everyRow-true floorRow (clientsIn s) (drop floorsStart s)) (d .past-clients))
-      (padded-again completionCodec recordCount s recordsStart (recordsIn s) h (d .few-records) (omega arith) (everyRow-true recordRow (recordsIn s) (drop recordsStart s)) (d .past-records)))))
+      (rows-again completionCodec (recordsIn s) (drop recordsStart s) (bytes-drop recordsStart s h) (omega (arith, length-drop recordsStart s))
+      (everyRow-true recordRow (recordsIn s) (drop recordsStart s))))))
+      ∙ ap (λ (x : ℕ). part 0 x s) e
 
   pub written-state : written s 0 (stateBytes (load s)) ≡ s
-  written-state = written-again s 0 stateEnd (stateBytes (load s)) state-again
+  written-state = written-again s 0 (recordsEnd (recordsIn s)) (stateBytes (load s)) state-again
 
   pub load-fits : StateFits (load s)
   unfolding load

@@ -2,11 +2,11 @@
 -- these laws are about a layout, which is the state's bytes once count and table agree (layout-state).
 --     put-heard, put-clients, put-count, put-size, put-mark     the head's fields; put-clients and put-count: the two counts
 --     put-point                     a point
---     put-floors, put-records       a run of stores inside the clients' or the completion records' table
---     records-stored, floors-stored     rows of a table and their count: the state with that table replaced
+--     put-floors                    a run of stores inside the clients' table
+--     records-replaced, floors-stored     rows of a table and their count: the state with that table replaced
+--     stored-over, stored-own       one state stored over another
 --     bytesOf-set, padded-set       one row of a table replaced
 --     padded-from                   the rows from an index on replaced by at least as many: rows added, or inserted
---     padded-fewer                  fewer rows, and zeros in the place of those that went
 -- Assumes nothing.
 use Prim.Native.Nat.{ℕ, zero, suc, _+_, _-_, _*_, _≤_, _<_}
 use mathlib.Core.Path.{_≡_, refl, sym, ap, _∙_}
@@ -22,20 +22,20 @@ use Rattle.model.specs.Numbers.{le32, le64}
 use Rattle.model.specs.Tables.{bytesOf, written}
 use Rattle.model.specs.Plan.{planBytes}
 use Rattle.model.specs.Images.{floorBytes}
-use Rattle.model.specs.States.{State, stateHeadBytes, stateBytes, padded, pointBytes, completionBytes, stateHead, pointsStart, floorsStart, recordsStart, pointRow, recordRow}
+use Rattle.model.specs.States.{State, stateHeadBytes, stateBytes, padded, pointBytes, completionBytes, stateHead, pointsStart, floorsStart, recordsStart, recordsEnd, pointRow}
 use Rattle.model.specs.Apply.{withMark}
-use Rattle.model.specs.Limits.{pointCount, clientCount, recordCount, floorRow, planSize}
+use Rattle.model.specs.Limits.{pointCount, clientCount, floorRow, planSize}
 use Rattle.model_laws.specs.Codec.{Codec}
 use Rattle.model_laws.specs.Fits.{StateFits}
 use Rattle.model_laws.specs.Layout.{headWith, layout, withHeard, withSize, withPoint, withFloors, withRecords}
-use Rattle.model_laws.proofs.Written.{nested-front, written-first, written-second, written-front, written-none}
-use Rattle.model_laws.proofs.Tables.{length-bytesOf, bytesOf-append, places}
-use Rattle.model_laws.proofs.States.{pointCodec, point-width, completionCodec, padded-length}
+use Rattle.model_laws.proofs.Written.{nested-front, written-first, written-second, written-front, written-none, written-append, written-comm, written-cover, written-prefix, written-suffix}
+use Rattle.model_laws.proofs.Tables.{length-bytesOf, bytesOf-append}
+use Rattle.model_laws.proofs.States.{pointCodec, completionCodec, padded-length, state-length}
 use Rattle.model_laws.proofs.Images.{floorCodec}
 use Rattle.model_laws.proofs.Plans.{plan-length}
 
 pub layout-state : (st : State)
-    → layout st (length (st .floors)) (length (st .records)) (padded floorBytes floorRow clientCount (st .floors)) (padded completionBytes recordRow recordCount (st .records)) ≡ stateBytes st
+    → layout st (length (st .floors)) (length (st .records)) (padded floorBytes floorRow clientCount (st .floors)) (bytesOf completionBytes (st .records)) ≡ stateBytes st
 unfolding layout headWith stateBytes stateHeadBytes
 layout-state st = refl
 
@@ -103,21 +103,6 @@ module _ {A : Type 0} (C : Codec A) where
         let rooms : w * (n - length ts) ≡ w * x + w * y = rw left (mul-add w x y) in
         rw (split, rooms, over-end (bytesOf (C .enc) (take i ts)) (bytesOf (C .enc) (drop i ts)) (bytesOf (C .enc) us) (w * i) (w * x) (w * y) kept new, count, bytesOf-append, append-assoc)
 
-    -- fewer rows, and zeros in the place of those that went
-    pub padded-fewer : (ts ks : List A) → length ks ≤ length ts → length ts ≤ n
-        → written (padded (C .enc) (C .width) n ts) 0 (bytesOf (C .enc) ks ++ replicate (C .width * (length ts - length ks)) 0) ≡ padded (C .enc) (C .width) n ks
-    unfolding padded
-    padded-fewer ts ks a b =
-        let w : ℕ = C .width in
-        let size : length (bytesOf (C .enc) ks ++ replicate (w * (length ts - length ks)) 0) ≡ length (bytesOf (C .enc) ts) + 0 =
-        rw (length-append, length-bytesOf C ks, length-replicate, length-bytesOf C ts, add-zero) (places w (length ks) (length ts) a) in
-        let left : length ts - length ks + (n - length ts) ≡ n - length ks = omega arith in
-        let rooms : w * (length ts - length ks) + w * (n - length ts) ≡ w * (n - length ks) = rw (← mul-add, left) in
-        let none : w * (n - length ts) ≡ 0 + w * (n - length ts) = omega arith in
-        rw none
-        (over-end [] (bytesOf (C .enc) ts) (bytesOf (C .enc) ks ++ replicate (w * (length ts - length ks)) 0) 0 0 (w * (n - length ts)) refl size
-        ∙ rw (append-assoc, replicate-append-replicate, rooms))
-
 -- ---- the head
 
 module _ (s : List ℕ) (st : State) (m n : ℕ) (fs rs : List ℕ) where
@@ -172,7 +157,7 @@ module _ (s : List ℕ) (st : State) (m n : ℕ) (fs rs : List ℕ) where
     pub put-point : (p : ℕ) (x : Point) → p < length (st .points)
         → written (written s 0 (layout st m n fs rs)) (pointsStart + pointRow * p) (pointBytes x) ≡ written s 0 (layout (withPoint p x st) m n fs rs)
     put-point p x h =
-        let size : length (pointBytes x) ≡ pointRow = point-width x in
+        let size : length (pointBytes x) ≡ pointRow = pointCodec .enc-width x in
         let all : length (bytesOf pointBytes (st .points)) ≡ pointRow * length (st .points) = length-bytesOf pointCodec (st .points) in
         let fits : pointRow * p + length (pointBytes x) ≤ length (bytesOf pointBytes (st .points)) = omega arith in
         nested-front s (layout st m n fs rs) (pointsStart + pointRow * p) (pointBytes x) (rw layout-length (omega arith))
@@ -202,43 +187,55 @@ module _ (s : List ℕ) (st : State) (m n : ℕ) (fs rs : List ℕ) where
           nested-front s (layout st m n fs rs) (floorsStart + i) vs (rw (layout-length, points-length) (omega arith))
           ∙ ap (λ (y : List ℕ). written s 0 y) (in-tables i vs ∙ rw (written-first fs rs i vs h))
 
-      pub put-records : (i : ℕ) (vs : List ℕ) → length fs ≡ floorRow * clientCount → i + length vs ≤ length rs
-          → written (written s 0 (layout st m n fs rs)) (recordsStart + i) vs ≡ written s 0 (layout st m n fs (written rs i vs))
-      unfolding layout
-      put-records i vs full h =
-          let e : recordsStart + i ≡ floorsStart + (floorRow * clientCount + i) = omega arith in
-          nested-front s (layout st m n fs rs) (recordsStart + i) vs (rw (layout-length, points-length, full) (omega arith))
-          ∙ ap (λ (y : List ℕ). written s 0 y)
-          (ap (λ (k : ℕ). written (layout st m n fs rs) k vs) e ∙ in-tables (floorRow * clientCount + i) vs ∙ rw (written-second fs rs (floorRow * clientCount) i vs full))
-
 -- ---- whole changes of a table: its rows, then its count
 
 module _ (s : List ℕ) (st : State) (f : StateFits st) where
   with-records : (rs : List Completion) (k : ℕ) → length rs ≡ k
-      → layout st (length (st .floors)) k (padded floorBytes floorRow clientCount (st .floors)) (padded completionBytes recordRow recordCount rs) ≡ stateBytes (withRecords rs st)
+      → layout st (length (st .floors)) k (padded floorBytes floorRow clientCount (st .floors)) (bytesOf completionBytes rs) ≡ stateBytes (withRecords rs st)
   unfolding layout headWith stateBytes stateHeadBytes withRecords
   with-records rs k e = rw (← e)
 
   with-floors : (fs : List Floor) (k : ℕ) → length fs ≡ k
-      → layout st k (length (st .records)) (padded floorBytes floorRow clientCount fs) (padded completionBytes recordRow recordCount (st .records)) ≡ stateBytes (withFloors fs st)
+      → layout st k (length (st .records)) (padded floorBytes floorRow clientCount fs) (bytesOf completionBytes (st .records)) ≡ stateBytes (withFloors fs st)
   unfolding layout headWith stateBytes stateHeadBytes withFloors
   with-floors fs k e = rw (← e)
 
-  -- stores inside the completion records' table that leave the rows rs there, and their count
-  pub records-stored : (rs : List Completion) (i : ℕ) (vs : List ℕ) → i + length vs ≤ recordRow * recordCount
-      → written (padded completionBytes recordRow recordCount (st .records)) i vs ≡ padded completionBytes recordRow recordCount rs
-      → written (written (written s 0 (stateBytes st)) (recordsStart + i) vs) 16 (le32 (length rs)) ≡ written s 0 (stateBytes (withRecords rs st))
-  records-stored rs i vs h e =
+  abbrev F : List ℕ
+  F = padded floorBytes floorRow clientCount (st .floors)
+
+  layout-split : (n : ℕ) (xs ys : List Completion)
+      → layout st (length (st .floors)) n F (bytesOf completionBytes (xs ++ ys)) ≡ layout st (length (st .floors)) n F (bytesOf completionBytes xs) ++ bytesOf completionBytes ys
+  unfolding layout
+  layout-split n xs ys = rw bytesOf-append (simp append-assoc)
+
+  layout-end : (n : ℕ) (xs : List Completion) → length (layout st (length (st .floors)) n F (bytesOf completionBytes xs)) ≡ recordsEnd (length xs)
+  layout-end n xs =
+      let p : length (bytesOf pointBytes (st .points)) ≡ pointRow * pointCount = length-bytesOf pointCodec (st .points) ∙ ap (λ (k : ℕ). pointRow * k) (f .points-count) in
+      let lf : length F ≡ floorRow * clientCount = padded-length floorCodec clientCount (st .floors) (f .floors-count) in
+      layout-length s st (length (st .floors)) n F (bytesOf completionBytes xs) (f .plan-count) ∙ rw (p, lf, length-bytesOf completionCodec xs) (omega arith)
+
+  -- the rows from index i on replaced, by any number: rows added, inserted, left out. What lies behind the last of them is kept
+  pub records-replaced : written s 0 (stateBytes st) ≡ s → (i : ℕ) (us : List Completion) → i ≤ length (st .records)
+      → written (written s (recordsEnd i) (bytesOf completionBytes us)) 16 (le32 (i + length us)) ≡ written s 0 (stateBytes (withRecords (take i (st .records) ++ us) st))
+  records-replaced same i us h =
       let m : ℕ = length (st .floors) in
       let n : ℕ = length (st .records) in
-      let F : List ℕ = padded floorBytes floorRow clientCount (st .floors) in
-      let R : List ℕ = padded completionBytes recordRow recordCount (st .records) in
-      let lf : length F ≡ floorRow * clientCount = padded-length floorCodec clientCount (st .floors) (f .floors-count) in
-      let lr : length R ≡ recordRow * recordCount = padded-length completionCodec recordCount (st .records) (f .records-count) in
-      ap (λ (x : List ℕ). written (written (written s 0 x) (recordsStart + i) vs) 16 (le32 (length rs))) (sym (layout-state st))
-      ∙ ap (λ (x : List ℕ). written x 16 (le32 (length rs))) (put-records s st m n F R (f .plan-count) (f .points-count) i vs lf (omega arith) ∙ ap (λ (x : List ℕ). written s 0 (layout st m n F x)) e)
-      ∙ put-count s st m n F (padded completionBytes recordRow recordCount rs) (length rs)
-      ∙ ap (λ (x : List ℕ). written s 0 x) (with-records rs (length rs) refl)
+      let ts : List Completion = take i (st .records) in
+      let kept : length ts ≡ i = length-take-le i (st .records) h in
+      let A : List ℕ = layout st m n F (bytesOf completionBytes ts) in
+      let whole : written s 0 (A ++ bytesOf completionBytes (drop i (st .records))) ≡ s =
+      ap (λ (x : List ℕ). written s 0 x)
+      (sym (layout-split n ts (drop i (st .records))) ∙ ap (λ (x : List Completion). layout st m n F (bytesOf completionBytes x)) (take-append-drop i (st .records)) ∙ layout-state st)
+      ∙ same in
+      let front : written s 0 A ≡ s = written-prefix s A (bytesOf completionBytes (drop i (st .records))) whole in
+      let count : length (ts ++ us) ≡ i + length us = length-append ts us ∙ ap (λ (k : ℕ). k + length us) kept in
+      let end : recordsEnd i ≡ 0 + length (layout st m (i + length us) F (bytesOf completionBytes ts)) = omega (arith, layout-end (i + length us) ts, kept) in
+      sym (written-comm s 16 (le32 (i + length us)) (recordsEnd i) (bytesOf completionBytes us) (omega arith))
+      ∙ ap (λ (x : List ℕ). written x (recordsEnd i) (bytesOf completionBytes us))
+      (ap (λ (x : List ℕ). written x 16 (le32 (i + length us))) (sym front) ∙ put-count s st m n F (bytesOf completionBytes ts) (i + length us))
+      ∙ ap (λ (k : ℕ). written (written s 0 (layout st m (i + length us) F (bytesOf completionBytes ts))) k (bytesOf completionBytes us)) end
+      ∙ sym (written-append s 0 (layout st m (i + length us) F (bytesOf completionBytes ts)) (bytesOf completionBytes us))
+      ∙ ap (λ (x : List ℕ). written s 0 x) (sym (layout-split (i + length us) ts us) ∙ with-records (ts ++ us) (i + length us) count)
 
   -- the same for the clients' table
   pub floors-stored : (fs : List Floor) (i : ℕ) (vs : List ℕ) → i + length vs ≤ floorRow * clientCount
@@ -247,10 +244,36 @@ module _ (s : List ℕ) (st : State) (f : StateFits st) where
   floors-stored fs i vs h e =
       let m : ℕ = length (st .floors) in
       let n : ℕ = length (st .records) in
-      let F : List ℕ = padded floorBytes floorRow clientCount (st .floors) in
-      let R : List ℕ = padded completionBytes recordRow recordCount (st .records) in
+      let R : List ℕ = bytesOf completionBytes (st .records) in
       let lf : length F ≡ floorRow * clientCount = padded-length floorCodec clientCount (st .floors) (f .floors-count) in
       ap (λ (x : List ℕ). written (written (written s 0 x) (floorsStart + i) vs) 12 (le32 (length fs))) (sym (layout-state st))
       ∙ ap (λ (x : List ℕ). written x 12 (le32 (length fs))) (put-floors s st m n F R (f .plan-count) (f .points-count) i vs (omega arith) ∙ ap (λ (x : List ℕ). written s 0 (layout st m n x R)) e)
       ∙ put-clients s st m n (padded floorBytes floorRow clientCount fs) R (length fs)
       ∙ ap (λ (x : List ℕ). written s 0 x) (with-floors fs (length fs) refl)
+
+-- ---- one state over another
+
+-- a longer one, or one of as many rows
+pub stored-over : (s : List ℕ) (a b : State) → StateFits a → StateFits b → length (a .records) ≤ length (b .records)
+    → written (written s 0 (stateBytes a)) 0 (stateBytes b) ≡ written s 0 (stateBytes b)
+stored-over s a b f g h = written-cover s 0 (stateBytes a) (stateBytes b) (omega (arith, state-length a f, state-length b g))
+
+-- any one, where the first has the buffer's own rows: what it stored past the other's last row stood there
+pub stored-own : (s : List ℕ) (st a b : State) → StateFits st → StateFits a → StateFits b → written s 0 (stateBytes st) ≡ s → a .records ≡ st .records
+    → written (written s 0 (stateBytes a)) 0 (stateBytes b) ≡ written s 0 (stateBytes b)
+stored-own s st a b f fa fb same own =
+    let R : List ℕ = bytesOf completionBytes (st .records) in
+    let A : List ℕ = layout a (length (a .floors)) (length (a .records)) (padded floorBytes floorRow clientCount (a .floors)) (bytesOf completionBytes []) in
+    let S : List ℕ = layout st (length (st .floors)) (length (st .records)) (padded floorBytes floorRow clientCount (st .floors)) (bytesOf completionBytes []) in
+    let la : length A ≡ recordsStart = layout-end s a fa (length (a .records)) [] ∙ omega arith in
+    let ls : length S ≡ recordsStart = layout-end s st f (length (st .records)) [] ∙ omega arith in
+    let ea : stateBytes a ≡ A ++ R = sym (layout-state a) ∙ layout-split s a fa (length (a .records)) [] (a .records) ∙ ap (λ (x : List Completion). A ++ bytesOf completionBytes x) own in
+    let es : stateBytes st ≡ S ++ R = sym (layout-state st) ∙ layout-split s st f (length (st .records)) [] (st .records) in
+    let rows : written s recordsStart R ≡ s = written-suffix s S R recordsStart ls (ap (λ (x : List ℕ). written s 0 x) (sym es) ∙ same) in
+    let first : written s 0 (stateBytes a) ≡ written s 0 A =
+    ap (λ (x : List ℕ). written s 0 x) ea
+    ∙ written-append s 0 A R
+    ∙ ap (λ (k : ℕ). written (written s 0 A) k R) (ap (λ (k : ℕ). 0 + k) la)
+    ∙ written-comm s 0 A recordsStart R (omega arith)
+    ∙ ap (λ (x : List ℕ). written x 0 A) rows in
+    ap (λ (x : List ℕ). written x 0 (stateBytes b)) first ∙ written-cover s 0 A (stateBytes b) (omega (arith, state-length b fb))

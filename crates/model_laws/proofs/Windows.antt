@@ -9,8 +9,8 @@ use mathlib.Core.Bool.{Bool, true, false, _&&_, _||_, not, false≢true}
 use mathlib.Core.List.{List, [], _∷_, map}
 use native.Mathlib.Omega.{arith}
 use lib.ListN.{length, length-map}
-use lib.Dec.{eqb, leb, ltb}
-use borrow.Author.Tests.{eqb-true, eqb-false, leb-true, ltb-true, ltb-false, ne-eqb, eq-eqb}
+use lib.Dec.{eqb, ltb}
+use borrow.Author.Tests.{eqb-true, eqb-false, ltb-true, ltb-false, ne-eqb, eq-eqb}
 use Rattle.model.specs.declared.Floor.{Floor}
 use Rattle.model.specs.declared.ImageEntry.{ImageEntry}
 use Rattle.model.specs.declared.Completion.{Completion}
@@ -21,7 +21,8 @@ use Rattle.model.specs.Packets.{commandOk, outcomeOk, idOk}
 use Rattle.model.specs.States.{isId, idsDiffer}
 use Rattle.model.specs.Limits.{callWindow, lastInWindow}
 use Rattle.model_laws.specs.Bytes.{All}
-use Rattle.model_laws.proofs.Tests.{and-left, and-right, joined-all}
+use Rattle.model_laws.proofs.Tests.{and-left, and-right}
+use Rattle.model_laws.proofs.Reflects.{le, flag, facts}
 use Rattle.model_laws.proofs.Tables.{every-all, every-imp, all-map, all-keep, keep-all, all-every}
 
 -- the call c lies in the window from the floor k
@@ -33,8 +34,8 @@ record In (k c : ℕ) : Type 0 where
 in-window : (k c : ℕ) → inWindow k c ≡ true → In k c
 unfolding inWindow
 in-window k c e =
-    let t = joined-all (leb 1 k ∷ leb k c ∷ leb c (k + lastInWindow) ∷ []) e in
-    record { known = leb-true 1 k (t .0); low = leb-true k c (t .1 .0); high = leb-true c (k + lastInWindow) (t .1 .1 .0) }
+    let t = facts (le 1 k ∷ le k c ∷ le c (k + lastInWindow) ∷ []) e in
+    record { known = t 0; low = t 1; high = t 2 }
 
 -- the place of a call among the windows of the clients, 16 places each
 rank : ℕ → ℕ → List Floor → ℕ
@@ -137,16 +138,18 @@ entries-count fs (e ∷ es) a w t =
 entry-window : (p : ℕ) (fs : List Floor) (e : ImageEntry) → imageEntryOk p fs e ≡ true → inWindow (floorOf (e .client) fs) (e .call) ≡ true
 unfolding imageEntryOk
 entry-window p fs e t =
-    joined-all (commandOk (e .op) p (e .argument) ∷ outcomeOk (e .result .outcome) (e .result .quality) ∷ idOk (e .client) (e .call) ∷ inWindow (floorOf (e .client) fs) (e .call) ∷ []) t .1 .1 .1 .0
+    facts
+    (flag (commandOk (e .op) p (e .argument)) ∷ flag (outcomeOk (e .result .outcome) (e .result .quality)) ∷ flag (idOk (e .client) (e .call))
+    ∷ flag (inWindow (floorOf (e .client) fs) (e .call)) ∷ []) t 3
 
 pub image-entries : (i : Image) → imageTablesOk i ≡ true → length (i .entries) ≤ callWindow * length (i .floors)
 unfolding imageTablesOk
 image-entries i e =
-    let t = joined-all
-    (every floorOk (i .floors) ∷ clientsAscend (i .floors) ∷ every (imageEntryOk (i .point) (i .floors)) (i .entries) ∷ idsAscend (i .entries) ∷ []) e in
-    entries-count (i .floors) (i .entries) (t .1 .0)
-    (every-imp (imageEntryOk (i .point) (i .floors)) (λ q. inWindow (floorOf (q .client) (i .floors)) (q .call)) (λ q h. entry-window (i .point) (i .floors) q h) (i .entries) (t .1 .1 .0))
-    (t .1 .1 .1 .0)
+    let t = facts
+    (flag (every floorOk (i .floors)) ∷ flag (clientsAscend (i .floors)) ∷ flag (every (imageEntryOk (i .point) (i .floors)) (i .entries)) ∷ flag (idsAscend (i .entries)) ∷ []) e in
+    entries-count (i .floors) (i .entries) (t 1)
+    (every-imp (imageEntryOk (i .point) (i .floors)) (λ q. inWindow (floorOf (q .client) (i .floors)) (q .call)) (λ q h. entry-window (i .point) (i .floors) q h) (i .entries) (t 2))
+    (t 3)
 
 -- ---- different numbers below n are at most n
 

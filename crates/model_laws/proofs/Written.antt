@@ -17,8 +17,8 @@ use native.Mathlib.Omega.{arith}
 use native.Mathlib.Numerals.{add-one, add-two, add-three}
 use native.Mathlib.Nat.{add-zero, zero-add, suc-add}
 use borrow.Rule.Slice.PartMut.{putMid, midOf}
-use lib.ListN.{length, getD, set, take, drop, length-take, length-drop, take-append-drop, drop-of-length-le}
-use lib.Seq.{sets, length-sets, take-all, drop-drop, getD-take, getD-drop, set-getD, take-add, take-at}
+use lib.ListN.{length, getD, set, take, drop, length-append, length-take, length-drop, take-append-drop, drop-of-length-le}
+use lib.Seq.{sets, length-sets, take-all, drop-at, drop-drop, getD-take, getD-drop, set-getD, take-add, take-at}
 use Rattle.model.specs.Numbers.{le32At, le32, le64At, le64, quad}
 use Rattle.model.specs.Tables.{written}
 use Rattle.model_laws.specs.Runs.{Runs, last, run, storedBy, bytesBy}
@@ -257,6 +257,23 @@ nested-front (b ∷ s) (c ∷ bs) zero (v ∷ vs) h = ap (λ (x : List ℕ). v �
 nested-front (b ∷ s) (c ∷ bs) (suc i) vs h = ap (λ (x : List ℕ). c ∷ x) (nested-front s bs i vs (omega arith))
 
 -- a run stored within a run is a run of the changed list
+
+-- what stands there, in two parts: each stands there
+pub written-prefix : (s a b : List ℕ) → written s 0 (a ++ b) ≡ s → written s 0 a ≡ s
+written-prefix s a b e =
+    ap (λ (x : List ℕ). written x 0 a) (sym e)
+    ∙ nested-front s (a ++ b) 0 a (omega (arith, length-append a b))
+    ∙ ap (λ (x : List ℕ). written s 0 x) (written-front (a ++ b) a (omega (arith, length-append a b)) ∙ ap (λ (x : List ℕ). a ++ x) (drop-at a b (length a) refl))
+    ∙ e
+
+pub written-suffix : (s a b : List ℕ) (n : ℕ) → length a ≡ n → written s 0 (a ++ b) ≡ s → written s n b ≡ s
+written-suffix s a b n l e =
+    let p : written s 0 a ≡ s = written-prefix s a b e in
+    ap (λ (x : List ℕ). written x n b) (sym p)
+    ∙ ap (λ (k : ℕ). written (written s 0 a) k b) (sym l ∙ sym (zero-add (length a)))
+    ∙ sym (written-append s 0 a b)
+    ∙ e
+
 pub written-nested : (s : List ℕ) (a : ℕ) (bs : List ℕ) (i : ℕ) (vs : List ℕ) → i + length vs ≤ length bs → written (written s a bs) (a + i) vs ≡ written s a (written bs i vs)
 unfolding written
 written-nested [] a bs i vs h = refl

@@ -29,7 +29,7 @@ use Rattle.model.specs.Images.{Image, imageHeadOk, imageTablesOk, imageLength, 
 use Rattle.model.specs.Logs.{LogRecord, executed, gone, gave, took, released, executedOk, giveOk, releaseOk, recordBytes, recordSize, cut, extentOf, Entry, entriesBytes}
 use Rattle.model.specs.Plan.{planEntryOk, planRowOk}
 use Rattle.model.specs.Tables.{everyRow, zeros}
-use Rattle.model.specs.States.{State, stateMagic, stateHead, recordRow, pointRow, pointsStart, floorsStart, recordsStart, stateEnd, clientsIn, recordsIn, load, pointRowOk, stateOk}
+use Rattle.model.specs.States.{State, stateMagic, stateHead, pointRow, pointsStart, floorsStart, stateEnd, clientsIn, recordsIn, load, pointRowOk, stateOk}
 use Rattle.model.specs.Limits.{greatestImage, pointCount, clientCount, recordCount, planRow, floorRow, requestKind, resultKind, refusalKind, receiptKind, noticeKind, grantKind}
 use Rattle.model_laws.specs.Bytes.{All}
 use Rattle.model.specs.Packets.{requestOk, resultOk, refusalOk, receiptOk, noticeOk, grantOk, packetBytes}
@@ -292,7 +292,6 @@ pub record Sound (s : List ℕ) : Type 0 where
   pub few-clients : clientsIn s ≤ clientCount
   pub few-records : recordsIn s ≤ recordCount
   pub past-clients : zeros (floorRow * (clientCount - clientsIn s)) (drop (floorsStart + floorRow * clientsIn s) s) ≡ true
-  pub past-records : zeros (recordRow * (recordCount - recordsIn s)) (drop (recordsStart + recordRow * recordsIn s) s) ≡ true
   pub plan-rows : everyRow planRowOk planRow pointCount (drop stateHead s) ≡ true
   pub point-rows : everyRow pointRowOk pointRow pointCount (drop pointsStart s) ≡ true
   pub state : stateOk (load s) ≡ true

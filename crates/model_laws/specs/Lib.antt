@@ -1,8 +1,13 @@
 pub mod Bytes
 pub mod Codec
+pub mod Fields
 pub mod Fits
+pub mod Alike
 pub mod Layout
 pub mod Opened
 pub mod OneWalk
 pub mod Heads
 pub mod Runs
+pub mod ClientForm
+pub mod LeaseForm
+pub mod Results

@@ -42,11 +42,11 @@ module _ (plan : List ℕ) (es : List Event) (cs : List W.Change) (F : Follows (
 
   counts : (c : ℕ) (st : State) → finalState plan es c ≡ some st → Counts plan final-like c st
   unfolding finalState
-  counts c st e = given-counts plan final-like es c st e
+  counts c st e = given-counts plan final-like c st e
 
   counted : (c : ℕ) → X.final cs .servers c .founded ≡ true → (st : State) × (finalState plan es c ≡ some st)
   unfolding finalState
-  counted c f = founded-given plan final-like es c f
+  counted c f = founded-given plan final-like c f
 
   pub holder-there : (p c : ℕ) (st : State) → p < pointCount → HolderBy plan (account plan es) p c st → X.Holder (planOf plan) cs p c
   holder-there p c st h H =

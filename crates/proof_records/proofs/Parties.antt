@@ -27,9 +27,9 @@ use Rattle.model_laws.specs.Fits.{IsPacket, RequestFits, GrantFits, NoticeFits}
 use Rattle.model_laws.proofs.Tests.{and-both}
 use Rattle.model_laws.proofs.Commands.{command-parts}
 use Rattle.model_laws.proofs.Clients.{is-open-of, Own, ReceiveCase, receive-case, issue-asked, issue-refused, resend-asked, resend-same}
-use Rattle.client.specs.WellFormed.{WellFormed}
-use Rattle.client.proofs.Kept.{start-well, issue-well, receive-well}
-use Rattle.client.proofs.Bytes.{issue-packet, resend-packet}
+use Rattle.model_laws.specs.ClientForm.{WellFormed}
+use Rattle.model_laws.proofs.ClientsKept.{start-well, issue-well, receive-well}
+use Rattle.model_laws.proofs.ClientsBytes.{issue-packet, resend-packet}
 use Rattle.model_invariants.specs.Sound.{GoodRequest}
 use Rattle.proof_protocol.specs.Servers as S
 use Rattle.proof_protocol.specs.World as W
@@ -53,9 +53,9 @@ use Rattle.model.specs.declared.LeaseAnswer.{LeaseAnswer}
 use Rattle.model.specs.declared.Told.the-variants.{ByGrant, ByNotice}
 use Rattle.model.specs.Leases.{timeAt, runningAt, leaseEnd, extended, manager, notTold, granted, toldBytes}
 use Rattle.model.specs.Limits.{noticeKind, last32}
-use Rattle.leases.specs.WellFormed.{WellFormed as WellManaged, LeaseCall, givenTime, answerOf}
-use Rattle.leases.proofs.Kept.{Exit, call-exit, call-well, grant-within, notice-gone}
-use Rattle.leases.proofs.Kept as Kept
+use Rattle.model_laws.specs.LeaseForm.{WellFormed as WellManaged, LeaseCall, givenTime, answerOf}
+use Rattle.model_laws.proofs.LeasesKept.{Exit, call-exit, call-well, grant-within, notice-gone}
+use Rattle.model_laws.proofs.LeasesKept as Kept
 
 request-good : {b : List ℕ} (q : Request) → IsPacket b (Requested q) → GoodRequest q
 request-good q k = let f : RequestFits q = k .fits in record { ok = k .ok; client = f .client; call = f .call }

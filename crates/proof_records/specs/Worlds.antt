@@ -10,8 +10,8 @@ use Rattle.model.specs.declared.Client.{Client}
 use Rattle.model.specs.Limits.{lastServer, headSize}
 use Rattle.model.specs.States.{State}
 use Rattle.model.specs.Apply.{replay, withMark}
-use Rattle.client.specs.WellFormed.{WellFormed}
-use Rattle.leases.specs.WellFormed as Leases
+use Rattle.model_laws.specs.ClientForm.{WellFormed}
+use Rattle.model_laws.specs.LeaseForm as Leases
 use Rattle.model_invariants.specs.History.{GoodPlan}
 use Rattle.proof_protocol.specs.World as W
 use Rattle.proof_protocol.specs.Allowed.{Made}

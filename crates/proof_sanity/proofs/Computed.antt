@@ -17,7 +17,7 @@ use Rattle.claim.specs.World.{emptyWorld, storedOf, checkpoints, stores}
 use Rattle.claim.specs.Provisos.{reachOf}
 use Rattle.model_laws.specs.Opened.{Opens}
 use Rattle.claim.proofs.Opened.{openWorld}
-use Rattle.proof_sanity.specs.Trace.{bytesOk, countedOk, typedOk, sameBytes, isNothing, keptIs, beginsOk, notStarted, startsNew, keepsOk, requestDone, done, callWith, seenWith, standsAt, endSeen, traceFrom, keepsMany}
+use Rattle.proof_sanity.specs.Trace.{bytesOk, countedOk, typedOk, sameBytes, isNothing, keptIs, beginsOk, notStarted, startsNew, keepsOk, operationDone, done, callWith, seenWith, standsAt, endSeen, traceFrom, keepsMany}
 use Rattle.proof_sanity.specs.Moved.{takenState, schedule, rowsSeen, traceSeen}
 use Rattle.proof_sanity.specs.Forgetting.{setState, setAndCrash, keptWhole, setAndCrashSeen, setAndStore, setAndStoreSeen}
 
@@ -28,7 +28,7 @@ openRebased = tt
 
 unfoldable openLayout : Opens
 unfolding Checkpoints.pairsBytes Checkpoints.pointFront Checkpoints.recordFront Checkpoints.checkpointBytes Checkpoints.clientsOf Checkpoints.recordsOf
-    Checkpoints.pointWhole Checkpoints.recordWhole Checkpoints.fronts Checkpoints.restored
+    Checkpoints.pointWhole Checkpoints.recordWhole Checkpoints.fronts Checkpoints.restoredBytes Checkpoints.restored
 openLayout = tt
 
 unfoldable openCheckpoints : Opens
@@ -39,7 +39,7 @@ openCheckpoints = tt
 -- what is seen of a run
 unfoldable openTrace : Opens
 unfolding openWorld openCheckpoints storedOf checkpoints stores reachOf bytesOk countedOk typedOk sameBytes isNothing keptIs beginsOk
-    notStarted startsNew keepsOk requestDone done callWith seenWith standsAt endSeen traceFrom keepsMany
+    notStarted startsNew keepsOk operationDone done callWith seenWith standsAt endSeen traceFrom keepsMany
 openTrace = tt
 
 pub trace-is : traceFrom yardPlan 5 emptyWorld schedule ≡ traceSeen

@@ -28,14 +28,15 @@ use Rattle.model.specs.Apply.{foundedPoint, founded}
 use Rattle.model.specs.Versions.{Version, today}
 use Rattle.model.specs.Sequential.{one, resultMeant, OrderEntry, single, parts, bookWith, markedBy, Marked, ReadingZ, Book, readingMeant, opened, bookAfter, entered, answerZ, afterZ, ruleZ, setZ, inRangeZ, entryZ}
 use Rattle.model.specs.Checkpoints.{rebased, checkpointBytes}
+use Rattle.model.specs.Calls.{sync}
 use Rattle.model.specs.Clients.{placeOf, callAt, receiveOf}
 use Rattle.model.specs.Yard.{yardPlan}
 use Rattle.model_laws.specs.Opened.{openNumbers, openPackets, openClients}
 use Rattle.model.specs.Limits.{valid, invalid}
-use Rattle.claim.specs.World.{Event, sync, outside, receive, nothingStored, Server, nothing, crashed, emptyWorld, run}
+use Rattle.claim.specs.World.{Event, call, outside, receive, nothingStored, Server, nothing, crashed, emptyWorld, run}
 use Rattle.claim.specs.Provisos.{At, Provisos}
 use Rattle.claim.specs.Claim.{commandAt, readingAt, Executes, SurvivesAt, Completes, SurvivesBy, HolderBy, ExplainedBy, Account, recoveredBy, stateGiven, finalState}
-use Rattle.proof_sanity.specs.Trace.{Call, Seen, callSeen, asksOnly, keptIs, sameBytes, keepsMany, below, Ended, endSeen, Trace, traceFrom, callWith, done}
+use Rattle.proof_sanity.specs.Trace.{Call, Seen, callSeen, requestsOnly, asksOnly, sameBytes, keepsMany, below, Ended, endSeen, Trace, traceFrom, callWith, done}
 use Rattle.proof_sanity.specs.Moved.{setting, settingResult, settingAsked, settingAnswer, lentAll, asks, setter}
 use Rattle.proof_sanity.specs.Forgetting.{foundingState, givenBy, tailOnly, counting, afterSet, rowsAfterSet, setState, setAndCrash, keptWhole, setAndCrashSeen, setAndStore, setStored, setAndStoreSeen}
 use Rattle.proof_sanity.proofs.Traced.{call-at, end-at, down-of, provisos-kept, untouched, survives-seen, completes-seen, executes-only}
@@ -106,15 +107,15 @@ module _ (es : List Event) (rs : List Seen) (x : Ended) (is : traceFrom yardPlan
   provisos h = provisos-kept yardPlan 5 (afterSet es) seen is h
 
   -- event 4 executes the command, and it survives
-  set-survives : every (keepsMany 0 36) rs ≡ true → SurvivesAt yardPlan (afterSet es) 4 (markedBy today setting)
+  set-survives : every (keepsMany 0 36) rs ≡ true → SurvivesAt (afterSet es) 4 (markedBy today setting)
   unfolding At callSeen callWith done every keepsMany
   set-survives h =
       survives-seen yardPlan (afterSet es) 5 seen is 4 0 1 8 36 today lentAll settingAsked refl parsed (call-at yardPlan 5 (afterSet es) seen is 4 (asks 0 1) _ refl refl)
-      (ap (λ (y : Call). y .size) (call-at yardPlan 5 (afterSet es) seen is 5 (sync 0 36 lentAll) _ refl refl)) h
+      (ap (λ (y : Call). y .size) (call-at yardPlan 5 (afterSet es) seen is 5 (call 0 (sync 36) lentAll) _ refl refl)) h
 
   -- and no other is executed
-  only-setting : every (asksOnly (requestBytes settingAsked)) rs ≡ true → (n c : ℕ) (k : Marked) → Executes yardPlan (afterSet es) n c k → k .command ≡ setting
-  unfolding every asksOnly keptIs sameBytes requestBytes flip
+  only-setting : every (asksOnly (requestBytes settingAsked)) rs ≡ true → (n c : ℕ) (k : Marked) → Executes (afterSet es) n c k → k .command ≡ setting
+  unfolding every asksOnly requestsOnly sameBytes requestBytes flip
   only-setting h n c k E =
       let b = executes-only yardPlan (afterSet es) 5 seen is (requestBytes settingAsked) h n c k E in
       let q : Requested (E .asked) ≡ Requested settingAsked = sym (E .parsed) ∙ ap parsePacket b ∙ parsed in
@@ -197,7 +198,7 @@ unfolding openNumbers openPackets openClients
 received = refl
 
 -- event 7 completes the command
-pub store-completed : Completes yardPlan setAndStore 7 (setting ∷ []) (one (resultMeant settingResult))
+pub store-completed : Completes setAndStore 7 (setting ∷ []) (one (resultMeant settingResult))
 unfolding At setAndStore setAndStoreSeen commandAt callAt placeOf
 store-completed = completes-seen yardPlan setAndStore 7 1 2 setter settingAnswer refl received (call-at yardPlan 5 setAndStore setAndStoreSeen store-trace-is 7 (outside (receive 1 2)) _ refl refl)
 
@@ -211,7 +212,7 @@ unfolding finalState stateGiven recoveredBy checkpointBytes
 store-recovers = rw store-down stored-recovers
 
 pub checkpoint-not-explained : (order : List OrderEntry) → ExplainedBy yardPlan (counting yardPlan setAndStore (tailOnly yardPlan)) order → ⊥
-unfolding setAndStore setAndStoreSeen tailOnly every keepsMany asksOnly below keptIs sameBytes requestBytes flip
+unfolding setAndStore setAndStoreSeen tailOnly every keepsMany asksOnly requestsOnly below sameBytes requestBytes flip
 checkpoint-not-explained = no-order _ _ _ store-trace-is (tailOnly yardPlan) refl first refl refl refl
   where
     first : tailOnly yardPlan (run setAndStore .servers 0) ≡ some (founded (planOf yardPlan) 0)

@@ -21,7 +21,7 @@ use Rattle.model.specs.declared.ResultPacket.{ResultPacket}
 use Rattle.model.specs.declared.Point.{Point}
 use Rattle.model.specs.Versions.{Versions, first, today}
 use Rattle.model.specs.Numbers.{half}
-use Rattle.model.specs.Limits.{stateSize, headSize, checkpointSize, greatestImage, resultSize, refusalSize, noticeKind, setOp, stepOp, carriedOut, outOfRange, stopped, valid}
+use Rattle.model.specs.Limits.{stateSize, headSize, checkpointSize, greatestImage, resultSize, receiptSize, refusalSize, noticeKind, setOp, stepOp, carriedOut, outOfRange, stopped, valid}
 use Rattle.model.specs.Packets.{requestBytes, resultBytes, receiptBytes, noticeBytes, grantBytes}
 use Rattle.model.specs.Images.{Image, imageBytes}
 use Rattle.model.specs.Tables.{written}
@@ -32,10 +32,11 @@ use Rattle.model.specs.Checkpoints.{checkpointBytes}
 use Rattle.model.specs.Plan.{planOf}
 use Rattle.model.specs.declared.Notice.{Notice}
 use Rattle.model.specs.Operations.{answerOf}
+use Rattle.model.specs.Calls.{Operation, request, sync, notice, give, image, takeIn, receipt, release}
 use Rattle.model.specs.Clients.{noCall}
 use Rattle.model.specs.Yard.{yardPlan}
 use Rattle.claim.specs.World.{start, issue, receive, open·lease, query}
-use Rattle.claim.specs.World.{Event, found, request, sync, notice, give, image, take·image, receipt, release, recover, checkpoint, store, recover·tail, crash, outside, Lent, Stored, nothingStored}
+use Rattle.claim.specs.World.{Event, found, call, recover, checkpoint, store, recover·tail, crash, outside, Lent, Stored, nothingStored}
 use Rattle.proof_sanity.specs.Trace.{Seen, up, Trace}
 
 -- ---- the commands
@@ -128,14 +129,14 @@ newState = replicate stateSize 0
 
 -- the whole state buffer, a log of up to 200 bytes, an output of 16; for the longest image
 abbrev pub lentAll : Lent
-lentAll = record { state = stateSize; log = 200; tail = replicate 200 0; out = replicate resultSize 0 }
+lentAll = record { state = stateSize; log = 200; spare = replicate 200 0; out = replicate resultSize 0 }
 
 abbrev pub lentImage : Lent
-lentImage = record { state = stateSize; log = 200; tail = replicate 200 0; out = replicate greatestImage 0 }
+lentImage = record { state = stateSize; log = 200; spare = replicate 200 0; out = replicate greatestImage 0 }
 
 -- for a checkpoint
 abbrev pub lentCheckpoint : Lent
-lentCheckpoint = record { state = stateSize; log = 200; tail = replicate 200 0; out = replicate checkpointSize 0 }
+lentCheckpoint = record { state = stateSize; log = 200; spare = replicate 200 0; out = replicate checkpointSize 0 }
 
 -- what the crashes keep: 50 of server 0's 64 bytes, all 120 of server 1's; of its tail the head, then all 36 bytes
 abbrev pub keptFirst : List ℕ
@@ -162,7 +163,7 @@ firstStored = record { checkpoint = storedBytes; replaced = 152 }
 
 -- the number of a request's packet among those made
 abbrev pub asksOf : Versions → ℕ → ℕ → Event
-asksOf v c p = request c p v lentAll
+asksOf v c p = call c (request v p) lentAll
 
 abbrev pub asks : ℕ → ℕ → Event
 asks c p = asksOf today c p
@@ -177,7 +178,7 @@ schedule =
     ∷ outside (start 1)
     ∷ outside (issue 1 1 5 (half + 40))
     ∷ asks 0 2
-    ∷ sync 0 36 lentAll
+    ∷ call 0 (sync 36) lentAll
     ∷ asks 0 2
     ∷ outside (receive 1 3)
     ∷ outside (issue 2 2 5 (half + 1))
@@ -185,22 +186,22 @@ schedule =
     ∷ crash 0 50
     ∷ recover 0 newState keptFirst yardPlan
     ∷ asks 0 4
-    ∷ give 0 5 1 lentAll
-    ∷ sync 0 72 lentAll
-    ∷ image 0 5 lentImage
-    ∷ take·image 1 5 lentAll
+    ∷ call 0 (give 5 1) lentAll
+    ∷ call 0 (sync 72) lentAll
+    ∷ call 0 (image 5) lentImage
+    ∷ call 1 (takeIn 5) lentAll
     ∷ crash 1 120
     ∷ recover 1 newState keptSecond yardPlan
     ∷ asks 1 4
     ∷ outside (receive 2 6)
     ∷ outside (query 1 20)
-    ∷ notice 1 7 lentAll
+    ∷ call 1 (notice 7) lentAll
     ∷ asks 1 2
-    ∷ receipt 1 5 lentAll
-    ∷ release 0 9 lentAll
+    ∷ call 1 (receipt 5) lentAll
+    ∷ call 0 (release 9) lentAll
     ∷ outside (issue 2 2 5 (half + 1))
     ∷ asks 1 10
-    ∷ sync 1 160 lentAll
+    ∷ call 1 (sync 160) lentAll
     ∷ checkpoint 1 (replicate headSize 0) lentCheckpoint
     ∷ store 1
     ∷ crash 1 8
@@ -209,7 +210,7 @@ schedule =
     ∷ outside (receive 2 11)
     ∷ outside (issue 2 2 5 (half + 1))
     ∷ asks 1 12
-    ∷ sync 1 36 lentAll
+    ∷ call 1 (sync 36) lentAll
     ∷ checkpoint 1 (replicate headSize 0) lentCheckpoint
     ∷ crash 1 36
     ∷ recover·tail 1 newState (written (replicate checkpointSize 0) 0 storedBytes) keptTail
@@ -217,12 +218,12 @@ schedule =
     ∷ outside (receive 2 13)
     ∷ outside (issue 2 2 5 (half + 1000))
     ∷ asksOf before 1 14
-    ∷ sync 1 64 lentAll
+    ∷ call 1 (sync 64) lentAll
     ∷ asks 1 14
     ∷ outside (receive 2 15)
     ∷ outside (issue 2 2 5 (half + 1000))
     ∷ asks 1 16
-    ∷ sync 1 92 lentAll
+    ∷ call 1 (sync 92) lentAll
     ∷ asks 1 16
     ∷ outside (receive 2 17)
     ∷ []
@@ -255,22 +256,27 @@ abbrev pub farStepper : ℕ → Client
 farStepper c = waiting 1000 (farCommand c)
 
 abbrev pub atServer : ℕ → Seen
-atServer size = record { ok = true; call = record { client = none; packet = none; size = size; answer = none; cut = none } }
+atServer size = record { ok = true; call = record { client = none; packet = none; operation = none; size = size; answer = none; cut = none } }
 
-abbrev pub onPacket : ℕ → List ℕ → Seen
-onPacket size b = record { ok = true; call = record { client = none; packet = some b; size = size; answer = none; cut = none } }
+-- an operation with what it names, and its answer; a request of today's program
+abbrev pub called : ℕ → Operation → ℕ → ℕ → Seen
+called size o n wrote = record { ok = true; call = record { client = none; packet = none; operation = some o; size = size; answer = some (answerOf n wrote); cut = none } }
 
 abbrev pub answering : ℕ → List ℕ → ℕ → ℕ → Seen
-answering size b n wrote = record { ok = true; call = record { client = none; packet = some b; size = size; answer = some (answerOf n wrote); cut = none } }
+answering size b n wrote = called size (request today b) n wrote
 
 abbrev pub crashing : ℕ → ℕ → ℕ → Seen
-crashing size c reach = record { ok = true; call = record { client = none; packet = none; size = size; answer = none; cut = some (record { server = c; reach = reach }) } }
+crashing size c reach =
+    record { ok = true; call = record { client = none; packet = none; operation = none; size = size; answer = none; cut = some (record { server = c; reach = reach }) } }
+
+abbrev pub onPacket : List ℕ → Seen
+onPacket b = record { ok = true; call = record { client = none; packet = some b; operation = none; size = 0; answer = none; cut = none } }
 
 abbrev pub atClient : Client → Option (List ℕ) → Seen
-atClient d b = record { ok = true; call = record { client = some d; packet = b; size = 0; answer = none; cut = none } }
+atClient d b = record { ok = true; call = record { client = some d; packet = b; operation = none; size = 0; answer = none; cut = none } }
 
 abbrev pub atManager : Seen
-atManager = record { ok = true; call = record { client = none; packet = none; size = 0; answer = none; cut = none } }
+atManager = record { ok = true; call = record { client = none; packet = none; operation = none; size = 0; answer = none; cut = none } }
 
 unfoldable pub rowsSeen : List Seen
 rowsSeen =
@@ -278,11 +284,11 @@ rowsSeen =
     ∷ atServer 0
     ∷ atManager
     ∷ atManager
-    ∷ onPacket 0 (grantBytes (record { client = 1; lease = 10 }))
-    ∷ onPacket 0 (grantBytes (record { client = 2; lease = 1000 }))
+    ∷ onPacket (grantBytes (record { client = 1; lease = 10 }))
+    ∷ onPacket (grantBytes (record { client = 2; lease = 1000 }))
     ∷ atClient (idle 1 10 1) none
     ∷ answering 8 (requestBytes settingAsked) 0 0
-    ∷ atServer 36
+    ∷ called 36 (sync 36) 0 0
     ∷ answering 36 (requestBytes settingAsked) 0 resultSize
     ∷ atClient setter (some (resultBytes settingAnswer))
     ∷ atClient (idle 2 1000 1) none
@@ -290,22 +296,22 @@ rowsSeen =
     ∷ crashing 64 0 50
     ∷ atServer 50
     ∷ answering 36 (requestBytes (stepAsked 1)) 0 0
-    ∷ atServer 64
-    ∷ atServer 72
-    ∷ atServer 72
-    ∷ onPacket 8 (imageBytes movedImage)
+    ∷ called 64 (give 5 1) 0 0
+    ∷ called 72 (sync 72) 0 0
+    ∷ called 72 (image 5) 0 104
+    ∷ called 8 (takeIn (imageBytes movedImage)) 0 0
     ∷ crashing 120 1 120
     ∷ atServer 120
     ∷ answering 120 (requestBytes (stepAsked 1)) 0 resultSize
     ∷ atClient (stepper 1) (some (resultBytes (stepAnswer 1)))
     ∷ atManager
-    ∷ onPacket 120 (noticeBytes noticeKind setterGone)
+    ∷ called 120 (notice (noticeBytes noticeKind setterGone)) 0 0
     ∷ answering 132 (requestBytes settingAsked) 4 refusalSize
-    ∷ atServer 132
-    ∷ onPacket 72 (receiptBytes (record { point = 5; server = 1; moveNumber = 1 }))
+    ∷ called 132 (receipt 5) 0 receiptSize
+    ∷ called 72 (release (receiptBytes (record { point = 5; server = 1; moveNumber = 1 }))) 0 0
     ∷ atClient (idle 2 1000 2) none
     ∷ answering 132 (requestBytes (stepAsked 2)) 0 0
-    ∷ atServer 160
+    ∷ called 160 (sync 160) 0 0
     ∷ atServer 160
     ∷ atServer 160
     ∷ crashing 160 1 160
@@ -314,20 +320,20 @@ rowsSeen =
     ∷ atClient (stepper 2) (some (resultBytes (stepAnswer 2)))
     ∷ atClient (idle 2 1000 3) none
     ∷ answering 160 (requestBytes (stepAsked 3)) 0 0
-    ∷ atServer 188
+    ∷ called 188 (sync 36) 0 0
     ∷ atServer 188
     ∷ crashing 188 1 188
     ∷ atServer 188
     ∷ answering 188 (requestBytes (stepAsked 3)) 0 resultSize
     ∷ atClient (stepper 3) (some (resultBytes (stepAnswer 3)))
     ∷ atClient (idle 2 1000 4) none
-    ∷ answering 188 (requestBytes (farAsked 4)) 0 0
-    ∷ atServer 216
+    ∷ called 188 (request before (requestBytes (farAsked 4))) 0 0
+    ∷ called 216 (sync 64) 0 0
     ∷ answering 216 (requestBytes (farAsked 4)) 0 resultSize
     ∷ atClient (farStepper 4) (some (resultBytes (farAnswer 4 stayedResult)))
     ∷ atClient (idle 2 1000 5) none
     ∷ answering 216 (requestBytes (farAsked 5)) 0 0
-    ∷ atServer 244
+    ∷ called 244 (sync 92) 0 0
     ∷ answering 244 (requestBytes (farAsked 5)) 0 resultSize
     ∷ atClient (farStepper 5) (some (resultBytes (farAnswer 5 stoppedResult)))
     ∷ []

@@ -22,19 +22,19 @@ abbrev moved : List Event
 moved = schedule yardPlan Moved.schedule
 
 pub not-vacuous : Provisos yardPlan moved
-    × SurvivesAt yardPlan moved 7 (markedBy today setting)
-    × Completes yardPlan moved 10 (setting ∷ []) (one (resultMeant settingResult))
-    × Issues yardPlan moved 11 (stepping ∷ [])
-    × SurvivesAt yardPlan moved 15 (markedBy today stepping)
-    × Completes yardPlan moved 23 (stepping ∷ []) (one (resultMeant steppingResult))
-    × SurvivesAt yardPlan moved 30 (markedBy today (stepCommand 2))
-    × Completes yardPlan moved 37 (stepCommand 2 ∷ []) (one (resultMeant (stepResult 2)))
-    × SurvivesAt yardPlan moved 39 (markedBy today (stepCommand 3))
-    × Completes yardPlan moved 45 (stepCommand 3 ∷ []) (one (resultMeant (stepResult 3)))
-    × SurvivesAt yardPlan moved 47 (markedBy before (farCommand 4))
-    × Completes yardPlan moved 50 (farCommand 4 ∷ []) (one (resultMeant stayedResult))
-    × SurvivesAt yardPlan moved 52 (markedBy today (farCommand 5))
-    × Completes yardPlan moved 55 (farCommand 5 ∷ []) (one (resultMeant stoppedResult))
+    × SurvivesAt moved 7 (markedBy today setting)
+    × Completes moved 10 (setting ∷ []) (one (resultMeant settingResult))
+    × Issues moved 11 (stepping ∷ [])
+    × SurvivesAt moved 15 (markedBy today stepping)
+    × Completes moved 23 (stepping ∷ []) (one (resultMeant steppingResult))
+    × SurvivesAt moved 30 (markedBy today (stepCommand 2))
+    × Completes moved 37 (stepCommand 2 ∷ []) (one (resultMeant (stepResult 2)))
+    × SurvivesAt moved 39 (markedBy today (stepCommand 3))
+    × Completes moved 45 (stepCommand 3 ∷ []) (one (resultMeant (stepResult 3)))
+    × SurvivesAt moved 47 (markedBy before (farCommand 4))
+    × Completes moved 50 (farCommand 4 ∷ []) (one (resultMeant stayedResult))
+    × SurvivesAt moved 52 (markedBy today (farCommand 5))
+    × Completes moved 55 (farCommand 5 ∷ []) (one (resultMeant stoppedResult))
 not-vacuous =
     let x = Bytes.not-vacuous in
     let P = x .0 in (

@@ -34,12 +34,12 @@ use Rattle.model_laws.proofs.Numbers.{bytes-nil}
 use Rattle.model_laws.proofs.Packets.{packet-bytes}
 use Rattle.model_laws.proofs.Clients.{resend-same}
 use Rattle.model_laws.proofs.Tables.{all-append}
-use Rattle.client.specs.WellFormed.{WellFormed}
-use Rattle.client.proofs.Kept.{issue-well}
-use Rattle.client.proofs.Bytes.{issue-packet, resend-packet, receive-kept, start-kept}
-use Rattle.leases.specs.WellFormed.{LeaseCall, givenTime, answerOf}
-use Rattle.leases.specs.WellFormed as Leases
-use Rattle.leases.proofs.Kept.{new-well, call-well, grant-within, notice-gone}
+use Rattle.model_laws.specs.ClientForm.{WellFormed}
+use Rattle.model_laws.proofs.ClientsKept.{issue-well}
+use Rattle.model_laws.proofs.ClientsBytes.{issue-packet, resend-packet, receive-kept, start-kept}
+use Rattle.model_laws.specs.LeaseForm.{LeaseCall, givenTime, answerOf}
+use Rattle.model_laws.specs.LeaseForm as Leases
+use Rattle.model_laws.proofs.LeasesKept.{new-well, call-well, grant-within, notice-gone}
 use Rattle.claim.specs.World.{OutsideCall, start, issue, resend, receive, open·lease, renew, query}
 use Rattle.claim.specs.World.{WorldOf, withServer, withClient, withManager, making, packet, startsAs, startsOn, sends, receives, told, outsideStep}
 use Rattle.claim.specs.Provisos.{OutsideTyped}

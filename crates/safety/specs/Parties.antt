@@ -5,8 +5,8 @@ use mathlib.Core.Path.{_≡_}
 use mathlib.Core.Option.{some}
 use Rattle.model.specs.declared.Client.{Client}
 use Rattle.model_laws.specs.Bytes.{Bytes, All}
-use Rattle.client.specs.WellFormed.{WellFormed}
-use Rattle.leases.specs.WellFormed as Leases
+use Rattle.model_laws.specs.ClientForm.{WellFormed}
+use Rattle.model_laws.specs.LeaseForm as Leases
 use Rattle.claim.specs.World.{WorldOf}
 
 pub record Parties {S : Type 0} (w : WorldOf S) : Type 0 where

@@ -2,10 +2,11 @@
 --     executed-floor, executed-over, executed-kept, executed-room, executed-added, executed-stage, executed-done
 -- Assumes nothing.
 use Prim.Native.Nat.{ℕ, _*_, _<_, max}
-use mathlib.Core.Path.{_≡_, sym, ap, _∙_}
+use mathlib.Core.Path.{_≡_, sym, ap, _∙_, refl}
 use mathlib.Core.Bool.{true}
 use mathlib.Core.List.{List, [], _∷_, _++_}
-use lib.ListN.{length}
+use native.Mathlib.Omega.{arith}
+use lib.ListN.{length, length-append}
 use Rattle.model.specs.declared.Executed.{Executed}
 use Rattle.model.specs.declared.Point.{Point}
 use Rattle.model.specs.declared.Completion.{Completion}
@@ -26,7 +27,7 @@ use Rattle.state_records.proofs.Chained.{kept-fits, added-fits}
 use Rattle.state_clients.proofs.Raised.{raise-fits}
 use Rattle.server_apply.specs.Room.{floorsWith, floorWith, Room}
 use Rattle.server_apply.specs.Stage.{Stage}
-use Rattle.server_apply.proofs.Stages.{stage-start, stage-next, stage-load, point-fits}
+use Rattle.server_apply.proofs.Stages.{stage-start, stage-fewer, stage-next, stage-load, point-fits}
 use Rattle.server_apply.proofs.Composed.{executed-stays, executed-composed}
 
 -- the fields of an executed record in their widths
@@ -57,7 +58,7 @@ module _ {s : List ℕ} (w : Canonical s) (x : Executed) (end : ℕ) (f : Widths
 
   pub executed-floor : {s1 : List ℕ} → s1 ≡ stored s raised → Stage s s1 raised
   executed-floor p =
-      stage-next (stage-start s w) (withFloors (floorsWith x (load s))) p
+      stage-fewer (stage-start s w) w refl (withFloors (floorsWith x (load s))) p
       (fits-floors (load s) (w .fits) (floorsWith x (load s))
       (raise-fits (record { client = x .command .client; floor = x .done }) (load s .floors) (record { client = f .client; floor = f .done }) (w .fits .floors)) (r .clients))
 
@@ -72,7 +73,7 @@ module _ {s : List ℕ} (w : Canonical s) (x : Executed) (end : ℕ) (f : Widths
   executed-kept {old} {n} {s1} {s2} t o q p =
       let m : ℕ = floorWith x (load s) in
       let e : n ≡ m = q ∙ ap (λ (k : ℕ). max k (x .done)) o ∙ sym (r .floor) in
-      stage-next t (λ (st : State). withRecords (keep (staysOver (x .command .client) m) (st .records)) st)
+      stage-fewer t w refl (λ (st : State). withRecords (keep (staysOver (x .command .client) m) (st .records)) st)
       (p ∙ ap (λ (k : ℕ). stored s1 (withRecords (keep (staysOver (x .command .client) k) (load s1 .records)) (load s1))) e)
       (kept-fits raised (t .fits) (OverFloor (x .command .client) m))
 
@@ -87,7 +88,7 @@ module _ {s : List ℕ} (w : Canonical s) (x : Executed) (end : ℕ) (f : Widths
       (p ∙ ap (λ (d : Completion). stored s2 (withRecords (load s2 .records ++ (d ∷ [])) (load s2))) q)
       (added-fits kept (t .fits) (completion x end)
       (record { client = f .client; call = f .call; argument = f .argument; value = f .value; op = f .op; outcome = f .outcome; quality = f .quality; point = f .point; end = f .ends })
-      (r .records))
+      (r .records)) (omega (arith, length-append (kept .records) (completion x end ∷ [])))
 
   pub executed-stage : {q y : Point} {s3 s4 : List ℕ} → Stage s s3 added → q ≡ pointAt (load s) (x .command .point) → y ≡ executedPoint x q → s4 ≡ stored s3 (withPoint (x .command .point) y (load s3))
       → Stage s s4 pointed
@@ -106,8 +107,10 @@ module _ {s : List ℕ} (w : Canonical s) (x : Executed) (end : ℕ) (f : Widths
         takenMove = old .takenMove;
         giveEnd = old .giveEnd;
         takeEnd = old .takeEnd;
-      }))
+      })) (unfold withPoint in omega arith)
 
   pub executed-done : {s4 s5 : List ℕ} → Stage s s4 pointed → s5 ≡ stored s4 (withSize end (load s4)) → s5 ≡ stored s (applyExecuted x end (load s))
   unfolding withRecords
-  executed-done t p = stage-next t (withSize end) p (fits-size pointed (t .fits) end (f .ends)) .is ∙ ap (λ (u : State). stored s u) (executed-composed (load s) end x (executed-stays x end (r .call)))
+  executed-done t p =
+      stage-next t (withSize end) p (fits-size pointed (t .fits) end (f .ends)) (unfold withSize in omega arith) .is
+      ∙ ap (λ (u : State). stored s u) (executed-composed (load s) end x (executed-stays x end (r .call)))

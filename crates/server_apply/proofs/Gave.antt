@@ -4,6 +4,7 @@
 use Prim.Native.Nat.{ℕ, _*_, _<_}
 use mathlib.Core.Path.{_≡_, ap, _∙_}
 use mathlib.Core.List.{List}
+use native.Mathlib.Omega.{arith}
 use Rattle.model.specs.declared.Point.{Point}
 use Rattle.model.specs.declared.Give.{Give}
 use Rattle.model.specs.Numbers.{word}
@@ -25,7 +26,7 @@ module _ {s : List ℕ} (w : Canonical s) (g : Give) (end : ℕ) (d : g .destina
   gave-stage {x} {y} {s1} p q r =
       stage-next (stage-start s w) (withPoint (g .point) (gavePoint g end (pointAt (load s) (g .point))))
       (r ∙ ap (λ (z : Point). stored s (withPoint (g .point) z (load s))) (q ∙ ap (gavePoint g end) p))
-      (fits-point (load s) (w .fits) (g .point) _ (gave-fits g end (pointAt (load s) (g .point)) d n e (point-fits (load s) (g .point) (w .fits))))
+      (fits-point (load s) (w .fits) (g .point) _ (gave-fits g end (pointAt (load s) (g .point)) d n e (point-fits (load s) (g .point) (w .fits)))) (unfold withPoint in omega arith)
 
   pub gave-done : {s1 s2 : List ℕ} → Stage s s1 given → s2 ≡ stored s1 (withSize end (load s1)) → s2 ≡ stored s (applyGave g end (load s))
-  gave-done t r = stage-next t (withSize end) r (fits-size given (t .fits) end e) .is ∙ ap (λ (z : State). stored s z) (gave-composed (load s) end g)
+  gave-done t r = stage-next t (withSize end) r (fits-size given (t .fits) end e) (unfold withSize in omega arith) .is ∙ ap (λ (z : State). stored s z) (gave-composed (load s) end g)

@@ -2,7 +2,7 @@
 --     released-dropped, released-stage, released-done
 -- Assumes nothing.
 use Prim.Native.Nat.{ℕ, _*_, _<_}
-use mathlib.Core.Path.{_≡_, ap, _∙_}
+use mathlib.Core.Path.{_≡_, ap, _∙_, refl}
 use mathlib.Core.List.{List}
 use native.Mathlib.Omega.{arith}
 use Rattle.model.specs.declared.Point.{Point}
@@ -20,7 +20,7 @@ use Rattle.state_rows.proofs.Chains.{fits-point, fits-size, fits-records}
 use Rattle.state_records.specs.declared.Rule.the-variants.{OnOther}
 use Rattle.state_records.specs.Rules.{staysBy, keptBy}
 use Rattle.server_apply.specs.Stage.{Stage}
-use Rattle.server_apply.proofs.Stages.{stage-start, stage-next, point-fits, released-fits}
+use Rattle.server_apply.proofs.Stages.{stage-start, stage-fewer, stage-next, point-fits, released-fits}
 use Rattle.server_apply.proofs.Composed.{released-composed}
 
 module _ {s : List ℕ} (w : Canonical s) (r : Release) (end : ℕ) (e : end < word * word) where
@@ -30,7 +30,7 @@ module _ {s : List ℕ} (w : Canonical s) (r : Release) (end : ℕ) (e : end < w
   pub released-dropped : {s1 : List ℕ} → s1 ≡ stored s (withRecords (keptBy (OnOther (r .point)) (load s)) (load s)) → Stage s s1 dropped
   unfolding staysBy
   released-dropped p =
-      stage-next (stage-start s w) (withRecords (keep (isOnOther (r .point)) (load s .records))) p
+      stage-fewer (stage-start s w) w refl (withRecords (keep (isOnOther (r .point)) (load s .records))) p
       (fits-records (load s) (w .fits) (keep (isOnOther (r .point)) (load s .records)) (all-keep CompletionFits (isOnOther (r .point)) (load s .records) (w .fits .records))
       (omega (arith, length-keep (isOnOther (r .point)) (load s .records), w .fits .records-count)))
 
@@ -42,7 +42,7 @@ module _ {s : List ℕ} (w : Canonical s) (r : Release) (end : ℕ) (e : end < w
   released-stage {x} {y} {s1} {s2} t p q z =
       stage-next t (withPoint (r .point) (releasedPoint (pointAt (load s) (r .point))))
       (z ∙ ap (λ (u : Point). stored s1 (withPoint (r .point) u (load s1))) (q ∙ ap releasedPoint p))
-      (fits-point dropped (t .fits) (r .point) _ (released-fits (pointAt (load s) (r .point)) (point-fits (load s) (r .point) (w .fits))))
+      (fits-point dropped (t .fits) (r .point) _ (released-fits (pointAt (load s) (r .point)) (point-fits (load s) (r .point) (w .fits)))) (unfold withPoint in omega arith)
 
   pub released-done : {s2 s3 : List ℕ} → Stage s s2 closed → s3 ≡ stored s2 (withSize end (load s2)) → s3 ≡ stored s (applyReleased r end (load s))
-  released-done t z = stage-next t (withSize end) z (fits-size closed (t .fits) end e) .is ∙ ap (λ (u : State). stored s u) (released-composed (load s) end r)
+  released-done t z = stage-next t (withSize end) z (fits-size closed (t .fits) end e) (unfold withSize in omega arith) .is ∙ ap (λ (u : State). stored s u) (released-composed (load s) end r)

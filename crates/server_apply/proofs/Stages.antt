@@ -3,7 +3,7 @@
 --     stage-canonical, stage-load, stage-length     what holds of a buffer on the way
 --     max-below                         the greater of two numbers below a third
 -- Assumes nothing.
-use Prim.Native.Nat.{ℕ, zero, suc, _*_, _<_, max}
+use Prim.Native.Nat.{ℕ, zero, suc, _*_, _≤_, _<_, max}
 use mathlib.Core.Path.{_≡_, sym, ap, _∙_}
 use mathlib.Core.List.{List, [], _∷_}
 use native.Mathlib.Omega.{arith}
@@ -18,7 +18,7 @@ use Rattle.model.specs.Apply.{gavePoint, releasedPoint}
 use Rattle.model_laws.specs.Bytes.{All}
 use Rattle.model_laws.specs.Fits.{StateFits, PointFits}
 use Rattle.state_rows.specs.Canonical.{Canonical}
-use Rattle.state_rows.proofs.Chains.{canonical-stored, load-stored, stored-stored, stored-same, length-stored}
+use Rattle.state_rows.proofs.Chains.{canonical-stored, load-stored, stored-stored, stored-fewer, stored-same, length-stored}
 use Rattle.server_apply.specs.Stage.{Stage}
 
 pub stage-start : (s : List ℕ) → Canonical s → Stage s s (load s)
@@ -34,13 +34,21 @@ module _ {s now : List ℕ} {st : State} (g : Stage s now st) where
   pub stage-length : length now ≡ length s
   stage-length = rw (g .is) (length-stored s st)
 
-  pub stage-next : (f : State → State) {next : List ℕ} → next ≡ stored now (f (load now)) → StateFits (f st) → Stage s next (f st)
-  stage-next f {next} e h =
+  stage-done : (f : State → State) {next : List ℕ} → next ≡ stored now (f (load now)) → StateFits (f st) → stored (stored s st) (f st) ≡ stored s (f st) → Stage s next (f st)
+  stage-done f {next} e h c =
       record {
         long = g .long;
-        is = e ∙ ap (λ (x : State). stored now (f x)) stage-load ∙ ap (λ (x : List ℕ). stored x (f st)) (g .is) ∙ stored-stored s st (f st) (g .fits) h;
+        is = e ∙ ap (λ (x : State). stored now (f x)) stage-load ∙ ap (λ (x : List ℕ). stored x (f st)) (g .is) ∙ c;
         fits = h;
       }
+
+  -- a change that leaves no row out
+  pub stage-next : (f : State → State) {next : List ℕ} → next ≡ stored now (f (load now)) → StateFits (f st) → length (st .records) ≤ length (f st .records) → Stage s next (f st)
+  stage-next f e h c = stage-done f e h (stored-stored s st (f st) (g .fits) h c)
+
+  -- any change, while the rows are those of the first buffer
+  pub stage-fewer : Canonical s → st .records ≡ load s .records → (f : State → State) {next : List ℕ} → next ≡ stored now (f (load now)) → StateFits (f st) → Stage s next (f st)
+  stage-fewer w own f e h = stage-done f e h (stored-fewer s w st (f st) (g .fits) h own)
 
 pub max-below : (a b k : ℕ) → a < k → b < k → max a b < k
 max-below a b k p q = omega arith

@@ -7,6 +7,8 @@
 -- Assumes nothing.
 use Prim.Native.Nat.{ℕ, zero, suc, _+_, _*_, _≤_, _<_, max}
 use mathlib.Core.Path.{_≡_, refl, ap, _∙_}
+use mathlib.Core.Bool.{Bool, true, false, _&&_}
+use Rattle.model.specs.Choice.{pick}
 use mathlib.Core.List.{List, [], _∷_, _++_, map}
 use native.Mathlib.Omega.{arith}
 use lib.ListN.{length, drop, length-append}
@@ -32,11 +34,11 @@ use Rattle.model_laws.proofs.Images.{floorCodec, entry-fit}
 use Rattle.state_rows.specs.Canonical.{Canonical}
 use Rattle.state_rows.proofs.Chains.{fits-point, fits-heard, fits-size, fits-floors, fits-records}
 use Rattle.state_records.specs.declared.Rule.{Rule}
-use Rattle.state_records.specs.declared.Rule.the-variants.{OnOther, OverFloors}
+use Rattle.state_records.specs.declared.Rule.the-variants.{Beside}
 use Rattle.state_records.specs.Rules.{staysBy, keptBy, brought}
 use Rattle.state_clients.proofs.Raised.{raise-fits}
 use Rattle.server_apply.specs.Stage.{Stage}
-use Rattle.server_apply.proofs.Stages.{stage-start, stage-next, stage-load, stage-canonical}
+use Rattle.server_apply.proofs.Stages.{stage-start, stage-fewer, stage-next, stage-load, stage-canonical}
 
 -- the widths of a head's fields and of a log's length
 pub record Widths (h : ImageHead) (end : ℕ) : Type 0 where
@@ -71,9 +73,9 @@ taken-fit p end (e ∷ es) h k a =
 -- ---- one change more
 
 module _ {s a : List ℕ} {st : State} (t : Stage s a st) {a' : List ℕ} where
-  pub kept-stage : (rule : Rule) → a' ≡ stored a (withRecords (keptBy rule (load a)) (load a)) → Stage s a' (withRecords (keptBy rule st) st)
-  kept-stage rule e =
-      stage-next t (λ x. withRecords (keptBy rule x) x) e
+  pub kept-stage : Canonical s → st .records ≡ load s .records → (rule : Rule) → a' ≡ stored a (withRecords (keptBy rule (load a)) (load a)) → Stage s a' (withRecords (keptBy rule st) st)
+  kept-stage w own rule e =
+      stage-fewer t w own (λ x. withRecords (keptBy rule x) x) e
       (fits-records st (t .fits) (keptBy rule st) (all-keep CompletionFits (staysBy rule (st .floors)) (st .records) (t .fits .records))
       (omega (arith, length-keep (staysBy rule (st .floors)) (st .records), t .fits .records-count)))
 
@@ -90,13 +92,24 @@ abbrev pub addedBy : ImageHead → ℕ → List ℕ → State → State
 addedBy h end image x = withRecords (x .records ++ brought x h end image) x
 
 abbrev pub keptOf : ImageHead → List ℕ → State → State
-keptOf h image x = keptIn OverFloors (keptIn (OnOther (h .point)) (mergedBy h image x))
+keptOf h image x = keptIn (Beside (h .point)) (mergedBy h image x)
+
+keep-both : (t u : Completion → Bool) (rs : List Completion) → keep u (keep t rs) ≡ keep (λ r. t r && u r) rs
+unfolding keep
+keep-both t u [] = refl
+keep-both t u (r ∷ rs) = go (t r) (keep-both t u rs)
+  where
+    go : (b : Bool) → keep u (keep t rs) ≡ keep (λ q. t q && u q) rs → keep u (pick b (r ∷ keep t rs) (keep t rs)) ≡ pick (b && u r) (r ∷ keep (λ q. t q && u q) rs) (keep (λ q. t q && u q) rs)
+    go true e = rw e
+    go false e = e
 
 tables-composed : (h : ImageHead) (end : ℕ) (image : List ℕ) (st : State)
     → addedBy h end image (keptOf h image st) ≡ withRecords (applyTook (imageAt h image) end st .records) (withFloors (applyTook (imageAt h image) end st .floors) st)
 unfolding withRecords withFloors applyTook staysBy imageAt
 tables-composed h end image st =
-    rw (keep-append (staysOverFloors (mergeFloors (imageAt h image .floors) (st .floors))) (keep (isOnOther (h .point)) (st .records)) (map (takenRecord (h .point) end) (imageAt h image .entries)))
+    let over : Completion → Bool = staysOverFloors (mergeFloors (imageAt h image .floors) (st .floors)) in
+    let news : List Completion = map (takenRecord (h .point) end) (imageAt h image .entries) in
+    rw (← keep-both (isOnOther (h .point)) over (st .records), keep-append over (keep (isOnOther (h .point)) (st .records)) news)
 
 module _ {s : List ℕ} (w : Canonical s) (image : List ℕ) (b : Bytes image) (h : ImageHead) (end : ℕ)
     (floors : length (applyTook (imageAt h image) end (load s) .floors) ≤ clientCount) where
@@ -116,7 +129,7 @@ module _ {s : List ℕ} (w : Canonical s) (image : List ℕ) (b : Bytes image) (
   pub taken-merged : {s1 : List ℕ} → s1 ≡ stored s (withFloors (mergeFloors (rows floorOfBytes floorRow (h .floors) (drop leastImage image)) (load s .floors)) (load s)) → Stage s s1
       (mergedBy h image (load s))
   unfolding applyTook imageAt
-  taken-merged e = stage-next (stage-start s w) (mergedBy h image) e (fits-floors (load s) (w .fits) (mergeFloors (imageAt h image .floors) (load s .floors)) merged-fits floors)
+  taken-merged e = stage-fewer (stage-start s w) w refl (mergedBy h image) e (fits-floors (load s) (w .fits) (mergeFloors (imageAt h image .floors) (load s .floors)) merged-fits floors)
 
   module _ (records : length (applyTook (imageAt h image) end (load s) .records) ≤ recordCount) {s3 : List ℕ} (t : Stage s s3 (keptOf h image (load s))) where
     abbrev three : State
@@ -139,7 +152,8 @@ module _ {s : List ℕ} (w : Canonical s) (image : List ℕ) (b : Bytes image) (
         (taken-fit (h .point) end (imageAt h image .entries) (f .point) (f .size) (unfold imageAt in entries-fit (h .entries) (drop (leastImage + floorRow * h .floors) image)
         (bytes-drop (leastImage + floorRow * h .floors) image b))) in
         stage-next t (addedBy h end image) e
-        (fits-records three (t .fits) (three .records ++ brought three h end image) (all-append CompletionFits (three .records) (brought three h end image) (t .fits .records) fit) both) .is
+        (fits-records three (t .fits) (three .records ++ brought three h end image) (all-append CompletionFits (three .records) (brought three h end image) (t .fits .records) fit) both)
+        (unfold withRecords in omega (arith, length-append (three .records) (brought three h end image))) .is
         ∙ ap (λ (x : State). stored s x) (tables-composed h end image (load s))
 
 -- ---- the point, heard time and the log's length
@@ -159,16 +173,16 @@ module _ {s : List ℕ} (w : Canonical s) (h : ImageHead) (end : ℕ) (f : Width
   pub pointed-stage : {x : Point} {s1 : List ℕ} → x ≡ tookPoint (imageAt h []) end → s1 ≡ stored s (withPoint (h .point) x (load s)) → Stage s s1 (pointedBy h end (load s))
   pointed-stage {x} {s1} p r =
       stage-next (stage-start s w) (pointedBy h end) (r ∙ ap (λ (z : Point). stored s (withPoint (h .point) z (load s))) p)
-      (fits-point (load s) (w .fits) (h .point) _ (took-fits h end f))
+      (fits-point (load s) (w .fits) (h .point) _ (took-fits h end f)) (unfold withPoint in omega arith)
 
   pub heard-stage : {k m : ℕ} {s1 s2 : List ℕ} → Stage s s1 (pointedBy h end (load s)) → m ≡ load s .heard → k ≡ max m (h .heard) → s2 ≡ stored s1 (withHeard k (load s1))
       → Stage s s2 (heardBy h end (load s))
   heard-stage {k} {m} {s1} {s2} g p r z =
       stage-next g (withHeard (max (load s .heard) (h .heard))) (z ∙ ap (λ (x : ℕ). stored s1 (withHeard x (load s1))) (r ∙ ap (λ (x : ℕ). max x (h .heard)) p))
-      (fits-heard (pointedBy h end (load s)) (g .fits) (max (load s .heard) (h .heard)) (omega (arith, w .fits .heard, f .heard)))
+      (fits-heard (pointedBy h end (load s)) (g .fits) (max (load s .heard) (h .heard)) (omega (arith, w .fits .heard, f .heard))) (unfold withHeard in omega arith)
 
   pub pointed-done : {s2 s3 : List ℕ} → Stage s s2 (heardBy h end (load s)) → s3 ≡ stored s2 (withSize end (load s2)) → s3 ≡ stored s (withSize end (heardBy h end (load s)))
-  pointed-done g z = stage-next g (withSize end) z (fits-size (heardBy h end (load s)) (g .fits) end (f .size)) .is
+  pointed-done g z = stage-next g (withSize end) z (fits-size (heardBy h end (load s)) (g .fits) end (f .size)) (unfold withSize in omega arith) .is
 
 -- ---- the whole
 
@@ -216,4 +230,5 @@ module _ {s : List ℕ} (w : Canonical s) (image : List ℕ) (b : Bytes image) (
       let st : State = tabled h end image (load s) in
       let pf : StateFits (pointedBy h end st) = fits-point st (g .fits) (h .point) (tookPoint (imageAt h []) end) (took-fits h end f) in
       let hf : StateFits (heardBy h end st) = fits-heard (pointedBy h end st) pf (max (st .heard) (h .heard)) (omega (arith, g .fits .heard, f .heard)) in
-      stage-next g (setBy h end) e (fits-size (heardBy h end st) hf end (f .size)) .is ∙ ap (λ (x : State). stored s x) (took-whole h end image (load s))
+      stage-next g (setBy h end) e (fits-size (heardBy h end st) hf end (f .size)) (unfold withSize withHeard withPoint in omega arith) .is
+      ∙ ap (λ (x : State). stored s x) (took-whole h end image (load s))

@@ -13,7 +13,10 @@ ghost use Rattle.model.specs.Images.{imageAt};
 ghost use Rattle.model.specs.States.{load};
 ghost use Rattle.model.specs.Apply.{tookPoint, applyTook};
 ghost use Rattle.model.specs.Operations.{stored};
+ghost use Rattle.model_laws.specs.Layout.{withRecords};
 ghost use Rattle.state_rows.specs.Canonical.{Canonical};
+ghost use Rattle.state_records.specs.declared.Rule.the-variants.{Beside};
+ghost use Rattle.state_records.specs.Rules.{keptBy};
 ghost use Rattle.server_apply.specs.Taking.{RoomFor, TakesInto, tabled, pointed};
 
 // The point as an image of the head h brings it.
@@ -32,14 +35,22 @@ fn took_point(h: ImageHead, end: u64) -> Point
     }
 }
 
-// The two tables: floors merged, then the records.
+// What leaves the records, the point's and those under a floor, in one pass. A second pass would move rows again, and leave others than
+// the first found behind the last record.
+fn drop_records(s: &mut [u8], point: u8)
+    requires { ⌜ Canonical (now s) ⌝ }
+    ensures { λ r. ⌜ now (s .exit) ≡ stored (now (s .entry)) (withRecords (keptBy (Beside point) (load (now (s .entry)))) (load (now (s .entry)))) ⌝ }
+{
+    state_records::keep_records(s, Rule::Beside(point));
+}
+
+// The two tables: floors merged, then the records that go, then those that come.
 fn take_tables(s: &mut [u8], image: &[u8], h: ImageHead, end: u64)
     requires { ⌜ RoomFor (now s) (now image) h end ⌝ }
     ensures { λ r. ⌜ now (s .exit) ≡ stored (now (s .entry)) (tabled (now (image .entry)) h end (load (now (s .entry)))) ⌝ }
 {
     state_clients::merge(s, image, h.floors as usize);
-    state_records::keep_records(s, Rule::OnOther(h.point));
-    state_records::keep_records(s, Rule::OverFloors);
+    drop_records(s, h.point);
     state_records::append_image(s, image, h, end);
 }
 

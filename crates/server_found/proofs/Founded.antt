@@ -6,21 +6,21 @@
 use Prim.Native.Nat.{ℕ, _+_, _-_, _*_, _≤_, _<_}
 use mathlib.Core.Path.{_≡_, refl, sym, ap, _∙_}
 use mathlib.Core.Bool.{Bool, true, false, not, _||_, false≢true}
-use mathlib.Core.List.{List, [], _++_, map, map-append}
+use mathlib.Core.List.{List, [], _++_, map, map-append, append-nil}
 use native.Mathlib.Omega.{arith}
 use native.Mathlib.Nat.{sub-zero}
-use lib.ListN.{length, drop, replicate, length-map, length-replicate}
+use lib.ListN.{length, drop, replicate, length-map}
 use lib.Dec.{eqb, ltb}
 use borrow.Author.Tests.{eqb-true, ne-eqb, ltb-false, not-false}
 use Rattle.model.specs.declared.PlanEntry.{PlanEntry}
 use Rattle.model.specs.declared.Point.{Point}
-use Rattle.model.specs.Limits.{lastServer, stateSize, headSize, pointCount, planRow, planSize, floorRow, clientCount, recordCount}
+use Rattle.model.specs.Limits.{lastServer, stateSize, headSize, pointCount, planRow, planSize, floorRow, clientCount}
 use Rattle.model.specs.Refusals.{malformed, tooShort, noRefusal}
 use Rattle.model.specs.Numbers.{le64, quad}
 use Rattle.model.specs.Tables.{rows, everyRow, bytesOf, written}
 use Rattle.model.specs.Plan.{planEntryOf, planRowOk, planOk, planOf, planBytes}
 use Rattle.model.specs.Images.{floorBytes}
-use Rattle.model.specs.States.{stateBytes, stateHeadBytes, pointBytes, completionBytes, padded, pointsStart, floorsStart, recordsStart, pointRow, recordRow, lengthPlace, markPlace, stateHead, stateMagic}
+use Rattle.model.specs.States.{stateBytes, stateHeadBytes, pointBytes, padded, pointsStart, floorsStart, pointRow, lengthPlace, markPlace, stateHead, stateMagic}
 use Rattle.model.specs.Apply.{founded, foundedPoint}
 use Rattle.model.specs.Logs.{headBytes}
 use Rattle.model.specs.Operations.{after, answerOf, settle, stored, leftUnless, foundRefusal, foundOf}
@@ -93,13 +93,13 @@ padded-none enc w n = rw sub-zero
 
 founded-bytes : (es : List PlanEntry) (n : ℕ)
     → stateBytes (founded es n)
-    ≡ stateHeadBytes (founded [] n) ++ (planBytes es ++ (bytesOf pointBytes (map (foundedPoint n) es) ++ (replicate (floorRow * clientCount) 0 ++ replicate (recordRow * recordCount) 0)))
-unfolding stateBytes founded stateHeadBytes
-founded-bytes es n = rw (padded-none floorBytes floorRow clientCount, padded-none completionBytes recordRow recordCount)
+    ≡ stateHeadBytes (founded [] n) ++ (planBytes es ++ (bytesOf pointBytes (map (foundedPoint n) es) ++ replicate (floorRow * clientCount) 0))
+unfolding stateBytes founded stateHeadBytes bytesOf
+founded-bytes es n = rw (padded-none floorBytes floorRow clientCount, append-nil)
 
 pub founded-runs : (s plan : List ℕ) (n : ℕ) → Bytes plan → planOk plan ≡ true
-    → written (written (written (written (written s 0 (stateHeadBytes (founded [] n))) stateHead plan) pointsStart (bytesOf pointBytes (map (foundedPoint n) (planOf plan)))) floorsStart
-    (replicate (floorRow * clientCount) 0)) recordsStart (replicate (recordRow * recordCount) 0)
+    → written (written (written (written s 0 (stateHeadBytes (founded [] n))) stateHead plan) pointsStart (bytesOf pointBytes (map (foundedPoint n) (planOf plan)))) floorsStart
+    (replicate (floorRow * clientCount) 0)
     ≡ stored s (founded (planOf plan) n)
 unfolding stored storedBy bytesBy
 founded-runs s plan n h ok =
@@ -113,9 +113,8 @@ founded-runs s plan n h ok =
     (run (stateHeadBytes (founded [] n)) stateHead (omega (arith, head-length n))
     (run plan pointsStart (omega arith)
     (run ps floorsStart (omega arith)
-    (run (replicate (floorRow * clientCount) 0) recordsStart (omega (arith, length-replicate {A = ℕ} 256 0))
-    (last (replicate (recordRow * recordCount) 0))))))
-    ∙ ap (λ (x : List ℕ). written s 0 x) (ap (λ (x : List ℕ). stateHeadBytes (founded [] n) ++ (x ++ (ps ++ (replicate (floorRow * clientCount) 0 ++ replicate (recordRow * recordCount) 0))))
+    (last (replicate (floorRow * clientCount) 0)))))
+    ∙ ap (λ (x : List ℕ). written s 0 x) (ap (λ (x : List ℕ). stateHeadBytes (founded [] n) ++ (x ++ (ps ++ replicate (floorRow * clientCount) 0)))
     (sym again) ∙ sym (founded-bytes es n))
 
 -- ---- the operation

@@ -109,7 +109,6 @@ pub fn found_state(s: &mut [u8], plan: &[u8], n: u8)
     put_plan(s, plan);
     put_points(s, plan, n);
     state_rows::clear(s, FLOORS_START, RECORDS_START);
-    state_rows::clear(s, RECORDS_START, constants::STATE_END);
 }
 
 // ---- the operation

@@ -7,13 +7,13 @@
 --     recover-refused, long-passed, plan-passed, recover-done     the answers of the operation on a log
 --     tail-short, tail-done         and on a checkpoint and its tail
 -- Assumes nothing.
-use Prim.Native.Nat.{ℕ, _≤_, _<_}
+use Prim.Native.Nat.{ℕ, _+_, _≤_, _<_}
 use mathlib.Core.Path.{_≡_, refl, sym, ap, _∙_}
-use mathlib.Core.Bool.{Bool, true, false, not}
+use mathlib.Core.Bool.{Bool, true, false, not, false≢true}
 use mathlib.Core.List.{List, []}
 use mathlib.Core.Option.{Option, none, some}
 use native.Mathlib.Omega.{arith}
-use lib.ListN.{length}
+use lib.ListN.{length, take}
 use lib.Dec.{eqb, ltb}
 use borrow.Author.Tests.{ltb-false, lt-ltb, le-ltb, ne-eqb, not-true, not-false}
 use Rattle.model.specs.declared.Answer.{Answer}
@@ -23,15 +23,16 @@ use Rattle.model.specs.Refusals.{malformed, tooShort, badLog, noRefusal}
 use Rattle.model.specs.Tables.{written}
 use Rattle.model.specs.Plan.{planOk, planOf}
 use Rattle.model.specs.Logs.{headOk, headServer, endsOf}
-use Rattle.model.specs.States.{State, load, stateBytes, stateEnd}
+use Rattle.model.specs.States.{State, load, stateBytes, stateEnd, recordsEnd}
 use Rattle.model.specs.Apply.{founded, withMark}
 use Rattle.model.specs.Operations.{After, after, answerOf, settle, stored, leftUnless, recoveredOn, recoveredState, settleRecovered, recoverRefusal, recoverOf}
 use Rattle.model.specs.Checkpoints.{checkpointState, recoveredTail, recoverTailRefusal, recoverTailOf}
-use Rattle.model_laws.specs.Bytes.{Bytes}
+use Rattle.model_laws.specs.Bytes.{Bytes, part}
 use Rattle.model_laws.specs.Fits.{StateFits}
 use Rattle.model_laws.proofs.Refused.{if-passed}
 use Rattle.model_laws.proofs.TwoWalks.{recovered-off}
-use Rattle.model_laws.proofs.States.{state-length}
+use Rattle.model_laws.proofs.Written.{take-written-run}
+use Rattle.model_laws.proofs.States.{state-length, state-within}
 use Rattle.model_invariants.specs.Sound.{Sound}
 use Rattle.model_invariants.proofs.Tests.{fits-of}
 use Rattle.model_invariants.proofs.Kept.{founded-sound}
@@ -39,12 +40,13 @@ use Rattle.model_invariants.proofs.Crash.{head-limit}
 use Rattle.model_invariants.proofs.Loaded.{plan-good, loaded-sound}
 use Rattle.model_invariants.proofs.Restored.{checkpoint-size}
 use Rattle.state_rows.proofs.Chains.{canonical-sound, canonical-stored, load-stored, fits-mark}
-use Rattle.state_restore.specs.Restored.{RestoredBy}
-use Rattle.state_restore.proofs.Answers.{written-whole, restored-none, restored-some}
+use Rattle.state_rows.specs.Canonical.{Canonical}
+use Rattle.state_restore.specs.Restored.{stateIn, RestoredBy}
+use Rattle.state_restore.proofs.Answers.{restored-none, restored-some}
 use Rattle.format_log_ends.specs.Walked.{endsFrom}
 use Rattle.server_replay.specs.Standing.{Standing}
 use Rattle.server_recover.specs.Remaining.{remainingTo, remaining, StandsAt, Ended}
-use Rattle.server_recover.specs.Rebuilt.{Begun, BegunAs, rebuilt, recoveredBytes, settledBytes}
+use Rattle.server_recover.specs.Rebuilt.{Begun, BegunAs, marked, Rebuilt, settledState}
 
 -- ---- founding
 
@@ -106,7 +108,7 @@ module _ (checkpoint tail : List ℕ) where
         go : (x : Bool) → recoveredTail checkpoint tail ≡ pick x (recoveredOn (load s) tail) none → BegunAs (recoveredTail checkpoint tail) tail s x
         go true q = (
           record {
-            standing = record { canonical = canonical-sound s b (w .bytes f .1); sound = loaded-sound s b (w .bytes f .1) };
+            standing = record { canonical = canonical-sound s b (w .sound f); sound = loaded-sound s b (w .sound f) };
             place = checkpoint-size checkpoint (load s) (restored-some w f);
           },
           q,
@@ -114,6 +116,10 @@ module _ (checkpoint tail : List ℕ) where
         go false q = q
 
 -- ---- the log
+
+rebuilt-no : {o : Option State} (s : List ℕ) → o ≡ none → Rebuilt o s false
+unfolding stateIn marked
+rebuilt-no s e = record { state = rw e; bytes = λ (f : false ≡ true). absurd (false≢true f) }
 
 pub ended-standing : (log : List ℕ) (at : ℕ) (st : State) (s : List ℕ) {t : Bool} → Ended log at st s t → t ≡ true → Standing s
 ended-standing log at st s d f = let g : Standing s × (remaining log at st ≡ some (load s)) = rw f at (d .found) in g .0
@@ -128,60 +134,69 @@ module _ (log : List ℕ) (st : State) where
   unfolding remaining endsOf
   from-head k = by-ends (endsFrom log headSize) (rw (k, endsOf))
 
-  pub no-ends : (s : List ℕ) → endsOf log ≡ none → rebuilt false s ≡ recoveredBytes (recoveredOn st log)
-  unfolding rebuilt recoveredBytes remainingTo
-  no-ends s e = rw (by-ends none e)
+  pub no-ends : (s : List ℕ) → endsOf log ≡ none → Rebuilt (recoveredOn st log) s false
+  unfolding remainingTo
+  no-ends s e = rebuilt-no s (by-ends none e)
 
 module _ {log : List ℕ} (s1 : List ℕ) {s2 : List ℕ} {t : Bool} (k : headOk log ≡ true) (d : Ended log headSize (load s1) s2 t) where
-  pub no-replay : (s : List ℕ) → t ≡ false → rebuilt false s ≡ recoveredBytes (recoveredOn (load s1) log)
-  unfolding rebuilt recoveredBytes
-  no-replay s f = let g : remaining log headSize (load s1) ≡ none = rw f at (d .found) in rw (from-head log (load s1) k ∙ g)
+  pub no-replay : (s : List ℕ) → t ≡ false → Rebuilt (recoveredOn (load s1) log) s false
+  no-replay s f = let g : remaining log headSize (load s1) ≡ none = rw f at (d .found) in rebuilt-no s (from-head log (load s1) k ∙ g)
 
-  pub rebuilt-done : {n : ℕ} {s3 : List ℕ} → t ≡ true → length s2 ≡ stateEnd → n ≡ load s2 .size → s3 ≡ stored s2 (withMark n (load s2))
-      → rebuilt true s3 ≡ recoveredBytes (recoveredOn (load s1) log)
-  unfolding rebuilt recoveredBytes stored
-  rebuilt-done {n} {s3} f l q c =
+  pub rebuilt-done : {n : ℕ} {s3 : List ℕ} → t ≡ true → n ≡ load s2 .size → s3 ≡ stored s2 (withMark n (load s2)) → Rebuilt (recoveredOn (load s1) log) s3 true
+  unfolding stateIn marked
+  rebuilt-done {n} {s3} f q c =
       let g : Standing s2 × (remaining log headSize (load s1) ≡ some (load s2)) = rw f at (d .found) in
       let st : State = withMark (load s2 .size) (load s2) in
-      let fits : StateFits st = fits-mark (load s2) (g .0 .canonical .fits) (load s2 .size) (g .0 .canonical .fits .size) in
-      let b : s3 ≡ stateBytes st = c ∙ ap (λ (x : ℕ). written s2 0 (stateBytes (withMark x (load s2)))) q ∙ written-whole s2 (stateBytes st) (omega (arith, state-length st fits)) in
-      rw (from-head log (load s1) k ∙ g .1, b)
+      let w = g .0 .canonical in
+      let fits : StateFits st = fits-mark (load s2) (w .fits) (load s2 .size) (w .fits .size) in
+      let b : s3 ≡ stored s2 st = c ∙ ap (λ (x : ℕ). stored s2 (withMark x (load s2))) q in
+      record {
+        state = rw (from-head log (load s1) k ∙ g .1) (ap some (ap load b ∙ load-stored s2 (w .long) st fits));
+        bytes = λ (e : true ≡ true). rw b (canonical-stored s2 (w .long) st fits);
+      }
 
 -- ---- both
 
 module _ {o : Option State} {log s : List ℕ} {t : Bool} (w : Begun o log s t) where
-  pub rebuilt-none : (s' : List ℕ) → t ≡ false → rebuilt false s' ≡ recoveredBytes o
-  unfolding rebuilt recoveredBytes
-  rebuilt-none s' f = let g : o ≡ none = rw f at (w .begun) in rw g
+  pub rebuilt-none : (s' : List ℕ) → t ≡ false → Rebuilt o s' false
+  rebuilt-none s' f = rebuilt-no s' (rw f at (w .begun))
 
   pub begun-stands : t ≡ true → StandsAt s headSize
   begun-stands f = let g : StandsAt s headSize × (o ≡ recoveredOn (load s) log) = rw f at (w .begun) in g .0
 
-  pub rebuilt-as : {b : Option (List ℕ)} → t ≡ true → b ≡ recoveredBytes (recoveredOn (load s) log) → b ≡ recoveredBytes o
-  rebuilt-as f e = let g : StandsAt s headSize × (o ≡ recoveredOn (load s) log) = rw f at (w .begun) in e ∙ ap recoveredBytes (sym (g .1))
+  pub rebuilt-as : {s' : List ℕ} {r : Bool} → t ≡ true → Rebuilt (recoveredOn (load s) log) s' r → Rebuilt o s' r
+  rebuilt-as f e = let g : StandsAt s headSize × (o ≡ recoveredOn (load s) log) = rw f at (w .begun) in rw (g .1) e
 
 -- ---- what is left of the lent state
 
+-- up to the last completion record a buffer is the bytes of its state
+state-bytes-of : (s : List ℕ) → Canonical s → part 0 (recordsEnd (length (load s .records))) s ≡ stateBytes (load s)
+state-bytes-of s w =
+    let n : recordsEnd (length (load s .records)) ≡ 0 + length (stateBytes (load s)) = omega (arith, state-length (load s) (w .fits)) in
+    ap (λ (k : ℕ). take k s) n
+    ∙ ap (λ (x : List ℕ). take (0 + length (stateBytes (load s))) x) (sym (w .same))
+    ∙ take-written-run s 0 (stateBytes (load s)) (omega (arith, state-within (load s) (w .fits), w .long))
+
 module _ (state work : List ℕ) (t : Bool) where
-  pub settled-no : {a : Answer} → not t ≡ true → a ≡ answerOf badLog 0 → after a state [] [] ≡ settledBytes state [] (rebuilt t work)
-  unfolding settledBytes rebuilt settle
+  pub settled-no : {a : Answer} → not t ≡ true → a ≡ answerOf badLog 0 → after a state [] [] ≡ settledState state [] (stateIn t work)
+  unfolding settledState stateIn settle
   settled-no q e = rw (not-true t q, e)
 
-  pub settled-done : {a : Answer} {state' : List ℕ} → not t ≡ false → state' ≡ written state 0 work → a ≡ answerOf noRefusal 0
-      → after a state' [] [] ≡ settledBytes state [] (rebuilt t work)
-  unfolding settledBytes rebuilt
-  settled-done q c e = rw (not-false t q, e, c)
+  pub settled-done : {a : Answer} {state' : List ℕ} {n : ℕ} → not t ≡ false → Canonical work → n ≡ length (load work .records) → state' ≡ written state 0 (part 0 (recordsEnd n) work)
+      → a ≡ answerOf noRefusal 0 → after a state' [] [] ≡ settledState state [] (stateIn t work)
+  unfolding settledState stateIn stored
+  settled-done q w e c f = rw (not-false t q, f, c, e, state-bytes-of work w)
 
 -- with the log as it was
-recovered-settled : (state log : List ℕ) (o : Option State) {b : Option (List ℕ)} {a : Answer} {state' : List ℕ} → b ≡ recoveredBytes o → after a state' [] [] ≡ settledBytes state [] b
+recovered-settled : (state log : List ℕ) (o : Option State) {s state' : List ℕ} {r : Bool} {a : Answer} → Rebuilt o s r → after a state' [] [] ≡ settledState state [] (stateIn r s)
     → after a state' log [] ≡ settleRecovered state log o
-unfolding settledBytes recoveredBytes settleRecovered settle stored
-recovered-settled state log o p e = ap beside (e ∙ ap (settledBytes state []) p) ∙ same o
+unfolding settledState marked settleRecovered settle stored
+recovered-settled state log o p e = ap beside (e ∙ ap (settledState state []) (p .state)) ∙ same o
   where
     beside : After → After
     beside x = after (x .answer) (x .state) log (x .out)
 
-    same : (o : Option State) → beside (settledBytes state [] (recoveredBytes o)) ≡ settleRecovered state log o
+    same : (o : Option State) → beside (settledState state [] (marked o)) ≡ settleRecovered state log o
     same none = refl
     same (some st) = refl
 
@@ -204,7 +219,7 @@ module _ (state log plan : List ℕ) {g : Bool} (p : g ≡ planOk plan) {k : ℕ
     pub plan-passed : planOk plan ≡ true
     plan-passed = sym p ∙ not-false g (tests .1)
 
-    pub recover-done : {b : Option (List ℕ)} {a : Answer} {state' : List ℕ} → b ≡ recoveredBytes (recoveredState (planOf plan) log) → after a state' [] [] ≡ settledBytes state [] b
+    pub recover-done : {s state' : List ℕ} {r : Bool} {a : Answer} → Rebuilt (recoveredState (planOf plan) log) s r → after a state' [] [] ≡ settledState state [] (stateIn r s)
         → after a state' log [] ≡ recoverOf state log plan
     unfolding recoverOf leftUnless
     recover-done r e = rw (← p, ← q, z) (recovered-settled state log (recoveredState (planOf plan) log) r e)
@@ -214,7 +229,7 @@ module _ (state checkpoint tail : List ℕ) where
   unfolding recoverTailOf recoverTailRefusal leftUnless settle
   tail-short h e = rw (e, lt-ltb (length state) stateSize h)
 
-  pub tail-done : {b : Option (List ℕ)} {a : Answer} {state' : List ℕ} → stateSize ≤ length state → b ≡ recoveredBytes (recoveredTail checkpoint tail)
-      → after a state' [] [] ≡ settledBytes state [] b → after a state' tail [] ≡ recoverTailOf state checkpoint tail
+  pub tail-done : {s state' : List ℕ} {r : Bool} {a : Answer} → stateSize ≤ length state → Rebuilt (recoveredTail checkpoint tail) s r
+      → after a state' [] [] ≡ settledState state [] (stateIn r s) → after a state' tail [] ≡ recoverTailOf state checkpoint tail
   unfolding recoverTailOf recoverTailRefusal leftUnless
   tail-done h r e = rw (le-ltb (length state) stateSize h) (recovered-settled state tail (recoveredTail checkpoint tail) r e)

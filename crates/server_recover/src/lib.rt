@@ -20,7 +20,9 @@ ghost use Rattle.format_log_ends.specs.Answers.{extentFrom};
 ghost use Rattle.format_log_ends.specs.Walked.{endAt, endFrom};
 ghost use Rattle.server_replay.specs.Standing.{Ready, ReplayedBy};
 ghost use Rattle.server_recover.specs.Remaining.{imageBetween, RecordReplayedBy, StandsAt, Ended};
-ghost use Rattle.server_recover.specs.Rebuilt.{Begun, rebuilt, recoveredBytes, settledBytes};
+ghost use Rattle.server_recover.specs.Rebuilt.{Begun, Rebuilt, settledState};
+ghost use Rattle.state_rows.specs.Canonical.{Canonical};
+ghost use Rattle.state_restore.specs.Restored.{stateIn};
 
 // ---- one record
 
@@ -101,7 +103,7 @@ fn begin_checkpoint(work: &mut [u8], checkpoint: &[u8], tail: &[u8]) -> bool
 // The state that the log gives on the one in a buffer of the state's size, with the mark at the end of its records.
 fn rebuild_on(work: &mut [u8], log: &[u8]) -> bool
     requires { ⌜ (length (now work) ≡ stateEnd) × StandsAt (now work) headSize ⌝ }
-    ensures { λ r. ⌜ rebuilt r (now (work .exit)) ≡ recoveredBytes (recoveredOn (load (now (work .entry))) (now (log .entry))) ⌝ }
+    ensures { λ r. ⌜ Rebuilt (recoveredOn (load (now (work .entry))) (now (log .entry))) (now (work .exit)) r ⌝ }
 {
     let found = format_log_ends::log_end(log);
     if found.refusal != constants::NO_REFUSAL {
@@ -117,7 +119,7 @@ fn rebuild_on(work: &mut [u8], log: &[u8]) -> bool
 
 fn rebuild(work: &mut [u8], log: &[u8], plan: &[u8]) -> bool
     requires { ⌜ (length (now work) ≡ stateEnd) × (planOk (now plan) ≡ true) ⌝ }
-    ensures { λ r. ⌜ rebuilt r (now (work .exit)) ≡ recoveredBytes (recoveredState (planOf (now (plan .entry))) (now (log .entry))) ⌝ }
+    ensures { λ r. ⌜ Rebuilt (recoveredState (planOf (now (plan .entry))) (now (log .entry))) (now (work .exit)) r ⌝ }
 {
     if !begin(work, log, plan) {
         return false;
@@ -127,7 +129,7 @@ fn rebuild(work: &mut [u8], log: &[u8], plan: &[u8]) -> bool
 
 fn rebuild_tail(work: &mut [u8], checkpoint: &[u8], tail: &[u8]) -> bool
     requires { ⌜ length (now work) ≡ stateEnd ⌝ }
-    ensures { λ r. ⌜ rebuilt r (now (work .exit)) ≡ recoveredBytes (recoveredTail (now (checkpoint .entry)) (now (tail .entry))) ⌝ }
+    ensures { λ r. ⌜ Rebuilt (recoveredTail (now (checkpoint .entry)) (now (tail .entry))) (now (work .exit)) r ⌝ }
 {
     if !begin_checkpoint(work, checkpoint, tail) {
         return false;
@@ -143,15 +145,16 @@ fn answered(refusal: u32) -> Answer
     Answer { refusal, wrote: 0 }
 }
 
-// The rebuilt state, if there is one.
+// The rebuilt state, if there is one. Its own bytes alone are copied: what lies behind them in the lent buffer stays.
 fn settle(state: &mut [u8], work: &[u8], done: bool) -> Answer
-    requires { ⌜ length (now work) ≤ length (now state) ⌝ }
-    ensures { λ r. ⌜ after r (now (state .exit)) [] [] ≡ settledBytes (now (state .entry)) [] (rebuilt done (now (work .entry))) ⌝ }
+    requires { ⌜ (stateEnd ≤ length (now work)) × (stateEnd ≤ length (now state)) × (done ≡ true → Canonical (now work)) ⌝ }
+    ensures { λ r. ⌜ after r (now (state .exit)) [] [] ≡ settledState (now (state .entry)) [] (stateIn done (now (work .entry))) ⌝ }
 {
     if !done {
         return answered(constants::BAD_LOG);
     }
-    format_numbers::copy_bytes(state, work);
+    let end = constants::RECORDS_START + constants::RECORD_ROW * state::records_of(work);
+    format_numbers::copy_part(state, 0, work, 0, end);
     answered(constants::NO_REFUSAL)
 }
 

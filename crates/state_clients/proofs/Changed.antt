@@ -82,7 +82,7 @@ module _ {s₀ : List ℕ} (w : Canonical s₀) where
               ∙ ap (λ (x : State). stored s (withFloors gs x)) holds-load
               ∙ ap (λ (x : State). stored s x) (last-floors (load s₀) fs gs)
               ∙ ap (λ (x : List ℕ). stored x (withFloors gs (load s₀))) (o .same)
-              ∙ stored-stored s₀ (withFloors fs (load s₀)) (withFloors gs (load s₀)) fits (fits-floors (load s₀) (w .fits) gs a h);
+              ∙ stored-stored s₀ (withFloors fs (load s₀)) (withFloors gs (load s₀)) fits (fits-floors (load s₀) (w .fits) gs a h) (unfold withFloors in omega arith);
           fit = a;
           few = h;
         }

@@ -35,7 +35,7 @@ use Rattle.model_laws.specs.Fits.{FloorFits}
 use Rattle.model_laws.specs.Layout.{withFloors}
 use Rattle.model_laws.proofs.Tables.{all-getD, all-append, all-keep, keep-yes, keep-no, length-keep, rows-cons}
 use Rattle.model_laws.proofs.Numbers.{bytes-drop}
-use Rattle.model_laws.proofs.Images.{floor-fit}
+use Rattle.model_laws.proofs.Images.{floorCodec}
 use Rattle.model_invariants.proofs.Tests.{ascends}
 use Rattle.state_rows.specs.Canonical.{Canonical}
 use Rattle.state_clients.specs.Places.{noFloor}
@@ -332,7 +332,7 @@ module _ {s₀ : List ℕ} (w : Canonical s₀) (image : List ℕ) (n : ℕ) whe
 
       pub merging-next : {s' : List ℕ} → Bytes image → s' ≡ stored s (withFloors (raise (f .client) (f .floor) (load s .floors)) (load s)) → Merging s₀ image n s' (i + 1)
       merging-next {s'} b e =
-          let fit : FloorFits f = rw p (floor-fit (drop (leastImage + floorRow * i) image) (bytes-drop (leastImage + floorRow * i) image b)) in
+          let fit : FloorFits f = rw p (floorCodec .dec-fit (drop (leastImage + floorRow * i) image) (bytes-drop (leastImage + floorRow * i) image b) refl) in
           record {
             below = omega arith;
             floors = raise (f .client) (f .floor) (o .floors);

@@ -10,17 +10,17 @@ use native.Mathlib.Nat.{mul-suc}
 use lib.ListN.{length, set, getD, take, drop, replicate, length-set, length-append, replicate-append-replicate, length-replicate}
 use lib.Seq.{take-all, take-suc, length-take-le, drop-at, take-at}
 use Rattle.model.specs.declared.Floor.{Floor}
-use Rattle.model.specs.Limits.{clientCount, floorRow, recordCount}
+use Rattle.model.specs.Limits.{clientCount, floorRow}
 use Rattle.model.specs.Numbers.{le32}
 use Rattle.model.specs.Tables.{bytesOf, written}
 use Rattle.model.specs.Images.{floorBytes}
-use Rattle.model.specs.States.{load, clientsIn, stateBytes, padded, floorsStart, completionBytes, recordRow}
+use Rattle.model.specs.States.{load, clientsIn, stateBytes, padded, floorsStart, completionBytes}
 use Rattle.model.specs.Operations.{stored}
 use Rattle.model_laws.specs.Codec.{Codec}
 use Rattle.model_laws.specs.Layout.{headWith, layout, withFloors}
 use Rattle.model_laws.proofs.Written.{written-cover, written-again}
 use Rattle.model_laws.proofs.Tables.{length-bytesOf, bytesOf-one}
-use Rattle.model_laws.proofs.Images.{floorCodec, floor-width}
+use Rattle.model_laws.proofs.Images.{floorCodec}
 use Rattle.model_laws.proofs.States.{padded-length}
 use Rattle.model_laws.proofs.Stores.{layout-state, put-floors, padded-set, padded-from, floors-stored}
 use Rattle.state_rows.specs.Canonical.{Canonical}
@@ -82,7 +82,7 @@ module _ (s : List ℕ) (w : Canonical s) where
   F = padded floorBytes floorRow clientCount (load s .floors)
 
   abbrev R : List ℕ
-  R = padded completionBytes recordRow recordCount (load s .records)
+  R = bytesOf completionBytes (load s .records)
 
   -- as many rows
   with-floors : (gs : List Floor) → length gs ≡ m → layout (load s) m n (padded floorBytes floorRow clientCount gs) R ≡ stateBytes (withFloors gs (load s))
@@ -94,7 +94,7 @@ module _ (s : List ℕ) (w : Canonical s) where
   row-set i f h =
       let size : length F ≡ floorRow * clientCount = padded-length floorCodec clientCount fs (w .fits .floors-count) in
       ap (λ (x : List ℕ). written x (floorsStart + floorRow * i) (floorBytes f)) (sym (rw (layout-state (load s)) (w .same)))
-      ∙ put-floors s (load s) m n F R (w .fits .plan-count) (w .fits .points-count) (floorRow * i) (floorBytes f) (omega (arith, floor-width f, w .fits .floors-count))
+      ∙ put-floors s (load s) m n F R (w .fits .plan-count) (w .fits .points-count) (floorRow * i) (floorBytes f) (omega (arith, floorCodec .enc-width f, w .fits .floors-count))
       ∙ ap (λ (x : List ℕ). written s 0 (layout (load s) m n x R)) (padded-set floorCodec clientCount fs i f h)
       ∙ ap (λ (x : List ℕ). written s 0 x) (with-floors (set fs i f) (length-set fs i f))
 
@@ -111,7 +111,7 @@ module _ (s : List ℕ) (w : Canonical s) where
       → written (written s (floorsStart + floorRow * k) (floorBytes f)) 12 (le32 (k + 1)) ≡ stored s (withFloors (fs ++ (f ∷ [])) (load s))
   row-added f k e h =
       rw (e ∙ sym (floors-count s))
-      (table-put (fs ++ (f ∷ [])) (m + 1) (floorRow * m) (floorBytes f) (length-append fs (f ∷ [])) (omega (arith, floor-width f)) (padded-add floorCodec clientCount fs f h))
+      (table-put (fs ++ (f ∷ [])) (m + 1) (floorRow * m) (floorBytes f) (length-append fs (f ∷ [])) (omega (arith, floorCodec .enc-width f)) (padded-add floorCodec clientCount fs f h))
 
   no-floor : floorBytes noFloor ≡ replicate floorRow 0
   unfolding floorBytes
@@ -119,5 +119,5 @@ module _ (s : List ℕ) (w : Canonical s) where
 
   pub row-dropped : (k : ℕ) → m ≡ suc k → written (written s (floorsStart + floorRow * k) (floorBytes noFloor)) 12 (le32 k) ≡ stored s (withFloors (take k fs) (load s))
   row-dropped k e =
-      table-put (take k fs) k (floorRow * k) (floorBytes noFloor) (length-take-le k fs (omega arith)) (omega (arith, floor-width noFloor, w .fits .floors-count))
+      table-put (take k fs) k (floorRow * k) (floorBytes noFloor) (length-take-le k fs (omega arith)) (omega (arith, floorCodec .enc-width noFloor, w .fits .floors-count))
       (rw no-floor (padded-drop floorCodec clientCount fs k noFloor e (omega (arith, w .fits .floors-count))))

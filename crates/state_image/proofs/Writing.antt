@@ -21,7 +21,7 @@ use Rattle.model.specs.Tables.{bytesOf, written}
 use Rattle.model.specs.Images.{imageEntryBytes}
 use Rattle.model.specs.Limits.{entryRow}
 use Rattle.model_laws.proofs.Written.{length-written, written-none, written-append}
-use Rattle.model_laws.proofs.Images.{entry-width}
+use Rattle.model_laws.proofs.Images.{entryCodec}
 use Rattle.state_image.specs.Slots.{entryIn, entriesIn}
 
 -- k slots were passed, and j entries stored behind s₀'s place at
@@ -63,7 +63,7 @@ next-written : (s : List ℕ) (at j : ℕ) (e : ImageEntry) (es : List ImageEntr
 unfolding bytesOf
 next-written s at j e es =
     let q : at + entryRow * j + entryRow ≡ at + entryRow * (j + 1) = omega arith in
-    written-append s (at + entryRow * j) (imageEntryBytes e) (bytesOf imageEntryBytes es) ∙ rw (entry-width e, q)
+    written-append s (at + entryRow * j) (imageEntryBytes e) (bytesOf imageEntryBytes es) ∙ rw (entryCodec .enc-width e, q)
 
 module _ {rs : List Completion} {u : List ℕ} {at : ℕ} {s₀ : List ℕ} {k j : ℕ} {s : List ℕ} (o : Walking rs u at s₀ k j s) where
   pub walk-skip : k < length u → getD u k 0 ≡ 0 → Walking rs u at s₀ (k + 1) j s

@@ -53,8 +53,8 @@ pub clients-within : (s : List ℕ) {n : ℕ} → stateEnd ≤ length s → clie
 clients-within s l h e = omega (arith, floors-count s)
 
 pub floor-stays : (s : List ℕ) (r : Completion) {n f : ℕ} → n ≡ length (load s .floors) → f ≡ floorOf (r .command .client) (rows floorOfBytes floorRow n (drop floorsStart s))
-    → leb f (r .command .call) ≡ staysBy OverFloors (load s .floors) r
-unfolding staysBy staysOverFloors
+    → leb f (r .command .call) ≡ staysOverFloors (load s .floors) r
+unfolding staysOverFloors
 floor-stays s r {n} {f} e p = rw (p, e ∙ floors-count s) (unfold load in refl)
 
 -- ---- a row for a record that stays

@@ -2,7 +2,7 @@
 -- Assumes nothing.
 use Prim.Native.Nat.{ℕ, suc, _+_, _*_, _≤_}
 use mathlib.Core.Path.{_≡_}
-use mathlib.Core.Bool.{Bool}
+use mathlib.Core.Bool.{Bool, _&&_}
 use mathlib.Core.List.{List, [], _∷_, map}
 use mathlib.Core.Option.{Option, none, some}
 use lib.ListN.{length}
@@ -18,7 +18,7 @@ use Rattle.model.specs.Apply.{staysOver, staysOverFloors, isOfOther, isOnOther,
 use Rattle.state_records.specs.declared.Found.{Found}
 use Rattle.state_records.specs.declared.Found.the-variants.{Nothing, At}
 use Rattle.state_records.specs.declared.Rule.{Rule}
-use Rattle.state_records.specs.declared.Rule.the-variants.{OverFloor, OfOther, OnOther, OverFloors}
+use Rattle.state_records.specs.declared.Rule.the-variants.{OverFloor, OfOther, OnOther, OverFloors, Beside}
 
 unfoldable pub foundOf : Option Completion → Found
 foundOf none = Nothing
@@ -30,6 +30,7 @@ staysBy (OverFloor x n) fs = staysOver x n
 staysBy (OfOther x) fs = isOfOther x
 staysBy (OnOther p) fs = isOnOther p
 staysBy OverFloors fs = staysOverFloors fs
+staysBy (Beside p) fs = λ r. isOnOther p r && staysOverFloors fs r
 
 -- how many elements in front pass a test, before the first that does not
 unfoldable pub front : {A : Type 0} → (A → Bool) → List A → ℕ

@@ -24,7 +24,7 @@ ghost use lib.ListN.{length, drop};
 ghost use Rattle.model.specs.Limits.{clientCount, recordCount};
 ghost use Rattle.model.specs.Tables.{rows, every, keep};
 ghost use Rattle.model.specs.States.{load, stateEnd, clientsIn, recordRow, isId, completionOf};
-ghost use Rattle.model.specs.Apply.{staysOver, takenRecord};
+ghost use Rattle.model.specs.Apply.{staysOver, staysOverFloors, takenRecord};
 ghost use Rattle.model.specs.Decisions.{find, isNone};
 ghost use Rattle.model.specs.Operations.{stored};
 ghost use Rattle.model_laws.specs.Layout.{withRecords};
@@ -48,6 +48,8 @@ pub enum Rule {
     OnOther(u8),
     // calls from their client's floor on, by the clients' table of the state
     OverFloors,
+    // those on other points, by the same floors
+    Beside(u8),
 }
 
 // ---- search
@@ -108,6 +110,15 @@ pub fn find(s: &[u8], client: u32, call: u32) -> Found
 
 // ---- what stays
 
+// A record's call is from its client's floor on.
+fn over_floors(s: &[u8], r: Completion) -> bool
+    requires { ⌜ (stateEnd ≤ length (now s)) × (clientsIn (now s) ≤ clientCount) ⌝ }
+    ensures { λ b. ⌜ b ≡ staysOverFloors (load (now (s .entry)) .floors) r ⌝ }
+{
+    let floor = floors::floor_of(s, FLOORS_START, state::clients_of(s), r.command.client);
+    floor <= r.command.call
+}
+
 // A record stays by a rule.
 fn stays(s: &[u8], rule: Rule, r: Completion) -> bool
     requires { ⌜ (stateEnd ≤ length (now s)) × (clientsIn (now s) ≤ clientCount) ⌝ }
@@ -117,9 +128,10 @@ fn stays(s: &[u8], rule: Rule, r: Completion) -> bool
         Rule::OverFloor(x, floor) => (r.command.client != x) | (floor <= r.command.call),
         Rule::OfOther(x) => r.command.client != x,
         Rule::OnOther(p) => r.command.point != p,
-        Rule::OverFloors => {
-            let floor = floors::floor_of(s, FLOORS_START, state::clients_of(s), r.command.client);
-            floor <= r.command.call
+        Rule::OverFloors => over_floors(s, r),
+        Rule::Beside(p) => {
+            let over = over_floors(s, r);
+            (r.command.point != p) & over
         }
     }
 }
@@ -175,8 +187,6 @@ pub fn keep_records(s: &mut [u8], rule: Rule)
 {
     let n = state::records_of(s);
     let j = compact(s, rule, n);
-    let end = RECORDS_START + RECORD_ROW * n;
-    state_rows::clear(s, RECORDS_START + RECORD_ROW * j, end);
     state_rows::put_records(s, j as u32);
 }
 

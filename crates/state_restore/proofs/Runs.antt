@@ -1,7 +1,7 @@
 -- Runs of stores that restore a state.
 --     point-runs, record-runs       a row and its ends
 --     Filled, filled-..             a loop that stores rows
---     client-runs, record-padded    a table and the zeros past its rows
+--     client-runs                   the clients, and zeros past their rows
 --     head-runs, restored-runs      the head; head and tables, one behind the other
 -- Assumes nothing.
 use Prim.Native.Nat.{ℕ, _+_, _-_, _*_, _≤_, _<_}
@@ -14,16 +14,16 @@ use lib.Seq.{getD-drop, drop-drop}
 use lib.Dec.{eqb, leb}
 use Rattle.model.specs.Choice.{pick}
 use Rattle.model.specs.Numbers.{le32At, le32, le64, quad}
-use Rattle.model.specs.Limits.{headSize, planSize, pointCount, clientCount, recordCount, floorRow, checkpointHead, checkpointPoint, checkpointRecord}
+use Rattle.model.specs.Limits.{headSize, planSize, pointCount, clientCount, floorRow, checkpointHead, checkpointPoint, checkpointRecord}
 use Rattle.model.specs.Tables.{rows, bytesOf, written}
-use Rattle.model.specs.States.{given, stateMagic, clientsPlace, recordsPlace, lengthPlace, markPlace, stateHead, stateEnd, pointsStart, floorsStart, recordsStart, pointRow, recordRow, padded}
-use Rattle.model.specs.Checkpoints.{planPart, pointsPart, clientsPart, recordsPart, clientsOf, recordsOf, pointWhole, recordWhole, fronts, restored}
+use Rattle.model.specs.States.{given, stateMagic, clientsPlace, recordsPlace, lengthPlace, markPlace, stateHead, pointsStart, floorsStart, recordsStart, pointRow, padded}
+use Rattle.model.specs.Checkpoints.{planPart, pointsPart, clientsPart, recordsPart, clientsOf, recordsOf, pointWhole, recordWhole, fronts, restoredBytes}
 use Rattle.model_laws.specs.Bytes.{part}
 use Rattle.model_laws.specs.Runs.{last, run, storedBy, bytesBy}
 use Rattle.model_laws.proofs.Numbers.{le32-drop, length-le64}
 use Rattle.model_laws.proofs.Written.{length-written, written-none, run-behind, runs-stored}
-use Rattle.model_laws.proofs.Tables.{rows-snoc, bytesOf-append, bytesOf-one, places}
-use Rattle.model_laws.proofs.Fronts.{fronts-take, length-fronts, point-whole-width, record-whole-width}
+use Rattle.model_laws.proofs.Tables.{rows-snoc, bytesOf-append, bytesOf-one}
+use Rattle.model_laws.proofs.Fronts.{fronts-take, length-fronts, point-whole-width}
 use Rattle.model_laws.proofs.Checkpoints.{Framed}
 use Rattle.state_restore.specs.Parts.{headRestored}
 use Rattle.state_restore.proofs.Lengths.{length-part, rows-length, padded-length, head-length}
@@ -82,30 +82,16 @@ module _ (enc : List ℕ → List ℕ) (v w : ℕ) (long : (s : List ℕ) → v 
 
 -- ---- tables
 
--- zeros up to the end of a table of c rows
-zeros-behind : (s : List ℕ) (a : ℕ) (us : List ℕ) (w n c : ℕ) {e : ℕ} → length us ≡ w * n → n ≤ c → e ≡ a + w * c
-    → written (written s a us) (a + w * n) (replicate (e - (a + w * n)) 0) ≡ written s a (us ++ replicate (w * (c - n)) 0)
-zeros-behind s a us w n c {e} l h q =
-    let k : e - (a + w * n) ≡ w * (c - n) = omega (arith, places w n c h) in
-    ap (λ (m : ℕ). written (written s a us) (a + w * n) (replicate m 0)) k ∙ run-behind s a us (replicate (w * (c - n)) 0) l refl
-
 pub client-runs : (s t : List ℕ) (n : ℕ) → recordsPart n ≤ length t → n ≤ clientCount
     → written (written s floorsStart (part clientsPart (floorRow * n) t)) (floorsStart + floorRow * n) (replicate (recordsStart - (floorsStart + floorRow * n)) 0)
     ≡ written s floorsStart (padded (take floorRow) floorRow clientCount (fronts floorRow n (drop clientsPart t)))
 unfolding padded
 client-runs s t n h f =
-    zeros-behind s floorsStart (part clientsPart (floorRow * n) t) floorRow n clientCount (length-part clientsPart (floorRow * n) t h) f refl
+    let us : List ℕ = part clientsPart (floorRow * n) t in
+    let k : recordsStart - (floorsStart + floorRow * n) ≡ floorRow * (clientCount - n) = omega arith in
+    ap (λ (m : ℕ). written (written s floorsStart us) (floorsStart + floorRow * n) (replicate m 0)) k
+    ∙ run-behind s floorsStart us (replicate (floorRow * (clientCount - n)) 0) (length-part clientsPart (floorRow * n) t h) refl
     ∙ rw (length-fronts floorRow n (drop clientsPart t), fronts-take)
-
-pub record-padded : (s t : List ℕ) (from m : ℕ) → from + checkpointRecord * m ≤ length t → m ≤ recordCount
-    → written (written s recordsStart (bytesOf recordWhole (fronts checkpointRecord m (drop from t)))) (recordsStart + recordRow * m) (replicate (stateEnd - (recordsStart + recordRow * m)) 0)
-    ≡ written s recordsStart (padded recordWhole recordRow recordCount (fronts checkpointRecord m (drop from t)))
-unfolding padded
-record-padded s t from m h f =
-    let l : length (bytesOf recordWhole (fronts checkpointRecord m (drop from t))) ≡ recordRow * m =
-    rows-length recordWhole checkpointRecord recordRow record-whole-width m (drop from t) (rw length-drop (omega arith)) in
-    zeros-behind s recordsStart (bytesOf recordWhole (fronts checkpointRecord m (drop from t))) recordRow m recordCount l f refl
-    ∙ rw (length-fronts checkpointRecord m (drop from t))
 
 -- ---- the head and the whole
 
@@ -141,10 +127,10 @@ module _ (t : List ℕ) (i : Framed t) where
   clients = padded (take floorRow) floorRow clientCount (fronts floorRow n (drop clientsPart t))
 
   abbrev records : List ℕ
-  records = padded recordWhole recordRow recordCount (fronts checkpointRecord m (drop (recordsPart n) t))
+  records = bytesOf recordWhole (fronts checkpointRecord m (drop (recordsPart n) t))
 
-  parts : restored t ≡ headRestored n m t ++ (planBytes ++ (points ++ (clients ++ records)))
-  unfolding restored headRestored
+  parts : restoredBytes t ≡ headRestored n m t ++ (planBytes ++ (points ++ (clients ++ records)))
+  unfolding restoredBytes headRestored
   parts = regroup stateMagic (take 8 (drop 4 t)) (le32 n) (le32 m) (quad 0 0 0 0) (le64 headSize) (le64 headSize) (planBytes ++ (points ++ (clients ++ records)))
 
   plan-length : length planBytes ≡ planSize
@@ -160,7 +146,7 @@ module _ (t : List ℕ) (i : Framed t) where
   -- as the calls leave it, with the counts that were read
   pub restored-runs : (s : List ℕ) {c k : ℕ} {s1 s2 s3 s4 s5 : List ℕ} → c ≡ n → k ≡ m → s1 ≡ written s 0 (headRestored c k t) → s2 ≡ written s1 stateHead planBytes
       → s3 ≡ written s2 pointsStart points → s4 ≡ written s3 floorsStart (padded (take floorRow) floorRow clientCount (fronts floorRow c (drop clientsPart t)))
-      → s5 ≡ written s4 recordsStart (padded recordWhole recordRow recordCount (fronts checkpointRecord k (drop (recordsPart c) t))) → s5 ≡ written s 0 (restored t)
+      → s5 ≡ written s4 recordsStart (bytesOf recordWhole (fronts checkpointRecord k (drop (recordsPart c) t))) → s5 ≡ written s 0 (restoredBytes t)
   unfolding storedBy bytesBy
   restored-runs s p q a b d e f =
       rw (f, e, d, b, a, p, q)

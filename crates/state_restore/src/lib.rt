@@ -22,7 +22,7 @@ ghost use Rattle.model.specs.Limits.{headSize, pointCount, clientCount, recordC
 ghost use Rattle.model.specs.Tables.{bytesOf, written};
 ghost use Rattle.model.specs.States.{given, stateEnd, stateHead, pointsStart, pointRow, floorsStart, recordsStart, recordRow, padded};
 ghost use Rattle.model.specs.Checkpoints.{pointsPart, clientsPart, recordsPart, clientsOf, recordsOf, pointWhole, recordWhole, fronts};
-ghost use Rattle.model.specs.Checkpoints.{restored, checkpointFramed};
+ghost use Rattle.model.specs.Checkpoints.{restoredBytes, checkpointFramed};
 ghost use Rattle.state_restore.specs.Parts.{fixedPairs, tablePairs, headRestored};
 ghost use Rattle.state_restore.specs.Restored.{RestoredBy};
 
@@ -188,8 +188,8 @@ fn put_clients(s: &mut [u8], checkpoint: &[u8], n: usize)
     state_rows::clear(s, FLOORS_START + FLOOR_ROW * n, RECORDS_START);
 }
 
-// m completion records of the checkpoint, from a place.
-fn put_rows(s: &mut [u8], checkpoint: &[u8], from: usize, m: usize)
+// m completion records of the checkpoint, from a place. What lies behind the last of them is left as it is.
+fn put_records(s: &mut [u8], checkpoint: &[u8], from: usize, m: usize)
     requires { ⌜ (stateEnd ≤ length (now s)) × (from + checkpointRecord * m ≤ length (now checkpoint)) × (m ≤ recordCount) ⌝ }
     ensures { λ r. ⌜ now (s .exit) ≡ written (now (s .entry)) recordsStart (bytesOf recordWhole (fronts checkpointRecord m (drop from (now (checkpoint .entry))))) ⌝ }
 {
@@ -205,21 +205,12 @@ fn put_rows(s: &mut [u8], checkpoint: &[u8], from: usize, m: usize)
     }
 }
 
-// The completion records, and zeros in the rows past them.
-fn put_records(s: &mut [u8], checkpoint: &[u8], from: usize, m: usize)
-    requires { ⌜ (stateEnd ≤ length (now s)) × (from + checkpointRecord * m ≤ length (now checkpoint)) × (m ≤ recordCount) ⌝ }
-    ensures { λ r. ⌜ now (s .exit) ≡ written (now (s .entry)) recordsStart (padded recordWhole recordRow recordCount (fronts checkpointRecord m (drop from (now (checkpoint .entry))))) ⌝ }
-{
-    put_rows(s, checkpoint, from, m);
-    state_rows::clear(s, RECORDS_START + RECORD_ROW * m, constants::STATE_END);
-}
-
 // ---- the state
 
 // The bytes of the state that a checkpoint keeps.
 pub fn restore(work: &mut [u8], checkpoint: &[u8])
     requires { ⌜ (checkpointFramed (now checkpoint) ≡ true) × (stateEnd ≤ length (now work)) ⌝ }
-    ensures { λ r. ⌜ now (work .exit) ≡ written (now (work .entry)) 0 (restored (now (checkpoint .entry))) ⌝ }
+    ensures { λ r. ⌜ now (work .exit) ≡ written (now (work .entry)) 0 (restoredBytes (now (checkpoint .entry))) ⌝ }
 {
     let n = clients_of(checkpoint);
     let m = records_of(checkpoint);

@@ -12,9 +12,9 @@ use lib.Seq.{drop-drop}
 use Rattle.model.specs.declared.Floor.{Floor}
 use Rattle.model.specs.declared.Point.{Point}
 use Rattle.model.specs.declared.Completion.{Completion}
-use Rattle.model.specs.Limits.{pointCount, planRow, floorRow, clientCount, recordCount}
+use Rattle.model.specs.Limits.{pointCount, planRow, floorRow, clientCount}
 use Rattle.model.specs.Numbers.{le32, le64}
-use Rattle.model.specs.Tables.{rows, written}
+use Rattle.model.specs.Tables.{bytesOf, rows, written}
 use Rattle.model.specs.Plan.{entryAt, noEntry, planEntryOf}
 use Rattle.model.specs.Images.{floorOfBytes, floorBytes}
 use Rattle.model.specs.States.{load, clientsIn, recordsIn, pointAt, noPoint, pointOf, pointBytes, completionOf, completionBytes, padded, stateHead, pointsStart, floorsStart, recordsStart, pointRow, recordRow}
@@ -65,7 +65,7 @@ module _ (s : List ℕ) (w : Canonical s) where
   F = padded floorBytes floorRow clientCount (load s .floors)
 
   abbrev R : List ℕ
-  R = padded completionBytes recordRow recordCount (load s .records)
+  R = bytesOf completionBytes (load s .records)
 
   -- a store into the bytes of the state
   in-layout : (k : ℕ) (vs : List ℕ) → written s k vs ≡ written (written s 0 (layout (load s) m n F R)) k vs

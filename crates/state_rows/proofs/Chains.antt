@@ -22,7 +22,8 @@ use Rattle.model_laws.specs.Bytes.{Bytes, All}
 use Rattle.model_laws.specs.Fits.{StateFits, PointFits, CompletionFits, FloorFits}
 use Rattle.model_laws.specs.Layout.{withHeard, withSize, withPoint, withFloors, withRecords}
 use Rattle.model_laws.proofs.Written.{length-written, written-cover}
-use Rattle.model_laws.proofs.States.{state-length, load-back, sound-is, written-state, load-fits}
+use Rattle.model_laws.proofs.Stores.{stored-over, stored-own}
+use Rattle.model_laws.proofs.States.{load-back, sound-is, written-state, load-fits}
 use Rattle.state_rows.specs.Canonical.{Canonical}
 use Rattle.state_rows.proofs.Access.{floors-count, records-count}
 
@@ -40,9 +41,15 @@ unfolding stored
 length-stored s st = length-written s 0 (stateBytes st)
 
 module _ (s : List ℕ) where
-  pub stored-stored : (a b : State) → StateFits a → StateFits b → stored (stored s a) b ≡ stored s b
+  -- of two states the last stands: it has at least as many rows
+  pub stored-stored : (a b : State) → StateFits a → StateFits b → length (a .records) ≤ length (b .records) → stored (stored s a) b ≡ stored s b
   unfolding stored
-  stored-stored a b f g = written-cover s 0 (stateBytes a) (stateBytes b) (omega (arith, state-length a f, state-length b g))
+  stored-stored a b f g h = stored-over s a b f g h
+
+  -- or the first has the buffer's own rows
+  pub stored-fewer : Canonical s → (a b : State) → StateFits a → StateFits b → a .records ≡ load s .records → stored (stored s a) b ≡ stored s b
+  unfolding stored
+  stored-fewer w a b f g e = stored-own s (load s) a b (w .fits) f g (w .same) e
 
   module _ (long : stateEnd ≤ length s) (st : State) (f : StateFits st) where
     pub load-stored : load (stored s st) ≡ st

@@ -1,16 +1,14 @@
 -- Zero bytes, and words joined by OR.
 --     zero-word     4 bytes are zero where their number is
 --     run-start, run-next, run-end     a loop that joins the words of a run: what is joined and the rest of the run decide whether the run is zero
---     run-parts     a run of blocks, and the words past them; run-split: two runs, one behind the other
 -- Assumes nothing.
-use Prim.Native.Nat.{ℕ, zero, suc, _+_, _-_, _*_, _/_, _%_, _≤_, _<_}
+use Prim.Native.Nat.{ℕ, zero, suc, _+_, _-_, _*_, _≤_, _<_}
 use mathlib.Core.Path.{_≡_, refl, sym, _∙_}
 use mathlib.Core.Bool.{Bool, true, false, _&&_, and-assoc, and-true}
 use mathlib.Core.List.{List, [], _∷_}
 use native.Mathlib.Omega.{arith}
 use native.Mathlib.Nat.{zero-add, suc-add, mul-suc, mul-zero, add-zero, sub-zero}
 use lib.ListN.{drop}
-use lib.Seq.{drop-drop}
 use lib.Dec.{eqb}
 use lib.Bits.{bitAnd, bitOr, or-add-and, and-le-l, and-le-r}
 use borrow.Author.Tests.{eqb-true, eqb-false, eq-eqb}
@@ -90,15 +88,3 @@ module _ {w k : ℕ} {s : List ℕ} {n acc i : ℕ} (o : Run w k s n acc i) wher
   pub run-end : n ≤ i → eqb acc 0 ≡ zeros (w * n) (drop k s)
   unfolding everyRow
   run-end h = let e : n - i ≡ 0 = omega arith in sym (o .rest ∙ rw (e, and-true (eqb acc 0)))
-
-pub run-parts : (s : List ℕ) (k n front rest : ℕ) → n % 4 ≡ 0 → eqb front 0 ≡ zeros (256 * (n / 256)) (drop k s)
-    → eqb rest 0 ≡ zeros (4 * (n % 256 / 4)) (drop (k + 256 * (n / 256)) s) → eqb (bitOr front rest) 0 ≡ zeros n (drop k s)
-run-parts s k n front rest h p q =
-    let e : 256 * (n / 256) + 4 * (n % 256 / 4) ≡ n = omega arith in
-    or-zero front rest ∙ rw (p, q, ← drop-drop (256 * (n / 256)) k s, ← zeros-add (256 * (n / 256)) (4 * (n % 256 / 4)) (drop k s), e)
-
-pub run-split : (s : List ℕ) (k m n : ℕ) {u v : Bool} → m ≤ n → u ≡ zeros m (drop k s) → v ≡ zeros (n - m) (drop (k + m) s) → (u && v) ≡ zeros n (drop k s)
-run-split s k m n h p q = let e : m + (n - m) ≡ n = omega arith in rw (p, q, ← drop-drop m k s, ← zeros-add m (n - m) (drop k s), e)
-
-pub rest-words : (m n : ℕ) → m % 4 ≡ 0 → n % 4 ≡ 0 → m ≤ n → (n - m) % 4 ≡ 0
-rest-words m n p q h = omega arith

@@ -1,17 +1,17 @@
 -- Parts of the rule of soundness that have a function of their own.
 -- Assumes nothing.
-use Prim.Native.Nat.{ℕ, suc}
-use mathlib.Core.Bool.{Bool, _&&_, not}
+use Prim.Native.Nat.{ℕ, suc, _+_, _*_}
+use mathlib.Core.Bool.{Bool, _&&_, _||_, not}
 use mathlib.Core.List.{List}
 use lib.Dec.{eqb, leb}
 use Rattle.model.specs.declared.PlanEntry.{PlanEntry}
 use Rattle.model.specs.declared.Point.{Point}
 use Rattle.model.specs.Choice.{pick}
-use Rattle.model.specs.Numbers.{le32At, zeros3At, startsWith}
+use Rattle.model.specs.Numbers.{le32At, le64At, signedAt, zeros3At, startsWith}
 use Rattle.model.specs.Tables.{rows, everyRow}
 use Rattle.model.specs.Plan.{planEntryOf, planRowOk, inRange}
 use Rattle.model.specs.States.{clientsIn, recordsIn, stateMagic, absent, held, releasedStatus, pointRow, pointOf, endsInOrder, notGiven, absentOk, pointOk, pointsOk, pointRowOk}
-use Rattle.model.specs.Limits.{clientCount, recordCount, headSize, lastQuality, lastServer, planRow, pointCount}
+use Rattle.model.specs.Limits.{clientCount, recordCount, headSize, valid, invalid, lastQuality, lastServer, planRow, pointCount}
 
 -- the magic, the zero bytes and the counts of the head
 unfoldable pub headFramed : List ℕ → Bool
@@ -43,6 +43,20 @@ statusAndEnds server size e x =
 -- the fields that are tested alone
 unfoldable pub fieldsIn : PlanEntry → Point → Bool
 fieldsIn e x = leb (x .status) releasedStatus && (leb (x .quality) lastQuality && (leb (x .destination) lastServer && inRange e (x .value)))
+
+-- the first four bytes of a held point, by its quality
+abbrev pub heldValid : ℕ
+heldValid = held + 256 * valid
+
+abbrev pub heldInvalid : ℕ
+heldInvalid = held + 256 * invalid
+
+-- a point at its home that was never given, by the words of its row
+unfoldable pub atRest : ℕ → PlanEntry → List ℕ → Bool
+atRest server e q =
+    eqb (e .home) server
+    && (inRange e (signedAt q 4)
+    && ((eqb (le32At q 0) heldValid || eqb (le32At q 0) heldInvalid) && (eqb (le64At q 8) 0 && (eqb (le64At q 16) 0 && eqb (le64At q 24) 0))))
 
 -- ---- the rows of plan and points
 

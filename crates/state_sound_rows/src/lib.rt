@@ -1,4 +1,4 @@
-// Tests of the parts of a server's state buffer, each at its place: runs of zeros, the plan with the points, the clients.
+// Tests of the parts of a server's state buffer, each at its place: the head, the plan with the points, the clients.
 use model::PlanEntry;
 use model::Point;
 use model::constants;
@@ -8,11 +8,8 @@ use model::constants::FLOORS_START;
 use model::constants::PLAN_ROW;
 use model::constants::POINT_COUNT;
 use model::constants::POINT_ROW;
-use model::constants::RECORD_COUNT;
-use model::constants::RECORD_ROW;
-use model::constants::RECORDS_START;
 ghost use mathlib.Core.Path.{_≡_};
-ghost use Prim.Native.Nat.{suc, _+_, _*_, _%_, _≤_};
+ghost use Prim.Native.Nat.{suc, _+_, _*_, _≤_};
 ghost use lib.ListN.{length, drop};
 ghost use lib.Dec.{eqb};
 ghost use Rattle.model.specs.Choice.{pick};
@@ -20,9 +17,9 @@ ghost use Rattle.model.specs.Tables.{rows, every, zeros};
 ghost use Rattle.model.specs.Images.{floorOfBytes, floorOk, clientsAscend};
 ghost use Rattle.model.specs.States.{held, pointRow, endsInOrder, notGiven, absentOk, pointOk, keepsRecords, pointRowOk, stateFramed, stateEnd, stateHead};
 ghost use Rattle.model.specs.Limits.{floorRow, planRow, pointCount, planSize};
-ghost use Rattle.state_sound_rows.specs.Parts.{headFramed, isEnd, heldMove, givenMove, origin, statusAndEnds, fieldsIn, rowOk, rowsOk};
+ghost use Rattle.state_sound_rows.specs.Parts.{headFramed, isEnd, heldMove, givenMove, origin, statusAndEnds, fieldsIn, atRest, rowOk, rowsOk};
 
-// ---- runs of zeros
+// ---- zeros
 
 // The words of 4 bytes, n of them from at, joined by OR: 0 where all their bytes are.
 fn or_words(s: &[u8], at: usize, n: usize) -> u32
@@ -36,46 +33,6 @@ fn or_words(s: &[u8], at: usize, n: usize) -> u32
         i += 1;
     }
     acc
-}
-
-// The same of n blocks of 64 words, 256 bytes. A block is compiled to loads without a loop; a loop over single words takes up to half
-// as long again, by the place of its code in memory.
-fn or_blocks(s: &[u8], at: usize, n: usize) -> u32
-    requires { ⌜ at + 256 * n ≤ length (now s) ⌝ }
-    ensures { λ r. ⌜ eqb r 0 ≡ zeros (256 * n) (drop at (now (s .entry))) ⌝ }
-{
-    let mut acc = 0;
-    let mut i = 0;
-    while i < n {
-        acc |= or_words(s, at + 256 * i, 64);
-        i += 1;
-    }
-    acc
-}
-
-// n bytes from at are 0, whole words, by blocks from at.
-fn zero_blocks(s: &[u8], at: usize, n: usize) -> bool
-    requires { ⌜ (at + n ≤ length (now s)) × (n % 4 ≡ 0) ⌝ }
-    ensures { λ r. ⌜ r ≡ zeros n (drop at (now (s .entry))) ⌝ }
-{
-    let blocks = n / 256;
-    let front = or_blocks(s, at, blocks);
-    let rest = or_words(s, at + 256 * blocks, n % 256 / 4);
-    (front | rest) == 0
-}
-
-// The same, with the blocks from a multiple of 16 on: where the buffer begins at one, no load of 16 bytes lies across two cache lines.
-fn zero_run(s: &[u8], at: usize, n: usize) -> bool
-    requires { ⌜ (at + n ≤ length (now s)) × (at % 4 ≡ 0) × (n % 4 ≡ 0) ⌝ }
-    ensures { λ r. ⌜ r ≡ zeros n (drop at (now (s .entry))) ⌝ }
-{
-    let before = (16 - at % 16) % 16;
-    if n < before {
-        return zero_blocks(s, at, n);
-    }
-    let front = zero_blocks(s, at, before);
-    let rest = zero_blocks(s, at + before, n - before);
-    front & rest
 }
 
 // ---- the head
@@ -97,7 +54,7 @@ fn head_framed(s: &[u8]) -> bool
                     & (records <= constants::RECORD_COUNT_U32))))
 }
 
-// The head, and the rows past both counts.
+// The head, and the clients' rows past their count.
 pub fn framed(s: &[u8]) -> bool
     requires { ⌜ stateEnd ≤ length (now s) ⌝ }
     ensures { λ r. ⌜ r ≡ stateFramed (now (s .entry)) ⌝ }
@@ -106,18 +63,12 @@ pub fn framed(s: &[u8]) -> bool
         return false;
     }
     let n = state_rows::clients_in(s) as usize;
-    let m = state_rows::records_in(s) as usize;
-    let clients = zero_run(
+    or_words(
         s,
         FLOORS_START + FLOOR_ROW * n,
-        FLOOR_ROW * (CLIENT_COUNT - n),
-    );
-    let records = zero_run(
-        s,
-        RECORDS_START + RECORD_ROW * m,
-        RECORD_ROW * (RECORD_COUNT - m),
-    );
-    clients & records
+        FLOOR_ROW / 4 * (CLIENT_COUNT - n),
+    )
+        == 0
 }
 
 // ---- the plan and the points
@@ -241,6 +192,31 @@ fn point_row_ok(s: &[u8], k: usize) -> bool
     format_numbers::zero_at(s, k + constants::POINT_ZERO)
 }
 
+// The first four bytes of a held point, by its quality.
+const HELD_VALID: u32 = constants::HELD as u32 + 256 * constants::VALID as u32;
+
+const HELD_INVALID: u32 = constants::HELD as u32 + 256 * constants::INVALID as u32;
+
+// The point from k is at its home and was never given: held, without a move or an end, its value in range. Told by words of 64 bits,
+// which is quick, and most points are so.
+fn at_rest(s: &[u8], k: usize, server: u8, e: PlanEntry) -> bool
+    requires { ⌜ k + pointRow ≤ length (now s) ⌝ }
+    ensures { λ r. ⌜ r ≡ atRest server e (drop k (now (s .entry))) ⌝ }
+{
+    let head = format_numbers::read_u32(s, k);
+    let value = format_numbers::in_range(
+        e,
+        format_numbers::read_signed(s, k + constants::POINT_VALUE),
+    );
+    let moves = format_numbers::read_u64(s, k + constants::POINT_MOVE);
+    let give = format_numbers::read_u64(s, k + constants::POINT_GIVE_END);
+    let take = format_numbers::read_u64(s, k + constants::POINT_TAKE_END);
+    (e.home == server)
+        & (value
+            & (((head == HELD_VALID) | (head == HELD_INVALID))
+                & ((moves == 0) & ((give == 0) & (take == 0)))))
+}
+
 // The plan's entry from j, and the point from k against it.
 fn row_ok(s: &[u8], j: usize, k: usize, server: u8, size: u64) -> bool
     requires { ⌜ (j + planRow ≤ length (now s)) × (k + pointRow ≤ length (now s)) ⌝ }
@@ -249,10 +225,13 @@ fn row_ok(s: &[u8], j: usize, k: usize, server: u8, size: u64) -> bool
     if !format_commands::plan_row_ok(s, j) {
         return false;
     }
+    let e = format_commands::plan_entry(s, j);
+    if at_rest(s, k, server, e) {
+        return true;
+    }
     if !point_row_ok(s, k) {
         return false;
     }
-    let e = format_commands::plan_entry(s, j);
     let x = state_rows::point_from(s, k);
     point_ok(server, size, e, x)
 }

@@ -2,7 +2,7 @@
 -- Assumes nothing.
 use native.Mathlib.Omega.{arith}
 use Rattle.model.specs.Numbers.{flip}
-use Rattle.client_c.proofs.Cases.{both-under}
+use Rattle.model_laws.proofs.Tests.{both-fit}
 use Rattle.chamber_c.proofs.Past.{issue-past}
 use borrow.Author.Needs.{needs}
 use Rattle.chamber_c.proofs.mantelorris_chamber_issue.Statement.{statement}
@@ -15,10 +15,10 @@ returns c =
     rw (← past, ← c .before .not-sent .ensures) (c .send-reply .ensures)
 
 cast-issue : tie.Need-cast-issue
-cast-issue c = let f = both-under (c .before .args .op) (c .before .args .point) (c .if1 .left) in omega arith
+cast-issue c = let f = both-fit 255 (c .before .args .op) (c .before .args .point) (c .if1 .left) in omega arith
 
 cast-issue-2 : tie.Need-cast-issue-2
-cast-issue-2 c = let f = both-under (c .before .args .op) (c .before .args .point) (c .if1 .left) in omega arith
+cast-issue-2 c = let f = both-fit 255 (c .before .args .op) (c .before .args .point) (c .if1 .left) in omega arith
 
 returns-2 : tie.Need-returns-2
 returns-2 c = cc

@@ -2,7 +2,8 @@
 -- Assumes nothing.
 use native.Mathlib.Omega.{arith}
 use Rattle.model.specs.Numbers.{flip}
-use Rattle.client_c.proofs.Cases.{both-under, sends-past, sends-change}
+use Rattle.model_laws.proofs.Tests.{both-fit}
+use Rattle.client_c.proofs.Cases.{sends-past, sends-change}
 use borrow.Author.Needs.{needs}
 use Rattle.client_c.proofs.issue_value.Statement.{statement}
 use Rattle.client_c.proofs.issue_value.Tie as tie
@@ -14,10 +15,10 @@ returns c =
     sends-past (given .d) (given .op) (given .point) (flip (given .argument)) (start .pre) (c .before .if1 .taken) (c .send-reply .ensures)
 
 cast-issue-change : tie.Need-cast-issue-change
-cast-issue-change c = let f = both-under (c .before .args .op) (c .before .args .point) (c .if1 .left) in omega arith
+cast-issue-change c = let f = both-fit 255 (c .before .args .op) (c .before .args .point) (c .if1 .left) in omega arith
 
 cast-issue-change-2 : tie.Need-cast-issue-change-2
-cast-issue-change-2 c = let f = both-under (c .before .args .op) (c .before .args .point) (c .if1 .left) in omega arith
+cast-issue-change-2 c = let f = both-fit 255 (c .before .args .op) (c .before .args .point) (c .if1 .left) in omega arith
 
 returns-2 : tie.Need-returns-2
 returns-2 c =

@@ -1,6 +1,6 @@
 -- `format_commands::part_rule` meets its contract.
 -- Assumes nothing.
-use Rattle.format_commands.proofs.Bounds.{part-scaled, nearest-most}
+use Rattle.model_laws.proofs.Bounds.{part-scaled, nearest-most}
 use native.Mathlib.Omega.{arith}
 use Rattle.model.specs.Rules.{partRule}
 use borrow.Author.Needs.{needs}

@@ -1,7 +1,7 @@
 -- `format_commands::sum` meets its contract.
 -- Assumes nothing.
 use native.Mathlib.Omega.{arith}
-use Rattle.format_commands.proofs.Bounds.{sum-bounds}
+use Rattle.model_laws.proofs.Bounds.{sum-bounds}
 use borrow.Author.Needs.{needs}
 use Rattle.format_commands.proofs.sum.Statement.{statement}
 use Rattle.format_commands.proofs.sum.Tie as tie

@@ -27,14 +27,13 @@ put-points-requires c κs = (search needs, omega (arith, plan-size _ (start-of (
 
 returns : tie.Need-returns
 returns c =
-    let at-clear2 = c .before .before in
-    let at-clear = at-clear2 .before .before .before .before in
+    let at-clear = c .before .before in
     let at-put-points = at-clear .before .before .before .before in
     let at-put-plan = at-put-points .before .before .before .before in
     let at-put-head = head-at at-put-plan in
     let at-shared-slice-known = known-at at-put-head in
     let start = start-of at-shared-slice-known in
-    rw (at-clear2 .clear2 .ensures, at-clear .clear .ensures, at-put-points .put-points .ensures, at-put-plan .put-plan .ensures, at-put-head .put-head .ensures)
+    rw (at-clear .clear .ensures, at-put-points .put-points .ensures, at-put-plan .put-plan .ensures, at-put-head .put-head .ensures)
     (founded-runs (start .args .s .now) (start .args .plan .now) (start .args .n) (λ i. at-shared-slice-known .shared-slice-known .given i .fits) (start .pre .1))
 
 pub found-state-spec : {M : Type 1} → statement M
@@ -44,7 +43,6 @@ found-state-spec =
     (λ c κs. search needs)
     put-plan-requires
     put-points-requires
-    (λ c κs. search needs)
     (λ c κs. search needs)
     (λ c. search needs)
     returns)

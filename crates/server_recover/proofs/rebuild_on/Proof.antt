@@ -1,6 +1,5 @@
 -- `server_recover::rebuild_on` meets its contract.
 -- Assumes nothing.
-use native.Mathlib.Omega.{arith}
 use borrow.Author.Tests.{not-true, not-false}
 use Rattle.model.specs.States.{load}
 use Rattle.format_log_ends.proofs.Walked.{log-end-refused, log-end-head, log-end-found}
@@ -45,7 +44,7 @@ returns-3 c =
     let at-log-end = at-if1 .before .before in
     let start = at-log-end .before .before .before in
     rebuilt-done (start .args .work .now) (log-end-head _ (at-log-end .log-end .ensures) (at-if1 .if1 .left)) (at-replay-log .replay-log .ensures) (not-false _ (at-if2 .if2 .left))
-    (omega (arith, start .pre .0)) (at-size-of .size-of .ensures) (at-set-mark .set-mark .ensures)
+    (at-size-of .size-of .ensures) (at-set-mark .set-mark .ensures)
 
 pub rebuild-on-spec : {M : Type 1} → statement M
 rebuild-on-spec =

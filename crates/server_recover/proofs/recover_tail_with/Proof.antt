@@ -11,6 +11,9 @@ returns c =
     let start = at-if1 .before .before .before .before .before .args in
     tail-short (start .state .now) (start .checkpoint .now) (start .tail .now) (at-if1 .if1 .taken) (c .answered .ensures)
 
+settle-requires : tie.Need-settle-requires
+settle-requires c κs = (search needs, search needs, c .before .before .before .before .rebuild-tail .ensures .bytes)
+
 returns-2 : tie.Need-returns-2
 returns-2 c =
     let at-settle = c .before .before in
@@ -26,7 +29,7 @@ recover-tail-with-spec =
     (λ c κs. search needs)
     returns
     (λ c κs. search needs)
-    (λ c κs. search needs)
+    settle-requires
     (λ c. search needs)
     (λ c. search needs)
     returns-2)

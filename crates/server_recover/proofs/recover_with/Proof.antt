@@ -33,14 +33,17 @@ rebuild-requires c κs =
 
 settle-requires : tie.Need-settle-requires
 settle-requires c κs =
-    let at-if1 = tested-at (c .before .before .before .before) in
+    let at-rebuild = c .before .before .before .before in
+    let at-if1 = tested-at at-rebuild in
     let at-recover-refusal = at-if1 .before in
     let start = start-of at-if1 in
-    let a = start .args in
-    omega (
-      arith,
-      start .pre,
-      long-passed (a .state .now) (a .log .now) (a .plan .now) (at-recover-refusal .before .plan-ok .ensures) (at-recover-refusal .recover-refusal .ensures) (at-if1 .if1 .left),
+    let a = start .args in (
+      search needs,
+      omega (
+        arith,
+        long-passed (a .state .now) (a .log .now) (a .plan .now) (at-recover-refusal .before .plan-ok .ensures) (at-recover-refusal .recover-refusal .ensures) (at-if1 .if1 .left),
+      ),
+      at-rebuild .rebuild .ensures .bytes,
     )
 
 returns-2 : tie.Need-returns-2

@@ -1,6 +1,7 @@
 -- `simulator_client::issue_by` meets its contract.
 -- Assumes nothing.
-use Rattle.client_c.proofs.Cases.{past-byte, both-under}
+use Rattle.model_laws.proofs.Clients.{past-byte}
+use Rattle.model_laws.proofs.Tests.{both-fit}
 use native.Mathlib.Omega.{arith}
 use borrow.Author.Needs.{needs}
 use Rattle.simulator_client.proofs.issue_by.Statement.{statement}
@@ -10,10 +11,10 @@ returns : tie.Need-returns
 returns c = past-byte _ _ _ _ (c .if1 .taken)
 
 cast-issue : tie.Need-cast-issue
-cast-issue c = let f = both-under (c .before .args .op) (c .before .args .point) (c .if1 .left) in omega (arith, f .0, f .1)
+cast-issue c = let f = both-fit 255 (c .before .args .op) (c .before .args .point) (c .if1 .left) in omega (arith, f .0, f .1)
 
 cast-issue-2 : tie.Need-cast-issue-2
-cast-issue-2 c = let f = both-under (c .before .args .op) (c .before .args .point) (c .if1 .left) in omega (arith, f .0, f .1)
+cast-issue-2 c = let f = both-fit 255 (c .before .args .op) (c .before .args .point) (c .if1 .left) in omega (arith, f .0, f .1)
 
 pub issue-by-spec : {M : Type 1} → statement M
 issue-by-spec =

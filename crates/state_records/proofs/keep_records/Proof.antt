@@ -11,12 +11,11 @@ use Rattle.state_records.proofs.keep_records.Tie as tie
 returns : tie.Need-returns
 returns c =
     let count = c .before .before in
-    let zeros = count .before .before .before .before in
-    let done = zeros .before .before .before .before in
+    let done = count .before .before .before .before in
     let known = done .before .before in
     let start = known .before .before .before in
     count .put-records .ensures
-    ∙ rw (zeros .clear .ensures, done .compact .ensures .0)
+    ∙ rw (done .compact .ensures .0)
     (records-kept (start .args .s .now) (start .pre) (keptBy (start .args .rule) (load (start .args .s .now))) (known .records-of .ensures) (done .compact .ensures .1) (done .compact .ensures .2))
 
 pub keep-records-spec : {M : Type 1} → statement M
@@ -24,11 +23,6 @@ keep-records-spec =
     tie.close
     (tie.spec
     (λ c κs. search needs)
-    (λ c κs. search needs)
-    (λ c. search needs)
-    (λ c. search needs)
-    (λ c. search needs)
-    (λ c. search needs)
     (λ c κs. search needs)
     (λ c. search needs)
     (λ c κs. search needs)

@@ -20,11 +20,13 @@ restore-requires c κs =
 
 returns-2 : tie.Need-returns-2
 returns-2 c =
-    let at-restore = c .before .before .before .before in
+    let at-slice-known = c .before .before in
+    let at-restore = at-slice-known .before .before in
     let at-if1 = at-restore .before .before in
     let at-framed = at-if1 .before in
     let start = at-framed .before .before .before in
-    restored-as _ (at-framed .framed .ensures) (start .args .work .now) (at-if1 .if1 .left) (start .pre) (at-restore .restore .ensures) (c .state-ok .ensures)
+    restored-as _ (at-framed .framed .ensures) (at-if1 .if1 .left) (λ i. at-framed .before .shared-slice-known .given i .fits) (start .args .work .now) (start .pre) (at-restore .restore .ensures)
+    (λ i. at-slice-known .slice-known2 .given i .fits) (c .state-ok .ensures)
 
 pub restore-sound-spec : {M : Type 1} → statement M
 restore-sound-spec =

@@ -2,10 +2,12 @@
 -- Assumes nothing.
 use native.Mathlib.Omega.{arith}
 use Rattle.model.specs.States.{load}
-use Rattle.state_records.specs.declared.Rule.the-variants.{OnOther, OverFloors}
+use mathlib.Core.Path.{refl}
+use Rattle.model_laws.specs.Layout.{withFloors}
+use Rattle.state_records.specs.declared.Rule.the-variants.{Beside}
 use Rattle.server_apply.specs.Stage.{Stage}
 use Rattle.server_apply.proofs.Stages.{stage-canonical}
-use Rattle.server_apply.proofs.Taken.{Widths, mergedBy, keptIn, keptOf, kept-stage, taken-merge, taken-merged, taken-add, taken-done}
+use Rattle.server_apply.proofs.Taken.{Widths, mergedBy, keptOf, kept-stage, taken-merge, taken-merged, taken-add, taken-done}
 use borrow.Author.Needs.{needs}
 use Rattle.server_apply.proofs.took.take_tables.Statement.{statement}
 use Rattle.server_apply.proofs.took.take_tables.Tie as tie
@@ -15,10 +17,7 @@ fits c = record { point = omega arith; quality = omega arith; value = omega arit
 
 -- ---- the places on the way
 
-abbrev kept-at : tie.After-keep-records2 → tie.After-keep-records
-kept-at c = c .before .before .before .before
-
-abbrev merged-at : tie.After-keep-records → tie.After-merge
+abbrev merged-at : tie.After-drop-records → tie.After-merge
 merged-at c = c .before .before .before .before
 
 abbrev known-at : tie.After-merge → tie.After-shared-slice-known
@@ -42,27 +41,18 @@ first c =
     let start = start-of c in
     taken-merged (start .pre .0) (start .args .image .now) (λ i. known .shared-slice-known .given i .fits) (start .args .h) (start .args .end) (start .pre .2) (c .merge .ensures)
 
-second : (c : tie.After-keep-records) → Stage (start-of (merged-at c) .args .s .now) (c .keep-records .last .0)
-    (keptIn (OnOther (start-of (merged-at c) .args .h .point))
-    (mergedBy (start-of (merged-at c) .args .h) (start-of (merged-at c) .args .image .now) (load (start-of (merged-at c) .args .s .now))))
-second c =
-    let merged = merged-at c in
-    kept-stage (first merged) (OnOther (start-of merged .args .h .point)) (c .keep-records .ensures)
+third : (c : tie.After-drop-records) → Stage (start-of (merged-at c) .args .s .now) (c .drop-records .last .0)
+    (keptOf (start-of (merged-at c) .args .h) (start-of (merged-at c) .args .image .now) (load (start-of (merged-at c) .args .s .now)))
+unfolding withFloors
+third c = kept-stage (first (merged-at c)) (start-of (merged-at c) .pre .0) refl (Beside (start-of (merged-at c) .args .h .point)) (c .drop-records .ensures)
 
-third : (c : tie.After-keep-records2) → Stage (start-of (merged-at (kept-at c)) .args .s .now) (c .keep-records2 .last .0)
-    (keptOf (start-of (merged-at (kept-at c)) .args .h) (start-of (merged-at (kept-at c)) .args .image .now) (load (start-of (merged-at (kept-at c)) .args .s .now)))
-third c = kept-stage (second (kept-at c)) OverFloors (c .keep-records2 .ensures)
-
-keep-records-requires : tie.Need-keep-records-requires
-keep-records-requires c κs = stage-canonical (first (c .before .before .before))
-
-keep-records-requires-2 : tie.Need-keep-records-requires-2
-keep-records-requires-2 c κs = stage-canonical (second (c .before .before .before))
+drop-records-requires : tie.Need-drop-records-requires
+drop-records-requires c κs = stage-canonical (first (c .before .before .before))
 
 append-image-requires : tie.Need-append-image-requires
 append-image-requires c κs =
     let kept = c .before .before .before in
-    let merged = merged-at (kept-at kept) in
+    let merged = merged-at kept in
     let known = known-at merged in
     let start = start-of merged in
     taken-add (start .pre .0) (start .args .image .now) (λ i. known .shared-slice-known .given i .fits) (start .args .h) (start .args .end) (start .pre .2) (start .pre .3) (third kept) (start .pre .1)
@@ -71,7 +61,7 @@ returns : tie.Need-returns
 returns c =
     let added = c .before .before in
     let kept = added .before .before .before .before in
-    let merged = merged-at (kept-at kept) in
+    let merged = merged-at kept in
     let known = known-at merged in
     let start = start-of merged in
     taken-done (start .pre .0) (start .args .image .now) (λ i. known .shared-slice-known .given i .fits) (start .args .h) (start .args .end) (start .pre .2) (start .pre .3) (third kept) (fits start)
@@ -83,8 +73,7 @@ take-tables-spec =
     (tie.spec
     (λ c. search needs)
     merge-requires
-    keep-records-requires
-    keep-records-requires-2
+    drop-records-requires
     append-image-requires
     (λ c. search needs)
     returns)
