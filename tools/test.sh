@@ -44,7 +44,7 @@ count() { if [ "$1" = 0 ]; then passed=$((passed + 1)); else failed=$((failed + 
 part kit tools/kit.sh; count $?
 command -v rt >/dev/null || { echo "0 passed, 1 failed"; exit 1; }
 part format rt fmt --check; count $?
-part yard-cases tools/yard_cases.py --check; count $?
+part simulator-cases tools/simulator_cases.py --check; count $?
 part pictures tools/picture.py --check; count $?
 part guide-pictures tools/guide_pictures.py --check; count $?
 part progress tests/progress.sh; count $?
