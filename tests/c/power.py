@@ -123,6 +123,13 @@ class Card:
     def syncs(self):
         return sum(len(line) == 2 and line[1] != '0' for line in self.lines())
 
+    def settle(self):
+        """all is certain, by what else goes on in the machine"""
+        if os.path.exists(self.old):
+            os.unlink(self.old)
+        about = os.stat(self.path)
+        open(self.notes, 'a').write('%d %d cut\n' % (about.st_ino, about.st_size))
+
     def cut(self, rng):
         """a power cut; one in four is the end of the process alone, and all is still in the cache"""
         if rng.randrange(4) == 0:
@@ -149,6 +156,9 @@ class Sectors(Card):
             card.write(random.Random(SEED).randbytes(40 * SECTOR))
             card.truncate(16 << 20)
         os.rename(self.notes + '.begin', self.path)
+
+    def settle(self):
+        open(self.before, 'wb').close()
 
     def after(self, rng, versions):
         """what a sector has after the cut, of what was written to it one after the other"""
@@ -182,12 +192,15 @@ def hooked(words, card, hook, seed, chance, aim):
 
 
 def founded(host, card, hook, seed, rng, places, chance):
-    """the founding, cut off too, or a call of it fails, until it ends by itself: it is done, or it was and is refused"""
+    """the founding, cut off too, or a call of it fails, until it ends by itself: it is done, or it was and is refused. Then nobody has said that it is certain: were it
+    taken back, nothing would be lost, and it would be done again. That is not tried here: it is made certain"""
     for i in range(100):
         before = card.places()
         founder = hooked(host.found(card.path), card, hook, seed + 500000 + i, 20 if chance else 0, card.aim(rng, places))
         founder.communicate()
         if founder.returncode != -signal.SIGKILL and not card.failed_since(before):
+            if founder.returncode:
+                card.settle()
             return
         card.cut(rng)
 
