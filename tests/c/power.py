@@ -123,6 +123,13 @@ class Card:
     def syncs(self):
         return sum(len(line) == 2 and line[1] != '0' for line in self.lines())
 
+    def settle(self):
+        """all is certain, by what else goes on in the machine"""
+        if os.path.exists(self.old):
+            os.unlink(self.old)
+        about = os.stat(self.path)
+        open(self.notes, 'a').write('%d %d cut\n' % (about.st_ino, about.st_size))
+
     def cut(self, rng):
         """a power cut; one in four is the end of the process alone, and all is still in the cache"""
         if rng.randrange(4) == 0:
@@ -145,8 +152,13 @@ class Sectors(Card):
         self.before, self.seen = self.notes + '.sectors', dict.fromkeys(('lost', 'kept', 'torn', 'garbled'), 0)
         self.env = {'POWER_SECTORS': self.before}
         open(self.before, 'wb').close()
-        open(self.path, 'wb').write(random.Random(SEED).randbytes(40 * SECTOR))
-        os.truncate(self.path, 16 << 20)
+        with open(self.notes + '.begin', 'wb') as card:
+            card.write(random.Random(SEED).randbytes(40 * SECTOR))
+            card.truncate(16 << 20)
+        os.rename(self.notes + '.begin', self.path)
+
+    def settle(self):
+        open(self.before, 'wb').close()
 
     def after(self, rng, versions):
         """what a sector has after the cut, of what was written to it one after the other"""
@@ -180,12 +192,15 @@ def hooked(words, card, hook, seed, chance, aim):
 
 
 def founded(host, card, hook, seed, rng, places, chance):
-    """the founding, cut off too, or a call of it fails, until it ends by itself: it is done, or it was and is refused"""
+    """the founding, cut off too, or a call of it fails, until it ends by itself: it is done, or it was and is refused. Then nobody has said that it is certain: were it
+    taken back, nothing would be lost, and it would be done again. That is not tried here: it is made certain"""
     for i in range(100):
         before = card.places()
         founder = hooked(host.found(card.path), card, hook, seed + 500000 + i, 20 if chance else 0, card.aim(rng, places))
         founder.communicate()
         if founder.returncode != -signal.SIGKILL and not card.failed_since(before):
+            if founder.returncode:
+                card.settle()
             return
         card.cut(rng)
 
@@ -209,17 +224,17 @@ def left_alone(server, desk, until):
 
 def read_gate(port, seconds=20):
     """the gate's value, asked for over the line by a client of a high number; None: no answer"""
-    line = socket.socket(socket.AF_INET, socket.SOCK_DGRAM)
-    line.settimeout(0.1)
     until = time.time() + seconds
-    while time.time() < until:
-        line.sendto(struct.pack('<BBBBIIIIi', 1, 0, GATE, 0, 0xFFFFFFF0, 1, 1, 0xFFFFFFFF, 0), ('127.0.0.1', port))
-        try:
-            packet = line.recv(64)
-        except OSError:
-            continue
-        if len(packet) == 16 and packet[0] == 2:
-            return struct.unpack_from('<i', packet, 12)[0]
+    with socket.socket(socket.AF_INET, socket.SOCK_DGRAM) as line:
+        line.settimeout(0.1)
+        while time.time() < until:
+            line.sendto(struct.pack('<BBBBIIIIi', 1, 0, GATE, 0, 0xFFFFFFF0, 1, 1, 0xFFFFFFFF, 0), ('127.0.0.1', port))
+            try:
+                packet = line.recv(64)
+            except OSError:
+                continue
+            if len(packet) == 16 and packet[0] == 2:
+                return struct.unpack_from('<i', packet, 12)[0]
     return None
 
 
@@ -463,21 +478,29 @@ def foundings(host, starter, raw, log, card):
     count('a log over the limit becomes a checkpoint at the start', 'checkpoint' in done.stdout and open(empty, 'rb').read()[:4] == b'WLG2')
 
 
+def beside(name, host, kind, port, programs):
+    """a host serves, and has stored a checkpoint after a command: what each of these says then, with the card's path for {card}"""
+    card = kind(name + '_in_use')
+    subprocess.run([host, '--found', card.path], stdout=subprocess.DEVNULL, check=True)
+    server = subprocess.Popen([host, card.path, str(port), '8'])
+    read_gate(port)
+    until = time.time() + 20
+    while time.time() < until and 'checkpoint' not in subprocess.run([host, card.path], capture_output=True, text=True).stdout:
+        time.sleep(0.01)
+    said = [subprocess.run([w.replace('{card}', card.path) for w in words], capture_output=True, text=True) for words in programs]
+    server.kill()
+    server.wait()
+    return [(done.returncode, done.stdout + done.stderr) for done in said]
+
+
 def in_use(hosts, port):
-    """a host serves, and stores a checkpoint every few commands; a second program gets its card neither to start from it nor to found on it"""
-    for name, (host, second, unlocked, kind) in hosts.items():
-        card, wrong = kind(name + '_in_use'), ''
-        subprocess.run([host, '--found', card.path], stdout=subprocess.DEVNULL, check=True)
-        server = subprocess.Popen([host, card.path, str(port), '8'])
-        read_gate(port)
-        for words in ([second, card.path, '0'], [host, '--found', card.path]):
-            done = subprocess.run(words, capture_output=True, text=True)
-            if done.returncode != 1 or 'another program has' not in done.stderr:
-                wrong += done.stdout + done.stderr
-        told('%s: a card in use is not given to a second program' % name, wrong)
-        count('%s: a host that does not lock it is found' % name, subprocess.run([unlocked, card.path, '0'], capture_output=True).returncode == 0)
-        server.kill()
-        server.wait()
+    """a second program gets a card neither to start from it nor to found on it"""
+    for name, (host, second, unlocked, dropped, kind) in hosts.items():
+        *both, (found, _) = beside(name, host, kind, port, [[second, '{card}', '0'], [host, '--found', '{card}'], [unlocked, '{card}', '0']])
+        told('%s: a card in use is not given to a second program' % name, ''.join(text for status, text in both if status != 1 or 'another program has' not in text))
+        count('%s: a host that does not lock it is found' % name, found == 0)
+        if dropped:
+            count('%s: so is one that drops its lock with a checkpoint' % name, beside(name + '_dropped', dropped, kind, port, [[second, '{card}', '0']])[0][0] == 0)
 
 
 def driven(driver, log, card):
@@ -656,8 +679,8 @@ def example(tools, port):
         swapped(STARTS, log, card)
         foundings(host, starter, raw, log, card)
         driven(changed('driver', *DRIVES), log, card)
-    in_use({'file': (host, starter, changed('unlocked', *UNLOCKED), Card),
-            'raw': (raw, changed('raw_starter', *STARTS, sources=RAW), changed('raw_unlocked', *UNLOCKED, sources=RAW), Sectors)}, port + 12)
+    in_use({'file': (host, starter, changed('unlocked', *UNLOCKED), changed('dropped', [OPENED], [OPENED.replace(' || flock(next, LOCK_EX | LOCK_NB)', '')]), Card),
+            'raw': (raw, changed('raw_starter', *STARTS, sources=RAW), changed('raw_unlocked', *UNLOCKED, sources=RAW), None, Sectors)}, port + 12)
     written_into(tools, port + 14)
     all_planted(tools, port + 16)
     own_hosts({'a card in a file': (host, [], 0), 'raw sectors': (raw, ['--sectors'], 0), 'one with a fault': (os.path.join(WORK, 'mark_before_write'), [], 1)})
