@@ -11,7 +11,7 @@ use mathlib.Core.List.{List, [], _∷_}
 use native.Mathlib.Omega.{arith}
 use lib.ListN.{length, drop}
 use lib.Dec.{eqb, leb}
-use borrow.Author.Tests.{le-leb, leb-true, not-false}
+use borrow.Author.Tests.{le-leb, leb-true}
 use Rattle.model.specs.declared.Floor.{Floor}
 use Rattle.model.specs.declared.Completion.{Completion}
 use Rattle.model.specs.Limits.{floorRow, clientCount, recordCount}
@@ -25,7 +25,7 @@ use Rattle.model_laws.proofs.Tables.{keep-all, every-imp}
 use Rattle.state_rows.specs.Canonical.{Canonical}
 use Rattle.state_rows.proofs.Access.{floors-count}
 use Rattle.state_rows.proofs.Chains.{stored-same}
-use Rattle.state_records.specs.declared.Rule.the-variants.{OverFloor, OfOther, OnOther, OverFloors}
+use Rattle.state_records.specs.declared.Rule.the-variants.{OverFloor, OfOther, OnOther}
 use Rattle.state_records.specs.Rules.{staysBy}
 
 -- ---- the rules
@@ -43,10 +43,6 @@ module _ (fs : List Floor) where
   unfolding staysBy
   stays-on-other p = refl
 
-  pub stays-over-floors : staysBy OverFloors fs ≡ staysOverFloors fs
-  unfolding staysBy
-  stays-over-floors = refl
-
 -- ---- the state's own floors
 
 pub clients-within : (s : List ℕ) {n : ℕ} → stateEnd ≤ length s → clientsIn s ≤ clientCount → n ≡ length (load s .floors) → floorsStart + floorRow * n ≤ length s
@@ -59,10 +55,10 @@ floor-stays s r {n} {f} e p = rw (p, e ∙ floors-count s) (unfold load in refl)
 
 -- ---- a row for a record that stays
 
-pub row-free : (t : Completion → Bool) (r : Completion) {u : Bool} {j : ℕ} → u ≡ t r → not u ≡ false → j + length (keep t (r ∷ [])) ≤ recordCount → j < recordCount
+pub row-free : (t : Completion → Bool) (r : Completion) {u : Bool} {j : ℕ} → u ≡ t r → j + length (keep t (r ∷ [])) ≤ recordCount → u ≡ true → j < recordCount
 unfolding keep
-row-free t r {u} {j} e n h =
-    let one : length (keep t (r ∷ [])) ≡ 1 = rw (sym e ∙ not-false u n) in
+row-free t r {u} {j} e h q =
+    let one : length (keep t (r ∷ [])) ≡ 1 = rw (sym e ∙ q) in
     omega arith
 
 -- ---- a floor that does not rise

@@ -4,7 +4,7 @@
 -- Assumes nothing.
 use Prim.Native.Nat.{ℕ, _+_, _-_, _*_, _≤_, _<_}
 use mathlib.Core.Path.{_≡_, refl, sym, ap, _∙_}
-use mathlib.Core.Bool.{Bool}
+use mathlib.Core.Bool.{Bool, true}
 use mathlib.Core.List.{List, [], _∷_, _++_, map, map-append}
 use native.Mathlib.Omega.{arith}
 use native.Mathlib.Nat.{zero-add}
@@ -18,15 +18,15 @@ use Rattle.model.specs.Limits.{clientCount, recordCount, entryRow, floorRow, le
 use Rattle.model.specs.Tables.{rows, bytesOf, keep, written}
 use Rattle.model.specs.Images.{imageEntryOf, imageAt}
 use Rattle.model.specs.States.{load, stateEnd, clientsIn, recordsIn, completionOf, completionBytes, recordsStart, recordRow}
-use Rattle.model.specs.Apply.{takenRecord}
+use Rattle.model.specs.Apply.{staysOverFloors, takenRecord}
 use Rattle.model_laws.specs.Bytes.{Bytes}
 use Rattle.model_laws.proofs.Written.{drop-written-past}
-use Rattle.model_laws.proofs.Tables.{length-rows, everyRow-true, written-rows, rows-append, rows-snoc, length-bytesOf, length-keep, keep-append}
+use Rattle.model_laws.proofs.Tables.{length-rows, everyRow-true, written-rows, rows-append, rows-snoc, length-bytesOf, keep-append}
 use Rattle.model_laws.proofs.States.{completionCodec}
 use Rattle.state_rows.specs.Canonical.{Canonical}
 use Rattle.state_rows.proofs.Access.{records-count}
 use Rattle.state_records.specs.declared.Rule.{Rule}
-use Rattle.state_records.specs.declared.Rule.the-variants.{OverFloors}
+use Rattle.state_records.proofs.Kept.{row-free}
 use Rattle.state_records.specs.Rules.{staysBy, front, keptBy, brought}
 use Rattle.state_records.proofs.Unmoved.{front-most, front-rows}
 use Rattle.state_records.proofs.Gather.{Gathered, gathered-start, gathered-next, gathered-few, clients-kept, floors-kept}
@@ -80,10 +80,11 @@ module _ {rule : Rule} {s₀ : List ℕ} {n : ℕ} {s : List ℕ} {i j : ℕ} (o
   at-most : j ≤ i
   at-most = omega (arith, gathered-few completionCodec (staysBy rule (load s₀ .floors)) (o .kept), length-rows completionOf recordRow i (drop recordsStart s₀))
 
-  pub compact-room : (r : Completion) → i < n → (stateEnd ≤ length s) × (clientsIn s ≤ clientCount) × (j + length (keep (staysBy rule (load s .floors)) (r ∷ [])) ≤ recordCount)
-  compact-room r h =
-      let one : length (keep (staysBy rule (load s .floors)) (r ∷ [])) ≤ 1 = length-keep (staysBy rule (load s .floors)) (r ∷ []) in
-      (o .long, rw (same-clients (o .kept)) (o .clients), omega (arith, at-most, o .few))
+  pub compact-stays : (stateEnd ≤ length s) × (clientsIn s ≤ clientCount)
+  compact-stays = (o .long, rw (same-clients (o .kept)) (o .clients))
+
+  pub compact-room : i < n → {u : Bool} → (stateEnd ≤ length s) × (u ≡ true → j < recordCount)
+  compact-room h = (o .long, λ e. omega (arith, at-most, o .few))
 
   -- the row of index i is still the one that stood there
   row-same : completionOf (drop (recordsStart + recordRow * i) s) ≡ completionOf (drop (recordRow * i) (drop recordsStart s₀))
@@ -96,13 +97,11 @@ module _ {rule : Rule} {s₀ : List ℕ} {n : ℕ} {s : List ℕ} {i j : ℕ} (o
       ∙ drop-written-past (recordsStart + recordRow * i) s₀ (recordsStart + recordRow * 0) (bytesOf completionBytes ks) past
       ∙ sym (drop-drop (recordRow * i) recordsStart s₀))
 
-  pub compact-next : {r : Completion} {s' : List ℕ} {j' : ℕ} → i < n → r ≡ completionOf (drop (recordsStart + recordRow * i) s)
-      → s' ≡ pick (staysBy rule (load s .floors) r) (written s (recordsStart + recordRow * j) (completionBytes r)) s
-      → j' ≡ pick (staysBy rule (load s .floors) r) (j + 1) j
-      → Compacting rule s₀ n s' (i + 1) j'
-  compact-next {r} {s'} {j'} h e p q =
+  pub compact-next : {r : Completion} {u : Bool} {s' : List ℕ} {j' : ℕ} → i < n → r ≡ completionOf (drop (recordsStart + recordRow * i) s) → u ≡ staysBy rule (load s .floors) r
+      → s' ≡ pick u (written s (recordsStart + recordRow * j) (completionBytes r)) s → j' ≡ pick u (j + 1) j → Compacting rule s₀ n s' (i + 1) j'
+  compact-next {r} {u} {s'} {j'} h e v p q =
       let next : Gathered completionCodec (staysBy rule (load s₀ .floors)) recordsStart 0 s₀ (rows completionOf recordRow i (drop recordsStart s₀) ++ (r ∷ [])) s' j' =
-      gathered-next completionCodec (staysBy rule (load s₀ .floors)) (o .kept) r (staysBy rule (load s .floors) r) (rw (same-floors (o .kept) (o .clients))) p q in
+      gathered-next completionCodec (staysBy rule (load s₀ .floors)) (o .kept) r u (v ∙ rw (same-floors (o .kept) (o .clients))) p q in
       record {
         below = omega arith;
         few = o .few;
@@ -128,13 +127,13 @@ pub record Adding (f : ImageEntry → Completion) (image : List ℕ) (k : ℕ) (
   pub below : i ≤ m
   pub clients : clientsIn s₀ ≤ clientCount
   pub long : stateEnd ≤ length s
-  pub room : b + length (keep (staysBy OverFloors (load s₀ .floors)) (map f (rows imageEntryOf entryRow m (drop k image)))) ≤ recordCount
-  pub kept : Gathered completionCodec (staysBy OverFloors (load s₀ .floors)) recordsStart b s₀ (map f (rows imageEntryOf entryRow i (drop k image))) s j
+  pub room : b + length (keep (staysOverFloors (load s₀ .floors)) (map f (rows imageEntryOf entryRow m (drop k image)))) ≤ recordCount
+  pub kept : Gathered completionCodec (staysOverFloors (load s₀ .floors)) recordsStart b s₀ (map f (rows imageEntryOf entryRow i (drop k image))) s j
 
 brought-rows : (s : List ℕ) (h : ImageHead) (end : ℕ) (image : List ℕ)
-    → brought (load s) h end image ≡ keep (staysBy OverFloors (load s .floors)) (map (takenRecord (h .point) end)
+    → brought (load s) h end image ≡ keep (staysOverFloors (load s .floors)) (map (takenRecord (h .point) end)
     (rows imageEntryOf entryRow (h .entries) (drop (leastImage + floorRow * h .floors) image)))
-unfolding staysBy imageAt
+unfolding imageAt
 brought-rows s h end image = refl
 
 pub adding-start : (h : ImageHead) (end : ℕ) {image s : List ℕ} {b : ℕ} → Canonical s → b + length (brought (load s) h end image) ≤ recordCount
@@ -146,12 +145,12 @@ adding-start h end {image} {s} {b} w l =
       clients = w .few-clients;
       long = w .long;
       room = rw (← brought-rows s h end image) l;
-      kept = gathered-start completionCodec (staysBy OverFloors (load s .floors)) recordsStart b s;
+      kept = gathered-start completionCodec (staysOverFloors (load s .floors)) recordsStart b s;
     }
 
 module _ {f : ImageEntry → Completion} {image : List ℕ} {k : ℕ} {s₀ : List ℕ} {b m : ℕ} {s : List ℕ} {i j : ℕ} (o : Adding f image k s₀ b m s i j) where
   abbrev t : Completion → Bool
-  t = staysBy OverFloors (load s₀ .floors)
+  t = staysOverFloors (load s₀ .floors)
 
   abbrev some-rows : ℕ → List Completion
   some-rows n = map f (rows imageEntryOf entryRow n (drop k image))
@@ -173,22 +172,20 @@ module _ {f : ImageEntry → Completion} {image : List ℕ} {k : ℕ} {s₀ : Li
       ∙ keep-append t (some-rows (i + 1)) (map f rest) in
       rw (split, length-append) (omega arith)
 
-  pub adding-room : {r : Completion} {e : ImageEntry} → i < m → e ≡ imageEntryOf (drop (k + entryRow * i) image) → r ≡ f e
-      → (stateEnd ≤ length s) × (clientsIn s ≤ clientCount) × (j + length (keep (staysBy OverFloors (load s .floors)) (r ∷ [])) ≤ recordCount)
-  adding-room {r} {e} h p q =
-      let more : length (keep t (some-rows (i + 1))) ≡ length (keep t (some-rows i)) + length (keep t (r ∷ [])) = rw (one-more p q, keep-append, length-append) in (
-        o .long,
-        rw (same-clients (o .kept)) (o .clients),
-        rw (same-floors (o .kept) (o .clients)) (omega (arith, more, fewer h, o .room, o .kept .count)),
-      )
+  pub adding-stays : (stateEnd ≤ length s) × (clientsIn s ≤ clientCount)
+  adding-stays = (o .long, rw (same-clients (o .kept)) (o .clients))
 
-  pub adding-next : {r : Completion} {e : ImageEntry} {s' : List ℕ} {j' : ℕ} → i < m → e ≡ imageEntryOf (drop (k + entryRow * i) image) → r ≡ f e
-      → s' ≡ pick (staysBy OverFloors (load s .floors) r) (written s (recordsStart + recordRow * j) (completionBytes r)) s
-      → j' ≡ pick (staysBy OverFloors (load s .floors) r) (j + 1) j
-      → Adding f image k s₀ b m s' (i + 1) j'
-  adding-next {r} {e} {s'} {j'} h p q x y =
+  pub adding-room : {r : Completion} {e : ImageEntry} {u : Bool} → i < m → e ≡ imageEntryOf (drop (k + entryRow * i) image) → r ≡ f e → u ≡ staysOverFloors (load s .floors) r
+      → (stateEnd ≤ length s) × (u ≡ true → j < recordCount)
+  adding-room {r} {e} h p q v =
+      let more : length (keep t (some-rows (i + 1))) ≡ length (keep t (some-rows i)) + length (keep t (r ∷ [])) = rw (one-more p q, keep-append, length-append) in
+      (o .long, row-free t r (v ∙ rw (same-floors (o .kept) (o .clients))) (omega (arith, more, fewer h, o .room, o .kept .count)))
+
+  pub adding-next : {r : Completion} {e : ImageEntry} {u : Bool} {s' : List ℕ} {j' : ℕ} → i < m → e ≡ imageEntryOf (drop (k + entryRow * i) image) → r ≡ f e
+      → u ≡ staysOverFloors (load s .floors) r → s' ≡ pick u (written s (recordsStart + recordRow * j) (completionBytes r)) s → j' ≡ pick u (j + 1) j → Adding f image k s₀ b m s' (i + 1) j'
+  adding-next {r} {e} {u} {s'} {j'} h p q v x y =
       let next : Gathered completionCodec t recordsStart b s₀ (some-rows i ++ (r ∷ [])) s' j' =
-      gathered-next completionCodec t (o .kept) r (staysBy OverFloors (load s .floors) r) (rw (same-floors (o .kept) (o .clients))) x y in
+      gathered-next completionCodec t (o .kept) r u (v ∙ rw (same-floors (o .kept) (o .clients))) x y in
       record {
         below = omega arith;
         clients = o .clients;

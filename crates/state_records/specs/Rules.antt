@@ -18,7 +18,7 @@ use Rattle.model.specs.Apply.{staysOver, staysOverFloors, isOfOther, isOnOther,
 use Rattle.state_records.specs.declared.Found.{Found}
 use Rattle.state_records.specs.declared.Found.the-variants.{Nothing, At}
 use Rattle.state_records.specs.declared.Rule.{Rule}
-use Rattle.state_records.specs.declared.Rule.the-variants.{OverFloor, OfOther, OnOther, OverFloors, Beside}
+use Rattle.state_records.specs.declared.Rule.the-variants.{OverFloor, OfOther, OnOther, Beside}
 
 unfoldable pub foundOf : Option Completion → Found
 foundOf none = Nothing
@@ -29,7 +29,6 @@ unfoldable pub staysBy : Rule → List Floor → Completion → Bool
 staysBy (OverFloor x n) fs = staysOver x n
 staysBy (OfOther x) fs = isOfOther x
 staysBy (OnOther p) fs = isOnOther p
-staysBy OverFloors fs = staysOverFloors fs
 staysBy (Beside p) fs = λ r. isOnOther p r && staysOverFloors fs r
 
 -- how many elements in front pass a test, before the first that does not
@@ -52,10 +51,8 @@ lengthBy h = leastImage + floorRow * h .floors + entryRow * h .entries
 -- ---- what a change of the table's bytes s leaves: t, and a number of rows
 
 -- the record r as the row of index j, if it stays
-abbrev pub PutKept : Rule → ℕ → Completion → List ℕ → List ℕ → ℕ → Type 0
-PutKept rule j r s t n =
-    (t ≡ pick (staysBy rule (load s .floors) r) (written s (recordsStart + recordRow * j) (completionBytes r)) s)
-    × (n ≡ pick (staysBy rule (load s .floors) r) (j + 1) j)
+abbrev pub PutKept : Bool → ℕ → Completion → List ℕ → List ℕ → ℕ → Type 0
+PutKept stay j r s t n = (t ≡ pick stay (written s (recordsStart + recordRow * j) (completionBytes r)) s) × (n ≡ pick stay (j + 1) j)
 
 -- those of n rows that stay, at the front
 abbrev pub CompactedBy : Rule → ℕ → List ℕ → List ℕ → ℕ → Type 0

@@ -46,9 +46,7 @@ pub enum Rule {
     OfOther(u32),
     // those on other points
     OnOther(u8),
-    // calls from their client's floor on, by the clients' table of the state
-    OverFloors,
-    // those on other points, by the same floors
+    // those on other points, and of them only calls from their client's floor on, by the clients' table of the state
     Beside(u8),
 }
 
@@ -128,7 +126,6 @@ fn stays(s: &[u8], rule: Rule, r: Completion) -> bool
         Rule::OverFloor(x, floor) => (r.command.client != x) | (floor <= r.command.call),
         Rule::OfOther(x) => r.command.client != x,
         Rule::OnOther(p) => r.command.point != p,
-        Rule::OverFloors => over_floors(s, r),
         Rule::Beside(p) => {
             let over = over_floors(s, r);
             (r.command.point != p) & over
@@ -137,11 +134,11 @@ fn stays(s: &[u8], rule: Rule, r: Completion) -> bool
 }
 
 // Stores a record as the row of index j if it stays; the index behind it.
-fn put_kept(s: &mut [u8], rule: Rule, j: usize, r: Completion) -> usize
-    requires { ⌜ (stateEnd ≤ length (now s)) × (clientsIn (now s) ≤ clientCount) × (j + length (keep (staysBy rule (load (now s) .floors)) (r ∷ [])) ≤ recordCount) ⌝ }
-    ensures { λ n. ⌜ PutKept rule j r (now (s .entry)) (now (s .exit)) n ⌝ }
+fn put_kept(s: &mut [u8], stay: bool, j: usize, r: Completion) -> usize
+    requires { ⌜ (stateEnd ≤ length (now s)) × (stay ≡ true → j < recordCount) ⌝ }
+    ensures { λ n. ⌜ PutKept stay j r (now (s .entry)) (now (s .exit)) n ⌝ }
 {
-    if !stays(s, rule, r) {
+    if !stay {
         return j;
     }
     state_rows::put_completion(s, RECORDS_START + RECORD_ROW * j, r);
@@ -174,7 +171,8 @@ fn compact(s: &mut [u8], rule: Rule, n: usize) -> usize
     let mut j = first;
     while i < n {
         let r = state_rows::completion_from(s, RECORDS_START + RECORD_ROW * i);
-        j = put_kept(s, rule, j, r);
+        let stay = stays(s, rule, r);
+        j = put_kept(s, stay, j, r);
         i += 1;
     }
     j
@@ -244,7 +242,8 @@ fn put_entries(s: &mut [u8], n: usize, image: &[u8], h: ImageHead, end: u64) -> 
     while i < m {
         let e = format_image_rows::entry_from(image, at + ENTRY_ROW * i);
         let r = taken_record(h.point, end, e);
-        j = put_kept(s, Rule::OverFloors, j, r);
+        let stay = over_floors(s, r);
+        j = put_kept(s, stay, j, r);
         i += 1;
     }
     j

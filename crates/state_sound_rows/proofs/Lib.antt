@@ -3,5 +3,5 @@ pub mod Chains
 pub mod Loops
 pub mod Zeros
 pub mod Points
-pub mod Resting
+pub mod Heads
 pub mod Framing

@@ -7,7 +7,7 @@ use lib.Dec.{eqb, leb}
 use Rattle.model.specs.declared.PlanEntry.{PlanEntry}
 use Rattle.model.specs.declared.Point.{Point}
 use Rattle.model.specs.Choice.{pick}
-use Rattle.model.specs.Numbers.{le32At, le64At, signedAt, zeros3At, startsWith}
+use Rattle.model.specs.Numbers.{le32At, zeros3At, startsWith}
 use Rattle.model.specs.Tables.{rows, everyRow}
 use Rattle.model.specs.Plan.{planEntryOf, planRowOk, inRange}
 use Rattle.model.specs.States.{clientsIn, recordsIn, stateMagic, absent, held, releasedStatus, pointRow, pointOf, endsInOrder, notGiven, absentOk, pointOk, pointsOk, pointRowOk}
@@ -51,12 +51,13 @@ heldValid = held + 256 * valid
 abbrev pub heldInvalid : ℕ
 heldInvalid = held + 256 * invalid
 
--- a point at its home that was never given, by the words of its row
-unfoldable pub atRest : ℕ → PlanEntry → List ℕ → Bool
-atRest server e q =
-    eqb (e .home) server
-    && (inRange e (signedAt q 4)
-    && ((eqb (le32At q 0) heldValid || eqb (le32At q 0) heldInvalid) && (eqb (le64At q 8) 0 && (eqb (le64At q 16) 0 && eqb (le64At q 24) 0))))
+-- a row begins as that of a held point
+unfoldable pub heldHead : List ℕ → Bool
+heldHead q = eqb (le32At q 0) heldValid || eqb (le32At q 0) heldInvalid
+
+-- what is left to test of a point that begins so
+unfoldable pub heldRest : ℕ → ℕ → PlanEntry → Point → Bool
+heldRest server size e x = (inRange e (x .value) && heldMove x) && origin server size e x
 
 -- ---- the rows of plan and points
 

@@ -17,7 +17,7 @@ ghost use Rattle.model.specs.Tables.{rows, every, zeros};
 ghost use Rattle.model.specs.Images.{floorOfBytes, floorOk, clientsAscend};
 ghost use Rattle.model.specs.States.{held, pointRow, endsInOrder, notGiven, absentOk, pointOk, keepsRecords, pointRowOk, stateFramed, stateEnd, stateHead};
 ghost use Rattle.model.specs.Limits.{floorRow, planRow, pointCount, planSize};
-ghost use Rattle.state_sound_rows.specs.Parts.{headFramed, isEnd, heldMove, givenMove, origin, statusAndEnds, fieldsIn, atRest, rowOk, rowsOk};
+ghost use Rattle.state_sound_rows.specs.Parts.{headFramed, isEnd, heldMove, givenMove, origin, statusAndEnds, fieldsIn, heldHead, heldRest, rowOk, rowsOk};
 
 // ---- zeros
 
@@ -197,27 +197,28 @@ const HELD_VALID: u32 = constants::HELD as u32 + 256 * constants::VALID as u32;
 
 const HELD_INVALID: u32 = constants::HELD as u32 + 256 * constants::INVALID as u32;
 
-// The point from k is at its home and was never given: held, without a move or an end, its value in range. Told by words of 64 bits,
-// which is quick, and most points are so.
-fn at_rest(s: &[u8], k: usize, server: u8, e: PlanEntry) -> bool
+// The point from k begins as a held one: status, quality, destination and zero byte are told by one word.
+fn held_head(s: &[u8], k: usize) -> bool
     requires { ⌜ k + pointRow ≤ length (now s) ⌝ }
-    ensures { λ r. ⌜ r ≡ atRest server e (drop k (now (s .entry))) ⌝ }
+    ensures { λ r. ⌜ r ≡ heldHead (drop k (now (s .entry))) ⌝ }
 {
     let head = format_numbers::read_u32(s, k);
-    let value = format_numbers::in_range(
-        e,
-        format_numbers::read_signed(s, k + constants::POINT_VALUE),
-    );
-    let moves = format_numbers::read_u64(s, k + constants::POINT_MOVE);
-    let give = format_numbers::read_u64(s, k + constants::POINT_GIVE_END);
-    let take = format_numbers::read_u64(s, k + constants::POINT_TAKE_END);
-    (e.home == server)
-        & (value
-            & (((head == HELD_VALID) | (head == HELD_INVALID))
-                & ((moves == 0) & ((give == 0) & (take == 0)))))
+    (head == HELD_VALID) | (head == HELD_INVALID)
 }
 
-// The plan's entry from j, and the point from k against it.
+// What is left to test of a point that begins so.
+fn held_rest(server: u8, size: u64, e: PlanEntry, x: Point) -> bool
+    ensures { λ r. ⌜ r ≡ heldRest server size e x ⌝ }
+{
+    let value = format_numbers::in_range(e, x.value);
+    let held = held_ok(x);
+    if !(value & held) {
+        return false;
+    }
+    origin_ok(server, size, e, x)
+}
+
+// The plan's entry from j, and the point from k against it. Most points are held, and these need fewer tests.
 fn row_ok(s: &[u8], j: usize, k: usize, server: u8, size: u64) -> bool
     requires { ⌜ (j + planRow ≤ length (now s)) × (k + pointRow ≤ length (now s)) ⌝ }
     ensures { λ r. ⌜ r ≡ rowOk server size (drop j (now (s .entry))) (drop k (now (s .entry))) ⌝ }
@@ -226,13 +227,13 @@ fn row_ok(s: &[u8], j: usize, k: usize, server: u8, size: u64) -> bool
         return false;
     }
     let e = format_commands::plan_entry(s, j);
-    if at_rest(s, k, server, e) {
-        return true;
+    let x = state_rows::point_from(s, k);
+    if held_head(s, k) {
+        return held_rest(server, size, e, x);
     }
     if !point_row_ok(s, k) {
         return false;
     }
-    let x = state_rows::point_from(s, k);
     point_ok(server, size, e, x)
 }
 

@@ -2,7 +2,7 @@
 -- Assumes nothing.
 use Prim.Native.Nat.{_-_}
 use borrow.Author.Needs.{needs}
-use Rattle.state_records.proofs.Loops.{Compacting, compact-start, compact-room, compact-next, compact-end}
+use Rattle.state_records.proofs.Loops.{Compacting, compact-start, compact-stays, compact-room, compact-next, compact-end}
 use Rattle.state_records.proofs.compact.Statement.{statement}
 use Rattle.state_records.proofs.compact.Tie as tie
 
@@ -18,16 +18,22 @@ loop-holds c =
     let start = known .before in
     compact-start _ (λ i. known .slice-known .given i .fits) (start .pre .0) (start .pre .1) (c .front .ensures)
 
+stays-requires : tie.Need-stays-requires Inv-loop μ-loop
+stays-requires c κs = compact-stays (c .before .before .before .before .loop .inv)
+
 put-kept-requires : tie.Need-put-kept-requires Inv-loop μ-loop
 put-kept-requires c κs =
-    let read = c .before .before in
-    compact-room (read .before .before .loop .inv) _ (read .before .loop-test .taken)
+    let read = c .before .before .before in
+    let test = read .before .before in
+    compact-room (test .before .loop .inv) (test .loop-test .taken)
 
 loop-again : tie.Need-loop-again Inv-loop μ-loop
 loop-again c =
     let put = c .before .before in
-    let read = put .before .before in
-    compact-next (read .before .before .before .loop .inv) (read .before .before .loop-test .taken) (read .completion-from .ensures) (put .put-kept .ensures .0) (put .put-kept .ensures .1)
+    let asked = put .before .before in
+    let read = asked .before .before in
+    let test = read .before .before in
+    compact-next (test .before .loop .inv) (test .loop-test .taken) (read .completion-from .ensures) (asked .stays .ensures) (put .put-kept .ensures .0) (put .put-kept .ensures .1)
 
 same-length : tie.Need-same-length Inv-loop μ-loop
 same-length c = c .before .loop .inv .kept .same
@@ -46,6 +52,7 @@ compact-spec =
     (λ c. search needs)
     (λ c. search needs)
     (λ c κs. search needs)
+    stays-requires
     put-kept-requires
     (λ c. search needs)
     (λ c. search needs)

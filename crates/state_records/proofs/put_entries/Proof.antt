@@ -3,7 +3,7 @@
 use Prim.Native.Nat.{_-_}
 use borrow.Author.Needs.{needs}
 use Rattle.model.specs.Apply.{takenRecord}
-use Rattle.state_records.proofs.Loops.{Adding, adding-start, adding-room, adding-next, adding-end}
+use Rattle.state_records.proofs.Loops.{Adding, adding-start, adding-stays, adding-room, adding-next, adding-end}
 use Rattle.state_records.proofs.put_entries.Statement.{statement}
 use Rattle.state_records.proofs.put_entries.Tie as tie
 
@@ -18,20 +18,30 @@ loop-holds c =
     let start = c .before .before .before .before in
     adding-start (start .args .h) (start .args .end) (start .pre .0) (start .pre .2)
 
+over-floors-requires : tie.Need-over-floors-requires Inv-loop μ-loop
+over-floors-requires c κs = adding-stays (c .before .before .before .before .loop .inv)
+
 put-kept-requires : tie.Need-put-kept-requires Inv-loop μ-loop
 put-kept-requires c κs =
-    let read = c .before .before in
-    adding-room (read .before .before .loop .inv) (read .before .loop-test .taken) (read .entry-from .ensures) (c .before .taken-record .ensures)
+    let asked = c .before in
+    let made = asked .before .before in
+    let read = made .before in
+    adding-room (read .before .before .loop .inv) (read .before .loop-test .taken) (read .entry-from .ensures) (made .taken-record .ensures) (asked .over-floors .ensures)
+
+abbrev known-at : tie.After-over-floors Inv-loop μ-loop → tie.After-struct-known Inv-loop μ-loop
+known-at c = c .before .before .before .before .before .before .before
 
 add-i : tie.Need-add-i Inv-loop μ-loop
-add-i c = let known = c .before .before .before .before .before .before .before .before .before .struct-known .given in search (needs, known)
+add-i c = let known = known-at (c .before .before .before .before) .struct-known .given in search (needs, known)
 
 loop-again : tie.Need-loop-again Inv-loop μ-loop
 loop-again c =
     let put = c .before .before in
-    let made = put .before .before in
+    let asked = put .before .before in
+    let made = asked .before .before in
     let read = made .before in
-    adding-next (read .before .before .loop .inv) (read .before .loop-test .taken) (read .entry-from .ensures) (made .taken-record .ensures) (put .put-kept .ensures .0) (put .put-kept .ensures .1)
+    adding-next (read .before .before .loop .inv) (read .before .loop-test .taken) (read .entry-from .ensures) (made .taken-record .ensures) (asked .over-floors .ensures) (put .put-kept .ensures .0)
+    (put .put-kept .ensures .1)
 
 same-length : tie.Need-same-length Inv-loop μ-loop
 same-length c = c .before .loop .inv .kept .same
@@ -58,6 +68,7 @@ put-entries-spec =
     (λ c. search needs)
     (λ c κs. search needs)
     (λ c κs. search needs)
+    over-floors-requires
     put-kept-requires
     add-i
     (λ c. search needs)

@@ -19,12 +19,8 @@ unfolding staysBy isOnOther
 returns-3 c = rw (c .before .before .rule3 .given .1)
 
 returns-4 : tie.Need-returns-4
-unfolding staysBy
-returns-4 c = rw (c .before .enum-told .given .1) (c .over-floors .ensures)
-
-returns-5 : tie.Need-returns-5
 unfolding staysBy isOnOther
-returns-5 c = rw (c .before .before .before .rule4 .given .1, c .before .over-floors2 .ensures)
+returns-4 c = rw (c .before .before .before .rule4 .given .1, c .before .over-floors .ensures)
 
 pub stays-spec : {M : Type 1} → statement M
 stays-spec =
@@ -35,10 +31,7 @@ stays-spec =
     (λ c. search needs)
     (λ c. search needs)
     (λ c κs. search needs)
-    (λ c. search needs)
-    (λ c κs. search needs)
     returns
     returns-2
     returns-3
-    returns-4
-    returns-5)
+    returns-4)
