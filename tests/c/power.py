@@ -588,7 +588,7 @@ FAULTS = {
     'failed_rename_ignored': (60, LIMIT, [RENAME], ['    if (rename(card->next_path, card->path)) return;\n']),
     'name_not_synced': (60, LIMIT, [NAME], ['']),
 }
-SLOT, SLOT_READ = '    put32(super + IN_FORCE, card->slot);\n', '    card->slot = mantelorris_number_at(super, IN_FORCE);\n'
+SLOT, SLOT_READ = '    mantelorris_put_number(super, IN_FORCE, card->slot);\n', '    card->slot = mantelorris_number_at(super, IN_FORCE);\n'
 WORD = '    uint8_t word[SECTOR] = {(uint8_t)card->slot};\n    write_sectors(card->file, word, SECTOR, SUPER);\n    sync_card(card);\n'
 WORD_READ = '    uint8_t word[SECTOR];\n    read_at(card->file, word, SECTOR, SUPER);\n    card->slot = word[0] & 1;\n'
 THROUGH = '    sync_card(card);\n    if (posix_fadvise(card->file, 0, 0, POSIX_FADV_DONTNEED)) stop("card: its cache cannot be emptied");\n'
@@ -597,8 +597,8 @@ LENGTH = '    size_t length = mantelorris_number_at(super, LOG),'
 LENGTH_GREATER = '    size_t length = greater(card, mantelorris_number_at(super, IN_FORCE)),'
 # two words for each slot, written in turn, each with its complement
 LENGTH_WORDS = """    uint8_t words[SECTOR] = {0};
-    put32(words, (uint32_t)length);
-    put32(words + 4, ~(uint32_t)length);
+    mantelorris_put_number(words, 0, (uint32_t)length);
+    mantelorris_put_number(words, 4, ~(uint32_t)length);
     write_sectors(card->file, words, SECTOR, SUPER + (2 * card->slot + card->sequence % 2) * SECTOR);
 """
 GREATER = """static size_t greater(const struct card *card, uint32_t slot) {

@@ -12,9 +12,8 @@ use borrow.Author.Tests.{ltb-false, le-ltb, leb-true}
 use Rattle.model.specs.Limits.{lastPoint}
 use Rattle.model.specs.Refusals.{malformed}
 use Rattle.model.specs.Tables.{every}
-use Rattle.model_laws.proofs.Tests.{and-left, and-right}
+use Rattle.model_laws.proofs.Tests.{and-left, and-right, or-left, or-right}
 use Rattle.model_laws.proofs.Commands.{command-past}
-use Rattle.leases.proofs.Places.{or-left, or-right}
 use Rattle.chamber_claim.specs.declared.LockPoints.{LockPoints}
 use Rattle.chamber_claim.specs.declared.Chamber.{Chamber}
 use Rattle.chamber_claim.specs.Chamber.{pointList, isPoint, pointsOk, notStartedIn, startIn, notSentIn, issueIn}
