@@ -581,7 +581,7 @@ FAULTS = {
                       '#include <arpa/inet.h>\n#include <unistd.h>\n']),
     'sync_tried_again': (30, 0, [SYNC], [SYNC.replace('fdatasync(card->file)', 'fdatasync(card->file) && fdatasync(card->file)')]),
     'switched_before_stored': (60, LIMIT, [RENAME, OPENED], ['', OPENED + RENAME]),
-    'calls_before_stored': (60, LIMIT, [MAKE, STORED + BEGUN], ['static void turn(void);\n' + MAKE, BEGUN + '    turn();\n' + STORED]),
+    'calls_before_stored': (60, LIMIT, [MAKE, STORED + BEGUN], ['static void turn(void);\n' + MAKE, BEGUN + '    if (line >= 0) turn();\n' + STORED]),
     'recover_on_a_tail': (60, LIMIT, [RECOVER], ['mantelorris_recover(state, sizeof state, log_space, kept, plan, sizeof plan)']),
     'head_not_stored': (60, LIMIT, [STORED], [STORED.replace('sizeof head', '0')]),
     'renamed_before_synced': (60, LIMIT, [SYNCED], ['']),
