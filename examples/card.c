@@ -12,8 +12,6 @@
 #include <sys/stat.h>
 #include <unistd.h>
 
-enum { PAIRS_END = 44 }; /* of a checkpoint: the last pair in front of it tells where it ends */
-
 static void fail(const char *what) {
     perror(what);
     exit(1);
@@ -71,13 +69,11 @@ void card_look(struct card *card, const char *path) {
 
 /* the length of the checkpoint that a card of this size begins with, 0 if it begins with none */
 static size_t checkpoint_length(const struct card *card, size_t size, uint8_t checkpoint[MANTELORRIS_CHECKPOINT_SIZE]) {
-    static const uint8_t magic[4] = {0x57, 0x4C, 0x47, 0x32};
-    size_t head = size < PAIRS_END ? size : PAIRS_END;
+    size_t head = size < MANTELORRIS_CHECKPOINT_HEAD ? size : MANTELORRIS_CHECKPOINT_HEAD;
     read_at(card->file, checkpoint, head, 0);
-    if (head < sizeof magic || memcmp(checkpoint, magic, sizeof magic)) return 0;
-    size_t length = (size_t)mantelorris_number_at(checkpoint, 36) + mantelorris_number_at(checkpoint, 40);
-    if (head < PAIRS_END || length < PAIRS_END || length > MANTELORRIS_CHECKPOINT_SIZE || size < length + MANTELORRIS_LOG_HEAD)
-        stop("checkpoint: bad log: the card is damaged, or its end is missing");
+    if (!mantelorris_is_checkpoint(checkpoint, head)) return 0;
+    size_t length = mantelorris_checkpoint_length(checkpoint, head);
+    if (length == 0 || size < length + MANTELORRIS_LOG_HEAD) stop("checkpoint: bad log: the card is damaged, or its end is missing");
     return length;
 }
 

@@ -32,10 +32,6 @@ static void stop(const char *what) {
     exit(1);
 }
 
-static void put32(uint8_t *bytes, uint32_t number) {
-    for (int i = 0; i < 4; i++) bytes[i] = (uint8_t)(number >> 8 * i);
-}
-
 /* ---- the flash: whole sectors are written */
 
 static void write_at(int file, const uint8_t *bytes, size_t count, size_t at) {
@@ -103,13 +99,13 @@ static int read_super(const struct card *card, uint8_t super[SUPER]) {
 static void write_super(struct card *card, const uint8_t *log, size_t length) {
     uint8_t super[SUPER] = {0};
     card->sequence++;
-    put32(super + SEQUENCE, (uint32_t)card->sequence);
-    put32(super + SEQUENCE + 4, (uint32_t)(card->sequence >> 32));
-    put32(super + IN_FORCE, card->slot);
-    put32(super + CHECKPOINT, (uint32_t)card->base);
-    put32(super + LOG, (uint32_t)length);
+    mantelorris_put_number(super, SEQUENCE, (uint32_t)card->sequence);
+    mantelorris_put_number(super, SEQUENCE + 4, (uint32_t)(card->sequence >> 32));
+    mantelorris_put_number(super, IN_FORCE, card->slot);
+    mantelorris_put_number(super, CHECKPOINT, (uint32_t)card->base);
+    mantelorris_put_number(super, LOG, (uint32_t)length);
     memcpy(super + LAST, log + length - length % SECTOR, length % SECTOR);
-    put32(super + CHECK, checksum(super, CHECK));
+    mantelorris_put_number(super, CHECK, checksum(super, CHECK));
     write_sectors(card->file, super, SUPER, card->sequence % 2 ? COPY : 0);
     sync_card(card);
 }

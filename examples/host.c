@@ -50,8 +50,7 @@ static int sound = 1; /* no call has answered 19 since the start */
 
 /* yours: every point from -1,000,000 to 1,000,000, fallback 0, at home at server 0 */
 static void make_plan(void) {
-    static const uint8_t range[8] = {0xC0, 0xBD, 0xF0, 0xFF, 0x40, 0x42, 0x0F, 0x00};
-    for (int p = 0; p < MANTELORRIS_POINTS; p++) memcpy(plan + 16 * p, range, sizeof range);
+    for (uint32_t p = 0; p < MANTELORRIS_POINTS; p++) mantelorris_plan_row(plan, p, -1000000, 1000000, 0, 0);
 }
 
 /* a call was refused that should not have been. 19: something has written into the state, nothing in it counts any more, and the host starts anew from its card.

@@ -253,11 +253,11 @@ def gave_up(server, card, before):
     return '' if server.returncode and card.failed_since(before) else 'the host gave up: ' + (said or 'exit %d' % server.returncode)
 
 
-def session(host, tools, name, port, seed, kills, commands, limit, chance=60, size=0, kind=Card):
+def session(host, tools, name, port, seed, kills, commands, limit, chance=60, size=0, kind=Card, aims=()):
     """desk, relay and a host that is killed again and again, with a limit of `size` bytes for its log; returns what went wrong or '', and what was seen"""
     host = Host(host) if isinstance(host, str) else host
     rng, card = random.Random(seed), kind(name)
-    places = [*PLACES, 'S'] if kind is Sectors else [*PLACES, *STORING, *(BEHIND if size else ''), *FAILING]
+    places = aims or ([*PLACES, 'S'] if kind is Sectors else [*PLACES, *STORING, *(BEHIND if size else ''), *FAILING])
     founded(host, card, tools['hook'], seed, rng, places, chance if kills else 0)
     relay, desk = parties(tools, port, seed, commands)
     began, starts, ended, outside, largest, wrong, errors = time.time(), 0, 0, 0, 0, '', ''
@@ -581,14 +581,16 @@ FAULTS = {
                       '#include <arpa/inet.h>\n#include <unistd.h>\n']),
     'sync_tried_again': (30, 0, [SYNC], [SYNC.replace('fdatasync(card->file)', 'fdatasync(card->file) && fdatasync(card->file)')]),
     'switched_before_stored': (60, LIMIT, [RENAME, OPENED], ['', OPENED + RENAME]),
-    'calls_before_stored': (60, LIMIT, [MAKE, STORED + BEGUN], ['static void turn(void);\n' + MAKE, BEGUN + '    turn();\n' + STORED]),
+    'calls_before_stored': (60, LIMIT, [MAKE, STORED + BEGUN], ['static void turn(void);\n' + MAKE, BEGUN + '    if (line >= 0) turn();\n' + STORED]),
     'recover_on_a_tail': (60, LIMIT, [RECOVER], ['mantelorris_recover(state, sizeof state, log_space, kept, plan, sizeof plan)']),
     'head_not_stored': (60, LIMIT, [STORED], [STORED.replace('sizeof head', '0')]),
     'renamed_before_synced': (60, LIMIT, [SYNCED], ['']),
     'failed_rename_ignored': (60, LIMIT, [RENAME], ['    if (rename(card->next_path, card->path)) return;\n']),
     'name_not_synced': (60, LIMIT, [NAME], ['']),
 }
-SLOT, SLOT_READ = '    put32(super + IN_FORCE, card->slot);\n', '    card->slot = mantelorris_number_at(super, IN_FORCE);\n'
+# the place that shows it, where that is a rare one
+AIMS = {'cut_in_place': 'S', 'sync_tried_again': 'S', 'raw_sync_tried_again': 'S', 'read_through_a_cache': 'sS', 'failed_rename_ignored': 'N'}
+SLOT, SLOT_READ = '    mantelorris_put_number(super, IN_FORCE, card->slot);\n', '    card->slot = mantelorris_number_at(super, IN_FORCE);\n'
 WORD = '    uint8_t word[SECTOR] = {(uint8_t)card->slot};\n    write_sectors(card->file, word, SECTOR, SUPER);\n    sync_card(card);\n'
 WORD_READ = '    uint8_t word[SECTOR];\n    read_at(card->file, word, SECTOR, SUPER);\n    card->slot = word[0] & 1;\n'
 THROUGH = '    sync_card(card);\n    if (posix_fadvise(card->file, 0, 0, POSIX_FADV_DONTNEED)) stop("card: its cache cannot be emptied");\n'
@@ -597,8 +599,8 @@ LENGTH = '    size_t length = mantelorris_number_at(super, LOG),'
 LENGTH_GREATER = '    size_t length = greater(card, mantelorris_number_at(super, IN_FORCE)),'
 # two words for each slot, written in turn, each with its complement
 LENGTH_WORDS = """    uint8_t words[SECTOR] = {0};
-    put32(words, (uint32_t)length);
-    put32(words + 4, ~(uint32_t)length);
+    mantelorris_put_number(words, 0, (uint32_t)length);
+    mantelorris_put_number(words, 4, ~(uint32_t)length);
     write_sectors(card->file, words, SECTOR, SUPER + (2 * card->slot + card->sequence % 2) * SECTOR);
 """
 GREATER = """static size_t greater(const struct card *card, uint32_t slot) {
@@ -632,7 +634,7 @@ def planted(name, bad_host, tools, port, chance, size, kind):
     """whether it is found in four tries, and how; that it was slow is no finding"""
     found, tries = '', 0
     while not found and tries < 4:
-        found, seen = session(bad_host, tools, name + str(tries), port, SEED + 1000 * tries, 1000, 3000, 30, chance, size, kind)
+        found, seen = session(bad_host, tools, name + str(tries), port, SEED + 1000 * tries, 1000, 3000, 20, chance, size, kind, AIMS.get(name, ()))
         found, tries = '' if found.startswith('not done') else found, tries + 1
     return 'the host with the fault %s is found%s' % (name, ' after %d starts, %.1f s: %s' % (seen['starts'], seen['seconds'], found) if found else ''), found
 
