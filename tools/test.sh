@@ -70,6 +70,7 @@ read -r good bad < <(sed -nE 's/^([0-9]+) passed, ([0-9]+) failed$/\1 \2/p' "$lo
 passed=$((passed + good))
 failed=$((failed + bad))
 [ $verdict = 0 ] || [ "$bad" != 0 ] || failed=$((failed + 1))
+part edit-reasons tools/edit_table.py --logs; count $?
 
 # tests PACKAGE WORDS..: the tests of a cargo package, each counted; one that hangs fails
 tests() {
