@@ -1,43 +1,58 @@
-# make run: what the product does today; with SCHEDULE=path, that schedule of the simulator. make picture SCHEDULE=path: its picture, an SVG.
-# make check: the proofs of what is changed since it was proved. make edits CRATES="a b": the must-fail edits of these crates; without names, of all. Neither is the verdict.
-# make test: the whole check, the toolchain's gate `rt ci` and the tests. make bench: nanoseconds per call of the proved code and of the second
-# program. make bench-peer: a durable job on the kernel and on SQLite. make lib, install: the archive for C. make demo: the example programs.
-# make house: the picture of the crates.
-.PHONY: run picture check edits test bench bench-peer lib install demo house
+# `make` alone, or make help: what there is.
+.PHONY: help run picture check edits test bench bench-peer lib install dist demo house clean
 
+help:
+	@tools/help.sh
+
+#: what the product does: the simulator's case, then a host in C. SCHEDULE=path: a schedule of your own
 run:
 	@tools/run.sh "$(SCHEDULE)"
 
+#: the picture of a schedule, an SVG: SCHEDULE=path [OUT=path.svg]
 picture:
 	@tools/picture.sh "$(SCHEDULE)" "$(OUT)"
 
+#: a host, a desk and a poor line between them, with kills; a lock
+demo: lib
+	@examples/demo.sh
+
+#: dist/: the library for C, its headers and a pkg-config file
+lib:
+	@tools/lib.sh
+
+#: the library, its headers, pkg-config and CMake files below PREFIX=/path [DESTDIR=folder]
+install:
+	@tools/lib.sh install "$(PREFIX)" "$(DESTDIR)"
+
+#: dist/mantelorris-VERSION.tar.gz: library, headers, guide, examples, manifest
+dist:
+	@tools/dist.sh
+
+#: the proofs of what is changed since it was proved; not the verdict
 check:
 	@tools/progress.py rt check && echo "no verdict: what was proved before was not proved again; make test is the verdict"
 
+#: the must-fail edits of these crates, CRATES="a b", or of all; not the verdict
 edits:
 	@tools/edits.sh $(CRATES)
 
+#: the verdict: the toolchain's gate, from nothing, and every test; its last line is 'N passed, 0 failed'
 test:
 	@tools/test.sh
 
+#: nanoseconds per call of the proved code and of the second program
 bench:
 	@tools/staticlib.sh >/dev/null
 	@cargo run --release --quiet --offline --manifest-path compare/Cargo.toml --bin bench
 
-# needs libsqlite3-dev; skipped without it
+#: a durable job on the kernel and on SQLite; needs libsqlite3-dev, is skipped without it
 bench-peer:
 	@tools/bench_peer.py
 
-# dist/: the archive, its headers and a pkg-config file
-lib:
-	@tools/lib.sh
-
-install:
-	@tools/lib.sh install "$(PREFIX)"
-
-demo: lib
-	@examples/demo.sh
-
-# docs/pictures/house.svg: the crates by layer, with their real imports
+#: docs/pictures/house.svg: the crates by layer, and which layer rests on which
 house:
 	@tools/house.py
+
+#: removes all that was made; what was proved must be proved again
+clean:
+	@rm -rf target dist second/target compare/target tests/schedules/target

@@ -6,15 +6,11 @@
 #include <string.h>
 
 static inline void put32(uint8_t *p, uint32_t v) {
-    for (int i = 0; i < 4; i++) p[i] = (uint8_t)(v >> 8 * i);
+    mantelorris_put_number(p, 0, v);
 }
 
 static inline void make_plan(uint8_t plan[MANTELORRIS_PLAN_SIZE]) {
-    memset(plan, 0, MANTELORRIS_PLAN_SIZE);
-    for (int p = 0; p < MANTELORRIS_POINTS; p++) {
-        put32(plan + 16 * p, (uint32_t)-1000000); /* low */
-        put32(plan + 16 * p + 4, 1000000);        /* high; fallback and home stay 0 */
-    }
+    for (uint32_t point = 0; point < MANTELORRIS_POINTS; point++) mantelorris_plan_row(plan, point, -1000000, 1000000, 0, 0);
 }
 
 #endif

@@ -241,6 +241,8 @@ struct mantelorris_place {
     size_t end;
 };
 
+MANTELORRIS_HAS_SIZE(struct mantelorris_place, 24);
+
 /* where the completion record of client and call lies; tail is the log that the state records */
 struct mantelorris_place mantelorris_inspect(const uint8_t *state, size_t state_length, const uint8_t *checkpoint, size_t checkpoint_length,
                                              const uint8_t *tail, size_t tail_length, uint32_t client, uint32_t call);
@@ -261,16 +263,29 @@ static inline uint32_t mantelorris_written(uint64_t answer) {
     return (uint32_t)(answer >> 32);
 }
 
-/* ---- what a state says, after a call on it that answered 0: the server's number, the recorded length of the log, and the sync mark */
+/* ---- numbers in bytes, the least byte first */
+
+static inline uint32_t mantelorris_number_at(const uint8_t *bytes, size_t at) {
+    return bytes[at] | (uint32_t)bytes[at + 1] << 8 | (uint32_t)bytes[at + 2] << 16 | (uint32_t)bytes[at + 3] << 24;
+}
+
+static inline uint64_t mantelorris_word_at(const uint8_t *bytes, size_t at) {
+    return mantelorris_number_at(bytes, at) | (uint64_t)mantelorris_number_at(bytes, at + 4) << 32;
+}
+
+static inline void mantelorris_put_number(uint8_t *bytes, size_t at, uint32_t number) {
+    for (size_t i = 0; i < 4; i++) bytes[at + i] = (uint8_t)(number >> 8 * i);
+}
+
+/* ---- what a state says (docs/STATE.md), after a call on it that answered 0: the server's number, heard time (the greatest of its notices and images), the
+ * recorded length of the log, and the sync mark */
 
 static inline uint32_t mantelorris_server(const uint8_t *state) {
     return state[4];
 }
 
-static inline uint64_t mantelorris_word_at(const uint8_t *state, size_t at) {
-    uint64_t word = 0;
-    for (size_t i = 0; i < 8; i++) word |= (uint64_t)state[at + i] << 8 * i;
-    return word;
+static inline uint32_t mantelorris_heard(const uint8_t *state) {
+    return mantelorris_number_at(state, 8);
 }
 
 static inline uint64_t mantelorris_length(const uint8_t *state) {
@@ -281,11 +296,7 @@ static inline uint64_t mantelorris_mark(const uint8_t *state) {
     return mantelorris_word_at(state, 32);
 }
 
-/* ---- a point in the state (docs/STATE.md), after a call that answered 0. Drive a gate from its value, and only once the log is synced */
-
-static inline uint32_t mantelorris_number_at(const uint8_t *bytes, size_t at) {
-    return bytes[at] | (uint32_t)bytes[at + 1] << 8 | (uint32_t)bytes[at + 2] << 16 | (uint32_t)bytes[at + 3] << 24;
-}
+/* ---- a point in the state, after a call that answered 0. Drive a gate from its value, and only once the log is synced */
 
 static inline size_t mantelorris_point_at(uint32_t point) {
     return 1064 + 32 * (size_t)(point % MANTELORRIS_POINTS);
@@ -299,12 +310,98 @@ static inline uint32_t mantelorris_quality(const uint8_t *state, uint32_t point)
     return state[mantelorris_point_at(point) + 1];
 }
 
+/* where the point was given to; 0 where the status is neither MANTELORRIS_GIVEN nor MANTELORRIS_RELEASED */
+static inline uint32_t mantelorris_destination(const uint8_t *state, uint32_t point) {
+    return state[mantelorris_point_at(point) + 2];
+}
+
 static inline int32_t mantelorris_value(const uint8_t *state, uint32_t point) {
     return (int32_t)mantelorris_number_at(state, mantelorris_point_at(point) + 4);
 }
 
 static inline uint32_t mantelorris_move(const uint8_t *state, uint32_t point) {
     return mantelorris_number_at(state, mantelorris_point_at(point) + 8);
+}
+
+/* ---- the plan: write the row of each of the 64 points, then ask which row is bad */
+
+#define MANTELORRIS_PLAN_ROW 16
+
+/* the row of this point in a plan of MANTELORRIS_PLAN_SIZE bytes, as given, good or not; of a point above 63 nothing is written */
+static inline void mantelorris_plan_row(uint8_t *plan, uint32_t point, int32_t low, int32_t high, int32_t fallback, uint32_t home) {
+    size_t at = MANTELORRIS_PLAN_ROW * (size_t)point;
+    if (point >= MANTELORRIS_POINTS) return;
+    mantelorris_put_number(plan, at, (uint32_t)low);
+    mantelorris_put_number(plan, at + 4, (uint32_t)high);
+    mantelorris_put_number(plan, at + 8, (uint32_t)fallback);
+    mantelorris_put_number(plan, at + 12, home);
+}
+
+/* the point of the first row that found and recover refuse with 1, MANTELORRIS_POINTS where there is none: low <= fallback <= high, and the home is a server */
+static inline uint32_t mantelorris_plan_bad_row(const uint8_t *plan) {
+    for (uint32_t point = 0; point < MANTELORRIS_POINTS; point++) {
+        size_t at = MANTELORRIS_PLAN_ROW * (size_t)point;
+        int32_t low = (int32_t)mantelorris_number_at(plan, at), high = (int32_t)mantelorris_number_at(plan, at + 4);
+        int32_t fallback = (int32_t)mantelorris_number_at(plan, at + 8);
+        if (fallback < low || high < fallback || mantelorris_number_at(plan, at + 12) >= MANTELORRIS_SERVERS) return point;
+    }
+    return MANTELORRIS_POINTS;
+}
+
+/* ---- what bytes are, by the first four: of a card the log or a checkpoint, of what came over the line an image. Recovery and take tell whether they are
+ * good ones */
+
+static inline int mantelorris_begins(const uint8_t *bytes, size_t length, uint32_t magic) {
+    return length >= 4 && mantelorris_number_at(bytes, 0) == magic;
+}
+
+/* 57 4C 47 31: a log, or the tail of a checkpoint */
+static inline int mantelorris_is_log(const uint8_t *bytes, size_t length) {
+    return mantelorris_begins(bytes, length, 0x31474C57);
+}
+
+/* 57 4C 47 32 */
+static inline int mantelorris_is_checkpoint(const uint8_t *bytes, size_t length) {
+    return mantelorris_begins(bytes, length, 0x32474C57);
+}
+
+/* 4D 56 49 31 */
+static inline int mantelorris_is_image(const uint8_t *bytes, size_t length) {
+    return mantelorris_begins(bytes, length, 0x3149564D);
+}
+
+#define MANTELORRIS_CHECKPOINT_HEAD 44
+
+/* the length of the checkpoint that begins here, by its head alone: lend the first MANTELORRIS_CHECKPOINT_HEAD bytes or more. 0: no checkpoint begins here, or its
+ * head is damaged */
+static inline size_t mantelorris_checkpoint_length(const uint8_t *bytes, size_t length) {
+    if (length < MANTELORRIS_CHECKPOINT_HEAD || !mantelorris_is_checkpoint(bytes, length)) return 0;
+    uint32_t clients = mantelorris_number_at(bytes, 32), records = mantelorris_number_at(bytes, 40);
+    if (mantelorris_number_at(bytes, 12) != MANTELORRIS_CHECKPOINT_HEAD || mantelorris_number_at(bytes, 16) != 1024) return 0;
+    if (mantelorris_number_at(bytes, 20) != 1068 || mantelorris_number_at(bytes, 24) != 1024) return 0;
+    if (mantelorris_number_at(bytes, 28) != 2092 || clients % 8 || clients > 8 * 32) return 0;
+    if (mantelorris_number_at(bytes, 36) != 2092 + clients || records % 20 || records > 20 * 512) return 0;
+    return 2092 + (size_t)clients + records;
+}
+
+/* ---- what an image says of itself, of MANTELORRIS_IMAGE_LEAST bytes or more that mantelorris_is_image tells: where to send it on after refusal 11, say */
+
+#define MANTELORRIS_IMAGE_LEAST 48
+
+static inline uint32_t mantelorris_image_point(const uint8_t *image) {
+    return image[4];
+}
+
+static inline uint32_t mantelorris_image_destination(const uint8_t *image) {
+    return image[5];
+}
+
+static inline uint32_t mantelorris_image_source(const uint8_t *image) {
+    return image[6];
+}
+
+static inline uint32_t mantelorris_image_move(const uint8_t *image) {
+    return mantelorris_number_at(image, 8);
 }
 
 /* ---- client and call of a request, result or refusal packet that a call has accepted or made */
@@ -315,6 +412,45 @@ static inline uint32_t mantelorris_packet_client(const uint8_t *packet) {
 
 static inline uint32_t mantelorris_packet_call(const uint8_t *packet) {
     return mantelorris_number_at(packet, 8);
+}
+
+/* ---- names, to print; of what this version does not have: "unknown op" and so on */
+
+static inline const char *mantelorris_op_name(uint32_t op) {
+    switch (op) {
+    case MANTELORRIS_READ: return "read";
+    case MANTELORRIS_SET: return "set";
+    case MANTELORRIS_STEP: return "step";
+    case MANTELORRIS_REPORT: return "report";
+    case MANTELORRIS_FAULT: return "fault";
+    case MANTELORRIS_PART: return "part";
+    default: return "unknown op";
+    }
+}
+
+static inline const char *mantelorris_outcome_name(uint32_t outcome) {
+    switch (outcome) {
+    case MANTELORRIS_OUTCOME_DONE: return "done";
+    case MANTELORRIS_OUTCOME_OUT_OF_RANGE: return "out of range";
+    case MANTELORRIS_OUTCOME_INVALID: return "invalid";
+    case MANTELORRIS_OUTCOME_FALLBACK: return "fallback";
+    case MANTELORRIS_OUTCOME_STOPPED: return "stopped";
+    default: return "unknown outcome";
+    }
+}
+
+static inline const char *mantelorris_quality_name(uint32_t quality) {
+    return quality == MANTELORRIS_VALID ? "valid" : quality == MANTELORRIS_INVALID ? "invalid" : "unknown quality";
+}
+
+static inline const char *mantelorris_status_name(uint32_t status) {
+    switch (status) {
+    case MANTELORRIS_ABSENT: return "absent";
+    case MANTELORRIS_HELD: return "held";
+    case MANTELORRIS_GIVEN: return "given";
+    case MANTELORRIS_RELEASED: return "released";
+    default: return "unknown status";
+    }
 }
 
 #ifdef __cplusplus

@@ -74,4 +74,16 @@ due 1 ci <<'END'
 rt: FAILED: b/two
 4 passed, 1 failed
 END
-echo "progress.py: 3 cases"
+# of many crates it says about how long is left; of those that were proved before nothing
+seq 60 | sed 's/.*/d&: a/; 1i a:' >"$folder/crates.txt"
+says 0 <<'END'
+rt: a proved (1 s)
+rt: d1 proved (unchanged since it was last proved)
+rt: ok, 61 crates proved
+END
+due 0 check <<'END'
+1/61 rt: a proved (1 s), about 8 min left
+2/61 1 unchanged
+rt: ok, 61 crates proved
+END
+echo "progress.py: 4 cases"

@@ -24,7 +24,8 @@ def sqlite_version():
 def build(work):
     dist = os.environ.get('MANTELORRIS_DIST')
     if not dist:
-        subprocess.run(['tools/lib.sh'], check=True, stdout=subprocess.DEVNULL)
+        if subprocess.run(['tools/lib.sh'], stdout=subprocess.DEVNULL).returncode:
+            sys.exit('bench-peer: without the library there is nothing to measure')
         dist = 'dist'
     for side in SIDES:
         libraries = {'kernel': ['-L' + dist, '-lmantelorris'], 'sqlite': ['-lsqlite3']}[side]

@@ -41,7 +41,7 @@ def main():
     if claim not in CLAIMS:
         sys.exit('no claim %s; there are %s' % (claim, ', '.join(CLAIMS)))
     os.chdir(os.path.join(os.path.dirname(os.path.abspath(__file__)), '..'))
-    files = [f for f in sorted(glob.glob('crates/model/specs/*.antt')) if not re.search(r'/(Yard|Letters|Lib)\.antt$', f)]
+    files = [f for f in sorted(glob.glob('crates/model/specs/*.antt')) if not re.search(r'/(Simulator|Letters|Lib)\.antt$', f)]
     files += ['crates/claim/specs/%s.antt' % name for name in ('World', 'Provisos', 'Claim')]
     files += ['crates/%s.antt' % name for name in CLAIMS[claim]]
     every = [d for f in files for d in definitions(f)]

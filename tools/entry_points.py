@@ -24,17 +24,17 @@ ENTRY = {
     'client': 'start issue resend receive',
     'leases': 'open_lease renew query',
     'chamber': 'start issue resend receive',
-    'simulator_text': 'line_of',
+    'simulator_text': 'line_of is_closed',
     'simulator': 'simulate',
 }
 # crates of leaves: they read or write at a place that their callers have tested
 LEAF_CRATES = 'format_numbers format_fields format_floors format_image_rows format_image_writer format_packet_writer format_log_writer state_rows state_sound_rows'.split()
 # crates of parts of a call, on a buffer that the call's first tests have passed
 LEAF_CRATES += 'state_records state_clients server_apply state_image server_replay'.split()
-# crates of parts of the simulator, on memory that `new_yard` has laid out
-LEAF_CRATES += 'simulator_store simulator_delivery simulator_client simulator_server simulator_state'.split()
-# leaves elsewhere: rows at a place, what is read once an entry point has answered that it is there, places of an id, what a client's call changes, of the open call at its place, and a
-# lease stored at its place
+# the simulator's packets and clients, on memory that `new_simulator` has laid out
+LEAF_CRATES += ['simulator_memory']
+# leaves elsewhere: rows at a place, what is read once an entry point has answered that it is there, places of an id, what a client's call changes, of the open call at its place, a
+# lease stored at its place, and modules of the simulator
 LEAVES = {
     'format_commands': 'plan_entry plan_row_ok',
     'format_image_reader': 'values_in_range',
@@ -48,6 +48,7 @@ LEAVES = {
     'client': 'issue_change resend_answer receive_change',
     'leases': 'stored',
     'simulator_text': 'put_reply',
+    'simulator': 'deliver_line server_step client_step step new_simulator run_new',
 }
 
 os.chdir(os.path.join(os.path.dirname(os.path.abspath(__file__)), '..'))

@@ -6,13 +6,14 @@ import html, os, subprocess, sys, tempfile
 os.chdir(os.path.join(os.path.dirname(os.path.abspath(__file__)), '..'))
 PICTURE = 'docs/pictures/fence.svg'
 LANES = [('lost', 'controller 1'), ('next', 'controller 3'), ('cabinet', 'cabinet'), ('manager', 'lease manager')]
-LEFT, LANE, PANEL, TOP, ROW = 70, 130, 560, 84, 30
+LEFT, LANE, WIDTH, TOP, ROW, FOOT = 80, 178, 740, 84, 26, 62
 
 
 def said():
     dist = os.environ.get('MANTELORRIS_DIST')
     if not dist:
-        subprocess.run(['tools/lib.sh'], check=True, stdout=subprocess.DEVNULL)
+        if subprocess.run(['tools/lib.sh'], stdout=subprocess.DEVNULL).returncode:
+            sys.exit('no picture: the schedule runs on the library')
         dist = 'dist'
     with tempfile.TemporaryDirectory() as work:
         program = os.path.join(work, 'fence')
@@ -31,13 +32,14 @@ def panels(text):
     return out
 
 
-def panel(title, events, x0, svg):
-    """one run, its lanes from x0 on"""
+def panel(title, events, y0, svg):
+    """one run, from y0 on; returns where it ends"""
+    svg.append('<g transform="translate(0 %d)">' % y0)
     text = lambda x, y, s, more='': svg.append('<text x="%d" y="%d"%s>%s</text>' % (x, y, more, html.escape(s)))
-    lane = {name: x0 + LEFT + LANE * i for i, (name, _) in enumerate(LANES)}
+    lane = {name: LEFT + LANE * i for i, (name, _) in enumerate(LANES)}
     both = events[-1][1] != '0' and events[-1][2] != '0'
     bottom = TOP + ROW * (len(events) - 1)
-    text(x0 + 20, 24, title, ' font-size="15" font-weight="bold"')
+    text(20, 24, title, ' font-size="16" font-weight="bold"')
     for name, shown in LANES:
         text(lane[name], 54, shown, ' text-anchor="middle" fill="#555"')
         svg.append('<line x1="%d" y1="62" x2="%d" y2="%d" stroke="#bbb"/>' % (lane[name], lane[name], bottom))
@@ -60,20 +62,21 @@ def panel(title, events, x0, svg):
             svg.append('<polyline points="%s" fill="none" stroke="%s" marker-end="url(#tip)"/>' % (' '.join('%d,%d' % p for p in way), colour))
             text(to + 7, y + (16 if x > to else 4), event[3], ' fill="%s"' % colour)
         else:
-            text(x0 + 20, bottom + 30, 'upper gate at %s, lower gate at %s%s' % (event[1], event[2], ': both open' if both else ''),
+            text(20, bottom + 30, 'upper gate at %s, lower gate at %s%s' % (event[1], event[2], ': both open' if both else ''),
                  ' font-weight="bold" fill="%s"' % ('#b00' if both else '#060'))
+    svg.append('</g>')
+    return y0 + bottom + FOOT
 
 
 def drawn(runs):
-    rows = max(len(events) for _, events in runs)
-    width, height = PANEL * len(runs), TOP + ROW * rows + 50
-    svg = ['<svg xmlns="http://www.w3.org/2000/svg" viewBox="0 0 %d %d" font-family="sans-serif" font-size="12">' % (width, height),
+    """the runs one below the other, so that a page shows their words at full size"""
+    body, end = [], 0
+    for title, events in runs:
+        end = panel(title, events, end, body)
+    svg = ['<svg xmlns="http://www.w3.org/2000/svg" viewBox="0 0 %d %d" width="%d" font-family="sans-serif" font-size="13">' % (WIDTH, end, WIDTH),
            '<defs><marker id="tip" viewBox="0 0 8 8" refX="8" refY="4" markerWidth="8" markerHeight="8" orient="auto"><path d="M0,0 L8,4 L0,8 z" fill="#345"/></marker></defs>',
-           '<rect width="%d" height="%d" fill="white"/>' % (width, height)]
-    for k, (title, events) in enumerate(runs):
-        panel(title, events, PANEL * k, svg)
-    svg.append('</svg>')
-    return '\n'.join(svg) + '\n'
+           '<rect width="%d" height="%d" fill="white"/>' % (WIDTH, end)]
+    return '\n'.join(svg + body + ['</svg>']) + '\n'
 
 
 picture = drawn(panels(said()))

@@ -37,7 +37,8 @@ def versions():
 
 
 def counted():
-    world, crates = 'crates/claim/specs/World.antt', dict(matches(r'^(\w+):(.*)$', 'crates.txt'))
+    world, calls, crates = 'crates/claim/specs/World.antt', 'crates/model/specs/Calls.antt', dict(matches(r'^(\w+):(.*)$', 'crates.txt'))
+    events = set(constructors(world, 'Event') + constructors(world, 'OutsideCall') + constructors(calls, 'OperationOf') + constructors(calls, 'Inquiry'))
     return {
         'sentences': len(matches(r'^- \*\*R\d+\*\* ', 'docs/REFERENCE.md')),
         'crates': len(crates),
@@ -46,7 +47,7 @@ def counted():
         'mutations': len(glob.glob('crates/proof_mutations/must-fail/*.edit')),
         'refusals': len(matches(r'^    X\((\w+), \d+,', 'include/mantelorris.h')),
         'server-calls': len(set(matches(r'^(?:uint64_t|struct \w+) mantelorris_(\w+)\(', 'include/mantelorris.h'))),
-        'event-calls': len(set(constructors(world, 'Event') + constructors(world, 'OutsideCall')) - {'store', 'crash', 'outside'}),
+        'event-calls': len(events - {'call', 'inquire', 'store', 'crash', 'outside'}),
         'events': in_list('crates/proof_sanity/specs/Moved.antt', 'schedule'),
         'lock-events': in_list('crates/chamber_safety/specs/Handed.antt', 'handed'),
         'cases': in_list('crates/model_cases/specs/Table.antt', 'cases'),

@@ -1,5 +1,5 @@
 #!/usr/bin/env python3
-"""guide_pictures.py [--check]: draws the five pictures of docs/GUIDE.md into docs/pictures; with --check, compares them with what is stored. Fails where a text
+"""guide_pictures.py [--check]: draws the pictures of docs/HOW.md and docs/GUIDE.md into docs/pictures; with --check, compares them with what is stored. Fails where a text
 overlaps another or leaves the picture."""
 import os, sys
 import figures
@@ -46,6 +46,38 @@ class Picture:
         return ('<svg xmlns="http://www.w3.org/2000/svg" viewBox="0 0 %d %d" width="%d" height="%d" font-family="Helvetica, Arial, sans-serif">\n<defs>%s%s</defs>\n'
                 '<rect width="100%%" height="100%%" fill="%s"/>\n' % (self.width, self.height, self.width, self.height, tip % ('tip', INK), tip % ('red', RED), PAPER)
                 + '\n'.join(self.shapes) + '\n</svg>\n')
+
+
+def how():
+    p = Picture(820, 370)
+    p.box(20, 60, 130, 110, 'desk', ['numbers its', 'commands'])
+    p.box(300, 20, 230, 220, '', fill=GREEN)
+    p.text(415, 44, 'cabinet', bold=True)
+    p.box(320, 62, 190, 52, '2  a new id', ['carried out, recorded'], fill=PAPER)
+    p.box(320, 170, 190, 52, '5  a known id', ['its record is read'], fill=PAPER)
+    p.box(320, 300, 190, 52, 'card', ['keeps the log'])
+    p.box(680, 60, 120, 60, 'gate', ['actuator'])
+    p.box(680, 170, 120, 60, 'other', ['cabinet'], fill=GREEN)
+    p.line([(150, 80), (320, 80)])
+    p.text(225, 72, '1  command, id', small=True)
+    p.line([(320, 106), (150, 106)])
+    p.text(225, 122, '4  result, once saved', small=True)
+    p.line([(85, 170), (85, 188), (320, 188)])
+    p.text(196, 182, '1  the same again', small=True)
+    p.line([(320, 212), (56, 212), (56, 170)])
+    p.text(192, 228, '5  the same result', small=True)
+    p.line([(440, 240), (440, 300)])
+    p.text(450, 266, '3  record, before', anchor='start', small=True)
+    p.text(450, 282, 'anybody hears of it', anchor='start', small=True)
+    p.line([(370, 300), (370, 240)])
+    p.text(360, 274, 'at restart', anchor='end', small=True)
+    p.line([(530, 90), (680, 90)])
+    p.text(605, 82, '4  value,', small=True)
+    p.text(605, 106, 'once saved', small=True)
+    p.line([(530, 200), (680, 200)])
+    p.text(605, 192, '6  a point', small=True)
+    p.text(605, 216, 'with its records', small=True)
+    return p
 
 
 def host():
@@ -194,14 +226,14 @@ def checkpoint():
 
 
 def main():
-    for name, draw in (('host', host), ('sequence', sequence), ('point', point), ('boot', boot), ('checkpoint', checkpoint)):
+    for name, draw in (('how', how), ('host', host), ('sequence', sequence), ('point', point), ('boot', boot), ('checkpoint', checkpoint)):
         path, text = 'docs/pictures/guide_%s.svg' % name, draw().svg(name)
         if '--check' in sys.argv:
             if not os.path.exists(path) or open(path, encoding='utf-8').read() != text:
                 sys.exit('%s is not what tools/guide_pictures.py draws' % path)
         else:
             open(path, 'w', encoding='utf-8').write(text)
-    print('five pictures')
+    print('six pictures')
 
 
 if __name__ == '__main__':

@@ -1,6 +1,6 @@
 #!/usr/bin/env python3
-"""house.py [--check]: draws docs/pictures/house.svg, the crates by layer with their real imports: what a crate's sources, definitions and
-proofs name of another. An import that follows from others is left out. Fails if crates.txt lists a crate that is not named, or lacks one that is, or if an import goes up, or
+"""house.py [--check]: draws docs/pictures/house.svg, the crates by layer, and which layer rests on which by the crates' real imports: what a crate's sources, definitions and
+proofs name of another. An arrow that follows from others is left out; in a layer a crate rests on later ones only. Fails if crates.txt lists a crate that is not named, or lacks one that is, or if an import goes up, or
 from what is claimed and proved into code; --check also fails if the stored picture is not the one made now."""
 import glob, os, re, sys
 
@@ -10,7 +10,7 @@ PICTURE = 'docs/pictures/house.svg'
 # the layers from top to bottom, on the left the product, on the right what is claimed and proved of it; a crate belongs to the first whose test it passes
 PRODUCT = [
     ('programs and C interfaces', lambda n: n in ('yard', 'inspector', 'kernel', 'client_c') or n.endswith('_c')),
-    ('above the kernel: the lock chamber controller', lambda n: n == 'chamber'),
+    ('the lock chamber controller', lambda n: n == 'chamber'),
     ('simulator', lambda n: n.startswith('simulator')),
     ('parties beside the server', lambda n: n in ('client', 'leases')),
     ('server: calls, decisions, changes', lambda n: n.startswith('server_')),
@@ -90,13 +90,24 @@ def rows_of(members, direct):
     return [rows[k] for k in sorted(rows)]
 
 
-BOX, GAP, HIGH, STEP, HEAD = 7.2, 14, 24, 46, 22
+BOX, GAP, HIGH, STEP, HEAD, BETWEEN = 7.2, 10, 24, 32, 22, 30
+WIDE = 820
+# the layers on the page, by column and place in it: left end and width, in rows from top to bottom
+ROWS = [
+    {(0, 0): (20, 500), (1, 0): (560, 240)},
+    {(0, 2): (20, 320), (0, 1): (360, 160)},
+    {(0, 4): (20, 320), (0, 3): (360, 160)},
+    {(0, 5): (20, 320)},
+    {(0, 6): (20, 500)},
+    {(2, 0): (20, 780)},
+]
+BESIDE = [(1, 1), (1, 2), (1, 3)]  # below (1, 0), one under the other
 
 
-def split(row, wide):
-    """a row in lines that are not wider than the column"""
+def split(names, wide):
+    """the crates in lines that are not wider than their layer"""
     lines, line, used = [], [], 0
-    for n in row:
+    for n in names:
         w = len(n) * BOX + 16
         if line and used + w > wide:
             lines.append(line)
@@ -106,65 +117,84 @@ def split(row, wide):
     return lines + [line]
 
 
-def band(title, rows, left, top, wide, place, out):
-    """draws one layer and returns where it ends; place gets each crate's box"""
-    lines = [l for row in rows for l in split(row, wide - 24)]
-    tall = HEAD + len(lines) * STEP - (STEP - HIGH) + 12
-    out.append('<rect x="%d" y="%d" width="%d" height="%d" rx="6" fill="#f3f5f7" stroke="#c8d0d8"/>' % (left, top, wide, tall))
-    out.append('<text x="%d" y="%d" font-size="12" fill="#56616c">%s</text>' % (left + 10, top + 15, title))
+def band(title, names, left, top, wide, out):
+    """draws one layer with its crates, and returns where it ends"""
+    title, lines = split_title(title, wide), split(names, wide - 24)
+    head = HEAD + 14 * (len(title) - 1)
+    tall = head + len(lines) * STEP - (STEP - HIGH) + 12
+    out.append('<rect x="%d" y="%d" width="%d" height="%d" rx="6" fill="#f3f5f7" stroke="#9fb0c0"/>' % (left, top, wide, tall))
+    for i, words in enumerate(title):
+        out.append('<text x="%d" y="%d" font-size="12" font-weight="bold" fill="#33475b">%s</text>' % (left + 10, top + 16 + 14 * i, words))
     for i, line in enumerate(lines):
         widths = [len(n) * BOX + 16 for n in line]
-        x = left + (wide - sum(widths) - GAP * (len(line) - 1)) / 2
-        y = top + HEAD + i * STEP
+        x, y = left + (wide - sum(widths) - GAP * (len(line) - 1)) / 2, top + head + i * STEP
         for n, w in zip(line, widths):
-            place[n] = (x, y, w)
+            out.append('<rect x="%.0f" y="%.0f" width="%.0f" height="%d" rx="4" fill="#ffffff" stroke="#33475b"/>' % (x, y, w, HIGH))
+            out.append('<text x="%.0f" y="%.0f" text-anchor="middle" font-size="12">%s</text>' % (x + w / 2, y + 16, n))
             x += w + GAP
-    return top + tall + 26
+    return top + tall
+
+
+def split_title(title, wide):
+    words, lines = title.split(), ['']
+    for w in words:
+        if len(lines[-1]) + len(w) + 1 > (wide - 16) / BOX:
+            lines.append('')
+        lines[-1] = (lines[-1] + ' ' + w).strip()
+    return lines
+
+
+def arrow(a, b, turned):
+    """from one layer's rectangle to another's, both as left, top, right, bottom"""
+    if turned:
+        y = (max(a[1], b[1]) + min(a[3], b[3])) / 2
+        ends = (a[2], y, b[0], y)
+    else:
+        left, right = max(a[0], b[0]), min(a[2], b[2])
+        x = (left + right) / 2
+        ends = (x, a[3], x, b[1]) if left < right else (a[2] - 30, a[3], b[0] + 30, b[1])
+    return '<path d="M%.0f %.0fL%.0f %.0f" fill="none" stroke="#4f6b86" stroke-width="2" marker-end="url(#head)"/>' % ends
 
 
 def picture(crates, direct):
-    place, out = {}, []
-    rest = set(crates)
+    bands = {(c, i): band for c, column in enumerate((PRODUCT, PROOF, BASE)) for i, band in enumerate(column)}
+    members = {key: [n for row in rows_of({n for n in crates if layer(n) == key}, direct) for n in row] for key in bands}
+    out, place = [], {}
 
-    def members(test):
-        mine = {n for n in rest if test(n)}
-        rest.difference_update(mine)
-        return mine
+    def put(key, left, top, wide):
+        end = band(bands[key][0], members[key], left, top, wide, out)
+        place[key] = (left, top, left + wide, end)
+        return end + BETWEEN
 
-    ends = []
-    for left, wide, bands in ((20, 700, PRODUCT), (750, 330, PROOF)):
-        top = 20
-        for title, test in bands:
-            mine = members(test)
-            if mine:
-                top = band(title, rows_of(mine, direct), left, top, wide, place, out)
-        ends.append(top)
-    top = max(ends)
-    for title, test in BASE:
-        top = band(title, rows_of(members(test), direct), 20, top, 1060, place, out)
-    if rest:
-        sys.exit('in no layer: ' + ' '.join(sorted(rest)))
-    lines = []
-    for n, ds in sorted(reduced(direct).items()):
-        for d in sorted(ds):
-            (x, y, w), (u, v, s) = place[n], place[d]
-            a, b, c, e = x + w / 2, y + HIGH, u + s / 2, v
-            if v <= y:
-                a, b, c, e = x + w, y + HIGH / 2, u, v + HIGH / 2
-            m = (b + e) / 2
-            lines.append('<path d="M%.0f %.0f C%.0f %.0f %.0f %.0f %.0f %.0f" fill="none" stroke="#7a93ad" stroke-width="1" opacity="0.55" marker-end="url(#head)"/>' % (a, b, a, m, c, m, c, e))
-    boxes = []
-    for n, (x, y, w) in sorted(place.items()):
-        boxes.append('<rect x="%.0f" y="%.0f" width="%.0f" height="%d" rx="4" fill="#ffffff" stroke="#33475b"/>' % (x, y, w, HIGH))
-        boxes.append('<text x="%.0f" y="%.0f" text-anchor="middle" font-size="12">%s</text>' % (x + w / 2, y + 16, n))
-    head = '<svg xmlns="http://www.w3.org/2000/svg" width="1100" height="%d" font-family="monospace">\n' % top
-    head += '<defs><marker id="head" viewBox="0 0 8 8" refX="7" refY="4" markerWidth="7" markerHeight="7" orient="auto"><path d="M0 0L8 4L0 8z" fill="#7a93ad"/></marker></defs>\n'
-    head += '<rect width="1100" height="%d" fill="#ffffff"/>' % top
-    return '\n'.join([head] + out + lines + boxes + ['</svg>']) + '\n'
+    top = 20
+    for row in ROWS[:-1]:
+        top = max(put(key, left, top, wide) for key, (left, wide) in row.items() if key[0] == 0)
+    left, wide = ROWS[0][(1, 0)]
+    # the lock's proofs stand beside the controller, which rests on what is claimed there
+    beside = place[(0, 1)][1]
+    for key in [(1, 0)] + BESIDE:
+        beside = put(key, left, beside, wide)
+    top = max(top, beside)
+    for key, (left, wide) in ROWS[-1].items():
+        top = put(key, left, top, wide)
+    above = {key: set() for key in bands}
+    for n, ds in direct.items():
+        above[layer(n)] |= {layer(d) for d in ds} - {layer(n)}
+    lines = [arrow(place[a], place[b], a[0] == 0 and b[0] == 1) for a, bs in sorted(reduced(above).items()) for b in sorted(bs)]
+    for i, words in enumerate(('An arrow: rests on. What follows from other arrows is left out.', 'In a layer a crate rests on later ones only, read from left to right and down.')):
+        out.append('<text x="20" y="%d" font-size="12" fill="#56616c">%s</text>' % (top + 16 * i, words))
+    top += 32
+    head = '<svg xmlns="http://www.w3.org/2000/svg" viewBox="0 0 %d %d" width="%d" height="%d" font-family="monospace">\n' % (WIDE, top, WIDE, top)
+    head += '<defs><marker id="head" viewBox="0 0 8 8" refX="7" refY="4" markerWidth="5" markerHeight="5" orient="auto"><path d="M0 0L8 4L0 8z" fill="#4f6b86"/></marker></defs>\n'
+    head += '<rect width="%d" height="%d" fill="#ffffff"/>' % (WIDE, top)
+    return '\n'.join([head] + out + lines + ['</svg>']) + '\n'
 
 
 def main():
     crates = listed()
+    homeless = [n for n in crates if not any(test(n) for bands in (PRODUCT, PROOF, BASE) for _, test in bands)]
+    if homeless:
+        sys.exit('in no layer: ' + ' '.join(sorted(homeless)))
     direct = {n: imports(n, crates) for n in crates}
     bad = []
     for n in sorted(crates):

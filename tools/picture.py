@@ -330,7 +330,10 @@ def main():
         svg = picture(schedule, answers, words[3] if len(words) == 4 else os.path.basename(words[0])).svg()
     except Misfit as misfit:
         sys.exit(str(misfit))
-    open(words[2], 'w', encoding='utf-8').write(svg)
+    try:
+        open(words[2], 'w', encoding='utf-8').write(svg)
+    except OSError as error:
+        sys.exit('no picture: %s: %s' % (words[2], error.strerror))
 
 
 if __name__ == '__main__':

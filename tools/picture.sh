@@ -6,6 +6,7 @@ set -eu
 name=${1##*/}
 out=${2:-}
 [ -n "$out" ] || out=${name%.*}.svg
+[ -d "$(dirname "$out")" ] || { echo "no picture: there is no folder $(dirname "$out")" >&2; exit 2; }
 tools=$(cd "$(dirname "$0")" && pwd)
 answers=$(mktemp)
 trap 'rm -f "$answers"' EXIT

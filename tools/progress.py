@@ -38,8 +38,14 @@ class Progress:
         tried = crates if command in ('ci', 'must-fail') else ()
         self.total = {CRATE: len(crates), EDIT: sum(len(glob.glob('crates/%s/must-fail/*.edit' % c)) for c in tried)}
         self.done = {CRATE: 0, EDIT: 0}
-        self.command, self.unchanged, self.pending = command, 0, []
+        self.command, self.unchanged, self.skipped, self.pending = command, 0, 0, []
         self.began, self.live = time.time(), sys.stdout.isatty()
+
+    def left(self):
+        """the minutes left, a rough guess, in words; crates proved so far tell, and before there are some, ten seconds each"""
+        proved, rest = self.done[CRATE] - self.skipped, self.total[CRATE] - self.done[CRATE]
+        minutes = rest * (time.time() - self.began + 50) / (proved + 5) / 60
+        return ', about %d min left' % round(minutes) if self.command in ('check', 'prove') and minutes >= 1 else ''
 
     def say(self, text):
         print(('\r\x1b[K' if self.live else '') + text, flush=True)
@@ -47,7 +53,7 @@ class Progress:
     def tick(self):
         if self.live:
             what = EDIT if self.done[EDIT] else CRATE
-            print('\r\x1b[K   .. %d/%d %s, %d s' % (self.done[what], self.total[what], 'edits' if what is EDIT else 'crates', time.time() - self.began), end='', flush=True)
+            print('\r\x1b[K   .. %d/%d %s, %d s%s' % (self.done[what], self.total[what], 'edits' if what is EDIT else 'crates', time.time() - self.began, self.left()), end='', flush=True)
 
     def flush_unchanged(self):
         if self.unchanged and self.command != 'staticlib':
@@ -58,6 +64,7 @@ class Progress:
         if UNCHANGED.match(text):
             self.done[CRATE] += 1
             self.unchanged += 1
+            self.skipped += 1
             return
         if not text.startswith('rt: ') and not GOOD.match(text):
             self.pending.append(text)
@@ -71,7 +78,7 @@ class Progress:
             if what.match(text):
                 self.done[what] += 1
                 number = '%d/%d ' % (self.done[what], self.total[what])
-        self.say(number + text)
+        self.say(number + text + (self.left() if CRATE.match(text) and GOOD.match(text) else ''))
 
     def finish(self, status):
         self.flush_unchanged()

@@ -4,7 +4,7 @@
 `story` reads a schedule and the answers of the program `yard` and says what each line did. What is done and what is refused it takes from the
 answers. It follows values, logs and packets for what the answers leave out (a packet's kind, the value at a server, the bytes that a power cut
 takes), and an answer that contradicts what it follows raises `Misfit`."""
-import copy, sys
+import copy, os, re, sys
 from fractions import Fraction
 
 MOST_LINES = 60
@@ -12,11 +12,15 @@ LOW, HIGH, FALLBACK = -100, 1000, 0
 HEAD, EXECUTED, MOVE, TAKE, IMAGE, FLOOR, ENTRY = 8, 28, 8, 8, 48, 8, 20  # bytes: log head, records, an image and its rows
 OPS = ['read', 'set', 'step', 'report', 'fault', 'part']
 OUTCOMES = ['', ', out of range', ', no step', ', fallback', ', stopped']
-REFUSALS = {
-    1: 'malformed', 2: 'too short', 3: 'not held', 4: 'lease over', 5: 'under the floor', 6: 'other command', 7: 'not synced',
-    8: 'clients full', 9: 'log full', 10: 'bad mark', 11: 'wrong destination', 12: 'old move', 13: 'already held', 14: 'bad log',
-    15: 'window full', 16: 'numbers out', 17: 'not known', 18: 'leases full', 19: 'not sound',
-}
+
+
+def refusals():
+    """names by number, as include/mantelorris.h has them"""
+    header = os.path.join(os.path.dirname(os.path.abspath(__file__)), '..', 'include', 'mantelorris.h')
+    return {int(number): name for number, name in re.findall(r'^    X\(\w+, (\d+), "([^"]+)"\)', open(header, encoding='utf-8').read(), flags=re.M)}
+
+
+REFUSALS = refusals()
 FIELDS = {'i': 4, 's': 2, 'd': 2, 'r': 2, 'y': 1, 'k': 2, 'g': 3, 'x': 2, 'f': 2}
 
 
@@ -71,6 +75,17 @@ def parsed(line):
         return None
     numbers = [number_in(f, letter == 'i' and k == 3) for k, f in enumerate(fields[1:])]
     return None if None in numbers else (letter, numbers)
+
+
+def why_unread(line):
+    """What to look for in a line that cannot be read."""
+    if line.endswith(b'\r'):
+        return 'it ends in CR LF, not in LF'
+    if line != line.strip(b' \t') and parsed(line.strip(b' \t')):
+        return 'a blank at its %s' % ('end' if line[-1:] in b' \t' else 'front')
+    if b'\t' in line or b'  ' in line:
+        return 'fields are parted by one blank'
+    return 'not a line of a schedule'
 
 
 def lines_of(text):
@@ -215,7 +230,7 @@ class Story:
         read = parsed(line)
         if read is None:
             self.must(answer == (1, 0, 0), 'the line cannot be read')
-            return e.says('refused', refusal_text(1) + ': not a line of a schedule')
+            return e.says('refused', refusal_text(1) + ': ' + why_unread(line))
         letter, numbers = read
         party = numbers[1] if letter in 'dr' else numbers[0]
         what = 'desk' if letter in 'isr' else 'server'

@@ -41,16 +41,10 @@ part() {
 
 count() { if [ "$1" = 0 ]; then passed=$((passed + 1)); else failed=$((failed + 1)); fi; }
 
-same_kit() {
-  local have
-  have=$(rt version) || { echo "rt is not on the PATH: install a Rattle kit of tools/kit-id:"; cat tools/kit-id; return 1; }
-  grep -qxF "$have" tools/kit-id || { echo "this check has passed with the kits"; cat tools/kit-id; echo "and here is '$have': install one of those, or, if all else passes here, add this one to tools/kit-id."; return 1; }
-  echo "$have"
-}
-
-part kit same_kit; count $?
+part kit tools/kit.sh; count $?
+command -v rt >/dev/null || { echo "0 passed, 1 failed"; exit 1; }
 part format rt fmt --check; count $?
-part yard-cases tools/yard_cases.py --check; count $?
+part simulator-cases tools/simulator_cases.py --check; count $?
 part pictures tools/picture.py --check; count $?
 part guide-pictures tools/guide_pictures.py --check; count $?
 part progress tests/progress.sh; count $?
@@ -62,6 +56,9 @@ part entry-points tools/entry_points.py; count $?
 part callers tools/callers.py; count $?
 part house tools/house.py --check; count $?
 part layout tools/layout.py; count $?
+part changelog tools/changelog.py --check; count $?
+part page tools/page.py --check; count $?
+part words tests/words.sh; count $?
 
 # the toolchain's verdict, its lines as they come; what it counted is counted here, and it fails with its exit status too
 echo "== rt ci"
@@ -101,7 +98,9 @@ compared() {
 
 in_c() {
   part client-in-c tests/c/client.sh; count $?
+  part helpers-in-c tests/c/helpers.sh; count $?
   part link-in-c tests/c/link.sh; count $?
+  part delivery tests/dist.sh; count $?
   part lock-in-c tests/c/lock.sh; count $?
   part earlier-logs tests/logs/run.sh; count $?
   part power-cuts tests/c/power.py; count $?
@@ -123,5 +122,7 @@ for name in compared in_c; do
 done
 
 echo "== all: $((SECONDS - began)) s"
+# for make dist: what was said last, and of which commit
+[ ! -d target ] || printf '%s\n%s passed, %s failed\n' "$(tools/commit.sh)" "$passed" "$failed" >target/verdict
 echo "$passed passed, $failed failed"
 [ "$failed" = 0 ]

@@ -13,13 +13,13 @@ fn lines(lines: &[&str]) -> String {
     lines.iter().map(|line| format!("{line}\n")).collect()
 }
 
-fn assert_yard(input: &[&str], output: &[&str]) {
+fn assert_answers(input: &[&str], output: &[&str]) {
     assert_eq!(run(lines(input).as_bytes()), lines(output));
 }
 
 #[test]
-fn whole_yard_case() {
-    assert_yard(
+fn whole_simulator_case() {
+    assert_answers(
         &[
             "i 0 1 5 40",
             "d 1 0",
@@ -39,8 +39,8 @@ fn whole_yard_case() {
 }
 
 #[test]
-fn yard_moves_a_point() {
-    assert_yard(
+fn simulator_moves_a_point() {
+    assert_answers(
         &[
             "i 0 1 5 -40", // packet 1
             "d 1 0",
@@ -101,7 +101,7 @@ fn yard_moves_a_point() {
 }
 
 #[test]
-fn yard_lines_that_cannot_be_read() {
+fn simulator_lines_that_cannot_be_read() {
     let bad = [
         "",
         " ",
@@ -154,8 +154,8 @@ fn yard_lines_that_cannot_be_read() {
 }
 
 #[test]
-fn yard_order_of_refusals_and_last_line() {
-    assert_yard(
+fn simulator_order_of_refusals_and_last_line() {
+    assert_answers(
         &[
             "d 1 0",
             "d 1 2",
@@ -175,7 +175,7 @@ fn yard_order_of_refusals_and_last_line() {
     let many = "y 0\n".repeat(70);
     assert_eq!(run(many.as_bytes()).lines().count(), 60);
     // Arguments at their limits, leading zeros, a give to a cabinet elsewhere.
-    assert_yard(
+    assert_answers(
         &[
             "i 0 2 5 -2147483648",
             "i 0 2 5 2147483647",
@@ -189,7 +189,7 @@ fn yard_order_of_refusals_and_last_line() {
 
 /// The window of a desk in the yard: 16 open calls, then 15.
 #[test]
-fn yard_desk_window() {
+fn simulator_desk_window() {
     let mut input: Vec<String> = (0..17).map(|_| "i 1 0 0 0".to_string()).collect();
     input.extend(["d 1 0", "d 16 0", "y 0", "d 16 0", "r 17 1", "i 1 0 0 0"].map(String::from));
     input.extend(["d 1 0", "r 18 1", "i 1 0 0 0", "d 19 0", "d 1 0"].map(String::from));
@@ -199,12 +199,12 @@ fn yard_desk_window() {
     output.extend(["25 0 0 0", "26 0 19 0", "27 0 0 0", "28 5 20 0"].map(String::from));
     let input: Vec<&str> = input.iter().map(String::as_str).collect();
     let output: Vec<&str> = output.iter().map(String::as_str).collect();
-    assert_yard(&input, &output);
+    assert_answers(&input, &output);
 }
 
 /// Any input has one answer a line, up to 60, and the same one each time.
 #[test]
-fn yard_on_random_lines() {
+fn simulator_on_random_lines() {
     let mut random = Random::new(9);
     let mut answers = [0u32; 20];
     for _ in 0..3000 {

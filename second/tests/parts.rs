@@ -361,7 +361,7 @@ fn assert_explained(server: &Server, log: &[u8], marks: &[Rules]) {
 /// The P values of part, each up to the receipt of its result; the yard's points
 /// have the range of the P cases.
 #[test]
-fn yard_gives_the_p_values() {
+fn simulator_gives_the_p_values() {
     let (mut input, mut output) = (String::new(), String::new());
     let values = [(0, -100), (5, -94), (15, -84), (333, 266), (1000, 1000)];
     for (i, (argument, value)) in values.into_iter().enumerate() {

@@ -439,7 +439,7 @@ fn old_entry_moves() {
 // The yard.
 
 #[test]
-fn yard_steps_past_the_ends() {
+fn simulator_steps_past_the_ends() {
     let input = "i 0 1 5 990\nd 1 0\ni 0 2 5 20\nd 2 0\ny 0\nd 2 0\nr 3 0\n\
                  i 0 2 5 -2147483648\nd 4 0\ny 0\nd 4 0\nr 5 0\n";
     let output = "1 0 1 0\n2 0 0 0\n3 0 2 0\n4 0 0 0\n5 0 0 0\n6 0 3 0\n7 0 0 1000\n\

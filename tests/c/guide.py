@@ -4,8 +4,10 @@
   - the worked example of a card that is not cut (tests/c/stale.c): the bytes in the guide are those of the run
   - the examples in bytes of docs/FORMATS.md (tests/c/bytes.c)
   - the archive's code size and undefined symbols; the sizes of slices and structs; how many commands a log holds
+  - the names of refusals are those of the header
+  - docs/SAFETY-FILE.md has the guide's provisos, and names what is in examples/
   - the example in README.md compiles, and prints what README.md says
-  - the example host, copied to an empty folder, is built by the line that README.md and docs/GUIDE.md have, founds its card there, and prints what it has
+  - the example host, copied to a folder without anything else, is built by the line that README.md and docs/GUIDE.md have, founds its card there, and prints what it has
 MANTELORRIS_DIST names a folder with archive and headers; without it `make lib` makes dist/."""
 import os, re, shutil, subprocess, sys, tempfile, time
 
@@ -110,29 +112,47 @@ def readme():
     count('the example of README.md, %d lines, prints what it says' % source.count('\n'), code or (said != shown and said))
 
 
+def refusal_names():
+    """the names of refusals in the guide's table are the header's"""
+    header = open(DIST + '/mantelorris.h', encoding='utf-8').read()
+    named = re.findall(r'^    X\(\w+, (\d+), "([^"]+)"\)', header, flags=re.M)
+    count('%d names of refusals' % len(named), [row[:2] for row in table('number | name | calls | what to do')] != [list(n) for n in named])
+
+
+def safety_file():
+    """docs/SAFETY-FILE.md has the provisos of the guide's two tables, and what it names of examples/ is there"""
+    page = open('docs/SAFETY-FILE.md', encoding='utf-8').read()
+    numbers = lambda text: re.findall(r'^\| (L?\d+a?) \|.*\|.*\|', text[text.index('| # |'):], flags=re.M)
+    listed = [n for part in re.findall(r'^\| # \| proviso \|.*?(?:\n\n|\Z)', GUIDE, flags=re.M | re.S) for n in numbers(part)]
+    lost = [(f, n) for f, names in re.findall(r'(\w+\.[ch]) ((?:`\w+`(?:, )?)+)', page) for n in re.findall(r'\w+', names)
+            if not re.search(r'\b%s\(.*\{$' % n, open('examples/' + f, encoding='utf-8').read(), flags=re.M)]
+    count('%d provisos in the template for a safety file' % len(listed), sorted(numbers(page)) != sorted(listed) and sorted(set(numbers(page)) ^ set(listed)) or lost)
+
+
 def copied():
-    lines = [re.search(r'^    (cc host\.c .*)$', text, flags=re.M).group(1) for text in (README, GUIDE)]
+    lines = [re.search(r'^    (cc examples/host\.c .*)$', text, flags=re.M).group(1) for text in (README, GUIDE)]
     empty = os.path.join(WORK, 'empty')
-    os.mkdir(empty)
+    os.makedirs(os.path.join(empty, 'examples'))
     os.symlink(os.path.abspath(DIST), os.path.join(empty, 'dist'))
     for name in ('host.c', 'card.h', 'card.c'):
-        shutil.copy('examples/' + name, empty)
+        shutil.copy('examples/' + name, os.path.join(empty, 'examples'))
     said = subprocess.run(lines[0].split(), cwd=empty, capture_output=True, text=True).stderr
     if not said:
-        card, server = os.path.join(empty, 'card'), subprocess.Popen(['./a.out', 'card', str(20000 + os.getpid() % 20000)], cwd=empty)
+        card, server = os.path.join(empty, 'card'), subprocess.Popen(['./host', 'card', str(20000 + os.getpid() % 20000)], cwd=empty)
         until = time.time() + 10
         while time.time() < until and not (os.path.exists(card) and os.path.getsize(card) == 8):
             time.sleep(0.01)
         server.kill()
         server.wait()
-        said = subprocess.run(['./a.out', 'card'], cwd=empty, capture_output=True, text=True).stdout
+        said = subprocess.run(['./host', 'card'], cwd=empty, capture_output=True, text=True).stdout
     count('the example host, copied and built by: ' + lines[0], lines[0] != lines[1] and lines or (not said.startswith('server 0, log 8 bytes,') and said))
 
 
 def main():
     if DIST == 'dist':
-        subprocess.run(['tools/lib.sh'], check=True, stdout=subprocess.DEVNULL)
-    for part in (stack, stale, examples, sizes, memory, readme, copied):
+        if subprocess.run(['tools/lib.sh'], stdout=subprocess.DEVNULL).returncode:
+            sys.exit('no library, and nothing to hold the documents to')
+    for part in (stack, stale, examples, sizes, memory, refusal_names, safety_file, readme, copied):
         part()
     print('%d passed, %d failed' % (passed, failed))
     shutil.rmtree(WORK)

@@ -3,7 +3,7 @@
 # 'N passed, M failed'.
 set -eu
 cd "$(dirname "$0")/../.."
-tools/staticlib.sh >/dev/null
+tools/staticlib.sh client_c kernel >/dev/null
 if command -v c++ >/dev/null; then
   printf '#include "mantelorris.h"\n#include "mantelorris_client.h"\n' | c++ -std=c++11 -Wall -Wextra -Werror -Iinclude -fsyntax-only -x c++ -
 fi

@@ -83,7 +83,7 @@ module _ (plan : List ℕ) (s : LockPoints) (ls : List LockEvent) where
     pub at : ℕ
     pub soon : at < n
     pub result : EntryResult
-    pub completes : Completes plan es at (k ∷ []) result
+    pub completes : Completes es at (k ∷ []) result
 
   -- g is the read of the role i that an event completed
   pub record ReadBy (x i : ℕ) (g : LatestRead) : Type 0 where
@@ -95,7 +95,7 @@ module _ (plan : List ℕ) (s : LockPoints) (ls : List LockEvent) where
     pub at : ℕ
     pub result : CommandResult
     pub value : result .value ≡ g .value
-    pub completes : Completes plan es at (read ∷ []) (one (resultMeant result))
+    pub completes : Completes es at (read ∷ []) (one (resultMeant result))
 
   -- one of the first n events did
   abbrev pub Seen : ℕ → ℕ → ℕ → LatestRead → Type 0
@@ -103,7 +103,7 @@ module _ (plan : List ℕ) (s : LockPoints) (ls : List LockEvent) where
 
   -- event j issues k, of client x
   abbrev pub IssuedBy : ℕ → ℕ → Command → Type 0
-  IssuedBy x j k = Issues plan es j (k ∷ []) × (k .client ≡ x)
+  IssuedBy x j k = Issues es j (k ∷ []) × (k .client ≡ x)
 
   -- the controller of x after n events
   pub record Held (n x : ℕ) (ch : Chamber) : Type 0 where
@@ -310,7 +310,7 @@ module _ (plan : List ℕ) (s : LockPoints) (ls : List LockEvent) where
       module _ (r : ResultPacket) (own : Own (ch .client) (r .client) (r .call) (r .point))
           (e : receiveOf (ch .client) b ≡ record { client = closed (ch .client) (r .call); answer = Completed r }) where
         -- the call that the result ends is completed
-        ends : Completes plan es n (commandAt (ch .client) (r .call) ∷ []) (one (resultMeant (r .result)))
+        ends : Completes es n (commandAt (ch .client) (r .call) ∷ []) (one (resultMeant (r .result)))
         ends =
             record {
               client = x;
@@ -367,7 +367,7 @@ module _ (plan : List ℕ) (s : LockPoints) (ls : List LockEvent) where
                 let q : k .call ≡ r .call = eqb-true _ _ t in
                 let f : callAt (ch .client) (r .call) ≡ callOf k = ap (callAt (ch .client)) (sym q) ∙ o .1 in
                 let g : commandAt (ch .client) (r .call) ≡ k = rw (f, number-is ∙ sym c) refl in
-                let done : Completes plan es n (k ∷ []) (one (resultMeant (r .result))) = subst (λ (z : Command). Completes plan es n (z ∷ []) (one (resultMeant (r .result)))) g ends in
+                let done : Completes es n (k ∷ []) (one (resultMeant (r .result))) = subst (λ (z : Command). Completes es n (z ∷ []) (one (resultMeant (r .result)))) g ends in
                 inl (record { at = n; soon = omega arith; result = one (resultMeant (r .result)); completes = done })
             go false t =
                 inr (o .0, getD-set-other (ch .client .calls) (placeOf (r .call)) (placeOf (k .call)) noCall noCall apart ∙ o .1)

@@ -52,7 +52,7 @@ module _ (plan : List ℕ) (s : LockPoints) (ls : List LockEvent) where
   world n = after es n
 
   abbrev pub AtKernel : ℕ → Event → Type 0
-  AtKernel n e = At plan es n e
+  AtKernel n e = At es n e
 
   -- ---- events
 

@@ -32,8 +32,8 @@ module _ (plan : List ℕ) (s : LockPoints) (ls : List LockEvent) (k : ℕ) wher
   same-lock : (n : ℕ) → n < k → lockAt plan s ls n ≡ lockAt plan s firsts n
   same-lock n h = sym (ap (λ (z : Site (lockProduct s)). z .parts) (site-first (lockProduct s) ls k n (omega arith)))
 
-  issues : (n : ℕ) (ks : List Command) → Issues plan (events plan s firsts) n ks → Issues plan (events plan s ls) n ks
-  issues n ks i = issues-first plan (events plan s ls) k n ks (subst (λ (es : List Event). Issues plan es n ks) same-events i)
+  issues : (n : ℕ) (ks : List Command) → Issues (events plan s firsts) n ks → Issues (events plan s ls) n ks
+  issues n ks i = issues-first plan (events plan s ls) k n ks (subst (λ (es : List Event). Issues es n ks) same-events i)
 
   begins : (n x : ℕ) → Begins plan s firsts n x → Begins plan s ls n x
   begins n x b =

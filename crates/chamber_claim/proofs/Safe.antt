@@ -58,7 +58,7 @@ module _ (s : LockPoints) where
   apart ok down e = gates-differ s ok (sym e)
 
 -- an event executes one command
-executes-one : (plan : List ℕ) (es : List Event) (n c d : ℕ) (j m : Marked) → Executes plan es n c j → Executes plan es n d m → j ≡ m
+executes-one : (plan : List ℕ) (es : List Event) (n c d : ℕ) (j m : Marked) → Executes es n c j → Executes es n d m → j ≡ m
 executes-one plan es n c d j m x y =
     let e = at-once plan es n _ _ (x .event) (y .event) in
     let p : x .number ≡ y .number = cc in
@@ -88,21 +88,21 @@ module _ (plan : List ℕ) (s : LockPoints) (ls : List LockEvent) (pr : LockProv
   -- an entry of the order was issued, then executed
   record Ran (m : Marked) : Type 0 where
     time : ℕ
-    survives : SurvivesAt plan es time m
+    survives : SurvivesAt es time m
     event : ℕ
     soon : event < time
-    issues : Issues plan es event (m .command ∷ [])
+    issues : Issues es event (m .command ∷ [])
 
   ran : (k : ℕ) (m : Marked) → Stands order k m → Ran m
   ran k m h =
       let v = explains .survivors (single m) .1 (place-of order k (single m) h) in
       let e = part-of m (v .part) (v .among) in
-      let t : SurvivesAt plan es (v .at) m = subst (SurvivesAt plan es (v .at)) e (v .survives) in
+      let t : SurvivesAt es (v .at) m = subst (SurvivesAt es (v .at)) e (v .survives) in
       let i = fences .issued (v .at) (t .server) m (t .executes) in
       record { time = v .at; survives = t; event = i .0; soon = i .1; issues = i .2 }
 
   -- by `real-time` and `sequence`
-  by-time : (i j n : ℕ) (k m : Marked) → Stands order i k → Stands order j m → Done plan s ls n (k .command) → Issues plan es n (m .command ∷ []) → i < j
+  by-time : (i j n : ℕ) (k m : Marked) → Stands order i k → Stands order j m → Done plan s ls n (k .command) → Issues es n (m .command ∷ []) → i < j
   by-time i j n k m p q d e =
       before-places (explains .once) i j k m p q
       (explains .real-time (d .at) n (single k) (single m) (d .result) (rw (its-commands k) at (d .completes)) (rw (its-commands m) at e) (d .soon) (place-of order i _ p) (place-of order j _ q))
@@ -197,7 +197,7 @@ module _ (plan : List ℕ) (s : LockPoints) (ls : List LockEvent) (pr : LockProv
                   at = r .at;
                   soon = soon;
                   result = one (resultMeant (r .result));
-                  completes = subst (λ (z : Command). Completes plan es (r .at) (z ∷ []) (one (resultMeant (r .result)))) (sym q) (r .completes);
+                  completes = subst (λ (z : Command). Completes es (r .at) (z ∷ []) (one (resultMeant (r .result)))) (sym q) (r .completes);
                 };
           }
 
@@ -230,7 +230,7 @@ module _ (plan : List ℕ) (s : LockPoints) (ls : List LockEvent) (pr : LockProv
             let f = r .fresh in
             omega arith
         later h (inr (inl b)) =
-            let u = issue-one plan es (p .its .event) (m .command) (y .command) (p .its .issues) (subst (λ (z : ℕ). Issues plan es z (y .command ∷ [])) b (q .its .issues)) in
+            let u = issue-one plan es (p .its .event) (m .command) (y .command) (p .its .issues) (subst (λ (z : ℕ). Issues es z (y .command ∷ [])) b (q .its .issues)) in
             apart s (begins-points plan s ls _ _ (p .begins)) (o .gates) (sym (o .on) ∙ ap (λ (z : Command). z .point) u ∙ w .on)
         later h (inr (inr b)) =
             let d = all-done plan s ls pr (q .its .event) (y .command) (q .command .chamber) (q .its .issues) (q .command .there) (p .its .event) (m .command) b (p .its .issues) e in
@@ -246,7 +246,7 @@ module _ (plan : List ℕ) (s : LockPoints) (ls : List LockEvent) (pr : LockProv
             let f = by-time l (r .place) (rr .event) y (r .marked) (w .stands) (r .stands) d (rr .issues) in
             omega arith
         first (inr (inl b)) =
-            not-read (issue-one plan es (rr .event) (r .marked .command) (y .command) (rr .issues) (subst (λ (z : ℕ). Issues plan es z (y .command ∷ [])) b (q .its .issues)))
+            not-read (issue-one plan es (rr .event) (r .marked .command) (y .command) (rr .issues) (subst (λ (z : ℕ). Issues es z (y .command ∷ [])) b (q .its .issues)))
         first (inr (inr b)) = later b (compare (q .its .event) (p .its .event))
 
     -- Y's controller started first: it is fenced off from g' before R was issued
@@ -259,7 +259,7 @@ module _ (plan : List ℕ) (s : LockPoints) (ls : List LockEvent) (pr : LockProv
         go : (q .its .time < rr .time) ⊎ ((q .its .time ≡ rr .time) ⊎ (rr .time < q .its .time)) → ⊥
         go (inl b) = let f = in-sequence l (r .place) y (r .marked) (w .stands) (r .stands) (q .its) rr b on in omega arith
         go (inr (inl b)) =
-            let t = subst (λ (z : ℕ). SurvivesAt plan es z y) b (q .its .survives) in
+            let t = subst (λ (z : ℕ). SurvivesAt es z y) b (q .its .survives) in
             not-read (ap (λ (z : Marked). z .command) (executes-one plan es (rr .time) _ _ (r .marked) y (rr .survives .executes) (t .executes)))
         go (inr (inr b)) =
             let u = succeeded plan s ls pr (q .start) (p .start) _ _ (q .begins) (p .begins) h g' (gate-is (w .gates)) in

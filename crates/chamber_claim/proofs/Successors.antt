@@ -123,7 +123,7 @@ module _ (plan : List ℕ) (s : LockPoints) (ls : List LockEvent) where
         go (inr f) = f
 
     -- an issue is another's, or a command of the controller of its client
-    pub issue-by : (n : ℕ) (k : Command) → Issues plan es n (k ∷ [])
+    pub issue-by : (n : ℕ) (k : Command) → Issues es n (k ∷ [])
         → AtLock plan s ls n (kernel (outside (issue (k .client) (k .op) (k .point) (k .argument)))) ⊎ Commands plan s ls n (k .client) (k .op) (k .point) (k .argument)
     issue-by n k i =
         let e = issue-is plan es n k i in
@@ -133,8 +133,8 @@ module _ (plan : List ℕ) (s : LockPoints) (ls : List LockEvent) where
         let a : i .argument ≡ k .argument = ap (λ (z : Command). z .argument) (sym e) in
         issue-from plan s ls n _ _ _ _ (rw (x, o, p, a) at (i .event))
 
-    pub all-done : (n : ℕ) (k : Command) (ch : Chamber) → Issues plan es n (k ∷ []) → lock n .controllers (k .client) ≡ some ch
-        → (j : ℕ) (l : Command) → j < n → Issues plan es j (l ∷ []) → l .client ≡ k .client → Done plan s ls n l
+    pub all-done : (n : ℕ) (k : Command) (ch : Chamber) → Issues es n (k ∷ []) → lock n .controllers (k .client) ≡ some ch
+        → (j : ℕ) (l : Command) → j < n → Issues es j (l ∷ []) → l .client ≡ k .client → Done plan s ls n l
     all-done n k ch i e j l h m q = go (issue-by n k i)
       where
         go : AtLock plan s ls n (kernel (outside (issue (k .client) (k .op) (k .point) (k .argument)))) ⊎ Commands plan s ls n (k .client) (k .op) (k .point) (k .argument) → Done plan s ls n l

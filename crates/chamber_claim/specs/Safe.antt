@@ -62,7 +62,7 @@ module _ (plan : List ℕ) (s : LockPoints) (ls : List LockEvent) where
     -- "Gate value 0 is closed and is both gates' fallback"
     pub fallback : (p : ℕ) → IsGate p → opened (planOf plan) p .value ≡ pos 0
     -- "provided only this controller commands the gates": what others issue on a gate is a read
-    pub only : (n : ℕ) (e : Event) (k : Command) → AtLock n (kernel e) → Issues plan events n (k ∷ []) → IsGate (k .point) → k .op ≡ readOp
+    pub only : (n : ℕ) (e : Event) (k : Command) → AtLock n (kernel e) → Issues events n (k ∷ []) → IsGate (k .point) → k .op ≡ readOp
     -- a controller's client is called through the controller alone
     pub own-issue : (n x op p a : ℕ) (ch : Chamber) → AtLock n (kernel (outside (issue x op p a))) → lockAt n .controllers x ≡ some ch → ⊥
     pub own-receive : (n x p : ℕ) (ch : Chamber) → AtLock n (kernel (outside (receive x p))) → lockAt n .controllers x ≡ some ch → ⊥

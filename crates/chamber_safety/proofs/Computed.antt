@@ -3,7 +3,7 @@
 -- Assumes nothing.
 use mathlib.Core.Path.{_≡_, refl}
 use mathlib.Core.Bool.{true}
-use Rattle.model.specs.Yard.{yardPlan}
+use Rattle.model.specs.Simulator.{simulatorPlan}
 use Rattle.claim.specs.World.{storedOf}
 use Rattle.claim.specs.Claim as Claim
 use Rattle.claim.specs.Fence as Fence
@@ -30,7 +30,7 @@ unfolding Trace.bytesOk Trace.countedOk Trace.typedOk Trace.sameBytes Trace.isNo
 openProvisos = tt
 
 unfoldable openTests : Opens
-unfolding openProvisos Trace.requestDone Trace.done storedOf Claim.recoveredBy Claim.stateGiven Fence.syncedPart Fence.syncedState
+unfolding openProvisos Trace.operationDone Trace.done storedOf Claim.recoveredBy Claim.stateGiven Fence.syncedPart Fence.syncedState
 openTests = tt
 
 unfoldable openLooks : Opens
@@ -38,9 +38,9 @@ unfolding Kept.isNone Kept.gateOk Kept.asideOk Kept.heldIn Kept.noticeIs Kept.he
 openLooks = tt
 
 unfoldable openKept : Opens
-unfolding openLooks Kept.doneSilently Kept.sameCommand Kept.asksFor Kept.packetAsks Kept.executesIn Kept.beginsIn Kept.looked Kept.eventOk Kept.passes
+unfolding openLooks Kept.doneSilently Kept.sameCommand Kept.asksFor Kept.requests Kept.executesIn Kept.beginsIn Kept.looked Kept.eventOk Kept.passes
 openKept = tt
 
-pub handed-passes : passes yardPlan lockPoints 0 noticeNumber (Above.emptySite (Lock.lockProduct lockPoints)) handed looks ≡ true
+pub handed-passes : passes simulatorPlan lockPoints 0 noticeNumber (Above.emptySite (Lock.lockProduct lockPoints)) handed looks ≡ true
 unfolding openWorld openChamber openLock openTests openKept handed looks
 handed-passes = refl

@@ -31,16 +31,17 @@ use Rattle.model.specs.Packets.{parsePacket}
 use Rattle.model.specs.States.{State, pointAt, isHeld}
 use Rattle.model.specs.Refusals.{noRefusal}
 use Rattle.model.specs.Operations.{answerOf}
-use Rattle.claim.specs.World.{World, Event, request, crash, outside, OutsideCall, issue, receive, Server, nothing, running, storing, crashed, storedOf, Lent, packet, after}
+use Rattle.model.specs.Calls.{Operation, request, fetch, sync, notice, give, image, takeIn, receipt, release, handed, operated}
+use Rattle.claim.specs.World.{World, Event, call, crash, outside, OutsideCall, issue, receive, Lent, lentState, lentLog, packet, after}
 use Rattle.claim.specs.Provisos.{At}
-use Rattle.claim.specs.Claim.{Issues, Executes, recoveredBy, stateGiven}
-use Rattle.claim.specs.Fence.{FencedIn, syncedPart, syncedState}
+use Rattle.claim.specs.Claim.{Issues, Executes, stateGiven}
+use Rattle.claim.specs.Fence.{FencedIn, syncedState}
 use Rattle.claim.specs.Above.{Site, eventAt, stepSite, emptySite, runSite, siteAfter}
 use Rattle.claim.proofs.Above.{site-world, event-there, event-from}
 use Rattle.claim.proofs.Clients.{at-once, issue-is}
 use Rattle.model_laws.proofs.Tests.{and-left, and-right}
-use Rattle.proof_sanity.specs.Trace.{typedOk, keepsOk, requestDone, done}
-use Rattle.proof_sanity.proofs.Traced.{provisos-from, done-world, done-answer, answer-of}
+use Rattle.proof_sanity.specs.Trace.{typedOk, keepsOk, operationDone, done}
+use Rattle.proof_sanity.proofs.Traced.{provisos-from, done-world, done-answer, answer-of, request-packet}
 use Rattle.chamber_claim.specs.declared.LockPoints.{LockPoints}
 use Rattle.chamber_claim.specs.declared.Chamber.{Chamber}
 use Rattle.chamber_claim.specs.Chamber.{startIn}
@@ -48,7 +49,7 @@ use Rattle.chamber_claim.specs.Lock.{LockEvent, kernel, begin, command, again, 
 use Rattle.chamber_claim.specs.Safe.{events, AtLock, Begins, IsGate, LockProvisos, FencedAtStart}
 use Rattle.chamber_claim.proofs.Successors.{fenced-at-start}
 use Rattle.chamber_safety.specs.Kept.{isNone, gateOk, asideOk, heldIn, noticeIs, heardIn, successorOk, lockOk, Look, starting, executing}
-use Rattle.chamber_safety.specs.Kept.{startedAs, startsIn, doneSilently, sameCommand, asksFor, packetAsks, executesIn, beginsIn, looked, eventOk, passes, noCrash, uncut}
+use Rattle.chamber_safety.specs.Kept.{startedAs, startsIn, doneSilently, sameCommand, asksFor, requests, executesIn, beginsIn, looked, eventOk, passes, noCrash, uncut}
 
 untrue : {A : Type 0} → false ≡ true → A
 untrue e = let z : _≡_ {A = ℕ} 0 1 = cc in absurd (omega arith)
@@ -96,42 +97,25 @@ heard-in x none m e = untrue e
 heard-in x (some st) none e = untrue e
 heard-in x (some st) (some b) e = (st, b, refl, refl, e)
 
--- the state that a server counts with does not depend on the schedule
-recovered-any : (plan : List ℕ) (es fs : List Event) (k log : List ℕ) → recoveredBy plan es k log ≡ recoveredBy plan fs k log
-unfolding recoveredBy
-recovered-any plan es fs [] log = refl
-recovered-any plan es fs (b ∷ k) log = refl
-
-given-any : (plan : List ℕ) (es fs : List Event) (s : Server) → stateGiven plan es s ≡ stateGiven plan fs s
-unfolding stateGiven
-given-any plan es fs nothing = refl
-given-any plan es fs (running k state log) = refl
-given-any plan es fs (storing k log next state tail) = refl
-given-any plan es fs (crashed k kept mark) = recovered-any plan es fs (k .checkpoint) kept
-
-synced-any : (plan : List ℕ) (es fs : List Event) (s : Server) → syncedState plan es s ≡ syncedState plan fs s
-unfolding syncedState
-synced-any plan es fs s = recovered-any plan es fs (storedOf s .checkpoint) (syncedPart s)
-
-successor-is : (plan : List ℕ) (es : List Event) (s : LockPoints) (c k : ℕ) (w : World) (x p : ℕ) → successorOk plan s c k w (some x) ≡ true
-    → (p ≡ s .upper) ⊎ (p ≡ s .lower) → FencedIn (stateGiven plan es) (syncedState plan es) w x p
+successor-is : (plan : List ℕ) (s : LockPoints) (c k : ℕ) (w : World) (x p : ℕ) → successorOk plan s c k w (some x) ≡ true
+    → (p ≡ s .upper) ⊎ (p ≡ s .lower) → FencedIn (stateGiven plan) (syncedState plan) w x p
 unfolding successorOk
-successor-is plan es s c k w x p e g =
-    let o = stateGiven plan [] (w .servers c) in
+successor-is plan s c k w x p e g =
+    let o = stateGiven plan (w .servers c) in
     let u : heldIn (s .upper) o ≡ true = and-left (heldIn (s .upper) o) _ e in
     let r = and-right (heldIn (s .upper) o) _ e in
     let v : heldIn (s .lower) o ≡ true = and-left (heldIn (s .lower) o) _ r in
     let f : heldIn p o ≡ true = elim g [ inl z ↦ subst (λ (q : ℕ). heldIn q o ≡ true) (sym z) u | inr z ↦ subst (λ (q : ℕ). heldIn q o ≡ true) (sym z) v ] in
     let h = held-in p o f in
-    let m = heard-in x (syncedState plan [] (w .servers c)) (packet w k) (and-right (heldIn (s .lower) o) _ r) in
+    let m = heard-in x (syncedState plan (w .servers c)) (packet w k) (and-right (heldIn (s .lower) o) _ r) in
     let n = notice-is x (m .0 .heard) (parsePacket (m .1)) (m .4) in
     record {
       server = c;
       state = h .0;
-      counts = given-any plan es [] (w .servers c) ∙ h .1;
+      counts = h .1;
       holds = h .2;
       kept = m .0;
-      recovered = synced-any plan es [] (w .servers c) ∙ m .2;
+      recovered = m .2;
       time = n .0 .time;
       noticed = record { number = k; bytes = m .1; made = m .3; notice = n .0; parsed = n .1; client = n .2; at = refl };
       heard = leb-true _ _ (n .3);
@@ -174,10 +158,18 @@ asks-for k (Receipted r) e = untrue e
 asks-for k (Noticed n) e = untrue e
 asks-for k (Granted g) e = untrue e
 
-packet-asks : (k : Command) (o : Option (List ℕ)) → packetAsks k o ≡ true → (b : List ℕ) × (q : Request) × (o ≡ some b) × (parsePacket b ≡ Requested q) × (q .command ≡ k)
-unfolding packetAsks
-packet-asks k none e = untrue e
-packet-asks k (some b) e = let z = asks-for k (parsePacket b) e in (b, z .0, refl, z .1, z .2)
+requests-of : (k : Command) (o : Option Operation) → requests k o ≡ true → (v : Versions) × (b : List ℕ) × (q : Request) × (o ≡ some (request v b)) × (parsePacket b ≡ Requested q) × (q .command ≡ k)
+unfolding requests
+requests-of k none e = untrue e
+requests-of k (some (request v b)) e = let z = asks-for k (parsePacket b) e in (v, b, z .0, refl, z .1, z .2)
+requests-of k (some (fetch x c)) e = untrue e
+requests-of k (some (sync m)) e = untrue e
+requests-of k (some (notice b)) e = untrue e
+requests-of k (some (give p d)) e = untrue e
+requests-of k (some (image p)) e = untrue e
+requests-of k (some (takeIn b)) e = untrue e
+requests-of k (some (receipt p)) e = untrue e
+requests-of k (some (release b)) e = untrue e
 
 silent : (o : Option Answer) → doneSilently o ≡ true → o ≡ some (answerOf noRefusal 0)
 unfolding doneSilently
@@ -242,7 +234,7 @@ module _ (plan : List ℕ) (s : LockPoints) (c k : ℕ) where
         subst (λ (w : World). (typedOk x && keepsOk plan w x) ≡ true) (same-world n)
         (subst (λ (y : Event). (typedOk y && keepsOk plan (site n .world) y) ≡ true) (f .2) (kernel-part n (f .0) (f .1)))
 
-    kernel-at : (n : ℕ) (e : Event) → AtLock plan s ls n (kernel e) → At plan es n e
+    kernel-at : (n : ℕ) (e : Event) → AtLock plan s ls n (kernel e) → At es n e
     unfolding AtLock At eventAt lockEvent
     kernel-at n e a = event-there (lockProduct s) ls n (kernel e) a
 
@@ -260,7 +252,7 @@ module _ (plan : List ℕ) (s : LockPoints) (c k : ℕ) where
     unfolding asideOk
     own-receive n x p e = aside n (outside (receive x p)) e
 
-    reads-only : (n : ℕ) (e : Event) (m : Command) → AtLock plan s ls n (kernel e) → Issues plan es n (m ∷ []) → IsGate plan s ls (m .point) → m .op ≡ readOp
+    reads-only : (n : ℕ) (e : Event) (m : Command) → AtLock plan s ls n (kernel e) → Issues es n (m ∷ []) → IsGate plan s ls (m .point) → m .op ≡ readOp
     reads-only n e m a i g =
         let z : e ≡ outside (issue (i .client) (i .op) (i .point) (i .argument)) = at-once plan es n e _ (kernel-at n e a) (i .event) in
         let q = issue-is plan es n m i in
@@ -272,8 +264,8 @@ module _ (plan : List ℕ) (s : LockPoints) (c k : ℕ) where
     unfolding AtLock lockOk
     fenced-start n x y p B l g =
         let z = lock-part n (begin (B .number)) (B .event) in
-        subst (λ (w : World). FencedIn (stateGiven plan es) (syncedState plan es) w x p) (same-world n)
-        (successor-is plan es s c k (site n .world) x p (rw l at z) g)
+        subst (λ (w : World). FencedIn (stateGiven plan) (syncedState plan) w x p) (same-world n)
+        (successor-is plan s c k (site n .world) x p (rw l at z) g)
 
     pub lock-provisos : ((p : ℕ) → IsGate plan s ls p → opened (planOf plan) p .value ≡ pos 0) → LockProvisos plan s ls
     lock-provisos f =
@@ -304,33 +296,36 @@ module _ (plan : List ℕ) (s : LockPoints) (c k : ℕ) where
         let z = started-as s x (packet (site n .world) p) (look-part n (begin p) (starting x) e q) in
         record { number = p; event = e; bytes = z .0; delivered = z .1; answer = z .2; its = z .3 }
 
-    pub executes-there : (n d p : ℕ) (v : Versions) (t : Lent) (m : Command) → getElem? ls n ≡ some (kernel (request d p v t)) → getElem? xs n ≡ some (executing m)
-        → Executes plan es n d (markedBy v m)
-    unfolding looked executesIn eventAt lockEvent done AtLock
+    pub executes-there : (n d p : ℕ) (v : Versions) (t : Lent) (m : Command) → getElem? ls n ≡ some (kernel (call d (request v p) t)) → getElem? xs n ≡ some (executing m)
+        → Executes es n d (markedBy v m)
+    unfolding looked executesIn eventAt lockEvent done operated AtLock
     executes-there n d p v t m e q =
         let w : World = after es n in
-        let l : (doneSilently (requestDone d v t (w .servers d) (packet w p) w .answer) && packetAsks m (packet w p)) ≡ true =
-        subst (λ (u : World). (doneSilently (requestDone d v t (u .servers d) (packet u p) u .answer) && packetAsks m (packet u p)) ≡ true) (same-world n)
-        (look-part n (kernel (request d p v t)) (executing m) e q) in
+        let h : Option Operation = handed (packet w) (request v p) in
+        let l : (doneSilently (operationDone d t (w .servers d) h w .answer) && requests m h) ≡ true =
+        subst (λ (u : World). (doneSilently (operationDone d t (u .servers d) (handed (packet u) (request v p)) u .answer) && requests m (handed (packet u) (request v p))) ≡ true) (same-world n)
+        (look-part n (kernel (call d (request v p) t)) (executing m) e q) in
         let a = silent _ (and-left _ _ l) in
-        let A = answer-of v t (w .servers d) (packet w p) (answerOf noRefusal 0) (sym (done-answer d v t (w .servers d) (packet w p) w) ∙ a) in
-        let P = packet-asks m (packet w p) (and-right (doneSilently (requestDone d v t (w .servers d) (packet w p) w .answer)) _ l) in
-        let b : A .bytes ≡ P .0 = (let y : some (A .bytes) ≡ some (P .0) = sym (A .packet) ∙ P .2 in cc) in
+        let A = answer-of t (w .servers d) h (answerOf noRefusal 0) (sym (done-answer d t (w .servers d) h w) ∙ a) in
+        let P = requests-of m h (and-right (doneSilently (operationDone d t (w .servers d) h w .answer)) _ l) in
+        let o : A .operation ≡ request (P .0) (P .1) = (let y : some (A .operation) ≡ some (request (P .0) (P .1)) = sym (A .handed) ∙ P .3 in cc) in
+        let b = request-packet (packet w) v (P .0) p (P .1) (P .3) in
+        let own : A .operation ≡ request v (P .1) = o ∙ ap (λ (u : Versions). request u (P .1)) (sym (b .0)) in
         record {
           number = p;
           versions = v;
           lent = t;
-          event = kernel-at n (request d p v t) e;
+          event = kernel-at n (call d (request v p) t) e;
           stored = A .stored;
           state = A .state;
           log = A .log;
           up = A .up;
-          bytes = A .bytes;
-          delivered = A .packet;
-          answer = A .answer;
-          asked = P .1;
-          parsed = ap parsePacket b ∙ P .3;
-          its = ap (markedBy v) (P .4);
+          bytes = P .1;
+          delivered = b .1;
+          answer = subst (λ (x : Operation). operated x (lentState t (A .state)) (lentLog t (A .log)) (t .out) .answer ≡ answerOf noRefusal 0) own (A .answer);
+          asked = P .2;
+          parsed = P .4;
+          its = ap (markedBy v) (P .5);
         }
 
 -- ---- crashes
@@ -345,7 +340,7 @@ every-at f (x ∷ ls) (suc n) o h e = every-at f ls n o (and-right (f x) (every 
 not-crash : {A : Type 0} {o : OutsideCall} {c b : ℕ} → outside o ≡ crash c b → A
 not-crash e = let z : _≡_ {A = ℕ} 0 1 = cc in absurd (omega arith)
 
-pub no-crash : (plan : List ℕ) (s : LockPoints) (ls : List LockEvent) → every uncut ls ≡ true → (n c b : ℕ) → At plan (events plan s ls) n (crash c b) → ⊥
+pub no-crash : (plan : List ℕ) (s : LockPoints) (ls : List LockEvent) → every uncut ls ≡ true → (n c b : ℕ) → At (events plan s ls) n (crash c b) → ⊥
 unfolding At eventAt lockEvent uncut noCrash
 no-crash plan s ls h n c b a =
     let f = event-from (lockProduct s) ls n (crash c b) a in

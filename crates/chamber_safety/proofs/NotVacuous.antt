@@ -12,7 +12,7 @@ use Rattle.model.specs.Tables.{every}
 use Rattle.model.specs.Plan.{planOf}
 use Rattle.model.specs.Versions.{today}
 use Rattle.model.specs.Sequential.{markedBy, opened}
-use Rattle.model.specs.Yard.{yardPlan}
+use Rattle.model.specs.Simulator.{simulatorPlan}
 use Rattle.model_laws.specs.Opened.{openNumbers, openTables, openPlan, openBook}
 use Rattle.claim.specs.World.{Event}
 use Rattle.claim.specs.Claim.{Executes, SurvivesAt}
@@ -23,43 +23,43 @@ use Rattle.chamber_safety.proofs.Kept.{lock-provisos, begins-there, exe
 use Rattle.chamber_safety.proofs.Computed.{handed-passes}
 
 abbrev es : List Event
-es = events yardPlan lockPoints handed
+es = events simulatorPlan lockPoints handed
 
 -- all points of the plan fall back to 0
-falls-to : (opened (planOf yardPlan) 10 .value ≡ pos 0) × (opened (planOf yardPlan) 11 .value ≡ pos 0)
-unfolding openNumbers openTables openPlan openBook yardPlan
+falls-to : (opened (planOf simulatorPlan) 10 .value ≡ pos 0) × (opened (planOf simulatorPlan) 11 .value ≡ pos 0)
+unfolding openNumbers openTables openPlan openBook simulatorPlan
 falls-to = (refl, refl)
 
-provisos : LockProvisos yardPlan lockPoints handed
-provisos = lock-provisos yardPlan lockPoints 0 noticeNumber handed looks handed-passes fall
+provisos : LockProvisos simulatorPlan lockPoints handed
+provisos = lock-provisos simulatorPlan lockPoints 0 noticeNumber handed looks handed-passes fall
   where
-    fall : (p : ℕ) → IsGate yardPlan lockPoints handed p → opened (planOf yardPlan) p .value ≡ pos 0
+    fall : (p : ℕ) → IsGate simulatorPlan lockPoints handed p → opened (planOf simulatorPlan) p .value ≡ pos 0
     fall p (inl z) = rw z (falls-to .0)
     fall p (inr z) = rw z (falls-to .1)
 
 -- there is no crash
-stands : (n : ℕ) (k : Command) → Executes yardPlan es n 0 (markedBy today k) → SurvivesAt yardPlan es n (markedBy today k)
+stands : (n : ℕ) (k : Command) → Executes es n 0 (markedBy today k) → SurvivesAt es n (markedBy today k)
 unfolding handed every uncut noCrash
-stands n k e = record { server = 0; executes = e; kept = λ j b h a. absurd (no-crash yardPlan lockPoints handed refl j 0 (a .kept) (a .event)) }
+stands n k e = record { server = 0; executes = e; kept = λ j b h a. absurd (no-crash simulatorPlan lockPoints handed refl j 0 (a .kept) (a .event)) }
 
-upper-opened : SurvivesAt yardPlan es 32 (markedBy today upperOpened)
+upper-opened : SurvivesAt es 32 (markedBy today upperOpened)
 unfolding handed looks
-upper-opened = stands 32 upperOpened (executes-there yardPlan lockPoints 0 noticeNumber handed looks handed-passes 32 0 13 today lentAll upperOpened refl refl)
+upper-opened = stands 32 upperOpened (executes-there simulatorPlan lockPoints 0 noticeNumber handed looks handed-passes 32 0 13 today lentAll upperOpened refl refl)
 
-lower-opened : SurvivesAt yardPlan es 62 (markedBy today lowerOpened)
+lower-opened : SurvivesAt es 62 (markedBy today lowerOpened)
 unfolding handed looks
-lower-opened = stands 62 lowerOpened (executes-there yardPlan lockPoints 0 noticeNumber handed looks handed-passes 62 0 26 today lentAll lowerOpened refl refl)
+lower-opened = stands 62 lowerOpened (executes-there simulatorPlan lockPoints 0 noticeNumber handed looks handed-passes 62 0 26 today lentAll lowerOpened refl refl)
 
-pub not-vacuous : LockProvisos yardPlan lockPoints handed
-    × Begins yardPlan lockPoints handed 3 1
-    × SurvivesAt yardPlan es 32 (markedBy today upperOpened)
-    × Begins yardPlan lockPoints handed 38 3
-    × SurvivesAt yardPlan es 62 (markedBy today lowerOpened)
+pub not-vacuous : LockProvisos simulatorPlan lockPoints handed
+    × Begins simulatorPlan lockPoints handed 3 1
+    × SurvivesAt es 32 (markedBy today upperOpened)
+    × Begins simulatorPlan lockPoints handed 38 3
+    × SurvivesAt es 62 (markedBy today lowerOpened)
 unfolding handed looks
 not-vacuous = (
   provisos,
-  begins-there yardPlan lockPoints 0 noticeNumber handed looks handed-passes 3 0 1 refl refl,
+  begins-there simulatorPlan lockPoints 0 noticeNumber handed looks handed-passes 3 0 1 refl refl,
   upper-opened,
-  begins-there yardPlan lockPoints 0 noticeNumber handed looks handed-passes 38 15 3 refl refl,
+  begins-there simulatorPlan lockPoints 0 noticeNumber handed looks handed-passes 38 15 3 refl refl,
   lower-opened,
 )

@@ -9,8 +9,9 @@ use Rattle.model.specs.declared.Command.{Command}
 use Rattle.model.specs.Numbers.{half}
 use Rattle.model.specs.Limits.{stateSize, resultSize, headSize, readOp, setOp, reportOp}
 use Rattle.model.specs.Versions.{today}
-use Rattle.model.specs.Yard.{yardPlan}
-use Rattle.claim.specs.World.{Lent, found, request, sync, notice, outside, start, issue, open·lease, query}
+use Rattle.model.specs.Calls.{request, sync, notice}
+use Rattle.model.specs.Simulator.{simulatorPlan}
+use Rattle.claim.specs.World.{Lent, found, call, outside, start, issue, open·lease, query}
 use Rattle.chamber_claim.specs.declared.LockPoints.{LockPoints}
 use Rattle.chamber_claim.specs.Lock.{LockEvent, kernel, begin, command, again, hear}
 use Rattle.chamber_safety.specs.Kept.{Look, nothing, starting, executing}
@@ -28,14 +29,14 @@ lowerOpened = record { client = 3; call = 5; op = setOp; point = 11; argument = 
 
 -- the whole state buffer, a log of up to 400 bytes, an output of 16
 abbrev pub lentAll : Lent
-lentAll = record { state = stateSize; log = 400; tail = replicate 400 0; out = replicate resultSize 0 }
+lentAll = record { state = stateSize; log = 400; spare = replicate 400 0; out = replicate resultSize 0 }
 
 -- packet p is delivered to server 0; server 0 syncs
 abbrev pub asks : ℕ → LockEvent
-asks p = kernel (request 0 p today lentAll)
+asks p = kernel (call 0 (request today p) lentAll)
 
 abbrev pub syncs : ℕ → LockEvent
-syncs m = kernel (sync 0 m lentAll)
+syncs m = kernel (call 0 (sync m) lentAll)
 
 -- the packet number of the notice
 abbrev pub noticeNumber : ℕ
@@ -43,7 +44,7 @@ noticeNumber = 14
 
 unfoldable pub handed : List LockEvent
 handed =
-    kernel (found 0 (replicate stateSize 0) (replicate headSize 0) yardPlan 0)
+    kernel (found 0 (replicate stateSize 0) (replicate headSize 0) simulatorPlan 0)
     ∷ kernel (outside (open·lease 0 100))
     ∷ kernel (outside (open·lease 0 1000))
     ∷ begin 0
@@ -78,7 +79,7 @@ handed =
     ∷ asks 13
     ∷ syncs 232
     ∷ kernel (outside (query 1 200))
-    ∷ kernel (notice 0 14 lentAll)
+    ∷ kernel (call 0 (notice 14) lentAll)
     ∷ syncs 244
     ∷ kernel (outside (open·lease 200 800))
     ∷ begin 15

@@ -12,10 +12,11 @@ use Rattle.model.specs.declared.Packet.the-variants.{Malformed, Requested, Resu
 use Rattle.model.specs.declared.Started.the-variants.{NotStarted, Running}
 use Rattle.model.specs.Limits.{readOp}
 use Rattle.model.specs.Packets.{parsePacket}
+use Rattle.model.specs.Calls.{Operation, request, fetch, sync, notice, give, image, takeIn, receipt, release, handed}
 use Rattle.model.specs.Refusals.{noRefusal}
 use Rattle.model.specs.States.{State, pointAt, isHeld}
-use Rattle.claim.specs.World.{Event, found, request, fetch, sync, notice, give, image, take·image, receipt, release}
-use Rattle.claim.specs.World.{recover, checkpoint, store, recover·tail, inspect, crash, outside, start, issue, resend, receive, open·lease, renew, query, World, packet}
+use Rattle.claim.specs.World.{Event, found, call, inquire}
+use Rattle.claim.specs.World.{recover, checkpoint, store, recover·tail, crash, outside, start, issue, resend, receive, open·lease, renew, query, World, packet}
 use Rattle.claim.specs.Claim.{stateGiven}
 use Rattle.claim.specs.Fence.{syncedState}
 use Rattle.claim.specs.Above.{Site}
@@ -38,20 +39,12 @@ gateOk s op p = (not (eqb p (s .upper)) && not (eqb p (s .lower))) || eqb op rea
 -- an event of the kernel is no call of a controller's client, and commands no gate
 unfoldable pub asideOk : LockPoints → Lock → Event → Bool
 asideOk s l (found c state log p n) = true
-asideOk s l (request c p v t) = true
-asideOk s l (fetch c x k t) = true
-asideOk s l (sync c m t) = true
-asideOk s l (notice c p t) = true
-asideOk s l (give c p d t) = true
-asideOk s l (image c p t) = true
-asideOk s l (take·image c p t) = true
-asideOk s l (receipt c p t) = true
-asideOk s l (release c p t) = true
+asideOk s l (call c o t) = true
+asideOk s l (inquire c i t) = true
 asideOk s l (recover c state log p) = true
 asideOk s l (checkpoint c tail t) = true
 asideOk s l (store c) = true
 asideOk s l (recover·tail c state k tail) = true
-asideOk s l (inspect c x k) = true
 asideOk s l (crash c k) = true
 asideOk s l (outside (start p)) = true
 asideOk s l (outside (issue x op p a)) = isNone (l .controllers x) && gateOk s op p
@@ -86,8 +79,8 @@ heardIn x (some st) (some b) = noticeIs x (st .heard) (parsePacket b)
 unfoldable pub successorOk : List ℕ → LockPoints → ℕ → ℕ → World → Option ℕ → Bool
 successorOk plan s c k w none = true
 successorOk plan s c k w (some x) =
-    let st = stateGiven plan [] (w .servers c) in
-    heldIn (s .upper) st && (heldIn (s .lower) st && heardIn x (syncedState plan [] (w .servers c)) (packet w k))
+    let st = stateGiven plan (w .servers c) in
+    heldIn (s .upper) st && (heldIn (s .lower) st && heardIn x (syncedState plan (w .servers c)) (packet w k))
 
 -- ---- one event
 
@@ -128,27 +121,28 @@ asksFor k (Receipted r) = false
 asksFor k (Noticed n) = false
 asksFor k (Granted g) = false
 
-unfoldable pub packetAsks : Command → Option (List ℕ) → Bool
-packetAsks k none = false
-packetAsks k (some b) = asksFor k (parsePacket b)
+-- an operation that asks for the command k
+unfoldable pub requests : Command → Option Operation → Bool
+requests k none = false
+requests k (some (request v b)) = asksFor k (parsePacket b)
+requests k (some (fetch x c)) = false
+requests k (some (sync m)) = false
+requests k (some (notice b)) = false
+requests k (some (give p d)) = false
+requests k (some (image p)) = false
+requests k (some (takeIn b)) = false
+requests k (some (receipt p)) = false
+requests k (some (release b)) = false
 
--- `a` is what a request answers
+-- `a` is what an operation answers
 unfoldable pub executesIn : Command → World → Event → Option Answer → Bool
 executesIn k w (found c state log p n) a = false
-executesIn k w (request c p v t) a = doneSilently a && packetAsks k (packet w p)
-executesIn k w (fetch c x n t) a = false
-executesIn k w (sync c m t) a = false
-executesIn k w (notice c p t) a = false
-executesIn k w (give c p d t) a = false
-executesIn k w (image c p t) a = false
-executesIn k w (take·image c p t) a = false
-executesIn k w (receipt c p t) a = false
-executesIn k w (release c p t) a = false
+executesIn k w (call c o t) a = doneSilently a && requests k (handed (packet w) o)
+executesIn k w (inquire c i t) a = false
 executesIn k w (recover c state log p) a = false
 executesIn k w (checkpoint c tail t) a = false
 executesIn k w (store c) a = false
 executesIn k w (recover·tail c state n tail) a = false
-executesIn k w (inspect c x n) a = false
 executesIn k w (crash c n) a = false
 executesIn k w (outside e) a = false
 
@@ -181,20 +175,12 @@ passes plan s c k t (o ∷ os) (x ∷ xs) =
 
 unfoldable pub noCrash : Event → Bool
 noCrash (found c state log p n) = true
-noCrash (request c p v t) = true
-noCrash (fetch c x k t) = true
-noCrash (sync c m t) = true
-noCrash (notice c p t) = true
-noCrash (give c p d t) = true
-noCrash (image c p t) = true
-noCrash (take·image c p t) = true
-noCrash (receipt c p t) = true
-noCrash (release c p t) = true
+noCrash (call c o t) = true
+noCrash (inquire c i t) = true
 noCrash (recover c state log p) = true
 noCrash (checkpoint c tail t) = true
 noCrash (store c) = true
 noCrash (recover·tail c state k tail) = true
-noCrash (inspect c x k) = true
 noCrash (crash c k) = false
 noCrash (outside e) = true
 

@@ -25,10 +25,11 @@ use Rattle.model.specs.Packets.{parsePacket}
 use Rattle.model.specs.Clients.{startOf, issueOf, resendOf, receiveOf}
 use Rattle.model.specs.Operations.{After}
 use Rattle.model.specs.Checkpoints.{checkpointOf}
+use Rattle.model.specs.Calls.{Operation, operated}
 use Rattle.model_laws.proofs.Tests.{choose, impossible}
 use Rattle.model_laws.proofs.Clients.{commandOf, issue-command, issue-next, issue-keeps, receive-next, resend-same}
-use Rattle.claim.specs.World.{World, WorldOf, Stored, Server, nothing, running, storing, crashed, Lent, lentState, lentLog, Event, found, request, fetch, sync, notice, give, image, take·image, receipt, release, recover, crash}
-use Rattle.claim.specs.World.{checkpoint, store, recover·tail, inspect, outside, checkpoints, stores}
+use Rattle.claim.specs.World.{World, WorldOf, Stored, Server, nothing, running, storing, crashed, Lent, lentState, lentLog, Event, found, call, inquire, recover, crash}
+use Rattle.claim.specs.World.{checkpoint, store, recover·tail, outside, checkpoints, stores}
 use Rattle.claim.specs.World.{start, issue, resend, receive, open·lease, renew, query, withServer, withClient, withManager, making, calls, callsOn, foundAs, crashAt, startsAs, startsOn}
 use Rattle.claim.specs.World.{sends, receives, told, packet, outsideStep, step, emptyWorld, runFrom, run, after}
 use Rattle.claim.specs.Provisos.{At, Provisos}
@@ -48,10 +49,10 @@ calls-clients c l f (running k state log) w = making-clients _ _
 calls-clients c l f (storing k log next state tail) w = refl
 calls-clients c l f (crashed k log mark) w = refl
 
-on-clients : (c : ℕ) (l : Lent) (f : List ℕ → List ℕ → List ℕ → After) (b : Option (List ℕ)) (w : World) → callsOn c l f b w .clients ≡ w .clients
+on-clients : (c : ℕ) (l : Lent) (o : Option Operation) (w : World) → callsOn c l o w .clients ≡ w .clients
 unfolding callsOn
-on-clients c l f none w = refl
-on-clients c l f (some b) w = calls-clients c l (λ s g. f s g b) (w .servers c) w
+on-clients c l none w = refl
+on-clients c l (some o) w = calls-clients c l (λ s g. operated o s g (l .out)) (w .servers c) w
 
 found-clients : (c : ℕ) (k : Stored) (a : After) (w : World) → foundAs c k a w .clients ≡ w .clients
 unfolding foundAs withServer
@@ -95,7 +96,7 @@ run-past w (x ∷ es) zero h = impossible cc
 run-past w (x ∷ es) (suc n) h = run-past (step w x) es n h
 
 module _ (plan : List ℕ) (es : List Event) where
-  pub after-step : (n : ℕ) (e : Event) → At plan es n e → after es (suc n) ≡ step (after es n) e
+  pub after-step : (n : ℕ) (e : Event) → At es n e → after es (suc n) ≡ step (after es n) e
   unfolding At after run
   after-step n e h = run-step emptyWorld es n e h
 
@@ -103,17 +104,17 @@ module _ (plan : List ℕ) (es : List Event) where
   unfolding after run
   after-past n h = run-past emptyWorld es n h
 
-  pub at-once : (n : ℕ) (e f : Event) → At plan es n e → At plan es n f → e ≡ f
+  pub at-once : (n : ℕ) (e f : Event) → At es n e → At es n f → e ≡ f
   unfolding At
   at-once n e f h k = let q : some e ≡ some f = sym h ∙ k in cc
 
   -- what event n makes of client x
   pub data Becomes (n x : ℕ) : Option Client → Type 0 where
     still : Becomes n x (after es n .clients x)
-    begun : (p : ℕ) (b : List ℕ) → At plan es n (outside (start p)) → packet (after es n) p ≡ some b → startOf b .answer ≡ Running → startOf b .client .client ≡ x
+    begun : (p : ℕ) (b : List ℕ) → At es n (outside (start p)) → packet (after es n) p ≡ some b → startOf b .answer ≡ Running → startOf b .client .client ≡ x
         → Becomes n x (some (startOf b .client))
-    asked : (op p a : ℕ) (d : Client) → At plan es n (outside (issue x op p a)) → after es n .clients x ≡ some d → Becomes n x (some (issueOf d op p a .client))
-    heard : (p : ℕ) (d : Client) (b : List ℕ) → At plan es n (outside (receive x p)) → after es n .clients x ≡ some d → packet (after es n) p ≡ some b
+    asked : (op p a : ℕ) (d : Client) → At es n (outside (issue x op p a)) → after es n .clients x ≡ some d → Becomes n x (some (issueOf d op p a .client))
+    heard : (p : ℕ) (d : Client) (b : List ℕ) → At es n (outside (receive x p)) → after es n .clients x ≡ some d → packet (after es n) p ≡ some b
         → Becomes n x (some (receiveOf d b .client))
 
   module _ (n x : ℕ) where
@@ -121,23 +122,15 @@ module _ (plan : List ℕ) (es : List Event) where
     as-still : (e : Event) → step (after es n) e .clients ≡ after es n .clients → Becomes n x (step (after es n) e .clients x)
     as-still e q = subst (λ (f : ℕ → Option Client). Becomes n x (f x)) (sym q) still
 
-    step-becomes : (e : Event) → At plan es n e → Becomes n x (step (after es n) e .clients x)
+    step-becomes : (e : Event) → At es n e → Becomes n x (step (after es n) e .clients x)
     unfolding step outsideStep startsOn startsAs sends receives told withClient withManager
     step-becomes (found c state log plan k) h = as-still (found c state log plan k) (found-clients _ _ _ _)
-    step-becomes (request c p v l) h = as-still (request c p v l) (on-clients _ _ _ _ _)
-    step-becomes (fetch c y k l) h = as-still (fetch c y k l) (calls-clients _ _ _ _ _)
-    step-becomes (sync c m l) h = as-still (sync c m l) (calls-clients _ _ _ _ _)
-    step-becomes (notice c p l) h = as-still (notice c p l) (on-clients _ _ _ _ _)
-    step-becomes (give c p d l) h = as-still (give c p d l) (calls-clients _ _ _ _ _)
-    step-becomes (image c p l) h = as-still (image c p l) (calls-clients _ _ _ _ _)
-    step-becomes (take·image c p l) h = as-still (take·image c p l) (on-clients _ _ _ _ _)
-    step-becomes (receipt c p l) h = as-still (receipt c p l) (calls-clients _ _ _ _ _)
-    step-becomes (release c p l) h = as-still (release c p l) (on-clients _ _ _ _ _)
+    step-becomes (call c o l) h = as-still (call c o l) (on-clients _ _ _ _)
+    step-becomes (inquire c i l) h = as-still (inquire c i l) (calls-clients _ _ _ _ _)
     step-becomes (recover c state log plan) h = as-still (recover c state log plan) (found-clients _ _ _ _)
     step-becomes (checkpoint c t l) h = as-still (checkpoint c t l) (checkpoint-clients _ _ _ _ _)
     step-becomes (store c) h = as-still (store c) (store-clients _ _ _)
     step-becomes (recover·tail c state k t) h = as-still (recover·tail c state k t) (found-clients _ _ _ _)
-    step-becomes (inspect c y k) h = as-still (inspect c y k) refl
     step-becomes (crash c k) h = as-still (crash c k) (crash-clients _ _ _ _)
     step-becomes (outside (start p)) h = go (packet (after es n) p) refl
       where
@@ -157,7 +150,7 @@ module _ (plan : List ℕ) (es : List Event) where
             (choose (Becomes n x) (eqb x y)
             (λ t.
             let q : y ≡ x = sym (eqb-true x y t) in
-            asked op p a d (subst (λ (z : ℕ). At plan es n (outside (issue z op p a))) q h) (subst (λ (z : ℕ). after es n .clients z ≡ some d) q f)) (λ t. still))
+            asked op p a d (subst (λ (z : ℕ). At es n (outside (issue z op p a))) q h) (subst (λ (z : ℕ). after es n .clients z ≡ some d) q f)) (λ t. still))
     step-becomes (outside (resend y c)) h = go (after es n .clients y) refl
       where
         go : (o : Option Client) → after es n .clients y ≡ o → Becomes n x (sends y (λ d. resendOf d c) o (after es n) .clients x)
@@ -175,7 +168,7 @@ module _ (plan : List ℕ) (es : List Event) where
             choose (Becomes n x) (eqb x y)
             (λ t.
             let q : y ≡ x = sym (eqb-true x y t) in
-            heard p d b (subst (λ (z : ℕ). At plan es n (outside (receive z p))) q h) (subst (λ (z : ℕ). after es n .clients z ≡ some d) q f) g) (λ t. still)
+            heard p d b (subst (λ (z : ℕ). At es n (outside (receive z p))) q h) (subst (λ (z : ℕ). after es n .clients z ≡ some d) q f) g) (λ t. still)
     step-becomes (outside (open·lease t span)) h = as-still (outside (open·lease t span)) (making-clients _ _)
     step-becomes (outside (renew y t span)) h = as-still (outside (renew y t span)) (making-clients _ _)
     step-becomes (outside (query y t)) h = as-still (outside (query y t)) (making-clients _ _)
@@ -190,16 +183,16 @@ module _ (plan : List ℕ) (es : List Event) where
 
   -- ---- the client after a call of it
 
-  pub issue-after : (n x op p a : ℕ) (d : Client) → At plan es n (outside (issue x op p a)) → after es n .clients x ≡ some d → after es (suc n) .clients x ≡ some (issueOf d op p a .client)
+  pub issue-after : (n x op p a : ℕ) (d : Client) → At es n (outside (issue x op p a)) → after es n .clients x ≡ some d → after es (suc n) .clients x ≡ some (issueOf d op p a .client)
   unfolding step outsideStep sends withClient
   issue-after n x op p a d h e = rw (after-step n _ h, e, making-clients, eq-eqb x x refl) refl
 
-  pub receive-after : (n x p : ℕ) (d : Client) (b : List ℕ) → At plan es n (outside (receive x p)) → after es n .clients x ≡ some d → packet (after es n) p ≡ some b
+  pub receive-after : (n x p : ℕ) (d : Client) (b : List ℕ) → At es n (outside (receive x p)) → after es n .clients x ≡ some d → packet (after es n) p ≡ some b
       → after es (suc n) .clients x ≡ some (receiveOf d b .client)
   unfolding step outsideStep receives withClient
   receive-after n x p d b h e f = rw (after-step n _ h, e, f, eq-eqb x x refl) refl
 
-  pub start-after : (n p : ℕ) (b : List ℕ) → At plan es n (outside (start p)) → packet (after es n) p ≡ some b → startOf b .answer ≡ Running
+  pub start-after : (n p : ℕ) (b : List ℕ) → At es n (outside (start p)) → packet (after es n) p ≡ some b → startOf b .answer ≡ Running
       → after es (suc n) .clients (startOf b .client .client) ≡ some (startOf b .client)
   unfolding step outsideStep startsOn startsAs withClient
   start-after n p b h f e = rw (after-step n _ h, f, e, eq-eqb (startOf b .client .client) (startOf b .client .client) refl) refl
@@ -218,13 +211,13 @@ module _ (plan : List ℕ) (es : List Event) where
       go ih (heard p c b h f q) g = let k : receiveOf c b .client ≡ d = cc in subst (λ (z : Client). z .client ≡ x) k (receive-next c (parsePacket b) .1 ∙ ih c f)
 
   -- an issue takes the next number
-  pub issue-is : (n : ℕ) (k : Command) (i : Issues plan es n (k ∷ [])) → k ≡ commandOf (i .state) (i .op) (i .point) (i .argument)
+  pub issue-is : (n : ℕ) (k : Command) (i : Issues es n (k ∷ [])) → k ≡ commandOf (i .state) (i .op) (i .point) (i .argument)
   issue-is n k i = let q : i .asked .command ∷ [] ≡ k ∷ [] = i .its in let r : i .asked .command ≡ k = cc in sym r ∙ issue-command _ _ _ _ _ (i .answer)
 
-  pub issuer : (n : ℕ) (k : Command) (i : Issues plan es n (k ∷ [])) → i .client ≡ k .client
+  pub issuer : (n : ℕ) (k : Command) (i : Issues es n (k ∷ [])) → i .client ≡ k .client
   issuer n k i = sym (ap (λ (z : Command). z .client) (issue-is n k i) ∙ own-number n (i .client) (i .state) (i .started))
 
-  pub issue-one : (n : ℕ) (k l : Command) → Issues plan es n (k ∷ []) → Issues plan es n (l ∷ []) → k ≡ l
+  pub issue-one : (n : ℕ) (k l : Command) → Issues es n (k ∷ []) → Issues es n (l ∷ []) → k ≡ l
   issue-one n k l i j =
       let e = at-once n _ _ (i .event) (j .event) in
       let x : i .client ≡ j .client = cc in
@@ -264,7 +257,7 @@ module _ (plan : List ℕ) (es : List Event) where
         go false q ih = let k = leb-false n m q in (d, subst (λ (j : ℕ). after es j .clients x ≡ some d) (omega arith) e, omega arith)
 
     -- what was issued has a number below the next
-    pub issued-below : (n m : ℕ) (k : Command) (d : Client) → Issues plan es n (k ∷ []) → n < m → after es m .clients (k .client) ≡ some d → k .call < d .next
+    pub issued-below : (n m : ℕ) (k : Command) (d : Client) → Issues es n (k ∷ []) → n < m → after es m .clients (k .client) ≡ some d → k .call < d .next
     issued-below n m k d i h e =
         let c = clients-on (suc n) m (i .client) _ h (issue-after n _ _ _ _ _ (i .event) (i .started)) in
         let f : some (c .0) ≡ some d = sym (c .1) ∙ ap (after es m .clients) (issuer n k i) ∙ e in
@@ -274,7 +267,7 @@ module _ (plan : List ℕ) (es : List Event) where
         omega (arith, c .2, issue-next _ _ _ _ _ (i .answer) .1)
 
     -- numbers rise by events
-    pub issue-rises : (n m : ℕ) (k l : Command) → Issues plan es n (k ∷ []) → Issues plan es m (l ∷ []) → k .client ≡ l .client → n < m → k .call < l .call
+    pub issue-rises : (n m : ℕ) (k l : Command) → Issues es n (k ∷ []) → Issues es m (l ∷ []) → k .client ≡ l .client → n < m → k .call < l .call
     issue-rises n m k l i j e h =
         let b = issued-below n m k (j .state) i h (ap (after es m .clients) (e ∙ sym (issuer m l j)) ∙ j .started) in
         let o : l .call ≡ j .state .next = ap (λ (z : Command). z .call) (issue-is m l j) in

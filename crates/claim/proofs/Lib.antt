@@ -5,3 +5,6 @@ pub mod Above
 pub mod Moments
 pub mod Clients
 pub mod Stored
+pub mod Completed
+pub mod Marks
+pub mod Events

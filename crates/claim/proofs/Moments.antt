@@ -6,17 +6,17 @@
 --     fenced-first       a client that is fenced off after n events is so after n of the first k
 -- Assumes nothing.
 use Prim.Native.Nat.{ℕ, zero, suc, _<_, _≤_}
-use mathlib.Core.Path.{_≡_, refl, sym, _∙_, ap, subst}
+use mathlib.Core.Path.{_≡_, sym, _∙_, ap, subst}
 use mathlib.Core.List.{List, [], _∷_}
 use mathlib.Core.Option.{some}
 use native.Mathlib.Omega.{arith}
 use lib.ListN.{take, getElem?}
 use lib.Seq.{take-take}
 use Rattle.model.specs.declared.Command.{Command}
-use Rattle.claim.specs.World.{World, Event, Server, nothing, running, storing, crashed, storedOf, run, after}
+use Rattle.claim.specs.World.{World, Event, nothing, storedOf, run, after}
 use Rattle.claim.specs.Provisos.{Provisos, At, markOf, lengthOf, keptBy, Begins, StartedOnce}
-use Rattle.claim.specs.Claim.{Issues, recoveredBy, stateGiven}
-use Rattle.claim.specs.Fence.{NoticedIn, Fenced, syncedPart, syncedState}
+use Rattle.claim.specs.Claim.{Issues, stateGiven}
+use Rattle.claim.specs.Fence.{FencedIn, Fenced, syncedState}
 
 module _ {A : Type 0} where
   pub there-first : (l : List A) (k n : ℕ) (a : A) → getElem? (take k l) n ≡ some a → (n < k) × (getElem? l n ≡ some a)
@@ -29,33 +29,15 @@ pub after-first : (es : List Event) (k n : ℕ) → n ≤ k → after (take k es
 unfolding after
 after-first es k n h = ap run (take-take n k es h)
 
--- recovery does not ask for the schedule
-module _ (plan : List ℕ) (es fs : List Event) where
-  recovered-same : (b log : List ℕ) → recoveredBy plan es b log ≡ recoveredBy plan fs b log
-  unfolding recoveredBy
-  recovered-same [] log = refl
-  recovered-same (x ∷ b) log = refl
-
-  given-same : (s : Server) → stateGiven plan es s ≡ stateGiven plan fs s
-  unfolding stateGiven
-  given-same nothing = refl
-  given-same (running k state log) = refl
-  given-same (storing k log next state tail) = refl
-  given-same (crashed k kept mark) = recovered-same (k .checkpoint) kept
-
-  synced-same : (s : Server) → syncedState plan es s ≡ syncedState plan fs s
-  unfolding syncedState
-  synced-same s = recovered-same (storedOf s .checkpoint) (syncedPart s)
-
 module _ (plan : List ℕ) (es : List Event) (k : ℕ) where
   abbrev firsts : List Event
   firsts = take k es
 
-  at-first : (n : ℕ) (e : Event) → At plan firsts n e → (n < k) × At plan es n e
+  at-first : (n : ℕ) (e : Event) → At firsts n e → (n < k) × At es n e
   unfolding At
   at-first n e h = there-first es k n e h
 
-  same : (n : ℕ) (e : Event) → At plan firsts n e → after es n ≡ after firsts n
+  same : (n : ℕ) (e : Event) → At firsts n e → after es n ≡ after firsts n
   same n e h = sym (after-first es k n (let z = at-first n e h .0 in omega arith))
 
   pub provisos-first : Provisos plan es → Provisos plan firsts
@@ -74,7 +56,7 @@ module _ (plan : List ℕ) (es : List Event) (k : ℕ) where
         started-once = λ n p h. subst (λ (w : World). StartedOnce w p) (same n _ h) (P .started-once n p (at-first n _ h .1));
       }
 
-  pub issues-first : (n : ℕ) (ks : List Command) → Issues plan firsts n ks → Issues plan es n ks
+  pub issues-first : (n : ℕ) (ks : List Command) → Issues firsts n ks → Issues es n ks
   issues-first n ks i =
       record {
         client = i .client;
@@ -90,16 +72,4 @@ module _ (plan : List ℕ) (es : List Event) (k : ℕ) where
       }
 
   pub fenced-first : (n x p : ℕ) → n ≤ k → Fenced plan es n x p → Fenced plan firsts n x p
-  fenced-first n x p h f =
-      let w : after firsts n ≡ after es n = after-first es k n h in
-      record {
-        server = f .server;
-        state = f .state;
-        counts = given-same plan firsts es _ ∙ ap (λ (z : World). stateGiven plan es (z .servers (f .server))) w ∙ f .counts;
-        holds = f .holds;
-        kept = f .kept;
-        recovered = synced-same plan firsts es _ ∙ ap (λ (z : World). syncedState plan es (z .servers (f .server))) w ∙ f .recovered;
-        time = f .time;
-        noticed = subst (λ (z : World). NoticedIn z x (f .time)) (sym w) (f .noticed);
-        heard = f .heard;
-      }
+  fenced-first n x p h f = subst (λ (w : World). FencedIn (stateGiven plan) (syncedState plan) w x p) (sym (after-first es k n h)) f

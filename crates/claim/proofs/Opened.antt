@@ -2,7 +2,8 @@
 --     openWorld, openRecordWorld
 -- Assumes nothing.
 use Rattle.model_laws.specs.Opened.{Opens, openParties}
-use Rattle.model.specs.Yard.{yardPlan}
+use Rattle.model.specs.Simulator.{simulatorPlan}
+use Rattle.model.specs.Calls.{handed, operated, decision, inquired}
 use Rattle.claim.specs.World.{withServer, withClient, withManager, making, startsAs, startsOn, sends, receives, told, packet, outsideStep}
 use Rattle.claim.specs.World as World
 use Rattle.claim.specs.Provisos as Provisos
@@ -11,12 +12,12 @@ use Rattle.claim.specs.RecordProvisos.{markOf, lengthOf}
 
 -- what both worlds share
 unfoldable pub openShared : Opens
-unfolding openParties yardPlan withServer withClient withManager making startsAs startsOn sends receives told packet outsideStep
+unfolding openParties simulatorPlan withServer withClient withManager making startsAs startsOn sends receives told packet outsideStep handed
 openShared = tt
 
 -- servers as they are lent their bytes
 unfoldable openLent : Opens
-unfolding World.lentState World.lentLog World.stateBack World.logBack World.calls World.callsOn World.foundAs World.crashAt
+unfolding World.lentState World.lentLog World.stateBack World.logBack World.calls World.callsOn operated World.looked inquired World.foundAs World.crashAt
 openLent = tt
 
 unfoldable pub openWorld : Opens
@@ -25,7 +26,7 @@ openWorld = tt
 
 -- as a state and log records
 unfoldable openRecordServers : Opens
-unfolding longer settle callOf calls callsOn foundOf recoveredFrom recoverOf keptBy founds recoversTo recoversFrom cutAt crashAt markOf lengthOf
+unfolding longer settle callOf decision calls callsOn foundOf recoveredFrom recoverOf keptBy founds recoversTo recoversFrom cutAt crashAt markOf lengthOf
 openRecordServers = tt
 
 unfoldable pub openRecordWorld : Opens

@@ -38,11 +38,11 @@ module _ (c : ℕ) (w : World) where
   storing-crash n k next log state tail = same-server (crashed k (take n log) (length log))
 
 module _ (plan : List ℕ) (es : List Event) where
-  pub survives-reach : (n : ℕ) (m : Marked) (s : SurvivesAt plan es n m) (j kept : ℕ) → n < j → At plan es j (crash (s .server) kept)
+  pub survives-reach : (n : ℕ) (m : Marked) (s : SurvivesAt es n m) (j kept : ℕ) → n < j → At es j (crash (s .server) kept)
       → reachOf (after es (suc n) .servers (s .server)) ≤ storedOf (after es j .servers (s .server)) .replaced + kept
   survives-reach n m s j kept h a = s .kept j _ h (record { kept = kept; event = a; reaches = refl })
 
-  pub tail-needs-checkpoint : Provisos plan es → (n c : ℕ) (state k tail : List ℕ) → At plan es n (recover·tail c state k tail) → recoverTailOf state k tail .answer .refusal ≡ noRefusal
+  pub tail-needs-checkpoint : Provisos plan es → (n c : ℕ) (state k tail : List ℕ) → At es n (recover·tail c state k tail) → recoverTailOf state k tail .answer .refusal ≡ noRefusal
       → storedOf (after es n .servers c) .checkpoint ≡ [] → ⊥
   tail-needs-checkpoint P n c state k tail a e z =
       let B = subst (λ (x : List ℕ). Begins x k) z (P .recovery-uses-both n c state k tail a e .1) in

@@ -5,7 +5,7 @@
 use mathlib.Core.Path.{_≡_, refl}
 use mathlib.Core.Option.{some}
 use Rattle.model.specs.Plan.{planOf}
-use Rattle.model.specs.Yard.{yardPlan}
+use Rattle.model.specs.Simulator.{simulatorPlan}
 use Rattle.model.specs.Sequential.{opened, bookAfter}
 use Rattle.claim.specs.Claim.{readingAt}
 use Rattle.claim.specs.RecordClaim.{stateGiven, finalState}
@@ -13,7 +13,7 @@ use Rattle.model_laws.specs.Opened.{openBook}
 use Rattle.claim.proofs.Opened.{openRecordWorld}
 use Rattle.claim.specs.Kept.{kept, regained, keptOrder, readingIn}
 
-pub values-seen : (readingIn 5 (finalState yardPlan kept 0) ≡ some (bookAfter (planOf yardPlan) (opened (planOf yardPlan)) keptOrder 5))
-    × (readingIn 5 (finalState yardPlan regained 0) ≡ some (bookAfter (planOf yardPlan) (opened (planOf yardPlan)) keptOrder 5))
+pub values-seen : (readingIn 5 (finalState simulatorPlan kept 0) ≡ some (bookAfter (planOf simulatorPlan) (opened (planOf simulatorPlan)) keptOrder 5))
+    × (readingIn 5 (finalState simulatorPlan regained 0) ≡ some (bookAfter (planOf simulatorPlan) (opened (planOf simulatorPlan)) keptOrder 5))
 unfolding openRecordWorld openBook kept regained keptOrder readingIn readingAt finalState stateGiven
 values-seen = (refl, refl)

@@ -22,10 +22,11 @@ use Rattle.model.specs.Sequential.{Marked, markedBy, OrderEntry, parts, command
 use Rattle.model.specs.Packets.{parsePacket}
 use Rattle.model.specs.States.{State, load, pointAt}
 use Rattle.model.specs.Operations.{answerOf, requestOf, recoveredState}
+use Rattle.model.specs.Calls.{request}
 use Rattle.model.specs.Checkpoints.{recoveredTail}
 use Rattle.model.specs.Clients.{callAt, issueOf, receiveOf}
 use Rattle.model.specs.Refusals.{noRefusal}
-use Rattle.claim.specs.World.{OutsideCall, issue, receive, Event, request, crash, outside}
+use Rattle.claim.specs.World.{OutsideCall, issue, receive, Event, call, crash, outside}
 use Rattle.claim.specs.World.{Lent, WorldOf, Stored, Server, nothing, running, storing, crashed, storedOf, run, after, packet, lentState, lentLog}
 use Rattle.claim.specs.Provisos.{Provisos, At, reachOf}
 
@@ -84,12 +85,12 @@ module _ {S : Type 0} (world : ℕ → WorldOf S) (Is : ℕ → OutsideCall → 
     pub its : commandAt state (received .call) ∷ [] ≡ ks
     pub result : one (resultMeant (received .result)) ≡ r
 
--- an execution survives where every later crash of its server kept the log as long as it was then: event n executes m. `Is j c b`: event
+-- an execution survives where every later crash of its server kept the log as long as it was then: event n executes m. `Cuts j c b`: event
 -- j is a crash of server c that keeps b bytes; `size n c`: the bytes of its log after n events
-pub record SurvivesAtBy (Executes : ℕ → ℕ → Marked → Type 0) (Is : ℕ → ℕ → ℕ → Type 0) (size : ℕ → ℕ → ℕ) (n : ℕ) (m : Marked) : Type 0 where
+pub record SurvivesAtBy (Executes : ℕ → ℕ → Marked → Type 0) (Cuts : ℕ → ℕ → ℕ → Type 0) (size : ℕ → ℕ → ℕ) (n : ℕ) (m : Marked) : Type 0 where
   pub server : ℕ
   pub executes : Executes n server m
-  pub kept : (j b : ℕ) → n < j → Is j server b → size (suc n) server ≤ b
+  pub kept : (j b : ℕ) → n < j → Cuts j server b → size (suc n) server ≤ b
 
 -- what demand 3 reads of a run: the event that issues commands, that completes them with a result, that executes a command by a version so
 -- that it survives; the state that each server counts with at the end; that Recover accepts what a crash kept
@@ -131,8 +132,6 @@ module _ (plan : List ℕ) (seen : Account) where
     -- "a command completed before another was issued stands first"
     pub real-time : (m n : ℕ) (a b : OrderEntry) (r : EntryResult) → seen .Completes m (commands a) r → seen .Issues n (commands b) → m < n
         → a ∈ order → b ∈ order → Before a b order
-    -- a completed command survives
-    pub completed : (n : ℕ) (ks : List Command) (r : EntryResult) → seen .Completes n ks r → (a : OrderEntry) × (commands a ≡ ks) × (a ∈ order)
     -- the order keeps each point's sequence of surviving executions. With `once` this leaves a command one surviving execution at the
     -- most: two by one version would put its entry before itself, two by different versions its id into two entries
     pub sequence : (m n : ℕ) (j k : Marked) (a b : OrderEntry) → seen .SurvivesAt m j → seen .SurvivesAt n k → m < n
@@ -142,21 +141,34 @@ module _ (plan : List ℕ) (seen : Account) where
 
 -- ---- over bytes
 
-module _ (plan : List ℕ) (es : List Event) where
+module _ (plan : List ℕ) where
+  -- what recovery gives by what is in force: the log, or checkpoint and tail
+  unfoldable pub recoveredBy : List ℕ → List ℕ → Option State
+  recoveredBy [] log = recoveredState (planOf plan) log
+  recoveredBy (b ∷ bs) log = recoveredTail (b ∷ bs) log
+
+  -- as long as it is down, a crashed server counts with the state that recovery would give
+  unfoldable pub stateGiven : Server → Option State
+  stateGiven nothing = none
+  stateGiven (running k state log) = some (load state)
+  stateGiven (storing k log next state tail) = some (load state)
+  stateGiven (crashed k kept mark) = recoveredBy (k .checkpoint) kept
+
+module _ (es : List Event) where
   -- event n issues ks
   abbrev pub Issues : ℕ → List Command → Type 0
-  Issues = IssuesBy (after es) (λ n e. At plan es n (outside e))
+  Issues = IssuesBy (after es) (λ n e. At es n (outside e))
 
   -- event n completes ks, with the result r
   abbrev pub Completes : ℕ → List Command → EntryResult → Type 0
-  Completes = CompletesBy (after es) (λ n e. At plan es n (outside e))
+  Completes = CompletesBy (after es) (λ n e. At es n (outside e))
 
   -- a request that is answered 0 and makes no packet executes its command: event n executes m at server c
   pub record Executes (n c : ℕ) (m : Marked) : Type 0 where
     pub number : ℕ
     pub versions : Versions
     pub lent : Lent
-    pub event : At plan es n (request c number versions lent)
+    pub event : At es n (call c (request versions number) lent)
     pub stored : Stored
     pub state : List ℕ
     pub log : List ℕ
@@ -171,39 +183,29 @@ module _ (plan : List ℕ) (es : List Event) where
   -- event n is a crash of server c that keeps b bytes, counted from the founding: what a checkpoint replaced is kept in it
   pub record Crashes (n c b : ℕ) : Type 0 where
     pub kept : ℕ
-    pub event : At plan es n (crash c kept)
+    pub event : At es n (crash c kept)
     pub reaches : b ≡ storedOf (after es n .servers c) .replaced + kept
 
   -- event n executes m, and that execution survives
   abbrev pub SurvivesAt : ℕ → Marked → Type 0
   SurvivesAt = SurvivesAtBy Executes Crashes (λ n c. reachOf (after es n .servers c))
 
-  -- what recovery gives by what is in force: the log, or checkpoint and tail
-  unfoldable pub recoveredBy : List ℕ → List ℕ → Option State
-  recoveredBy [] log = recoveredState (planOf plan) log
-  recoveredBy (b ∷ bs) log = recoveredTail (b ∷ bs) log
-
-  -- as long as it is down, a crashed server counts with the state that recovery would give
-  unfoldable pub stateGiven : Server → Option State
-  stateGiven nothing = none
-  stateGiven (running k state log) = some (load state)
-  stateGiven (storing k log next state tail) = some (load state)
-  stateGiven (crashed k kept mark) = recoveredBy (k .checkpoint) kept
-
+module _ (plan : List ℕ) (es : List Event) where
+  -- the state that a server counts with at the end
   unfoldable pub finalState : ℕ → Option State
-  finalState c = stateGiven (run es .servers c)
+  finalState c = stateGiven plan (run es .servers c)
 
   -- every server that a crash left recovers from what the crash kept
   abbrev pub Recovers : Type 0
-  Recovers = (c : ℕ) (k : Stored) (kept : List ℕ) (mark : ℕ) → run es .servers c ≡ crashed k kept mark → (st : State) × (recoveredBy (k .checkpoint) kept ≡ some st)
+  Recovers = (c : ℕ) (k : Stored) (kept : List ℕ) (mark : ℕ) → run es .servers c ≡ crashed k kept mark → (st : State) × (recoveredBy plan (k .checkpoint) kept ≡ some st)
 
   -- what demand 3 reads of the schedule
   abbrev pub account : Account
   account =
       record {
-        Issues = Issues;
-        Completes = Completes;
-        SurvivesAt = SurvivesAt;
+        Issues = Issues es;
+        Completes = Completes es;
+        SurvivesAt = SurvivesAt es;
         final = finalState;
         Recovers = Recovers;
       }

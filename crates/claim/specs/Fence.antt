@@ -57,17 +57,17 @@ syncedPart (running k state log) = take (load state .mark) log
 syncedPart (storing k log next state tail) = log
 syncedPart (crashed k kept mark) = take mark kept
 
-module _ (plan : List ℕ) (es : List Event) where
-  unfoldable pub syncedState : Server → Option State
-  syncedState s = recoveredBy plan es (storedOf s .checkpoint) (syncedPart s)
+unfoldable pub syncedState : List ℕ → Server → Option State
+syncedState plan s = recoveredBy plan (storedOf s .checkpoint) (syncedPart s)
 
+module _ (plan : List ℕ) (es : List Event) where
   -- after n events client x is fenced off from point p
   abbrev pub Fenced : ℕ → ℕ → ℕ → Type 0
-  Fenced n x p = FencedIn (stateGiven plan es) syncedState (after es n) x p
+  Fenced n x p = FencedIn (stateGiven plan) (syncedState plan) (after es n) x p
 
   -- the schedule keeps both promises
   abbrev pub Fences : Type 0
-  Fences = FencesBy (Issues plan es) (Executes plan es) Fenced
+  Fences = FencesBy (Issues es) (Executes es) Fenced
 
 -- the claim
 unfoldable pub Fence : Type 0

@@ -7,26 +7,27 @@ use Rattle.model.specs.Numbers.{half}
 use Rattle.model.specs.States.{State, pointAt}
 use Rattle.model.specs.Versions.{today}
 use Rattle.model.specs.Sequential.{markedBy, OrderEntry, single, ReadingZ, readingMeant}
-use Rattle.model.specs.Yard.{yardPlan}
+use Rattle.model.specs.Calls.{request, sync}
+use Rattle.model.specs.Simulator.{simulatorPlan}
 use Rattle.claim.specs.World.{open·lease, start, issue}
 use Rattle.claim.specs.Claim.{readingAt}
-use Rattle.claim.specs.RecordWorld.{Event, found, request, sync, recover, crash, outside}
+use Rattle.claim.specs.RecordWorld.{Event, found, call, recover, crash, outside}
 
 -- a client sets point 5 to 40; its record is synced, and the server crashes
 unfoldable pub kept : List Event
 kept =
-    found 0 yardPlan 0
+    found 0 simulatorPlan 0
     ∷ outside (open·lease 0 1000)
     ∷ outside (start 0)
     ∷ outside (issue 1 1 5 (half + 40))
-    ∷ request 0 1 today 100
-    ∷ sync 0 36 100
+    ∷ call 0 (request today 1) 100
+    ∷ call 0 (sync 36) 100
     ∷ crash 0 36
     ∷ []
 
 -- and recovers
 unfoldable pub regained : List Event
-regained = kept ++ (recover 0 yardPlan ∷ [])
+regained = kept ++ (recover 0 simulatorPlan ∷ [])
 
 -- the order that explains both
 unfoldable pub keptOrder : List OrderEntry

@@ -16,7 +16,7 @@ use Rattle.model.specs.States.{load}
 use Rattle.model.specs.Clients.{startOf}
 use Rattle.model.specs.Refusals.{noRefusal}
 use Rattle.claim.specs.World.{OutsideCall, start, issue, resend, receive, open·lease, renew, query}
-use Rattle.claim.specs.World.{Event, found, request, fetch, sync, notice, give, image, take·image, receipt, release, recover, checkpoint, store, recover·tail, inspect, crash, outside}
+use Rattle.claim.specs.World.{Event, found, call, inquire, recover, checkpoint, store, recover·tail, crash, outside}
 use Rattle.claim.specs.World.{Lent, WorldOf, Server, nothing, running, storing, crashed, storedOf, after, packet}
 
 -- a list of bytes
@@ -41,20 +41,12 @@ OutsideTyped (query x t) = t < word
 -- log's length has 64 bits, times have 32. It holds for arguments of every other size
 unfoldable pub Typed : Event → Type 0
 Typed (found c state log plan n) = Bytes state × Bytes plan
-Typed (request c p v l) = Counted l
-Typed (fetch c x k l) = Counted l
-Typed (sync c m l) = Counted l
-Typed (notice c p l) = Counted l
-Typed (give c p d l) = Counted l
-Typed (image c p l) = Counted l
-Typed (take·image c p l) = Counted l
-Typed (receipt c p l) = Counted l
-Typed (release c p l) = Counted l
+Typed (call c o l) = Counted l
+Typed (inquire c i l) = Counted l
 Typed (recover c state log plan) = Bytes state
 Typed (checkpoint c tail l) = Counted l
 Typed (store c) = Unit
 Typed (recover·tail c state k tail) = Bytes state
-Typed (inspect c x k) = Unit
 Typed (crash c k) = Unit
 Typed (outside e) = OutsideTyped e
 
@@ -91,30 +83,30 @@ lengthOf (crashed k kept mark) = length kept
 unfoldable pub reachOf : Server → ℕ
 reachOf s = storedOf s .replaced + lengthOf s
 
-module _ (plan : List ℕ) (es : List Event) where
-  -- event number n
-  unfoldable pub At : ℕ → Event → Type 0
-  At n e = getElem? es n ≡ some e
+-- event number n
+unfoldable pub At : List Event → ℕ → Event → Type 0
+At es n e = getElem? es n ≡ some e
 
+module _ (plan : List ℕ) (es : List Event) where
   pub record Provisos : Type 0 where
     -- what the interface's types say
-    pub typed : (n : ℕ) (e : Event) → At n e → Typed e
+    pub typed : (n : ℕ) (e : Event) → At es n e → Typed e
     -- "all cabinets have one plan, given again at each recovery"
-    pub one-plan : (n c : ℕ) (state log p : List ℕ) (k : ℕ) → At n (found c state log p k) → foundOf state log p k .answer .refusal ≡ noRefusal → p ≡ plan
-    pub plan-again : (n c : ℕ) (state log p : List ℕ) → At n (recover c state log p) → recoverOf state log p .answer .refusal ≡ noRefusal → p ≡ plan
+    pub one-plan : (n c : ℕ) (state log p : List ℕ) (k : ℕ) → At es n (found c state log p k) → foundOf state log p k .answer .refusal ≡ noRefusal → p ≡ plan
+    pub plan-again : (n c : ℕ) (state log p : List ℕ) → At es n (recover c state log p) → recoverOf state log p .answer .refusal ≡ noRefusal → p ≡ plan
     -- "and different numbers": a server is named by the number it was founded with
-    pub own-number : (n c : ℕ) (state log p : List ℕ) (k : ℕ) → At n (found c state log p k) → foundOf state log p k .answer .refusal ≡ noRefusal → k ≡ c
+    pub own-number : (n c : ℕ) (state log p : List ℕ) (k : ℕ) → At es n (found c state log p k) → foundOf state log p k .answer .refusal ≡ noRefusal → k ≡ c
     -- "and are founded once": only a refused found is called again
-    pub founded-once : (n c : ℕ) (state log p : List ℕ) (k : ℕ) → At n (found c state log p k) → foundOf state log p k .answer .refusal ≡ noRefusal
+    pub founded-once : (n c : ℕ) (state log p : List ℕ) (k : ℕ) → At es n (found c state log p k) → foundOf state log p k .answer .refusal ≡ noRefusal
         → after es n .servers c ≡ nothing
     -- "a crash keeps a prefix of the log not shorter than its synced part", and "the last stored checkpoint whole"
-    pub crash-keeps : (n c k : ℕ) → At n (crash c k) → (markOf (after es n .servers c) ≤ k) × (k ≤ lengthOf (after es n .servers c))
+    pub crash-keeps : (n c k : ℕ) → At es n (crash c k) → (markOf (after es n .servers c) ≤ k) × (k ≤ lengthOf (after es n .servers c))
     -- "recovery uses that prefix": what the crash kept; without a crash, the log up to its recorded length (bytes past it are no log). No checkpoint is
     -- stored: recover cannot tell a tail from a whole log
-    pub recovery-uses : (n c : ℕ) (state log p : List ℕ) → At n (recover c state log p) → recoverOf state log p .answer .refusal ≡ noRefusal
+    pub recovery-uses : (n c : ℕ) (state log p : List ℕ) → At es n (recover c state log p) → recoverOf state log p .answer .refusal ≡ noRefusal
         → (keptBy (after es n .servers c) ≡ some log) × (storedOf (after es n .servers c) .checkpoint ≡ [])
     -- once a checkpoint is stored, "recovery uses these two only": it, whole, and what the crash kept of its own tail
-    pub recovery-uses-both : (n c : ℕ) (state k tail : List ℕ) → At n (recover·tail c state k tail) → recoverTailOf state k tail .answer .refusal ≡ noRefusal
+    pub recovery-uses-both : (n c : ℕ) (state k tail : List ℕ) → At es n (recover·tail c state k tail) → recoverTailOf state k tail .answer .refusal ≡ noRefusal
         → (keptBy (after es n .servers c) ≡ some tail) × Begins (storedOf (after es n .servers c) .checkpoint) k
     -- "each client number starts one desk, once"
-    pub started-once : (n p : ℕ) → At n (outside (start p)) → StartedOnce (after es n) p
+    pub started-once : (n p : ℕ) → At es n (outside (start p)) → StartedOnce (after es n) p

@@ -13,26 +13,34 @@ use Rattle.model.specs.Sequential.{Marked, markedBy, OrderEntry, EntryResult}
 use Rattle.model.specs.Packets.{parsePacket}
 use Rattle.model.specs.States.{State}
 use Rattle.model.specs.Decisions.{onRequest}
+use Rattle.model.specs.Calls.{request}
 use Rattle.claim.specs.World.{packet}
 use Rattle.claim.specs.Claim.{IssuesBy, CompletesBy, SurvivesAtBy, Account, ExplainedBy}
-use Rattle.claim.specs.RecordWorld.{Event, request, crash, outside, Log, Server, nothing, running, crashed, callOf, recoveredFrom, run, after}
+use Rattle.claim.specs.RecordWorld.{Event, call, crash, outside, Log, Server, nothing, running, crashed, callOf, recoveredFrom, run, after}
 use Rattle.claim.specs.RecordProvisos.{Provisos, At, lengthOf}
 
-module _ (plan : List ℕ) (es : List Event) where
+module _ (plan : List ℕ) where
+  -- as long as it is down, a crashed server counts with the state that its kept records give
+  unfoldable pub stateGiven : Server → Option State
+  stateGiven nothing = none
+  stateGiven (running st log) = some st
+  stateGiven (crashed log k mark) = recoveredFrom plan log
+
+module _ (es : List Event) where
   -- event n issues ks
   abbrev pub Issues : ℕ → List Command → Type 0
-  Issues = IssuesBy (after es) (λ n e. At plan es n (outside e))
+  Issues = IssuesBy (after es) (λ n e. At es n (outside e))
 
   -- event n completes ks, with the result r
   abbrev pub Completes : ℕ → List Command → EntryResult → Type 0
-  Completes = CompletesBy (after es) (λ n e. At plan es n (outside e))
+  Completes = CompletesBy (after es) (λ n e. At es n (outside e))
 
   -- a request that is answered 0 and makes no packet executes its command: event n executes m at server c
   pub record Executes (n c : ℕ) (m : Marked) : Type 0 where
     pub number : ℕ
     pub versions : Versions
     pub room : ℕ
-    pub event : At plan es n (request c number versions room)
+    pub event : At es n (call c (request versions number) room)
     pub state : State
     pub log : Log
     pub up : after es n .servers c ≡ running state log
@@ -46,16 +54,12 @@ module _ (plan : List ℕ) (es : List Event) where
 
   -- event n executes m, and that execution survives
   abbrev pub SurvivesAt : ℕ → Marked → Type 0
-  SurvivesAt = SurvivesAtBy Executes (λ n c b. At plan es n (crash c b)) (λ n c. lengthOf (after es n .servers c))
+  SurvivesAt = SurvivesAtBy Executes (λ n c b. At es n (crash c b)) (λ n c. lengthOf (after es n .servers c))
 
-  -- as long as it is down, a crashed server counts with the state that its kept records give
-  unfoldable pub stateGiven : Server → Option State
-  stateGiven nothing = none
-  stateGiven (running st log) = some st
-  stateGiven (crashed log k mark) = recoveredFrom plan log
-
+module _ (plan : List ℕ) (es : List Event) where
+  -- the state that a server counts with at the end
   unfoldable pub finalState : ℕ → Option State
-  finalState c = stateGiven (run es .servers c)
+  finalState c = stateGiven plan (run es .servers c)
 
   -- every server that a crash left recovers from what the crash kept
   abbrev pub Recovers : Type 0
@@ -65,9 +69,9 @@ module _ (plan : List ℕ) (es : List Event) where
   abbrev pub account : Account
   account =
       record {
-        Issues = Issues;
-        Completes = Completes;
-        SurvivesAt = SurvivesAt;
+        Issues = Issues es;
+        Completes = Completes es;
+        SurvivesAt = SurvivesAt es;
         final = finalState;
         Recovers = Recovers;
       }

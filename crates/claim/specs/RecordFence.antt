@@ -9,18 +9,19 @@ use Rattle.claim.specs.RecordWorld.{Event, Server, nothing, running, cra
 use Rattle.claim.specs.RecordProvisos.{Provisos}
 use Rattle.claim.specs.RecordClaim.{Issues, Executes, stateGiven}
 
-module _ (plan : List ℕ) (es : List Event) where
+module _ (plan : List ℕ) where
   -- the state that recovery gives from the synced records
   unfoldable pub syncedState : Server → Option State
   syncedState nothing = none
   syncedState (running st log) = recoveredFrom plan (cutAt (st .mark) log)
   syncedState (crashed log k mark) = recoveredFrom plan (cutAt mark log)
 
+module _ (plan : List ℕ) (es : List Event) where
   abbrev pub Fenced : ℕ → ℕ → ℕ → Type 0
-  Fenced n x p = FencedIn (stateGiven plan es) syncedState (after es n) x p
+  Fenced n x p = FencedIn (stateGiven plan) (syncedState plan) (after es n) x p
 
   abbrev pub Fences : Type 0
-  Fences = FencesBy (Issues plan es) (Executes plan es) Fenced
+  Fences = FencesBy (Issues es) (Executes es) Fenced
 
 -- the claim
 unfoldable pub Fence : Type 0

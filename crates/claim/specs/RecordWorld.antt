@@ -13,14 +13,12 @@ use Rattle.model.specs.Refusals.{unsound}
 use Rattle.model.specs.Limits.{lastServer}
 use Rattle.model.specs.Tables.{keep}
 use Rattle.model.specs.Plan.{planOk, planOf}
-use Rattle.model.specs.Versions.{Versions}
-use Rattle.model.specs.Packets.{parsePacket}
-use Rattle.model.specs.Images.{parseImage}
 use Rattle.model.specs.Logs.{Entry, recordSize}
 use Rattle.model.specs.States.{State}
 use Rattle.model.specs.Apply.{apply, founded, withMark}
-use Rattle.model.specs.Decisions.{Decided, onRequest, onFetch, onSync, onNotice, onGive, onImage, onTake, onReceipt, onRelease}
+use Rattle.model.specs.Decisions.{Decided}
 use Rattle.model.specs.Operations.{recovered}
+use Rattle.model.specs.Calls.{OperationOf, Operation, handed, decision}
 use Rattle.model.specs.Leases.{newManager}
 use Rattle.claim.specs.World.{WorldOf, OutsideCall, withServer, making, packet, outsideStep}
 
@@ -46,15 +44,7 @@ World = WorldOf Server
 -- as in World, with `room`, the number of bytes of the lent log slice, for what a call is lent
 pub data Event : Type 0 where
   found : ℕ → List ℕ → ℕ → Event  -- server, plan, server number
-  request : ℕ → ℕ → Versions → ℕ → Event  -- server, packet, versions, room
-  fetch : ℕ → ℕ → ℕ → ℕ → Event  -- server, client, call, room
-  sync : ℕ → ℕ → ℕ → Event  -- server, mark, room
-  notice : ℕ → ℕ → ℕ → Event  -- server, packet, room
-  give : ℕ → ℕ → ℕ → ℕ → Event  -- server, point, destination, room
-  image : ℕ → ℕ → ℕ → Event  -- server, point, room
-  take·image : ℕ → ℕ → ℕ → Event  -- server, image, room
-  receipt : ℕ → ℕ → ℕ → Event  -- server, point, room
-  release : ℕ → ℕ → ℕ → Event  -- server, packet, room
+  call : ℕ → OperationOf ℕ → ℕ → Event  -- server, operation, room
   recover : ℕ → List ℕ → Event  -- server, plan
   crash : ℕ → ℕ → Event  -- server, bytes kept
   outside : OutsideCall → Event  -- a call of a client or of the lease manager
@@ -93,10 +83,10 @@ calls c room d (running st log) w =
     making (a .made) (withServer c (running (a .state) (a .log)) w)
 calls c room d (crashed log k mark) w = w
 
--- a call on a packet or image made
-unfoldable pub callsOn : ℕ → ℕ → (List ℕ → State → ℕ → Decided) → Option (List ℕ) → World → World
-callsOn c room d none w = w
-callsOn c room d (some b) w = calls c room (d b) (w .servers c) w
+-- an operation with the packet or image that it names; none where that was not made
+unfoldable pub callsOn : ℕ → ℕ → Option Operation → World → World
+callsOn c room none w = w
+callsOn c room (some o) w = calls c room (decision o) (w .servers c) w
 
 -- ---- found, recover and crash
 
@@ -144,15 +134,7 @@ crashAt c k (crashed log n mark) w = withServer c (crashed (cutAt k log) k mark)
 
 unfoldable pub step : World → Event → World
 step w (found c plan n) = founds c n (foundOf plan n) w
-step w (request c p v room) = callsOn c room (λ b st free. onRequest v st free (parsePacket b)) (packet w p) w
-step w (fetch c x k room) = calls c room (λ st free. onFetch st x k) (w .servers c) w
-step w (sync c m room) = calls c room (λ st free. onSync st m) (w .servers c) w
-step w (notice c p room) = callsOn c room (λ b st free. onNotice st free (parsePacket b)) (packet w p) w
-step w (give c p d room) = calls c room (λ st free. onGive st free p d) (w .servers c) w
-step w (image c p room) = calls c room (λ st free. onImage st p) (w .servers c) w
-step w (take·image c p room) = callsOn c room (λ b st free. onTake st free (parseImage b)) (packet w p) w
-step w (receipt c p room) = calls c room (λ st free. onReceipt st p) (w .servers c) w
-step w (release c p room) = callsOn c room (λ b st free. onRelease st free (parsePacket b)) (packet w p) w
+step w (call c o room) = callsOn c room (handed (packet w) o) w
 step w (recover c plan) = recoversFrom c plan (keptBy (w .servers c)) w
 step w (crash c k) = crashAt c k (w .servers c) w
 step w (outside e) = outsideStep w e

@@ -5,53 +5,54 @@ use mathlib.Core.List.{List, [], _∷_}
 use mathlib.Core.Option.{Option, none, some}
 use lib.ListN.{length}
 use Rattle.model.specs.Versions.{today}
-use Rattle.model.specs.Yard.{yardPlan}
+use Rattle.model.specs.Calls.{request, sync, give, image, takeIn, receipt, release}
+use Rattle.model.specs.Simulator.{simulatorPlan}
 use Rattle.claim.specs.World.{open·lease, start, issue, receive}
-use Rattle.claim.specs.RecordWorld.{Event, found, request, sync, give, image, take·image, receipt, release, recover, crash, outside, Log, World, keptBy, step, emptyWorld}
+use Rattle.claim.specs.RecordWorld.{Event, found, call, recover, crash, outside, Log, World, keptBy, step, emptyWorld}
 use Rattle.claim.specs.RecordProvisos.{lengthOf, markOf}
 
 -- a client sets point 5 to 40: executed, refused with 7, cut off by a crash inside its record, executed again, recovered whole, told, completed;
 -- call 2 finds a log slice shorter than the log (19), one without space (9), and one with space
 unfoldable pub lost : List Event
 lost =
-    found 0 yardPlan 0
+    found 0 simulatorPlan 0
     ∷ outside (open·lease 0 1000)
     ∷ outside (start 0)
     ∷ outside (issue 1 1 5 2147483688)
-    ∷ request 0 1 today 100
-    ∷ request 0 1 today 100
+    ∷ call 0 (request today 1) 100
+    ∷ call 0 (request today 1) 100
     ∷ crash 0 35
-    ∷ recover 0 yardPlan
-    ∷ request 0 1 today 100
+    ∷ recover 0 simulatorPlan
+    ∷ call 0 (request today 1) 100
     ∷ crash 0 36
-    ∷ recover 0 yardPlan
-    ∷ request 0 1 today 100
+    ∷ recover 0 simulatorPlan
+    ∷ call 0 (request today 1) 100
     ∷ outside (receive 1 3)
     ∷ outside (issue 1 2 5 2147483649)
-    ∷ request 0 4 today 35
-    ∷ request 0 4 today 63
-    ∷ request 0 4 today 64
+    ∷ call 0 (request today 4) 35
+    ∷ call 0 (request today 4) 63
+    ∷ call 0 (request today 4) 64
     ∷ []
 
 -- point 5 moves from server 0 to server 1 with its record: a repeat there is told once the take is synced, and server 0 releases the point
 unfoldable pub moved : List Event
 moved =
-    found 0 yardPlan 0
-    ∷ found 1 yardPlan 1
+    found 0 simulatorPlan 0
+    ∷ found 1 simulatorPlan 1
     ∷ outside (open·lease 0 1000)
     ∷ outside (start 0)
     ∷ outside (issue 1 1 5 2147483688)
-    ∷ request 0 1 today 100
-    ∷ give 0 5 1 100
-    ∷ sync 0 44 100
-    ∷ image 0 5 100
-    ∷ take·image 1 2 200
-    ∷ take·image 1 2 200
-    ∷ request 1 1 today 200
-    ∷ sync 1 92 200
-    ∷ request 1 1 today 200
-    ∷ receipt 1 5 200
-    ∷ release 0 5 100
+    ∷ call 0 (request today 1) 100
+    ∷ call 0 (give 5 1) 100
+    ∷ call 0 (sync 44) 100
+    ∷ call 0 (image 5) 100
+    ∷ call 1 (takeIn 2) 200
+    ∷ call 1 (takeIn 2) 200
+    ∷ call 1 (request today 1) 200
+    ∷ call 1 (sync 92) 200
+    ∷ call 1 (request today 1) 200
+    ∷ call 1 (receipt 5) 200
+    ∷ call 0 (release 5) 100
     ∷ []
 
 unfoldable pub recordsOf : Option Log → ℕ

@@ -1,5 +1,5 @@
 -- All parties, run over a schedule: servers (paper: cabinets) with their bytes, clients (desks), the lease manager (lease office),
--- and every packet and image made. Each event runs the definition that the call's contract cites.
+-- and every packet and image made. Each event runs the definition that the call's contract cites, at a party that is there; a call at one that is not is none.
 -- Assumes nothing.
 use Prim.Native.Nat.{ℕ, _+_, _-_}
 use mathlib.Core.List.{List, [], _∷_, _++_}
@@ -13,10 +13,10 @@ use Rattle.model.specs.declared.StartAnswer.{StartAnswer}
 use Rattle.model.specs.declared.SendAnswer.{SendAnswer}
 use Rattle.model.specs.declared.LeaseAnswer.{LeaseAnswer}
 use Rattle.model.specs.Choice.{pick}
-use Rattle.model.specs.Versions.{Versions}
 use Rattle.model.specs.States.{load}
-use Rattle.model.specs.Operations.{After, foundOf, requestOf, fetchOf, syncOf, noticeOf, giveOf, imageOf, takeOf, receiptOf, releaseOf, recoverOf}
+use Rattle.model.specs.Operations.{After, answerOf, foundOf, recoverOf}
 use Rattle.model.specs.Checkpoints.{checkpointOf, recoverTailOf}
+use Rattle.model.specs.Calls.{OperationOf, Operation, handed, operated, Inquiry, inquired}
 use Rattle.model.specs.Limits.{headSize}
 use Rattle.model.specs.Clients.{startOf, issueOf, resendOf, receiveOf, sentBytes}
 use Rattle.model.specs.Leases.{newManager, openOf, renewOf, queryOf, toldBytes}
@@ -65,30 +65,22 @@ pub data OutsideCall : Type 0 where
   query : ℕ → ℕ → OutsideCall  -- client, time
 
 -- what a call of a server is lent: the first `state` bytes of the state buffer; the first `log` bytes of the log followed by
--- `tail` (bytes past the recorded length are free); an output of any length and content. Fewer bytes than are due give 2 or 19
+-- `spare` (bytes past the recorded length are free); an output of any length and content. Fewer bytes than are due give 2 or 19
 pub record Lent : Type 0 where
   pub state : ℕ
   pub log : ℕ
-  pub tail : List ℕ
+  pub spare : List ℕ
   pub out : List ℕ
 
 -- the twenty-one calls, with their arguments, the storing of a checkpoint, and crashes
 pub data Event : Type 0 where
   found : ℕ → List ℕ → List ℕ → List ℕ → ℕ → Event  -- server, state and log buffers, plan, server number
-  request : ℕ → ℕ → Versions → Lent → Event  -- server, packet, the versions its program executes by: any at any event and server
-  fetch : ℕ → ℕ → ℕ → Lent → Event  -- server, client, call
-  sync : ℕ → ℕ → Lent → Event  -- server, mark
-  notice : ℕ → ℕ → Lent → Event  -- server, packet
-  give : ℕ → ℕ → ℕ → Lent → Event  -- server, point, destination
-  image : ℕ → ℕ → Lent → Event  -- server, point
-  take·image : ℕ → ℕ → Lent → Event  -- server, image
-  receipt : ℕ → ℕ → Lent → Event  -- server, point
-  release : ℕ → ℕ → Lent → Event  -- server, packet
+  call : ℕ → OperationOf ℕ → Lent → Event  -- server, one of nine operations; a request carries the versions of its program, any at any event and server
+  inquire : ℕ → Inquiry → Lent → Event  -- server, inspect
   recover : ℕ → List ℕ → List ℕ → List ℕ → Event  -- server, state buffer, kept log, plan
   checkpoint : ℕ → List ℕ → Lent → Event  -- server, buffer of the tail's head; the output is the checkpoint's buffer
   store : ℕ → Event  -- server: the host has stored its checkpoint with the tail's head
   recover·tail : ℕ → List ℕ → List ℕ → List ℕ → Event  -- server, state buffer, checkpoint, kept tail
-  inspect : ℕ → ℕ → ℕ → Event  -- server, client, call
   crash : ℕ → ℕ → Event  -- server, bytes kept
   outside : OutsideCall → Event  -- a call of a client or of the lease manager
 
@@ -115,14 +107,14 @@ unfoldable pub lentState : Lent → List ℕ → List ℕ
 lentState l state = take (l .state) state
 
 unfoldable pub lentLog : Lent → List ℕ → List ℕ
-lentLog l log = take (l .log) (log ++ l .tail)
+lentLog l log = take (l .log) (log ++ l .spare)
 
 -- the whole buffers once the lent parts have come back; the log up to its recorded length
 unfoldable pub stateBack : Lent → List ℕ → After → List ℕ
 stateBack l state a = a .state ++ drop (l .state) state
 
 unfoldable pub logBack : Lent → List ℕ → List ℕ → After → List ℕ
-logBack l state log a = take (load (stateBack l state a) .size) (a .log ++ drop (l .log) (log ++ l .tail))
+logBack l state log a = take (load (stateBack l state a) .size) (a .log ++ drop (l .log) (log ++ l .spare))
 
 -- a call of a running server: its buffers, and what it made. A server that is not running takes no call but found and the two recoveries: "until the
 -- checkpoint is stored .. the host calls nothing else"
@@ -134,10 +126,14 @@ calls c l f (running k state log) w =
 calls c l f (storing k log next state tail) w = w
 calls c l f (crashed k kept mark) w = w
 
--- a call of a server on a packet or image made
-unfoldable pub callsOn : ℕ → Lent → (List ℕ → List ℕ → List ℕ → After) → Option (List ℕ) → World → World
-callsOn c l f none w = w
-callsOn c l f (some b) w = calls c l (λ s g. f s g b) (w .servers c) w
+-- an operation with the packet or image that it names; none where that was not made
+unfoldable pub callsOn : ℕ → Lent → Option Operation → World → World
+callsOn c l none w = w
+callsOn c l (some o) w = calls c l (λ s g. operated o s g (l .out)) (w .servers c) w
+
+-- what an inquiry leaves, with its answer's number: what it was lent, and it makes nothing
+unfoldable pub looked : ℕ → List ℕ → List ℕ → List ℕ → After
+looked n state log out = record { answer = answerOf n 0; state = state; log = log; out = out }
 
 -- what is in force
 unfoldable pub storedOf : Server → Stored
@@ -214,20 +210,12 @@ outsideStep w (query x t) = told (queryOf (w .manager) x t) w
 
 unfoldable pub step : World → Event → World
 step w (found c state log plan n) = foundAs c nothingStored (foundOf state log plan n) w
-step w (request c p v l) = callsOn c l (λ s g b. requestOf v s g b (l .out)) (packet w p) w
-step w (fetch c x k l) = calls c l (λ s g. fetchOf s g x k (l .out)) (w .servers c) w
-step w (sync c m l) = calls c l (λ s g. syncOf s g m) (w .servers c) w
-step w (notice c p l) = callsOn c l noticeOf (packet w p) w
-step w (give c p d l) = calls c l (λ s g. giveOf s g p d) (w .servers c) w
-step w (image c p l) = calls c l (λ s g. imageOf s g p (l .out)) (w .servers c) w
-step w (take·image c p l) = callsOn c l takeOf (packet w p) w
-step w (receipt c p l) = calls c l (λ s g. receiptOf s g p (l .out)) (w .servers c) w
-step w (release c p l) = callsOn c l releaseOf (packet w p) w
+step w (call c o l) = callsOn c l (handed (packet w) o) w
+step w (inquire c i l) = calls c l (λ s g. looked (inquired i s g (l .out)) s g (l .out)) (w .servers c) w
 step w (recover c state log plan) = foundAs c (storedOf (w .servers c)) (recoverOf state log plan) w
 step w (checkpoint c tail l) = checkpoints c tail l (w .servers c) w
 step w (store c) = stores c (w .servers c) w
 step w (recover·tail c state k tail) = foundAs c (storedOf (w .servers c)) (recoverTailOf state k tail) w
-step w (inspect c x k) = w
 step w (crash c k) = crashAt c k (w .servers c) w
 step w (outside e) = outsideStep w e
 

@@ -14,6 +14,6 @@ pub returned-in : {r : ℕ} {a : Answer} {s l o : List ℕ} {x : After} → r �
 unfolding inC
 returned-in {r} {a} {s} {l} {o} {x} p q = ap (λ (n : ℕ). returned n s l o) p ∙ ap inC q
 
-pub checkpoint-in : {r : ℕ} {a : Answer} {s c t : List ℕ} {x : AfterCheckpoint} → r ≡ wordOf a → afterCheckpoint a s c t ≡ x → checkpointReturned r s c t ≡ checkpointInC x
+pub checkpoint-in : {r : ℕ} {a : Answer} {s l c t : List ℕ} {x : AfterCheckpoint} → r ≡ wordOf a → afterCheckpoint a s l c t ≡ x → checkpointReturned r s l c t ≡ checkpointInC x
 unfolding checkpointInC
-checkpoint-in {r} {a} {s} {c} {t} {x} p q = ap (λ (n : ℕ). checkpointReturned n s c t) p ∙ ap checkpointInC q
+checkpoint-in {r} {a} {s} {l} {c} {t} {x} p q = ap (λ (n : ℕ). checkpointReturned n s l c t) p ∙ ap checkpointInC q

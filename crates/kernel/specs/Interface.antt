@@ -22,15 +22,16 @@ returned r s l o = record { answer = r; state = s; log = l; out = o }
 unfoldable pub inC : After → Returned
 inC a = returned (wordOf (a .answer)) (a .state) (a .log) (a .out)
 
--- checkpoint, whose slices are others
+-- checkpoint, which is lent other slices beside
 pub record CheckpointReturned : Type 0 where
   pub answer : ℕ
   pub state : List ℕ
+  pub log : List ℕ
   pub checkpoint : List ℕ
   pub tail : List ℕ
 
-abbrev pub checkpointReturned : ℕ → List ℕ → List ℕ → List ℕ → CheckpointReturned
-checkpointReturned r s c t = record { answer = r; state = s; checkpoint = c; tail = t }
+abbrev pub checkpointReturned : ℕ → List ℕ → List ℕ → List ℕ → List ℕ → CheckpointReturned
+checkpointReturned r s l c t = record { answer = r; state = s; log = l; checkpoint = c; tail = t }
 
 unfoldable pub checkpointInC : AfterCheckpoint → CheckpointReturned
-checkpointInC a = checkpointReturned (wordOf (a .answer)) (a .state) (a .checkpoint) (a .tail)
+checkpointInC a = checkpointReturned (wordOf (a .answer)) (a .state) (a .log) (a .checkpoint) (a .tail)

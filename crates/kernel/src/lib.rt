@@ -157,7 +157,7 @@ pub extern "C" fn mantelorris_checkpoint(
     checkpoint: &mut [u8],
     tail: &mut [u8],
 ) -> u64
-    ensures { λ r. ⌜ checkpointReturned r (now (state .exit)) (now (checkpoint .exit)) (now (tail .exit))
+    ensures { λ r. ⌜ checkpointReturned r (now (state .exit)) (now (log .entry)) (now (checkpoint .exit)) (now (tail .exit))
         ≡ checkpointInC (checkpointOf (now (state .entry)) (now (log .entry)) (now (checkpoint .entry)) (now (tail .entry))) ⌝ }
 {
     word_of(server_checkpoint::checkpoint(state, log, checkpoint, tail))

@@ -183,6 +183,7 @@ checkpointState s = pick (checkpointFramed s && sound (restored s)) (some (load 
 pub record AfterCheckpoint : Type 0 where
   pub answer : Answer
   pub state : List ℕ
+  pub log : List ℕ
   pub checkpoint : List ℕ
   pub tail : List ℕ
 
@@ -201,10 +202,11 @@ checkpointOf state log checkpoint tail =
     (record {
       answer = answerOf noRefusal (length (checkpointBytes st));
       state = stored state (rebased st);
+      log = log;
       checkpoint = written checkpoint 0 (checkpointBytes st);
       tail = written tail 0 (headBytes (st .server));
     })
-    (record { answer = answerOf n 0; state = state; checkpoint = checkpoint; tail = tail })
+    (record { answer = answerOf n 0; state = state; log = log; checkpoint = checkpoint; tail = tail })
 
 -- ---- Recover from checkpoint and tail: 2; 14, also for a checkpoint of another server than the tail; else the replay of the tail's whole
 -- records, and the mark is their end
@@ -270,10 +272,12 @@ unfoldable pub latestIn : ℕ → ℕ → List ℕ → ℕ → List ℕ → Plac
 latestIn x c log k [] found = found
 latestIn x c log k (e ∷ es) found = latestIn x c log e es (latestOf x c k (recordAt (drop k log)) found)
 
--- in the checkpoint. The empty one has no entry of a client from 1 on, and the state's completion records are of such clients
+-- in the checkpoint; before the first one that slice is empty
 unfoldable pub placeInCheckpoint : ℕ → ℕ → List ℕ → Place
 placeInCheckpoint x c checkpoint =
-    placeAmong inCheckpoint (recordsPart (clientsOf checkpoint)) checkpointRecord (isId x c) (load (restored checkpoint) .records)
+    pick (leb 1 (length checkpoint))
+    (placeAmong inCheckpoint (recordsPart (clientsOf checkpoint)) checkpointRecord (isId x c) (load (restored checkpoint) .records)
+    (noPlace unknown))
     (noPlace unknown)
 
 -- there is a checkpoint, but no state in it, or that of a server other than the tail's

@@ -1,5 +1,5 @@
--- The bytes of a schedule's text, and the lengths of what is written, each once. crates/simulator_text/src/lib.rt
--- has the bytes as b'i', b'0' ..
+-- The bytes of a schedule's text, and the lengths of what is written, each once. The code (crates/simulator_text/src) has the bytes as b'i',
+-- b'0' ..
 -- Assumes nothing.
 use Prim.Native.Nat.{ℕ, _+_, _*_}
 

@@ -16,7 +16,8 @@ pub mod Apply
 pub mod Decisions
 pub mod Operations
 pub mod Checkpoints
+pub mod Calls
 pub mod Clients
 pub mod Leases
 pub mod Letters
-pub mod Yard
+pub mod Simulator

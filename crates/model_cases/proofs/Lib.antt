@@ -1,3 +1,3 @@
 pub mod Cases
-pub mod YardCases
+pub mod SimulatorCases
 pub mod WalkCases

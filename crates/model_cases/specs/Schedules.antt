@@ -1,4 +1,4 @@
--- Schedules of the simulator and their answers, as text: `paper` is the paper's whole case. Written by tools/yard_cases.py from
+-- Schedules of the simulator and their answers, as text: `paper` is the paper's whole case. Written by tools/simulator_cases.py from
 -- tests/yard/.
 -- Assumes nothing.
 use Prim.Native.Nat.{ℕ}

@@ -28,7 +28,8 @@ use Rattle.model_laws.specs.Alike.{Alike}
 use Rattle.model_laws.proofs.Refused.{if-passed}
 use Rattle.model_laws.proofs.Alike.{load-alike, sound-alike, stored-alike}
 use Rattle.model_invariants.specs.Sound.{Sound}
-use Rattle.model_invariants.specs.Calls.{appends, sets, Allowed, Operation, decision, output, outputSize, decidedOn, operated, LentBytes, Call, found, operate, recover, left, CallBytes, AlikeAfter, AlikeCheckpoint}
+use Rattle.model.specs.Calls.{Operation, decision, operated}
+use Rattle.model_invariants.specs.Calls.{appends, sets, Allowed, output, outputSize, decidedOn, LentBytes, Call, found, operate, recover, left, CallBytes, AlikeAfter, AlikeCheckpoint}
 use Rattle.model_invariants.proofs.Tests.{fits-of}
 use Rattle.model_invariants.proofs.Decided.{or-left-no}
 use Rattle.model_invariants.proofs.Steps.{sound-mark}
@@ -154,8 +155,8 @@ module _ (s t : List ℕ) (a : Alike s t) where
         go true e same =
             let d = checkpoint-fit log (length checkpoint) (length tail) e in
             let S : Sound (rebased (load s)) = rebased-sound64 (load s) (loaded-sound s b (fit-parts s log (d .1) .0)) in
-            rw (same, e, load-fit log (d .1)) (record { answer = refl; state = stored-both (rebased (load s)) S (d .0); checkpoint = refl; tail = refl })
-        go false e same = rw (same, e) (record { answer = refl; state = a; checkpoint = refl; tail = refl })
+            rw (same, e, load-fit log (d .1)) (record { answer = refl; state = stored-both (rebased (load s)) S (d .0); log = refl; checkpoint = refl; tail = refl })
+        go false e same = rw (same, e) (record { answer = refl; state = a; log = refl; checkpoint = refl; tail = refl })
 
     pub inspect-alike : (checkpoint tail : List ℕ) (x c : ℕ) → inspectOf t checkpoint tail x c ≡ inspectOf s checkpoint tail x c
     unfolding inspectOf inspectRefusal tailOf short

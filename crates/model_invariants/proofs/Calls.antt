@@ -4,12 +4,13 @@
 --     operated-is         a call of an operation carries out what it decides
 --     decision-allowed    it appends only what some operation decides, and sets only a mark within the log
 --     sets-mark           only sync sets a mark
+--     handed-over         an operation with what is handed over for the packet or image that it names
 --     call-sound          number 0: the buffer passes the test of soundness
 --     call-bytes          state and log stay bytes
---     call-kept           a call on a sound buffer, refused or not, leaves a sound buffer
+--     call-kept           a call on a sound buffer, refused or not, leaves a sound buffer (of the two calls with a checkpoint: TailCalls)
 -- Assumes nothing.
 use Prim.Native.Nat.{ℕ, _+_, _-_, _*_, _≤_, _<_}
-use mathlib.Core.Path.{_≡_, refl, sym, subst}
+use mathlib.Core.Path.{_≡_, refl, sym, _∙_, ap, subst}
 use mathlib.Core.Bool.{Bool, true, false, _||_, not}
 use mathlib.Core.List.{List, []}
 use mathlib.Core.Option.{Option, none, some}
@@ -22,7 +23,7 @@ use Rattle.model.specs.Versions.{Versions}
 use Rattle.model.specs.declared.Completion.{Completion}
 use Rattle.model.specs.declared.Request.{Request}
 use Rattle.model.specs.declared.Packet.{Packet}
-use Rattle.model.specs.Choice.{refuse, deny, reply, append, marks, unlessRefused}
+use Rattle.model.specs.Choice.{orElse, refuse, deny, reply, append, marks, unlessRefused}
 use Rattle.model.specs.Refusals
 use Rattle.model.specs.Numbers.{word}
 use Rattle.model.specs.Limits.{lastServer, stateSize, headSize}
@@ -35,9 +36,10 @@ use Rattle.model.specs.States.{State, load, sound, stateBytes}
 use Rattle.model.specs.Apply.{applyRecord, founded, withMark}
 use Rattle.model.specs.Decisions.{Decided, orMalformed, find, onHeld, onNew, onId, decideRequest, denying, onRequest, onFetched, onFetch, onSync, decideNotice, onNotice, onGive, onImage, decideTake, onTake, onReceipt, decideRelease, onRelease}
 use Rattle.model.specs.Operations.{After, answerOf, after, short, unfit, freeIn, stored, settle, lentRefusal, lent, leftUnless, foundRefusal, foundOf, requestOf, fetchOf, syncOf, noticeOf, giveOf, imageOf, takeOf, receiptOf, releaseOf, recoverRefusal, recoverOf, settleRecovered, recoveredState}
+use Rattle.model.specs.Calls.{OperationOf, Operation, request, fetch, sync, notice, give, image, takeIn, receipt, release, handed, operated, decision}
 use Rattle.model_laws.specs.Bytes.{Bytes}
 use Rattle.model_invariants.specs.History.{GoodPlan, Decides, byGive}
-use Rattle.model_invariants.specs.Calls.{Only, refuses, denies, replies, appends, sets, Allowed, Operation, request, fetch, sync, notice, give, image, takeIn, receipt, release, decision, output, outputSize, decidedOn, operated, LentBytes, Call, found, operate, recover, left, CallBytes}
+use Rattle.model_invariants.specs.Calls.{Only, refuses, denies, replies, appends, sets, Allowed, Named, LentBytes, outputSize, outputFor, output, HandedOver, decidedOn, Call, found, operate, recover, left, CallBytes}
 use Rattle.model_laws.proofs.Tests.{choose}
 use Rattle.model_laws.proofs.Refused.{unless}
 use Rattle.model_laws.proofs.Written.{bytes-written}
@@ -258,7 +260,7 @@ recover-elim P state log plan two one fourteen k =
 
 -- a call of an operation carries out what it decides
 pub operated-is : (o : Operation) (state log out : List ℕ) → operated o state log out ≡ settle state log (output o out) (decidedOn o state log out)
-unfolding operated decidedOn decision output outputSize requestOf fetchOf syncOf noticeOf giveOf imageOf takeOf receiptOf releaseOf
+unfolding operated decidedOn decision output outputFor outputSize requestOf fetchOf syncOf noticeOf giveOf imageOf takeOf receiptOf releaseOf
 operated-is (request v packet) state log out = refl
 operated-is (fetch client call) state log out = refl
 operated-is (sync mark) state log out = refl
@@ -313,29 +315,70 @@ sets-mark (takeIn img) st free m e = absurd (no-mark (only-take st free (parseIm
 sets-mark (receipt point) st free m e = absurd (no-mark (only-receipt st point) e)
 sets-mark (release packet) st free m e = absurd (no-mark (only-release st free (parsePacket packet)) e)
 
+-- ---- what is handed over
+
+-- unlike constructors
+unlike : _≡_ {A = ℕ} 0 1 → ⊥
+unlike e = omega arith
+
+module _ {P Q : Type 0} (f : P → Option Q) where
+  -- no request: one that names no packet, and one that names p
+  plain-over : (o : OperationOf P) (x y : OperationOf Q) → ((B : Q → Type 0) → Named B x) → outputSize x ≡ outputSize o → ((v : Versions) (b : Q) → x ≡ request v b → ⊥)
+      → some x ≡ some y → HandedOver f o y
+  plain-over o x y n e r q = let z : x ≡ y = cc in subst (HandedOver f o) z (record { named = λ B h. n B; size = e; requests = λ v b k. absurd (r v b k) })
+
+  named-over : (p : P) (b : Q) → f p ≡ some b → {o : OperationOf P} {x : OperationOf Q} → outputSize x ≡ outputSize o → ((B : Q → Type 0) → B b → Named B x)
+      → ((v : Versions) (c : Q) → x ≡ request v c → ⊥) → HandedOver f o x
+  named-over p b d e n r = record { named = λ B h. n B (h p b d); size = e; requests = λ v c k. absurd (r v c k) }
+
+  -- what is handed over for p
+  packet-over : (p : P) (o : OperationOf P) (k : Q → OperationOf Q) (y : OperationOf Q) → ((b : Q) → f p ≡ some b → HandedOver f o (k b))
+      → orElse (f p) none (λ (b : Q). some (k b)) ≡ some y → HandedOver f o y
+  packet-over p o k y h = go (f p) refl
+    where
+      go : (u : Option Q) → f p ≡ u → orElse u none (λ (b : Q). some (k b)) ≡ some y → HandedOver f o y
+      go none q e = absurd (unlike (cc))
+      go (some b) q e = let z : k b ≡ y = cc in subst (HandedOver f o) z (h b q)
+
+  pub handed-over : (o : OperationOf P) (x : OperationOf Q) → handed f o ≡ some x → HandedOver f o x
+  unfolding handed outputSize
+  handed-over (request v p) x e =
+      packet-over p (request v p) (request v) x
+      (λ b d. record { named = λ B h. h p b d; size = refl; requests = λ w c z. let i : v ≡ w = cc in let j : b ≡ c = cc in (p, ap (λ (u : Versions). request u p) i, d ∙ ap some j) }) e
+  handed-over (fetch c n) x e = plain-over (fetch c n) (fetch c n) x (λ B. tt) refl (λ v b q. unlike (cc)) e
+  handed-over (sync m) x e = plain-over (sync m) (sync m) x (λ B. tt) refl (λ v b q. unlike (cc)) e
+  handed-over (notice p) x e = packet-over p (notice p) notice x (λ b d. named-over p b d refl (λ B h. h) (λ v c q. unlike (cc))) e
+  handed-over (give p d) x e = plain-over (give p d) (give p d) x (λ B. tt) refl (λ v b q. unlike (cc)) e
+  handed-over (image p) x e = plain-over (image p) (image p) x (λ B. tt) refl (λ v b q. unlike (cc)) e
+  handed-over (takeIn p) x e = packet-over p (takeIn p) takeIn x (λ b d. named-over p b d refl (λ B h. h) (λ v c q. unlike (cc))) e
+  handed-over (receipt p) x e = plain-over (receipt p) (receipt p) x (λ B. tt) refl (λ v b q. unlike (cc)) e
+  handed-over (release p) x e = packet-over p (release p) release x (λ b d. named-over p b d refl (λ B h. h) (λ v c q. unlike (cc))) e
+
 -- ---- every call leaves a sound state
 
--- a call was not refused, or the buffer was sound before it
-abbrev Begun : After → List ℕ → Type 0
-Begun a state = (a .answer .refusal ≡ Refusals.noRefusal) ⊎ (sound state ≡ true)
+-- a call that answers n was not refused, or the buffer was sound before it
+abbrev pub Begun : ℕ → List ℕ → Type 0
+Begun n state = (n ≡ Refusals.noRefusal) ⊎ (sound state ≡ true)
 
-refused : (state : List ℕ) (n : ℕ) → (n ≡ Refusals.noRefusal → ⊥) → (n ≡ Refusals.noRefusal) ⊎ (sound state ≡ true) → sound state ≡ true
+pub refused : (state : List ℕ) (n : ℕ) → (n ≡ Refusals.noRefusal → ⊥) → Begun n state → sound state ≡ true
 refused state n h (inl e) = absurd (h e)
 refused state n h (inr e) = e
 
-begun-sound : (c : Call) (state log out : List ℕ) → Bytes state → Bytes log → length log < word * word → CallBytes c → Begun (left c state log out) state
-    → sound (left c state log out .state) ≡ true
+abbrev SoundAfter : List ℕ → After → Type 0
+SoundAfter state a = Begun (a .answer .refusal) state → sound (a .state) ≡ true
+
+begun-sound : (c : Call) (state log out : List ℕ) → Bytes state → Bytes log → length log < word * word → CallBytes c → SoundAfter state (left c state log out)
 unfolding left decidedOn settle
 begun-sound (found plan n) state log out b c z h =
-    found-elim (λ a. Begun a state → sound (a .state) ≡ true) state log plan n h (refused state Refusals.tooShort (λ e. omega arith)) (refused state Refusals.malformed (λ e. omega arith))
+    found-elim (SoundAfter state) state log plan n h (refused state Refusals.tooShort (λ e. omega arith)) (refused state Refusals.malformed (λ e. omega arith))
     (λ l k g p m e. stored-sound state (founded (planOf plan) n) (founded-sound (planOf plan) n g m) (omega arith))
 begun-sound (operate o) state log out b c z h =
-    subst (λ (a : After). Begun a state → sound (a .state) ≡ true) (sym (operated-is o state log out))
-    (lent-elim (λ d. Begun (settle state log (output o out) d) state → sound (settle state log (output o out) d .state) ≡ true) state log (output o out) (outputSize o)
+    subst (SoundAfter state) (sym (operated-is o state log out))
+    (lent-elim (λ d. SoundAfter state (settle state log (output o out) d)) state log (output o out) (outputSize o)
     (decision o (load state) (freeIn state log)) (refused state Refusals.tooShort (λ e. omega arith)) (refused state Refusals.unsound (λ e. omega arith))
     (λ l s f e. settled state log (output o out) (decision o (load state) (freeIn state log)) b l s f z (decision-allowed o state log h)))
 begun-sound (recover plan) state log out b c z h =
-    recover-elim (λ a. Begun a state → sound (a .state) ≡ true) state log plan (refused state Refusals.tooShort (λ e. omega arith)) (refused state Refusals.malformed (λ e. omega arith))
+    recover-elim (SoundAfter state) state log plan (refused state Refusals.tooShort (λ e. omega arith)) (refused state Refusals.malformed (λ e. omega arith))
     (refused state Refusals.badLog (λ e. omega arith))
     (λ st l g r e. stored-sound state (withMark (st .size) st) (recovered-bytes (planOf plan) log st (plan-good plan h g) c z r .marked) (omega arith))
 

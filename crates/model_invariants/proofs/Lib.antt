@@ -14,6 +14,7 @@ pub mod Loaded
 pub mod Checkpoints
 pub mod Restored
 pub mod Calls
+pub mod TailCalls
 pub mod Running
 pub mod Alike
 pub mod Placed

@@ -25,6 +25,7 @@ use Rattle.model.specs.Apply.{applyRecord, apply, founded, replayFrom, withMark
 use Rattle.model.specs.Decisions.{Decided}
 use Rattle.model.specs.Operations.{After, answerOf, after, freeIn, stored, settle, lent, foundOf, leftUnless, recoverRefusal, recoverOf, settleRecovered, recoveredState}
 use Rattle.model.specs.Refusals.{noRefusal}
+use Rattle.model.specs.Calls.{Operation, decision, operated}
 use Rattle.model_laws.specs.Bytes.{Bytes}
 use Rattle.model_laws.specs.Fits.{EntriesFrom, lastEnd}
 use Rattle.model_laws.proofs.Written.{take-written-run}
@@ -34,7 +35,7 @@ use Rattle.model_laws.proofs.Logs.{log-length, entries-append, log-appended, cu
 use Rattle.model_invariants.specs.Sound.{Sound}
 use Rattle.model_invariants.specs.History
 use Rattle.model_invariants.specs.History.{GoodPlan, Start, Decides, entryFor, next}
-use Rattle.model_invariants.specs.Calls.{refuses, denies, replies, appends, sets, Allowed, Operation, decision, output, outputSize, decidedOn, operated, LentBytes, Holds, entriesAfter, Recovered}
+use Rattle.model_invariants.specs.Calls.{refuses, denies, replies, appends, sets, Allowed, output, outputSize, decidedOn, LentBytes, Holds, entriesAfter, Recovered}
 use Rattle.model_invariants.proofs.Steps.{sound-mark}
 use Rattle.model_invariants.proofs.Kept.{founded-start, founded-sound, decided-sound, decided-space, decides-mark, apply-mark}
 use Rattle.model_invariants.proofs.Recovery.{from-next, recovers}

@@ -14,7 +14,7 @@ use native.Mathlib.Omega.{arith}
 use lib.ListN.{length, take, drop, length-append, take-append-drop}
 use lib.Seq.{take-at, drop-at}
 use lib.Dec.{eqb, leb}
-use borrow.Author.Tests.{eq-eqb, lt-ltb, le-ltb}
+use borrow.Author.Tests.{eq-eqb, lt-ltb, le-ltb, le-leb}
 use Rattle.model.specs.declared.Completion.{Completion}
 use Rattle.model.specs.declared.ImageEntry.{ImageEntry}
 use Rattle.model.specs.declared.Executed.{Executed}
@@ -204,7 +204,7 @@ module _ (x c : ℕ) (s : List ℕ) (b : Bytes s) (st : State) (e : checkpointSt
     unfolding placeInCheckpoint placeAmong rowAt
     row-place =
         let g = gives s st e in
-        rw (g .same, lt-ltb _ _ (split-below (isId x c) (st .records) row), row .index)
+        rw (le-leb 1 (length s) (omega (arith, framed-is s (g .framed) .whole)), g .same, lt-ltb _ _ (split-below (isId x c) (st .records) row), row .index)
 
     checkpoint-shown : take (rowAt + checkpointRecord - rowAt) (drop rowAt s) ≡ recordFront r
     unfolding rowAt bytesOf

@@ -1,23 +1,23 @@
--- The calls of a server, as one type: nine operations on what the last call left, found and recover. And what holds of a server's
+-- The calls of a server, as one type: operations on what the last call left, found and recover. And what holds of a server's
 -- buffers between calls: the state is the replay of the log's records, with a sync mark.
 -- Assumes nothing.
 use Prim.Native.Nat.{ℕ, _≤_}
 use mathlib.Core.Path.{_≡_}
 use mathlib.Core.Bool.{true}
 use mathlib.Core.List.{List, [], _∷_, _++_}
+use mathlib.Core.Option.{Option, some}
 use lib.ListN.{take}
-use lib.Dec.{leb}
+use lib.Dec.{eqb, leb}
 use Rattle.model.specs.Versions.{Versions}
-use Rattle.model.specs.Choice.{refuse, deny, reply, append, marks}
+use Rattle.model.specs.Choice.{pick, refuse, deny, reply, append, marks}
 use Rattle.model.specs.Limits.{headSize, resultSize, receiptSize, greatestImage}
 use Rattle.model.specs.Tables.{keep}
-use Rattle.model.specs.Packets.{parsePacket}
-use Rattle.model.specs.Images.{parseImage}
 use Rattle.model.specs.Logs.{LogRecord, Entry, headBytes, entriesBytes}
 use Rattle.model.specs.States.{State, load, sound}
 use Rattle.model.specs.Apply.{replayFrom, withMark}
-use Rattle.model.specs.Decisions.{Decided, onRequest, onFetch, onSync, onNotice, onGive, onImage, onTake, onReceipt, onRelease}
-use Rattle.model.specs.Operations.{After, freeIn, lent, foundOf, requestOf, fetchOf, syncOf, noticeOf, giveOf, imageOf, takeOf, receiptOf, releaseOf, recoverOf}
+use Rattle.model.specs.Decisions.{Decided}
+use Rattle.model.specs.Operations.{After, freeIn, lent, foundOf, recoverOf}
+use Rattle.model.specs.Calls.{OperationOf, Operation, request, fetch, sync, notice, give, image, takeIn, receipt, release, operated, decision}
 use Rattle.model.specs.Refusals.{noRefusal}
 use Rattle.model.specs.Checkpoints.{AfterCheckpoint}
 use Rattle.model_laws.specs.Bytes.{Bytes}
@@ -25,42 +25,26 @@ use Rattle.model_laws.specs.Fits.{lastEnd}
 use Rattle.model_laws.specs.Alike.{Alike}
 use Rattle.model_invariants.specs.History.{Decides, entryFor, DecidedFrom}
 
-pub data Operation : Type 0 where
-  request : Versions → List ℕ → Operation  -- the versions it executes by, packet
-  fetch : ℕ → ℕ → Operation  -- client, call
-  sync : ℕ → Operation  -- mark
-  notice : List ℕ → Operation  -- packet
-  give : ℕ → ℕ → Operation  -- point, destination
-  image : ℕ → Operation  -- point
-  takeIn : List ℕ → Operation  -- image
-  receipt : ℕ → Operation  -- point
-  release : List ℕ → Operation  -- packet
+-- ---- operations
 
--- what it decides on a state, with free bytes left in the log
-unfoldable pub decision : Operation → State → ℕ → Decided
-decision (request v packet) st free = onRequest v st free (parsePacket packet)
-decision (fetch client call) st free = onFetch st client call
-decision (sync mark) st free = onSync st mark
-decision (notice packet) st free = onNotice st free (parsePacket packet)
-decision (give point destination) st free = onGive st free point destination
-decision (image point) st free = onImage st point
-decision (takeIn img) st free = onTake st free (parseImage img)
-decision (receipt point) st free = onReceipt st point
-decision (release packet) st free = onRelease st free (parsePacket packet)
+-- the packet or image that it names has B
+abbrev pub Named : {P : Type 0} → (P → Type 0) → OperationOf P → Type 0
+Named B (request v packet) = B packet
+Named B (fetch client call) = Unit
+Named B (sync mark) = Unit
+Named B (notice packet) = B packet
+Named B (give point destination) = Unit
+Named B (image point) = Unit
+Named B (takeIn img) = B img
+Named B (receipt point) = Unit
+Named B (release packet) = B packet
 
--- the output it is lent, the empty one where it has none, and the bytes it needs there
-unfoldable pub output : Operation → List ℕ → List ℕ
-output (request v packet) out = out
-output (fetch client call) out = out
-output (sync mark) out = []
-output (notice packet) out = []
-output (give point destination) out = []
-output (image point) out = out
-output (takeIn img) out = []
-output (receipt point) out = out
-output (release packet) out = []
+-- it is bytes
+abbrev pub LentBytes : Operation → Type 0
+LentBytes o = Named Bytes o
 
-unfoldable pub outputSize : Operation → ℕ
+-- the bytes that it asks of an output, 0 where it has none, and the output that it is lent
+unfoldable pub outputSize : {P : Type 0} → OperationOf P → ℕ
 outputSize (request v packet) = resultSize
 outputSize (fetch client call) = resultSize
 outputSize (sync mark) = 0
@@ -71,33 +55,21 @@ outputSize (takeIn img) = 0
 outputSize (receipt point) = receiptSize
 outputSize (release packet) = 0
 
+unfoldable pub outputFor : ℕ → List ℕ → List ℕ
+outputFor n out = pick (eqb n 0) [] out
+
+unfoldable pub output : {P : Type 0} → OperationOf P → List ℕ → List ℕ
+output o out = outputFor (outputSize o) out
+
+-- x is o with what f hands over for the packet or image that o names
+pub record HandedOver {P Q : Type 0} (f : P → Option Q) (o : OperationOf P) (x : OperationOf Q) : Type 1 where
+  pub named : (B : Q → Type 0) → ((p : P) (b : Q) → f p ≡ some b → B b) → Named B x
+  pub size : outputSize x ≡ outputSize o
+  pub requests : (v : Versions) (b : Q) → x ≡ request v b → (p : P) × (o ≡ request v p) × (f p ≡ some b)
+
 -- what a call of it decides on the lent slices, 2 and 19 first
 unfoldable pub decidedOn : Operation → List ℕ → List ℕ → List ℕ → Decided
 decidedOn o state log out = lent state log (output o out) (outputSize o) (decision o (load state) (freeIn state log))
-
--- what it leaves of state, log and output
-unfoldable pub operated : Operation → List ℕ → List ℕ → List ℕ → After
-operated (request v packet) state log out = requestOf v state log packet out
-operated (fetch client call) state log out = fetchOf state log client call out
-operated (sync mark) state log out = syncOf state log mark
-operated (notice packet) state log out = noticeOf state log packet
-operated (give point destination) state log out = giveOf state log point destination
-operated (image point) state log out = imageOf state log point out
-operated (takeIn img) state log out = takeOf state log img
-operated (receipt point) state log out = receiptOf state log point out
-operated (release packet) state log out = releaseOf state log packet
-
--- the packet or image it is lent are bytes
-abbrev pub LentBytes : Operation → Type 0
-LentBytes (request v packet) = Bytes packet
-LentBytes (fetch client call) = Unit
-LentBytes (sync mark) = Unit
-LentBytes (notice packet) = Bytes packet
-LentBytes (give point destination) = Unit
-LentBytes (image point) = Unit
-LentBytes (takeIn img) = Bytes img
-LentBytes (receipt point) = Unit
-LentBytes (release packet) = Bytes packet
 
 -- ---- what an operation may decide
 
@@ -140,6 +112,7 @@ pub record AlikeAfter (a b : After) : Type 0 where
 pub record AlikeCheckpoint (a b : AfterCheckpoint) : Type 0 where
   pub answer : b .answer ≡ a .answer
   pub state : Alike (a .state) (b .state)
+  pub log : b .log ≡ a .log
   pub checkpoint : b .checkpoint ≡ a .checkpoint
   pub tail : b .tail ≡ a .tail
 

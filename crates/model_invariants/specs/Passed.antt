@@ -1,7 +1,8 @@
--- What the tests of an operation say together where it appends its record, as propositions; the log's space apart.
+-- What the tests of an operation say together where it appends its record, or makes a checkpoint, as propositions; the log's space apart.
 -- Assumes nothing.
 use Prim.Native.Nat.{ℕ, _≤_, _<_}
 use mathlib.Core.Path.{_≡_}
+use mathlib.Core.Bool.{true}
 use mathlib.Core.List.{List}
 use mathlib.Core.Logic.{_≢_}
 use lib.ListN.{length}
@@ -10,10 +11,10 @@ use Rattle.model.specs.declared.PlanEntry.{PlanEntry}
 use Rattle.model.specs.declared.Completion.{Completion}
 use Rattle.model.specs.declared.Request.{Request}
 use Rattle.model.specs.declared.ImageEntry.{ImageEntry}
-use Rattle.model.specs.Limits.{lastPoint, lastServer, last32, clientCount}
+use Rattle.model.specs.Limits.{lastPoint, lastServer, last32, clientCount, stateSize, headSize, checkpointSize}
 use Rattle.model.specs.Plan.{entryAt}
 use Rattle.model.specs.Images.{Image, floorOf}
-use Rattle.model.specs.States.{State, pointAt, held, given}
+use Rattle.model.specs.States.{State, load, sound, pointAt, held, given}
 use Rattle.model.specs.Apply.{mergeFloors}
 use Rattle.model.specs.Decisions.{requestRefusal}
 use Rattle.model.specs.Choice.{passed}
@@ -65,3 +66,11 @@ pub record PassedTake (st : State) (i : Image) : Type 0 where
 pub record PassedRelease (st : State) (p m : ℕ) : Type 0 where
   pub given : pointAt st p .status ≡ given
   pub newer : pointAt st p .moveNumber ≤ m
+
+-- a checkpoint of the state in its buffer, into buffers for it and for the tail's head
+pub record PassedCheckpoint (state checkpoint tail : List ℕ) : Type 0 where
+  pub whole : stateSize ≤ length state
+  pub room : checkpointSize ≤ length checkpoint
+  pub head : headSize ≤ length tail
+  pub sound : sound state ≡ true
+  pub synced : load state .size ≤ load state .mark

@@ -16,7 +16,7 @@ use Rattle.model.specs.Operations.{short, unfit, freeIn, stored, settle, lentRe
 use Rattle.model.specs.Clients.{placeOf, callAt, isOpen, leastOpen, firstOpen, withCalls, withLease, closed, requestFor, startWith, startOf, newCall, withCall, notSent, sent, issueOf, resendOf, isOwn, notReceived, receiveResult, receiveRefusal, receiveGrant, receiveWith, receiveOf, startNumber, sendNumber, receiveNumber, brought, sentBytes}
 use Rattle.model.specs.Leases.{timeAt, endedAt, runningAt, leaseEnd, isTaken, withNewLease, extended, spanOk, manager, notTold, granted, openOf, renewOf, queryOf, toldNumber, toldBytes}
 use Rattle.model.specs.Sequential.{entryZ, readingMeant, resultMeant, afterZ, inRangeZ, quotientDown, quotientNearest, readZ, setZ, pastEndZ, stepZ, reportZ, faultZ, roundedZ, partZ, ruleZ, opened, answerZ, entered, bookWith, bookAfter}
-use Rattle.model.specs.Yard.{yardPlan, yardServer, yardClient, newYard, serverOf, clientOf, withServer, withClient, withPacket, called, room, delivered, deliverTo, cutAt, cutServer, issued, receivedAt, deliverAt, receiveAt, packetAt, known, ran, runLines, isDigit, digitsFrom, atMost, numberIn, negative, positive, argumentIn, fieldsFrom, line1, line2, line3, line4, letterIn, letterLine, with1, with2, with3, with4, lineOfFields, lineOf, endLine, linesFrom, linesOf, digitsOf, shown, shownSigned, replyText, repliesText, yardOf}
+use Rattle.model.specs.Simulator.{simulatorPlan, simulatorServer, simulatorClient, newSimulator, serverOf, clientOf, withServer, withClient, withPacket, called, room, delivered, deliverTo, cutAt, cutServer, issued, receivedAt, deliverAt, receiveAt, packetAt, known, ran, runLines, isDigit, digitsFrom, atMost, numberIn, negative, positive, argumentIn, fieldsFrom, letterIn, letterLine, lineBy, fieldIn, andThen, numbersFrom, lineWith, lineOfFields, lineOf, endLine, linesFrom, linesOf, digitsOf, shown, shownSigned, replyText, repliesText, answersOf}
 
 -- a name that opens others
 abbrev pub Opens : Type 0
@@ -132,18 +132,18 @@ unfoldable pub openBook : Opens
 unfolding entryZ readingMeant resultMeant afterZ inRangeZ quotientDown quotientNearest readZ setZ pastEndZ stepZ reportZ faultZ roundedZ partZ ruleZ opened answerZ entered bookWith bookAfter
 openBook = tt
 
--- Yard: its parts and steps, lines, answers
-unfoldable pub openYardSteps : Opens
-unfolding yardPlan yardServer yardClient newYard serverOf clientOf withServer withClient withPacket called room delivered deliverTo cutAt cutServer issued receivedAt deliverAt receiveAt packetAt
-openYardSteps = tt
+-- Simulator: its parts and steps, lines, answers
+unfoldable pub openSimulatorSteps : Opens
+unfolding simulatorPlan simulatorServer simulatorClient newSimulator serverOf clientOf withServer withClient withPacket called room delivered deliverTo cutAt cutServer issued receivedAt
+openSimulatorSteps = tt
 
-unfoldable pub openYardLines : Opens
-unfolding isDigit digitsFrom atMost numberIn negative positive argumentIn fieldsFrom line1 line2 line3 line4 letterIn letterLine with1 with2 with3 with4 lineOfFields lineOf endLine linesFrom linesOf
-openYardLines = tt
+unfoldable pub openSimulatorLines : Opens
+unfolding isDigit digitsFrom atMost numberIn negative positive argumentIn fieldsFrom letterIn letterLine lineBy fieldIn andThen numbersFrom lineWith lineOfFields lineOf endLine linesFrom linesOf
+openSimulatorLines = tt
 
-unfoldable pub openYard : Opens
-unfolding openYardSteps openYardLines known ran runLines digitsOf shown shownSigned replyText repliesText yardOf
-openYard = tt
+unfoldable pub openSimulator : Opens
+unfolding openSimulatorSteps openSimulatorLines deliverAt receiveAt packetAt known ran runLines digitsOf shown shownSigned replyText repliesText answersOf
+openSimulator = tt
 
 -- packets, images, logs and the plan
 unfoldable pub openFormats : Opens

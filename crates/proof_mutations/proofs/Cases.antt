@@ -6,7 +6,7 @@ use mathlib.Core.Path.{_≡_, refl}
 use Rattle.model_laws.specs.Opened.{Opens}
 use Rattle.claim.proofs.Opened.{openRecordWorld}
 use Rattle.proof_mutations.specs.Reads.{reading, imaged, forRequest, forFetch, forImage, forGone, forTook, noticed, taken, requests, fetches, images, takes, releases, appliesRecord, applies, regains}
-use Rattle.proof_mutations.specs.World.{settle, callOf, calls, callsOn, recoversFrom, step, runFrom, run}
+use Rattle.proof_mutations.specs.World.{settle, callOf, calls, decides, callsOn, recoversFrom, step, runFrom, run}
 use Rattle.proof_mutations.specs.Schedules.{isRun, isTake, count, runs, takesOf, openIn, open·calls}
 use Rattle.proof_mutations.specs.Schedules as S
 
@@ -32,7 +32,7 @@ unfolding reading imaged forRequest forFetch forImage forGone forTook noticed ta
 openReads = tt
 
 unfoldable openCalls : Opens
-unfolding openRecordWorld openReads settle callOf calls callsOn recoversFrom step runFrom run isRun isTake count runs takesOf openIn open·calls
+unfolding openRecordWorld openReads settle callOf calls decides callsOn recoversFrom step runFrom run isRun isTake count runs takesOf openIn open·calls
 openCalls = tt
 
 pub outcomes : Outcomes

@@ -23,7 +23,7 @@ use Rattle.model.specs.States.{State, pointAt}
 use Rattle.model.specs.Apply.{mergeFloors, apply, applyRecord, applyGone, applyTook, founded, replayFrom}
 use Rattle.model.specs.Decisions.{Decided, orMalformed, imageFor}
 use Rattle.model_laws.proofs.Refused.{unless-appends}
-use Rattle.model_invariants.specs.Calls.{Operation, decision, request, fetch, image}
+use Rattle.model.specs.Calls.{Operation, decision, request, fetch, image}
 use Rattle.model_invariants.specs.Passed.{Fresh}
 use Rattle.model_invariants.proofs.Decided.{find-fresh, take-tests, release-passed}
 use Rattle.model_invariants.proofs.Recovery.{recovered-replay}

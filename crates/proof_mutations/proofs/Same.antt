@@ -14,12 +14,13 @@ use Rattle.model.specs.Images.{Image}
 use Rattle.model.specs.States.{State}
 use Rattle.model.specs.Apply.{apply, applyRecord}
 use Rattle.model.specs.Decisions.{Decided, orMalformed, onTake, decideTake, onRelease}
+use Rattle.model.specs.Calls.{Operation, request, fetch, sync, notice, give, image, takeIn, receipt, release, handed, decision}
 use Rattle.claim.specs.World.{withServer, making, packet}
-use Rattle.claim.specs.RecordWorld.{Event, found, request, fetch, sync, notice, give, image, take·image, receipt, release, recover, crash, outside}
+use Rattle.claim.specs.RecordWorld.{Event, found, call, recover, crash, outside}
 use Rattle.claim.specs.RecordWorld.{Log, Server, nothing, running, crashed, World, Left, keptBy, emptyWorld}
 use Rattle.claim.specs.RecordWorld as Records
 use Rattle.proof_mutations.specs.Reads.{reading, imaged, forRequest, forFetch, forImage, forGone, forTook, noticed, taken, requests, fetches, images, takes, releases, appliesRecord, applies, regains}
-use Rattle.proof_mutations.specs.World.{settle, callOf, calls, callsOn, recoversFrom, step, runFrom, run}
+use Rattle.proof_mutations.specs.World.{settle, callOf, calls, decides, callsOn, recoversFrom, step, runFrom, run}
 
 applied-same : (r : LogRecord) (end : ℕ) (st : State) → appliesRecord r end st ≡ applyRecord r end st
 unfolding appliesRecord apply forGone forTook noticed taken reading imaged
@@ -48,12 +49,6 @@ module _ (c room : ℕ) where
       (settle-same st log _ ∙ ap (λ (x : Decided). Records.settle st log (pick (ltb room (st .size)) (refuse unsound) x)) (h st (room - st .size)))
   calls-same d e h (crashed log k mark) w = refl
 
-  calls-on-same : (d e : List ℕ → State → ℕ → Decided) → ((b : List ℕ) (st : State) (free : ℕ) → d b st free ≡ e b st free) → (o : Option (List ℕ)) (w : World)
-      → callsOn c room d o w ≡ Records.callsOn c room e o w
-  unfolding callsOn Records.callsOn
-  calls-on-same d e h none w = refl
-  calls-on-same d e h (some b) w = calls-same (d b) (e b) (h b) (w .servers c) w
-
 takes-same : (st : State) (free : ℕ) (o : Option Image) → takes st free o ≡ onTake st free o
 unfolding takes onTake orMalformed decideTake imaged
 takes-same st free none = refl
@@ -68,18 +63,27 @@ unfolding recoversFrom regains Records.recoversFrom
 recovers-same c plan none w = refl
 recovers-same c plan (some log) w = refl
 
+decides-same : (o : Operation) (st : State) (free : ℕ) → decides o st free ≡ decision o st free
+unfolding decides decision requests fetches images forRequest forFetch forImage reading
+decides-same (request v b) st free = refl
+decides-same (fetch x c) st free = refl
+decides-same (sync m) st free = refl
+decides-same (notice b) st free = refl
+decides-same (give p d) st free = refl
+decides-same (image p) st free = refl
+decides-same (takeIn b) st free = takes-same st free _
+decides-same (receipt p) st free = refl
+decides-same (release b) st free = releases-same st free _
+
+calls-on-same : (c room : ℕ) (o : Option Operation) (w : World) → callsOn c room o w ≡ Records.callsOn c room o w
+unfolding callsOn Records.callsOn
+calls-on-same c room none w = refl
+calls-on-same c room (some o) w = calls-same c room (decides o) (decision o) (decides-same o) (w .servers c) w
+
 pub same-step : (w : World) (e : Event) → step w e ≡ Records.step w e
-unfolding step Records.step requests fetches images forRequest forFetch forImage reading
+unfolding step Records.step
 same-step w (found c plan n) = refl
-same-step w (request c p v room) = calls-on-same c room _ _ (λ b st free. refl) (packet w p) w
-same-step w (fetch c x k room) = calls-same c room _ _ (λ st free. refl) (w .servers c) w
-same-step w (sync c m room) = refl
-same-step w (notice c p room) = calls-on-same c room _ _ (λ b st free. refl) (packet w p) w
-same-step w (give c p d room) = refl
-same-step w (image c p room) = calls-same c room _ _ (λ st free. refl) (w .servers c) w
-same-step w (take·image c p room) = calls-on-same c room _ _ (λ b st free. takes-same st free _) (packet w p) w
-same-step w (receipt c p room) = refl
-same-step w (release c p room) = calls-on-same c room _ _ (λ b st free. releases-same st free _) (packet w p) w
+same-step w (call c o room) = calls-on-same c room (handed (packet w) o) w
 same-step w (recover c plan) = recovers-same c plan (keptBy (w .servers c)) w
 same-step w (crash c k) = refl
 same-step w (outside e) = refl

@@ -1,7 +1,7 @@
 -- The calls of a server, and the applying of a record, as `model` has them, with the parts that they read named: heard time, sync mark, floors
 -- and completion records of a state, time of a notice, heard time and floors of an image, move numbers. As it stands each part is read as it
 -- is, and all is `model`'s (proofs/Same.antt). Each edit of must-fail/ puts something else for one part, so that a test, or a part of a
--- record or of an image, is left out; `suc`, `[]`, `some`, `planOf`, `pointAt` and `founded` are named for them.
+-- record or of an image, is left out.
 -- Assumes nothing.
 use Prim.Native.Nat.{ℕ}
 use mathlib.Core.List.{List}

@@ -11,16 +11,17 @@ use Rattle.model.specs.Numbers.{half}
 use Rattle.model.specs.Tables.{keep}
 use Rattle.model.specs.Versions.{today}
 use Rattle.model.specs.Logs.{LogRecord, executed, gone, gave, took, released}
-use Rattle.model.specs.Yard.{yardPlan}
+use Rattle.model.specs.Calls.{request, fetch, sync, notice, give, image, takeIn, receipt, release}
+use Rattle.model.specs.Simulator.{simulatorPlan}
 use Rattle.claim.specs.World.{open·lease, start, issue, receive, query}
-use Rattle.claim.specs.RecordWorld.{Event, found, request, fetch, sync, notice, give, image, take·image, receipt, release, recover, crash, outside, Log, keptBy}
+use Rattle.claim.specs.RecordWorld.{Event, found, call, recover, crash, outside, Log, keptBy}
 use Rattle.proof_mutations.specs.World.{run}
 
 -- servers 0 and 1; client 1 has a lease of this span, and sets point 5 to 40: call 1
 unfoldable pub begun : ℕ → List Event
 begun span =
-    found 0 yardPlan 0
-    ∷ found 1 yardPlan 1
+    found 0 simulatorPlan 0
+    ∷ found 1 simulatorPlan 1
     ∷ outside (open·lease 0 span)
     ∷ outside (start 0)
     ∷ outside (issue 1 1 5 (half + 40))
@@ -30,43 +31,43 @@ begun span =
 unfoldable pub ended : List Event
 ended =
     begun 10
-    ++ (request 0 1 today 999
+    ++ (call 0 (request today 1) 999
     ∷ outside (query 1 20)
-    ∷ notice 0 2 999
-    ∷ request 0 1 today 999
+    ∷ call 0 (notice 2) 999
+    ∷ call 0 (request today 1) 999
     ∷ [])
 
 -- two leases end, and server 0 hears of the later end first; a late repeat is refused with 4
 unfoldable pub endedTwice : List Event
 endedTwice =
-    found 0 yardPlan 0
+    found 0 simulatorPlan 0
     ∷ outside (open·lease 0 18)
     ∷ outside (open·lease 0 10)
     ∷ outside (start 0)
     ∷ outside (start 1)
     ∷ outside (issue 1 1 5 (half + 40))
     ∷ outside (issue 2 1 6 (half + 40))
-    ∷ request 0 2 today 999
-    ∷ request 0 3 today 999
+    ∷ call 0 (request today 2) 999
+    ∷ call 0 (request today 3) 999
     ∷ outside (query 2 15)
     ∷ outside (query 1 20)
-    ∷ notice 0 5 999
-    ∷ notice 0 4 999
-    ∷ request 0 2 today 999
+    ∷ call 0 (notice 5) 999
+    ∷ call 0 (notice 4) 999
+    ∷ call 0 (request today 2) 999
     ∷ []
 
 -- the lease ends, server 0 hears of it, and the point moves to server 1; a late repeat there is refused with 4
 unfoldable pub endedMoved : List Event
 endedMoved =
     begun 10
-    ++ (request 0 1 today 999
+    ++ (call 0 (request today 1) 999
     ∷ outside (query 1 20)
-    ∷ notice 0 2 999
-    ∷ give 0 5 1 999
-    ∷ sync 0 56 999
-    ∷ image 0 5 999
-    ∷ take·image 1 3 999
-    ∷ request 1 1 today 999
+    ∷ call 0 (notice 2) 999
+    ∷ call 0 (give 5 1) 999
+    ∷ call 0 (sync 56) 999
+    ∷ call 0 (image 5) 999
+    ∷ call 1 (takeIn 3) 999
+    ∷ call 1 (request today 1) 999
     ∷ [])
 
 -- call 1 is finished at the client, call 2 on another point says so, and the point moves to server 1; a late repeat of call 1 there is
@@ -74,17 +75,17 @@ endedMoved =
 unfoldable pub finished : List Event
 finished =
     begun 1000
-    ++ (request 0 1 today 999
-    ∷ sync 0 36 999
-    ∷ request 0 1 today 999
+    ++ (call 0 (request today 1) 999
+    ∷ call 0 (sync 36) 999
+    ∷ call 0 (request today 1) 999
     ∷ outside (receive 1 2)
     ∷ outside (issue 1 1 6 (half + 41))
-    ∷ request 0 3 today 999
-    ∷ give 0 5 1 999
-    ∷ sync 0 72 999
-    ∷ image 0 5 999
-    ∷ take·image 1 4 999
-    ∷ request 1 1 today 999
+    ∷ call 0 (request today 3) 999
+    ∷ call 0 (give 5 1) 999
+    ∷ call 0 (sync 72) 999
+    ∷ call 0 (image 5) 999
+    ∷ call 1 (takeIn 4) 999
+    ∷ call 1 (request today 1) 999
     ∷ [])
 
 -- call 1 is finished, and call 2 says so to server 1 alone; then point 6 comes from server 0, which has not heard of it; a late repeat of
@@ -92,35 +93,35 @@ finished =
 unfoldable pub finishedThere : List Event
 finishedThere =
     begun 1000
-    ++ (request 0 1 today 999
-    ∷ sync 0 36 999
-    ∷ request 0 1 today 999
+    ++ (call 0 (request today 1) 999
+    ∷ call 0 (sync 36) 999
+    ∷ call 0 (request today 1) 999
     ∷ outside (receive 1 2)
-    ∷ give 0 5 1 999
-    ∷ sync 0 44 999
-    ∷ image 0 5 999
-    ∷ take·image 1 3 999
+    ∷ call 0 (give 5 1) 999
+    ∷ call 0 (sync 44) 999
+    ∷ call 0 (image 5) 999
+    ∷ call 1 (takeIn 3) 999
     ∷ outside (issue 1 1 5 (half + 41))
-    ∷ request 1 4 today 999
-    ∷ give 0 6 1 999
-    ∷ sync 0 52 999
-    ∷ image 0 6 999
-    ∷ take·image 1 5 999
-    ∷ request 1 1 today 999
+    ∷ call 1 (request today 4) 999
+    ∷ call 0 (give 6 1) 999
+    ∷ call 0 (sync 52) 999
+    ∷ call 0 (image 6) 999
+    ∷ call 1 (takeIn 5) 999
+    ∷ call 1 (request today 1) 999
     ∷ [])
 
 -- the point moves to server 1 after the execution; a repeat there runs nothing again, and is told once the take is synced
 unfoldable pub moved : List Event
 moved =
     begun 1000
-    ++ (request 0 1 today 999
-    ∷ give 0 5 1 999
-    ∷ sync 0 44 999
-    ∷ image 0 5 999
-    ∷ take·image 1 2 999
-    ∷ request 1 1 today 999
-    ∷ sync 1 92 999
-    ∷ request 1 1 today 999
+    ++ (call 0 (request today 1) 999
+    ∷ call 0 (give 5 1) 999
+    ∷ call 0 (sync 44) 999
+    ∷ call 0 (image 5) 999
+    ∷ call 1 (takeIn 2) 999
+    ∷ call 1 (request today 1) 999
+    ∷ call 1 (sync 92) 999
+    ∷ call 1 (request today 1) 999
     ∷ outside (receive 1 4)
     ∷ [])
 
@@ -128,9 +129,9 @@ moved =
 unfoldable pub unsynced : List Event
 unsynced =
     begun 1000
-    ++ (request 0 1 today 999
-    ∷ request 0 1 today 999
-    ∷ fetch 0 1 1 999
+    ++ (call 0 (request today 1) 999
+    ∷ call 0 (request today 1) 999
+    ∷ call 0 (fetch 1 1) 999
     ∷ outside (receive 1 2)
     ∷ outside (receive 1 3)
     ∷ crash 0 8
@@ -140,64 +141,64 @@ unsynced =
 unfoldable pub unsyncedGive : List Event
 unsyncedGive =
     begun 1000
-    ++ (give 0 5 1 999
-    ∷ image 0 5 999
-    ∷ take·image 1 2 999
+    ++ (call 0 (give 5 1) 999
+    ∷ call 0 (image 5) 999
+    ∷ call 1 (takeIn 2) 999
     ∷ crash 0 8
-    ∷ recover 0 yardPlan
-    ∷ request 0 1 today 999
-    ∷ request 1 1 today 999
+    ∷ recover 0 simulatorPlan
+    ∷ call 0 (request today 1) 999
+    ∷ call 1 (request today 1) 999
     ∷ [])
 
 -- the point goes to server 1 and back, and the command runs at server 0; the image of the first move comes to server 1 again
 unfoldable pub returned : List Event
 returned =
     begun 1000
-    ++ (give 0 5 1 999
-    ∷ sync 0 16 999
-    ∷ image 0 5 999
-    ∷ take·image 1 2 999
-    ∷ give 1 5 0 999
-    ∷ sync 1 72 999
-    ∷ image 1 5 999
-    ∷ take·image 0 3 999
-    ∷ request 0 1 today 999
-    ∷ take·image 1 2 999
-    ∷ request 1 1 today 999
+    ++ (call 0 (give 5 1) 999
+    ∷ call 0 (sync 16) 999
+    ∷ call 0 (image 5) 999
+    ∷ call 1 (takeIn 2) 999
+    ∷ call 1 (give 5 0) 999
+    ∷ call 1 (sync 72) 999
+    ∷ call 1 (image 5) 999
+    ∷ call 0 (takeIn 3) 999
+    ∷ call 0 (request today 1) 999
+    ∷ call 1 (takeIn 2) 999
+    ∷ call 1 (request today 1) 999
     ∷ [])
 
 -- the point goes to server 1 and back and is given to it again; the receipt of the first move does not let it go before it has an image
 unfoldable pub givenAgain : List Event
 givenAgain =
-    found 0 yardPlan 0
-    ∷ found 1 yardPlan 1
-    ∷ give 0 5 1 999
-    ∷ sync 0 16 999
-    ∷ image 0 5 999
-    ∷ take·image 1 0 999
-    ∷ sync 1 64 999
-    ∷ receipt 1 5 999
-    ∷ release 0 1 999
-    ∷ give 1 5 0 999
-    ∷ sync 1 72 999
-    ∷ image 1 5 999
-    ∷ take·image 0 2 999
-    ∷ give 0 5 1 999
-    ∷ release 0 1 999
-    ∷ sync 0 88 999
-    ∷ image 0 5 999
-    ∷ take·image 1 3 999
+    found 0 simulatorPlan 0
+    ∷ found 1 simulatorPlan 1
+    ∷ call 0 (give 5 1) 999
+    ∷ call 0 (sync 16) 999
+    ∷ call 0 (image 5) 999
+    ∷ call 1 (takeIn 0) 999
+    ∷ call 1 (sync 64) 999
+    ∷ call 1 (receipt 5) 999
+    ∷ call 0 (release 1) 999
+    ∷ call 1 (give 5 0) 999
+    ∷ call 1 (sync 72) 999
+    ∷ call 1 (image 5) 999
+    ∷ call 0 (takeIn 2) 999
+    ∷ call 0 (give 5 1) 999
+    ∷ call 0 (release 1) 999
+    ∷ call 0 (sync 88) 999
+    ∷ call 0 (image 5) 999
+    ∷ call 1 (takeIn 3) 999
     ∷ []
 
 -- the execution is synced, and the server crashes and recovers; a repeat is told the result
 unfoldable pub regained : List Event
 regained =
     begun 1000
-    ++ (request 0 1 today 999
-    ∷ sync 0 36 999
+    ++ (call 0 (request today 1) 999
+    ∷ call 0 (sync 36) 999
     ∷ crash 0 36
-    ∷ recover 0 yardPlan
-    ∷ request 0 1 today 999
+    ∷ recover 0 simulatorPlan
+    ∷ call 0 (request today 1) 999
     ∷ [])
 
 -- ---- what is counted

@@ -1,4 +1,4 @@
--- The world of states and log records (`claim`: RecordWorld) over the calls of Reads; found, sync, give, receipt, crash, clients and lease manager
+-- The world of states and log records (`claim`: RecordWorld) over the calls of Reads; found, sync, notice, give, receipt, crash, clients and lease manager
 -- are that world's own.
 -- Assumes nothing.
 use Prim.Native.Nat.{ℕ, _+_, _-_}
@@ -11,9 +11,10 @@ use Rattle.model.specs.Packets.{parsePacket}
 use Rattle.model.specs.Images.{parseImage}
 use Rattle.model.specs.Logs.{Entry, recordSize}
 use Rattle.model.specs.States.{State}
-use Rattle.model.specs.Decisions.{Decided, onNotice}
+use Rattle.model.specs.Decisions.{Decided}
+use Rattle.model.specs.Calls.{Operation, request, fetch, sync, notice, give, image, takeIn, receipt, release, handed, decision}
 use Rattle.claim.specs.World.{withServer, making, packet, outsideStep}
-use Rattle.claim.specs.RecordWorld.{Event, found, request, fetch, sync, notice, give, image, take·image, receipt, release, recover, crash, outside}
+use Rattle.claim.specs.RecordWorld.{Event, found, call, recover, crash, outside}
 use Rattle.claim.specs.RecordWorld.{Log, Server, nothing, running, crashed, World, Left, longer, keptBy, recoversTo, emptyWorld}
 use Rattle.claim.specs.RecordWorld as Records
 use Rattle.proof_mutations.specs.Reads.{requests, fetches, images, takes, releases, applies, regains}
@@ -38,9 +39,21 @@ calls c room d (running st log) w =
     making (a .made) (withServer c (running (a .state) (a .log)) w)
 calls c room d (crashed log k mark) w = w
 
-unfoldable pub callsOn : ℕ → ℕ → (List ℕ → State → ℕ → Decided) → Option (List ℕ) → World → World
-callsOn c room d none w = w
-callsOn c room d (some b) w = calls c room (d b) (w .servers c) w
+-- what an operation decides, by the calls of Reads
+unfoldable pub decides : Operation → State → ℕ → Decided
+decides (request v b) st free = requests v st free (parsePacket b)
+decides (fetch x c) st free = fetches st x c
+decides (sync m) st free = decision (sync m) st free
+decides (notice b) st free = decision (notice b) st free
+decides (give p d) st free = decision (give p d) st free
+decides (image p) st free = images st p
+decides (takeIn b) st free = takes st free (parseImage b)
+decides (receipt p) st free = decision (receipt p) st free
+decides (release b) st free = releases st free (parsePacket b)
+
+unfoldable pub callsOn : ℕ → ℕ → Option Operation → World → World
+callsOn c room none w = w
+callsOn c room (some o) w = calls c room (decides o) (w .servers c) w
 
 unfoldable pub recoversFrom : ℕ → List ℕ → Option Log → World → World
 recoversFrom c plan none w = w
@@ -48,15 +61,7 @@ recoversFrom c plan (some log) w = recoversTo c log (regains plan log) w
 
 unfoldable pub step : World → Event → World
 step w (found c plan n) = Records.step w (found c plan n)
-step w (request c p v room) = callsOn c room (λ b st free. requests v st free (parsePacket b)) (packet w p) w
-step w (fetch c x k room) = calls c room (λ st free. fetches st x k) (w .servers c) w
-step w (sync c m room) = Records.step w (sync c m room)
-step w (notice c p room) = callsOn c room (λ b st free. onNotice st free (parsePacket b)) (packet w p) w
-step w (give c p d room) = Records.step w (give c p d room)
-step w (image c p room) = calls c room (λ st free. images st p) (w .servers c) w
-step w (take·image c p room) = callsOn c room (λ b st free. takes st free (parseImage b)) (packet w p) w
-step w (receipt c p room) = Records.step w (receipt c p room)
-step w (release c p room) = callsOn c room (λ b st free. releases st free (parsePacket b)) (packet w p) w
+step w (call c o room) = callsOn c room (handed (packet w) o) w
 step w (recover c plan) = recoversFrom c plan (keptBy (w .servers c)) w
 step w (crash c k) = Records.step w (crash c k)
 step w (outside e) = outsideStep w e

@@ -1,6 +1,6 @@
 -- A command completed before another was issued stands first; the order keeps each point's sequence; and the whole.
 --     completed-then   a command completed within the first n changes was executed by one of them, and that execution is in the order
---     real-time, completed, sequence   the last clauses
+--     real-time, sequence   the last clauses
 --     explained        one order explains every run
 -- Assumes nothing.
 use mathlib.Core.Path.{_≡_, refl, sym, _∙_, ap, subst}
@@ -209,10 +209,6 @@ module _ (plan : Plan) (cs : List Change) (run-ok : Run plan emptyWorld cs) wher
       let i = subst (λ (z : Command). Saw (run cs .seen) (issued z)) (d .2) (issued-past plan cs run-ok (k .point) (d .0) (d .1)) in
       (d .0, merged-in (byEvent plan cs run-ok) (H plan cs run-ok) (d .0) (k .point) pointCount (inv plan cs run-ok .clients .small k i) (d .1), ap (λ (z : Command). z ∷ []) (d .2) ∙ c .its, d .3)
 
-  pub completed : (n : ℕ) (ks : List Command) (r : EntryResult) → Completes cs n ks r → (a : OrderEntry) × (commands a ≡ ks) × List·Memᴰ a (order plan cs run-ok)
-  unfolding order
-  completed n ks r c = let d = completed-at n ks r c in (entry (d .0), sym (entry-commands (d .0) _ refl) ∙ d .2, ordered-in (timeline plan cs run-ok) (d .0) (d .1))
-
   pub results-of : (n : ℕ) (ks : List Command) (r : EntryResult) → Completes cs n ks r → Answers plan (opened plan) (order plan cs run-ok) ks r
   results-of n ks r c =
       let s = completes-seen n ks r c in
@@ -274,7 +270,6 @@ explained plan cs r = (
     results = results-of plan cs r;
     values = values plan cs r;
     real-time = real-time plan cs r;
-    completed = completed plan cs r;
     sequence = sequence plan cs r;
   },
 )

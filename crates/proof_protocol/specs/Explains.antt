@@ -101,8 +101,6 @@ module _ (plan : Plan) (cs : List Change) where
     -- "a command completed before another was issued stands first"
     pub real-time : (m n : ℕ) (a b : OrderEntry) (r : EntryResult) → Completes cs m (commands a) r → Issues cs n (commands b) → m < n
         → a ∈ order → b ∈ order → Before a b order
-    -- a completed command survives
-    pub completed : (n : ℕ) (ks : List Command) (r : EntryResult) → Completes cs n ks r → (a : OrderEntry) × (commands a ≡ ks) × (a ∈ order)
     -- the order keeps each point's sequence of surviving executions
     pub sequence : (m n : ℕ) (j k : Marked) (a b : OrderEntry) → SurvivesAt cs m j → SurvivesAt cs n k → m < n
         → j .command .point ≡ k .command .point → j ∈ parts a → k ∈ parts b → a ∈ order → b ∈ order → Before a b order

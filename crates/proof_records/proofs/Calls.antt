@@ -2,8 +2,7 @@
 --     running-like, running-alike     a running server's log and states
 --     Effect, decided-like     what a decision leaves, and the change that follows it
 --     call-follows             a call of any server
---     request-step             a request: executed, or quiet
---     plain-call, plain-packet     any other call
+--     call-step                an operation: a request that is executed, or quiet
 -- Assumes nothing.
 use Prim.Native.Nat.{ℕ, _+_, _-_, _≤_, _<_, zero, suc}
 use mathlib.Core.Path.{_≡_, refl, sym, _∙_, ap, subst}
@@ -18,8 +17,10 @@ use Rattle.model.specs.Apply.{apply, replay, withMark}
 use Rattle.model.specs.Decisions.{Decided}
 use Rattle.model_laws.proofs.Logs.{record-least}
 use Rattle.model_invariants.specs.History.{Decides, entryFor}
-use Rattle.model_invariants.specs.Calls.{Operation, decision}
-use Rattle.model_invariants.specs.Calls as Calls
+use Rattle.model_invariants.specs.Calls.{HandedOver}
+use Rattle.model_invariants.proofs.Calls.{handed-over}
+use Rattle.model.specs.Calls.{OperationOf, Operation, handed, decision}
+use Rattle.model.specs.Calls as Calls
 use Rattle.model_invariants.proofs.Steps.{sound-mark}
 use Rattle.model_invariants.proofs.Kept.{decides-mark, apply-mark}
 use Rattle.model_invariants.proofs.Recovery.{replay-next, apply-size}
@@ -33,7 +34,7 @@ use Rattle.claim.specs.RecordProvisos.{lengthOf}
 use Rattle.proof_records.specs.Likeness.{Pair, RecordLike, entriesIn, abstractIn, placeOf, Alike}
 use Rattle.proof_records.specs.Inverse.{Shows}
 use Rattle.proof_records.specs.Worlds.{Running, LogLike, WorldLike}
-use Rattle.proof_records.specs.Matched.{Source, Quiet, Matched, Stepped, NoExecution, Executed, Plain, executed, other}
+use Rattle.proof_records.specs.Matched.{Source, execution, no-execution, Quiet, Matched, Stepped, Executed, executed, other}
 use Rattle.proof_records.proofs.Sizes.{next-size}
 use Rattle.proof_records.proofs.Places.{place-old, place-rises, place-most, abstract-length}
 use Rattle.proof_records.proofs.Replays.{apply-fixed, chain-alike, replay-mark, alike-mark}
@@ -211,73 +212,70 @@ packet-in (x ∷ l) (suc n) a e = List·Memᴰ·tail (packet-in l n a e)
 pub some-same : {A : Type 0} {a b : A} {o : Option A} → o ≡ some a → o ≡ some b → a ≡ b
 some-same {A} {a} {b} p q = let e : some a ≡ some b = sym p ∙ q in cc
 
--- what a call that is no request leaves is not read
-effect-plain : {o : Operation} {c : ℕ} {d : Decided} {a : W.Change} → ((x : S.LogRecord) → Source o x → NoExecution x) → Effect o c d a → Plain a
-effect-plain f (refuses n) = tt
-effect-plain f (denies n) = tt
-effect-plain f (replies n) = tt
-effect-plain f (appends s) = f _ s
-effect-plain f (sets e) = tt
+module _ {plan : List PlanEntry} {w : World} {v : W.World} (l : WorldLike plan w v) (c room : ℕ) (o : OperationOf ℕ) where
+  -- the packet that a request names
+  request-handed : (p : ℕ) (vs : Versions) (b : List ℕ) → o ≡ Calls.request vs p → packet w p ≡ some b → handed (packet w) o ≡ some (Calls.request vs b)
+  unfolding handed
+  request-handed p vs b e d = rw (e, d)
 
-module _ {plan : List PlanEntry} {w : World} {v : W.World} (l : WorldLike plan w v) (c room : ℕ) where
-  handed : (n : ℕ) (b : List ℕ) → packet w n ≡ some b → PacketLike (Made v) b
-  unfolding packet
-  handed n b e = l .made b (packet-in (w .made) n b e)
+  -- o is x with the packet that it names
+  module _ (x : Operation) (z : handed (packet w) o ≡ some x) where
+    over : HandedOver (packet w) o x
+    over = handed-over (packet w) o x z
 
-  -- a call that is no request
-  pub plain-call : (e : Event) (o : Operation) → step w e ≡ calls c room (decision o) (w .servers c) w → Handed (Made v) o → Quiet w e → ((x : S.LogRecord) → Source o x → NoExecution x)
-      → Stepped plan w v e
-  plain-call e o q H h f = call-follows l c room e o q H (λ n. h) (λ st log u a E. other e a h (effect-plain f E))
+    made-over : Handed (Made v) x
+    unfolding packet
+    made-over = over .named (PacketLike (Made v)) (λ n b e. l .made b (packet-in (w .made) n b e))
 
-  -- the same, on a packet or image
-  pub plain-packet : (e : Event) (o : List ℕ → Operation) (n : ℕ) → step w e ≡ callsOn c room (λ b. decision (o b)) (packet w n) w
-      → ((b : List ℕ) → PacketLike (Made v) b → Handed (Made v) (o b)) → Quiet w e → ((b : List ℕ) (x : S.LogRecord) → Source (o b) x → NoExecution x) → Stepped plan w v e
-  unfolding callsOn
-  plain-packet e o n q H h f = go (packet w n) refl
-    where
-      go : (x : Option (List ℕ)) → packet w n ≡ x → Stepped plan w v e
-      go none z = idle-step l e (q ∙ rw z) h
-      go (some b) z = plain-call e (o b) (q ∙ rw z) (H b (handed n b z)) h (f b)
+    same-request : (p : ℕ) (vs : Versions) (b : List ℕ) → o ≡ Calls.request vs p → packet w p ≡ some b → x ≡ Calls.request vs b
+    same-request p vs b e d = some-same z (request-handed p vs b e d)
 
-  -- ---- request
-
-  module _ (n : ℕ) (vs : Versions) where
     -- what an execution leaves, in a running server
-    executed-left : (st : State) (log : Log) (b : List ℕ) → Running (w .servers c) st log → packet w n ≡ some b → (d : Decided) → decidedIn st room (Calls.request vs b) ≡ d
-        → (q : Request) → Executed w c n vs room q → (settle st log d .number ≡ 0) × (settle st log d .made ≡ [])
+    executed-left : (st : State) (log : Log) → Running (w .servers c) st log → (d : Decided) → decidedIn st room x ≡ d → (p : ℕ) (vs : Versions) (q : Request) → o ≡ Calls.request vs p
+        → Executed w c p vs room q → (settle st log d .number ≡ 0) × (settle st log d .made ≡ [])
     unfolding callOf
-    executed-left st log b u z d e q X =
+    executed-left st log u d e p vs q i X =
         let y = running-same (w .servers c) st (X .state) log (X .log) u (X .up) in
-        let k : b ≡ X .bytes = some-same z (X .delivered) in
-        rw (← e, y .0, y .1, k) (X .no-number, X .no-packet)
+        rw (← e, y .0, y .1, same-request p vs (X .bytes) i (X .delivered)) (X .no-number, X .no-packet)
 
-    request-matched : (st : State) (log : Log) (b : List ℕ) → Running (w .servers c) st log → packet w n ≡ some b → (d : Decided) → decidedIn st room (Calls.request vs b) ≡ d
-        → (a : W.Change) → Effect (Calls.request vs b) c d a → Matched w v (W.step v a) (R.request c n vs room) a
+    call-matched : (st : State) (log : Log) → Running (w .servers c) st log → (d : Decided) → decidedIn st room x ≡ d → (a : W.Change) → Effect x c d a
+        → Matched w v (W.step v a) (R.call c o room) a
     unfolding settle Quiet callOf
-    request-matched st log b u z d e a (refuses k) = other (R.request c n vs room) W.same (λ q X. k (executed-left st log b u z d e q X .0)) tt
-    request-matched st log b u z d e a (denies k) = other (R.request c n vs room) W.same (λ q X. k (executed-left st log b u z d e q X .0)) tt
-    request-matched st log b u z d e a (replies {p = p} k) = other (R.request c n vs room) (W.tells c p) (λ q X. k (executed-left st log b u z d e q X .1)) tt
-    request-matched st log b u z d e a (appends (q, p, (r, h))) =
-        rw h
-        (executed c n vs room q r
+    call-matched st log u d e a (refuses k) = other (R.call c o room) W.same (λ p vs q i X. k (executed-left st log u d e p vs q i X .0)) tt
+    call-matched st log u d e a (denies k) = other (R.call c o room) W.same (λ p vs q i X. k (executed-left st log u d e p vs q i X .0)) tt
+    call-matched st log u d e a (replies {p = t} k) = other (R.call c o room) (W.tells c t) (λ p vs q i X. k (executed-left st log u d e p vs q i X .1)) tt
+    call-matched st log u d e a (appends (execution vs b q r i p h)) =
+        let n = over .requests vs b i in
+        rw (h, n .1)
+        (executed c (n .0) vs room q r
         (record {
           state = st;
           log = log;
           up = u;
           bytes = b;
-          delivered = z;
-          no-number = ap (λ (x : Decided). settle st log x .number) e;
-          no-packet = ap (λ (x : Decided). settle st log x .made) e;
+          delivered = n .2;
+          no-number = subst (λ (y : Operation). settle st log (decidedIn st room y) .number ≡ 0) i (ap (λ (y : Decided). settle st log y .number) e);
+          no-packet = subst (λ (y : Operation). settle st log (decidedIn st room y) .made ≡ []) i (ap (λ (y : Decided). settle st log y .made) e);
           parsed = p;
         }))
-    request-matched st log b u z d e a (sets {m = m} k) = let y : _≡_ {A = ℕ} 0 1 = cc in absurd (omega arith)
+    call-matched st log u d e a (appends (no-execution n h)) = other (R.call c o room) a (λ p vs q i X. n vs (X .bytes) (same-request p vs (X .bytes) i (X .delivered))) h
+    call-matched st log u d e a (sets {m = m} k) =
+        other (R.call c o room) a
+        (λ p vs q i X.
+        let y : Calls.sync m ≡ Calls.request vs (X .bytes) = sym k ∙ same-request p vs (X .bytes) i (X .delivered) in
+        let t : _≡_ {A = ℕ} 0 1 = cc in
+        omega arith) tt
 
-    pub request-step : Stepped plan w v (R.request c n vs room)
-    unfolding step decision callsOn Quiet
-    request-step = go (packet w n) refl
-      where
-        go : (x : Option (List ℕ)) → packet w n ≡ x → Stepped plan w v (R.request c n vs room)
-        go none z = idle-step l (R.request c n vs room) (rw z) (λ q X. let y : none ≡ some (X .bytes) = sym z ∙ X .delivered in let k : _≡_ {A = ℕ} 0 1 = cc in omega arith)
-        go (some b) z =
-            call-follows l c room (R.request c n vs room) (Calls.request vs b) (rw z) (handed n b z) (λ k q X. k (X .state) (X .log) (X .up))
-            (λ st log u a E. request-matched st log b u z _ refl a E)
+  pub call-step : Stepped plan w v (R.call c o room)
+  unfolding step callsOn Quiet
+  call-step = go (handed (packet w) o) refl
+    where
+      go : (u : Option Operation) → handed (packet w) o ≡ u → Stepped plan w v (R.call c o room)
+      go none z =
+          idle-step l (R.call c o room) (rw z)
+          (λ p vs q e X.
+          let y : none ≡ some (Calls.request vs (X .bytes)) = sym z ∙ request-handed p vs (X .bytes) e (X .delivered) in
+          let t : _≡_ {A = ℕ} 0 1 = cc in
+          omega arith)
+      go (some x) z =
+          call-follows l c room (R.call c o room) x (rw z) (made-over x z) (λ k p vs q e X. k (X .state) (X .log) (X .up)) (λ st log u a E. call-matched x z st log u _ refl a E)

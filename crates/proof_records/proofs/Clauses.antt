@@ -24,7 +24,7 @@ use Rattle.model.specs.Plan.{planOf}
 use Rattle.model.specs.Sequential.{Marked, EntryResult, ResultZ, resultMeant}
 use Rattle.model.specs.Packets.{parsePacket}
 use Rattle.model.specs.Clients.{issueOf, receiveOf}
-use Rattle.model_invariants.specs.Calls.{decision}
+use Rattle.model.specs.Calls.{request, handed, decision}
 use Rattle.model_laws.proofs.Clients.{issue-asked}
 use Rattle.proof_protocol.specs.Servers as S
 use Rattle.proof_protocol.specs.World as W
@@ -69,7 +69,7 @@ module _ {w : World} {v v′ : W.World} where
       rw (i, t)
   receive-on (M.other e a h s) d b r e′ f′ k = absurd (h d b r e′ f′ k)
 
-  request-on : {c p room : ℕ} {vs : Versions} {a : W.Change} → Matched w v v′ (R.request c p vs room) a → (q : Request) → Executed w c p vs room q
+  request-on : {c p room : ℕ} {vs : Versions} {a : W.Change} → Matched w v v′ (R.call c (request vs p) room) a → (q : Request) → Executed w c p vs room q
       → (r : ResultZ) × (a ≡ W.server c (W.writes (S.executed (vs (q .command .op)) (q .command) (q .done) r)))
   unfolding Quiet
   request-on (M.executed c p vs room k r X) q Y =
@@ -77,7 +77,7 @@ module _ {w : World} {v v′ : W.World} where
       let z : Requested k ≡ Requested q = sym (X .parsed) ∙ (ap parsePacket j ∙ Y .parsed) in
       let t : k ≡ q = cc in
       (r, rw t)
-  request-on (M.other e a h s) q Y = absurd (h q Y)
+  request-on (M.other e a h s) q Y = absurd (h _ _ q refl Y)
 
 -- the same issue asks the same
 issue-same : {d d′ : Client} {op op′ p p′ b b′ : ℕ} → W.issues d op p b ≡ W.issues d′ op′ p′ b′
@@ -96,15 +96,15 @@ module _ (plan : List ℕ) (es : List Event) (cs : List W.Change) (F : Follows (
   unfolding after run X.after W.run
   like n = like-at F n
 
-  pairing : (n : ℕ) (e : Event) → At plan es n e → (a : W.Change) × X.At cs n a × Matched (after es n) (X.after cs n) (X.after cs (suc n)) e a
+  pairing : (n : ℕ) (e : Event) → At es n e → (a : W.Change) × X.At cs n a × Matched (after es n) (X.after cs n) (X.after cs (suc n)) e a
   unfolding after run X.after W.run At X.At
   pairing n e q = let r = matched-at F n e q in (r .0, r .1 .there, r .1 .matched)
 
-  pairing-back : (n : ℕ) (a : W.Change) → X.At cs n a → (e : Event) × At plan es n e × Matched (after es n) (X.after cs n) (X.after cs (suc n)) e a
+  pairing-back : (n : ℕ) (a : W.Change) → X.At cs n a → (e : Event) × At es n e × Matched (after es n) (X.after cs n) (X.after cs (suc n)) e a
   unfolding after run X.after W.run At X.At
   pairing-back n a q = let r = matched-back F n a q in (r .0, r .1 .here, r .1 .matched)
 
-  pub issues-there : (n : ℕ) (ks : List Command) → Issues plan es n ks → X.Issues cs n ks
+  pub issues-there : (n : ℕ) (ks : List Command) → Issues es n ks → X.Issues cs n ks
   issues-there n ks i =
       let r = pairing n _ (i .event) in
       record {
@@ -118,11 +118,11 @@ module _ (plan : List ℕ) (es : List Event) (cs : List W.Change) (F : Follows (
       }
 
   -- an issue in the run is of an issue not refused
-  pub issues-here : (n : ℕ) (ks : List Command) → X.Issues cs n ks → Issues plan es n ks
+  pub issues-here : (n : ℕ) (ks : List Command) → X.Issues cs n ks → Issues es n ks
   issues-here n ks i = let r = pairing-back n _ (i .event) in go (r .0) (r .1) _ (r .2) refl
     where
-      go : (e : Event) → At plan es n e → (a : W.Change) → Matched (after es n) (X.after cs n) (X.after cs (suc n)) e a
-          → a ≡ W.client (i .client) (W.issues (i .state) (i .op) (i .point) (i .argument)) → Issues plan es n ks
+      go : (e : Event) → At es n e → (a : W.Change) → Matched (after es n) (X.after cs n) (X.after cs (suc n)) e a
+          → a ≡ W.client (i .client) (W.issues (i .state) (i .op) (i .point) (i .argument)) → Issues es n ks
       go e k a (M.issued x op p b d q f s) z =
           let t : W.issues d op p b ≡ W.issues (i .state) (i .op) (i .point) (i .argument) = cc in
           record {
@@ -142,7 +142,7 @@ module _ (plan : List ℕ) (es : List Event) (cs : List W.Change) (F : Follows (
       go e k a (M.received x p d b r f g h) z = let o : _≡_ {A = ℕ} 0 1 = cc in absurd (omega arith)
       go e k a (M.other f b h s) z = absurd (subst Plain z s)
 
-  pub completes-there : (n : ℕ) (ks : List Command) (r : EntryResult) → Completes plan es n ks r → X.Completes cs n ks r
+  pub completes-there : (n : ℕ) (ks : List Command) (r : EntryResult) → Completes es n ks r → X.Completes cs n ks r
   unfolding commandAt W.commandAt
   completes-there n ks r i =
       let m = pairing n _ (i .event) in
@@ -157,7 +157,7 @@ module _ (plan : List ℕ) (es : List Event) (cs : List W.Change) (F : Follows (
         result = i .result;
       }
 
-  pub executes-there : (n c : ℕ) (m : Marked) → Executes plan es n c m → X.Executes cs n c m
+  pub executes-there : (n c : ℕ) (m : Marked) → Executes es n c m → X.Executes cs n c m
   unfolding Running decision
   executes-there n c m x =
       let r = pairing n _ (x .event) in
@@ -172,17 +172,17 @@ module _ (plan : List ℕ) (es : List Event) (cs : List W.Change) (F : Follows (
       }
 
   -- an execution in the run is of a request
-  pub executes-here : (n c : ℕ) (m : Marked) → X.Executes cs n c m → Executes plan es n c m
+  pub executes-here : (n c : ℕ) (m : Marked) → X.Executes cs n c m → Executes es n c m
   unfolding Running decision
   executes-here n c m x = let r = pairing-back n _ (x .event) in go (r .0) (r .1) _ (r .2) refl
     where
-      go : (e : Event) → At plan es n e → (a : W.Change) → Matched (after es n) (X.after cs n) (X.after cs (suc n)) e a
-          → a ≡ W.server c (W.writes (S.executed (m .version) (m .command) (x .done) (x .res))) → Executes plan es n c m
+      go : (e : Event) → At es n e → (a : W.Change) → Matched (after es n) (X.after cs n) (X.after cs (suc n)) e a
+          → a ≡ W.server c (W.writes (S.executed (m .version) (m .command) (x .done) (x .res))) → Executes es n c m
       go e q a (M.executed d p vs room k r Y) z =
           let i : d ≡ c = cc in
           let j : vs (k .command .op) ≡ m .version = cc in
           let t : k .command ≡ m .command = cc in
-          subst (λ (y : ℕ). Executes plan es n y m) i
+          subst (λ (y : ℕ). Executes es n y m) i
           (record {
             number = p;
             versions = vs;
@@ -204,18 +204,18 @@ module _ (plan : List ℕ) (es : List Event) (cs : List W.Change) (F : Follows (
       go e q a (M.received y p d b r f g h) z = let o : _≡_ {A = ℕ} 0 1 = cc in absurd (omega arith)
       go e q a (M.other f b h s) z = absurd (subst Plain z s)
 
-  crash-there : (n c b : ℕ) → At plan es n (R.crash c b) → (n < length cs) × ((keptBy (after es n .servers c) ≡ none) ⊎ Cut (X.after cs n) (X.after cs (suc n)) c b)
+  crash-there : (n c b : ℕ) → At es n (R.crash c b) → (n < length cs) × ((keptBy (after es n .servers c) ≡ none) ⊎ Cut (X.after cs n) (X.after cs (suc n)) c b)
   crash-there n c b q = let r = pairing n _ q in (at-is cs n (r .0) (r .1) .0, go (r .2))
     where
       go : {a : W.Change} → Matched (after es n) (X.after cs n) (X.after cs (suc n)) (R.crash c b) a → (keptBy (after es n .servers c) ≡ none) ⊎ Cut (X.after cs n) (X.after cs (suc n)) c b
       go (M.cut c b j k) = inr k
       go (M.other e a h s) = inl (unfold Quiet in h)
 
-  crash-here : (n c j : ℕ) → X.At cs n (W.server c (W.crashes j)) → (b : ℕ) × At plan es n (R.crash c b) × Cut (X.after cs n) (X.after cs (suc n)) c b
+  crash-here : (n c j : ℕ) → X.At cs n (W.server c (W.crashes j)) → (b : ℕ) × At es n (R.crash c b) × Cut (X.after cs n) (X.after cs (suc n)) c b
   crash-here n c j q = let r = pairing-back n _ q in go (r .0) (r .1) _ (r .2) refl
     where
-      go : (e : Event) → At plan es n e → (a : W.Change) → Matched (after es n) (X.after cs n) (X.after cs (suc n)) e a → a ≡ W.server c (W.crashes j)
-          → (b : ℕ) × At plan es n (R.crash c b) × Cut (X.after cs n) (X.after cs (suc n)) c b
+      go : (e : Event) → At es n e → (a : W.Change) → Matched (after es n) (X.after cs n) (X.after cs (suc n)) e a → a ≡ W.server c (W.crashes j)
+          → (b : ℕ) × At es n (R.crash c b) × Cut (X.after cs n) (X.after cs (suc n)) c b
       go e k a (M.cut d b i y) z = let h : d ≡ c = cc in (b, rw (← h) k, rw (← h) y)
       go e k a (M.executed d p vs room y r f) z = let o : _≡_ {A = ℕ} 0 1 = cc in absurd (omega arith)
       go e k a (M.issued x op p b d r y s) z = let o : _≡_ {A = ℕ} 0 1 = cc in absurd (omega arith)
@@ -260,19 +260,19 @@ module _ (plan : List ℕ) (es : List Event) (cs : List W.Change) (F : Follows (
       let s : st .size ≡ replay (planOf plan) c (log .entries) .size = ap (λ (x : State). x .size) (l .servers c .state st log u .is) in
       running-kept (after es n .servers c) st log u .2 ∙ (s ∙ (rw (K .entries, K .same) (chain-bytes (planOf plan) c (K .pairs) (K .chain))))
 
-  executed-bytes : (n c : ℕ) (k : Marked) → Executes plan es n c k → lengthOf (after es (suc n) .servers c) ≡ bytesIn (logAt (suc n) c)
+  executed-bytes : (n c : ℕ) (k : Marked) → Executes es n c k → lengthOf (after es (suc n) .servers c) ≡ bytesIn (logAt (suc n) c)
   executed-bytes n c k x =
       let r = runs-after n c (x .number) (x .room) (x .versions) (x .event) (x .state) (x .log) (x .up) (x .bytes) (x .delivered) in
       running-bytes (suc n) c (r .0) (r .1 .0) (r .1 .1)
     where
-      runs-after : (n c p room : ℕ) (vs : Versions) → At plan es n (R.request c p vs room) → (st : State) (log : Log) → after es n .servers c ≡ running st log → (b : List ℕ)
+      runs-after : (n c p room : ℕ) (vs : Versions) → At es n (R.call c (request vs p) room) → (st : State) (log : Log) → after es n .servers c ≡ running st log → (b : List ℕ)
           → packet (after es n) p ≡ some b → (x : State) × ((g : Log) × Running (after es (suc n) .servers c) x g)
       runs-after n c p room vs q st log u b d =
-          unfold after run At step callsOn Running in rw (after-next es emptyWorld n (R.request c p vs room) q, d) (_, (_, runs-on (after es n) c room _ st log u))
+          unfold after run At step callsOn handed Running in rw (after-next es emptyWorld n (R.call c (request vs p) room) q, d) (_, (_, runs-on (after es n) c room _ st log u))
 
   -- ---- from records to the run
 
-  module _ (n c : ℕ) (bytes : (m b : ℕ) → n < m → At plan es m (R.crash c b) → bytesIn (logAt (suc n) c) ≤ b) where
+  module _ (n c : ℕ) (bytes : (m b : ℕ) → n < m → At es m (R.crash c b) → bytesIn (logAt (suc n) c) ≤ b) where
     -- a crash of the server keeps the log of event n whole
     crash-stays : (m j : ℕ) → n < m → X.At cs m (W.server c (W.crashes j)) → Tail (logAt (suc n) c) (logAt m c) → Tail (logAt (suc n) c) (logAt (suc m) c)
     crash-stays m j h a t = let k = crash-here plan es cs F m c j a in k .2 .stays (logAt (suc n) c) t (bytes m (k .0) h (k .1))
@@ -295,7 +295,7 @@ module _ (plan : List ℕ) (es : List Event) (cs : List W.Change) (F : Follows (
         let t : Tail (logAt (suc n) c) (logAt m c) = subst (λ (z : ℕ). Tail (logAt (suc n) c) (logAt z c)) e (stays (m - suc n) (omega (arith, i .0))) in
         Tail-length (crash-stays m j h a t)
 
-  pub survives-there : (n : ℕ) (k : Marked) → SurvivesAt plan es n k → X.SurvivesAt cs n k
+  pub survives-there : (n : ℕ) (k : Marked) → SurvivesAt es n k → X.SurvivesAt cs n k
   survives-there n k s =
       let c = s .server in
       record {
@@ -319,7 +319,7 @@ module _ (plan : List ℕ) (es : List Event) (cs : List W.Change) (F : Follows (
     stands : (m : ℕ) → n < m → m ≤ length cs → Tail (logAt (suc n) c) (logAt m c)
     stands m h b = stands-through (planOf plan) cs (run-of F) (suc n) m c (logAt (suc n) c) h b (Tail-refl _) (λ i j a q. kept i j a q)
 
-    kept-here : (m b : ℕ) → n < m → At plan es m (R.crash c b) → bytesIn (logAt (suc n) c) ≤ b
+    kept-here : (m b : ℕ) → n < m → At es m (R.crash c b) → bytesIn (logAt (suc n) c) ≤ b
     kept-here m b h a = let r = crash-there plan es cs F m c b a in go (r .0) (r .1)
       where
         -- a server with an execution in its log has one
@@ -333,7 +333,7 @@ module _ (plan : List ℕ) (es : List Event) (cs : List W.Change) (F : Follows (
         go u (inl z) = absurd (never u z)
         go u (inr y) = omega (arith, tail-bytes (stands (suc m) (omega arith) u), y .most)
 
-  pub survives-here : (n : ℕ) (k : Marked) → X.SurvivesAt cs n k → SurvivesAt plan es n k
+  pub survives-here : (n : ℕ) (k : Marked) → X.SurvivesAt cs n k → SurvivesAt es n k
   survives-here n k s =
       let c = s .server in
       let x = executes-here plan es cs F n c k (s .executes) in

@@ -18,7 +18,7 @@ use Rattle.proof_protocol.specs.Servers as S
 use Rattle.proof_protocol.specs.World as W
 use Rattle.proof_protocol.specs.Fence as PF
 use Rattle.proof_protocol.proofs.Basics.{impossible}
-use Rattle.claim.specs.RecordWorld.{World, Event, Log, keptBy, recoveredFrom}
+use Rattle.claim.specs.RecordWorld.{World, Log, keptBy, recoveredFrom}
 use Rattle.claim.specs.RecordWorld as R
 use Rattle.claim.specs.RecordProvisos.{markOf}
 use Rattle.claim.specs.RecordClaim.{stateGiven}
@@ -52,9 +52,9 @@ module _ (plan : List ℕ) {w : World} {v : W.World} (l : WorldLike (planOf plan
     pub pairs : List Pair
     pub alike : Alike (planOf plan) c pairs st (W.stateOf (planOf plan) v c)
 
-  module _ (es : List Event) (c : ℕ) where
-    pub given-counts : (st : State) → stateGiven plan es (w .servers c) ≡ some st → Counts c st
-    given-counts st e = go (given-either plan es (w .servers c) st e)
+  module _ (c : ℕ) where
+    pub given-counts : (st : State) → stateGiven plan (w .servers c) ≡ some st → Counts c st
+    given-counts st e = go (given-either plan (w .servers c) st e)
       where
         go : ((log : Log) × Running (w .servers c) st log) ⊎ ((log : Log) × (keptBy (w .servers c) ≡ some log) × (recoveredFrom plan log ≡ some st)) → Counts c st
         go (inl (log, u)) = record { founded = running-like l c st log u .founded; pairs = _; alike = running-alike l c st log u }
@@ -62,16 +62,16 @@ module _ (plan : List ℕ) {w : World} {v : W.World} (l : WorldLike (planOf plan
             let K = l .servers c .kept log q in
             record { founded = K .founded; pairs = K .pairs; alike = unfold W.stateOf in recovered-alike plan K st r }
 
-    pub founded-given : v .servers c .founded ≡ true → (st : State) × (stateGiven plan es (w .servers c) ≡ some st)
+    pub founded-given : v .servers c .founded ≡ true → (st : State) × (stateGiven plan (w .servers c) ≡ some st)
     founded-given f = go (keptBy (w .servers c)) refl
       where
-        go : (o : Option Log) → keptBy (w .servers c) ≡ o → (st : State) × (stateGiven plan es (w .servers c) ≡ some st)
+        go : (o : Option Log) → keptBy (w .servers c) ≡ o → (st : State) × (stateGiven plan (w .servers c) ≡ some st)
         go none q = impossible (sym f ∙ l .servers c .absent q)
-        go (some log) q = given-kept plan es (w .servers c) log q (_, kept-recovers plan (l .servers c .kept log q))
+        go (some log) q = given-kept plan (w .servers c) log q (_, kept-recovers plan (l .servers c .kept log q))
 
-    pub synced-heard : (st : State) → syncedState plan es (w .servers c) ≡ some st → S.replay (planOf plan) c (PF.syncedLog (v .servers c)) .heard ≡ st .heard
+    pub synced-heard : (st : State) → syncedState plan (w .servers c) ≡ some st → S.replay (planOf plan) c (PF.syncedLog (v .servers c)) .heard ≡ st .heard
     synced-heard st e =
-        let r = synced-kept plan es (w .servers c) st e in
+        let r = synced-kept plan (w .servers c) st e in
         let K = l .servers c .kept (r .0) (r .1) in
         let m = markOf (w .servers c) in
         let C : LogLike (planOf plan) c (R.cutAt m (r .0)) m m _ = log-cut K m (v .clock) (omega arith) in

@@ -42,11 +42,11 @@ module _ (plan : List ℕ) (es : List Event) (cs : List W.Change) (F : Follows (
 
   counts : (c : ℕ) (st : State) → finalState plan es c ≡ some st → Counts plan final-like c st
   unfolding finalState
-  counts c st e = given-counts plan final-like es c st e
+  counts c st e = given-counts plan final-like c st e
 
   counted : (c : ℕ) → X.final cs .servers c .founded ≡ true → (st : State) × (finalState plan es c ≡ some st)
   unfolding finalState
-  counted c f = founded-given plan final-like es c f
+  counted c f = founded-given plan final-like c f
 
   pub holder-there : (p c : ℕ) (st : State) → p < pointCount → HolderBy plan (account plan es) p c st → X.Holder (planOf plan) cs p c
   holder-there p c st h H =
@@ -88,7 +88,6 @@ module _ (plan : List ℕ) (es : List Event) (cs : List W.Change) (F : Follows (
         results = λ n k r c. E .results n k r (completes-there plan es cs F n k r c);
         values = λ p c st h H. sym (value-there p c st h (H .founded)) ∙ E .values p c h (holder-there p c st h H);
         real-time = λ m n a b r c i h x y. E .real-time m n a b r (completes-there plan es cs F m (commands a) r c) (issues-there plan es cs F n (commands b) i) h x y;
-        completed = λ n k r c. E .completed n k r (completes-there plan es cs F n k r c);
         sequence =
             λ m n j k a b s t h e u v x y.
             E .sequence m n j k a b (survives-there plan es cs F m j s) (survives-there plan es cs F n k t) h e u v x y;

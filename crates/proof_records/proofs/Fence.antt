@@ -63,7 +63,7 @@ module _ (plan : List ℕ) (es : List Event) (cs : List W.Change) (F : Follows (
   fenced-there n x p f =
       let l = like plan es cs F n in
       let c = f .server in
-      let C = given-counts plan l es c (f .state) (f .counts) in
+      let C = given-counts plan l c (f .state) (f .counts) in
       let h : p ≤ lastPoint = held-within (f .state) p (C .alike .sound .points) (f .holds) in
       record {
         server = c;
@@ -71,7 +71,7 @@ module _ (plan : List ℕ) (es : List Event) (cs : List W.Change) (F : Follows (
         holds = C .alike .like .points p h .holding ∙ held-there (C .pairs) (pointAt (f .state) p) (f .holds);
         time = f .time;
         noticed = notice-there l x (f .time) (f .noticed);
-        heard = rw (synced-heard plan l es c (f .kept) (f .recovered)) (f .heard);
+        heard = rw (synced-heard plan l c (f .kept) (f .recovered)) (f .heard);
       }
 
   pub fences-here : P.Fences (planOf plan) cs → RF.Fences plan es

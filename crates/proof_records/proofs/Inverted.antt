@@ -28,8 +28,8 @@ use Rattle.model.specs.States.{State, pointAt, held}
 use Rattle.model.specs.Decisions.{Decided, orMalformed, find, onHeld, onNew, onId, decideRequest, denying, onRequest, onFetched, onFetch, onSync, decideNotice, onNotice, onGive, onImage, decideTake, onTake, onReceipt, decideRelease, onRelease}
 use Rattle.model_laws.proofs.Packets.{request-of, receipt-of, notice-of}
 use Rattle.model_laws.proofs.Refused.{unless-passed}
-use Rattle.model_invariants.specs.Calls.{Operation, decision}
-use Rattle.model_invariants.specs.Calls as Calls
+use Rattle.model.specs.Calls.{Operation, decision}
+use Rattle.model.specs.Calls as Calls
 use Rattle.model_invariants.proofs.Decided.{request-tests, held-tests, fetch-tests, sync-tests, place-tests, give-tests, point-tests, image-tests, take-tests, receipt-tests, release-tests}
 use Rattle.claim.specs.RecordWorld.{Log, foundOf, recoveredFrom, recoverOf}
 use Rattle.proof_records.specs.Inverse.{Shows}

@@ -23,7 +23,7 @@ use Rattle.model_laws.specs.Fits.{IsPacket}
 use Rattle.model_laws.proofs.Packets.{packet-back}
 use Rattle.model_laws.proofs.Images.{image-back}
 use Rattle.model_invariants.specs.Sound.{GoodImage}
-use Rattle.model_invariants.specs.Calls.{Operation}
+use Rattle.model.specs.Calls.{Operation}
 use Rattle.model_invariants.proofs.Images.{image-well, image-fits}
 use Rattle.model.specs.States.{State}
 use Rattle.proof_protocol.specs.Servers as S

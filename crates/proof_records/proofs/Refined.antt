@@ -41,8 +41,8 @@ use Rattle.model_laws.proofs.Tests.{and-left, and-both}
 use Rattle.model_laws.proofs.Commands.{CommandParts, command-parts}
 use Rattle.model_invariants.specs.Sound.{GoodCompletion, GoodRequest, SoundBy}
 use Rattle.model_invariants.specs.History.{Decides, byRequest, byNotice, byGive, byTake, byRelease}
-use Rattle.model_invariants.specs.Calls.{Operation}
-use Rattle.model_invariants.specs.Calls as Calls
+use Rattle.model.specs.Calls.{Operation}
+use Rattle.model_invariants.specs.Calls.{Named}
 use Rattle.model_invariants.proofs.Lists.{all-to, keep-passes}
 use Rattle.model_invariants.proofs.Tests.{split, entry-good, sound-entry}
 use Rattle.model_invariants.proofs.Decided.{find-fresh}
@@ -56,7 +56,7 @@ use Rattle.proof_records.specs.Likeness as Likeness
 use Rattle.proof_records.specs.Made.{Means, ImageMeans, PacketLike}
 use Rattle.proof_records.specs.Inverse.{Appends, Replies}
 use Rattle.proof_records.specs.Inverse as Inverse
-use Rattle.proof_records.specs.Matched.{Source}
+use Rattle.proof_records.specs.Matched.{Source, execution, no-execution}
 use Rattle.proof_records.proofs.Applied.{all-in}
 use Rattle.proof_records.proofs.Places.{place-rises}
 use Rattle.proof_records.proofs.Made.{like-packet, like-image}
@@ -197,17 +197,13 @@ module _ (p : ℕ) where
 
 -- ---- the relation's facts
 
+-- what is no request
+no-request : _≡_ {A = ℕ} 0 1 → ⊥
+no-request e = omega arith
+
 -- what an operation is handed was made
 abbrev pub Handed : (S.Packet → Type 0) → Operation → Type 0
-Handed M (Calls.request v b) = PacketLike M b
-Handed M (Calls.fetch x c) = Unit {0}
-Handed M (Calls.sync m) = Unit {0}
-Handed M (Calls.notice b) = PacketLike M b
-Handed M (Calls.give p d) = Unit {0}
-Handed M (Calls.image p) = Unit {0}
-Handed M (Calls.takeIn b) = PacketLike M b
-Handed M (Calls.receipt p) = Unit {0}
-Handed M (Calls.release b) = PacketLike M b
+Handed M o = Named (PacketLike M) o
 
 module _ (plan : List PlanEntry) (c : ℕ) (zs : List Pair) (st : State) (s : S.State) (A : Alike plan c zs st s) (free : ℕ) where
   pub record Wrote (M : S.Packet → Type 0) (o : Operation) (r : LogRecord) : Type 0 where
@@ -259,11 +255,11 @@ module _ (plan : List PlanEntry) (c : ℕ) (zs : List Pair) (st : State) (s : S.
         like = subst (λ (y : ResultZ). RecordLike (executed (executedFor v st q)) (x y)) (rule-same v q (m .0)) (Likeness.executed (v (q .command .op)) (executedFor v st q));
         why = executing (v (q .command .op)) (askedIn q) (m .1) (held-like zs _ _ P h) (omega (arith, A .like .heard)) (rw (floor-same (q .command .client)) f) (none-held _ _ n);
         decides = byRequest v q (m .0) d;
-        source = (q, e, (_, refl));
+        source = execution v b q _ refl e refl;
       }
   written {M} o r (Inverse.goes b n e d) H =
       let m = subst (Means M) e (H .packet) in
-      record { abstract = _; like = Likeness.gone n; why = going (n .client) (n .time) (m .1); decides = byNotice n (m .0) d; source = tt }
+      record { abstract = _; like = Likeness.gone n; why = going (n .client) (n .time) (m .1); decides = byNotice n (m .0) d; source = no-execution (λ v k z. no-request (cc)) tt }
   written o r (Inverse.gives p d l h e) H =
       let P = A .like .points p l in
       let g : Give = record { point = p; destination = d; moveNumber = suc (pointAt st p .moveNumber) } in
@@ -272,7 +268,7 @@ module _ (plan : List PlanEntry) (c : ℕ) (zs : List Pair) (st : State) (s : S.
         like = rw (P .move) (Likeness.gave g);
         why = giving p d (held-like zs _ _ P h);
         decides = byGive p d e;
-        source = tt;
+        source = no-execution (λ v k z. no-request (cc)) tt;
       }
   written {M} o r (Inverse.takes b i e t n w d) H =
       let m = subst (ImageMeans M) e (H .image) in
@@ -284,7 +280,7 @@ module _ (plan : List PlanEntry) (c : ℕ) (zs : List Pair) (st : State) (s : S.
         like = Likeness.took i a L;
         why = taking a (m .1 .2) (L .destination ∙ (t ∙ A .server)) (omega (arith, P .move, L .move)) (not-held zs _ _ P w);
         decides = byTake i (m .0) d;
-        source = tt;
+        source = no-execution (λ v k z. no-request (cc)) tt;
       }
   written {M} o r (Inverse.frees b x e g n d) H =
       let m = subst (Means M) e (H .packet) in
@@ -295,7 +291,7 @@ module _ (plan : List PlanEntry) (c : ℕ) (zs : List Pair) (st : State) (s : S.
         like = rw (P .move) (Likeness.released y);
         why = freeing (x .point) (x .server) (x .moveNumber) (m .1) (given-like zs _ _ P g) (omega (arith, P .move));
         decides = byRelease (x .point) (x .moveNumber) (m .0) d;
-        source = tt;
+        source = no-execution (λ v k z. no-request (cc)) tt;
       }
 
   -- ---- what is told

@@ -13,8 +13,6 @@ use lib.ListN.{length, take, getElem?}
 use Rattle.model.specs.declared.PlanEntry.{PlanEntry}
 use Rattle.model.specs.Plan.{planOf}
 use Rattle.model_laws.proofs.LeasesKept.{new-well}
-use Rattle.model_invariants.specs.Calls.{decision}
-use Rattle.model_invariants.specs.Calls as Calls
 use Rattle.proof_protocol.specs.World as W
 use Rattle.proof_protocol.specs.Allowed.{Run, ended, then}
 use Rattle.claim.specs.World.{start}
@@ -23,46 +21,38 @@ use Rattle.claim.specs.RecordWorld as R
 use Rattle.claim.specs.RecordProvisos.{Typed, Provisos, At}
 use Rattle.proof_records.specs.Worlds.{WorldLike}
 use Rattle.proof_records.specs.Provided.{Provided}
-use Rattle.proof_records.specs.Matched.{Quiet, Matched, Stepped, Follows, done, more, Pairing}
+use Rattle.proof_records.specs.Matched.{Matched, Stepped, Follows, done, more, Pairing}
 use Rattle.proof_records.proofs.Worlds.{like-nothing}
-use Rattle.proof_records.proofs.Calls.{plain-call, plain-packet, request-step}
+use Rattle.proof_records.proofs.Calls.{call-step}
 use Rattle.proof_records.proofs.Starts.{found-step, recover-step, crash-step}
 use Rattle.proof_records.proofs.Parties.{outside-step}
 
 -- ---- an event
 
 pub follows : (plan : List ℕ) {w : World} {v : W.World} → WorldLike (planOf plan) w v → (e : Event) → Provided plan w e → Stepped (planOf plan) w v e
-unfolding Typed step decision Quiet
+unfolding Typed
 follows plan l (R.found c p k) a = found-step plan l c p k (a .typed) (λ st z. a .founds c p k st refl z)
-follows plan l (R.request c p vs r) a = request-step l c r p vs
-follows plan l (R.fetch c x k r) a = plain-call l c r (R.fetch c x k r) (Calls.fetch x k) refl tt tt (λ b s. s)
-follows plan l (R.sync c m r) a = plain-call l c r (R.sync c m r) (Calls.sync m) refl tt tt (λ b s. s)
-follows plan l (R.notice c p r) a = plain-packet l c r (R.notice c p r) Calls.notice p refl (λ b k. k) tt (λ b x s. s)
-follows plan l (R.give c p d r) a = plain-call l c r (R.give c p d r) (Calls.give p d) refl tt tt (λ b s. s)
-follows plan l (R.image c p r) a = plain-call l c r (R.image c p r) (Calls.image p) refl tt tt (λ b s. s)
-follows plan l (R.take·image c p r) a = plain-packet l c r (R.take·image c p r) Calls.takeIn p refl (λ b k. k) tt (λ b x s. s)
-follows plan l (R.receipt c p r) a = plain-call l c r (R.receipt c p r) (Calls.receipt p) refl tt tt (λ b s. s)
-follows plan l (R.release c p r) a = plain-packet l c r (R.release c p r) Calls.release p refl (λ b k. k) tt (λ b x s. s)
+follows plan l (R.call c o r) a = call-step l c r o
 follows plan l (R.recover c p) a = recover-step plan l c p (λ log st q z. a .recovers c p log st refl q z)
 follows plan l (R.crash c k) a = crash-step l c k (a .crashes c k refl .0)
 follows plan l (R.outside e) a = outside-step l e (a .typed) (λ p q. a .starts p (ap R.outside q))
 
 -- the provisos, event by event
-pub provided : (plan : List ℕ) (es : List Event) → Provisos plan es → (n : ℕ) (e : Event) → At plan es n e → Provided plan (after es n) e
+pub provided : (plan : List ℕ) (es : List Event) → Provisos plan es → (n : ℕ) (e : Event) → At es n e → Provided plan (after es n) e
 provided plan es P n e a =
     record {
       typed = P .typed n e a;
       founds =
           λ c p k st q z.
-          let b = subst (At plan es n) q a in
+          let b = subst (At es n) q a in
           record { one-plan = P .one-plan n c p k st b z; own-number = P .own-number n c p k st b z; once = P .founded-once n c p k st b z };
-      recovers = λ c p log st q k z. P .plan-again n c p log st (subst (At plan es n) q a) k z;
-      crashes = λ c k q. P .crash-keeps n c k (subst (At plan es n) q a);
-      starts = λ p q. P .started-once n p (subst (At plan es n) q a);
+      recovers = λ c p log st q k z. P .plan-again n c p log st (subst (At es n) q a) k z;
+      crashes = λ c k q. P .crash-keeps n c k (subst (At es n) q a);
+      starts = λ p q. P .started-once n p (subst (At es n) q a);
     }
 
 -- and back
-pub provisos-of : (plan : List ℕ) (es : List Event) → ((n : ℕ) (e : Event) → At plan es n e → Provided plan (after es n) e) → Provisos plan es
+pub provisos-of : (plan : List ℕ) (es : List Event) → ((n : ℕ) (e : Event) → At es n e → Provided plan (after es n) e) → Provisos plan es
 provisos-of plan es D =
     record {
       typed = λ n e a. D n e a .typed;

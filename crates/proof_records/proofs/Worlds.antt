@@ -130,9 +130,9 @@ log-marked K t mark size h s w =
 
 -- ---- states that count
 
-module _ (plan : List ℕ) (es : List Event) where
+module _ (plan : List ℕ) where
   -- a server that counts: it runs, or it has a log that recovery is tried on
-  pub given-either : (s : Server) (st : State) → stateGiven plan es s ≡ some st
+  pub given-either : (s : Server) (st : State) → stateGiven plan s ≡ some st
       → ((log : Log) × Running s st log) ⊎ ((log : Log) × (keptBy s ≡ some log) × (recoveredFrom plan log ≡ some st))
   unfolding Running stateGiven keptBy
   given-either nothing st e = let z : _≡_ {A = ℕ} 0 1 = cc in absurd (omega arith)
@@ -140,14 +140,14 @@ module _ (plan : List ℕ) (es : List Event) where
   given-either (crashed log k mark) st e = inr (log, refl, e)
 
   -- what is kept counts
-  pub given-kept : (s : Server) (log : Log) → keptBy s ≡ some log → ((st : State) × (recoveredFrom plan log ≡ some st)) → (st : State) × (stateGiven plan es s ≡ some st)
+  pub given-kept : (s : Server) (log : Log) → keptBy s ≡ some log → ((st : State) × (recoveredFrom plan log ≡ some st)) → (st : State) × (stateGiven plan s ≡ some st)
   unfolding stateGiven keptBy
   given-kept nothing log e r = let z : _≡_ {A = ℕ} 0 1 = cc in absurd (omega arith)
   given-kept (running st g) log e r = (st, refl)
   given-kept (crashed g k mark) log e r = let q : g ≡ log = cc in rw q r
 
   -- what is synced is what a crash at the mark would keep
-  pub synced-kept : (s : Server) (st : State) → syncedState plan es s ≡ some st → (log : Log) × (keptBy s ≡ some log) × (recoveredFrom plan (cutAt (markOf s) log) ≡ some st)
+  pub synced-kept : (s : Server) (st : State) → syncedState plan s ≡ some st → (log : Log) × (keptBy s ≡ some log) × (recoveredFrom plan (cutAt (markOf s) log) ≡ some st)
   unfolding syncedState keptBy markOf
   synced-kept nothing st e = let z : _≡_ {A = ℕ} 0 1 = cc in absurd (omega arith)
   synced-kept (running x log) st e = (log, refl, e)

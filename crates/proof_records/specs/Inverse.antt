@@ -19,7 +19,7 @@ use Rattle.model.specs.Images.{Image, parseImage, imageBytes, floorOf}
 use Rattle.model.specs.Logs.{LogRecord, executed, gone, gave, took, released}
 use Rattle.model.specs.States.{State, pointAt, held, given}
 use Rattle.model.specs.Decisions.{Decided, find, resultOfRecord, executedFor, decideRequest, decideNotice, onGive, imageFor, decideTake, decideRelease}
-use Rattle.model_invariants.specs.Calls.{Operation, request, fetch, sync, notice, give, image, takeIn, receipt, release}
+use Rattle.model.specs.Calls.{Operation, request, fetch, sync, notice, give, image, takeIn, receipt, release}
 
 module _ (st : State) (free : ℕ) where
   pub data Appends : Operation → LogRecord → Type 0 where

@@ -22,7 +22,7 @@ use Rattle.model.specs.declared.Received.the-variants.{Completed}
 use Rattle.model.specs.Limits.{headSize, executedSize, goneSize, giveSize, takeHead, releaseSize, leastImage, floorRow, entryRow}
 use Rattle.model.specs.Sequential.{ResultZ, resultMeant}
 use Rattle.model.specs.Packets.{parsePacket}
-use Rattle.model_invariants.specs.Calls.{Operation, request, fetch, sync, notice, give, image, takeIn, receipt, release, decision}
+use Rattle.model.specs.Calls.{Operation, request, decision}
 use Rattle.proof_protocol.specs.Servers as S
 use Rattle.proof_protocol.specs.World as W
 use Rattle.proof_protocol.specs.Allowed.{Allowed}
@@ -57,16 +57,10 @@ NoExecution (S.took a) = Unit {0}
 NoExecution (S.freed p m) = Unit {0}
 
 -- a request writes the execution of its command by its program's version, and no other call writes an execution
-abbrev pub Source : Operation → S.LogRecord → Type 0
-Source (request v b) a = (q : Request) × (parsePacket b ≡ Requested q) × ((r : ResultZ) × (a ≡ S.executed (v (q .command .op)) (q .command) (q .done) r))
-Source (fetch x k) a = NoExecution a
-Source (sync m) a = NoExecution a
-Source (notice b) a = NoExecution a
-Source (give p d) a = NoExecution a
-Source (image p) a = NoExecution a
-Source (takeIn b) a = NoExecution a
-Source (receipt p) a = NoExecution a
-Source (release b) a = NoExecution a
+pub data Source (o : Operation) (a : S.LogRecord) : Type 0 where
+  execution : (v : Versions) (b : List ℕ) (q : Request) (r : ResultZ) → o ≡ request v b → parsePacket b ≡ Requested q
+      → a ≡ S.executed (v (q .command .op)) (q .command) (q .done) r → Source o a
+  no-execution : ((v : Versions) (b : List ℕ) → o ≡ request v b → ⊥) → NoExecution a → Source o a
 
 -- ---- events
 
@@ -103,15 +97,7 @@ Plain (W.leases m p) = Unit {0}
 -- an event that demand 3 does not read: a request that executes nothing, an issue or a receive refused, a crash of nothing
 unfoldable pub Quiet : World → Event → Type 0
 Quiet w (R.found c p k) = Unit
-Quiet w (R.request c p v room) = (q : Request) → Executed w c p v room q → ⊥
-Quiet w (R.fetch c x k room) = Unit
-Quiet w (R.sync c m room) = Unit
-Quiet w (R.notice c p room) = Unit
-Quiet w (R.give c p d room) = Unit
-Quiet w (R.image c p room) = Unit
-Quiet w (R.take·image c p room) = Unit
-Quiet w (R.receipt c p room) = Unit
-Quiet w (R.release c p room) = Unit
+Quiet w (R.call c o room) = (p : ℕ) (v : Versions) (q : Request) → o ≡ request v p → Executed w c p v room q → ⊥
 Quiet w (R.recover c p) = Unit
 Quiet w (R.crash c k) = keptBy (w .servers c) ≡ none
 Quiet w (R.outside (start p)) = Unit
@@ -124,7 +110,7 @@ Quiet w (R.outside (query x t)) = Unit
 
 pub data Matched (w : World) (v v′ : W.World) : Event → W.Change → Type 0 where
   executed : (c p : ℕ) (vs : Versions) (room : ℕ) (q : Request) (r : ResultZ) → Executed w c p vs room q
-      → Matched w v v′ (R.request c p vs room) (W.server c (W.writes (S.executed (vs (q .command .op)) (q .command) (q .done) r)))
+      → Matched w v v′ (R.call c (request vs p) room) (W.server c (W.writes (S.executed (vs (q .command .op)) (q .command) (q .done) r)))
   cut : (c b j : ℕ) → Cut v v′ c b → Matched w v v′ (R.crash c b) (W.server c (W.crashes j))
   issued : (x op p a : ℕ) (d : Client) (q : Request) → w .clients x ≡ some d → issueOf d op p a .answer ≡ Asked q
       → Matched w v v′ (R.outside (issue x op p a)) (W.client x (W.issues d op p a))

@@ -8,7 +8,7 @@ use mathlib.Core.Option.{some}
 use Rattle.model.specs.Plan.{planOf}
 use Rattle.model.specs.Apply.{founded}
 use Rattle.model.specs.Operations.{recoveredState}
-use Rattle.model.specs.Yard.{yardPlan}
+use Rattle.model.specs.Simulator.{simulatorPlan}
 use Rattle.model.specs.Logs.{headBytes}
 use Rattle.model.specs.States.{endsInOrder}
 use Rattle.model.specs.Checkpoints as Checkpoints
@@ -17,7 +17,7 @@ use Rattle.claim.specs.World.{emptyWorld, storedOf, checkpoints, stores}
 use Rattle.claim.specs.Provisos.{reachOf}
 use Rattle.model_laws.specs.Opened.{Opens}
 use Rattle.claim.proofs.Opened.{openWorld}
-use Rattle.proof_sanity.specs.Trace.{bytesOk, countedOk, typedOk, sameBytes, isNothing, keptIs, beginsOk, notStarted, startsNew, keepsOk, requestDone, done, callWith, seenWith, standsAt, endSeen, traceFrom, keepsMany}
+use Rattle.proof_sanity.specs.Trace.{bytesOk, countedOk, typedOk, sameBytes, isNothing, keptIs, beginsOk, notStarted, startsNew, keepsOk, operationDone, done, callWith, seenWith, standsAt, endSeen, traceFrom, keepsMany}
 use Rattle.proof_sanity.specs.Moved.{takenState, schedule, rowsSeen, traceSeen}
 use Rattle.proof_sanity.specs.Forgetting.{setState, setAndCrash, keptWhole, setAndCrashSeen, setAndStore, setAndStoreSeen}
 
@@ -39,22 +39,22 @@ openCheckpoints = tt
 -- what is seen of a run
 unfoldable openTrace : Opens
 unfolding openWorld openCheckpoints storedOf checkpoints stores reachOf bytesOk countedOk typedOk sameBytes isNothing keptIs beginsOk
-    notStarted startsNew keepsOk requestDone done callWith seenWith standsAt endSeen traceFrom keepsMany
+    notStarted startsNew keepsOk operationDone done callWith seenWith standsAt endSeen traceFrom keepsMany
 openTrace = tt
 
-pub trace-is : traceFrom yardPlan 5 emptyWorld schedule ≡ traceSeen
+pub trace-is : traceFrom simulatorPlan 5 emptyWorld schedule ≡ traceSeen
 unfolding openTrace takenState schedule rowsSeen traceSeen
 trace-is = refl
 
-pub crash-trace-is : traceFrom yardPlan 5 emptyWorld setAndCrash ≡ setAndCrashSeen
+pub crash-trace-is : traceFrom simulatorPlan 5 emptyWorld setAndCrash ≡ setAndCrashSeen
 unfolding openTrace setAndCrash setAndCrashSeen
 crash-trace-is = refl
 
-pub store-trace-is : traceFrom yardPlan 5 emptyWorld setAndStore ≡ setAndStoreSeen
+pub store-trace-is : traceFrom simulatorPlan 5 emptyWorld setAndStore ≡ setAndStoreSeen
 unfolding openTrace setState setAndStore setAndStoreSeen
 store-trace-is = refl
 
-pub kept-recovers : recoveredState (planOf yardPlan) keptWhole ≡ some setState
+pub kept-recovers : recoveredState (planOf simulatorPlan) keptWhole ≡ some setState
 unfolding openTrace setState
 kept-recovers = refl
 
@@ -62,6 +62,6 @@ pub stored-recovers : recoveredTail (checkpointBytes setState) (headBytes 0) ≡
 unfolding openTrace setState
 stored-recovers = refl
 
-pub head-alone : recoveredState (planOf yardPlan) (headBytes 0) ≡ some (founded (planOf yardPlan) 0)
+pub head-alone : recoveredState (planOf simulatorPlan) (headBytes 0) ≡ some (founded (planOf simulatorPlan) 0)
 unfolding openTrace
 head-alone = refl

@@ -28,14 +28,15 @@ use Rattle.model.specs.Apply.{foundedPoint, founded}
 use Rattle.model.specs.Versions.{Version, today}
 use Rattle.model.specs.Sequential.{one, resultMeant, OrderEntry, single, parts, bookWith, markedBy, Marked, ReadingZ, Book, readingMeant, opened, bookAfter, entered, answerZ, afterZ, ruleZ, setZ, inRangeZ, entryZ}
 use Rattle.model.specs.Checkpoints.{rebased, checkpointBytes}
+use Rattle.model.specs.Calls.{sync}
 use Rattle.model.specs.Clients.{placeOf, callAt, receiveOf}
-use Rattle.model.specs.Yard.{yardPlan}
+use Rattle.model.specs.Simulator.{simulatorPlan}
 use Rattle.model_laws.specs.Opened.{openNumbers, openPackets, openClients}
 use Rattle.model.specs.Limits.{valid, invalid}
-use Rattle.claim.specs.World.{Event, sync, outside, receive, nothingStored, Server, nothing, crashed, emptyWorld, run}
+use Rattle.claim.specs.World.{Event, call, outside, receive, nothingStored, Server, nothing, crashed, emptyWorld, run}
 use Rattle.claim.specs.Provisos.{At, Provisos}
 use Rattle.claim.specs.Claim.{commandAt, readingAt, Executes, SurvivesAt, Completes, SurvivesBy, HolderBy, ExplainedBy, Account, recoveredBy, stateGiven, finalState}
-use Rattle.proof_sanity.specs.Trace.{Call, Seen, callSeen, asksOnly, keptIs, sameBytes, keepsMany, below, Ended, endSeen, Trace, traceFrom, callWith, done}
+use Rattle.proof_sanity.specs.Trace.{Call, Seen, callSeen, requestsOnly, asksOnly, sameBytes, keepsMany, below, Ended, endSeen, Trace, traceFrom, callWith, done}
 use Rattle.proof_sanity.specs.Moved.{setting, settingResult, settingAsked, settingAnswer, lentAll, asks, setter}
 use Rattle.proof_sanity.specs.Forgetting.{foundingState, givenBy, tailOnly, counting, afterSet, rowsAfterSet, setState, setAndCrash, keptWhole, setAndCrashSeen, setAndStore, setStored, setAndStoreSeen}
 use Rattle.proof_sanity.proofs.Traced.{call-at, end-at, down-of, provisos-kept, untouched, survives-seen, completes-seen, executes-only}
@@ -51,34 +52,34 @@ parsed = refl
 abbrev isSet : ReadingZ
 isSet = readingMeant (record { value = half + 40; quality = valid })
 
-entered-set : (b : Book) (v : Version) → entered (planOf yardPlan) b (record { version = v; command = setting }) 5 ≡ isSet
-unfolding yardPlan rows bytesOf flip le32At signedAt planEntryOf planEntryBytes planOf planBytes entryAt signed readingMeant entered answerZ afterZ ruleZ setZ inRangeZ entryZ
+entered-set : (b : Book) (v : Version) → entered (planOf simulatorPlan) b (record { version = v; command = setting }) 5 ≡ isSet
+unfolding simulatorPlan rows bytesOf flip le32At signedAt planEntryOf planEntryBytes planOf planBytes entryAt signed readingMeant entered answerZ afterZ ruleZ setZ inRangeZ entryZ
 entered-set b v = refl
 
-entered-marked : (b : Book) (m : Marked) → m .command ≡ setting → entered (planOf yardPlan) b m 5 ≡ isSet
+entered-marked : (b : Book) (m : Marked) → m .command ≡ setting → entered (planOf simulatorPlan) b m 5 ≡ isSet
 entered-marked b m e =
-    subst (λ (k : Command). entered (planOf yardPlan) b (record { version = m .version; command = k }) 5 ≡ isSet) (sym e) (entered-set b (m .version))
+    subst (λ (k : Command). entered (planOf simulatorPlan) b (record { version = m .version; command = k }) 5 ≡ isSet) (sym e) (entered-set b (m .version))
 
 -- every part of an entry is the command
 abbrev Sets : OrderEntry → Type 0
 Sets o = (m : Marked) → List·Memᴰ m (parts o) → m .command ≡ setting
 
-with-set : (b : Book) (o : OrderEntry) → Sets o → bookWith (planOf yardPlan) b o 5 ≡ isSet
+with-set : (b : Book) (o : OrderEntry) → Sets o → bookWith (planOf simulatorPlan) b o 5 ≡ isSet
 unfolding bookWith parts
 with-set b (single m) h = entered-marked b m (h m (List·Memᴰ·head refl))
 
-stays-set : (os : List OrderEntry) → ((o : OrderEntry) → List·Memᴰ o os → Sets o) → (b : Book) → b 5 ≡ isSet → bookAfter (planOf yardPlan) b os 5 ≡ isSet
+stays-set : (os : List OrderEntry) → ((o : OrderEntry) → List·Memᴰ o os → Sets o) → (b : Book) → b 5 ≡ isSet → bookAfter (planOf simulatorPlan) b os 5 ≡ isSet
 unfolding bookAfter
 stays-set [] h b e = e
-stays-set (o ∷ os) h b e = stays-set os (λ x i. h x (List·Memᴰ·tail i)) (bookWith (planOf yardPlan) b o) (with-set b o (h o (List·Memᴰ·head refl)))
+stays-set (o ∷ os) h b e = stays-set os (λ x i. h x (List·Memᴰ·tail i)) (bookWith (planOf simulatorPlan) b o) (with-set b o (h o (List·Memᴰ·head refl)))
 
 first-set : (x : OrderEntry) (os : List OrderEntry) → ((o : OrderEntry) → List·Memᴰ o (x ∷ os) → Sets o) → (b : Book)
-    → bookAfter (planOf yardPlan) b (x ∷ os) 5 ≡ isSet
+    → bookAfter (planOf simulatorPlan) b (x ∷ os) 5 ≡ isSet
 unfolding bookAfter
-first-set x os h b = stays-set os (λ o j. h o (List·Memᴰ·tail j)) (bookWith (planOf yardPlan) b x) (with-set b x (h x (List·Memᴰ·head refl)))
+first-set x os h b = stays-set os (λ o j. h o (List·Memᴰ·tail j)) (bookWith (planOf simulatorPlan) b x) (with-set b x (h x (List·Memᴰ·head refl)))
 
 pub crash-book : {os : List OrderEntry} {o : OrderEntry} → List·Memᴰ o os → ((x : OrderEntry) → List·Memᴰ x os → Sets x) → (b : Book)
-    → bookAfter (planOf yardPlan) b os 5 ≡ isSet
+    → bookAfter (planOf simulatorPlan) b os 5 ≡ isSet
 crash-book (List·Memᴰ·head {x = x} {xs = xs} e) h b = first-set x xs h b
 crash-book (List·Memᴰ·tail {x = x} {xs = xs} i) h b = first-set x xs h b
 
@@ -87,45 +88,45 @@ crash-book (List·Memᴰ·tail {x = x} {xs = xs} i) h b = first-set x xs h b
 some-same : {A : Type 0} {a b : A} → some a ≡ some b → a ≡ b
 some-same e = cc
 
-at-home : entryAt (planOf yardPlan) 5 .home ≡ 0
-unfolding yardPlan rows bytesOf flip le32At signedAt planEntryOf planEntryBytes planOf planBytes entryAt
+at-home : entryAt (planOf simulatorPlan) 5 .home ≡ 0
+unfolding simulatorPlan rows bytesOf flip le32At signedAt planEntryOf planEntryBytes planOf planBytes entryAt
 at-home = refl
 
-quality-lost : readingMeant (readingAt (pointAt (founded (planOf yardPlan) 0) 5)) .quality ≡ invalid
-unfolding yardPlan rows bytesOf flip le32At signedAt planEntryOf planEntryBytes planOf planBytes readingMeant readingAt pointAt founded foundedPoint
+quality-lost : readingMeant (readingAt (pointAt (founded (planOf simulatorPlan) 0) 5)) .quality ≡ invalid
+unfolding simulatorPlan rows bytesOf flip le32At signedAt planEntryOf planEntryBytes planOf planBytes readingMeant readingAt pointAt founded foundedPoint
 quality-lost = refl
 
 -- ---- schedules that begin with the set: `rs` and `x` are what is seen of the rest
 
-module _ (es : List Event) (rs : List Seen) (x : Ended) (is : traceFrom yardPlan 5 emptyWorld (afterSet es) ≡ record { rows = rowsAfterSet rs; end = x }) where
+module _ (es : List Event) (rs : List Seen) (x : Ended) (is : traceFrom simulatorPlan 5 emptyWorld (afterSet es) ≡ record { rows = rowsAfterSet rs; end = x }) where
   abbrev seen : Trace
   seen = record { rows = rowsAfterSet rs; end = x }
 
-  provisos : every (λ (r : Seen). r .ok) rs ≡ true → Provisos yardPlan (afterSet es)
+  provisos : every (λ (r : Seen). r .ok) rs ≡ true → Provisos simulatorPlan (afterSet es)
   unfolding every
-  provisos h = provisos-kept yardPlan 5 (afterSet es) seen is h
+  provisos h = provisos-kept simulatorPlan 5 (afterSet es) seen is h
 
   -- event 4 executes the command, and it survives
-  set-survives : every (keepsMany 0 36) rs ≡ true → SurvivesAt yardPlan (afterSet es) 4 (markedBy today setting)
+  set-survives : every (keepsMany 0 36) rs ≡ true → SurvivesAt (afterSet es) 4 (markedBy today setting)
   unfolding At callSeen callWith done every keepsMany
   set-survives h =
-      survives-seen yardPlan (afterSet es) 5 seen is 4 0 1 8 36 today lentAll settingAsked refl parsed (call-at yardPlan 5 (afterSet es) seen is 4 (asks 0 1) _ refl refl)
-      (ap (λ (y : Call). y .size) (call-at yardPlan 5 (afterSet es) seen is 5 (sync 0 36 lentAll) _ refl refl)) h
+      survives-seen simulatorPlan (afterSet es) 5 seen is 4 0 1 8 36 today lentAll settingAsked refl parsed (call-at simulatorPlan 5 (afterSet es) seen is 4 (asks 0 1) _ refl refl)
+      (ap (λ (y : Call). y .size) (call-at simulatorPlan 5 (afterSet es) seen is 5 (call 0 (sync 36) lentAll) _ refl refl)) h
 
   -- and no other is executed
-  only-setting : every (asksOnly (requestBytes settingAsked)) rs ≡ true → (n c : ℕ) (k : Marked) → Executes yardPlan (afterSet es) n c k → k .command ≡ setting
-  unfolding every asksOnly keptIs sameBytes requestBytes flip
+  only-setting : every (asksOnly (requestBytes settingAsked)) rs ≡ true → (n c : ℕ) (k : Marked) → Executes (afterSet es) n c k → k .command ≡ setting
+  unfolding every asksOnly requestsOnly sameBytes requestBytes flip
   only-setting h n c k E =
-      let b = executes-only yardPlan (afterSet es) 5 seen is (requestBytes settingAsked) h n c k E in
+      let b = executes-only simulatorPlan (afterSet es) 5 seen is (requestBytes settingAsked) h n c k E in
       let q : Requested (E .asked) ≡ Requested settingAsked = sym (E .parsed) ∙ ap parsePacket b ∙ parsed in
       let r : E .asked ≡ settingAsked = cc in
       ap (λ (y : Marked). y .command) (sym (E .its)) ∙ ap (λ (y : Request). y .command) r
 
   -- the server counts with the founding state, and there is no other
-  module _ (given : Server → Option State) (none-given : given nothing ≡ none) (first : given (run (afterSet es) .servers 0) ≡ some (founded (planOf yardPlan) 0))
+  module _ (given : Server → Option State) (none-given : given nothing ≡ none) (first : given (run (afterSet es) .servers 0) ≡ some (founded (planOf simulatorPlan) 0))
       (kept : every (keepsMany 0 36) rs ≡ true) (only : every (asksOnly (requestBytes settingAsked)) rs ≡ true) (home : every (below 1) es ≡ true) where
     abbrev told : Account
-    told = counting yardPlan (afterSet es) given
+    told = counting simulatorPlan (afterSet es) given
 
     no-other : (d : ℕ) (st : State) → told .final (suc d) ≡ some st → ⊥
     unfolding every below
@@ -135,11 +136,11 @@ module _ (es : List Event) (rs : List Seen) (x : Ended) (is : traceFrom yardPlan
         let z : _≡_ {A = ℕ} 0 1 = cc in
         omega arith
 
-    founded-only : (d : ℕ) (st : State) → told .final d ≡ some st → founded (planOf yardPlan) 0 ≡ st
+    founded-only : (d : ℕ) (st : State) → told .final d ≡ some st → founded (planOf simulatorPlan) 0 ≡ st
     founded-only zero st q = some-same (sym first ∙ q)
     founded-only (suc d) st q = absurd (no-other d st q)
 
-    holder : HolderBy yardPlan told 5 0 (founded (planOf yardPlan) 0)
+    holder : HolderBy simulatorPlan told 5 0 (founded (planOf simulatorPlan) 0)
     holder =
         record {
           founded = first;
@@ -149,17 +150,17 @@ module _ (es : List Event) (rs : List Seen) (x : Ended) (is : traceFrom yardPlan
         }
 
     -- whatever order has just the surviving commands: the value and quality at the holder are not the book's
-    pub values-broken : (order : List OrderEntry) → ((e : OrderEntry) → SurvivesBy yardPlan told e ↔ List·Memᴰ e order)
-        → readingMeant (readingAt (pointAt (founded (planOf yardPlan) 0) 5)) ≡ bookAfter (planOf yardPlan) (opened (planOf yardPlan)) order 5 → ⊥
+    pub values-broken : (order : List OrderEntry) → ((e : OrderEntry) → SurvivesBy simulatorPlan told e ↔ List·Memᴰ e order)
+        → readingMeant (readingAt (pointAt (founded (planOf simulatorPlan) 0) 5)) ≡ bookAfter (planOf simulatorPlan) (opened (planOf simulatorPlan)) order 5 → ⊥
     unfolding readingMeant parts
     values-broken order s e =
         let m : Marked = markedBy today setting in
         let i : List·Memᴰ (single m) order = s (single m) .0 (record { part = m; among = List·Memᴰ·head refl; at = 4; survives = set-survives kept }) in
         let h : (o : OrderEntry) → List·Memᴰ o order → Sets o = λ o j. own o (s o .1 j) in
-        let q = ap (λ (y : ReadingZ). y .quality) (e ∙ crash-book i h (opened (planOf yardPlan))) in
+        let q = ap (λ (y : ReadingZ). y .quality) (e ∙ crash-book i h (opened (planOf simulatorPlan))) in
         omega (arith, q, quality-lost)
       where
-        own : (o : OrderEntry) → SurvivesBy yardPlan told o → Sets o
+        own : (o : OrderEntry) → SurvivesBy simulatorPlan told o → Sets o
         own (single n) S k (List·Memᴰ·head q) =
             let y = S .survives in
             let z : S .part ≡ n = sole (S .among) in
@@ -168,27 +169,27 @@ module _ (es : List Event) (rs : List Seen) (x : Ended) (is : traceFrom yardPlan
             sole : {y : Marked} → List·Memᴰ y (n ∷ []) → y ≡ n
             sole (List·Memᴰ·head p) = p
 
-    no-order : (order : List OrderEntry) → ExplainedBy yardPlan told order → ⊥
-    no-order order E = values-broken order (E .survivors) (E .values 5 0 (founded (planOf yardPlan) 0) (lit< tt) holder)
+    no-order : (order : List OrderEntry) → ExplainedBy simulatorPlan told order → ⊥
+    no-order order E = values-broken order (E .survivors) (E .values 5 0 (founded (planOf simulatorPlan) 0) (lit< tt) holder)
 
 -- ---- recovery to the founding state
 
-pub crash-provisos : Provisos yardPlan setAndCrash
+pub crash-provisos : Provisos simulatorPlan setAndCrash
 unfolding setAndCrash setAndCrashSeen every
 crash-provisos = provisos _ _ _ crash-trace-is refl
 
-pub not-explained : (order : List OrderEntry) → ExplainedBy yardPlan (counting yardPlan setAndCrash (givenBy yardPlan)) order → ⊥
+pub not-explained : (order : List OrderEntry) → ExplainedBy simulatorPlan (counting simulatorPlan setAndCrash (givenBy simulatorPlan)) order → ⊥
 unfolding setAndCrash setAndCrashSeen endSeen givenBy foundingState recoveredBy headServer headBytes every keepsMany asksOnly below
-not-explained = no-order _ _ _ crash-trace-is (givenBy yardPlan) refl first refl refl refl
+not-explained = no-order _ _ _ crash-trace-is (givenBy simulatorPlan) refl first refl refl refl
   where
-    first : givenBy yardPlan (run setAndCrash .servers 0) ≡ some (founded (planOf yardPlan) 0)
+    first : givenBy simulatorPlan (run setAndCrash .servers 0) ≡ some (founded (planOf simulatorPlan) 0)
     first =
-        let s = down-of 5 (run setAndCrash .servers 0) nothingStored keptWhole 36 (ap (λ (y : Ended). y .first) (end-at yardPlan 5 setAndCrash setAndCrashSeen crash-trace-is)) in
+        let s = down-of 5 (run setAndCrash .servers 0) nothingStored keptWhole 36 (ap (λ (y : Ended). y .first) (end-at simulatorPlan 5 setAndCrash setAndCrashSeen crash-trace-is)) in
         rw (s, kept-recovers)
 
 -- ---- recovery that forgets the checkpoint
 
-pub store-provisos : Provisos yardPlan setAndStore
+pub store-provisos : Provisos simulatorPlan setAndStore
 unfolding setAndStore setAndStoreSeen every
 store-provisos = provisos _ _ _ store-trace-is refl
 
@@ -197,22 +198,24 @@ unfolding openNumbers openPackets openClients
 received = refl
 
 -- event 7 completes the command
-pub store-completed : Completes yardPlan setAndStore 7 (setting ∷ []) (one (resultMeant settingResult))
+pub store-completed : Completes setAndStore 7 (setting ∷ []) (one (resultMeant settingResult))
 unfolding At setAndStore setAndStoreSeen commandAt callAt placeOf
-store-completed = completes-seen yardPlan setAndStore 7 1 2 setter settingAnswer refl received (call-at yardPlan 5 setAndStore setAndStoreSeen store-trace-is 7 (outside (receive 1 2)) _ refl refl)
+store-completed =
+    completes-seen simulatorPlan setAndStore 7 1 2 setter settingAnswer refl received
+    (call-at simulatorPlan 5 setAndStore setAndStoreSeen store-trace-is 7 (outside (receive 1 2)) _ refl refl)
 
 store-down : run setAndStore .servers 0 ≡ crashed setStored (headBytes 0) 8
 unfolding endSeen setAndStoreSeen
-store-down = down-of 5 (run setAndStore .servers 0) setStored (headBytes 0) 8 (ap (λ (y : Ended). y .first) (end-at yardPlan 5 setAndStore setAndStoreSeen store-trace-is))
+store-down = down-of 5 (run setAndStore .servers 0) setStored (headBytes 0) 8 (ap (λ (y : Ended). y .first) (end-at simulatorPlan 5 setAndStore setAndStoreSeen store-trace-is))
 
 -- the true server recovers what it had
-pub store-recovers : finalState yardPlan setAndStore 0 ≡ some (rebased setState)
+pub store-recovers : finalState simulatorPlan setAndStore 0 ≡ some (rebased setState)
 unfolding finalState stateGiven recoveredBy checkpointBytes
 store-recovers = rw store-down stored-recovers
 
-pub checkpoint-not-explained : (order : List OrderEntry) → ExplainedBy yardPlan (counting yardPlan setAndStore (tailOnly yardPlan)) order → ⊥
-unfolding setAndStore setAndStoreSeen tailOnly every keepsMany asksOnly below keptIs sameBytes requestBytes flip
-checkpoint-not-explained = no-order _ _ _ store-trace-is (tailOnly yardPlan) refl first refl refl refl
+pub checkpoint-not-explained : (order : List OrderEntry) → ExplainedBy simulatorPlan (counting simulatorPlan setAndStore (tailOnly simulatorPlan)) order → ⊥
+unfolding setAndStore setAndStoreSeen tailOnly every keepsMany asksOnly requestsOnly below sameBytes requestBytes flip
+checkpoint-not-explained = no-order _ _ _ store-trace-is (tailOnly simulatorPlan) refl first refl refl refl
   where
-    first : tailOnly yardPlan (run setAndStore .servers 0) ≡ some (founded (planOf yardPlan) 0)
+    first : tailOnly simulatorPlan (run setAndStore .servers 0) ≡ some (founded (planOf simulatorPlan) 0)
     first = rw store-down head-alone

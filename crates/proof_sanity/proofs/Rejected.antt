@@ -56,7 +56,8 @@ use Rattle.model_invariants.specs.Sound.{Sound, GoodCompletion}
 use Rattle.model_invariants.specs.Passed.{Admits, FirstRequest}
 use Rattle.model_invariants.specs.History as History
 use Rattle.model_invariants.specs.History.{GoodPlan, Start}
-use Rattle.model_invariants.specs.Calls.{Holds, request, decidedOn, entriesAfter, operated}
+use Rattle.model.specs.Calls.{request, operated}
+use Rattle.model_invariants.specs.Calls.{Holds, decidedOn, entriesAfter}
 use Rattle.model_invariants.proofs.Floors.{eqb-same}
 use Rattle.model_invariants.proofs.Tests.{split}
 use Rattle.model_invariants.proofs.Steps.{sound-mark}
@@ -438,6 +439,7 @@ module _ {state log out : List ℕ} (R : Ready state log out) (all : load state 
       record {
         answer = answerOf Refusals.noRefusal (length (checkpointBytes was));
         state = stored state (rebased was);
+        log = log;
         checkpoint = written checkpoint 0 (checkpointBytes was);
         tail = written tail 0 (headBytes (was .server));
       }

@@ -7,6 +7,7 @@
 --     kept-after               crashes past an event keep enough
 --     untouched                a server that no event names is not founded
 --     up-of, down-of           a server that is seen running, or crashed
+--     answer-of, request-packet     an operation that was answered, and the packet of a request
 --     executes-seen            a request seen to answer 0 and no packet executes its command
 --     survives-seen            .. and survives where later crashes keep enough
 --     completes-seen           a result that is seen received completes its command
@@ -33,7 +34,8 @@ use Rattle.model.specs.declared.Packet.the-variants.{Requested}
 use Rattle.model.specs.declared.Received.the-variants.{Completed}
 use Rattle.model.specs.Packets.{parsePacket, requestBytes, resultBytes}
 use Rattle.claim.specs.Claim.{commandAt, Executes, Crashes, SurvivesAt, Completes}
-use Rattle.model.specs.Operations.{After, answerOf, requestOf}
+use Rattle.model.specs.Operations.{After, answerOf}
+use Rattle.model.specs.Calls.{Operation, request, handed, operated}
 use Rattle.model.specs.Checkpoints.{checkpointOf}
 use Rattle.model.specs.Clients.{startOf, receiveOf}
 use Rattle.model.specs.declared.LeaseAnswer.{LeaseAnswer}
@@ -44,13 +46,14 @@ use Rattle.model.specs.declared.Started.{Started}
 use Rattle.model.specs.States.{load, pointAt}
 use Rattle.model.specs.Refusals.{noRefusal}
 use Rattle.claim.specs.World.{withServer, withClient, withManager, making, calls, callsOn, foundAs, checkpoints, stores, crashAt, startsAs, startsOn, sends, receives, told, step, packet}
-use Rattle.claim.specs.World.{Event, found, request, fetch, sync, notice, give, image, take·image, receipt, release, recover, checkpoint, store, recover·tail, inspect, crash, outside}
+use Rattle.claim.specs.World.{Event, found, call, inquire, recover, checkpoint, store, recover·tail, crash, outside}
 use Rattle.claim.specs.World.{OutsideCall, start, issue, resend, receive, open·lease, renew, query, outsideStep, WorldOf}
 use Rattle.claim.specs.World.{Lent, World, Stored, Server, nothing, running, storing, crashed, storedOf, lentState, lentLog, packet, step, emptyWorld, runFrom, run, after}
 use Rattle.claim.specs.Provisos.{Bytes, Counted, OutsideTyped, Typed, StartedOnce, keptBy, Begins, markOf, lengthOf, reachOf, At, Provisos}
+use Rattle.model_invariants.proofs.Calls.{handed-over}
 use Rattle.model_laws.proofs.Tests.{choose, and-left, and-right}
 use Rattle.model_laws.proofs.Numbers.{bytes-nil, bytes-cons}
-use Rattle.proof_sanity.specs.Trace.{asksOnly, bytesOk, countedOk, typedOk, sameBytes, isNothing, keptIs, beginsOk, notStarted, startsNew, keepsOk, Call, Seen, requestAnswer, callSeen, seenAt, endSeen, Trace, traceFrom, keepsMany, below, Answered, up, down, standsAt, requestDone, done, callWith, seenWith}
+use Rattle.proof_sanity.specs.Trace.{requestsOnly, asksOnly, bytesOk, countedOk, typedOk, sameBytes, isNothing, keptIs, beginsOk, notStarted, startsNew, keepsOk, Call, Seen, operationAnswer, callSeen, seenAt, endSeen, Trace, traceFrom, keepsMany, below, Answered, up, down, standsAt, operationDone, done, callWith, seenWith}
 
 impossible : {A B : Type 0} {a : B} → none ≡ some a → A
 impossible e = let z : _≡_ {A = ℕ} 0 1 = cc in absurd (omega arith)
@@ -80,20 +83,12 @@ counted-ok l e = ltb-true _ _ e
 typed-ok : (e : Event) → typedOk e ≡ true → Typed e
 unfolding typedOk Typed OutsideTyped
 typed-ok (found c state log plan n) h = both (bytesOk state) (bytesOk plan) (bytes-ok state) (bytes-ok plan) h
-typed-ok (request c p v l) h = counted-ok l h
-typed-ok (fetch c x k l) h = counted-ok l h
-typed-ok (sync c m l) h = counted-ok l h
-typed-ok (notice c p l) h = counted-ok l h
-typed-ok (give c p d l) h = counted-ok l h
-typed-ok (image c p l) h = counted-ok l h
-typed-ok (take·image c p l) h = counted-ok l h
-typed-ok (receipt c p l) h = counted-ok l h
-typed-ok (release c p l) h = counted-ok l h
+typed-ok (call c o l) h = counted-ok l h
+typed-ok (inquire c i l) h = counted-ok l h
 typed-ok (recover c state log plan) h = bytes-ok state h
 typed-ok (checkpoint c tail l) h = counted-ok l h
 typed-ok (store c) h = tt
 typed-ok (recover·tail c state k tail) h = bytes-ok state h
-typed-ok (inspect c x k) h = tt
 typed-ok (crash c k) h = tt
 typed-ok (outside (start p)) h = tt
 typed-ok (outside (issue x op p a)) h = tt
@@ -158,44 +153,35 @@ every-past t n (x ∷ rs) h zero r l e = absurd (omega arith)
 every-past t zero (x ∷ rs) h (suc m) r l e = every-row t rs h m r e
 every-past t (suc n) (x ∷ rs) h (suc m) r l e = every-past t n rs h m r (omega arith) e
 
--- a request is computed once for both
-pub done-answer : (c : ℕ) (v : Versions) (l : Lent) (s : Server) (o : Option (List ℕ)) (w : World) → requestDone c v l s o w .answer ≡ requestAnswer v l s o
-unfolding requestDone requestAnswer
-done-answer c v l nothing o w = refl
-done-answer c v l (running k state log) none w = refl
-done-answer c v l (running k state log) (some b) w = refl
-done-answer c v l (storing k log next state tail) o w = refl
-done-answer c v l (crashed k kept mark) o w = refl
+-- an operation is computed once for both
+pub done-answer : (c : ℕ) (l : Lent) (s : Server) (o : Option Operation) (w : World) → operationDone c l s o w .answer ≡ operationAnswer l s o
+unfolding operationDone operationAnswer
+done-answer c l nothing o w = refl
+done-answer c l (running k state log) none w = refl
+done-answer c l (running k state log) (some o) w = refl
+done-answer c l (storing k log next state tail) o w = refl
+done-answer c l (crashed k kept mark) o w = refl
 
-request-world : (c : ℕ) (v : Versions) (l : Lent) (s : Server) (o : Option (List ℕ)) (w : World) → w .servers c ≡ s
-    → requestDone c v l s o w .world ≡ callsOn c l (λ t g b. requestOf v t g b (l .out)) o w
-unfolding requestDone callsOn calls
-request-world c v l nothing none w e = refl
-request-world c v l nothing (some b) w e = rw e
-request-world c v l (running k state log) none w e = refl
-request-world c v l (running k state log) (some b) w e = rw e
-request-world c v l (storing k log next state tail) none w e = refl
-request-world c v l (storing k log next state tail) (some b) w e = rw e
-request-world c v l (crashed k kept mark) none w e = refl
-request-world c v l (crashed k kept mark) (some b) w e = rw e
+operation-world : (c : ℕ) (l : Lent) (s : Server) (o : Option Operation) (w : World) → w .servers c ≡ s → operationDone c l s o w .world ≡ callsOn c l o w
+unfolding operationDone callsOn calls
+operation-world c l nothing none w e = refl
+operation-world c l nothing (some o) w e = rw e
+operation-world c l (running k state log) none w e = refl
+operation-world c l (running k state log) (some o) w e = rw e
+operation-world c l (storing k log next state tail) none w e = refl
+operation-world c l (storing k log next state tail) (some o) w e = rw e
+operation-world c l (crashed k kept mark) none w e = refl
+operation-world c l (crashed k kept mark) (some o) w e = rw e
 
 pub done-world : (w : World) (e : Event) → done w e .world ≡ step w e
 unfolding done step
 done-world w (found c state log p n) = refl
-done-world w (request c p v l) = request-world c v l (w .servers c) (packet w p) w refl
-done-world w (fetch c x k l) = refl
-done-world w (sync c m l) = refl
-done-world w (notice c p l) = refl
-done-world w (give c p d l) = refl
-done-world w (image c p l) = refl
-done-world w (take·image c p l) = refl
-done-world w (receipt c p l) = refl
-done-world w (release c p l) = refl
+done-world w (call c o l) = operation-world c l (w .servers c) (handed (packet w) o) w refl
+done-world w (inquire c i l) = refl
 done-world w (recover c state log p) = refl
 done-world w (checkpoint c tail l) = refl
 done-world w (store c) = refl
 done-world w (recover·tail c state k tail) = refl
-done-world w (inspect c x k) = refl
 done-world w (crash c k) = refl
 done-world w (outside e) = refl
 
@@ -284,7 +270,7 @@ module _ (plan : List ℕ) (p : ℕ) where
 
     -- ---- crashes
 
-    pub kept-after : (c k n : ℕ) → every (keepsMany c k) (drop (suc n) (t .rows)) ≡ true → (m b : ℕ) → n < m → Crashes plan es m c b → k ≤ b
+    pub kept-after : (c k n : ℕ) → every (keepsMany c k) (drop (suc n) (t .rows)) ≡ true → (m b : ℕ) → n < m → Crashes es m c b → k ≤ b
     unfolding At seenAt seenWith callWith keepsMany
     kept-after c k n h m b l C =
         let r = every-past (keepsMany c k) n (t .rows) h m (seenAt plan (after es m) (crash c (C .kept))) l (row-at m (crash c (C .kept)) (C .event)) in
@@ -352,10 +338,10 @@ module _ (d : ℕ) where
   calls-other c l f (storing k log next state tail) w h = refl
   calls-other c l f (crashed k kept mark) w h = refl
 
-  on-other : (c : ℕ) (l : Lent) (f : List ℕ → List ℕ → List ℕ → After) (o : Option (List ℕ)) (w : World) → eqb d c ≡ false → callsOn c l f o w .servers d ≡ w .servers d
+  on-other : (c : ℕ) (l : Lent) (o : Option Operation) (w : World) → eqb d c ≡ false → callsOn c l o w .servers d ≡ w .servers d
   unfolding callsOn
-  on-other c l f none w h = refl
-  on-other c l f (some b) w h = calls-other c l _ (w .servers c) w h
+  on-other c l none w h = refl
+  on-other c l (some o) w h = calls-other c l _ (w .servers c) w h
 
   found-other : (c : ℕ) (k : Stored) (a : After) (w : World) → eqb d c ≡ false → foundAs c k a w .servers d ≡ w .servers d
   unfolding foundAs
@@ -390,20 +376,12 @@ module _ (d : ℕ) where
     step-other : (w : World) (e : Event) → below k e ≡ true → step w e .servers d ≡ w .servers d
     unfolding step below
     step-other w (found c state log p n) h = found-other c _ _ w (other c h)
-    step-other w (request c p v t) h = on-other c t _ (packet w p) w (other c h)
-    step-other w (fetch c x n t) h = calls-other c t _ (w .servers c) w (other c h)
-    step-other w (sync c m t) h = calls-other c t _ (w .servers c) w (other c h)
-    step-other w (notice c p t) h = on-other c t _ (packet w p) w (other c h)
-    step-other w (give c p n t) h = calls-other c t _ (w .servers c) w (other c h)
-    step-other w (image c p t) h = calls-other c t _ (w .servers c) w (other c h)
-    step-other w (take·image c p t) h = on-other c t _ (packet w p) w (other c h)
-    step-other w (receipt c p t) h = calls-other c t _ (w .servers c) w (other c h)
-    step-other w (release c p t) h = on-other c t _ (packet w p) w (other c h)
+    step-other w (call c o t) h = on-other c t (handed (packet w) o) w (other c h)
+    step-other w (inquire c i t) h = calls-other c t _ (w .servers c) w (other c h)
     step-other w (recover c state log p) h = found-other c _ _ w (other c h)
     step-other w (checkpoint c t l) h = checkpoint-other c t l (w .servers c) w (other c h)
     step-other w (store c) h = store-other c (w .servers c) w (other c h)
     step-other w (recover·tail c state n t) h = found-other c _ _ w (other c h)
-    step-other w (inspect c x n) h = refl
     step-other w (crash c b) h = crash-other c b (w .servers c) w (other c h)
     step-other w (outside e) h = outside-servers w d e
 
@@ -434,27 +412,36 @@ down-of p (running h state log) k kept mark e = let z : _≡_ {A = ℕ} 0 1 = cc
 down-of p (storing h log next state tail) k kept mark e = let z : _≡_ {A = ℕ} 0 1 = cc in absurd (omega arith)
 down-of p (crashed h b m) k kept mark e = cc
 
--- ---- requests
+-- ---- operations
 
-pub answer-of : (v : Versions) (l : Lent) (s : Server) (o : Option (List ℕ)) (a : Answer) → requestAnswer v l s o ≡ some a → Answered v l s o a
-unfolding requestAnswer
-answer-of v l nothing o a e = impossible e
-answer-of v l (running k state log) none a e = impossible e
-answer-of v l (running k state log) (some b) a e = record { stored = k; state = state; log = log; up = refl; bytes = b; packet = refl; answer = cc }
-answer-of v l (storing k log next state tail) o a e = impossible e
-answer-of v l (crashed k kept mark) o a e = impossible e
+pub answer-of : (l : Lent) (s : Server) (o : Option Operation) (a : Answer) → operationAnswer l s o ≡ some a → Answered l s o a
+unfolding operationAnswer
+answer-of l nothing o a e = impossible e
+answer-of l (running k state log) none a e = impossible e
+answer-of l (running k state log) (some o) a e = record { stored = k; state = state; log = log; up = refl; operation = o; handed = refl; answer = cc }
+answer-of l (storing k log next state tail) o a e = impossible e
+answer-of l (crashed k kept mark) o a e = impossible e
+
+-- the packet of a request that was handed over
+pub request-packet : (f : ℕ → Option (List ℕ)) (v w : Versions) (p : ℕ) (b : List ℕ) → handed f (request v p) ≡ some (request w b) → (v ≡ w) × (f p ≡ some b)
+request-packet f v w p b e =
+    let h = handed-over f (request v p) (request w b) e .requests w b refl in
+    let i : v ≡ w = let z : request v p ≡ request w (h .0) = h .1 in cc in
+    let j : p ≡ h .0 = let z : request v p ≡ request w (h .0) = h .1 in cc in
+    (i, ap f j ∙ h .2)
 
 module _ (plan : List ℕ) (es : List Event) where
   -- a request that is executed
-  pub executes-seen : (n c p size : ℕ) (v : Versions) (l : Lent) (q : Request) → At plan es n (request c p v l) → parsePacket (requestBytes q) ≡ Requested q
-      → callSeen (after es n) (request c p v l) ≡ record { client = none; packet = some (requestBytes q); size = size; answer = some (answerOf noRefusal 0); cut = none }
-      → Executes plan es n c (markedBy v (q .command))
-  unfolding callSeen callWith done
+  pub executes-seen : (n c p size : ℕ) (v : Versions) (l : Lent) (q : Request) → At es n (call c (request v p) l) → parsePacket (requestBytes q) ≡ Requested q
+      → callSeen (after es n) (call c (request v p) l)
+      ≡ record { client = none; packet = none; operation = some (request v (requestBytes q)); size = size; answer = some (answerOf noRefusal 0); cut = none }
+      → Executes es n c (markedBy v (q .command))
+  unfolding callSeen callWith done operated
   executes-seen n c p size v l q e parsed s =
-      let b : packet (after es n) p ≡ some (requestBytes q) = ap (λ (x : Call). x .packet) s in
-      let A = answer-of v l (after es n .servers c) (packet (after es n) p) (answerOf noRefusal 0)
-      (sym (done-answer c v l (after es n .servers c) (packet (after es n) p) (after es n)) ∙ ap (λ (x : Call). x .answer) s) in
-      let same : A .bytes ≡ requestBytes q = some-list (sym (A .packet) ∙ b) in
+      let h : handed (packet (after es n)) (request v p) ≡ some (request v (requestBytes q)) = ap (λ (x : Call). x .operation) s in
+      let A = answer-of l (after es n .servers c) (handed (packet (after es n)) (request v p)) (answerOf noRefusal 0)
+      (sym (done-answer c l (after es n .servers c) (handed (packet (after es n)) (request v p)) (after es n)) ∙ ap (λ (x : Call). x .answer) s) in
+      let same : A .operation ≡ request v (requestBytes q) = some-same (sym (A .handed) ∙ h) in
       record {
         number = p;
         versions = v;
@@ -465,21 +452,22 @@ module _ (plan : List ℕ) (es : List Event) where
         log = A .log;
         up = A .up;
         bytes = requestBytes q;
-        delivered = b;
-        answer = subst (λ (x : List ℕ). requestOf v (lentState l (A .state)) (lentLog l (A .log)) x (l .out) .answer ≡ answerOf noRefusal 0) same (A .answer);
+        delivered = request-packet (packet (after es n)) v v p (requestBytes q) h .1;
+        answer = subst (λ (x : Operation). operated x (lentState l (A .state)) (lentLog l (A .log)) (l .out) .answer ≡ answerOf noRefusal 0) same (A .answer);
         asked = q;
         parsed = parsed;
         its = refl;
       }
     where
-      some-list : {a b : List ℕ} → some a ≡ some b → a ≡ b
-      some-list h = cc
+      some-same : {a b : Operation} → some a ≡ some b → a ≡ b
+      some-same h = cc
 
   -- and that survives
-  pub survives-seen : (p : ℕ) (t : Trace) → traceFrom plan p emptyWorld es ≡ t → (n c m size reach : ℕ) (v : Versions) (l : Lent) (q : Request) → At plan es n (request c m v l)
+  pub survives-seen : (p : ℕ) (t : Trace) → traceFrom plan p emptyWorld es ≡ t → (n c m size reach : ℕ) (v : Versions) (l : Lent) (q : Request) → At es n (call c (request v m) l)
       → parsePacket (requestBytes q) ≡ Requested q
-      → callSeen (after es n) (request c m v l) ≡ record { client = none; packet = some (requestBytes q); size = size; answer = some (answerOf noRefusal 0); cut = none }
-      → reachOf (after es (suc n) .servers c) ≡ reach → every (keepsMany c reach) (drop (suc n) (t .rows)) ≡ true → SurvivesAt plan es n (markedBy v (q .command))
+      → callSeen (after es n) (call c (request v m) l)
+      ≡ record { client = none; packet = none; operation = some (request v (requestBytes q)); size = size; answer = some (answerOf noRefusal 0); cut = none }
+      → reachOf (after es (suc n) .servers c) ≡ reach → every (keepsMany c reach) (drop (suc n) (t .rows)) ≡ true → SurvivesAt es n (markedBy v (q .command))
   survives-seen p t e n c m size reach v l q a parsed s r h =
       record {
         server = c;
@@ -487,9 +475,9 @@ module _ (plan : List ℕ) (es : List Event) where
         kept = λ j b i x. rw r (kept-after plan p es t e c reach n h j b i x);
       }
 
-  pub completes-seen : (n x p : ℕ) (d : Client) (r : ResultPacket) → At plan es n (outside (receive x p)) → receiveOf d (resultBytes r) .answer ≡ Completed r
-      → callSeen (after es n) (outside (receive x p)) ≡ record { client = some d; packet = some (resultBytes r); size = 0; answer = none; cut = none }
-      → Completes plan es n (commandAt d (r .call) ∷ []) (one (resultMeant (r .result)))
+  pub completes-seen : (n x p : ℕ) (d : Client) (r : ResultPacket) → At es n (outside (receive x p)) → receiveOf d (resultBytes r) .answer ≡ Completed r
+      → callSeen (after es n) (outside (receive x p)) ≡ record { client = some d; packet = some (resultBytes r); operation = none; size = 0; answer = none; cut = none }
+      → Completes es n (commandAt d (r .call) ∷ []) (one (resultMeant (r .result)))
   unfolding callSeen callWith done
   completes-seen n x p d r a answer s =
       record {
@@ -506,11 +494,11 @@ module _ (plan : List ℕ) (es : List Event) where
         result = refl;
       }
 
-  -- where every request that was answered had the packet b, nothing else is executed
+  -- where every request that was handed over had the packet b, nothing else is executed
   pub executes-only : (p : ℕ) (t : Trace) → traceFrom plan p emptyWorld es ≡ t → (b : List ℕ) → every (asksOnly b) (t .rows) ≡ true
-      → (n c : ℕ) (k : Marked) (E : Executes plan es n c k) → E .bytes ≡ b
-  unfolding At seenAt seenWith callWith done requestDone asksOnly keptIs
+      → (n c : ℕ) (k : Marked) (E : Executes es n c k) → E .bytes ≡ b
+  unfolding At seenAt seenWith callWith done handed asksOnly requestsOnly
   executes-only p t e b h n c k E =
-      let y : Event = request c (E .number) (E .versions) (E .lent) in
+      let y : Event = call c (request (E .versions) (E .number)) (E .lent) in
       let r = every-row (asksOnly b) (t .rows) h n (seenAt plan (after es n) y) (row-at plan p es t e n y (E .event)) in
-      same-bytes (E .bytes) b (rw (E .up, E .delivered) at r)
+      same-bytes (E .bytes) b (rw (E .delivered) at r)

@@ -15,11 +15,12 @@ use Rattle.model.specs.States.{State, load}
 use Rattle.model.specs.Apply.{apply, founded}
 use Rattle.model.specs.Checkpoints.{checkpointBytes}
 use Rattle.model.specs.Operations.{recoveredState}
-use Rattle.model.specs.Yard.{yardPlan}
-use Rattle.claim.specs.World.{Event, found, outside, open·lease, start, issue, receive, sync, checkpoint, store, crash, Stored, nothingStored, Server, nothing, running, storing, crashed, run}
+use Rattle.model.specs.Calls.{sync}
+use Rattle.model.specs.Simulator.{simulatorPlan}
+use Rattle.claim.specs.World.{Event, found, outside, open·lease, start, issue, receive, call, checkpoint, store, crash, Stored, nothingStored, Server, nothing, running, storing, crashed, run}
 use Rattle.claim.specs.Claim.{Account, account, recoveredBy}
 use Rattle.proof_sanity.specs.Trace.{Seen, off, down, Trace}
-use Rattle.proof_sanity.specs.Moved.{settingAsked, settingAnswer, settingDone, newState, lentAll, lentCheckpoint, asks, idle, setter, atServer, onPacket, answering, crashing, atClient, atManager}
+use Rattle.proof_sanity.specs.Moved.{settingAsked, settingAnswer, settingDone, newState, lentAll, lentCheckpoint, asks, idle, setter, atServer, onPacket, called, answering, crashing, atClient, atManager}
 
 -- ---- the states that they count with
 
@@ -32,7 +33,7 @@ unfoldable pub givenBy : List ℕ → Server → Option State
 givenBy plan nothing = none
 givenBy plan (running k state log) = some (load state)
 givenBy plan (storing k log next state tail) = some (load state)
-givenBy plan (crashed k kept mark) = foundingState plan kept (recoveredBy plan [] (k .checkpoint) kept)
+givenBy plan (crashed k kept mark) = foundingState plan kept (recoveredBy plan (k .checkpoint) kept)
 
 -- the second takes the tail for the whole log
 unfoldable pub tailOnly : List ℕ → Server → Option State
@@ -57,21 +58,21 @@ module _ (plan : List ℕ) (es : List Event) where
 
 abbrev pub afterSet : List Event → List Event
 afterSet es =
-    found 0 newState (replicate 8 0) yardPlan 0 ∷ outside (open·lease 0 10) ∷ outside (start 0) ∷ outside (issue 1 1 5 (half + 40)) ∷ asks 0 1 ∷ sync 0 36 lentAll ∷ es
+    found 0 newState (replicate 8 0) simulatorPlan 0 ∷ outside (open·lease 0 10) ∷ outside (start 0) ∷ outside (issue 1 1 5 (half + 40)) ∷ asks 0 1 ∷ call 0 (sync 36) lentAll ∷ es
 
 abbrev pub rowsAfterSet : List Seen → List Seen
 rowsAfterSet rs =
     atServer 0
     ∷ atManager
-    ∷ onPacket 0 (grantBytes (record { client = 1; lease = 10 }))
+    ∷ onPacket (grantBytes (record { client = 1; lease = 10 }))
     ∷ atClient (idle 1 10 1) none
     ∷ answering 8 (requestBytes settingAsked) 0 0
-    ∷ atServer 36
+    ∷ called 36 (sync 36) 0 0
     ∷ rs
 
 -- the server's state then
 unfoldable pub setState : State
-setState = apply (founded (planOf yardPlan) 0) (record { item = executed settingDone; end = 36 })
+setState = apply (founded (planOf simulatorPlan) 0) (record { item = executed settingDone; end = 36 })
 
 -- ---- the server crashes
 

@@ -3,7 +3,8 @@
 -- recovers from the take; there client 2 receives its result. The lease of client 1 ends, server 1 gets the notice, and refuses the late
 -- repeat of client 1's request. Server 0 releases the point. Client 2 steps again. Server 1 makes a checkpoint, which is stored, crashes with
 -- nothing of the tail but its head, recovers from both, and answers out of the checkpoint. A third step is executed on the tail; the next
--- checkpoint is lost by a crash before it is stored, and the server recovers from the first one and its tail; there client 2 gets its result.
+-- checkpoint is lost by a crash before it is stored, and the server recovers from the first one and its tail; there client 2 gets its result. Then client 2
+-- steps past the range's end twice: a program of the first version executes the one and changes nothing, today's executes the other and stops at the end.
 -- Assumes nothing.
 use Prim.Native.Nat.{ℕ, suc, _+_, _-_}
 use mathlib.Core.Bool.{true}
@@ -18,9 +19,9 @@ use Rattle.model.specs.declared.Executed.{Executed}
 use Rattle.model.specs.declared.Request.{Request}
 use Rattle.model.specs.declared.ResultPacket.{ResultPacket}
 use Rattle.model.specs.declared.Point.{Point}
-use Rattle.model.specs.Versions.{today}
+use Rattle.model.specs.Versions.{Versions, first, today}
 use Rattle.model.specs.Numbers.{half}
-use Rattle.model.specs.Limits.{stateSize, headSize, checkpointSize, greatestImage, resultSize, refusalSize, noticeKind, setOp, stepOp, carriedOut, valid}
+use Rattle.model.specs.Limits.{stateSize, headSize, checkpointSize, greatestImage, resultSize, receiptSize, refusalSize, noticeKind, setOp, stepOp, carriedOut, outOfRange, stopped, valid}
 use Rattle.model.specs.Packets.{requestBytes, resultBytes, receiptBytes, noticeBytes, grantBytes}
 use Rattle.model.specs.Images.{Image, imageBytes}
 use Rattle.model.specs.Tables.{written}
@@ -31,10 +32,11 @@ use Rattle.model.specs.Checkpoints.{checkpointBytes}
 use Rattle.model.specs.Plan.{planOf}
 use Rattle.model.specs.declared.Notice.{Notice}
 use Rattle.model.specs.Operations.{answerOf}
+use Rattle.model.specs.Calls.{Operation, request, sync, notice, give, image, takeIn, receipt, release}
 use Rattle.model.specs.Clients.{noCall}
-use Rattle.model.specs.Yard.{yardPlan}
+use Rattle.model.specs.Simulator.{simulatorPlan}
 use Rattle.claim.specs.World.{start, issue, receive, open·lease, query}
-use Rattle.claim.specs.World.{Event, found, request, sync, notice, give, image, take·image, receipt, release, recover, checkpoint, store, recover·tail, crash, outside, Lent, Stored, nothingStored}
+use Rattle.claim.specs.World.{Event, found, call, recover, checkpoint, store, recover·tail, crash, outside, Lent, Stored, nothingStored}
 use Rattle.proof_sanity.specs.Trace.{Seen, up, Trace}
 
 -- ---- the commands
@@ -58,6 +60,20 @@ stepResult c = record { outcome = carriedOut; value = half + (40 + c); quality =
 abbrev pub steppingResult : CommandResult
 steppingResult = stepResult 1
 
+-- its steps past the range's end: by the first version the value stays, by today's it is the end
+abbrev pub farCommand : ℕ → Command
+farCommand c = record { client = 2; call = c; op = stepOp; point = 5; argument = half + 1000 }
+
+abbrev pub stayedResult : CommandResult
+stayedResult = record { outcome = outOfRange; value = half + 43; quality = valid }
+
+abbrev pub stoppedResult : CommandResult
+stoppedResult = record { outcome = stopped; value = half + 1000; quality = valid }
+
+-- a program from before the second versions
+abbrev pub before : Versions
+before op = first
+
 -- as requests, with the lease ends 10 and 1000, and their result packets
 abbrev pub settingAsked : Request
 settingAsked = record { command = setting; done = 1; lease = 10 }
@@ -65,11 +81,17 @@ settingAsked = record { command = setting; done = 1; lease = 10 }
 abbrev pub stepAsked : ℕ → Request
 stepAsked c = record { command = stepCommand c; done = c; lease = 1000 }
 
+abbrev pub farAsked : ℕ → Request
+farAsked c = record { command = farCommand c; done = c; lease = 1000 }
+
 abbrev pub settingAnswer : ResultPacket
 settingAnswer = record { client = 1; call = 1; point = 5; result = settingResult }
 
 abbrev pub stepAnswer : ℕ → ResultPacket
 stepAnswer c = record { client = 2; call = c; point = 5; result = stepResult c }
+
+abbrev pub farAnswer : ℕ → CommandResult → ResultPacket
+farAnswer c r = record { client = 2; call = c; point = 5; result = r }
 
 -- in the log
 abbrev pub settingDone : Executed
@@ -107,14 +129,14 @@ newState = replicate stateSize 0
 
 -- the whole state buffer, a log of up to 200 bytes, an output of 16; for the longest image
 abbrev pub lentAll : Lent
-lentAll = record { state = stateSize; log = 200; tail = replicate 200 0; out = replicate resultSize 0 }
+lentAll = record { state = stateSize; log = 200; spare = replicate 200 0; out = replicate resultSize 0 }
 
 abbrev pub lentImage : Lent
-lentImage = record { state = stateSize; log = 200; tail = replicate 200 0; out = replicate greatestImage 0 }
+lentImage = record { state = stateSize; log = 200; spare = replicate 200 0; out = replicate greatestImage 0 }
 
 -- for a checkpoint
 abbrev pub lentCheckpoint : Lent
-lentCheckpoint = record { state = stateSize; log = 200; tail = replicate 200 0; out = replicate checkpointSize 0 }
+lentCheckpoint = record { state = stateSize; log = 200; spare = replicate 200 0; out = replicate checkpointSize 0 }
 
 -- what the crashes keep: 50 of server 0's 64 bytes, all 120 of server 1's; of its tail the head, then all 36 bytes
 abbrev pub keptFirst : List ℕ
@@ -129,7 +151,7 @@ keptTail = headBytes 1 ++ executedBytes (stepDone 3)
 -- the checkpoint that is stored: server 1 has taken the point, got the notice, and executed the second step
 unfoldable pub takenState : State
 takenState =
-    replayFrom (founded (planOf yardPlan) 1)
+    replayFrom (founded (planOf simulatorPlan) 1)
     (record { item = took movedImage; end = 120 } ∷ record { item = gone setterGone; end = 132 } ∷ record { item = executed (stepDone 2); end = 160 } ∷ [])
 
 abbrev pub storedBytes : List ℕ
@@ -140,43 +162,46 @@ abbrev pub firstStored : Stored
 firstStored = record { checkpoint = storedBytes; replaced = 152 }
 
 -- the number of a request's packet among those made
+abbrev pub asksOf : Versions → ℕ → ℕ → Event
+asksOf v c p = call c (request v p) lentAll
+
 abbrev pub asks : ℕ → ℕ → Event
-asks c p = request c p today lentAll
+asks c p = asksOf today c p
 
 unfoldable pub schedule : List Event
 schedule =
-    found 0 newState (replicate 8 0) yardPlan 0
-    ∷ found 1 newState (replicate 8 0) yardPlan 1
+    found 0 newState (replicate 8 0) simulatorPlan 0
+    ∷ found 1 newState (replicate 8 0) simulatorPlan 1
     ∷ outside (open·lease 0 10)
     ∷ outside (open·lease 0 1000)
     ∷ outside (start 0)
     ∷ outside (start 1)
     ∷ outside (issue 1 1 5 (half + 40))
     ∷ asks 0 2
-    ∷ sync 0 36 lentAll
+    ∷ call 0 (sync 36) lentAll
     ∷ asks 0 2
     ∷ outside (receive 1 3)
     ∷ outside (issue 2 2 5 (half + 1))
     ∷ asks 0 4
     ∷ crash 0 50
-    ∷ recover 0 newState keptFirst yardPlan
+    ∷ recover 0 newState keptFirst simulatorPlan
     ∷ asks 0 4
-    ∷ give 0 5 1 lentAll
-    ∷ sync 0 72 lentAll
-    ∷ image 0 5 lentImage
-    ∷ take·image 1 5 lentAll
+    ∷ call 0 (give 5 1) lentAll
+    ∷ call 0 (sync 72) lentAll
+    ∷ call 0 (image 5) lentImage
+    ∷ call 1 (takeIn 5) lentAll
     ∷ crash 1 120
-    ∷ recover 1 newState keptSecond yardPlan
+    ∷ recover 1 newState keptSecond simulatorPlan
     ∷ asks 1 4
     ∷ outside (receive 2 6)
     ∷ outside (query 1 20)
-    ∷ notice 1 7 lentAll
+    ∷ call 1 (notice 7) lentAll
     ∷ asks 1 2
-    ∷ receipt 1 5 lentAll
-    ∷ release 0 9 lentAll
+    ∷ call 1 (receipt 5) lentAll
+    ∷ call 0 (release 9) lentAll
     ∷ outside (issue 2 2 5 (half + 1))
     ∷ asks 1 10
-    ∷ sync 1 160 lentAll
+    ∷ call 1 (sync 160) lentAll
     ∷ checkpoint 1 (replicate headSize 0) lentCheckpoint
     ∷ store 1
     ∷ crash 1 8
@@ -185,12 +210,22 @@ schedule =
     ∷ outside (receive 2 11)
     ∷ outside (issue 2 2 5 (half + 1))
     ∷ asks 1 12
-    ∷ sync 1 36 lentAll
+    ∷ call 1 (sync 36) lentAll
     ∷ checkpoint 1 (replicate headSize 0) lentCheckpoint
     ∷ crash 1 36
     ∷ recover·tail 1 newState (written (replicate checkpointSize 0) 0 storedBytes) keptTail
     ∷ asks 1 12
     ∷ outside (receive 2 13)
+    ∷ outside (issue 2 2 5 (half + 1000))
+    ∷ asksOf before 1 14
+    ∷ call 1 (sync 64) lentAll
+    ∷ asks 1 14
+    ∷ outside (receive 2 15)
+    ∷ outside (issue 2 2 5 (half + 1000))
+    ∷ asks 1 16
+    ∷ call 1 (sync 92) lentAll
+    ∷ asks 1 16
+    ∷ outside (receive 2 17)
     ∷ []
 
 -- ---- what is seen of it
@@ -217,23 +252,31 @@ setter = waiting 10 setting
 abbrev pub stepper : ℕ → Client
 stepper c = waiting 1000 (stepCommand c)
 
-abbrev pub atServer : ℕ → Seen
-atServer size = record { ok = true; call = record { client = none; packet = none; size = size; answer = none; cut = none } }
+abbrev pub farStepper : ℕ → Client
+farStepper c = waiting 1000 (farCommand c)
 
-abbrev pub onPacket : ℕ → List ℕ → Seen
-onPacket size b = record { ok = true; call = record { client = none; packet = some b; size = size; answer = none; cut = none } }
+abbrev pub atServer : ℕ → Seen
+atServer size = record { ok = true; call = record { client = none; packet = none; operation = none; size = size; answer = none; cut = none } }
+
+-- an operation with what it names, and its answer; a request of today's program
+abbrev pub called : ℕ → Operation → ℕ → ℕ → Seen
+called size o n wrote = record { ok = true; call = record { client = none; packet = none; operation = some o; size = size; answer = some (answerOf n wrote); cut = none } }
 
 abbrev pub answering : ℕ → List ℕ → ℕ → ℕ → Seen
-answering size b n wrote = record { ok = true; call = record { client = none; packet = some b; size = size; answer = some (answerOf n wrote); cut = none } }
+answering size b n wrote = called size (request today b) n wrote
 
 abbrev pub crashing : ℕ → ℕ → ℕ → Seen
-crashing size c reach = record { ok = true; call = record { client = none; packet = none; size = size; answer = none; cut = some (record { server = c; reach = reach }) } }
+crashing size c reach =
+    record { ok = true; call = record { client = none; packet = none; operation = none; size = size; answer = none; cut = some (record { server = c; reach = reach }) } }
+
+abbrev pub onPacket : List ℕ → Seen
+onPacket b = record { ok = true; call = record { client = none; packet = some b; operation = none; size = 0; answer = none; cut = none } }
 
 abbrev pub atClient : Client → Option (List ℕ) → Seen
-atClient d b = record { ok = true; call = record { client = some d; packet = b; size = 0; answer = none; cut = none } }
+atClient d b = record { ok = true; call = record { client = some d; packet = b; operation = none; size = 0; answer = none; cut = none } }
 
 abbrev pub atManager : Seen
-atManager = record { ok = true; call = record { client = none; packet = none; size = 0; answer = none; cut = none } }
+atManager = record { ok = true; call = record { client = none; packet = none; operation = none; size = 0; answer = none; cut = none } }
 
 unfoldable pub rowsSeen : List Seen
 rowsSeen =
@@ -241,11 +284,11 @@ rowsSeen =
     ∷ atServer 0
     ∷ atManager
     ∷ atManager
-    ∷ onPacket 0 (grantBytes (record { client = 1; lease = 10 }))
-    ∷ onPacket 0 (grantBytes (record { client = 2; lease = 1000 }))
+    ∷ onPacket (grantBytes (record { client = 1; lease = 10 }))
+    ∷ onPacket (grantBytes (record { client = 2; lease = 1000 }))
     ∷ atClient (idle 1 10 1) none
     ∷ answering 8 (requestBytes settingAsked) 0 0
-    ∷ atServer 36
+    ∷ called 36 (sync 36) 0 0
     ∷ answering 36 (requestBytes settingAsked) 0 resultSize
     ∷ atClient setter (some (resultBytes settingAnswer))
     ∷ atClient (idle 2 1000 1) none
@@ -253,22 +296,22 @@ rowsSeen =
     ∷ crashing 64 0 50
     ∷ atServer 50
     ∷ answering 36 (requestBytes (stepAsked 1)) 0 0
-    ∷ atServer 64
-    ∷ atServer 72
-    ∷ atServer 72
-    ∷ onPacket 8 (imageBytes movedImage)
+    ∷ called 64 (give 5 1) 0 0
+    ∷ called 72 (sync 72) 0 0
+    ∷ called 72 (image 5) 0 104
+    ∷ called 8 (takeIn (imageBytes movedImage)) 0 0
     ∷ crashing 120 1 120
     ∷ atServer 120
     ∷ answering 120 (requestBytes (stepAsked 1)) 0 resultSize
     ∷ atClient (stepper 1) (some (resultBytes (stepAnswer 1)))
     ∷ atManager
-    ∷ onPacket 120 (noticeBytes noticeKind setterGone)
+    ∷ called 120 (notice (noticeBytes noticeKind setterGone)) 0 0
     ∷ answering 132 (requestBytes settingAsked) 4 refusalSize
-    ∷ atServer 132
-    ∷ onPacket 72 (receiptBytes (record { point = 5; server = 1; moveNumber = 1 }))
+    ∷ called 132 (receipt 5) 0 receiptSize
+    ∷ called 72 (release (receiptBytes (record { point = 5; server = 1; moveNumber = 1 }))) 0 0
     ∷ atClient (idle 2 1000 2) none
     ∷ answering 132 (requestBytes (stepAsked 2)) 0 0
-    ∷ atServer 160
+    ∷ called 160 (sync 160) 0 0
     ∷ atServer 160
     ∷ atServer 160
     ∷ crashing 160 1 160
@@ -277,12 +320,22 @@ rowsSeen =
     ∷ atClient (stepper 2) (some (resultBytes (stepAnswer 2)))
     ∷ atClient (idle 2 1000 3) none
     ∷ answering 160 (requestBytes (stepAsked 3)) 0 0
-    ∷ atServer 188
+    ∷ called 188 (sync 36) 0 0
     ∷ atServer 188
     ∷ crashing 188 1 188
     ∷ atServer 188
     ∷ answering 188 (requestBytes (stepAsked 3)) 0 resultSize
     ∷ atClient (stepper 3) (some (resultBytes (stepAnswer 3)))
+    ∷ atClient (idle 2 1000 4) none
+    ∷ called 188 (request before (requestBytes (farAsked 4))) 0 0
+    ∷ called 216 (sync 64) 0 0
+    ∷ answering 216 (requestBytes (farAsked 4)) 0 resultSize
+    ∷ atClient (farStepper 4) (some (resultBytes (farAnswer 4 stayedResult)))
+    ∷ atClient (idle 2 1000 5) none
+    ∷ answering 216 (requestBytes (farAsked 5)) 0 0
+    ∷ called 244 (sync 92) 0 0
+    ∷ answering 244 (requestBytes (farAsked 5)) 0 resultSize
+    ∷ atClient (farStepper 5) (some (resultBytes (farAnswer 5 stoppedResult)))
     ∷ []
 
 -- server 0 has released the point, server 1 holds it, taken before its checkpoint; both with move number 1
@@ -291,7 +344,7 @@ giverPoint =
     record { status = releasedStatus; quality = valid; destination = 1; value = half + 41; moveNumber = 1; takenMove = 0; giveEnd = 72; takeEnd = 0 }
 
 abbrev pub takerPoint : Point
-takerPoint = record { status = held; quality = valid; destination = 0; value = half + 43; moveNumber = 1; takenMove = 1; giveEnd = 0; takeEnd = headSize }
+takerPoint = record { status = held; quality = valid; destination = 0; value = half + 1000; moveNumber = 1; takenMove = 1; giveEnd = 0; takeEnd = headSize }
 
 unfoldable pub traceSeen : Trace
 traceSeen =

@@ -11,13 +11,12 @@ use lib.Dec.{eqb, leb, ltb}
 use Rattle.model.specs.declared.Answer.{Answer}
 use Rattle.model.specs.declared.Client.{Client}
 use Rattle.model.specs.declared.Point.{Point}
-use Rattle.model.specs.Versions.{Versions}
 use Rattle.model.specs.Numbers.{word}
 use Rattle.model.specs.Tables.{every}
 use Rattle.model.specs.States.{load, pointAt}
-use Rattle.model.specs.Operations.{requestOf}
+use Rattle.model.specs.Calls.{Operation, request, fetch, sync, notice, give, image, takeIn, receipt, release, handed, operated}
 use Rattle.model.specs.Clients.{startOf}
-use Rattle.claim.specs.World.{Event, found, request, fetch, sync, notice, give, image, take·image, receipt, release, recover, checkpoint, store, recover·tail, inspect, crash, outside}
+use Rattle.claim.specs.World.{Event, found, call, inquire, recover, checkpoint, store, recover·tail, crash, outside}
 use Rattle.claim.specs.World.{start, issue, resend, receive, open·lease, renew, query}
 use Rattle.claim.specs.World.{Lent, World, Stored, Server, nothing, running, storing, crashed, storedOf, withServer, making, lentState, lentLog, stateBack, logBack, packet, step}
 use Rattle.claim.specs.Provisos.{keptBy, markOf, lengthOf, reachOf}
@@ -32,20 +31,12 @@ countedOk l = ltb (l .log) (word * word)
 
 unfoldable pub typedOk : Event → Bool
 typedOk (found c state log plan n) = bytesOk state && bytesOk plan
-typedOk (request c p v l) = countedOk l
-typedOk (fetch c x k l) = countedOk l
-typedOk (sync c m l) = countedOk l
-typedOk (notice c p l) = countedOk l
-typedOk (give c p d l) = countedOk l
-typedOk (image c p l) = countedOk l
-typedOk (take·image c p l) = countedOk l
-typedOk (receipt c p l) = countedOk l
-typedOk (release c p l) = countedOk l
+typedOk (call c o l) = countedOk l
+typedOk (inquire c i l) = countedOk l
 typedOk (recover c state log plan) = bytesOk state
 typedOk (checkpoint c tail l) = countedOk l
 typedOk (store c) = true
 typedOk (recover·tail c state k tail) = bytesOk state
-typedOk (inspect c x k) = true
 typedOk (crash c k) = true
 typedOk (outside (start p)) = true
 typedOk (outside (issue x op p a)) = true
@@ -87,20 +78,12 @@ startsNew w (some b) = notStarted (w .clients (startOf b .client .client))
 -- the other provisos; found and the two recoveries are taken as not refused
 unfoldable pub keepsOk : List ℕ → World → Event → Bool
 keepsOk plan w (found c state log p n) = sameBytes p plan && (eqb n c && isNothing (w .servers c))
-keepsOk plan w (request c p v l) = true
-keepsOk plan w (fetch c x k l) = true
-keepsOk plan w (sync c m l) = true
-keepsOk plan w (notice c p l) = true
-keepsOk plan w (give c p d l) = true
-keepsOk plan w (image c p l) = true
-keepsOk plan w (take·image c p l) = true
-keepsOk plan w (receipt c p l) = true
-keepsOk plan w (release c p l) = true
+keepsOk plan w (call c o l) = true
+keepsOk plan w (inquire c i l) = true
 keepsOk plan w (recover c state log p) = sameBytes p plan && (keptIs log (keptBy (w .servers c)) && sameBytes (storedOf (w .servers c) .checkpoint) [])
 keepsOk plan w (checkpoint c tail l) = true
 keepsOk plan w (store c) = true
 keepsOk plan w (recover·tail c state k tail) = keptIs tail (keptBy (w .servers c)) && beginsOk (storedOf (w .servers c) .checkpoint) k
-keepsOk plan w (inspect c x k) = true
 keepsOk plan w (crash c k) = leb (markOf (w .servers c)) k && leb k (lengthOf (w .servers c))
 keepsOk plan w (outside (start p)) = startsNew w (packet w p)
 keepsOk plan w (outside (issue x op p a)) = true
@@ -117,82 +100,67 @@ pub record Cut : Type 0 where
   pub server : ℕ
   pub reach : ℕ
 
--- what an event's call gets: the client and the packet it names, and its server's log before it, by length from the founding; what a request
--- answers, and what a crash keeps
+-- what an event's call gets: the client and the packet it names, an operation with the packet that it names, and its server's log before it, by length
+-- from the founding; what an operation answers, and what a crash keeps
 pub record Call : Type 0 where
   pub client : Option Client
   pub packet : Option (List ℕ)
+  pub operation : Option Operation
   pub size : ℕ
   pub answer : Option Answer
   pub cut : Option Cut
 
-unfoldable pub requestAnswer : Versions → Lent → Server → Option (List ℕ) → Option Answer
-requestAnswer v l nothing p = none
-requestAnswer v l (running k state log) none = none
-requestAnswer v l (running k state log) (some b) = some (requestOf v (lentState l state) (lentLog l log) b (l .out) .answer)
-requestAnswer v l (storing k log next state tail) p = none
-requestAnswer v l (crashed k kept mark) p = none
+unfoldable pub operationAnswer : Lent → Server → Option Operation → Option Answer
+operationAnswer l nothing o = none
+operationAnswer l (running k state log) none = none
+operationAnswer l (running k state log) (some o) = some (operated o (lentState l state) (lentLog l log) (l .out) .answer)
+operationAnswer l (storing k log next state tail) o = none
+operationAnswer l (crashed k kept mark) o = none
 
--- the world after an event, and what a request answers
+-- the world after an event, and what an operation answers
 pub record Done : Type 0 where
   pub world : World
   pub answer : Option Answer
 
--- a request, computed once for both
-unfoldable pub requestDone : ℕ → Versions → Lent → Server → Option (List ℕ) → World → Done
-requestDone c v l nothing p w = record { world = w; answer = none }
-requestDone c v l (running k state log) none w = record { world = w; answer = none }
-requestDone c v l (running k state log) (some b) w =
-    let a = requestOf v (lentState l state) (lentLog l log) b (l .out) in
+-- an operation, computed once for both
+unfoldable pub operationDone : ℕ → Lent → Server → Option Operation → World → Done
+operationDone c l nothing o w = record { world = w; answer = none }
+operationDone c l (running k state log) none w = record { world = w; answer = none }
+operationDone c l (running k state log) (some o) w =
+    let a = operated o (lentState l state) (lentLog l log) (l .out) in
     record { world = making (take (a .answer .wrote) (a .out)) (withServer c (running k (stateBack l state a) (logBack l state log a)) w); answer = some (a .answer) }
-requestDone c v l (storing k log next state tail) p w = record { world = w; answer = none }
-requestDone c v l (crashed k kept mark) p w = record { world = w; answer = none }
+operationDone c l (storing k log next state tail) o w = record { world = w; answer = none }
+operationDone c l (crashed k kept mark) o w = record { world = w; answer = none }
 
 unfoldable pub done : World → Event → Done
 done w (found c state log p n) = record { world = step w (found c state log p n); answer = none }
-done w (request c p v l) = requestDone c v l (w .servers c) (packet w p) w
-done w (fetch c x k l) = record { world = step w (fetch c x k l); answer = none }
-done w (sync c m l) = record { world = step w (sync c m l); answer = none }
-done w (notice c p l) = record { world = step w (notice c p l); answer = none }
-done w (give c p d l) = record { world = step w (give c p d l); answer = none }
-done w (image c p l) = record { world = step w (image c p l); answer = none }
-done w (take·image c p l) = record { world = step w (take·image c p l); answer = none }
-done w (receipt c p l) = record { world = step w (receipt c p l); answer = none }
-done w (release c p l) = record { world = step w (release c p l); answer = none }
+done w (call c o l) = operationDone c l (w .servers c) (handed (packet w) o) w
+done w (inquire c i l) = record { world = step w (inquire c i l); answer = none }
 done w (recover c state log p) = record { world = step w (recover c state log p); answer = none }
 done w (checkpoint c tail l) = record { world = step w (checkpoint c tail l); answer = none }
 done w (store c) = record { world = step w (store c); answer = none }
 done w (recover·tail c state k tail) = record { world = step w (recover·tail c state k tail); answer = none }
-done w (inspect c x k) = record { world = step w (inspect c x k); answer = none }
 done w (crash c k) = record { world = step w (crash c k); answer = none }
 done w (outside e) = record { world = step w (outside e); answer = none }
 
-abbrev pub atServer : Server → Option (List ℕ) → Option Answer → Call
-atServer s b a = record { client = none; packet = b; size = reachOf s; answer = a; cut = none }
+abbrev pub atServer : Server → Option Operation → Option Answer → Call
+atServer s o a = record { client = none; packet = none; operation = o; size = reachOf s; answer = a; cut = none }
 
 abbrev pub atClient : Option Client → Option (List ℕ) → Call
-atClient d b = record { client = d; packet = b; size = 0; answer = none; cut = none }
+atClient d b = record { client = d; packet = b; operation = none; size = 0; answer = none; cut = none }
 
 abbrev pub atCrash : ℕ → ℕ → Server → Call
-atCrash c k s = record { client = none; packet = none; size = reachOf s; answer = none; cut = some (record { server = c; reach = storedOf s .replaced + k }) }
+atCrash c k s = record { client = none; packet = none; operation = none; size = reachOf s; answer = none; cut = some (record { server = c; reach = storedOf s .replaced + k }) }
 
--- `a` is what a request answers
+-- `a` is what an operation answers
 unfoldable pub callWith : World → Event → Option Answer → Call
 callWith w (found c state log p n) a = atServer (w .servers c) none none
-callWith w (request c p v l) a = atServer (w .servers c) (packet w p) a
-callWith w (fetch c x k l) a = atServer (w .servers c) none none
-callWith w (sync c m l) a = atServer (w .servers c) none none
-callWith w (notice c p l) a = atServer (w .servers c) (packet w p) none
-callWith w (give c p d l) a = atServer (w .servers c) none none
-callWith w (image c p l) a = atServer (w .servers c) none none
-callWith w (take·image c p l) a = atServer (w .servers c) (packet w p) none
-callWith w (receipt c p l) a = atServer (w .servers c) none none
-callWith w (release c p l) a = atServer (w .servers c) (packet w p) none
+callWith w (call c o l) a = atServer (w .servers c) (handed (packet w) o) a
+callWith w (inquire c i l) a = atServer (w .servers c) none none
 callWith w (recover c state log p) a = atServer (w .servers c) none none
 callWith w (checkpoint c tail l) a = atServer (w .servers c) none none
 callWith w (store c) a = atServer (w .servers c) none none
 callWith w (recover·tail c state k tail) a = atServer (w .servers c) none none
-callWith w (inspect c x k) a = atServer (w .servers c) none none
 callWith w (crash c k) a = atCrash c k (w .servers c)
 callWith w (outside (start p)) a = atClient none (packet w p)
 callWith w (outside (issue x op p a)) r = atClient (w .clients x) none
@@ -216,19 +184,30 @@ seenWith plan w e a = record { ok = typedOk e && keepsOk plan w e; call = callWi
 unfoldable pub seenAt : List ℕ → World → Event → Seen
 seenAt plan w e = seenWith plan w e (done w e .answer)
 
--- a request that was answered: its server ran, and its packet was made
-pub record Answered (v : Versions) (l : Lent) (s : Server) (o : Option (List ℕ)) (a : Answer) : Type 0 where
+-- an operation that was answered: its server ran, and what it names was made
+pub record Answered (l : Lent) (s : Server) (h : Option Operation) (a : Answer) : Type 0 where
   pub stored : Stored
   pub state : List ℕ
   pub log : List ℕ
   pub up : s ≡ running stored state log
-  pub bytes : List ℕ
-  pub packet : o ≡ some bytes
-  pub answer : requestOf v (lentState l state) (lentLog l log) bytes (l .out) .answer ≡ a
+  pub operation : Operation
+  pub handed : h ≡ some operation
+  pub answer : operated operation (lentState l state) (lentLog l log) (l .out) .answer ≡ a
 
--- a request that was answered had the packet b
+-- a request, if it is one, has the packet b
+unfoldable pub requestsOnly : List ℕ → Operation → Bool
+requestsOnly b (request v p) = sameBytes p b
+requestsOnly b (fetch x c) = true
+requestsOnly b (sync m) = true
+requestsOnly b (notice p) = true
+requestsOnly b (give p d) = true
+requestsOnly b (image p) = true
+requestsOnly b (takeIn p) = true
+requestsOnly b (receipt p) = true
+requestsOnly b (release p) = true
+
 unfoldable pub asksOnly : List ℕ → Seen → Bool
-asksOnly b r = elim (r .call .answer) [ none ↦ true | some a ↦ keptIs b (r .call .packet) ]
+asksOnly b r = elim (r .call .operation) [ none ↦ true | some o ↦ requestsOnly b o ]
 
 -- ---- the end
 
@@ -278,19 +257,11 @@ keepsMany c k r = elim (r .call .cut) [ none ↦ true | some x ↦ not (eqb (x .
 -- its server, where it has one, has a number below k
 unfoldable pub below : ℕ → Event → Bool
 below k (found c state log p n) = ltb c k
-below k (request c p v l) = ltb c k
-below k (fetch c x n l) = ltb c k
-below k (sync c m l) = ltb c k
-below k (notice c p l) = ltb c k
-below k (give c p d l) = ltb c k
-below k (image c p l) = ltb c k
-below k (take·image c p l) = ltb c k
-below k (receipt c p l) = ltb c k
-below k (release c p l) = ltb c k
+below k (call c o l) = ltb c k
+below k (inquire c i l) = ltb c k
 below k (recover c state log p) = ltb c k
 below k (checkpoint c tail l) = ltb c k
 below k (store c) = ltb c k
 below k (recover·tail c state n tail) = ltb c k
-below k (inspect c x n) = ltb c k
 below k (crash c b) = ltb c k
 below k (outside e) = true

@@ -23,7 +23,8 @@ use Rattle.model.specs.Operations.{After, answerOf, requestOf}
 use Rattle.model.specs.Refusals.{noRefusal}
 use Rattle.model_laws.specs.Bytes.{Bytes}
 use Rattle.model_invariants.specs.Sound.{Sound}
-use Rattle.model_invariants.specs.Calls.{Operation, request, decision, output, outputSize, operated, LentBytes}
+use Rattle.model.specs.Calls.{Operation, request, decision, operated}
+use Rattle.model_invariants.specs.Calls.{output, outputFor, outputSize, LentBytes}
 use Rattle.model_invariants.specs.Placed.{seenFrom}
 use Rattle.claim.specs.World.{withServer, making, lentState, lentLog, stateBack, logBack}
 use Rattle.claim.specs.World as B
@@ -162,5 +163,5 @@ pub request-answer : (vs : Versions) (t : B.Lent) → Counted t → (p : List �
     → (requestOf vs (lentState t state) (lentLog t bytes) p (t .out) .answer ≡ answerOf noRefusal 0)
     ↔ ((R.callOf st log (k .replaced + roomIn t state bytes (t .out) resultSize) (λ s free. onRequest vs s free (parsePacket p)) .number ≡ 0)
     × (R.callOf st log (k .replaced + roomIn t state bytes (t .out) resultSize) (λ s free. onRequest vs s free (parsePacket p)) .made ≡ []))
-unfolding decision output outputSize operated whole
+unfolding decision output outputFor outputSize operated whole
 request-answer vs t ok p h K = call-answer (request vs p) h t ok K

@@ -1,4 +1,5 @@
 -- A call of a running server, over bytes and over records, by the server's own log.
+--     same-state, same-log     buffers that come back as they were lent
 --     settled                  every decision, carried out in both, by the server's own log
 --     call-left                a call of a running server: what was answered, what was made, and the server
 --     made-bytes               what a call makes is bytes
@@ -31,7 +32,8 @@ use Rattle.model_laws.proofs.Written.{length-written, bytes-written, written-fr
 use Rattle.model_laws.proofs.States.{state-bytes}
 use Rattle.model_invariants.specs.Sound.{Sound}
 use Rattle.model_invariants.specs.History.{Decides}
-use Rattle.model_invariants.specs.Calls.{refuses, denies, replies, appends, sets, Allowed, Operation, decision, output, outputSize, decidedOn, operated, LentBytes}
+use Rattle.model.specs.Calls.{Operation, decision, operated}
+use Rattle.model_invariants.specs.Calls.{refuses, denies, replies, appends, sets, Allowed, output, outputSize, decidedOn, LentBytes}
 use Rattle.model_invariants.specs.Calls as Limits
 use Rattle.model_invariants.proofs.Tests.{fits-of}
 use Rattle.model_invariants.proofs.Steps.{sound-mark}
@@ -87,15 +89,15 @@ module _ {start : State} {log : R.Log} {state bytes : List ℕ} (K : LocalAlike 
   g = lentLog t bytes
 
   -- what comes back as it was lent
-  same-state : (a : After) → a .state ≡ s → stateBack t state a ≡ state
+  pub same-state : (a : After) → a .state ≡ s → stateBack t state a ≡ state
   unfolding stateBack lentState
   same-state a e = rw e (take-append-drop (t .state) state)
 
-  same-log : (a : After) → a .state ≡ s → a .log ≡ g → logBack t state bytes a ≡ bytes
+  pub same-log : (a : After) → a .state ≡ s → a .log ≡ g → logBack t state bytes a ≡ bytes
   unfolding logBack lentLog
   same-log a e f =
       let b : load (stateBack t state a) .size ≡ length bytes = ap (λ (x : List ℕ). load x .size) (same-state a e) ∙ holds-size (K .holds) in
-      rw (b, f, take-append-drop (t .log) (bytes ++ t .tail)) (take-append-seam bytes (t .tail))
+      rw (b, f, take-append-drop (t .log) (bytes ++ t .spare)) (take-append-seam bytes (t .spare))
 
   -- a decision that changes nothing
   quiet : (n : ℕ) (b out : List ℕ) → take (length b) out ≡ b
@@ -126,7 +128,7 @@ module _ {start : State} {log : R.Log} {state bytes : List ℕ} (K : LocalAlike 
     unfolding stateBack logBack lentState
     changed fs st h out S H =
         let enough : stateEnd ≤ length s = omega (arith, whole) in
-        let k = held (K .holds .from) (stored s st) (drop (t .state) state) h (drop (t .log) (bytes ++ t .tail)) H (stored-bytes s st S lent-bytes)
+        let k = held (K .holds .from) (stored s st) (drop (t .state) state) h (drop (t .log) (bytes ++ t .spare)) H (stored-bytes s st S lent-bytes)
         (bytes-drop (t .state) state (K .holds .bytes)) (rw (length-stored s st) enough)
         (rw (length-front state (stored s st) (t .state) (length-stored s st)) (K .holds .long)) in
         record { answer = same-answer {b = []} refl; made = refl; server = record { holds = k .0; loads = k .1 ∙ stored-load s st S enough } }
@@ -134,7 +136,7 @@ module _ {start : State} {log : R.Log} {state bytes : List ℕ} (K : LocalAlike 
     module _ (ok : Counted t) (holding : length bytes ≤ length g) where
       counted : length g < word * word
       unfolding lentLog
-      counted = omega (arith, ok, length-take (t .log) (bytes ++ t .tail))
+      counted = omega (arith, ok, length-take (t .log) (bytes ++ t .spare))
 
       -- the lent parts hold what the whole buffers do
       part : Limits.Holds start es s g
@@ -143,7 +145,7 @@ module _ {start : State} {log : R.Log} {state bytes : List ℕ} (K : LocalAlike 
           let n : ℕ = lastEnd headSize es in
           let end = K .holds .end in
           holds-part start es state bytes s g (K .holds .bytes) (K .holds .opens) lent-part
-          (take-take n (t .log) (bytes ++ t .tail) (omega (arith, end, holding, length-take (t .log) (bytes ++ t .tail))) ∙ take-append-le n bytes (t .tail) (omega (arith, end)))
+          (take-take n (t .log) (bytes ++ t .spare) (omega (arith, end, holding, length-take (t .log) (bytes ++ t .spare))) ∙ take-append-le n bytes (t .spare) (omega (arith, end)))
 
       fits : load s .size ≤ length g
       fits = omega (arith, ap (λ (x : State). x .size) lent-load, holds-size (K .holds))

@@ -89,7 +89,6 @@ module _ (plan : List ℕ) (x y : Account) (issues : (n : ℕ) (ks : List Comman
             let K : HolderBy plan x p c (seenFrom b o) = subst (HolderBy plan x p c) (s .3) H in
             ap (λ (z : State). readingMeant (readingAt (pointAt z p))) (s .3) ∙ ap readingMeant (reading-seen b o p) ∙ E .values p c o h (holder p c b o (s .2) K);
         real-time = λ m n a b r c i h s t. E .real-time m n a b r (completes m (commands a) r c) (issues n (commands b) i) h s t;
-        completed = λ n k r c. E .completed n k r (completes n k r c);
         sequence = λ m n j k a b s t h e u v i l. E .sequence m n j k a b (survives m j s) (survives n k t) h e u v i l;
         recovers = recovers;
       }

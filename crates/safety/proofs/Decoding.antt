@@ -10,24 +10,25 @@ use native.Mathlib.Omega.{arith}
 use lib.Dec.{eqb}
 use borrow.Author.Tests.{eqb-true}
 use Rattle.model.specs.Choice.{pick}
-use Rattle.model.specs.Limits.{resultSize}
 use Rattle.model.specs.Plan.{planOk}
 use Rattle.model.specs.States.{State}
 use Rattle.model.specs.Versions.{Versions}
 use Rattle.model.specs.Operations.{After, foundOf, recoverOf}
 use Rattle.model.specs.Checkpoints.{recoverTailOf}
 use Rattle.model.specs.Clients.{startOf}
+use Rattle.model.specs.Calls.{OperationOf, request, fetch, sync, notice, give, image, takeIn, receipt, release}
 use Rattle.model.specs.Refusals.{noRefusal}
 use Rattle.model_laws.proofs.Numbers.{bytes-nil}
+use Rattle.model_invariants.specs.Calls.{outputSize, outputFor, output}
 use Rattle.claim.specs.World.{OutsideCall, start}
 use Rattle.claim.specs.World as B
 use Rattle.claim.specs.Provisos as BP
 use Rattle.claim.specs.RecordWorld as R
 use Rattle.claim.specs.RecordProvisos as RP
 use Rattle.proof_records.specs.Provided.{FoundOk, Provided}
-use Rattle.safety.specs.Alike.{WorldAlike}
+use Rattle.safety.specs.Alike.{WorldAlike, whole}
 use Rattle.safety.specs.Allowed.{RecoverOk, Allowed, Decodes}
-use Rattle.safety.specs.Decoded.{roomOf, placeOf, planIf, decoded, kind}
+use Rattle.safety.specs.Decoded.{roomOf, placeOf, planIf, idle, decoded}
 use Rattle.safety.proofs.Worlds.{same-packet, same-client, nothing-back, alike-mark, alike-reach}
 
 apart : {A : Type 0} → _≡_ {A = ℕ} 0 1 → A
@@ -41,6 +42,19 @@ plan-bytes a p s = go (eqb (a .answer .refusal) noRefusal)
     go : (t : Bool) → BP.Bytes (pick t p [])
     go true = s
     go false = bytes-nil
+
+-- counted from the founding, a request is that request, and no other operation is one
+whole-request : {P : Type 0} (b : ℕ) (o : OperationOf P) (vs : Versions) (p : P) → whole b o ≡ request vs p → o ≡ request vs p
+unfolding whole
+whole-request b (request v x) vs p e = e
+whole-request b (fetch x c) vs p e = apart (cc)
+whole-request b (sync m) vs p e = apart (cc)
+whole-request b (notice x) vs p e = apart (cc)
+whole-request b (give x d) vs p e = apart (cc)
+whole-request b (image x) vs p e = apart (cc)
+whole-request b (takeIn x) vs p e = apart (cc)
+whole-request b (receipt x) vs p e = apart (cc)
+whole-request b (release x) vs p e = apart (cc)
 
 module _ (plan : List ℕ) {r : R.World} {b : B.World} (l : WorldAlike plan r b) where
   -- found and recover that succeed over records succeed over bytes
@@ -81,26 +95,8 @@ module _ (plan : List ℕ) {r : R.World} {b : B.World} (l : WorldAlike plan r b)
   unfolding placeOf
   place-is c n k e = e
 
-  -- an event without provisos of its own, and neither crash, request nor call outside the servers
-  plain : (y : B.Event) (e : R.Event) → kind e ≡ 5 → RP.Typed e → Decodes plan r b y e
-  unfolding kind
-  plain y e k t =
-      record {
-        provided =
-            record {
-              typed = t;
-              founds = λ c p n st q z. absurd (omega (arith, k, ap kind q));
-              recovers = λ c p log st q x z. absurd (omega (arith, k, ap kind q));
-              crashes = λ c n q. absurd (omega (arith, k, ap kind q));
-              starts = λ p q bs x z. absurd (omega (arith, k, ap kind q));
-            };
-        crashes = λ c n q. absurd (omega (arith, k, ap kind q));
-        requests = λ c p vs room q. absurd (omega (arith, k, ap kind q));
-        outsides = λ o q. absurd (omega (arith, k, ap kind q));
-      }
-
   -- no crash, request or call outside the servers, with these provisos
-  bare : (y : B.Event) (e : R.Event) → ((c k : ℕ) → e ≡ R.crash c k → ⊥) → ((c p : ℕ) (vs : Versions) (room : ℕ) → e ≡ R.request c p vs room → ⊥)
+  bare : (y : B.Event) (e : R.Event) → ((c k : ℕ) → e ≡ R.crash c k → ⊥) → ((c p : ℕ) (vs : Versions) (room : ℕ) → e ≡ R.call c (request vs p) room → ⊥)
       → ((o : OutsideCall) → e ≡ R.outside o → ⊥) → Provided plan r e → Decodes plan r b y e
   bare y e f g h P =
       record {
@@ -123,8 +119,23 @@ module _ (plan : List ℕ) {r : R.World} {b : B.World} (l : WorldAlike plan r b)
         starts = λ x q bs k z. apart (cc);
       })
 
+  -- an operation has no provisos of its own
+  unasked : (c : ℕ) (o : OperationOf ℕ) {room : ℕ} → Provided plan r (R.call c o room)
+  unfolding RP.Typed
+  unasked c o =
+      record {
+        typed = tt;
+        founds = λ d x k st q z. apart (cc);
+        recovers = λ d x g st q k z. apart (cc);
+        crashes = λ d k q. apart (cc);
+        starts = λ x q bs k z. apart (cc);
+      }
+
+  idles : (y : B.Event) (c : ℕ) → Decodes plan r b y (idle c)
+  idles y c = bare y (idle c) (λ d k q. apart (cc)) (λ d x vs room q. apart (cc)) (λ o q. apart (cc)) (unasked c (fetch 0 0))
+
   pub decodes : (y : B.Event) → Allowed plan b y → Decodes plan r b y (decoded plan b y)
-  unfolding decoded kind RP.Typed BP.Typed
+  unfolding decoded output outputFor outputSize RP.Typed BP.Typed
   decodes (B.found c state log p n) a =
       let P : List ℕ = planIf (foundOf state log p n) p in
       bare _ _ (λ d k q. apart (cc)) (λ d x vs room q. apart (cc)) (λ o q. apart (cc))
@@ -143,39 +154,25 @@ module _ (plan : List ℕ) {r : R.World} {b : B.World} (l : WorldAlike plan r b)
         crashes = λ d k q. apart (cc);
         starts = λ x q bs k z. apart (cc);
       })
-  decodes (B.request c p vs u) a =
+  decodes (B.call c o u) a =
       record {
-        provided =
-            record {
-              typed = tt;
-              founds = λ d x k st q z. apart (cc);
-              recovers = λ d x g st q k z. apart (cc);
-              crashes = λ d k q. apart (cc);
-              starts = λ x q bs k z. apart (cc);
-            };
+        provided = unasked _ _;
         crashes = λ d k q. apart (cc);
         requests =
             λ d x us room q.
             let i : c ≡ d = cc in
-            let j : p ≡ x = cc in
-            let m : vs ≡ us = cc in
-            let k : room ≡ roomOf (b .servers c) u (u .out) resultSize = cc in
-            (u, rw (i, j, m) refl, rw i at k);
-        outsides = λ o q. apart (cc);
+            let n : ℕ = B.storedOf (b .servers c) .replaced in
+            let j : whole n o ≡ request us x = cc in
+            let e : o ≡ request us x = whole-request n o us x j in
+            let k : room ≡ roomOf (b .servers c) u (output o (u .out)) (outputSize o) = cc in
+            (u, rw (i, e) refl, rw (i, e) at k);
+        outsides = λ z q. apart (cc);
       }
-  decodes (B.fetch c x n u) a = plain _ _ refl tt
-  decodes (B.sync c m u) a = plain _ _ refl tt
-  decodes (B.notice c p u) a = plain _ _ refl tt
-  decodes (B.give c p d u) a = plain _ _ refl tt
-  decodes (B.image c p u) a = plain _ _ refl tt
-  decodes (B.take·image c p u) a = plain _ _ refl tt
-  decodes (B.receipt c p u) a = plain _ _ refl tt
-  decodes (B.release c p u) a = plain _ _ refl tt
+  decodes (B.inquire c i u) a = idles _ c
   decodes (B.recover c state log p) a = recovery _ c (planIf (recoverOf state log p) p) (recover-ok c state log p (a .recovers c state log p refl))
-  decodes (B.checkpoint c tail u) a = plain _ _ refl tt
-  decodes (B.store c) a = plain _ _ refl tt
+  decodes (B.checkpoint c tail u) a = idles _ c
+  decodes (B.store c) a = idles _ c
   decodes (B.recover·tail c state k tail) a = recovery _ c (planIf (recoverTailOf state k tail) plan) (tail-ok (recoverTailOf state k tail))
-  decodes (B.inspect c x k) a = plain _ _ refl tt
   decodes (B.crash c n) a =
       let x = crash-ok c n (a .crashes c n refl .0) (a .crashes c n refl .1) in
       record {

@@ -37,14 +37,14 @@ all-synced : {plan : List ℕ} {c : ℕ} {st : State} {log : R.Log} {k : B.Store
 all-synced {state = state} {bytes = bytes} K e = take-all (load state .mark) bytes (omega (arith, e, running-mark K, running-size K))
 
 -- what recovery gives from the synced part of a server's log, which is what a crash at the mark would keep
-pub same-synced : (plan : List ℕ) (ys : List B.Event) (es : List R.Event) (c : ℕ) {x : R.Server} {y : B.Server} → ServerAlike plan c x y
-    → Shown (BF.syncedState plan ys y) (RF.syncedState plan es x)
+pub same-synced : (plan : List ℕ) (c : ℕ) {x : R.Server} {y : B.Server} → ServerAlike plan c x y
+    → Shown (BF.syncedState plan y) (RF.syncedState plan x)
 unfolding BF.syncedState BF.syncedPart B.storedOf RF.syncedState
-same-synced plan ys es c nothing = unfold BC.recoveredBy recoveredState recoveredOn endsOf headOk in neither
-same-synced plan ys es c (running K) = rw (running-mark K) (synced-shown ys (K .continues) (holds-kept (K .holds)))
-same-synced plan ys es c (storing K e L) =
-    rw (running-mark K) (rw (all-synced K e) at (synced-shown ys (K .continues) (holds-kept (K .holds))))
-same-synced plan ys es c (crashed K) = rw (K .marked) at (synced-shown ys (K .continues) (K .keeps))
+same-synced plan c nothing = unfold BC.recoveredBy recoveredState recoveredOn endsOf headOk in neither
+same-synced plan c (running K) = rw (running-mark K) (synced-shown (K .continues) (holds-kept (K .holds)))
+same-synced plan c (storing K e L) =
+    rw (running-mark K) (rw (all-synced K e) at (synced-shown (K .continues) (holds-kept (K .holds))))
+same-synced plan c (crashed K) = rw (K .marked) at (synced-shown (K .continues) (K .keeps))
 
 -- ---- a state, places of the log aside
 
@@ -73,8 +73,8 @@ module _ (plan : List ℕ) (ys : List B.Event) (P : BP.Provisos plan ys) where
   fenced-here n x p f =
       let c = f .server in
       let s = both-at plan ys P n .alike .servers c in
-      let u = shown-here (same-given plan ys (schedule plan ys) c s) (f .state) (f .counts) in
-      let v = shown-here (same-synced plan ys (schedule plan ys) c s) (f .kept) (f .recovered) in
+      let u = shown-here (same-given plan c s) (f .state) (f .counts) in
+      let v = shown-here (same-synced plan c s) (f .kept) (f .recovered) in
       record {
         server = c;
         state = u .1;

@@ -19,7 +19,9 @@ use Rattle.model.specs.Limits.{resultSize}
 use Rattle.model.specs.Packets.{parsePacket}
 use Rattle.model.specs.States.{State}
 use Rattle.model.specs.Decisions.{Decided, onRequest}
+use Rattle.model.specs.Calls.{request}
 use Rattle.model_laws.specs.Bytes.{Bytes}
+use Rattle.model_invariants.specs.Calls.{outputSize, outputFor, output}
 use Rattle.claim.specs.World.{Lent, packet}
 use Rattle.claim.specs.World as B
 use Rattle.claim.specs.Provisos.{Counted}
@@ -28,7 +30,7 @@ use Rattle.claim.specs.Claim as BC
 use Rattle.claim.specs.RecordWorld as R
 use Rattle.claim.specs.RecordProvisos as RP
 use Rattle.claim.specs.RecordClaim as RC
-use Rattle.safety.specs.Alike.{RunningAlike, ServerAlike, nothing, running, storing, crashed, Shown, neither, both}
+use Rattle.safety.specs.Alike.{RunningAlike, ServerAlike, nothing, running, storing, crashed, Shown, neither, both, whole}
 use Rattle.safety.specs.Decoded.{roomIn, roomOf, placeOf, decoded, schedule}
 use Rattle.safety.proofs.Worlds.{running-here, running-room, same-packet, same-client, alike-reach}
 use Rattle.safety.proofs.Parties.{packet-made}
@@ -38,13 +40,13 @@ use Rattle.safety.proofs.Runs.{both-at, at-here, at-back, provisos-here
 use Rattle.safety.proofs.Carried.{explained-too}
 
 -- a server counts with the same state in both worlds, places of the log aside
-pub same-given : (plan : List ℕ) (ys : List B.Event) (es : List R.Event) (c : ℕ) {x : R.Server} {y : B.Server} → ServerAlike plan c x y
-    → Shown (BC.stateGiven plan ys y) (RC.stateGiven plan es x)
+pub same-given : (plan : List ℕ) (c : ℕ) {x : R.Server} {y : B.Server} → ServerAlike plan c x y
+    → Shown (BC.stateGiven plan y) (RC.stateGiven plan x)
 unfolding RC.stateGiven BC.stateGiven
-same-given plan ys es c nothing = neither
-same-given plan ys es c (running {st = st} {k = k} K) = rw (K .loads) (both (k .replaced) st)
-same-given plan ys es c (storing {st = st} {next = k} K e L) = rw (L .loads) (both (k .replaced) st)
-same-given plan ys es c (crashed K) = recovered-shown ys K
+same-given plan c nothing = neither
+same-given plan c (running {st = st} {k = k} K) = rw (K .loads) (both (k .replaced) st)
+same-given plan c (storing {st = st} {next = k} K e L) = rw (L .loads) (both (k .replaced) st)
+same-given plan c (crashed K) = recovered-shown K
 
 -- a call that is not refused over records: no checkpoint is being stored, and the server runs over bytes
 module _ {plan : List ℕ} {c : ℕ} where
@@ -91,7 +93,7 @@ module _ (plan : List ℕ) (ys : List B.Event) (P : BP.Provisos plan ys) where
 
   -- ---- issues and completions
 
-  pub issues-here : (n : ℕ) (k : List Command) → BC.Issues plan ys n k → RC.Issues plan (schedule plan ys) n k
+  pub issues-here : (n : ℕ) (k : List Command) → BC.Issues ys n k → RC.Issues (schedule plan ys) n k
   unfolding decoded
   issues-here n k i =
       record {
@@ -107,7 +109,7 @@ module _ (plan : List ℕ) (ys : List B.Event) (P : BP.Provisos plan ys) where
         its = i .its;
       }
 
-  pub issues-there : (n : ℕ) (k : List Command) → RC.Issues plan (schedule plan ys) n k → BC.Issues plan ys n k
+  pub issues-there : (n : ℕ) (k : List Command) → RC.Issues (schedule plan ys) n k → BC.Issues ys n k
   issues-there n k i =
       let e = at-back plan ys P n _ (i .event) in
       record {
@@ -115,7 +117,7 @@ module _ (plan : List ℕ) (ys : List B.Event) (P : BP.Provisos plan ys) where
         op = i .op;
         point = i .point;
         argument = i .argument;
-        event = subst (BP.At plan ys n) (e .2 .outsides _ refl) (e .1);
+        event = subst (BP.At ys n) (e .2 .outsides _ refl) (e .1);
         state = i .state;
         started = sym (client-here n (i .client)) ∙ i .started;
         asked = i .asked;
@@ -123,7 +125,7 @@ module _ (plan : List ℕ) (ys : List B.Event) (P : BP.Provisos plan ys) where
         its = i .its;
       }
 
-  pub completes-here : (n : ℕ) (k : List Command) (x : EntryResult) → BC.Completes plan ys n k x → RC.Completes plan (schedule plan ys) n k x
+  pub completes-here : (n : ℕ) (k : List Command) (x : EntryResult) → BC.Completes ys n k x → RC.Completes (schedule plan ys) n k x
   unfolding decoded
   completes-here n k x c =
       record {
@@ -142,12 +144,12 @@ module _ (plan : List ℕ) (ys : List B.Event) (P : BP.Provisos plan ys) where
 
   -- ---- executions
 
-  counted : (n c p : ℕ) (vs : Versions) (t : Lent) → BP.At plan ys n (B.request c p vs t) → Counted t
+  counted : (n c p : ℕ) (vs : Versions) (t : Lent) → BP.At ys n (B.call c (request vs p) t) → Counted t
   unfolding BP.Typed
-  counted n c p vs t a = P .typed n (B.request c p vs t) a
+  counted n c p vs t a = P .typed n (B.call c (request vs p) t) a
 
-  pub executes-here : (n c : ℕ) (k : Marked) → BC.Executes plan ys n c k → RC.Executes plan (schedule plan ys) n c k
-  unfolding decoded
+  pub executes-here : (n c : ℕ) (k : Marked) → BC.Executes ys n c k → RC.Executes (schedule plan ys) n c k
+  unfolding decoded whole output outputFor outputSize
   executes-here n c k x =
       let u = running-here (both-at plan ys P n .alike .servers c) (x .stored) (x .state) (x .log) (x .up) in
       let ok = counted n c (x .number) (x .versions) (x .lent) (x .event) in
@@ -157,8 +159,8 @@ module _ (plan : List ℕ) (ys : List B.Event) (P : BP.Provisos plan ys) where
         versions = x .versions;
         room = x .stored .replaced + roomIn (x .lent) (x .state) (x .log) (x .lent .out) resultSize;
         event =
-            subst (λ (k : ℕ). RP.At plan (schedule plan ys) n (R.request c (x .number) (x .versions) k)) (running-room (x .up) (x .lent) (x .lent .out) resultSize)
-            (at-here plan ys P n (B.request c (x .number) (x .versions) (x .lent)) (x .event));
+            subst (λ (k : ℕ). RP.At (schedule plan ys) n (R.call c (request (x .versions) (x .number)) k)) (running-room (x .up) (x .lent) (x .lent .out) resultSize)
+            (at-here plan ys P n (B.call c (request (x .versions) (x .number)) (x .lent)) (x .event));
         state = u .0;
         log = u .1;
         up = u .2;
@@ -171,14 +173,14 @@ module _ (plan : List ℕ) (ys : List B.Event) (P : BP.Provisos plan ys) where
         its = x .its;
       }
 
-  executes-there : (n c : ℕ) (k : Marked) → RC.Executes plan (schedule plan ys) n c k → BC.Executes plan ys n c k
+  executes-there : (n c : ℕ) (k : Marked) → RC.Executes (schedule plan ys) n c k → BC.Executes ys n c k
   executes-there n c k x =
-      let e = at-back plan ys P n (R.request c (x .number) (x .versions) (x .room)) (x .event) in
+      let e = at-back plan ys P n (R.call c (request (x .versions) (x .number)) (x .room)) (x .event) in
       let f = e .2 .requests c (x .number) (x .versions) (x .room) refl in
       let t : Lent = f .0 in
       let decide : State → ℕ → Decided = λ s free. onRequest (x .versions) s free (parsePacket (x .bytes)) in
       let u = running-there (both-at plan ys P n .alike .servers c) (x .state) (x .log) (x .up) t (t .out) resultSize decide (rw (f .2) at (x .no-number)) in
-      let at : BP.At plan ys n (B.request c (x .number) (x .versions) t) = subst (BP.At plan ys n) (f .1) (e .1) in
+      let at : BP.At ys n (B.call c (request (x .versions) (x .number)) t) = subst (BP.At ys n) (f .1) (e .1) in
       let room : x .room ≡ u .0 .replaced + roomIn t (u .1) (u .2) (t .out) resultSize = f .2 ∙ running-room (u .3) t (t .out) resultSize in
       let d : packet (b n) (x .number) ≡ some (x .bytes) = sym (packet-here n (x .number)) ∙ x .delivered in
       let z = request-answer (x .versions) t (counted n c (x .number) (x .versions) t at) (x .bytes) (made-bytes n (x .number) (x .bytes) d) (u .4) .1 in
@@ -205,17 +207,17 @@ module _ (plan : List ℕ) (ys : List B.Event) (P : BP.Provisos plan ys) where
   reach-here n c = alike-reach (both-at plan ys P n .alike .servers c)
 
   -- a crash keeps as much of the whole log in both
-  crash-here : (n c m : ℕ) → BC.Crashes plan ys n c m → RP.At plan (schedule plan ys) n (R.crash c m)
+  crash-here : (n c m : ℕ) → BC.Crashes ys n c m → RP.At (schedule plan ys) n (R.crash c m)
   unfolding decoded placeOf
-  crash-here n c m x = subst (λ (k : ℕ). RP.At plan (schedule plan ys) n (R.crash c k)) (sym (x .reaches)) (at-here plan ys P n (B.crash c (x .kept)) (x .event))
+  crash-here n c m x = subst (λ (k : ℕ). RP.At (schedule plan ys) n (R.crash c k)) (sym (x .reaches)) (at-here plan ys P n (B.crash c (x .kept)) (x .event))
 
-  crash-there : (n c m : ℕ) → RP.At plan (schedule plan ys) n (R.crash c m) → BC.Crashes plan ys n c m
+  crash-there : (n c m : ℕ) → RP.At (schedule plan ys) n (R.crash c m) → BC.Crashes ys n c m
   crash-there n c m a =
       let e = at-back plan ys P n (R.crash c m) a in
       let q = e .2 .crashes c m refl in
-      record { kept = q .0; event = subst (BP.At plan ys n) (q .1) (e .1); reaches = q .2 }
+      record { kept = q .0; event = subst (BP.At ys n) (q .1) (e .1); reaches = q .2 }
 
-  pub survives-here : (n : ℕ) (k : Marked) → BC.SurvivesAt plan ys n k → RC.SurvivesAt plan (schedule plan ys) n k
+  pub survives-here : (n : ℕ) (k : Marked) → BC.SurvivesAt ys n k → RC.SurvivesAt (schedule plan ys) n k
   survives-here n k s =
       record {
         server = s .server;
@@ -223,7 +225,7 @@ module _ (plan : List ℕ) (ys : List B.Event) (P : BP.Provisos plan ys) where
         kept = λ m d h a. subst (λ (z : ℕ). z ≤ d) (sym (reach-here (suc n) (s .server))) (s .kept m d h (crash-there m (s .server) d a));
       }
 
-  pub survives-there : (n : ℕ) (k : Marked) → RC.SurvivesAt plan (schedule plan ys) n k → BC.SurvivesAt plan ys n k
+  pub survives-there : (n : ℕ) (k : Marked) → RC.SurvivesAt (schedule plan ys) n k → BC.SurvivesAt ys n k
   survives-there n k s =
       record {
         server = s .server;
@@ -235,19 +237,19 @@ module _ (plan : List ℕ) (ys : List B.Event) (P : BP.Provisos plan ys) where
 
   same-final : (c : ℕ) → Shown (BC.finalState plan ys c) (RC.finalState plan (schedule plan ys) c)
   unfolding RC.finalState BC.finalState
-  same-final c = same-given plan ys (schedule plan ys) c (end-alike plan ys P .servers c)
+  same-final c = same-given plan c (end-alike plan ys P .servers c)
 
   recovers-end : BC.Recovers plan ys
   recovers-end c k kept mark = go (end-alike plan ys P .servers c)
     where
-      go : {x : R.Server} {y : B.Server} → ServerAlike plan c x y → y ≡ B.crashed k kept mark → (st : State) × (BC.recoveredBy plan ys (k .checkpoint) kept ≡ some st)
+      go : {x : R.Server} {y : B.Server} → ServerAlike plan c x y → y ≡ B.crashed k kept mark → (st : State) × (BC.recoveredBy plan (k .checkpoint) kept ≡ some st)
       go nothing e = let z : _≡_ {A = ℕ} 0 1 = cc in absurd (omega arith)
       go (running K) e = let z : _≡_ {A = ℕ} 0 1 = cc in absurd (omega arith)
       go (storing K m L) e = let z : _≡_ {A = ℕ} 0 1 = cc in absurd (omega arith)
       go (crashed {k = j} {kept = s} K) e =
           let p : k ≡ j = cc in
           let q : kept ≡ s = cc in
-          rw (p, q) (let u = recovered-some ys K in (u .0, u .1))
+          rw (p, q) (let u = recovered-some K in (u .0, u .1))
 
 pub from-records : RC.Demand3 → BC.Demand3
 unfolding RC.Demand3 BC.Demand3

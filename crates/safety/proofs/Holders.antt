@@ -69,12 +69,12 @@ module _ (plan : List ℕ) (es : List Event) (P : Provisos plan es) where
   unfolding finalState stateGiven
   counted c st = go (end-alike plan es P .servers c)
     where
-      go : {x : R.Server} {y : Server} → ServerAlike plan c x y → stateGiven plan es y ≡ some st → Counted c st
+      go : {x : R.Server} {y : Server} → ServerAlike plan c x y → stateGiven plan y ≡ some st → Counted c st
       go nothing e = no-state e
       go (running K) e = record { number = number-within (K .continues) (K .holds .from); sound = subst Sound (some-same e) (holds-sound (K .holds)) }
       go (storing K m L) e = record { number = number-within (L .continues) (L .holds .from); sound = subst Sound (some-same e) (holds-sound (L .holds)) }
       go (crashed K) e =
-          let k = recovered-some es K in
+          let k = recovered-some K in
           record { number = number-within (K .continues) (K .keeps .from); sound = subst Sound (some-same (sym (k .1) ∙ e)) (k .2) }
 
   -- ---- the greatest of the servers

@@ -27,7 +27,8 @@ use Rattle.model_laws.proofs.Commands.{command-parts}
 use Rattle.model_laws.proofs.Packets.{packet-bytes, request-of}
 use Rattle.model_laws.proofs.Images.{image-length, image-bytes}
 use Rattle.model_invariants.specs.Sound.{Sound, GoodCompletion, GoodRequest, GoodImage}
-use Rattle.model_invariants.specs.Calls.{Operation, request, fetch, sync, notice, give, image, takeIn, receipt, release, decision, outputSize, LentBytes}
+use Rattle.model.specs.Calls.{Operation, request, fetch, sync, notice, give, image, takeIn, receipt, release, decision}
+use Rattle.model_invariants.specs.Calls.{outputSize, LentBytes}
 use Rattle.model_invariants.proofs.Tests.{split, outcome-fits, sound-entry}
 use Rattle.model_invariants.proofs.Decided.{find-has, request-byte, held-byte, new-byte}
 use Rattle.model_invariants.proofs.Formats.{parsed-request}

@@ -256,9 +256,9 @@ module _ (plan : List ℕ) {r : R.World} {b : B.World} (l : Both plan r b) (c : 
       (λ st long ok e f.
       let F = f refl in
       rw (F .one-plan) (from-server log st (F .uses) long
-      (λ k g start es mark q C K. same (sym (rw (F .one-plan) at e) ∙ by-log log (k .checkpoint) (ap (λ (x : B.Stored). x .checkpoint) q ∙ F .first) (in-force plan [] K (C .gives))))))
+      (λ k g start es mark q C K. same (sym (rw (F .one-plan) at e) ∙ by-log log (k .checkpoint) (ap (λ (x : B.Stored). x .checkpoint) q ∙ F .first) (in-force plan K (C .gives))))))
     where
-      by-log : (log : List ℕ) {now : State} (k : List ℕ) → k ≡ [] → recoveredBy plan [] k log ≡ some now → recoveredState (planOf plan) log ≡ some now
+      by-log : (log : List ℕ) {now : State} (k : List ℕ) → k ≡ [] → recoveredBy plan k log ≡ some now → recoveredState (planOf plan) log ≡ some now
       by-log log k e x = unfold recoveredBy in rw e at x
 
   pub recover-tail-alike : (k tail : List ℕ) → (recoverTailOf state k tail .answer .refusal ≡ noRefusal → RecoverTailOk (b .servers c) k tail)
@@ -272,4 +272,4 @@ module _ (plan : List ℕ) {r : R.World} {b : B.World} (l : Both plan r b) (c : 
       (λ st long e f.
       let F = f refl in
       from-server tail st (F .uses) long
-      (λ j g start es mark q C K. same (sym e ∙ in-force-slice plan [] K (C .gives) k (subst (λ (x : B.Stored). BP.Begins (x .checkpoint) k) (sym q) (F .begins)))))
+      (λ j g start es mark q C K. same (sym e ∙ in-force-slice plan K (C .gives) k (subst (λ (x : B.Stored). BP.Begins (x .checkpoint) k) (sym q) (F .begins)))))

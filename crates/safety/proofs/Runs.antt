@@ -62,7 +62,7 @@ count-from plan (y ∷ ys) b = ap suc (count-from plan ys (B.step b y))
 
 module _ (plan : List ℕ) (ys : List B.Event) (P : BP.Provisos plan ys) where
   abbrev At : ℕ → B.Event → Type 0
-  At n y = BP.At plan ys n y
+  At n y = BP.At ys n y
 
   allowed : (n : ℕ) (y : B.Event) → At n y → Allowed plan (B.after ys n) y
   allowed n y a =
@@ -88,11 +88,11 @@ module _ (plan : List ℕ) (ys : List B.Event) (P : BP.Provisos plan ys) where
       both-from plan ys (record { alike = record { servers = λ c. nothing; clients = refl; manager = refl; made = refl }; parties = empty-parties })
       (λ n y q. allowed n y q)
 
-  pub at-here : (n : ℕ) (y : B.Event) → At n y → RP.At plan (schedule plan ys) n (decoded plan (B.after ys n) y)
+  pub at-here : (n : ℕ) (y : B.Event) → At n y → RP.At (schedule plan ys) n (decoded plan (B.after ys n) y)
   unfolding B.after B.run RP.At BP.At
   at-here n y a = event-here plan ys B.emptyWorld n y a
 
-  pub at-back : (n : ℕ) (e : R.Event) → RP.At plan (schedule plan ys) n e → (y : B.Event) × At n y × Decodes plan (R.after (schedule plan ys) n) (B.after ys n) y e
+  pub at-back : (n : ℕ) (e : R.Event) → RP.At (schedule plan ys) n e → (y : B.Event) × At n y × Decodes plan (R.after (schedule plan ys) n) (B.after ys n) y e
   at-back n e a =
       let x : (y : B.Event) × At n y × (decoded plan (B.after ys n) y ≡ e) = unfold B.after B.run BP.At RP.At in event-back plan ys B.emptyWorld n e a in
       let y : B.Event = x .0 in

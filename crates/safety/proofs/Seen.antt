@@ -19,7 +19,7 @@ use Rattle.model.specs.States.{State}
 use Rattle.model.specs.Apply.{apply, applyRecord, applyExecuted, applyGone, applyGave, applyTook, applyReleased, withMark}
 use Rattle.model.specs.Decisions.{Decided, onSync}
 use Rattle.model.specs.Checkpoints.{placed}
-use Rattle.model_invariants.specs.Calls.{Operation, request, fetch, sync, notice, give, image, takeIn, receipt, release, decision}
+use Rattle.model.specs.Calls.{Operation, request, fetch, sync, notice, give, image, takeIn, receipt, release, decision}
 use Rattle.model_invariants.specs.Placed.{seenFrom, laterEntry, later, marksFrom}
 use Rattle.model_invariants.proofs.Calls.{sets-mark}
 use Rattle.model_invariants.proofs.Decided.{sync-passed}

@@ -1,31 +1,29 @@
--- A checkpoint made and stored leaves both worlds alike: over records nothing changes.
---     idle-alike               what changes a server over bytes alone
---     checkpoint-alike, store-alike
+-- A checkpoint made and stored, and a call that only reads, leave both worlds alike: over records nothing changes.
+--     checkpoint-alike, store-alike, look-alike
 -- Assumes nothing.
 use Prim.Native.Nat.{ℕ, _+_, _-_, _≤_}
 use mathlib.Core.Path.{_≡_, refl, sym, _∙_, ap, subst}
-use mathlib.Core.Bool.{Bool, true, false, _||_}
+use mathlib.Core.Bool.{Bool, true, false}
 use mathlib.Core.List.{List, [], _∷_, _++_, append-nil}
 use mathlib.Core.Option.{some}
 use native.Mathlib.Omega.{arith}
-use lib.Dec.{eqb, ltb}
+use lib.Dec.{eqb}
 use lib.ListN.{length, take, drop}
 use lib.Seq.{take-append-seam, length-front}
-use borrow.Author.Tests.{ltb-false, ne-eqb}
+use borrow.Author.Tests.{ne-eqb}
 use Rattle.model.specs.Choice.{pick}
-use Rattle.model.specs.Limits.{stateSize, headSize, checkpointSize}
+use Rattle.model.specs.Limits.{headSize}
 use Rattle.model.specs.Plan.{planOf}
 use Rattle.model.specs.Tables.{written}
 use Rattle.model.specs.Logs.{Entry, headBytes, entriesBytes}
 use Rattle.model.specs.States.{State, load, sound, stateEnd}
 use Rattle.model.specs.Apply.{founded, replayFrom, withMark}
 use Rattle.model.specs.Decisions.{Decided}
-use Rattle.model.specs.Operations.{answerOf, short, unfit, stored, recovered}
-use Rattle.model.specs.Checkpoints.{placed, endBefore, rebased, checkpointBytes, AfterCheckpoint, checkpointRefusal, checkpointOf}
-use Rattle.model.specs.Refusals.{tooShort, unsound, notSynced, noRefusal}
+use Rattle.model.specs.Operations.{After, stored, recovered}
+use Rattle.model.specs.Checkpoints.{placed, endBefore, rebased, checkpointBytes, AfterCheckpoint}
+use Rattle.model.specs.Refusals.{noRefusal}
 use Rattle.model_laws.specs.Bytes.{All}
 use Rattle.model_laws.specs.Fits.{EntriesFrom, lastEnd}
-use Rattle.model_laws.proofs.Tests.{choose}
 use Rattle.model_laws.proofs.Tables.{all-append}
 use Rattle.model_laws.proofs.Numbers.{bytes-drop}
 use Rattle.model_laws.proofs.Written.{written-front}
@@ -33,14 +31,15 @@ use Rattle.model_invariants.specs.Sound.{Sound}
 use Rattle.model_invariants.specs.History as History
 use Rattle.model_invariants.specs.Calls as Limits
 use Rattle.model_invariants.specs.Placed.{local, seenFrom, later}
+use Rattle.model_invariants.specs.Passed.{PassedCheckpoint}
 use Rattle.model_invariants.proofs.Recovery.{recovers}
 use Rattle.model_invariants.proofs.Crash.{decided-from}
-use Rattle.model_invariants.proofs.Decided.{or-left-no, or-right-no}
 use Rattle.model_invariants.proofs.Loaded.{stored-sound, stored-load}
 use Rattle.model_invariants.proofs.Placed.{placed-placed, placed-any}
 use Rattle.model_invariants.proofs.Seen.{rebased-whole}
 use Rattle.model_invariants.proofs.TailEquals.{rebase-mark}
 use Rattle.model_invariants.proofs.Checkpoints.{rebased-sound64, checkpoint-fits}
+use Rattle.model_invariants.proofs.TailCalls.{checkpoint-elim}
 use Rattle.claim.specs.World.{withServer, lentState, lentLog}
 use Rattle.claim.specs.World as B
 use Rattle.claim.specs.RecordWorld as R
@@ -49,7 +48,7 @@ use Rattle.safety.specs.Alike.{LocalAlike, stored as storedState, Contin
 use Rattle.safety.proofs.Facts.{held, holds-sound, holds-size}
 use Rattle.safety.proofs.Crashes.{holds-kept}
 use Rattle.safety.proofs.Tails.{Whole, whole-recovers}
-use Rattle.safety.proofs.Calls.{length-stored, stored-bytes, lent-load, lent-bytes}
+use Rattle.safety.proofs.Calls.{length-stored, stored-bytes, same-state, same-log, lent-load, lent-bytes}
 use Rattle.safety.proofs.Called.{idle-server, refused-call}
 use Rattle.safety.proofs.Restarts.{both-server}
 use Rattle.safety.proofs.Worlds.{running-mark, running-size}
@@ -87,44 +86,8 @@ early-more m n h (e ∷ es) a = (omega (arith, h, a .0), early-more m n h es (a 
 
 -- ---- what a checkpoint leaves
 
--- the tests are passed
-pub record Passes (state log checkpoint tail : List ℕ) : Type 0 where
-  pub whole : stateSize ≤ length state
-  pub room : checkpointSize ≤ length checkpoint
-  pub head : headSize ≤ length tail
-  pub synced : load state .size ≤ load state .mark
-
-module _ (state log k tail : List ℕ) where
-  abbrev pub made : AfterCheckpoint
-  made =
-      record {
-        answer = answerOf noRefusal (length (checkpointBytes (load state)));
-        state = stored state (rebased (load state));
-        checkpoint = written k 0 (checkpointBytes (load state));
-        tail = written tail 0 (headBytes (load state .server));
-      }
-
-  pub checkpoint-elim : (P : AfterCheckpoint → Type 0) → ((n : ℕ) → 1 ≤ n → P (record { answer = answerOf n 0; state = state; checkpoint = k; tail = tail }))
-      → (Passes state log k tail → P made) → P (checkpointOf state log k tail)
-  unfolding checkpointOf checkpointRefusal short unfit
-  checkpoint-elim P refused passed =
-      let left : ℕ → AfterCheckpoint = λ (n : ℕ). pick (eqb n 0) made (record { answer = answerOf n 0; state = state; checkpoint = k; tail = tail }) in
-      choose (λ (n : ℕ). P (left n)) (ltb (length state) stateSize || (ltb (length k) checkpointSize || ltb (length tail) headSize)) (λ e. refused tooShort (omega arith))
-      (λ e.
-      choose (λ (n : ℕ). P (left n)) (unfit state log) (λ f. refused unsound (omega arith))
-      (λ f.
-      choose (λ (n : ℕ). P (left n)) (ltb (load state .mark) (load state .size)) (λ g. refused notSynced (omega arith))
-      (λ g.
-      let i = or-right-no (ltb (length state) stateSize) (ltb (length k) checkpointSize || ltb (length tail) headSize) e in
-      passed (record {
-        whole = ltb-false _ _ (or-left-no (ltb (length state) stateSize) (ltb (length k) checkpointSize || ltb (length tail) headSize) e);
-        room = ltb-false _ _ (or-left-no (ltb (length k) checkpointSize) (ltb (length tail) headSize) i);
-        head = ltb-false _ _ (or-right-no (ltb (length k) checkpointSize) (ltb (length tail) headSize) i);
-        synced = ltb-false _ _ g;
-      }))))
-
 module _ {plan : List ℕ} {c : ℕ} {st : State} {log : R.Log} {k : B.Stored} {state bytes : List ℕ} (K : RunningAlike plan c st log k state bytes) (t : B.Lent) (tail : List ℕ)
-    (P : Passes (lentState t state) (lentLog t bytes) (t .out) tail) where
+    (P : PassedCheckpoint (lentState t state) (t .out) tail) where
   abbrev front : List ℕ
   front = lentState t state
 
@@ -273,17 +236,6 @@ module _ {plan : List ℕ} {c : ℕ} {st : State} {log : R.Log} {k : B.Stored} {
 
 -- ---- the worlds
 
--- over records nothing changes
-pub idle-alike : {plan : List ℕ} {r : R.World} {b : B.World} → Both plan r b → (c : ℕ) (d : State → ℕ → Decided) → Both plan (R.calls c 0 d (r .servers c) r) b
-unfolding R.calls
-idle-alike {plan} {r} {b} l c d = go (r .servers c) (b .servers c) (l .alike .servers c) (l .alike .servers c)
-  where
-    go : (x : R.Server) (y : B.Server) → ServerAlike plan c x y → ServerAlike plan c x (b .servers c) → Both plan (R.calls c 0 d x r) b
-    go x y nothing k = l
-    go x y (running {st = st} {log = log} K) k = rw (refused-call c d st log r (omega (arith, K .past, K .mark))) (idle-server l c (R.running st log) k)
-    go x y (storing {st = st} {log = log} K e L) k = rw (refused-call c d st log r (omega (arith, K .past, K .mark))) (idle-server l c (R.running st log) k)
-    go x y (crashed K) k = l
-
 module _ {plan : List ℕ} {r : R.World} {b : B.World} (l : Both plan r b) (c : ℕ) (d : State → ℕ → Decided) where
   -- a server that runs over records becomes another over bytes
   becomes : {st : State} {log : R.Log} (t : B.Server) → 1 ≤ st .size → ServerAlike plan c (R.running st log) t → Both plan (R.calls c 0 d (R.running st log) r) (withServer c t b)
@@ -330,3 +282,23 @@ module _ {plan : List ℕ} {r : R.World} {b : B.World} (l : Both plan r b) (c : 
       go x y (storing {st = st} {log = log} K e L) k =
           unfold B.checkpoints in rw (refused-call c d st log r (omega (arith, K .past, K .mark))) (idle-server l c (R.running st log) k)
       go x y (crashed K) k = unfold B.checkpoints in l
+
+  -- a call that only reads
+  pub look-alike : (t : B.Lent) (f : List ℕ → List ℕ → ℕ) → Both plan (R.calls c 0 d (r .servers c) r) (B.calls c t (λ s g. B.looked (f s g) s g (t .out)) (b .servers c) b)
+  unfolding R.calls B.calls B.looked B.making
+  look-alike t f = go (r .servers c) (b .servers c) (l .alike .servers c) (l .alike .servers c)
+    where
+      reads : {st : State} {log : R.Log} {k : B.Stored} {state bytes : List ℕ} → RunningAlike plan c st log k state bytes
+          → Both plan (R.calls c 0 d (R.running st log) r) (B.calls c t (λ s g. B.looked (f s g) s g (t .out)) (B.running k state bytes) b)
+      reads {k = k} {state = state} {bytes = bytes} K =
+          let own : R.Log = record { number = 0; entries = K .tail } in
+          let here : LocalAlike (K .start) (load state) own state bytes = record { holds = K .holds; loads = refl } in
+          let a : After = B.looked (f (lentState t state) (lentLog t bytes)) (lentState t state) (lentLog t bytes) (t .out) in
+          rw (same-state {log = own} here t a refl, same-log {log = own} here t a refl refl) (becomes (B.running k state bytes) (omega (arith, K .past, K .mark)) (running K))
+
+      go : (x : R.Server) (y : B.Server) → ServerAlike plan c x y → ServerAlike plan c x (b .servers c)
+          → Both plan (R.calls c 0 d x r) (B.calls c t (λ s g. B.looked (f s g) s g (t .out)) y b)
+      go x y nothing k = l
+      go x y (running K) k = reads K
+      go x y (storing {st = st} {log = log} K e L) k = rw (refused-call c d st log r (omega (arith, K .past, K .mark))) (idle-server l c (R.running st log) k)
+      go x y (crashed K) k = l

@@ -142,7 +142,7 @@ by-tail {start} {made} {es} {kept} S e K rest =
     let x = on-start K in
     rw (checkpoint-back made S rest, ← e, x .1, eq-eqb (start .server) (start .server) refl) (x .0)
 
-module _ (plan : List ℕ) (ys : List B.Event) {start : State} {es : List Entry} {kept : List ℕ} {mark : ℕ} (K : Kept start es kept mark) where
+module _ (plan : List ℕ) {start : State} {es : List Entry} {kept : List ℕ} {mark : ℕ} (K : Kept start es kept mark) where
   -- by the founding
   by-plan : (c : ℕ) → start ≡ founded (planOf plan) c → recoveredState (planOf plan) kept ≡ some (replayFrom start es)
   unfolding recoveredState founded
@@ -152,12 +152,12 @@ module _ (plan : List ℕ) (ys : List B.Event) {start : State} {es : List Entry}
       rw (n, ← e) (x .0)
 
   -- a checkpoint is not empty
-  by-checkpoint : (s : List ℕ) → recoveredTail s kept ≡ some (replayFrom start es) → recoveredBy plan ys s kept ≡ some (replayFrom start es)
+  by-checkpoint : (s : List ℕ) → recoveredTail s kept ≡ some (replayFrom start es) → recoveredBy plan s kept ≡ some (replayFrom start es)
   unfolding recoveredBy recoveredTail checkpointState checkpointFramed
   by-checkpoint [] e = let z : _≡_ {A = ℕ} 0 1 = cc in absurd (omega arith)
   by-checkpoint (x ∷ s) e = e
 
-  pub in-force : {c : ℕ} {checkpoint : List ℕ} → InForce plan c start checkpoint → recoveredBy plan ys checkpoint kept ≡ some (replayFrom start es)
+  pub in-force : {c : ℕ} {checkpoint : List ℕ} → InForce plan c start checkpoint → recoveredBy plan checkpoint kept ≡ some (replayFrom start es)
   in-force {c} (first e) = unfold recoveredBy in by-plan c e
   in-force (stored {made = made} S e) =
       by-checkpoint (checkpointBytes made) (ap (λ (s : List ℕ). recoveredTail s kept) (sym (append-nil (checkpointBytes made))) ∙ by-tail S e K [])
@@ -172,29 +172,29 @@ module _ (plan : List ℕ) (ys : List B.Event) {start : State} {es : List Entry}
 
 -- ---- what servers come to
 
-module _ {plan : List ℕ} (ys : List B.Event) {c : ℕ} {k : B.Stored} {log : R.Log} {start : State} {es : List Entry} (C : Continues plan c k log start es) where
-  pub kept-shown : {kept : List ℕ} {mark : ℕ} → Kept start es kept mark → Shown (recoveredBy plan ys (k .checkpoint) kept) (R.recoveredFrom plan log)
+module _ {plan : List ℕ} {c : ℕ} {k : B.Stored} {log : R.Log} {start : State} {es : List Entry} (C : Continues plan c k log start es) where
+  pub kept-shown : {kept : List ℕ} {mark : ℕ} → Kept start es kept mark → Shown (recoveredBy plan (k .checkpoint) kept) (R.recoveredFrom plan log)
   kept-shown K =
       let W = whole-recovers C K in
-      rw (in-force plan ys K (C .gives), W .recovers, W .seen) (both (k .replaced) (W .state))
+      rw (in-force plan K (C .gives), W .recovers, W .seen) (both (k .replaced) (W .state))
 
   -- the synced part is what a crash at the mark would keep
   pub synced-shown : {kept : List ℕ} {mark : ℕ} → Kept start es kept mark
-      → Shown (recoveredBy plan ys (k .checkpoint) (take mark kept)) (R.recoveredFrom plan (R.cutAt (k .replaced + mark) log))
+      → Shown (recoveredBy plan (k .checkpoint) (take mark kept)) (R.recoveredFrom plan (R.cutAt (k .replaced + mark) log))
   synced-shown {kept} {mark} K = kept-shown-cut (crash-again K mark (omega arith) (K .within))
     where
       kept-shown-cut : Kept start (keptEntries mark es) (take mark kept) mark
-          → Shown (recoveredBy plan ys (k .checkpoint) (take mark kept)) (R.recoveredFrom plan (R.cutAt (k .replaced + mark) log))
+          → Shown (recoveredBy plan (k .checkpoint) (take mark kept)) (R.recoveredFrom plan (R.cutAt (k .replaced + mark) log))
       kept-shown-cut L =
           let D = cut-continues C mark (K .head) in
           let W = whole-recovers D L in
-          rw (in-force plan ys L (C .gives), W .recovers, W .seen) (both (k .replaced) (W .state))
+          rw (in-force plan L (C .gives), W .recovers, W .seen) (both (k .replaced) (W .state))
 
-module _ {plan : List ℕ} (ys : List B.Event) {c : ℕ} {log : R.Log} {size mark : ℕ} {k : B.Stored} {kept : List ℕ} {keptMark : ℕ}
+module _ {plan : List ℕ} {c : ℕ} {log : R.Log} {size mark : ℕ} {k : B.Stored} {kept : List ℕ} {keptMark : ℕ}
     (K : CrashedAlike plan c log size mark k kept keptMark) where
-  pub recovered-shown : Shown (recoveredBy plan ys (k .checkpoint) kept) (R.recoveredFrom plan log)
-  recovered-shown = kept-shown ys (K .continues) (K .keeps)
+  pub recovered-shown : Shown (recoveredBy plan (k .checkpoint) kept) (R.recoveredFrom plan log)
+  recovered-shown = kept-shown (K .continues) (K .keeps)
 
-  pub recovered-some : (st : State) × (recoveredBy plan ys (k .checkpoint) kept ≡ some st) × Sound st
+  pub recovered-some : (st : State) × (recoveredBy plan (k .checkpoint) kept ≡ some st) × Sound st
   recovered-some =
-      (replayFrom (K .start) (K .tail), in-force plan ys (K .keeps) (K .continues .gives), recovers (K .keeps .from) (K .tail) (K .keeps .decided) .sound)
+      (replayFrom (K .start) (K .tail), in-force plan (K .keeps) (K .continues .gives), recovers (K .keeps .from) (K .tail) (K .keeps .decided) .sound)

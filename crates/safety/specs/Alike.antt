@@ -20,7 +20,7 @@ use Rattle.model.specs.Checkpoints.{rebased, checkpointBytes}
 use Rattle.model.specs.Refusals.{noRefusal}
 use Rattle.model_laws.specs.Bytes.{Bytes, All}
 use Rattle.model_invariants.specs.Sound.{Sound}
-use Rattle.model_invariants.specs.Calls.{Operation, request, fetch, sync, notice, give, image, takeIn, receipt, release}
+use Rattle.model.specs.Calls.{OperationOf, request, fetch, sync, notice, give, image, takeIn, receipt, release}
 use Rattle.model_invariants.specs.Placed.{seenFrom, later}
 use Rattle.safety.specs.Holds.{Holds, Kept}
 use Rattle.claim.specs.World as B
@@ -102,7 +102,7 @@ pub record LeftAlike (start : State) (t : B.Lent) (state bytes : List ℕ) (a : 
   pub server : LocalAlike start (x .state) (x .log) (B.stateBack t state a) (B.logBack t state bytes a)
 
 -- an operation as the whole log has it: a mark is counted from the founding
-unfoldable pub whole : ℕ → Operation → Operation
+unfoldable pub whole : {P : Type 0} → ℕ → OperationOf P → OperationOf P
 whole b (request v packet) = request v packet
 whole b (fetch client call) = fetch client call
 whole b (sync mark) = sync (b + mark)

@@ -8,6 +8,7 @@ use Rattle.model.specs.Versions.{Versions}
 use Rattle.model.specs.Limits.{resultSize}
 use Rattle.model.specs.Operations.{foundOf, recoverOf}
 use Rattle.model.specs.Checkpoints.{recoverTailOf}
+use Rattle.model.specs.Calls.{request}
 use Rattle.model.specs.Refusals.{noRefusal}
 use Rattle.claim.specs.World.{Lent, OutsideCall, start}
 use Rattle.claim.specs.World as B
@@ -39,6 +40,6 @@ pub record Allowed (plan : List ℕ) (w : B.World) (y : B.Event) : Type 0 where
 pub record Decodes (plan : List ℕ) (r : R.World) (b : B.World) (y : B.Event) (e : R.Event) : Type 0 where
   pub provided : Provided plan r e
   pub crashes : (c n : ℕ) → e ≡ R.crash c n → (k : ℕ) × (y ≡ B.crash c k) × (n ≡ B.storedOf (b .servers c) .replaced + k)
-  pub requests : (c p : ℕ) (vs : Versions) (room : ℕ) → e ≡ R.request c p vs room
-      → (t : Lent) × (y ≡ B.request c p vs t) × (room ≡ roomOf (b .servers c) t (t .out) resultSize)
+  pub requests : (c p : ℕ) (vs : Versions) (room : ℕ) → e ≡ R.call c (request vs p) room
+      → (t : Lent) × (y ≡ B.call c (request vs p) t) × (room ≡ roomOf (b .servers c) t (t .out) resultSize)
   pub outsides : (o : OutsideCall) → e ≡ R.outside o → y ≡ B.outside o

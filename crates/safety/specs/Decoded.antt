@@ -6,13 +6,16 @@ use mathlib.Core.List.{List, [], _∷_}
 use lib.Dec.{eqb}
 use lib.ListN.{length}
 use Rattle.model.specs.Choice.{pick}
-use Rattle.model.specs.Limits.{stateSize, resultSize, receiptSize, greatestImage}
+use Rattle.model.specs.Limits.{stateSize}
 use Rattle.model.specs.Operations.{After, short, foundOf, recoverOf}
 use Rattle.model.specs.Checkpoints.{recoverTailOf}
+use Rattle.model.specs.Calls.{fetch}
 use Rattle.model.specs.Refusals.{noRefusal}
+use Rattle.model_invariants.specs.Calls.{outputSize, output}
 use Rattle.claim.specs.World.{Lent, lentState, lentLog}
 use Rattle.claim.specs.World as B
 use Rattle.claim.specs.RecordWorld as R
+use Rattle.safety.specs.Alike.{whole}
 
 -- the length of the log slice; 0 where state or output are too short, so that the call is refused
 unfoldable pub roomIn : Lent → List ℕ → List ℕ → List ℕ → ℕ → ℕ
@@ -31,7 +34,7 @@ placeOf s n = B.storedOf s .replaced + n
 
 -- a call that is refused: the event over records of what leaves a whole log as it is
 abbrev pub idle : ℕ → R.Event
-idle c = R.fetch c 0 0 0
+idle c = R.call c (fetch 0 0) 0
 
 -- the plan; none where found or recover is refused, so that it is refused
 unfoldable pub planIf : After → List ℕ → List ℕ
@@ -40,20 +43,12 @@ planIf a p = pick (eqb (a .answer .refusal) noRefusal) p []
 -- the event of the byte world w. A server that stores a checkpoint takes no call
 unfoldable pub decoded : List ℕ → B.World → B.Event → R.Event
 decoded plan w (B.found c state log p n) = R.found c (planIf (foundOf state log p n) p) n
-decoded plan w (B.request c p vs t) = R.request c p vs (roomOf (w .servers c) t (t .out) resultSize)
-decoded plan w (B.fetch c x k t) = R.fetch c x k (roomOf (w .servers c) t (t .out) resultSize)
-decoded plan w (B.sync c m t) = R.sync c (placeOf (w .servers c) m) (roomOf (w .servers c) t [] 0)
-decoded plan w (B.notice c p t) = R.notice c p (roomOf (w .servers c) t [] 0)
-decoded plan w (B.give c p d t) = R.give c p d (roomOf (w .servers c) t [] 0)
-decoded plan w (B.image c p t) = R.image c p (roomOf (w .servers c) t (t .out) greatestImage)
-decoded plan w (B.take·image c p t) = R.take·image c p (roomOf (w .servers c) t [] 0)
-decoded plan w (B.receipt c p t) = R.receipt c p (roomOf (w .servers c) t (t .out) receiptSize)
-decoded plan w (B.release c p t) = R.release c p (roomOf (w .servers c) t [] 0)
+decoded plan w (B.call c o t) = R.call c (whole (B.storedOf (w .servers c) .replaced) o) (roomOf (w .servers c) t (output o (t .out)) (outputSize o))
+decoded plan w (B.inquire c i t) = idle c
 decoded plan w (B.recover c state log p) = R.recover c (planIf (recoverOf state log p) p)
 decoded plan w (B.checkpoint c tail t) = idle c
 decoded plan w (B.store c) = idle c
 decoded plan w (B.recover·tail c state k tail) = R.recover c (planIf (recoverTailOf state k tail) plan)
-decoded plan w (B.inspect c x k) = idle c
 decoded plan w (B.crash c k) = R.crash c (placeOf (w .servers c) k)
 decoded plan w (B.outside e) = R.outside e
 
@@ -65,19 +60,3 @@ decodedFrom plan w (y ∷ ys) = decoded plan w y ∷ decodedFrom plan (B.step w 
 -- a whole schedule
 abbrev pub schedule : List ℕ → List B.Event → List R.Event
 schedule plan ys = decodedFrom plan B.emptyWorld ys
-
--- found, requests, recover, crashes and calls outside the servers; 5 is every other event
-unfoldable pub kind : R.Event → ℕ
-kind (R.found c plan n) = 0
-kind (R.request c p vs room) = 1
-kind (R.fetch c x k room) = 5
-kind (R.sync c m room) = 5
-kind (R.notice c p room) = 5
-kind (R.give c p d room) = 5
-kind (R.image c p room) = 5
-kind (R.take·image c p room) = 5
-kind (R.receipt c p room) = 5
-kind (R.release c p room) = 5
-kind (R.recover c plan) = 2
-kind (R.crash c k) = 3
-kind (R.outside e) = 4

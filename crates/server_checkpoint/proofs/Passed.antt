@@ -84,12 +84,12 @@ module _ (s log : List ℕ) (n t : ℕ) where
 -- ---- the call
 
 module _ (s log c t : List ℕ) {k : ℕ} (p : k ≡ checkpointRefusal s log (length c) (length t)) where
-  pub by-refused : (k ≡ noRefusal → ⊥) → {r : Answer} → r ≡ answerOf k 0 → afterCheckpoint r s c t ≡ checkpointOf s log c t
+  pub by-refused : (k ≡ noRefusal → ⊥) → {r : Answer} → r ≡ answerOf k 0 → afterCheckpoint r s log c t ≡ checkpointOf s log c t
   unfolding checkpointOf
   by-refused z e = rw (e, ← p, ne-eqb k noRefusal z)
 
   module _ (z : k ≡ noRefusal) where
-    pub by-passed : {a : AfterCheckpoint} → a ≡ checkpointTaken s c t → a ≡ checkpointOf s log c t
+    pub by-passed : {a : AfterCheckpoint} → a ≡ checkpointTaken s log c t → a ≡ checkpointOf s log c t
     unfolding checkpointOf checkpointTaken
     by-passed e = rw (e, ← p, z)
 

@@ -31,7 +31,7 @@ module _ (s c : List ℕ) (h : Bytes s) (d : Sound s) (l : checkpointSize ≤ le
       let S = loaded-sound s h (is-sound s d) in
       rw (q, written-front c (checkpointBytes (load s)) (omega (arith, checkpoint-fits (load s) S))) (framed-back (load s) S (drop (length (checkpointBytes (load s))) c))
 
-  pub taken : (t : List ℕ) {n m : ℕ} {r : Answer} {s' t' : List ℕ} → n ≡ length (checkpointBytes (load s)) → r ≡ answerOf noRefusal n → s' ≡ written s 0 (restoredBytes c') → m ≡ load s .server
-      → t' ≡ written t 0 (headBytes m) → afterCheckpoint r s' c' t' ≡ checkpointTaken s c t
+  pub taken : (t g : List ℕ) {n m : ℕ} {r : Answer} {s' t' : List ℕ} → n ≡ length (checkpointBytes (load s)) → r ≡ answerOf noRefusal n → s' ≡ written s 0 (restoredBytes c') → m ≡ load s .server
+      → t' ≡ written t 0 (headBytes m) → afterCheckpoint r s' g c' t' ≡ checkpointTaken s g c t
   unfolding checkpointTaken
-  taken t size answer state server tail = rw (answer, size, state, tail, server, q, state-checkpoint s c h (is-sound s d) l)
+  taken t g size answer state server tail = rw (answer, size, state, tail, server, q, state-checkpoint s c h (is-sound s d) l)

@@ -11,10 +11,10 @@ use Rattle.model.specs.States.{load}
 use Rattle.model.specs.Operations.{answerOf, stored}
 use Rattle.model.specs.Checkpoints.{AfterCheckpoint, rebased, checkpointBytes}
 
-abbrev pub afterCheckpoint : Answer → List ℕ → List ℕ → List ℕ → AfterCheckpoint
-afterCheckpoint a s c t = record { answer = a; state = s; checkpoint = c; tail = t }
+abbrev pub afterCheckpoint : Answer → List ℕ → List ℕ → List ℕ → List ℕ → AfterCheckpoint
+afterCheckpoint a s l c t = record { answer = a; state = s; log = l; checkpoint = c; tail = t }
 
-unfoldable pub checkpointTaken : List ℕ → List ℕ → List ℕ → AfterCheckpoint
-checkpointTaken s c t =
-    afterCheckpoint (answerOf noRefusal (length (checkpointBytes (load s)))) (stored s (rebased (load s))) (written c 0 (checkpointBytes (load s)))
+unfoldable pub checkpointTaken : List ℕ → List ℕ → List ℕ → List ℕ → AfterCheckpoint
+checkpointTaken s l c t =
+    afterCheckpoint (answerOf noRefusal (length (checkpointBytes (load s)))) (stored s (rebased (load s))) l (written c 0 (checkpointBytes (load s)))
     (written t 0 (headBytes (load s .server)))

@@ -3,7 +3,8 @@ use model::Answer;
 use model::constants;
 use state_rows::state;
 ghost use mathlib.Core.Path.{_≡_};
-ghost use Prim.Native.Nat.{_≤_};
+ghost use Prim.Native.Nat.{ℕ, _≤_};
+ghost use mathlib.Core.List.{List};
 ghost use lib.ListN.{length};
 ghost use Rattle.model.specs.Limits.{headSize, checkpointSize};
 ghost use Rattle.model.specs.Checkpoints.{checkpointRefusal, checkpointOf};
@@ -29,10 +30,11 @@ fn checkpoint_refusal(s: &[u8], log: &[u8], checkpoints: usize, tails: usize) ->
     constants::NO_REFUSAL
 }
 
-// The checkpoint of a sound state, and from it the state that the tail starts with.
+// The checkpoint of a sound state, and from it the state that the tail starts with, beside whatever log.
 fn checkpoint_done(s: &mut [u8], checkpoint: &mut [u8], tail: &mut [u8]) -> Answer
     requires { ⌜ (Sound (now s)) × (checkpointSize ≤ length (now checkpoint)) × (headSize ≤ length (now tail)) ⌝ }
-    ensures { λ r. ⌜ afterCheckpoint r (now (s .exit)) (now (checkpoint .exit)) (now (tail .exit)) ≡ checkpointTaken (now (s .entry)) (now (checkpoint .entry)) (now (tail .entry)) ⌝ }
+    ensures { λ r. ⌜ ((g : List ℕ) → afterCheckpoint r (now (s .exit)) g (now (checkpoint .exit)) (now (tail .exit))
+        ≡ checkpointTaken (now (s .entry)) g (now (checkpoint .entry)) (now (tail .entry))) ⌝ }
 {
     let server = state::server_of(s);
     let n = state_checkpoint::write_checkpoint(checkpoint, s);
@@ -43,7 +45,7 @@ fn checkpoint_done(s: &mut [u8], checkpoint: &mut [u8], tail: &mut [u8]) -> Answ
 
 // 2; 19; 7; else the checkpoint, the tail's head, and the state that starts from both. The log is only measured.
 pub fn checkpoint(state: &mut [u8], log: &[u8], checkpoint: &mut [u8], tail: &mut [u8]) -> Answer
-    ensures { λ r. ⌜ afterCheckpoint r (now (state .exit)) (now (checkpoint .exit)) (now (tail .exit))
+    ensures { λ r. ⌜ afterCheckpoint r (now (state .exit)) (now (log .entry)) (now (checkpoint .exit)) (now (tail .exit))
         ≡ checkpointOf (now (state .entry)) (now (log .entry)) (now (checkpoint .entry)) (now (tail .entry)) ⌝ }
 {
     let n = checkpoint_refusal(state, log, checkpoint.len(), tail.len());

@@ -3,11 +3,12 @@
 --     held-within, held-at      another's rows lie within it; the place of one of them
 -- Assumes nothing.
 use Prim.Native.Nat.{ℕ, _+_, _*_, _≤_}
-use mathlib.Core.Path.{_≡_, sym, _∙_}
-use mathlib.Core.List.{List, [], _∷_}
+use mathlib.Core.Path.{_≡_, _∙_}
+use mathlib.Core.List.{List}
 use native.Mathlib.Omega.{arith}
 use lib.ListN.{length, drop}
 use lib.Dec.{ltb}
+use borrow.Author.Tests.{lt-leb}
 use Rattle.model.specs.declared.Place.{Place}
 use Rattle.model.specs.Choice.{pick}
 use Rattle.model.specs.Refusals.{unknown}
@@ -15,12 +16,11 @@ use Rattle.model.specs.Limits.{entryRow}
 use Rattle.model.specs.Checkpoints.{recordsPart, clientsOf, recordsOf, fronts, inCheckpoint, placeAt, noPlace, indexOf, placeInCheckpoint}
 use Rattle.model_laws.proofs.Checkpoints.{Framed}
 use Rattle.server_inspect.specs.Places.{isRowId}
-use Rattle.server_inspect.proofs.Empty.{empty-place}
 use Rattle.server_inspect.proofs.Kept.{kept-place}
 
-pub held-nowhere : (t : List ℕ) (x c : ℕ) → 1 ≤ x → length t ≡ 0 → {r : Place} → r ≡ noPlace unknown → r ≡ placeInCheckpoint x c t
-held-nowhere [] x c h e q = q ∙ sym (empty-place x c h)
-held-nowhere (b ∷ t) x c h e q = absurd (omega arith)
+pub held-nowhere : (t : List ℕ) (x c : ℕ) → length t ≡ 0 → {r : Place} → r ≡ noPlace unknown → r ≡ placeInCheckpoint x c t
+unfolding placeInCheckpoint
+held-nowhere t x c e q = rw (lt-leb 1 (length t) (omega (arith, e))) q
 
 module _ {t : List ℕ} (w : Framed t) where
   pub held-within : {m n : ℕ} → m ≡ recordsOf t → n ≡ clientsOf t → recordsPart n + entryRow * m ≤ length t

@@ -10,6 +10,7 @@ use native.Mathlib.Nat.{mul-suc}
 use lib.ListN.{length, drop, replicate, length-drop}
 use lib.Seq.{drop-at}
 use lib.Dec.{ltb}
+use borrow.Author.Tests.{le-leb}
 use Rattle.model.specs.Choice.{pick}
 use Rattle.model.specs.Refusals.{unknown}
 use Rattle.model.specs.Numbers.{le32At}
@@ -76,4 +77,4 @@ module _ (t : List ℕ) (w : Framed t) where
   pub kept-place : (x c : ℕ) {i : ℕ} → i ≡ indexOf (isRowId x c) own
       → pick (ltb i m) (placeAt inCheckpoint (recordsPart n + entryRow * i) entryRow) (noPlace unknown) ≡ placeInCheckpoint x c t
   unfolding placeInCheckpoint placeAmong
-  kept-place x c e = rw (kept-count, kept-index x c, ← e)
+  kept-place x c e = rw (le-leb 1 (length t) (omega (arith, w .whole)), kept-count, kept-index x c, ← e)

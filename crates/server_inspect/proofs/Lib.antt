@@ -1,7 +1,6 @@
 -- Laws that the proofs of `server_inspect` cite.
 pub mod Rows
 pub mod Latest
-pub mod Empty
 pub mod Kept
 pub mod Refusing
 pub mod Holding

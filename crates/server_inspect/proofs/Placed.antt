@@ -7,14 +7,14 @@
 -- Assumes nothing.
 use Prim.Native.Nat.{ℕ, _+_, _*_, _≤_, _<_}
 use mathlib.Core.Path.{_≡_, refl, sym, ap, _∙_}
-use mathlib.Core.Bool.{Bool, true, false, _&&_}
+use mathlib.Core.Bool.{Bool, true, _&&_}
 use mathlib.Core.List.{List, [], _∷_}
 use mathlib.Core.Option.{Option, none, some}
 use native.Mathlib.Omega.{arith}
 use lib.ListN.{length, drop}
 use lib.Seq.{length-take-le}
-use lib.Dec.{eqb, ltb}
-use borrow.Author.Tests.{eqb-true, ltb-true, ltb-false}
+use lib.Dec.{eqb, leb, ltb}
+use borrow.Author.Tests.{eqb-true, leb-true, ltb-true}
 use Rattle.model.specs.declared.Place.{Place}
 use Rattle.model.specs.Choice.{pick, orElse, isPassed}
 use Rattle.model.specs.Refusals.{unknown, noRefusal}
@@ -38,8 +38,7 @@ use Rattle.format_log_ends.proofs.Walked.{ends-from-off, ends-from-cut, ends-fr
 use Rattle.model_laws.proofs.Checkpoints.{Framed, framed-is}
 use Rattle.server_inspect.specs.Inspected.{Inside}
 use Rattle.server_inspect.proofs.Kept.{kept-count}
-use Rattle.server_inspect.proofs.Holding.{held-nowhere}
-use Rattle.server_inspect.proofs.Refusing.{usable, client-known, Passed, passed-tests, ends-some}
+use Rattle.server_inspect.proofs.Refusing.{usable, Passed, passed-tests, ends-some}
 
 module _ (checkpoint tail : List ℕ) where
   pub placed-none : (n : ℕ) → Inside checkpoint tail (noPlace n)
@@ -99,16 +98,14 @@ module _ (checkpoint tail : List ℕ) where
 
   -- ---- the checkpoint
 
-  pub placed-entry : (x c : ℕ) → 1 ≤ x → (1 ≤ length checkpoint → checkpointFramed checkpoint ≡ true) → Inside checkpoint tail (placeInCheckpoint x c checkpoint)
+  pub placed-entry : (x c : ℕ) → (1 ≤ length checkpoint → checkpointFramed checkpoint ≡ true) → Inside checkpoint tail (placeInCheckpoint x c checkpoint)
   unfolding placeInCheckpoint
-  placed-entry x c h u = go (ltb 0 (length checkpoint)) refl
-    where
-      go : (b : Bool) → ltb 0 (length checkpoint) ≡ b → Inside checkpoint tail (placeInCheckpoint x c checkpoint)
-      go true e =
-          let w : Framed checkpoint = framed-is checkpoint (u (ltb-true 0 (length checkpoint) e)) in
-          placed-among (isId x c) (load (restored checkpoint) .records) inCheckpoint (recordsPart (clientsOf checkpoint)) (noPlace unknown)
-          (rw (kept-count checkpoint w) (w .whole)) (placed-none unknown)
-      go false e = rw (← held-nowhere checkpoint x c h (omega (arith, ltb-false 0 (length checkpoint) e)) refl) (placed-none unknown)
+  placed-entry x c u =
+      choose (Inside checkpoint tail) (leb 1 (length checkpoint))
+      (λ e.
+      let w : Framed checkpoint = framed-is checkpoint (u (leb-true 1 (length checkpoint) e)) in
+      placed-among (isId x c) (load (restored checkpoint) .records) inCheckpoint (recordsPart (clientsOf checkpoint)) (noPlace unknown)
+      (rw (kept-count checkpoint w) (w .whole)) (placed-none unknown)) (λ e. placed-none unknown)
 
 -- ---- the answer
 
@@ -122,7 +119,7 @@ module _ (state checkpoint tail : List ℕ) (x c : ℕ) where
       let front : length log ≡ load state .size = unfold tailOf in length-take-le (load state .size) tail (p .fit .logged) in
       let bytes : Bytes log = unfold tailOf in bytes-take (load state .size) tail d in
       placed-log checkpoint tail log bytes (omega (arith, front, p .fit .logged)) x c es headSize (placeInCheckpoint x c checkpoint) (ends-some log es q)
-      (placed-entry checkpoint tail x c (client-known state b (p .fit .sound) x c (p .there)) (usable checkpoint tail (p .good)))
+      (placed-entry checkpoint tail x c (usable checkpoint tail (p .good)))
 
   pub inspect-inside : Bytes state → Bytes tail → Inside checkpoint tail (inspectOf state checkpoint tail x c)
   unfolding inspectOf

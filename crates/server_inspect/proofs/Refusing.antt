@@ -1,6 +1,6 @@
 -- The refusals of inspect, and its answer by them.
 --     foreign-none, foreign-some, bad-empty, bad-other     the tests of the checkpoint in code
---     usable, client-known          what is known where they are passed
+--     usable                        what is known where they are passed
 --     logged, logged-head           the tail up to its recorded length
 --     lent-refused, logged-front    the answer where lent memory is refused; of the tail and of its front
 --     Passed, passed-tests, ends-some     where nothing is refused
@@ -18,7 +18,6 @@ use lib.Dec.{eqb, ltb}
 use borrow.Author.Tests.{not-true, not-false, le-leb, le-ltb, eqb-true, ne-eqb}
 use Rattle.model.specs.declared.LogEnd.{LogEnd}
 use Rattle.model.specs.declared.Place.{Place}
-use Rattle.model.specs.declared.Completion.{Completion}
 use Rattle.model.specs.Choice.{pick, orElse}
 use Rattle.model.specs.Refusals.{tooShort, unsound, badLog, unknown, noRefusal}
 use Rattle.model.specs.Limits.{headSize, stateSize}
@@ -30,9 +29,8 @@ use Rattle.model.specs.Checkpoints.{noPlace, restored, checkpointFramed, checkp
 use Rattle.model_laws.specs.Bytes.{Bytes}
 use Rattle.model_laws.proofs.Tests.{impossible}
 use Rattle.model_laws.proofs.Refused.{if-passed}
-use Rattle.model_invariants.specs.Sound.{Sound, GoodCompletion}
+use Rattle.model_invariants.specs.Sound.{Sound}
 use Rattle.model_invariants.proofs.Loaded.{loaded-sound}
-use Rattle.model_invariants.proofs.Decided.{find-has}
 use Rattle.format_log_ends.specs.Walked.{endsFrom}
 use Rattle.format_log_ends.proofs.Walked.{log-end-head}
 use Rattle.state_restore.specs.Restored.{RestoredBy}
@@ -81,16 +79,6 @@ usable checkpoint log e h = go (checkpointFramed checkpoint) refl (rw (le-leb 1 
     go false p q = absurd (false≢true (sym q))
 
 module _ (state : List ℕ) (b : Bytes state) (s : sound state ≡ true) where
-  pub client-known : (x c : ℕ) → isNone (find x c (load state .records)) ≡ false → 1 ≤ x
-  unfolding isNone
-  client-known x c e = go (find x c (load state .records)) refl e
-    where
-      go : (o : Option Completion) → find x c (load state .records) ≡ o → isNone o ≡ false → 1 ≤ x
-      go none p q = absurd (false≢true (sym q))
-      go (some r) p q =
-          let g = find-has (GoodCompletion (load state .plan) (load state .size)) x c (load state .records) r p (loaded-sound state b s .records) in
-          omega (arith, g .0 .client, g .1)
-
   size-least : headSize ≤ load state .size
   size-least = let g : Sound (load state) = loaded-sound state b s in omega (arith, g .head, g .mark)
 
@@ -222,8 +210,8 @@ module _ (state checkpoint log : List ℕ) (x c : ℕ) (l : Logged state log) {w
     bad-passed = sym p ∙ or-left bad (not (eqb (w .refusal) noRefusal)) (tests .0)
 
     -- what the place in the checkpoint asks
-    pub place-ready : Bytes state → (1 ≤ x) × (1 ≤ length checkpoint → checkpointFramed checkpoint ≡ true)
-    place-ready b = (client-known state b (l .fit .sound) x c (sym q ∙ tests .1), usable checkpoint log bad-passed)
+    pub place-ready : 1 ≤ length checkpoint → checkpointFramed checkpoint ≡ true
+    place-ready = usable checkpoint log bad-passed
 
     pub later-found : {first r : Place} → first ≡ placeInCheckpoint x c checkpoint → r ≡ latestFrom x c log headSize first → r ≡ inspectOf state checkpoint log x c
     unfolding inspectOf latestFrom

@@ -85,7 +85,7 @@ fn later_refusal(bad: bool, off: bool, lacks: bool) -> u32
 
 // An entry of a checkpoint that is empty or keeps its layout.
 fn place_in_checkpoint(checkpoint: &[u8], client: u32, call: u32) -> Place
-    requires { ⌜ (1 ≤ client) × (1 ≤ length (now checkpoint) → checkpointFramed (now checkpoint) ≡ true) ⌝ }
+    requires { ⌜ (1 ≤ length (now checkpoint) → checkpointFramed (now checkpoint) ≡ true) ⌝ }
     ensures { λ r. ⌜ r ≡ placeInCheckpoint client call (now (checkpoint .entry)) ⌝ }
 {
     let none = no_place(constants::UNKNOWN);

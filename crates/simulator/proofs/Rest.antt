@@ -12,10 +12,9 @@ use lib.Dec.{eqb}
 use lib.ListN.{take, drop, take-append-drop}
 use borrow.Author.Tests.{leb-true}
 use Rattle.model.specs.Choice.{pick}
-use Rattle.model.specs.Yard.{Line, newYard, mostLines, runLines, lineOf, linesFrom, linesOf, repliesText, yardOf}
+use Rattle.model.specs.Simulator.{Line, newSimulator, mostLines, runLines, lineOf, linesFrom, linesOf, repliesText, answersOf}
 use Rattle.model.specs.Letters.{lineFeed}
-use Rattle.simulator_text.specs.Values.{lineFeeds}
-use Rattle.simulator.specs.Run.{closed}
+use Rattle.simulator_text.specs.Values.{lineFeeds, closed}
 
 lines-front : (n : ℕ) (f a b : List ℕ) → n ≤ lineFeeds a → take n (linesFrom f (a ++ b)) ≡ take n (linesFrom f a)
 unfolding linesFrom lineFeeds
@@ -31,10 +30,10 @@ lines-front (suc n) f (x ∷ a) b h = go (eqb x lineFeed) h (λ l. lines-front n
     go true l p q = ap (λ (ls : List Line). lineOf f ∷ ls) (p (le-of-suc-le-suc l))
     go false l p q = q l
 
-pub rest-unread : (a b : List ℕ) → closed a ≡ true → yardOf (a ++ b) ≡ yardOf a
-unfolding yardOf linesOf closed
+pub rest-unread : (a b : List ℕ) → closed a ≡ true → answersOf (a ++ b) ≡ answersOf a
+unfolding answersOf linesOf closed
 rest-unread a b h =
-    ap (λ (ls : List Line). repliesText 1 (runLines newYard ls)) (lines-front mostLines [] a b (leb-true mostLines (lineFeeds a) h))
+    ap (λ (ls : List Line). repliesText 1 (runLines newSimulator ls)) (lines-front mostLines [] a b (leb-true mostLines (lineFeeds a) h))
 
-pub cut-unread : (n : ℕ) (t : List ℕ) → closed (take n t) ≡ true → yardOf (take n t) ≡ yardOf t
-cut-unread n t h = sym (rest-unread (take n t) (drop n t) h) ∙ ap yardOf (take-append-drop n t)
+pub cut-unread : (n : ℕ) (t : List ℕ) → closed (take n t) ≡ true → answersOf (take n t) ≡ answersOf t
+cut-unread n t h = sym (rest-unread (take n t) (drop n t) h) ∙ ap answersOf (take-append-drop n t)

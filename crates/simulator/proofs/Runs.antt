@@ -1,7 +1,7 @@
 -- The run of a text, line by line.
 --     run-append                                       running two lists of lines one after the other is running both
 --     running-start, running-next, running-end         what is printed and what is left is what the definition prints
---     length-yard                                      the answers of every text fit 2,700 bytes
+--     length-answers                                   the answers of every text fit 2,700 bytes
 -- Assumes nothing.
 use Prim.Native.Nat.{ℕ, zero, suc, _+_, _-_, _*_, _≤_, _<_}
 use mathlib.Core.Path.{_≡_, refl, sym, ap, _∙_}
@@ -19,35 +19,35 @@ use Rattle.model.specs.Refusals.{tooShort, noRefusal}
 use Rattle.model.specs.States.{stateEnd}
 use Rattle.model.specs.Tables.{written}
 use Rattle.model.specs.Operations.{answerOf}
-use Rattle.model.specs.Yard.{Yard, Line, Reply, step, newYard, mostLines, ran, runLines, lineOf, linesFrom, linesOf, replyText, repliesText, yardOf}
+use Rattle.model.specs.Simulator.{Simulator, Line, Reply, step, newSimulator, mostLines, ran, runLines, lineOf, linesFrom, linesOf, replyText, repliesText, answersOf}
 use Rattle.model_laws.proofs.Written.{take-written-run, length-written, tail-part}
 use Rattle.model_laws.proofs.Tests.{and-left, and-right}
 use Rattle.model.specs.Letters.{lineFeed, replyRoom}
 use Rattle.simulator_text.specs.Values.{replyIs, firstOf, Put}
 use Rattle.simulator_text.proofs.Fields.{lines-next, lines-none}
 use Rattle.simulator_text.proofs.Texts.{length-reply}
-use Rattle.simulator_store.specs.Store.{rowSize, Next}
-use Rattle.simulator_state.specs.Whole.{Ready}
+use Rattle.simulator_memory.specs.Store.{rowSize, Next}
+use Rattle.simulator.specs.Whole.{Ready}
 use Rattle.simulator.specs.declared.Turn.{Turn}
 use Rattle.simulator.specs.Run.{nextPlace, Turned, Printed, Simulated, simulated, handed, simulateOf}
 
 -- ---- two lists of lines
 
-unfoldable pub yardAfter : Yard → List Line → Yard
-yardAfter y [] = y
-yardAfter y (l ∷ ls) = yardAfter (ran y l .yard) ls
+unfoldable pub simulatorAfter : Simulator → List Line → Simulator
+simulatorAfter y [] = y
+simulatorAfter y (l ∷ ls) = simulatorAfter (ran y l .simulator) ls
 
-pub run-append : (y : Yard) (ls ms : List Line) → runLines y (ls ++ ms) ≡ runLines y ls ++ runLines (yardAfter y ls) ms
-unfolding runLines yardAfter
+pub run-append : (y : Simulator) (ls ms : List Line) → runLines y (ls ++ ms) ≡ runLines y ls ++ runLines (simulatorAfter y ls) ms
+unfolding runLines simulatorAfter
 run-append y [] ms = refl
-run-append y (l ∷ ls) ms = ap (λ (rs : List Reply). ran y l .reply ∷ rs) (run-append (ran y l .yard) ls ms)
+run-append y (l ∷ ls) ms = ap (λ (rs : List Reply). ran y l .reply ∷ rs) (run-append (ran y l .simulator) ls ms)
 
 -- ---- the length of the answers
 
-length-run : (y : Yard) (ls : List Line) → length (runLines y ls) ≡ length ls
+length-run : (y : Simulator) (ls : List Line) → length (runLines y ls) ≡ length ls
 unfolding runLines
 length-run y [] = refl
-length-run y (l ∷ ls) = ap suc (length-run (ran y l .yard) ls)
+length-run y (l ∷ ls) = ap suc (length-run (ran y l .simulator) ls)
 
 length-replies : (k : ℕ) (rs : List Reply) → length (repliesText k rs) ≤ replyRoom * length rs
 unfolding repliesText
@@ -59,16 +59,16 @@ take-least zero l = omega arith
 take-least (suc n) [] = omega arith
 take-least (suc n) (x ∷ l) = omega (arith, take-least n l)
 
-pub length-yard : (s : List ℕ) → length (yardOf s) ≤ replyRoom * mostLines
-unfolding yardOf linesOf
-length-yard s =
+pub length-answers : (s : List ℕ) → length (answersOf s) ≤ replyRoom * mostLines
+unfolding answersOf linesOf
+length-answers s =
     let ls : List Line = take mostLines (linesFrom [] s) in
-    let l : length (runLines newYard ls) ≤ mostLines = rw (length-run newYard ls) (take-least mostLines (linesFrom [] s)) in
-    omega (arith, length-replies 1 (runLines newYard ls))
+    let l : length (runLines newSimulator ls) ≤ mostLines = rw (length-run newSimulator ls) (take-least mostLines (linesFrom [] s)) in
+    omega (arith, length-replies 1 (runLines newSimulator ls))
 
 -- ---- a run on its way: n bytes are printed, line k stands at a place of the text
 
-pub record Running (text : List ℕ) (y : Yard) (page : List ℕ) (z : Yard) (count at n k : ℕ) : Type 0 where
+pub record Running (text : List ℕ) (y : Simulator) (page : List ℕ) (z : Simulator) (count at n k : ℕ) : Type 0 where
   pub left : take n page ++ repliesText k (runLines z (take (suc mostLines - k) (linesFrom [] (drop at text)))) ≡ repliesText 1 (runLines y (linesOf text))
   pub wrote : n ≤ replyRoom * (k - 1)
   pub long : replyRoom * mostLines ≤ length page
@@ -76,7 +76,7 @@ pub record Running (text : List ℕ) (y : Yard) (page : List ℕ) (z : Yard) (co
   pub most : k ≤ suc mostLines
   pub packets : count + 1 ≤ k
 
-pub running-start : (text : List ℕ) (y : Yard) (page : List ℕ) (count : ℕ) → replyRoom * mostLines ≤ length page → count ≡ 0 → Running text y page y count 0 0 1
+pub running-start : (text : List ℕ) (y : Simulator) (page : List ℕ) (count : ℕ) → replyRoom * mostLines ≤ length page → count ≡ 0 → Running text y page y count 0 0 1
 unfolding linesOf
 running-start text y page count h e =
     record { left = refl; wrote = omega arith; long = h; least = omega arith; most = omega arith; packets = omega arith }
@@ -91,7 +91,7 @@ place text at f = go (ltb (at + f) (length text)) refl
         drop-of-length-le text {i = length text} (omega arith) ∙ sym (drop-drop (suc f) at text ∙ drop-of-length-le text {i = at + suc f} (omega arith))
 
 -- one line more
-line-more : (z : Yard) (k : ℕ) (t : List ℕ) {x : Yard} {r : Reply} → k ≤ mostLines → 0 < length t → step x r ≡ ran z (lineOf (take (firstOf lineFeed t) t))
+line-more : (z : Simulator) (k : ℕ) (t : List ℕ) {x : Simulator} {r : Reply} → k ≤ mostLines → 0 < length t → step x r ≡ ran z (lineOf (take (firstOf lineFeed t) t))
     → repliesText k (runLines z (take (suc mostLines - k) (linesFrom [] t)))
     ≡ replyText k r ++ repliesText (k + 1) (runLines x (take (suc mostLines - (k + 1)) (linesFrom [] (drop (suc (firstOf lineFeed t)) t))))
 unfolding runLines repliesText
@@ -99,7 +99,7 @@ line-more z k t {x} {r} h l e =
     let q : suc mostLines - k ≡ suc (suc mostLines - (k + 1)) = omega arith in
     rw (lines-next t l, q, ← e, add-one) refl
 
-pub running-next : (text : List ℕ) (y : Yard) (page : List ℕ) (z : Yard) (count at n k : ℕ) {r : Turn} {x : Yard} {q : List ℕ}
+pub running-next : (text : List ℕ) (y : Simulator) (page : List ℕ) (z : Simulator) (count at n k : ℕ) {r : Turn} {x : Simulator} {q : List ℕ}
     → Running text y page z count at n k → k ≤ mostLines → at < length text → Turned text at k n z page count r x q → Running text y q x (r .memory .count) (r .at) (r .n) (k + 1)
 running-next text y page z count at n k {r} {x} {q} u h l w =
     let t : List ℕ = drop at text in
@@ -121,7 +121,7 @@ running-next text y page z count at n k {r} {x} {q} u h l w =
       packets = omega (arith, u .packets, w .packets .most);
     }
 
-pub running-end : (text : List ℕ) (y : Yard) (page : List ℕ) (z : Yard) (count at n k : ℕ) → Running text y page z count at n k → (leb k mostLines && ltb at (length text)) ≡ false →
+pub running-end : (text : List ℕ) (y : Simulator) (page : List ℕ) (z : Simulator) (count at n k : ℕ) → Running text y page z count at n k → (leb k mostLines && ltb at (length text)) ≡ false →
     Printed text y page n
 unfolding runLines repliesText
 running-end text y page z count at n k u e =
@@ -138,15 +138,15 @@ running-end text y page z count at n k u e =
     go true q e' = over (rw (drop-of-length-le text {i = at} (ltb-false at (length text) e'), lines-none) (take-nil (suc mostLines - k)))
 
 -- the page is what the definition says
-pub printed-yard : (text page : List ℕ) (n : ℕ) → Printed text newYard page n → n ≤ length page → (take n page ≡ yardOf text) × (n ≡ length (yardOf text))
-unfolding yardOf
-printed-yard text page n p h = (p .same, sym (length-take-le n page h) ∙ ap length (p .same))
+pub printed-answers : (text page : List ℕ) (n : ℕ) → Printed text newSimulator page n → n ≤ length page → (take n page ≡ answersOf text) × (n ≡ length (answersOf text))
+unfolding answersOf
+printed-answers text page n p h = (p .same, sym (length-take-le n page h) ∙ ap length (p .same))
 
-pub simulate-is : {x : Simulated} (text page : List ℕ) (n : ℕ) (out : List ℕ) → Printed text newYard page n → n ≤ length page → x ≡ handed out n (take n page) → x ≡ simulateOf text out
+pub simulate-is : {x : Simulated} (text page : List ℕ) (n : ℕ) (out : List ℕ) → Printed text newSimulator page n → n ≤ length page → x ≡ handed out n (take n page) → x ≡ simulateOf text out
 unfolding simulateOf
 simulate-is text page n out p h e =
-    let y = printed-yard text page n p h in
-    e ∙ ap (λ (l : List ℕ). handed out n l) (y .0) ∙ ap (λ (k : ℕ). handed out k (yardOf text)) (y .1)
+    let y = printed-answers text page n p h in
+    e ∙ ap (λ (l : List ℕ). handed out n l) (y .0) ∙ ap (λ (k : ℕ). handed out k (answersOf text)) (y .1)
 
 pub handed-over : (out page t : List ℕ) (n : ℕ) → n ≤ length out → t ≡ written out 0 (midOf 0 (n - 0) page) → simulated (answerOf noRefusal n) t ≡ handed out n (take n page)
 unfolding handed
@@ -161,7 +161,8 @@ kept-back out n t h = rw (lt-ltb (length out) n h) refl
 pub part-length : (t : List ℕ) (at : ℕ) → length (midOf at (length t - at) t) ≡ length t - at
 part-length t at = ap length (tail-part at t) ∙ length-drop at t
 
-pub turned : (text : List ℕ) (at k n : ℕ) (y : Yard) (page : List ℕ) (count : ℕ) (r : Turn) (z : Yard) (q : List ℕ) (f : ℕ) {l : Line} → f ≡ firstOf lineFeed (midOf at (length text - at) text)
+pub turned : (text : List ℕ) (at k n : ℕ) (y : Simulator) (page : List ℕ) (count : ℕ) (r : Turn) (z : Simulator) (q : List ℕ) (f : ℕ) {l : Line}
+    → f ≡ firstOf lineFeed (midOf at (length text - at) text)
     → l ≡ lineOf (midOf at (at + f - at) text) → step z (replyIs (r .reply)) ≡ ran y l → r .at ≡ nextPlace (at + f) (length text)
     → Put page n (replyText k (replyIs (r .reply))) q (r .n) → Next count (r .memory .count) → Turned text at k n y page count r z q
 turned text at k n y page count r z q f {l} e g h i j c =

@@ -2,9 +2,8 @@
 -- Assumes nothing.
 use Prim.Native.Nat.{ℕ, _+_, _*_, _≤_}
 use mathlib.Core.Path.{_≡_}
-use mathlib.Core.Bool.{Bool}
 use mathlib.Core.List.{List}
-use lib.Dec.{leb, ltb}
+use lib.Dec.{ltb}
 use lib.ListN.{length, take, drop}
 use Rattle.model.specs.declared.Answer.{Answer}
 use Rattle.model.specs.Choice.{pick}
@@ -13,10 +12,10 @@ use Rattle.model.specs.Limits.{stateSize}
 use Rattle.model.specs.States.{stateEnd}
 use Rattle.model.specs.Tables.{written}
 use Rattle.model.specs.Operations.{answerOf}
-use Rattle.model.specs.Yard.{Yard, step, mostLines, yardLog, ran, runLines, lineOf, linesOf, replyText, repliesText, yardOf}
+use Rattle.model.specs.Simulator.{Simulator, step, mostLines, simulatorLog, ran, runLines, lineOf, linesOf, replyText, repliesText, answersOf}
 use Rattle.model.specs.Letters.{lineFeed, replyRoom}
-use Rattle.simulator_text.specs.Values.{replyIs, firstOf, lineFeeds, Put}
-use Rattle.simulator_store.specs.Store.{rowSize, Next}
+use Rattle.simulator_text.specs.Values.{replyIs, firstOf, Put}
+use Rattle.simulator_memory.specs.Store.{rowSize, Next}
 use Rattle.simulator.specs.declared.Turn.{Turn}
 
 -- the place behind a line that ends at e, in a text of n bytes
@@ -24,7 +23,7 @@ abbrev pub nextPlace : ℕ → ℕ → ℕ
 nextPlace e n = pick (ltb e n) (e + 1) n
 
 -- one line of a text was run: y, page and count before it, z and q after it
-pub record Turned (text : List ℕ) (at k n : ℕ) (y : Yard) (page : List ℕ) (count : ℕ) (r : Turn) (z : Yard) (q : List ℕ) : Type 0 where
+pub record Turned (text : List ℕ) (at k n : ℕ) (y : Simulator) (page : List ℕ) (count : ℕ) (r : Turn) (z : Simulator) (q : List ℕ) : Type 0 where
   pub ran : step z (replyIs (r .reply)) ≡ ran y (lineOf (take (firstOf lineFeed (drop at text)) (drop at text)))
   pub next : r .at ≡ nextPlace (at + firstOf lineFeed (drop at text)) (length text)
   pub put : Put page n (replyText k (replyIs (r .reply))) q (r .n)
@@ -42,19 +41,15 @@ pub record Space (page s0 s1 store : List ℕ) (count : ℕ) : Type 0 where
 pub record Fresh (page s0 l0 s1 l1 store : List ℕ) : Type 0 where
   pub pages : replyRoom * mostLines ≤ length page
   pub first : length s0 ≡ stateSize
-  pub log0 : length l0 ≡ yardLog
+  pub log0 : length l0 ≡ simulatorLog
   pub second : length s1 ≡ stateSize
-  pub log1 : length l1 ≡ yardLog
+  pub log1 : length l1 ≡ simulatorLog
   pub rows : rowSize * mostLines ≤ length store
 
 -- the page's first n bytes are the answers of the text, run from y
-pub record Printed (text : List ℕ) (y : Yard) (page : List ℕ) (n : ℕ) : Type 0 where
+pub record Printed (text : List ℕ) (y : Simulator) (page : List ℕ) (n : ℕ) : Type 0 where
   pub same : take n page ≡ repliesText 1 (runLines y (linesOf text))
   pub most : n ≤ replyRoom * mostLines
-
--- the text has as many line feeds as lines are read
-unfoldable pub closed : List ℕ → Bool
-closed t = leb mostLines (lineFeeds t)
 
 pub record Simulated : Type 0 where
   pub answer : Answer
@@ -69,4 +64,4 @@ handed out n t = pick (ltb (length out) n) (simulated (answerOf tooShort 0) out)
 
 -- the answers of a schedule's text
 unfoldable pub simulateOf : List ℕ → List ℕ → Simulated
-simulateOf t out = handed out (length (yardOf t)) (yardOf t)
+simulateOf t out = handed out (length (answersOf t)) (answersOf t)

@@ -1,5 +1,5 @@
-// The simulator for C: a schedule's text in, the answers' text out, and one word of 64 bits: the low 32 bits are 0 or the refusal's number,
-// the high 32 bits the number of bytes written.
+// The simulator for C: a schedule's text in, the answers' text out, and one word of 64 bits: the low 32 bits are 0 or
+// the refusal's number, the high 32 bits the number of bytes written.
 use model::Answer;
 use model::constants;
 ghost use mathlib.Core.Path.{_≡_};

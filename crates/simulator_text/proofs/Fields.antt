@@ -20,7 +20,7 @@ use lib.Seq.{drop-cons, take-all, append-snoc}
 use borrow.Author.Tests.{eq-eqb, ne-eqb, lt-leb, le-leb, leb-true, ltb-true, ltb-false}
 use Rattle.model.specs.Choice.{pick}
 use Rattle.model.specs.Limits.{last32}
-use Rattle.model.specs.Yard.{unreadable, lineOfFields, isDigit, digitsFrom, atMost, numberIn, fieldsFrom, lineOf, endLine, linesFrom}
+use Rattle.model.specs.Simulator.{isDigit, digitsFrom, atMost, numberIn, fieldsFrom, lineOf, endLine, linesFrom}
 use Rattle.model_laws.proofs.Written.{tail-part}
 use Rattle.model_laws.proofs.Tests.{and-left, and-right, choose}
 use Rattle.model.specs.Letters.{space, lineFeed, firstDigit, lastDigit}
@@ -101,12 +101,6 @@ fields-more s e p h =
 pub fields-last : (s : List ℕ) (e : ℕ) → e ≡ firstOf space s → length s ≤ e → fieldsFrom [] s ≡ s ∷ []
 unfolding fieldsFrom
 fields-last s e p h = cut-last space fieldsFrom (λ f. f ∷ []) (λ f r. f ∷ r) (λ f. refl) (λ f b s. refl) [] s (omega arith)
-
-fields-some : (f s : List ℕ) → 0 < length (fieldsFrom f s)
-unfolding fieldsFrom
-fields-some f [] = omega arith
-fields-some f (b ∷ s) =
-    choose (λ (l : List (List ℕ)). 0 < length l) (eqb b space) {a = f ∷ fieldsFrom [] s} {b = fieldsFrom (f ++ (b ∷ [])) s} (λ _. omega arith) (λ _. fields-some (f ++ (b ∷ [])) s)
 
 -- ---- lines
 
@@ -196,12 +190,3 @@ pub fields-parts : (s : List ℕ) (e : ℕ) → e ≡ firstOf space s → e < le
 fields-parts s e p h =
     let z : e - 0 ≡ e = omega arith in
     fields-more s e p h ∙ rw (z, tail-part (e + 1) s) refl
-
--- five fields and more are no line
-pub many : (c a b d f : List ℕ) (s : List ℕ) → unreadable ≡ lineOfFields (c ∷ (a ∷ (b ∷ (d ∷ (f ∷ fieldsFrom [] s)))))
-unfolding lineOfFields
-many c a b d f s = go (fieldsFrom [] s) (fields-some [] s)
-  where
-    go : (fs : List (List ℕ)) → 0 < length fs → unreadable ≡ lineOfFields (c ∷ (a ∷ (b ∷ (d ∷ (f ∷ fs)))))
-    go [] h = absurd (not-suc-le-zero h)
-    go (g ∷ fs) h = refl

@@ -1,21 +1,32 @@
--- The line of a letter and numbers that were read.
+-- A line read: its letter, the numbers behind it, the line of both.
+--     letter-one, letter-other                       the letter of a field
+--     reading-start, -off, -next, -end               the numbers of the fields, one after the other
+--     line-sync, -two, -give, -issue, -other         the line of a letter and its numbers
+--     argument-none, -minus, -plain                  a signed number
 -- Assumes nothing.
-use Prim.Native.Nat.{ℕ, _-_}
+use Prim.Native.Nat.{ℕ, zero, suc, _+_, _-_, _≤_, _<_}
 use mathlib.Core.Path.{_≡_, refl, sym, ap, _∙_}
-use mathlib.Core.Bool.{Bool, true, false}
-use mathlib.Core.List.{List, [], _∷_}
+use mathlib.Core.Bool.{Bool, true, false, _&&_}
+use mathlib.Core.List.{List, [], _∷_, _++_, append-assoc, append-nil}
 use mathlib.Core.Option.{Option, none, some}
 use native.Mathlib.Omega.{arith}
-use lib.Dec.{eqb}
-use lib.ListN.{length, getD, drop}
-use borrow.Author.Tests.{eq-eqb, ne-eqb}
+use native.Mathlib.Numerals.{add-one}
+use lib.Dec.{eqb, leb, ltb}
+use lib.ListN.{length, take, drop, getD, length-drop}
+use lib.Seq.{sets, drop-drop, take-all}
+use borrow.Rule.Slice.PartMut.{midOf}
+use borrow.Author.Tests.{eq-eqb, ne-eqb, eqb-true, lt-leb, le-leb, ltb-true, ltb-false}
 use Rattle.model.specs.Choice.{pick}
-use Rattle.model.specs.Yard as yard
-use Rattle.model.specs.Yard.{numberIn, argumentIn, negative, positive, letterIn, letterLine, line1, line2, line3, line4, with1, with2, with3, with4}
-use Rattle.model.specs.Letters.{minus, issueLetter, syncLetter, giveLetter}
+use Rattle.model.specs.Tables.{written}
+use Rattle.model.specs.Simulator as simulator
+use Rattle.model.specs.Simulator.{numberIn, argumentIn, negative, positive, letterIn, letterLine, lineBy, fieldIn, andThen, numbersFrom, lineWith, fieldsFrom}
+use Rattle.model.specs.Letters.{space, minus, issueLetter, syncLetter, giveLetter}
+use Rattle.model_laws.proofs.Written.{written-sets, length-written, take-written-run, tail-part}
+use Rattle.model_laws.proofs.Tests.{and-left, and-right}
 use Rattle.simulator_text.specs.declared.Number.{Number}
 use Rattle.simulator_text.specs.declared.Number.the-variants.{Nothing, Is}
-use Rattle.simulator_text.specs.Values.{numberIs}
+use Rattle.simulator_text.specs.Values.{mostNumbers, numberIs, numbersIs, firstOf}
+use Rattle.simulator_text.proofs.Fields.{fields-more, fields-last}
 
 pub letter-one : (s : List ℕ) → length s ≡ 1 → getD s 0 0 ≡ letterIn s
 unfolding letterIn
@@ -29,98 +40,164 @@ letter-other [] h = refl
 letter-other (b ∷ []) h = absurd (h refl)
 letter-other (b ∷ a ∷ s) h = rw (ne-eqb (length (a ∷ s)) 0 (λ g. omega arith)) refl
 
--- what a read number says
-pub is-some : {x : Number} {o : Option ℕ} {m : ℕ} → numberIs x ≡ o → x ≡ Is m → o ≡ some m
-is-some {x} {o} p q = sym p ∙ ap numberIs q
+-- ---- the numbers of the fields behind the letter
 
-pub is-none : {x : Number} {o : Option ℕ} → numberIs x ≡ o → x ≡ Nothing → o ≡ none
-is-none {x} {o} p q = sym p ∙ ap numberIs q
+-- the fields from a place on, none past the text
+abbrev pub fieldsAt : List ℕ → ℕ → List (List ℕ)
+fieldsAt s at = pick (leb at (length s)) (fieldsFrom [] (drop at s)) []
 
-same : {A : Type 0} (t : Bool) (a : A) → pick t a a ≡ a
-same true a = refl
-same false a = refl
+-- a field from a place on, and those behind it
+fields-at : (s : List ℕ) (at f : ℕ) → at ≤ length s → f ≡ firstOf space (drop at s) → f ≤ length (drop at s)
+    → fieldsAt s at ≡ take f (drop at s) ∷ fieldsAt s (at + f + 1)
+fields-at s at f h e m = rw (le-leb at (length s) h) (go (ltb f (length (drop at s))) refl)
+  where
+    l : length (drop at s) ≡ length s - at
+    l = length-drop at s
 
--- ---- one number
+    go : (t : Bool) → ltb f (length (drop at s)) ≡ t → fieldsFrom [] (drop at s) ≡ take f (drop at s) ∷ fieldsAt s (at + f + 1)
+    go true q =
+        let k : f < length (drop at s) = ltb-true f (length (drop at s)) q in
+        let i : at + (f + 1) ≡ at + f + 1 = omega arith in
+        let d : drop (f + 1) (drop at s) ≡ drop (at + f + 1) s = drop-drop (f + 1) at s ∙ ap (λ (i : ℕ). drop i s) i in
+        rw (le-leb (at + f + 1) (length s) (omega (arith, l)), ← d) (fields-more (drop at s) f e k)
+    go false q =
+        let k : length (drop at s) ≤ f = ltb-false f (length (drop at s)) q in
+        rw (lt-leb (at + f + 1) (length s) (omega (arith, l)), take-all f (drop at s) k) (fields-last (drop at s) f e k)
 
-pub one-none : (k : ℕ) (s : List ℕ) {x : Number} → numberIs x ≡ numberIn s → x ≡ Nothing → yard.unreadable ≡ with1 k s
-unfolding with1 line1
-one-none k s p q = sym (rw (is-none p q) (same (eqb k syncLetter) yard.unreadable))
+-- numbers, and those that follow
+unfoldable pub joined : List ℕ → Option (List ℕ) → Option (List ℕ)
+joined l none = none
+joined l (some m) = some (l ++ m)
 
-pub one-sync : (k : ℕ) (s : List ℕ) {x : Number} {m j : ℕ} → numberIs x ≡ numberIn s → x ≡ Is m → j ≡ k → j ≡ syncLetter → yard.sync m ≡ with1 k s
-unfolding with1 line1
-one-sync k s p q e h = rw (is-some p q, eq-eqb k syncLetter (sym e ∙ h)) refl
+joined-next : (l : List ℕ) (v : ℕ) (o : Option (List ℕ)) → joined l (andThen (some v) o) ≡ joined (l ++ (v ∷ [])) o
+unfolding joined andThen
+joined-next l v none = refl
+joined-next l v (some m) = ap some (sym (append-assoc l (v ∷ []) m))
 
-pub one-other : (k : ℕ) (s : List ℕ) {j : ℕ} → j ≡ k → (j ≡ syncLetter → ⊥) → yard.unreadable ≡ with1 k s
-unfolding with1
-one-other k s e h = rw (ne-eqb k syncLetter (λ g. h (e ∙ g))) refl
+-- a line's text on its way: k numbers are read, the fields from a place on are left
+pub record Reading (s ns : List ℕ) (k at : ℕ) : Type 0 where
+  pub long : length ns ≡ mostNumbers
+  pub most : k ≤ mostNumbers
+  pub within : at ≤ length s + 1
+  pub left : joined (take k ns) (numbersFrom k (fieldsAt s at)) ≡ numbersFrom 0 (fieldsFrom [] s)
 
--- ---- two numbers
+pub reading-start : (s ns : List ℕ) → length ns ≡ mostNumbers → Reading s ns 0 0
+unfolding joined
+reading-start s ns h =
+    record { long = h; most = omega arith; within = omega arith; left = rw (le-leb 0 (length s) (omega arith)) (go (numbersFrom 0 (fieldsFrom [] s))) }
+  where
+    go : (o : Option (List ℕ)) → joined [] o ≡ o
+    go none = refl
+    go (some l) = refl
 
-pub two-none : (k : ℕ) (a b : List ℕ) {x : Number} → numberIs x ≡ numberIn a → x ≡ Nothing → yard.unreadable ≡ with2 k a b
-unfolding with2 line2
-two-none k a b p q = sym (rw (is-none p q) refl)
+pub field-most : (k : ℕ) (s : List ℕ) {v : ℕ} → fieldIn k s ≡ some v → k < mostNumbers
+unfolding fieldIn
+field-most k s {v} h = go (ltb k 3) refl (eqb k 3) refl
+  where
+    go : (t : Bool) → ltb k 3 ≡ t → (u : Bool) → eqb k 3 ≡ u → k < mostNumbers
+    go true p u q = omega (arith, ltb-true k 3 p)
+    go false p true q = omega (arith, eqb-true k 3 q)
+    go false p false q =
+        let o : _≡_ {A = Option ℕ} none (some v) = rw (p, q) at h in
+        let z : _≡_ {A = ℕ} 0 1 = cc in
+        absurd (omega arith)
 
-pub two-half : (k : ℕ) (a b : List ℕ) {x y : Number} {m : ℕ} → numberIs x ≡ numberIn a → x ≡ Is m → numberIs y ≡ numberIn b → y ≡ Nothing → yard.unreadable ≡ with2 k a b
-unfolding with2 line2 line1
-two-half k a b p q r t = sym (rw (is-some p q, is-none r t) refl)
+pub field-place : (k : ℕ) (s : List ℕ) {x : Number} {v : ℕ} → numberIs x ≡ fieldIn k s → x ≡ Is v → k < mostNumbers
+field-place k s {x} q e = field-most k s (sym q ∙ ap numberIs e)
 
-pub two-read : (k : ℕ) (a b : List ℕ) {x y : Number} {m n j : ℕ} {l : yard.Line} → numberIs x ≡ numberIn a → x ≡ Is m → numberIs y ≡ numberIn b → y ≡ Is n
-    → j ≡ k → l ≡ letterLine j m n → l ≡ with2 k a b
-unfolding with2 line2 line1
-two-read k a b p q r t e h = h ∙ rw (e, is-some p q, is-some r t) refl
+-- the field at a place, by the parts that the code lends
+pub field-end : (s : List ℕ) (at : ℕ) {f : ℕ} → at ≤ length s → f ≤ length (midOf at (length s - at) s) → at + f ≤ length s
+field-end s at h m = omega (arith, ap length (tail-part at s), length-drop at s)
 
--- ---- three numbers
+field-read : (s : List ℕ) (k at f : ℕ) {y o : Option ℕ} → y ≡ fieldIn k (midOf at (at + f - at) s) → y ≡ o → fieldIn k (take f (drop at s)) ≡ o
+field-read s k at f q e = let z : at + f - at ≡ f = omega arith in sym (q ∙ rw z refl) ∙ e
 
-pub three-1 : (k : ℕ) (a b d : List ℕ) {x : Number} → numberIs x ≡ numberIn a → x ≡ Nothing → yard.unreadable ≡ with3 k a b d
-unfolding with3 line3
-three-1 k a b d p q = sym (rw (is-none p q) (same (eqb k giveLetter) yard.unreadable))
+module _ {s ns : List ℕ} {k at f : ℕ} (r : Reading s ns k at) (h : at ≤ length s)
+    (p : (f ≡ firstOf space (midOf at (length s - at) s)) × (f ≤ length (midOf at (length s - at) s))) where
+  -- the field, and those behind it
+  first-field : joined (take k ns) (andThen (fieldIn k (take f (drop at s))) (numbersFrom (suc k) (fieldsAt s (at + f + 1)))) ≡ numbersFrom 0 (fieldsFrom [] s)
+  unfolding numbersFrom
+  first-field =
+      let e : f ≡ firstOf space (drop at s) = p .0 ∙ ap (λ (t : List ℕ). firstOf space t) (tail-part at s) in
+      let m : f ≤ length (drop at s) = omega (arith, p .1, ap length (tail-part at s)) in
+      rw (fields-at s at f h e m) at (r .left)
 
-pub three-2 : (k : ℕ) (a b d : List ℕ) {x y : Number} {m : ℕ} → numberIs x ≡ numberIn a → x ≡ Is m → numberIs y ≡ numberIn b → y ≡ Nothing → yard.unreadable ≡ with3 k a b d
-unfolding with3 line3 line2
-three-2 k a b d p q r t = sym (rw (is-some p q, is-none r t) (same (eqb k giveLetter) yard.unreadable))
+  pub reading-off : (ms : List ℕ) {x : Number} → numberIs x ≡ fieldIn k (midOf at (at + f - at) s) → x ≡ Nothing → numbersIs 5 ms ≡ numbersFrom 0 (fieldsFrom [] s)
+  unfolding numbersIs joined andThen
+  reading-off ms {x} q e = rw (field-read s k at f q (ap numberIs e)) at first-field
 
-pub three-3 : (k : ℕ) (a b d : List ℕ) {x y z : Number} {m n : ℕ} → numberIs x ≡ numberIn a → x ≡ Is m → numberIs y ≡ numberIn b → y ≡ Is n
-    → numberIs z ≡ numberIn d → z ≡ Nothing → yard.unreadable ≡ with3 k a b d
-unfolding with3 line3 line2 line1
-three-3 k a b d p q r t u v = sym (rw (is-some p q, is-some r t, is-none u v) (same (eqb k giveLetter) yard.unreadable))
+  pub reading-next : {x : Number} {v : ℕ} → numberIs x ≡ fieldIn k (midOf at (at + f - at) s) → x ≡ Is v → Reading s (sets ns k (v ∷ [])) (k + 1) (at + f + 1)
+  reading-next {x} {v} q e =
+      let n : fieldIn k (take f (drop at s)) ≡ some v = field-read s k at f q (ap numberIs e) in
+      let rest : Option (List ℕ) = numbersFrom (suc k) (fieldsAt s (at + f + 1)) in
+      let w : sets ns k (v ∷ []) ≡ written ns k (v ∷ []) = sym (written-sets ns k (v ∷ [])) in
+      let l : k < mostNumbers = field-most k (take f (drop at s)) n in
+      let t : take (k + 1) (sets ns k (v ∷ [])) ≡ take k ns ++ (v ∷ []) = rw w (take-written-run ns k (v ∷ []) (omega (arith, r .long))) in
+      record {
+        long = ap length w ∙ length-written ns k (v ∷ []) ∙ r .long;
+        most = omega arith;
+        within = omega (arith, field-end s at h (p .1));
+        left = rw (t, add-one) (sym (joined-next (take k ns) v rest) ∙ rw n at first-field);
+      }
 
-pub three-give : (k : ℕ) (a b d : List ℕ) {x y z : Number} {m n i j : ℕ} → numberIs x ≡ numberIn a → x ≡ Is m → numberIs y ≡ numberIn b → y ≡ Is n
-    → numberIs z ≡ numberIn d → z ≡ Is i → j ≡ k → j ≡ giveLetter → yard.give m n i ≡ with3 k a b d
-unfolding with3 line3 line2 line1
-three-give k a b d p q r t u v e h = rw (is-some p q, is-some r t, is-some u v, eq-eqb k giveLetter (sym e ∙ h)) refl
+pub reading-end : {s ns : List ℕ} {k at : ℕ} → Reading s ns k at → length s < at → numbersIs k ns ≡ numbersFrom 0 (fieldsFrom [] s)
+unfolding numbersIs joined numbersFrom
+reading-end {s} {ns} {k} {at} r h =
+    rw (le-leb k mostNumbers (r .most)) (ap some (sym (append-nil (take k ns))) ∙ rw (lt-leb at (length s) h) at (r .left))
 
-pub three-other : (k : ℕ) (a b d : List ℕ) {j : ℕ} → j ≡ k → (j ≡ giveLetter → ⊥) → yard.unreadable ≡ with3 k a b d
-unfolding with3
-three-other k a b d e h = rw (ne-eqb k giveLetter (λ g. h (e ∙ g))) refl
+-- ---- the line of a letter and n numbers
 
--- ---- four numbers
+-- the numbers of a line, one by one
+four : (P : List ℕ → Type 0) → ((a b d e : ℕ) → P (a ∷ b ∷ d ∷ e ∷ [])) → (ns : List ℕ) → length ns ≡ mostNumbers → P ns
+four P f (a ∷ b ∷ d ∷ e ∷ []) h = f a b d e
+four P f [] h = absurd (omega arith)
+four P f (a ∷ []) h = absurd (omega arith)
+four P f (a ∷ b ∷ []) h = absurd (omega arith)
+four P f (a ∷ b ∷ d ∷ []) h = absurd (omega arith)
+four P f (a ∷ b ∷ d ∷ e ∷ g ∷ ns) h = absurd (omega arith)
 
-pub four-1 : (k : ℕ) (a b d f : List ℕ) {x : Number} → numberIs x ≡ numberIn a → x ≡ Nothing → yard.unreadable ≡ with4 k a b d f
-unfolding with4 line4
-four-1 k a b d f p q = sym (rw (is-none p q) (same (eqb k issueLetter) yard.unreadable))
+module _ (c n : ℕ) where
+  pub line-sync : (ns : List ℕ) → length ns ≡ mostNumbers → (eqb n 1 && eqb c syncLetter) ≡ true → simulator.sync (getD ns 0 0) ≡ lineWith c (numbersIs n ns)
+  unfolding lineWith lineBy numbersIs
+  line-sync ns h t =
+      let p : n ≡ 1 = eqb-true n 1 (and-left (eqb n 1) (eqb c syncLetter) t) in
+      let q : eqb c syncLetter ≡ true = and-right (eqb n 1) (eqb c syncLetter) t in
+      four (λ l. simulator.sync (getD l 0 0) ≡ lineWith c (numbersIs n l)) (λ a b d e. rw (p, q) refl) ns h
 
-pub four-2 : (k : ℕ) (a b d f : List ℕ) {x y : Number} {m : ℕ} → numberIs x ≡ numberIn a → x ≡ Is m → numberIs y ≡ numberIn b → y ≡ Nothing → yard.unreadable ≡ with4 k a b d f
-unfolding with4 line4 line3
-four-2 k a b d f p q r t = sym (rw (is-some p q, is-none r t) (same (eqb k issueLetter) yard.unreadable))
+  pub line-two : (ns : List ℕ) {l : simulator.Line} → length ns ≡ mostNumbers → n ≡ 2 → l ≡ letterLine c (getD ns 0 0) (getD ns 1 0) → l ≡ lineWith c (numbersIs n ns)
+  unfolding lineWith lineBy numbersIs
+  line-two ns {l} h p =
+      four (λ ms. l ≡ letterLine c (getD ms 0 0) (getD ms 1 0) → l ≡ lineWith c (numbersIs n ms)) (λ a b d e q. q ∙ rw p refl) ns h
 
-pub four-3 : (k : ℕ) (a b d f : List ℕ) {x y z : Number} {m n : ℕ} → numberIs x ≡ numberIn a → x ≡ Is m → numberIs y ≡ numberIn b → y ≡ Is n
-    → numberIs z ≡ numberIn d → z ≡ Nothing → yard.unreadable ≡ with4 k a b d f
-unfolding with4 line4 line3 line2
-four-3 k a b d f p q r t u v = sym (rw (is-some p q, is-some r t, is-none u v) (same (eqb k issueLetter) yard.unreadable))
+  pub line-give : (ns : List ℕ) → length ns ≡ mostNumbers → (eqb n 3 && eqb c giveLetter) ≡ true
+      → simulator.give (getD ns 0 0) (getD ns 1 0) (getD ns 2 0) ≡ lineWith c (numbersIs n ns)
+  unfolding lineWith lineBy numbersIs
+  line-give ns h t =
+      let p : n ≡ 3 = eqb-true n 3 (and-left (eqb n 3) (eqb c giveLetter) t) in
+      let q : eqb c giveLetter ≡ true = and-right (eqb n 3) (eqb c giveLetter) t in
+      four (λ l. simulator.give (getD l 0 0) (getD l 1 0) (getD l 2 0) ≡ lineWith c (numbersIs n l)) (λ a b d e. rw (p, q) refl) ns h
 
-pub four-4 : (k : ℕ) (a b d f : List ℕ) {x y z w : Number} {m n i : ℕ} → numberIs x ≡ numberIn a → x ≡ Is m → numberIs y ≡ numberIn b → y ≡ Is n
-    → numberIs z ≡ numberIn d → z ≡ Is i → numberIs w ≡ argumentIn f → w ≡ Nothing → yard.unreadable ≡ with4 k a b d f
-unfolding with4 line4 line3 line2 line1
-four-4 k a b d f p q r t u v g h = sym (rw (is-some p q, is-some r t, is-some u v, is-none g h) (same (eqb k issueLetter) yard.unreadable))
+  pub line-issue : (ns : List ℕ) → length ns ≡ mostNumbers → (eqb n 4 && eqb c issueLetter) ≡ true
+      → simulator.issue (getD ns 0 0) (getD ns 1 0) (getD ns 2 0) (getD ns 3 0) ≡ lineWith c (numbersIs n ns)
+  unfolding lineWith lineBy numbersIs
+  line-issue ns h t =
+      let p : n ≡ 4 = eqb-true n 4 (and-left (eqb n 4) (eqb c issueLetter) t) in
+      let q : eqb c issueLetter ≡ true = and-right (eqb n 4) (eqb c issueLetter) t in
+      four (λ l. simulator.issue (getD l 0 0) (getD l 1 0) (getD l 2 0) (getD l 3 0) ≡ lineWith c (numbersIs n l)) (λ a b d e. rw (p, q) refl) ns h
 
-pub four-issue : (k : ℕ) (a b d f : List ℕ) {x y z w : Number} {m n i c j : ℕ} → numberIs x ≡ numberIn a → x ≡ Is m → numberIs y ≡ numberIn b → y ≡ Is n
-    → numberIs z ≡ numberIn d → z ≡ Is i → numberIs w ≡ argumentIn f → w ≡ Is c → j ≡ k → j ≡ issueLetter → yard.issue m n i c ≡ with4 k a b d f
-unfolding with4 line4 line3 line2 line1
-four-issue k a b d f p q r t u v g h e l = rw (is-some p q, is-some r t, is-some u v, is-some g h, eq-eqb k issueLetter (sym e ∙ l)) refl
-
-pub four-other : (k : ℕ) (a b d f : List ℕ) {j : ℕ} → j ≡ k → (j ≡ issueLetter → ⊥) → yard.unreadable ≡ with4 k a b d f
-unfolding with4
-four-other k a b d f e h = rw (ne-eqb k issueLetter (λ g. h (e ∙ g))) refl
+pub line-other : (c n : ℕ) (ns : List ℕ) → length ns ≡ mostNumbers → (eqb n 1 && eqb c syncLetter) ≡ false → (n ≡ 2 → ⊥) → (eqb n 3 && eqb c giveLetter) ≡ false
+    → (eqb n 4 && eqb c issueLetter) ≡ false → simulator.unreadable ≡ lineWith c (numbersIs n ns)
+unfolding lineWith lineBy numbersIs
+line-other c n ns h p q r t = four (λ l. simulator.unreadable ≡ lineWith c (numbersIs n l)) (λ a b d e. go a b d e n p q r t) ns h
+  where
+    go : (a b d e n : ℕ) → (eqb n 1 && eqb c syncLetter) ≡ false → (n ≡ 2 → ⊥) → (eqb n 3 && eqb c giveLetter) ≡ false → (eqb n 4 && eqb c issueLetter) ≡ false
+        → simulator.unreadable ≡ lineWith c (numbersIs n (a ∷ b ∷ d ∷ e ∷ []))
+    go a b d e zero p q r t = refl
+    go a b d e (suc zero) p q r t = rw p refl
+    go a b d e (suc (suc zero)) p q r t = absurd (q refl)
+    go a b d e (suc (suc (suc zero))) p q r t = rw r refl
+    go a b d e (suc (suc (suc (suc zero)))) p q r t = rw t refl
+    go a b d e (suc (suc (suc (suc (suc n))))) p q r t = rw (lt-leb (suc (suc (suc (suc (suc n))))) mostNumbers (omega arith)) refl
 
 -- ---- a signed number
 

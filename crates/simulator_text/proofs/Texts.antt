@@ -12,7 +12,7 @@ use lib.Dec.{ltb}
 use lib.ListN.{length, length-append}
 use borrow.Author.Tests.{lt-ltb, le-ltb}
 use Rattle.model.specs.Numbers.{half}
-use Rattle.model.specs.Yard.{Reply, digitsOf, shown, shownSigned, replyText}
+use Rattle.model.specs.Simulator.{Reply, digitsOf, shown, shownSigned, replyText}
 use Rattle.model_laws.proofs.Tests.{choose}
 use Rattle.model_laws.proofs.Written.{written-append, length-written, written-none}
 use Rattle.model.specs.Letters.{space, lineFeed, minus, firstDigit, mostDigits, signedRoom, fieldRoom, replyRoom}

@@ -1,14 +1,16 @@
--- The values of the code in the definitions' terms: numbers, lines, answers; and the place of a byte.
+-- The values of the code in the definitions' terms: numbers, lines, answers; and where a text falls apart.
 -- Assumes nothing.
 use Prim.Native.Nat.{ℕ, suc, _+_}
 use mathlib.Core.Path.{_≡_}
+use mathlib.Core.Bool.{Bool}
 use mathlib.Core.List.{List, [], _∷_}
 use mathlib.Core.Option.{Option, none, some}
-use lib.Dec.{eqb}
-use lib.ListN.{length}
+use lib.Dec.{eqb, leb}
+use lib.ListN.{length, take}
 use Rattle.model.specs.Choice.{pick}
 use Rattle.model.specs.Tables.{written}
-use Rattle.model.specs.Yard as yard
+use Rattle.model.specs.Simulator as simulator
+use Rattle.model.specs.Simulator.{mostLines}
 use Rattle.model.specs.Letters.{lineFeed}
 use Rattle.simulator_text.specs.declared.Number.{Number}
 use Rattle.simulator_text.specs.declared.Number.the-variants.{Nothing, Is}
@@ -24,26 +26,34 @@ abbrev pub numberIs : Number → Option ℕ
 numberIs Nothing = none
 numberIs (Is n) = some n
 
-abbrev pub serverLine : ℕ → ServerLine → yard.Line
-serverLine n (Deliver k) = yard.deliver k n
-serverLine n Sync = yard.sync n
-serverLine n (Cut k) = yard.cut n k
-serverLine n (Give p d) = yard.give n p d
-serverLine n (Image p) = yard.image n p
-serverLine n (Receipt p) = yard.receipt n p
+-- the numbers of a line: three, and an argument behind them
+abbrev pub mostNumbers : ℕ
+mostNumbers = 4
 
-abbrev pub clientLine : ℕ → ClientLine → yard.Line
-clientLine n (Issue op p a) = yard.issue n op p a
-clientLine n (Resend c) = yard.resend n c
-clientLine n (Receive k) = yard.receive k n
+-- the first n of them, none where there are more
+unfoldable pub numbersIs : ℕ → List ℕ → Option (List ℕ)
+numbersIs n ns = pick (leb n mostNumbers) (some (take n ns)) none
 
-abbrev pub lineIs : Line → yard.Line
-lineIs Unreadable = yard.unreadable
+abbrev pub serverLine : ℕ → ServerLine → simulator.Line
+serverLine n (Deliver k) = simulator.deliver k n
+serverLine n Sync = simulator.sync n
+serverLine n (Cut k) = simulator.cut n k
+serverLine n (Give p d) = simulator.give n p d
+serverLine n (Image p) = simulator.image n p
+serverLine n (Receipt p) = simulator.receipt n p
+
+abbrev pub clientLine : ℕ → ClientLine → simulator.Line
+clientLine n (Issue op p a) = simulator.issue n op p a
+clientLine n (Resend c) = simulator.resend n c
+clientLine n (Receive k) = simulator.receive k n
+
+abbrev pub lineIs : Line → simulator.Line
+lineIs Unreadable = simulator.unreadable
 lineIs (AtServer n l) = serverLine n l
 lineIs (AtClient n l) = clientLine n l
 
-abbrev pub replyIs : Reply → yard.Reply
-replyIs r = yard.answered (r .number) (r .made) (r .value)
+abbrev pub replyIs : Reply → simulator.Reply
+replyIs r = simulator.answered (r .number) (r .made) (r .value)
 
 -- the place of the first byte x, the length where there is none
 unfoldable pub firstOf : ℕ → List ℕ → ℕ
@@ -54,6 +64,10 @@ firstOf x (b ∷ s) = pick (eqb b x) 0 (suc (firstOf x s))
 unfoldable pub lineFeeds : List ℕ → ℕ
 lineFeeds [] = 0
 lineFeeds (b ∷ s) = pick (eqb b lineFeed) (suc (lineFeeds s)) (lineFeeds s)
+
+-- the text has as many line feeds as lines are read
+unfoldable pub closed : List ℕ → Bool
+closed t = leb mostLines (lineFeeds t)
 
 -- the text vs was put into p from a place on, which leaves q and the place behind it
 pub record Put (p : List ℕ) (at : ℕ) (vs : List ℕ) (q : List ℕ) (next : ℕ) : Type 0 where

@@ -5,7 +5,7 @@ use mathlib.Core.Bool.{Bool, _||_}
 use mathlib.Core.List.{List}
 use lib.Dec.{leb}
 use lib.ListN.{length}
-use Rattle.simulator.specs.Run.{closed}
+use Rattle.simulator_text.specs.Values.{closed}
 
 -- bytes of an input that is read whole
 abbrev pub longest : ℕ

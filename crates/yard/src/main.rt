@@ -1,11 +1,11 @@
-// The program `yard`: a schedule on standard input, its answers on standard output. The work is `simulator::simulate`, which is proved; here
-// bytes are read and written. An input of more than 65,536 bytes is answered where its first 60 lines end within them, since later lines are
-// not read; else the program says so on standard error and answers nothing.
+// The program `yard`: a schedule on standard input, its answers on standard output. The work is `simulator::simulate`,
+// which is proved; here bytes are read and written. An input of more than 65,536 bytes is answered where its first 60
+// lines end within them, since later lines are not read; else it says so on standard error and answers nothing.
 use model::Answer;
 ghost use mathlib.Core.Path.{_≡_};
 ghost use Prim.Native.Nat.{_+_, _*_};
 ghost use lib.ListN.{length};
-ghost use Rattle.model.specs.Yard.{mostLines};
+ghost use Rattle.model.specs.Simulator.{mostLines};
 ghost use Rattle.model.specs.Letters.{replyRoom};
 ghost use Rattle.yard.specs.Input.{longest, holdsAll};
 
@@ -25,12 +25,12 @@ fn page() -> [u8; simulator::PAGE]
     [0; simulator::PAGE]
 }
 
-// Whether what was read holds all that is answered. Of a longer input the first bytes do where they have the line feeds of all lines that
-// are read: law `rest-unread` of simulator.
+// Whether what was read holds all that is answered. Of a longer input the first bytes do where they have the line feeds
+// of all lines that are read: law `rest-unread` of simulator.
 fn holds_all(s: &[u8]) -> bool
     ensures { λ r. ⌜ r ≡ holdsAll (now (s .entry)) ⌝ }
 {
-    (s.len() <= LONGEST) | simulator::is_closed(s)
+    (s.len() <= LONGEST) | simulator_text::is_closed(s)
 }
 
 // Writes the answers of a text.

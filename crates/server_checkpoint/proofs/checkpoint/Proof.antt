@@ -25,7 +25,7 @@ returns-2 c =
     let at-done = c .before .before .before .before .before .before in
     let at-if1 = at-done .before .before .before .before in
     let a = start-of (at-if1 .before) .args in
-    by-passed (a .state .now) (a .log .now) (a .checkpoint .now) (a .tail .now) (at-if1 .before .checkpoint-refusal .ensures) (at-if1 .if1 .left) (at-done .checkpoint-done .ensures)
+    by-passed (a .state .now) (a .log .now) (a .checkpoint .now) (a .tail .now) (at-if1 .before .checkpoint-refusal .ensures) (at-if1 .if1 .left) (at-done .checkpoint-done .ensures (a .log .now))
 
 pub checkpoint-spec : {M : Type 1} → statement M
 checkpoint-spec =

@@ -26,7 +26,7 @@ restore-requires c κs =
     )
 
 returns : tie.Need-returns
-returns c =
+returns c g =
     let at-head = c .before .before .before in
     let at-restore = at-head .before .before .before .before in
     let at-write = at-restore .before .before .before .before .before in
@@ -34,7 +34,7 @@ returns c =
     let known = known-at at-server in
     let start = known .before in
     let a = start .args in
-    taken (a .s .now) (a .checkpoint .now) (λ i. known .slice-known .given i .fits) (start .pre .0) (start .pre .1) (at-write .write-checkpoint .ensures .0) (a .tail .now)
+    taken (a .s .now) (a .checkpoint .now) (λ i. known .slice-known .given i .fits) (start .pre .0) (start .pre .1) (at-write .write-checkpoint .ensures .0) (a .tail .now) g
     (at-write .write-checkpoint .ensures .1) (c .made .ensures) (at-restore .restore .ensures) (at-server .server-of .ensures) (at-head .write-head .ensures)
 
 pub checkpoint-done-spec : {M : Type 1} → statement M

@@ -34,11 +34,10 @@ place-in-checkpoint-requires c κs =
     let missing = number .before .before in
     let bad = missing .before in
     let walk = bad .before in
-    let known = walk .before .before .before in
-    let start = known .before in
+    let start = walk .before .before .before .before in
     let a = start .args in
     place-ready (a .state .now) (a .checkpoint .now) (a .log .now) (a .client) (a .call) (start .pre) (walk .log-end .ensures) (bad .checkpoint-bad .ensures) (missing .is-missing .ensures)
-    (number .later-refusal .ensures) (c .if1 .left) (λ i. known .shared-slice-known .given i .fits)
+    (number .later-refusal .ensures) (c .if1 .left)
 
 latest-in-requires : tie.Need-latest-in-requires
 latest-in-requires c κs =

@@ -2,8 +2,8 @@
 -- Assumes nothing.
 use Prim.Native.Nat.{ℕ, _*_}
 use lib.ListN.{length-replicate}
-use Rattle.model.specs.Yard.{mostLines}
-use Rattle.simulator_store.specs.Store.{rowSize}
+use Rattle.model.specs.Simulator.{mostLines}
+use Rattle.simulator_memory.specs.Store.{rowSize}
 use Rattle.simulator.proofs.blank_store.Statement.{statement}
 use Rattle.simulator.proofs.blank_store.Tie as tie
 

@@ -1,2 +1,0 @@
-pub mod News
-pub mod Ran

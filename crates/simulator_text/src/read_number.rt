@@ -1,0 +1,85 @@
+// A number of a schedule's line: decimal digits of 32 bits, or an argument with its sign.
+use crate::Number;
+use model::constants;
+ghost use mathlib.Core.Path.{_≡_};
+ghost use Prim.Native.Nat.{_+_, _-_, _*_, _≤_};
+ghost use Rattle.model.specs.Limits.{last32};
+ghost use Rattle.model.specs.Letters.{firstDigit, lastDigit};
+ghost use Rattle.model.specs.Simulator.{isDigit, numberIn, argumentIn, negative, positive};
+ghost use Rattle.simulator_text.specs.Values.{numberIs};
+
+fn is_digit(b: u8) -> bool
+    ensures { λ r. ⌜ r ≡ isDigit b ⌝ }
+{
+    (b'0' <= b) & (b <= b'9')
+}
+
+// The number n, with one digit more.
+fn with_digit(n: u64, b: u8) -> u64
+    requires { ⌜ (n ≤ last32) × (firstDigit ≤ b) × (b ≤ lastDigit) ⌝ }
+    ensures { λ r. ⌜ r ≡ 10 * n + (b - firstDigit) ⌝ }
+{
+    10 * n + (b - b'0') as u64
+}
+
+// Decimal digits, at least one, of a number of 32 bits.
+pub fn number_in(s: &[u8]) -> Number
+    ensures { λ r. ⌜ numberIs r ≡ numberIn (now (s .entry)) ⌝ }
+{
+    if s.len() == 0 {
+        return Number::Nothing;
+    }
+    let mut n: u64 = 0;
+    let mut i = 0;
+    while i < s.len() {
+        let b = s[i];
+        if !is_digit(b) {
+            return Number::Nothing;
+        }
+        n = with_digit(n, b);
+        if constants::LAST_32_U64 < n {
+            return Number::Nothing;
+        }
+        i += 1;
+    }
+    Number::Is(n as u32)
+}
+
+fn negative_of(n: Number) -> Number
+    ensures { λ r. ⌜ numberIs r ≡ negative (numberIs n) ⌝ }
+{
+    let Number::Is(x) = n else {
+        return Number::Nothing;
+    };
+    if x <= constants::HALF {
+        return Number::Is(constants::HALF - x);
+    }
+    Number::Nothing
+}
+
+fn positive_of(n: Number) -> Number
+    ensures { λ r. ⌜ numberIs r ≡ positive (numberIs n) ⌝ }
+{
+    let Number::Is(x) = n else {
+        return Number::Nothing;
+    };
+    if x < constants::HALF {
+        return Number::Is(constants::HALF + x);
+    }
+    Number::Nothing
+}
+
+// A signed number, as x + 2^31.
+pub fn argument_in(s: &[u8]) -> Number
+    ensures { λ r. ⌜ numberIs r ≡ argumentIn (now (s .entry)) ⌝ }
+{
+    if s.len() == 0 {
+        return Number::Nothing;
+    }
+    if s[0] == b'-' {
+        let n = number_in(&s[1..]);
+        return negative_of(n);
+    }
+    let n = number_in(s);
+    positive_of(n)
+}
