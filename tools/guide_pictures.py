@@ -165,7 +165,7 @@ def boot():
     p.line([(410, 54), (410, 84)])
     p.box(300, 84, 220, 46, 'was this server founded?', fill=PAPER)
     p.line([(300, 107), (170, 107), (170, 150)])
-    p.text(235, 100, 'no, never', small=True)
+    p.text(235, 100, 'no: --found, once', small=True)
     p.line([(410, 130), (410, 150)])
     p.text(436, 144, 'yes', small=True)
     p.box(70, 150, 200, 46, 'found (plan, number)')
