@@ -20,8 +20,11 @@ tools/kit.sh >/dev/null || [ $? = 1 ] || exit 1
 tools/staticlib.sh kernel client_c chamber_c
 version=$(sed -nE 's/^#define MANTELORRIS_VERSION_(MAJOR|MINOR) ([0-9]+)$/\2/p' include/mantelorris.h | paste -sd .)
 mkdir -p dist
-rm -f dist/libmantelorris.a
-printf 'CREATE dist/libmantelorris.a\nADDLIB target/staticlib/libkernel.a\nADDLIB target/staticlib/libclient_c.a\nADDLIB target/staticlib/libchamber_c.a\nSAVE\nEND\n' | ar -M
+# made beside the old one and renamed: a program that is being linked finds an archive at every moment
+made=dist/made.$$.a
+trap 'rm -f "$made"' EXIT
+printf 'CREATE %s\nADDLIB target/staticlib/libkernel.a\nADDLIB target/staticlib/libclient_c.a\nADDLIB target/staticlib/libchamber_c.a\nSAVE\nEND\n' "$made" | ar -M
+mv -f "$made" dist/libmantelorris.a
 cp include/*.h dist/
 
 pc() { # PREFIX INCLUDE LIB, from where the file stands
