@@ -18,9 +18,8 @@ use Rattle.model.specs.declared.OpenCall.{OpenCall}
 use Rattle.model.specs.declared.Client.{Client}
 use Rattle.model.specs.Choice.{pick}
 use Rattle.model.specs.Limits.{callWindow, pointCount}
-use Rattle.model.specs.Sequential.{ResultZ}
 use Rattle.model.specs.Clients.{noCall, placeOf, callAt, isOpen, withCalls, withLease, closed, requestFor, newCall, withCall, isOwn}
-use Rattle.proof_protocol.specs.Servers.{Id, idOf, Packet, Asked}
+use Rattle.proof_protocol.specs.Servers.{Id, idOf, Result, Packet, Asked}
 use Rattle.proof_protocol.specs.Servers as S
 use Rattle.proof_protocol.specs.World.{Seen, issued, received, commandAt, askedIn, newClient}
 use Rattle.proof_protocol.proofs.Basics.{impossible, and-true, changed-cases}
@@ -31,7 +30,7 @@ abbrev pub Saw : List Seen → Seen → Type 0
 Saw seen x = List·Memᴰ x seen
 
 -- a received result came in a packet of this id
-pub record Brought (made : List Packet) (k : Command) (r : ResultZ) : Type 0 where
+pub record Brought (made : List Packet) (k : Command) (r : Result) : Type 0 where
   pub point : ℕ
   pub packet : In made (S.answered (idOf k) point r)
 
@@ -48,7 +47,7 @@ pub record ClientsOk (clients : ℕ → Option Client) (made : List Packet) (see
   pub asked : (q : Asked) → In made (S.request q) → Saw seen (issued (q .cmd))
   pub small : (k : Command) → Saw seen (issued k) → k .point < pointCount
   pub single : (k l : Command) → Saw seen (issued k) → Saw seen (issued l) → Same k l → k ≡ l
-  pub results : (k : Command) (r : ResultZ) → Saw seen (received k r) → Saw seen (issued k) × Brought made k r
+  pub results : (k : Command) (r : Result) → Saw seen (received k r) → Saw seen (issued k) × Brought made k r
 
 abbrev pub isRequest : Packet → Bool
 isRequest (S.request q) = true
@@ -112,7 +111,7 @@ command-same d e n p q = command-at d n ∙ ap (λ (x : ℕ). commandIn x (callA
 clientMore : {made : List Packet} {seen : List Seen} {x : ℕ} {d : Client} (q : Packet) → ClientOk made seen x d → ClientOk (q ∷ made) seen x d
 clientMore q o = record { own = o .own; granted = List·Memᴰ·tail (o .granted); opens = o .opens; below = o .below }
 
-broughtMore : {made : List Packet} {k : Command} {r : ResultZ} (q : Packet) → Brought made k r → Brought (q ∷ made) k r
+broughtMore : {made : List Packet} {k : Command} {r : Result} (q : Packet) → Brought made k r → Brought (q ∷ made) k r
 broughtMore q b = record { point = b .point; packet = List·Memᴰ·tail (b .packet) }
 
 module _ (clients : ℕ → Option Client) (made : List Packet) (seen : List Seen) (ok : ClientsOk clients made seen) where
@@ -308,7 +307,7 @@ module _ (clients : ℕ → Option Client) (made : List Packet) (seen : List See
         one k l s (inr m) (inl v) = absurd (not-yet k m (s ∙ ap idOf v))
         one k l s (inr m) (inr n) = ok .single k l m n s
 
-        res : (k : Command) (r : ResultZ) → (received k r ≡ issued c) ⊎ Saw seen (received k r) → Saw seen′ (issued k) × Brought made k r
+        res : (k : Command) (r : Result) → (received k r ≡ issued c) ⊎ Saw seen (received k r) → Saw seen′ (issued k) × Brought made k r
         res k r (inl q) = let z : _≡_ {A = ℕ} 0 1 = cc in absurd (omega arith)
         res k r (inr m) = let h = ok .results k r m in (List·Memᴰ·tail (h .0), h .1)
 
@@ -337,7 +336,7 @@ module _ (clients : ℕ → Option Client) (made : List Packet) (seen : List See
   unfolding isOwn
   own-is d k p q = let h = and-true {a = eqb (k .client) (d .client)} q in let g = and-true {a = isOpen d (k .call)} (h .1) in (eqb-true _ _ (h .0), g .0)
 
-  module _ (x : ℕ) (d : Client) (k : Id) (p : ℕ) (r : ResultZ) (e : clients x ≡ some d) (m : In made (S.answered k p r)) (q : isOwn d (k .client) (k .call) p ≡ true) where
+  module _ (x : ℕ) (d : Client) (k : Id) (p : ℕ) (r : Result) (e : clients x ≡ some d) (m : In made (S.answered k p r)) (q : isOwn d (k .client) (k .call) p ≡ true) where
     abbrev kc : Command
     kc = commandAt d (k .call)
 
@@ -388,12 +387,12 @@ module _ (clients : ℕ → Option Client) (made : List Packet) (seen : List See
       results = λ l s j. res l s (List·Memᴰ·cases-cons j);
     }
       where
-        new : (l : Command) (s : ResultZ) → l ≡ kc → s ≡ r → Saw after (issued l) × Brought made l s
+        new : (l : Command) (s : Result) → l ≡ kc → s ≡ r → Saw after (issued l) × Brought made l s
         new l s u v = (
           List·Memᴰ·tail (subst (λ (z : Command). Saw seen (issued z)) (sym u) was-issued),
-          record { point = p; packet = subst (λ (z : ResultZ). In made (S.answered (idOf l) p z)) (sym v) (subst (λ (z : Id). In made (S.answered z p r)) (same-id ∙ ap idOf (sym u)) m) },
+          record { point = p; packet = subst (λ (z : Result). In made (S.answered (idOf l) p z)) (sym v) (subst (λ (z : Id). In made (S.answered z p r)) (same-id ∙ ap idOf (sym u)) m) },
         )
 
-        res : (l : Command) (s : ResultZ) → (received l s ≡ received kc r) ⊎ Saw seen (received l s) → Saw after (issued l) × Brought made l s
+        res : (l : Command) (s : Result) → (received l s ≡ received kc r) ⊎ Saw seen (received l s) → Saw after (issued l) × Brought made l s
         res l s (inl z) = new l s (cc) (cc)
         res l s (inr j) = let h = ok .results l s j in (List·Memᴰ·tail (h .0), h .1)

@@ -11,11 +11,10 @@ use Prim.Native.Nat.{ℕ, suc, _≤_, _<_}
 use lib.Dec.{eqb}
 use lib.ListN.{length}
 use Rattle.model.specs.Versions.{Version}
-use Rattle.model.specs.Sequential.{ResultZ}
 use Rattle.model.specs.declared.Command.{Command}
 use Rattle.model.specs.Tables.{keep}
 use Rattle.model.specs.Choice.{pick}
-use Rattle.proof_protocol.specs.Servers.{Plan, Id, idOf, Completion, Execution, Image, LogRecord, Entry, Point, State, applyRecord, apply, replay, founding, Packet, isOnOther, takenRecord}
+use Rattle.proof_protocol.specs.Servers.{Plan, Id, idOf, Result, Completion, Execution, Image, LogRecord, Entry, Point, State, applyRecord, apply, replay, founding, Packet, isOnOther, takenRecord}
 use Rattle.proof_protocol.specs.Servers as S
 use Rattle.proof_protocol.specs.World.{Server}
 use Rattle.proof_protocol.proofs.Basics.{keep-out, last-cases, map-out, changed-cases}
@@ -45,7 +44,7 @@ newest s (S.took i) t r m = go (List·Memᴰ·append-cases (keep (isOnOther (i .
     go (inr j) = inl (ap (λ (z : Completion). z .place) (map-out _ r (i .records) j .2))
 newest s (S.freed p n) t r m = inr (keep-out _ r _ m .0)
 
-pub record Shown (plan : Plan) (c most : ℕ) (log : List Entry) (i : Id) (p : ℕ) (x : ResultZ) : Type 0 where
+pub record Shown (plan : Plan) (c most : ℕ) (log : List Entry) (i : Id) (p : ℕ) (x : Result) : Type 0 where
   pub at : List Entry
   pub tail : Tail at log
   pub short : length at ≤ most
@@ -140,7 +139,7 @@ module _ (plan : Plan) (made : List Packet) (srv : ℕ → Server) (c clock : �
       up (inl s) = inl (deeper (within (Tail-refl l)) (omega arith) s)
       up (inr r) = inr r
 
-      ran-root : (v : Version) (k : Command) (done : ℕ) (r : ResultZ) → e .item ≡ S.executed v k done r → (d ≡ record { version = v; cmd = k; res = r; at = e .at }) ⊎ List·Memᴰ d
+      ran-root : (v : Version) (k : Command) (done : ℕ) (r : Result) → e .item ≡ S.executed v k done r → (d ≡ record { version = v; cmd = k; res = r; at = e .at }) ⊎ List·Memᴰ d
           (replay plan c l .points p .past) → Stands-in d (suc (length l)) (e ∷ l) ⊎ Rooted srv d
       ran-root v k done r h (inl q) = inl (record {
         entry = e;
@@ -170,10 +169,10 @@ module _ (plan : Plan) (made : List Packet) (srv : ℕ → Server) (c clock : �
 
 pub record Facts (plan : Plan) (srv : ℕ → Server) (made : List Packet) : Type 0 where
   pub grows : (c : ℕ) → Grows plan c (srv c .log)
-  pub shown : (j : Id) (p : ℕ) (r : ResultZ) → In made (S.answered j p r) → (c : ℕ) × Shown plan c (srv c .mark) (srv c .log) j p r
+  pub shown : (j : Id) (p : ℕ) (r : Result) → In made (S.answered j p r) → (c : ℕ) × Shown plan c (srv c .mark) (srv c .log) j p r
   pub rooted : (i : Image) → In made (S.image i) → (d : Execution) → List·Memᴰ d (i .past) → Rooted srv d
 
-shownTo : {plan : Plan} {c m n : ℕ} {log log′ : List Entry} {j : Id} {p : ℕ} {r : ResultZ} → (s : Shown plan c m log j p r) → Tail (s .at) log′ → m ≤ n → Shown plan c n log′ j p r
+shownTo : {plan : Plan} {c m n : ℕ} {log log′ : List Entry} {j : Id} {p : ℕ} {r : Result} → (s : Shown plan c m log j p r) → Tail (s .at) log′ → m ≤ n → Shown plan c n log′ j p r
 shownTo s t le = record { at = s .at; tail = t; short = let h = s .short in omega arith; done = s .done; among = s .among; id = s .id; res = s .res }
 
 abbrev pub with : (ℕ → Server) → ℕ → Server → ℕ → Server
@@ -182,7 +181,7 @@ with srv c x d = pick (eqb d c) x (srv d)
 module _ (plan : Plan) (srv : ℕ → Server) (made : List Packet) (facts : Facts plan srv made) where
   -- the server c becomes x: what stood in its synced part still does
   module _ (c : ℕ) (x : Server) (gr : Grows plan c (x .log)) (up : srv c .mark ≤ x .mark) (kept : (l : List Entry) → Tail l (srv c .log) → length l ≤ srv c .mark → Tail l (x .log)) where
-    move-shown : (d : ℕ) (j : Id) (p : ℕ) (r : ResultZ) → Shown plan d (srv d .mark) (srv d .log) j p r → Shown plan d (with srv c x d .mark) (with srv c x d .log) j p r
+    move-shown : (d : ℕ) (j : Id) (p : ℕ) (r : Result) → Shown plan d (srv d .mark) (srv d .log) j p r → Shown plan d (with srv c x d .mark) (with srv c x d .log) j p r
     move-shown d j p r s = changed-cases (λ b y. Shown plan b (srv b .mark) (srv b .log) j p r → Shown plan b (y .mark) (y .log) j p r) srv c x
         (λ s. shownTo s (kept (s .at) (s .tail) (s .short)) up) (λ b _ s. s) d s
 
@@ -198,7 +197,7 @@ module _ (plan : Plan) (srv : ℕ → Server) (made : List Packet) (facts : Fact
     }
 
   -- packets
-  pub facts-told : (q : Packet) → ((j : Id) (p : ℕ) (r : ResultZ) → S.answered j p r ≡ q → (c : ℕ) × Shown plan c (srv c .mark) (srv c .log) j p r)
+  pub facts-told : (q : Packet) → ((j : Id) (p : ℕ) (r : Result) → S.answered j p r ≡ q → (c : ℕ) × Shown plan c (srv c .mark) (srv c .log) j p r)
       → ((i : Image) → S.image i ≡ q → (d : Execution) → List·Memᴰ d (i .past) → Rooted srv d) → Facts plan srv (q ∷ made)
   facts-told q fa fi = record {
     grows = facts .grows;
@@ -206,7 +205,7 @@ module _ (plan : Plan) (srv : ℕ → Server) (made : List Packet) (facts : Fact
     rooted = λ i m. ro i (List·Memᴰ·cases-cons m);
   }
     where
-      sh : (j : Id) (p : ℕ) (r : ResultZ) → (S.answered j p r ≡ q) ⊎ In made (S.answered j p r) → (c : ℕ) × Shown plan c (srv c .mark) (srv c .log) j p r
+      sh : (j : Id) (p : ℕ) (r : Result) → (S.answered j p r ≡ q) ⊎ In made (S.answered j p r) → (c : ℕ) × Shown plan c (srv c .mark) (srv c .log) j p r
       sh j p r (inl e) = fa j p r e
       sh j p r (inr m) = facts .shown j p r m
 

@@ -354,7 +354,7 @@ module _ (plan : Plan) (cs : List Change) (run-ok : Run plan emptyWorld cs) (n x
   no-more i b k le ex ec ep = let w = wrote-executed plan cs run-ok i b k ex in go (w .0) (w .1) refl
     where
       go : i < length cs → {y : LogRecord} → Written plan b (stateOf plan (after cs i) b) (In (after cs i .made)) y → y ≡ S.executed (k .version) (k .command) (ex .done) (ex .res) → ⊥
-      go h (I.executing v q mq hd lt fl nr) e =
+      go h (I.executing v q _ mq hd lt fl nr _) e =
           let qk : q .cmd ≡ k .command = cc in
           let inv = inv-at plan cs run-ok i in
           let qp : q .cmd .point ≡ p = ap (λ (z : Command). z .point) qk ∙ ep in

@@ -12,10 +12,10 @@ use lib.Dec.{eqb}
 use borrow.Author.Tests.{eqb-false}
 use Rattle.model.specs.Limits.{pointCount}
 use Rattle.model.specs.Versions.{Version}
-use Rattle.model.specs.Sequential.{ResultZ, Marked, OrderEntry, parts, one, opened, bookAfter, Answers}
+use Rattle.model.specs.Sequential.{Marked, OrderEntry, parts, one, opened, bookAfter, Answers}
 use Rattle.model.specs.declared.Command.{Command}
 use Rattle.model.specs.Choice.{pick}
-use Rattle.proof_protocol.specs.Servers.{Plan, Id, idOf, Execution, Entry, LogRecord, State}
+use Rattle.proof_protocol.specs.Servers.{Plan, Id, idOf, Result, Execution, Entry, LogRecord, State}
 use Rattle.proof_protocol.specs.Servers as S
 use Rattle.proof_protocol.specs.World.{World, Change, emptyWorld, run, stateOf, issued, received}
 use Rattle.claim.specs.Claim.{Once}
@@ -36,10 +36,10 @@ use Rattle.proof_protocol.proofs.Order as Order
 use Rattle.proof_protocol.proofs.Order.{merged, entry, ordered, only, past-rises, merged-good, merged-only, merged-in, book-values, book-answers}
 
 -- a command that is executed was issued
-pub written-issued : (plan : Plan) (w : World) → Inv plan w → {c : ℕ} {s : State} {y : LogRecord} {v : Version} {k : Command} {done : ℕ} {x : ResultZ} → Written plan c s (In (w .made)) y
+pub written-issued : (plan : Plan) (w : World) → Inv plan w → {c : ℕ} {s : State} {y : LogRecord} {v : Version} {k : Command} {done : ℕ} {x : Result} → Written plan c s (In (w .made)) y
     → y ≡ S.executed v k done x
     → Saw (w .seen) (issued k)
-written-issued plan w inv {k = k} (I.executing u a m b d f n) h = let z : a .cmd ≡ k = cc in subst (λ (y : Command). Saw (w .seen) (issued y)) z (inv .clients .asked a m)
+written-issued plan w inv {k = k} (I.executing u a _ m b d f n _) h = let z : a .cmd ≡ k = cc in subst (λ (y : Command). Saw (w .seen) (issued y)) z (inv .clients .asked a m)
 written-issued plan w inv (I.going z t m) h = let z : _≡_ {A = ℕ} 0 1 = cc in absurd (omega arith)
 written-issued plan w inv (I.giving p d hd) h = let z : _≡_ {A = ℕ} 0 1 = cc in absurd (omega arith)
 written-issued plan w inv (I.taking i m b d f) h = let z : _≡_ {A = ℕ} 0 1 = cc in absurd (omega arith)
@@ -75,7 +75,7 @@ module _ (plan : Plan) (cs : List Change) (r : Run plan emptyWorld cs) where
 
   -- ---- every execution in a past was issued
 
-  pub executed-issued : {c : ℕ} {l : List Entry} {v : Version} {k : Command} {done : ℕ} {x : ResultZ} (e : Entry) → Legit plan (In (w .made)) c (w .clock) (e ∷ l)
+  pub executed-issued : {c : ℕ} {l : List Entry} {v : Version} {k : Command} {done : ℕ} {x : Result} (e : Entry) → Legit plan (In (w .made)) c (w .clock) (e ∷ l)
       → e .item ≡ S.executed v k done x → Saw (w .seen) (issued k)
   executed-issued e (Logs.then wr a o g) q = written-issued plan w inv wr q
 
@@ -84,10 +84,10 @@ module _ (plan : Plan) (cs : List Change) (r : Run plan emptyWorld cs) where
 
   -- ---- results
 
-  pub shown-top : (c : ℕ) (j : Id) (p : ℕ) (x : ResultZ) (s : Shown plan c (w .servers c .mark) (w .servers c .log) j p x) → List·Memᴰ (s .done) (H p)
+  pub shown-top : (c : ℕ) (j : Id) (p : ℕ) (x : Result) (s : Shown plan c (w .servers c .mark) (w .servers c .log) j p x) → List·Memᴰ (s .done) (H p)
   shown-top c j p x s = Tail-mem (Tail-trans (past-tail p (s .tail) (inv .facts .grows c)) (tops p .all c)) (s .among)
 
-  pub results : (k : Command) (x : ResultZ) → Saw (w .seen) (received k x) → Answers plan (opened plan) order (k ∷ []) (one x)
+  pub results : (k : Command) (x : Result) → Saw (w .seen) (received k x) → Answers plan (opened plan) order (k ∷ []) (one (x .answer))
   unfolding order timeline
   results k x m =
       let h = inv .clients .results k x m in
@@ -98,8 +98,8 @@ module _ (plan : Plan) (cs : List Change) (r : Run plan emptyWorld cs) where
       let same : d .cmd ≡ k = inv .clients .single (d .cmd) k (issued-past (b .point) d t) (h .0) (s .1 .id) in
       let on : b .point < pointCount = subst (λ (z : ℕ). z < pointCount) (on-point (tops (b .point) .past) d t) (inv .clients .small (d .cmd) (issued-past (b .point) d t)) in
       let a = book-answers plan (merged byEvent H pointCount) good d (merged-in byEvent H d (b .point) pointCount on t) in
-      subst (λ (z : ResultZ). Answers plan (opened plan) (ordered (merged byEvent H pointCount)) (k ∷ []) (one z)) (s .1 .res)
-      (subst (λ (z : Command). Answers plan (opened plan) (ordered (merged byEvent H pointCount)) (z ∷ []) (one (d .res))) same a)
+      subst (λ (z : Result). Answers plan (opened plan) (ordered (merged byEvent H pointCount)) (k ∷ []) (one (z .answer))) (s .1 .res)
+      (subst (λ (z : Command). Answers plan (opened plan) (ordered (merged byEvent H pointCount)) (z ∷ []) (one (d .res .answer))) same a)
 
   -- ---- values
 

@@ -16,9 +16,9 @@ use Rattle.model.specs.Limits.{leaseCount}
 use Rattle.model.specs.declared.Lease.{Lease}
 use Rattle.model.specs.declared.LeaseManager.{LeaseManager}
 use Rattle.model.specs.Leases.{noLease}
-use Rattle.model.specs.Sequential.{opened, ResultZ}
+use Rattle.model.specs.Sequential.{opened}
 use Rattle.model.specs.Choice.{pick}
-use Rattle.proof_protocol.specs.Servers.{Plan, Id, Completion, Execution, Image, LogRecord, Entry, Point, replay, founding, Packet, imageFor}
+use Rattle.proof_protocol.specs.Servers.{Plan, Id, Result, Completion, Execution, Image, LogRecord, Entry, Point, replay, founding, Packet, imageFor}
 use Rattle.proof_protocol.specs.Servers as S
 use Rattle.proof_protocol.specs.World.{World, Server, Change, stateOf, serverAfter, clientAfter, madeBy, seenBy, step, emptyWorld, run, runFrom}
 use Rattle.proof_protocol.specs.Allowed.{Written, Told, Given, Leased, Allowed, Run}
@@ -86,7 +86,7 @@ module _ (plan : Plan) (w : World) (inv : Inv plan w) where
       go (inl s) = (c, deeper t (omega (arith, len)) s)
       go (inr r) = r
 
-  plain-facts : (p : Packet) → plain p ≡ true → ((j : Id) (q : ℕ) (r : ResultZ) → S.answered j q r ≡ p → ⊥) → Facts plan srv (p ∷ made)
+  plain-facts : (p : Packet) → plain p ≡ true → ((j : Id) (q : ℕ) (r : Result) → S.answered j q r ≡ p → ⊥) → Facts plan srv (p ∷ made)
   plain-facts p e n = facts-told plan srv made (inv .facts) p (λ j q r h. absurd (n j q r h)) (λ i q. impossible (sym e ∙ ap plain (sym q)))
 
   tells-facts : (c : ℕ) (p : Packet) → Told c (srv c .mark) (stateOf plan w c) p → Facts plan srv (p ∷ made)
@@ -94,7 +94,7 @@ module _ (plan : Plan) (w : World) (inv : Inv plan w) where
   tells-facts c p (I.repeating r m le) = facts-told plan srv made (inv .facts) _
       (λ j q y e. (c, shown j q y e)) (λ i e. let z : _≡_ {A = ℕ} 0 1 = cc in absurd (omega arith))
     where
-      shown : (j : Id) (q : ℕ) (y : ResultZ) → S.answered j q y ≡ S.answered (r .id) (r .point) (r .res) → Shown plan c (srv c .mark) (srv c .log) j q y
+      shown : (j : Id) (q : ℕ) (y : Result) → S.answered j q y ≡ S.answered (r .id) (r .point) (r .res) → Shown plan c (srv c .mark) (srv c .log) j q y
       shown j q y e =
           let a : r .id ≡ j = cc in
           let b : r .point ≡ q = cc in

@@ -14,12 +14,11 @@ use Prim.Native.Nat.{ℕ, zero, suc, _-_, _≤_, _<_}
 use lib.Dec.{eqb}
 use lib.ListN.{length, drop, length-drop}
 use Rattle.model.specs.Versions.{Version}
-use Rattle.model.specs.Sequential.{ResultZ}
 use Rattle.model.specs.declared.Command.{Command}
 use Rattle.model.specs.Choice.{pick}
 use Rattle.model.specs.Plan.{entryAt}
 use Rattle.model.specs.Apply.{isNotClient}
-use Rattle.proof_protocol.specs.Servers.{Plan, Execution, Image, LogRecord, Entry, Point, State, atPoint, executedPoint, gavePoint, tookPoint, freedPoint, applyRecord, apply, founding, replay, Packet}
+use Rattle.proof_protocol.specs.Servers.{Plan, Result, Execution, Image, LogRecord, Entry, Point, State, atPoint, executedPoint, gavePoint, tookPoint, freedPoint, applyRecord, apply, founding, replay, Packet}
 use Rattle.proof_protocol.specs.Servers as S
 use Rattle.proof_protocol.specs.Allowed.{Written, Given}
 use Rattle.proof_protocol.specs.Allowed as I
@@ -84,7 +83,7 @@ Legit-tail (whole e) g = subst (Legit _ _ _ _) (sym e) g
 Legit-tail (within t) (then w a s g) = Legit-tail t g
 
 pub Written-more : {plan : Plan} {M N : Packet → Type 0} {c : ℕ} {s : State} {r : LogRecord} → ((p : Packet) → M p → N p) → Written plan c s M r → Written plan c s N r
-Written-more f (I.executing v q m a b d e) = I.executing v q (f _ m) a b d e
+Written-more f (I.executing v q x m a b d e is) = I.executing v q x (f _ m) a b d e is
 Written-more f (I.going x t m) = I.going x t (f _ m)
 Written-more f (I.giving p d h) = I.giving p d h
 Written-more f (I.taking i m a b d) = I.taking i (f _ m) a b d
@@ -131,7 +130,7 @@ count-length plan c (e ∷ l) = applied-count (replay plan c l) (e .item) (e .at
 
 pub data Change (c : ℕ) (s : State) (Made : Packet → Type 0) (p : ℕ) (e : Entry) : Point → Type 0 where
   untouched : Change c s Made p e (s .points p)
-  ran : (v : Version) (k : Command) (done : ℕ) (r : ResultZ) → e .item ≡ S.executed v k done r → k .point ≡ p → s .points p .holding ≡ S.held
+  ran : (v : Version) (k : Command) (done : ℕ) (r : Result) → e .item ≡ S.executed v k done r → k .point ≡ p → s .points p .holding ≡ S.held
       → Change c s Made p e (executedPoint v k r (e .at) (s .points p))
   left : (d : ℕ) → e .item ≡ S.gave p d (suc (s .points p .move)) → s .points p .holding ≡ S.held → Change c s Made p e (gavePoint d (suc (s .points p .move)) (suc (s .count)) (s .points p))
   came : (i : Image) → e .item ≡ S.took i → Made (S.image i) → i .point ≡ p → i .destination ≡ c → s .points p .move < i .move → (s .points p .holding ≡ S.held → ⊥) → Change c s Made p e (tookPoint i)
@@ -143,7 +142,7 @@ module _ (plan : Plan) (Made : Packet → Type 0) (c : ℕ) (s : State) (e : Ent
 
   changes : (r : LogRecord) → e .item ≡ r → Written plan c s Made r → Change c s Made p e (applyRecord s r (e .at) .points p)
   unfolding applyRecord
-  changes r h (I.executing v q m hd b d f) = change-at (q .cmd .point) _ (ran v (q .cmd) (q .done) _ h refl hd)
+  changes r h (I.executing v q x m hd b d f is) = change-at (q .cmd .point) _ (ran v (q .cmd) (q .done) x h refl hd)
   changes r h (I.going x t m) = untouched
   changes r h (I.giving q d hd) = change-at q _ (left d h hd)
   changes r h (I.taking i m a b d) = change-at (i .point) _ (came i h m refl a b d)

@@ -18,8 +18,8 @@ use Rattle.model.specs.declared.Floor.{Floor}
 use Rattle.model.specs.Tables.{keep}
 use Rattle.model.specs.Images.{floorOf}
 use Rattle.model.specs.Apply.{raise, mergeFloors, isNotClient}
-use Rattle.model.specs.Sequential.{ReadingZ, ResultZ, afterZ, opened}
-use Rattle.proof_protocol.specs.Servers.{Plan, ruleAt, Id, idOf, Completion, Execution, Image, LogRecord, Point, State, Holding, staysOver, staysOverFloors, isOfOther, isOnOther, takenRecord, executedPoint, gavePoint, tookPoint, freedPoint, applyRecord, founding, foundedPoint, Packet, Asked, imageFor}
+use Rattle.model.specs.Sequential.{ReadingZ, afterZ, opened}
+use Rattle.proof_protocol.specs.Servers.{Plan, ruleAt, Id, idOf, Result, Completion, Execution, Image, LogRecord, Point, State, Holding, staysOver, staysOverFloors, isOfOther, isOnOther, takenRecord, executedPoint, gavePoint, tookPoint, freedPoint, applyRecord, founding, foundedPoint, Packet, Asked, imageFor}
 use Rattle.proof_protocol.specs.Servers as S
 use Rattle.proof_protocol.specs.Allowed.{Written}
 use Rattle.proof_protocol.specs.Allowed as I
@@ -31,7 +31,7 @@ use Rattle.proof_protocol.proofs.Floors.{Ascends, raise-up, merge-up, m
 -- the value that a past leaves at point p
 unfoldable pub valueAfter : Plan → ℕ → List Execution → ReadingZ
 valueAfter plan p [] = opened plan p
-valueAfter plan p (d ∷ ds) = afterZ (d .res)
+valueAfter plan p (d ∷ ds) = afterZ (d .res .answer)
 
 -- one id
 abbrev pub Same : Command → Command → Type 0
@@ -40,7 +40,7 @@ Same k l = idOf k ≡ idOf l
 -- each execution gave what its version of the rule gives on the value before it, on this point, and its id stands once
 pub data Past (plan : Plan) (p : ℕ) : List Execution → Type 0 where
   begun : Past plan p []
-  more : {d : Execution} {ds : List Execution} → d .cmd .point ≡ p → d .res ≡ ruleAt plan (d .version) (d .cmd) (valueAfter plan p ds)
+  more : {d : Execution} {ds : List Execution} → d .cmd .point ≡ p → d .res .answer ≡ ruleAt plan (d .version) (d .cmd) (valueAfter plan p ds)
       → ((e : Execution) → List·Memᴰ e ds → Same (e .cmd) (d .cmd) → ⊥) → ((e : Execution) → List·Memᴰ e ds → e .at < d .at) → Past plan p ds → Past plan p (d ∷ ds)
 
 -- it is of its point
@@ -169,9 +169,9 @@ module _ (plan : Plan) (Made : Packet → Type 0) (hon : Honest plan Made) where
 
   -- ---- executed
 
-  module _ (s : State) (v : Version) (q : Asked) (t : ℕ) (res : ResultZ) (sok : StateOk plan Made s) (made : Made (S.request q)) (isheld : s .points (q .cmd .point) .holding ≡ S.held)
+  module _ (s : State) (v : Version) (q : Asked) (t : ℕ) (res : Result) (sok : StateOk plan Made s) (made : Made (S.request q)) (isheld : s .points (q .cmd .point) .holding ≡ S.held)
       (lease : s .heard < q .lease) (floor : floorOf (q .cmd .client) (s .floors) ≤ q .cmd .call) (nil : (r : Completion) → List·Memᴰ r (s .records) → r .id ≡ idOf (q .cmd) → ⊥)
-      (is : res ≡ ruleAt plan v (q .cmd) (s .points (q .cmd .point) .value)) (asc : Ascends (s .floors)) (older : (p : ℕ) (d : Execution) → List·Memᴰ d (s .points p .past) → d .at < t) where
+      (is : res .answer ≡ ruleAt plan v (q .cmd) (s .points (q .cmd .point) .value)) (asc : Ascends (s .floors)) (older : (p : ℕ) (d : Execution) → List·Memᴰ d (s .points p .past) → d .at < t) where
     abbrev new : Completion
     new = record { id = idOf (q .cmd); point = q .cmd .point; res = res; place = suc (s .count) }
 
@@ -345,7 +345,7 @@ module _ (plan : Plan) (Made : Packet → Type 0) (hon : Honest plan Made) where
 
   pub keeps : (c : ℕ) (s : State) (r : LogRecord) (t : ℕ) → ((p : ℕ) (d : Execution) → List·Memᴰ d (s .points p .past) → d .at < t) → Ascends (s .floors) → Written plan c s Made r
       → StateOk plan Made s → StateOk plan Made (applyRecord s r t)
-  keeps c s r t old asc (I.executing v q made isheld lease floor nil) sok = executed-ok s v q t _ sok made isheld lease floor nil refl asc old
+  keeps c s r t old asc (I.executing v q x made isheld lease floor nil is) sok = executed-ok s v q t x sok made isheld lease floor nil is asc old
   keeps c s r t old asc (I.going x time made) sok = gone-ok s x time t made sok
   keeps c s r t old asc (I.giving p d isheld) sok = gave-ok s p d _ t isheld sok
   keeps c s r t old asc (I.taking i made _ _ _) sok = took-ok s i t sok made asc

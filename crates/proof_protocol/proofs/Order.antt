@@ -249,12 +249,13 @@ module _ (plan : Plan) where
       go true (more pt r f old rest) = rest
       go false k = k
 
-  head-good : (d : Execution) (ds : List Execution) → ((p : ℕ) → Past plan p (only p (d ∷ ds))) → d .res ≡ ruleAt plan (d .version) (d .cmd) (valueAfter plan (d .cmd .point) (only (d .cmd .point) ds))
+  head-good : (d : Execution) (ds : List Execution) → ((p : ℕ) → Past plan p (only p (d ∷ ds)))
+      → d .res .answer ≡ ruleAt plan (d .version) (d .cmd) (valueAfter plan (d .cmd .point) (only (d .cmd .point) ds))
   unfolding only
   head-good d ds g = go (eqb (d .cmd .point) (d .cmd .point)) (eqb-same (d .cmd .point)) (g (d .cmd .point))
     where
       go : (b : Bool) → b ≡ true → Past plan (d .cmd .point) (pick b (d ∷ only (d .cmd .point) ds) (only (d .cmd .point) ds))
-          → d .res ≡ ruleAt plan (d .version) (d .cmd) (valueAfter plan (d .cmd .point) (only (d .cmd .point) ds))
+          → d .res .answer ≡ ruleAt plan (d .version) (d .cmd) (valueAfter plan (d .cmd .point) (only (d .cmd .point) ds))
       go true e (more pt r f old rest) = r
       go false e k = impossible (sym e)
 
@@ -286,16 +287,16 @@ module _ (plan : Plan) where
   answer-is b d = refl
 
   -- the book answers what was answered
-  pub book-answers : (l : List Execution) → ((p : ℕ) → Past plan p (only p l)) → (d : Execution) → List·Memᴰ d l → Answers plan (opened plan) (ordered l) (d .cmd ∷ []) (one (d .res))
+  pub book-answers : (l : List Execution) → ((p : ℕ) → Past plan p (only p l)) → (d : Execution) → List·Memᴰ d l → Answers plan (opened plan) (ordered l) (d .cmd ∷ []) (one (d .res .answer))
   unfolding ordered commands parts
   book-answers [] g d m = absurd (List·Memᴰ·not-nil m)
   book-answers (e ∷ es) g d m = go (λ j. book-answers es (tail-good e es g) d j) (List·Memᴰ·cases-cons m)
     where
-      last : answerTo plan (bookAfter plan (opened plan) (ordered es)) (entry e) ≡ one (e .res)
+      last : answerTo plan (bookAfter plan (opened plan) (ordered es)) (entry e) ≡ one (e .res .answer)
       last = answer-is (bookAfter plan (opened plan) (ordered es)) e ∙ ap one (ap (ruleAt plan (e .version) (e .cmd)) (book-values es (tail-good e es g) (e .cmd .point)) ∙ sym (head-good e es g))
 
-      go : (List·Memᴰ d es → Answers plan (opened plan) (ordered es) (d .cmd ∷ []) (one (d .res))) → (d ≡ e) ⊎ List·Memᴰ d es
-          → Answers plan (opened plan) (ordered es ++ (entry e ∷ [])) (d .cmd ∷ []) (one (d .res))
-      go ih (inl q) = subst (λ (z : Execution). Answers plan (opened plan) (ordered es ++ (entry e ∷ [])) (z .cmd ∷ []) (one (z .res))) (sym q)
+      go : (List·Memᴰ d es → Answers plan (opened plan) (ordered es) (d .cmd ∷ []) (one (d .res .answer))) → (d ≡ e) ⊎ List·Memᴰ d es
+          → Answers plan (opened plan) (ordered es ++ (entry e ∷ [])) (d .cmd ∷ []) (one (d .res .answer))
+      go ih (inl q) = subst (λ (z : Execution). Answers plan (opened plan) (ordered es ++ (entry e ∷ [])) (z .cmd ∷ []) (one (z .res .answer))) (sym q)
           (subst (λ (r : EntryResult). Answers plan (opened plan) (ordered es ++ (entry e ∷ [])) (e .cmd ∷ []) r) last (answers-last (opened plan) (ordered es) (entry e)))
       go ih (inr j) = answers-left _ _ _ _ _ (ih j)

@@ -14,8 +14,8 @@ use lib.ListN.{length, take}
 use borrow.Author.Tests.{ltb-true, ltb-false}
 use Rattle.model.specs.Limits.{pointCount}
 use Rattle.model.specs.declared.Command.{Command}
-use Rattle.model.specs.Sequential.{Marked, OrderEntry, single, parts, commands, EntryResult, one, ResultZ, opened, Answers}
-use Rattle.proof_protocol.specs.Servers.{Plan, idOf, Execution, Entry}
+use Rattle.model.specs.Sequential.{Marked, OrderEntry, single, parts, commands, EntryResult, one, opened, Answers}
+use Rattle.proof_protocol.specs.Servers.{Plan, idOf, Result, Execution, Entry}
 use Rattle.proof_protocol.specs.Servers as S
 use Rattle.proof_protocol.specs.World.{World, Change, emptyWorld, issued, received, run, commandAt, seenBy, step}
 use Rattle.proof_protocol.specs.World as W
@@ -143,7 +143,7 @@ module _ (plan : Plan) (cs : List Change) (run-ok : Run plan emptyWorld cs) wher
           src c e dn q (I.writing b x f wr) = written-issued plan (after cs (e .at)) (inv-at plan cs run-ok (e .at)) wr q
 
   -- a command completed within the first b changes was executed by one of them, and that execution is in the order
-  completed-then : (b : ℕ) → b ≤ length cs → (k : Command) (r : ResultZ) → Saw (after cs b .seen) (received k r)
+  completed-then : (b : ℕ) → b ≤ length cs → (k : Command) (r : Result) → Saw (after cs b .seen) (received k r)
       → (d : Execution) × List·Memᴰ d (H plan cs run-ok (k .point)) × (d .cmd ≡ k) × (d .at < b)
   completed-then b le k r m = go (unfold after in m)
     where
@@ -213,7 +213,7 @@ module _ (plan : Plan) (cs : List Change) (run-ok : Run plan emptyWorld cs) wher
   results-of n ks r c =
       let s = completes-seen n ks r c in
       subst (Answers plan (opened plan) (order plan cs run-ok) ks) (c .result)
-      (subst (λ (z : List Command). Answers plan (opened plan) (order plan cs run-ok) z (one (c .res))) (c .its)
+      (subst (λ (z : List Command). Answers plan (opened plan) (order plan cs run-ok) z (one (c .res .answer))) (c .its)
       (results plan cs run-ok (done c) (c .res)
       (subst (λ (z : World). Saw (z .seen) (received (done c) (c .res))) (sym run-last) (Tail-mem (seen-on plan cs run-ok (suc n) (length cs) (s .0) (omega arith)) (s .1)))))
 

@@ -10,9 +10,9 @@ use Prim.Native.Nat.{ℕ, suc, _≤_, _<_}
 use lib.ListN.{length}
 use Rattle.model.specs.Limits.{pointCount}
 use Rattle.model.specs.Versions.{Version}
-use Rattle.model.specs.Sequential.{Marked, OrderEntry, single, parts, ResultZ}
+use Rattle.model.specs.Sequential.{Marked, OrderEntry, single, parts}
 use Rattle.model.specs.declared.Command.{Command}
-use Rattle.proof_protocol.specs.Servers.{Plan, Execution, LogRecord, Entry, replay, apply, applyRecord, executedPoint}
+use Rattle.proof_protocol.specs.Servers.{Plan, Result, Execution, LogRecord, Entry, replay, apply, applyRecord, executedPoint}
 use Rattle.proof_protocol.specs.Servers as S
 use Rattle.proof_protocol.specs.World.{World, Change, emptyWorld, run, step, serverAfter}
 use Rattle.proof_protocol.specs.World as W
@@ -39,7 +39,7 @@ in-parts : (d : Execution) → List·Memᴰ (marked d) (parts (entry d))
 unfolding parts
 in-parts d = List·Memᴰ·head refl
 
-executed-past : (plan : Plan) (c : ℕ) (l : List Entry) (v : Version) (k : Command) (d t : ℕ) (x : ResultZ)
+executed-past : (plan : Plan) (c : ℕ) (l : List Entry) (v : Version) (k : Command) (d t : ℕ) (x : Result)
     → List·Memᴰ (record { version = v; cmd = k; res = x; at = t }) (replay plan c (record { item = S.executed v k d x; at = t } ∷ l) .points (k .point) .past)
 unfolding replay apply applyRecord executedPoint
 executed-past plan c l v k d t x = rw (eqb-same (k .point)) (List·Memᴰ·head refl)
@@ -60,7 +60,7 @@ module _ (plan : Plan) (cs : List Change) (r : Run plan emptyWorld cs) where
     pub at : run .at ≡ n
 
   -- an execution that stands in a final log is in the timeline
-  in-timeline : (c : ℕ) (l : List Entry) (m : Marked) (d t : ℕ) (x : ResultZ)
+  in-timeline : (c : ℕ) (l : List Entry) (m : Marked) (d t : ℕ) (x : Result)
       → Tail (record { item = S.executed (m .version) (m .command) d x; at = t } ∷ l) (final cs .servers c .log) → Placed m t
   unfolding timeline final
   in-timeline c l m d t x tl =

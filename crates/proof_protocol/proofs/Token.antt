@@ -14,10 +14,9 @@ use lib.Dec.{eqb}
 use borrow.Author.Tests.{eqb-true, eqb-false}
 use Rattle.model.specs.Versions.{Version}
 use Rattle.model.specs.Plan.{entryAt}
-use Rattle.model.specs.Sequential.{ResultZ}
 use Rattle.model.specs.declared.Command.{Command}
 use Rattle.model.specs.Choice.{pick}
-use Rattle.proof_protocol.specs.Servers.{Plan, Execution, Image, Entry, Completion, Point, State, Holding, executedPoint, gavePoint, tookPoint, freedPoint, replay, Packet, imageFor}
+use Rattle.proof_protocol.specs.Servers.{Plan, Result, Execution, Image, Entry, Completion, Point, State, Holding, executedPoint, gavePoint, tookPoint, freedPoint, replay, Packet, imageFor}
 use Rattle.proof_protocol.specs.Servers as S
 use Rattle.proof_protocol.specs.Allowed.{Written, Given}
 use Rattle.proof_protocol.proofs.Logs.{Tail, whole, within, Tail-trans, Change, untouched, ran, left, came, let-go, stepAt, change-move}
@@ -111,7 +110,7 @@ module _ (plan : Plan) (Made : Packet → Type 0) (Allowed : ℕ → List Entry 
   abbrev s : State
   s = replay plan c log
 
-  ran-place : (v : Version) (k : Command) (r : ResultZ) (t : ℕ) → s .points p .holding ≡ S.held → Place Made p tok c (s .points p) → Place Made p tok c (executedPoint v k r t (s .points p))
+  ran-place : (v : Version) (k : Command) (r : Result) (t : ℕ) → s .points p .holding ≡ S.held → Place Made p tok c (s .points p) → Place Made p tok c (executedPoint v k r t (s .points p))
   unfolding executedPoint
   ran-place v k r t hd (behind a b d e g h) = absurd (a hd)
   ran-place v k r t hd (front a b d e g) = front a b d e (within g)

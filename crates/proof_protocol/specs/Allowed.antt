@@ -12,11 +12,10 @@ use Rattle.model.specs.declared.LeaseManager.{LeaseManager}
 use Rattle.model.specs.Limits.{pointCount}
 use Rattle.model.specs.Tables.{every}
 use Rattle.model.specs.Images.{floorOf}
-use Rattle.model.specs.Sequential.{ResultZ}
 use Rattle.model.specs.Versions.{Version}
 use Rattle.model.specs.Clients.{isOpen, isOwn}
 use Rattle.model.specs.Leases.{runningAt, leaseEnd, isTaken, withNewLease, extended}
-use Rattle.proof_protocol.specs.Servers.{Plan, ruleAt, Id, idOf, Completion, Image, LogRecord, State, Holding, held, given, Asked, Packet, imageFor, executed, gone, gave, took, freed, request, answered, receipt, notice, grant, image}
+use Rattle.proof_protocol.specs.Servers.{Plan, ruleAt, Id, idOf, Result, Completion, Image, LogRecord, State, Holding, held, given, Asked, Packet, imageFor, executed, gone, gave, took, freed, request, answered, receipt, notice, grant, image}
 use Rattle.proof_protocol.specs.World.{World, stateOf, Change, same, server, tells, client, leases, founds, writes, syncs, crashes, starts, issues, resends, receives, relets, step}
 
 abbrev pub Made : World → Packet → Type 0
@@ -31,10 +30,11 @@ pub record Given (h : Holding) : Type 0 where
 -- ---- what is written, and why
 
 pub data Written (plan : Plan) (self : ℕ) (s : State) (Made : Packet → Type 0) : LogRecord → Type 0 where
-  -- the point is held, the lease end is after heard time, the call is not under the floor, and no completion record has its id
-  executing : (v : Version) (q : Asked) → Made (request q) → s .points (q .cmd .point) .holding ≡ held → s .heard < q .lease
+  -- the point is held, the lease end is after heard time, the call is not under the floor, no completion record has its id, and the answer is
+  -- the rule's on the point's value
+  executing : (v : Version) (q : Asked) (x : Result) → Made (request q) → s .points (q .cmd .point) .holding ≡ held → s .heard < q .lease
       → floorOf (q .cmd .client) (s .floors) ≤ q .cmd .call → ((r : Completion) → List·Memᴰ r (s .records) → r .id ≡ idOf (q .cmd) → ⊥)
-      → Written plan self s Made (executed v (q .cmd) (q .done) (ruleAt plan v (q .cmd) (s .points (q .cmd .point) .value)))
+      → x .answer ≡ ruleAt plan v (q .cmd) (s .points (q .cmd .point) .value) → Written plan self s Made (executed v (q .cmd) (q .done) x)
   going : (x time : ℕ) → Made (notice x time) → Written plan self s Made (gone x time)
   giving : (p d : ℕ) → s .points p .holding ≡ held → Written plan self s Made (gave p d (suc (s .points p .move)))
   taking : (i : Image) → Made (image i) → i .destination ≡ self → s .points (i .point) .move < i .move
@@ -90,7 +90,7 @@ pub data Allowed (plan : Plan) (w : World) : Change → Type 0 where
   starting : (x t : ℕ) → Made w (grant x t) → w .clients x ≡ none → Allowed plan w (client x (starts t))
   issuing : (x : ℕ) (d : Client) (o p a : ℕ) → w .clients x ≡ some d → p < pointCount → Allowed plan w (client x (issues d o p a))
   resending : (x : ℕ) (d : Client) (k : ℕ) → w .clients x ≡ some d → isOpen d k ≡ true → Allowed plan w (client x (resends d k))
-  receiving : (x : ℕ) (d : Client) (i : Id) (p : ℕ) (r : ResultZ) → w .clients x ≡ some d → Made w (answered i p r)
+  receiving : (x : ℕ) (d : Client) (i : Id) (p : ℕ) (r : Result) → w .clients x ≡ some d → Made w (answered i p r)
       → isOwn d (i .client) (i .call) p ≡ true → Allowed plan w (client x (receives d i p r))
   reletting : (x : ℕ) (d : Client) (t : ℕ) → w .clients x ≡ some d → Made w (grant (d .client) t) → Allowed plan w (client x (relets d t))
   leasing : (m : LeaseManager) (p : Packet) → Leased (w .manager) m p → Allowed plan w (leases m p)

@@ -13,9 +13,9 @@ use Rattle.model.specs.declared.Command.{Command}
 use Rattle.model.specs.declared.Client.{Client}
 use Rattle.model.specs.Limits.{pointCount}
 use Rattle.model.specs.Plan.{entryAt}
-use Rattle.model.specs.Sequential.{Marked, OrderEntry, parts, commands, EntryResult, one, ResultZ, opened, bookAfter, Answers}
+use Rattle.model.specs.Sequential.{Marked, OrderEntry, parts, commands, EntryResult, one, opened, bookAfter, Answers}
 use Rattle.claim.specs.Claim.{_∈_, Once, Before}
-use Rattle.proof_protocol.specs.Servers.{Plan, Id}
+use Rattle.proof_protocol.specs.Servers.{Plan, Id, Result}
 use Rattle.proof_protocol.specs.Servers as S
 use Rattle.proof_protocol.specs.World.{World, Change, run, stateOf, emptyWorld, commandAt, issuedBy}
 use Rattle.proof_protocol.specs.World as W
@@ -52,15 +52,15 @@ module _ (cs : List Change) where
     pub state : Client
     pub id : Id
     pub point : ℕ
-    pub res : ResultZ
+    pub res : Result
     pub event : At n (W.client client (W.receives state id point res))
     pub its : commandAt state (id .call) ∷ [] ≡ ks
-    pub result : one res ≡ r
+    pub result : one (res .answer) ≡ r
 
   -- a server that writes an executed record executes its command: change n executes m at server c
   pub record Executes (n c : ℕ) (m : Marked) : Type 0 where
     pub done : ℕ
-    pub res : ResultZ
+    pub res : Result
     pub event : At n (W.server c (W.writes (S.executed (m .version) (m .command) done res)))
 
   -- an execution survives where every later crash of its server kept the log as long as it was then

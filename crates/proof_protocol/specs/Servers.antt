@@ -35,18 +35,22 @@ pub record Id : Type 0 where
 abbrev pub idOf : Command → Id
 idOf k = record { client = k .client; call = k .call }
 
+-- a command's result, as records hold it and packets tell it
+pub record Result : Type 0 where
+  pub answer : ResultZ  -- what the sequential specification answers
+
 -- a completion record; `place` is the number of the log record that brought it, counted from 1
 pub record Completion : Type 0 where
   pub id : Id
   pub point : ℕ
-  pub res : ResultZ
+  pub res : Result
   pub place : ℕ
 
 -- an execution, with the version it was by and the number of the event that made it
 pub record Execution : Type 0 where
   pub version : Version
   pub cmd : Command
-  pub res : ResultZ
+  pub res : Result
   pub at : ℕ
 
 pub record Image : Type 0 where
@@ -60,7 +64,7 @@ pub record Image : Type 0 where
   pub past : List Execution  -- all executions of the point so far
 
 pub data LogRecord : Type 0 where
-  executed : Version → Command → ℕ → ResultZ → LogRecord  -- version, command, done, result
+  executed : Version → Command → ℕ → Result → LogRecord  -- version, command, done, result
   gone : ℕ → ℕ → LogRecord  -- client, time
   gave : ℕ → ℕ → ℕ → LogRecord  -- point, destination, move
   took : Image → LogRecord
@@ -117,13 +121,13 @@ takenRecord n r = record { id = r .id; point = r .point; res = r .res; place = n
 
 -- ---- replay: the one way a state changes
 
-unfoldable pub executedPoint : Version → Command → ResultZ → ℕ → Point → Point
+unfoldable pub executedPoint : Version → Command → Result → ℕ → Point → Point
 executedPoint v k r t x =
     record {
       holding = x .holding;
       move = x .move;
       taken = x .taken;
-      value = afterZ r;
+      value = afterZ (r .answer);
       past = record { version = v; cmd = k; res = r; at = t } ∷ x .past;
     }
 
@@ -208,7 +212,7 @@ pub record Asked : Type 0 where
 
 pub data Packet : Type 0 where
   request : Asked → Packet
-  answered : Id → ℕ → ResultZ → Packet  -- a result: whose, at which point
+  answered : Id → ℕ → Result → Packet  -- a result: whose, at which point
   receipt : ℕ → ℕ → ℕ → Packet  -- point, server, move
   notice : ℕ → ℕ → Packet  -- client, time
   grant : ℕ → ℕ → Packet  -- client, lease end

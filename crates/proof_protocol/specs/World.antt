@@ -13,10 +13,9 @@ use Rattle.model.specs.declared.Client.{Client}
 use Rattle.model.specs.declared.LeaseManager.{LeaseManager}
 use Rattle.model.specs.Choice.{pick}
 use Rattle.model.specs.Limits.{callWindow}
-use Rattle.model.specs.Sequential.{ResultZ}
 use Rattle.model.specs.Clients.{noCall, callAt, closed, withLease, requestFor, newCall, withCall}
 use Rattle.model.specs.Leases.{newManager}
-use Rattle.proof_protocol.specs.Servers.{Plan, Id, LogRecord, Entry, State, replay, Packet, Asked}
+use Rattle.proof_protocol.specs.Servers.{Plan, Id, Result, LogRecord, Entry, State, replay, Packet, Asked}
 use Rattle.proof_protocol.specs.Servers as S
 
 -- ---- parties
@@ -30,7 +29,7 @@ pub record Server : Type 0 where
 -- what clients saw
 pub data Seen : Type 0 where
   issued : Command → Seen
-  received : Command → ResultZ → Seen
+  received : Command → Result → Seen
 
 pub record World : Type 0 where
   pub servers : ℕ → Server
@@ -56,7 +55,7 @@ pub data ClientChange : Type 0 where
   starts : ℕ → ClientChange  -- lease end
   issues : Client → ℕ → ℕ → ℕ → ClientChange  -- op, point, argument
   resends : Client → ℕ → ClientChange  -- call
-  receives : Client → Id → ℕ → ResultZ → ClientChange  -- a result: id, point
+  receives : Client → Id → ℕ → Result → ClientChange  -- a result: id, point
   relets : Client → ℕ → ClientChange  -- a new lease end
 
 -- one for each event; `same` where nothing of this world changes

@@ -36,7 +36,7 @@ use Rattle.model.specs.Apply.{raise, mergeFloors, isNotClient}
 use Rattle.model_laws.proofs.Tests.{and-left}
 use Rattle.model_laws.proofs.Commands.{command-parts}
 use Rattle.model_invariants.specs.Sound.{GoodExecuted, GoodRecord}
-use Rattle.proof_records.specs.Likeness.{Pair, placeOf, readingOf, takenAs, ImageLike, RecordLike, completionOf, holdingOf, PointLike, StateLike}
+use Rattle.proof_records.specs.Likeness.{Pair, placeOf, readingOf, resultOf, takenAs, ImageLike, RecordLike, completionOf, holdingOf, PointLike, StateLike}
 use Rattle.proof_records.specs.Likeness as Likeness
 
 module _ {A B : Type 0} (f : A → B) where
@@ -89,12 +89,12 @@ executed-point-good x G =
 
 module _ (zs : List Pair) (st : State) (s : S.State) (end t : ℕ) (T : StateLike zs st s) (full : length (st .points) ≡ pointCount) (placed : placeOf zs end ≡ suc (s .count)) where
   executed-record : (x : Executed)
-      → record { id = S.idOf (x .command); point = x .command .point; res = resultMeant (x .result); place = suc (s .count) } ≡ completionOf zs (Apply.completion x end)
+      → record { id = S.idOf (x .command); point = x .command .point; res = resultOf (x .result); place = suc (s .count) } ≡ completionOf zs (Apply.completion x end)
   unfolding completionOf Apply.completion
   executed-record x = rw placed
 
   executed-like : (v : Version) (x : Executed) → x .command .point ≤ lastPoint
-      → StateLike zs (Apply.applyExecuted x end st) (S.applyRecord s (S.executed v (x .command) (x .done) (resultMeant (x .result))) t)
+      → StateLike zs (Apply.applyExecuted x end st) (S.applyRecord s (S.executed v (x .command) (x .done) (resultOf (x .result))) t)
   unfolding Apply.applyExecuted S.applyRecord pointAt Apply.completion S.staysOver Apply.staysOver completionOf
       Apply.executedPoint S.executedPoint holdingOf readingOf readingMeant resultMeant afterZ
   executed-like v x l =

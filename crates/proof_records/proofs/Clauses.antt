@@ -21,7 +21,7 @@ use Rattle.model.specs.declared.Packet.the-variants.{Requested}
 use Rattle.model.specs.declared.Sent.the-variants.{Asked}
 use Rattle.model.specs.declared.Received.the-variants.{Completed}
 use Rattle.model.specs.Plan.{planOf}
-use Rattle.model.specs.Sequential.{Marked, EntryResult, ResultZ, resultMeant}
+use Rattle.model.specs.Sequential.{Marked, EntryResult}
 use Rattle.model.specs.Packets.{parsePacket}
 use Rattle.model.specs.Clients.{issueOf, receiveOf}
 use Rattle.model.specs.Calls.{request, handed, decision}
@@ -36,6 +36,7 @@ use Rattle.claim.specs.RecordWorld.{World, Event, run, after, emptyWorld, keptB
 use Rattle.claim.specs.RecordWorld as R
 use Rattle.claim.specs.RecordProvisos.{At, lengthOf}
 use Rattle.claim.specs.RecordClaim.{Issues, Completes, Executes, SurvivesAt}
+use Rattle.proof_records.specs.Likeness.{resultOf}
 use Rattle.proof_records.specs.Worlds.{Running, WorldLike}
 use Rattle.proof_records.specs.Matched.{Executed, Cut, Quiet, Plain, Matched, Follows, bytesIn}
 use Rattle.proof_records.specs.Matched as M
@@ -59,7 +60,7 @@ module _ {w : World} {v v′ : W.World} where
   issue-on (M.other e a h s) d q f k = absurd (h d q f k)
 
   receive-on : {x p : ℕ} {a : W.Change} → Matched w v v′ (R.outside (receive x p)) a → (d : Client) (b : List ℕ) (r : ResultPacket) → w .clients x ≡ some d → packet w p ≡ some b
-      → receiveOf d b .answer ≡ Completed r → a ≡ W.client x (W.receives d (record { client = r .client; call = r .call }) (r .point) (resultMeant (r .result)))
+      → receiveOf d b .answer ≡ Completed r → a ≡ W.client x (W.receives d (record { client = r .client; call = r .call }) (r .point) (resultOf (r .result)))
   unfolding Quiet
   receive-on (M.received x p c g s e f k) d b r e′ f′ k′ =
       let i : c ≡ d = some-same e e′ in
@@ -70,7 +71,7 @@ module _ {w : World} {v v′ : W.World} where
   receive-on (M.other e a h s) d b r e′ f′ k = absurd (h d b r e′ f′ k)
 
   request-on : {c p room : ℕ} {vs : Versions} {a : W.Change} → Matched w v v′ (R.call c (request vs p) room) a → (q : Request) → Executed w c p vs room q
-      → (r : ResultZ) × (a ≡ W.server c (W.writes (S.executed (vs (q .command .op)) (q .command) (q .done) r)))
+      → (r : S.Result) × (a ≡ W.server c (W.writes (S.executed (vs (q .command .op)) (q .command) (q .done) r)))
   unfolding Quiet
   request-on (M.executed c p vs room k r X) q Y =
       let j : X .bytes ≡ Y .bytes = some-same (X .delivered) (Y .delivered) in
@@ -151,7 +152,7 @@ module _ (plan : List ℕ) (es : List Event) (cs : List W.Change) (F : Follows (
         state = i .state;
         id = record { client = i .received .client; call = i .received .call };
         point = i .received .point;
-        res = resultMeant (i .received .result);
+        res = resultOf (i .received .result);
         event = subst (X.At cs n) (receive-on (m .2) (i .state) (i .bytes) (i .received) (i .started) (i .delivered) (i .answer)) (m .1);
         its = i .its;
         result = i .result;

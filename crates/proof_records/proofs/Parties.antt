@@ -20,7 +20,6 @@ use Rattle.model.specs.declared.Sent.{Sent}
 use Rattle.model.specs.declared.Sent.the-variants.{NotSent, Asked}
 use Rattle.model.specs.declared.Received.the-variants.{Completed}
 use Rattle.model.specs.declared.ReceiveAnswer.{ReceiveAnswer}
-use Rattle.model.specs.Sequential.{resultMeant}
 use Rattle.model.specs.Packets.{parsePacket, requestBytes, grantOk, noticeOk, packetBytes, grantBytes, noticeBytes}
 use Rattle.model.specs.Clients.{startOf, startWith, issueOf, resendOf, receiveOf, receiveWith, notReceived, isOpen, isOwn, callAt, closed, withLease, withCalls, withCall, newCall, sentBytes}
 use Rattle.model_laws.specs.Fits.{IsPacket, RequestFits, GrantFits, NoticeFits}
@@ -40,6 +39,7 @@ use Rattle.claim.specs.World.{packet, making, sends, receives, startsOn, starts
 use Rattle.claim.specs.Provisos.{OutsideTyped, StartedOnce}
 use Rattle.claim.specs.RecordWorld.{World, step}
 use Rattle.claim.specs.RecordWorld as R
+use Rattle.proof_records.specs.Likeness.{resultOf}
 use Rattle.proof_records.specs.Made.{Means, PacketLike}
 use Rattle.proof_records.specs.Worlds.{WorldLike}
 use Rattle.proof_records.specs.Matched.{Quiet, issued, received, other, Stepped}
@@ -175,12 +175,12 @@ module _ {plan : List PlanEntry} {w : World} {v : W.World} (l : WorldLike plan w
       receive-some (ReceiveCase.completed r p o q) =
           let m = subst (Means (Made v)) p (handed .packet) in
           let t = l .started x d e in
-          let k = W.receives d (record { client = r .client; call = r .call }) (r .point) (resultMeant (r .result)) in
+          let k = W.receives d (record { client = r .client; call = r .call }) (r .point) (resultOf (r .result)) in
           let h : WellFormed (receiveWith d (Resulted r) .client) = receive-well (t .well) (Resulted r) (m .0) in
           let g : receiveWith d (Resulted r) .client ≡ closed d (r .call) = ap (λ (y : Packet). receiveWith d y .client) (sym p) ∙ ap (λ (y : ReceiveAnswer). y .client) q in
           record {
             change = W.client x k;
-            allowed = P.receiving x d (record { client = r .client; call = r .call }) (r .point) (resultMeant (r .result)) (there e) (m .1) (own-yes d _ _ _ o);
+            allowed = P.receiving x d (record { client = r .client; call = r .call }) (r .point) (resultOf (r .result)) (there e) (m .1) (own-yes d _ _ _ o);
             like = rw (e, f, q) (like-client l x k (record { well = subst WellFormed g h; own = t .own }));
             matched = received x n d b r e f (ap (λ (y : ReceiveAnswer). y .answer) q);
           }

@@ -28,7 +28,7 @@ use Rattle.model.specs.Numbers.{word}
 use Rattle.model.specs.Limits.{lastPoint, lastServer, lastOutcome, lastQuality}
 use Rattle.model.specs.Tables.{keep}
 use Rattle.model.specs.Plan.{entryAt}
-use Rattle.model.specs.Sequential.{ResultZ, readingMeant, resultMeant}
+use Rattle.model.specs.Sequential.{readingMeant, resultMeant}
 use Rattle.model.specs.Packets.{commandOk, outcomeOk, idOk, requestOk, resultOk, resultBytes, receiptOk, receiptBytes, packetBytes}
 use Rattle.model.specs.Images.{idBefore, imageBytes, floorOf}
 use Rattle.model.specs.Logs.{LogRecord, executed}
@@ -51,7 +51,7 @@ use Rattle.proof_protocol.specs.Servers as S
 use Rattle.proof_protocol.specs.World.{askedIn}
 use Rattle.proof_protocol.specs.Allowed.{Given, Written, executing, going, giving, taking, freeing, Told, repeating, imaging, receipting}
 use Rattle.proof_protocol.proofs.Basics.{keep-in, keep-out, map-in, map-out}
-use Rattle.proof_records.specs.Likeness.{Pair, placeOf, readingOf, takenAs, RecordLike, completionOf, holdingOf, PointLike, AnyLength, Alike}
+use Rattle.proof_records.specs.Likeness.{Pair, placeOf, readingOf, resultOf, takenAs, RecordLike, completionOf, holdingOf, PointLike, AnyLength, Alike}
 use Rattle.proof_records.specs.Likeness as Likeness
 use Rattle.proof_records.specs.Made.{Means, ImageMeans, PacketLike}
 use Rattle.proof_records.specs.Inverse.{Appends, Replies}
@@ -249,11 +249,12 @@ module _ (plan : List PlanEntry) (c : ℕ) (zs : List Pair) (st : State) (s : S.
   written {M} o r (Inverse.executes v b q e h l f n d) H =
       let m = subst (Means M) e (H .packet) in
       let P = A .like .points (q .command .point) (request-command q (m .0) .point) in
-      let x = S.executed (v (q .command .op)) (q .command) (q .done) in
       record {
-        abstract = x (S.ruleAt plan (v (q .command .op)) (q .command) (s .points (q .command .point) .value));
-        like = subst (λ (y : ResultZ). RecordLike (executed (executedFor v st q)) (x y)) (rule-same v q (m .0)) (Likeness.executed (v (q .command .op)) (executedFor v st q));
-        why = executing (v (q .command .op)) (askedIn q) (m .1) (held-like zs _ _ P h) (omega (arith, A .like .heard)) (rw (floor-same (q .command .client)) f) (none-held _ _ n);
+        abstract = _;
+        like = Likeness.executed (v (q .command .op)) (executedFor v st q);
+        why =
+            executing (v (q .command .op)) (askedIn q) (resultOf (resultFor v st q)) (m .1) (held-like zs _ _ P h) (omega (arith, A .like .heard)) (rw (floor-same (q .command .client)) f)
+            (none-held _ _ n) (rule-same v q (m .0));
         decides = byRequest v q (m .0) d;
         source = execution v b q _ refl e refl;
       }

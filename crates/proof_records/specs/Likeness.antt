@@ -6,6 +6,7 @@ use mathlib.Core.Path.{_≡_}
 use mathlib.Core.List.{List, [], _∷_, _++_, map}
 use lib.Dec.{eqb, leb}
 use Rattle.model.specs.Versions.{Version}
+use Rattle.model.specs.declared.CommandResult.{CommandResult}
 use Rattle.model.specs.declared.Executed.{Executed}
 use Rattle.model.specs.declared.Notice.{Notice}
 use Rattle.model.specs.declared.Give.{Give}
@@ -31,11 +32,15 @@ use Rattle.model_invariants.specs.History.{Decides}
 unfoldable pub readingOf : Point → ReadingZ
 readingOf x = readingMeant (record { value = x .value; quality = x .quality })
 
+-- a result in the protocol
+abbrev pub resultOf : CommandResult → S.Result
+resultOf r = record { answer = resultMeant r }
+
 -- ---- images; the places of an image's records are its giver's, and no taker reads them
 
 -- a record of an image of point p, at place n of the taker's log
 unfoldable pub takenAs : ℕ → ℕ → ImageEntry → S.Completion
-takenAs n p e = record { id = record { client = e .client; call = e .call }; point = p; res = resultMeant (e .result); place = n }
+takenAs n p e = record { id = record { client = e .client; call = e .call }; point = p; res = resultOf (e .result); place = n }
 
 pub record ImageLike (i : Image) (a : S.Image) : Type 0 where
   pub point : a .point ≡ i .point
@@ -49,7 +54,7 @@ pub record ImageLike (i : Image) (a : S.Image) : Type 0 where
 -- ---- log records and logs
 
 pub data RecordLike : LogRecord → S.LogRecord → Type 0 where
-  executed : (v : Version) (x : Executed) → RecordLike (Logs.executed x) (S.executed v (x .command) (x .done) (resultMeant (x .result)))
+  executed : (v : Version) (x : Executed) → RecordLike (Logs.executed x) (S.executed v (x .command) (x .done) (resultOf (x .result)))
   gone : (n : Notice) → RecordLike (Logs.gone n) (S.gone (n .client) (n .time))
   gave : (g : Give) → RecordLike (Logs.gave g) (S.gave (g .point) (g .destination) (g .moveNumber))
   took : (i : Image) (a : S.Image) → ImageLike i a → RecordLike (Logs.took i) (S.took a)
@@ -79,7 +84,7 @@ placeOf (z ∷ zs) k = pick (leb (z .entry .end) k) (suc (placeOf zs k)) (placeO
 
 unfoldable pub completionOf : List Pair → Completion → S.Completion
 completionOf zs r =
-    record { id = S.idOf (r .command); point = r .command .point; res = resultMeant (r .result); place = placeOf zs (r .end) }
+    record { id = S.idOf (r .command); point = r .command .point; res = resultOf (r .result); place = placeOf zs (r .end) }
 
 -- by the status: 1 held, 2 given, 3 released, else absent
 unfoldable pub holdingOf : List Pair → Point → S.Holding

@@ -8,12 +8,11 @@ use Rattle.model.specs.declared.Packet.the-variants.{Malformed, Requested, Resu
 use Rattle.model.specs.Limits.{lastPoint}
 use Rattle.model.specs.Packets.{parsePacket}
 use Rattle.model.specs.Images.{Image, parseImage}
-use Rattle.model.specs.Sequential.{resultMeant}
 use Rattle.model_laws.specs.Fits.{ResultFits, GrantFits}
 use Rattle.model_invariants.specs.Sound.{GoodRequest, GoodNotice, GoodImage}
 use Rattle.proof_protocol.specs.Servers as S
 use Rattle.proof_protocol.specs.World.{askedIn}
-use Rattle.proof_records.specs.Likeness.{ImageLike}
+use Rattle.proof_records.specs.Likeness.{resultOf, ImageLike}
 
 -- `Made p`: the protocol's packet p was made
 module _ (Made : S.Packet → Type 0) where
@@ -21,7 +20,7 @@ module _ (Made : S.Packet → Type 0) where
   unfoldable pub Means : Packet → Type 0
   Means Malformed = Unit
   Means (Requested q) = GoodRequest q × Made (S.request (askedIn q))
-  Means (Resulted r) = ResultFits r × Made (S.answered (record { client = r .client; call = r .call }) (r .point) (resultMeant (r .result)))
+  Means (Resulted r) = ResultFits r × Made (S.answered (record { client = r .client; call = r .call }) (r .point) (resultOf (r .result)))
   Means (Refused r) = Unit
   Means (Receipted r) = (r .point ≤ lastPoint) × Made (S.receipt (r .point) (r .server) (r .moveNumber))
   Means (Noticed n) = GoodNotice n × Made (S.notice (n .client) (n .time))

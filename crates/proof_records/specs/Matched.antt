@@ -20,13 +20,13 @@ use Rattle.model.specs.declared.Packet.the-variants.{Requested}
 use Rattle.model.specs.declared.Sent.the-variants.{Asked}
 use Rattle.model.specs.declared.Received.the-variants.{Completed}
 use Rattle.model.specs.Limits.{headSize, executedSize, goneSize, giveSize, takeHead, releaseSize, leastImage, floorRow, entryRow}
-use Rattle.model.specs.Sequential.{ResultZ, resultMeant}
 use Rattle.model.specs.Packets.{parsePacket}
 use Rattle.model.specs.Calls.{Operation, request, decision}
 use Rattle.proof_protocol.specs.Servers as S
 use Rattle.proof_protocol.specs.World as W
 use Rattle.proof_protocol.specs.Allowed.{Allowed}
 use Rattle.proof_protocol.proofs.Logs.{Tail}
+use Rattle.proof_records.specs.Likeness.{resultOf}
 use Rattle.proof_records.specs.Worlds.{Running, WorldLike}
 
 -- ---- the bytes of the protocol's log
@@ -58,7 +58,7 @@ NoExecution (S.freed p m) = Unit {0}
 
 -- a request writes the execution of its command by its program's version, and no other call writes an execution
 pub data Source (o : Operation) (a : S.LogRecord) : Type 0 where
-  execution : (v : Versions) (b : List ℕ) (q : Request) (r : ResultZ) → o ≡ request v b → parsePacket b ≡ Requested q
+  execution : (v : Versions) (b : List ℕ) (q : Request) (r : S.Result) → o ≡ request v b → parsePacket b ≡ Requested q
       → a ≡ S.executed (v (q .command .op)) (q .command) (q .done) r → Source o a
   no-execution : ((v : Versions) (b : List ℕ) → o ≡ request v b → ⊥) → NoExecution a → Source o a
 
@@ -109,13 +109,13 @@ Quiet w (R.outside (renew x t span)) = Unit
 Quiet w (R.outside (query x t)) = Unit
 
 pub data Matched (w : World) (v v′ : W.World) : Event → W.Change → Type 0 where
-  executed : (c p : ℕ) (vs : Versions) (room : ℕ) (q : Request) (r : ResultZ) → Executed w c p vs room q
+  executed : (c p : ℕ) (vs : Versions) (room : ℕ) (q : Request) (r : S.Result) → Executed w c p vs room q
       → Matched w v v′ (R.call c (request vs p) room) (W.server c (W.writes (S.executed (vs (q .command .op)) (q .command) (q .done) r)))
   cut : (c b j : ℕ) → Cut v v′ c b → Matched w v v′ (R.crash c b) (W.server c (W.crashes j))
   issued : (x op p a : ℕ) (d : Client) (q : Request) → w .clients x ≡ some d → issueOf d op p a .answer ≡ Asked q
       → Matched w v v′ (R.outside (issue x op p a)) (W.client x (W.issues d op p a))
   received : (x p : ℕ) (d : Client) (b : List ℕ) (r : ResultPacket) → w .clients x ≡ some d → packet w p ≡ some b → receiveOf d b .answer ≡ Completed r
-      → Matched w v v′ (R.outside (receive x p)) (W.client x (W.receives d (record { client = r .client; call = r .call }) (r .point) (resultMeant (r .result))))
+      → Matched w v v′ (R.outside (receive x p)) (W.client x (W.receives d (record { client = r .client; call = r .call }) (r .point) (resultOf (r .result))))
   other : (e : Event) (a : W.Change) → Quiet w e → Plain a → Matched w v v′ e a
 
 -- the event e, followed by a change that may happen
