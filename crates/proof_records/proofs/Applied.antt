@@ -1,12 +1,10 @@
 -- Each log record, applied in both worlds, keeps states alike.
---     map-with, all-in         mapped lists; what holds of all
 --     record-like              every record
 -- Assumes nothing.
 use Prim.Native.Nat.{ℕ, _≤_, suc, max}
 use mathlib.Core.Path.{_≡_, refl, sym, ap, _∙_, subst}
 use mathlib.Core.Bool.{Bool, true, false}
-use mathlib.Core.List.{List, [], _∷_, _++_, map, List·Memᴰ, List·Memᴰ·not-nil, List·Memᴰ·cases-cons}
-use mathlib.Core.Logic.{_⊎_, inl, inr}
+use mathlib.Core.List.{List, [], _∷_, map}
 use native.Mathlib.Omega.{arith}
 use lib.ListN.{length, getD, set}
 use lib.Seq.{getD-set-same, getD-set-other}
@@ -17,7 +15,6 @@ use Rattle.model.specs.Choice.{pick}
 use Rattle.model.specs.Limits.{lastPoint, pointCount}
 use Rattle.model.specs.Tables.{keep}
 use Rattle.model.specs.States.{noPoint, State, pointAt}
-use Rattle.model_laws.specs.Bytes.{All}
 use Rattle.model_invariants.proofs.Floors.{eqb-no}
 use Rattle.proof_protocol.specs.Servers as S
 use Rattle.model.specs.Versions.{Version}
@@ -36,36 +33,9 @@ use Rattle.model.specs.Apply.{raise, mergeFloors, isNotClient}
 use Rattle.model_laws.proofs.Tests.{and-left}
 use Rattle.model_laws.proofs.Commands.{command-parts}
 use Rattle.model_invariants.specs.Sound.{GoodExecuted, GoodRecord}
-use Rattle.proof_records.specs.Likeness.{Pair, placeOf, readingOf, resultOf, takenAs, ImageLike, RecordLike, completionOf, holdingOf, PointLike, StateLike}
+use Rattle.proof_records.specs.Likeness.{Pair, placeOf, readingOf, resultOf, Mapped, takenAs, ImageLike, RecordLike, completionOf, holdingOf, PointLike, StateLike}
 use Rattle.proof_records.specs.Likeness as Likeness
-
-module _ {A B : Type 0} (f : A → B) where
-  pub map-with : (g : A → B) (xs : List A) → All (λ (x : A). f x ≡ g x) xs → map f xs ≡ map g xs
-  map-with g [] h = refl
-  map-with g (x ∷ xs) h = rw (h .0, map-with g xs (h .1))
-
-  pub map-append : (xs ys : List A) → map f (xs ++ ys) ≡ map f xs ++ map f ys
-  map-append [] ys = refl
-  map-append (x ∷ xs) ys = ap (λ (zs : List B). f x ∷ zs) (map-append xs ys)
-
-  pub keep-map : (p : B → Bool) (q : A → Bool) → ((x : A) → p (f x) ≡ q x) → (xs : List A) → keep p (map f xs) ≡ map f (keep q xs)
-  unfolding keep
-  keep-map p q h [] = refl
-  keep-map p q h (x ∷ xs) = rw (h x) (go (q x) (keep-map p q h xs))
-    where
-      go : (b : Bool) → keep p (map f xs) ≡ map f (keep q xs)
-          → pick b (f x ∷ keep p (map f xs)) (keep p (map f xs)) ≡ map f (pick b (x ∷ keep q xs) (keep q xs))
-      go true e = ap (λ (zs : List B). f x ∷ zs) e
-      go false e = e
-
--- what holds of all holds of one
-pub all-in : {A : Type 0} (P : A → Type 0) (x : A) (xs : List A) → All P xs → List·Memᴰ x xs → P x
-all-in P x [] h m = absurd (List·Memᴰ·not-nil m)
-all-in P x (y ∷ xs) h m = go (List·Memᴰ·cases-cons m) (all-in P x xs (h .1))
-  where
-    go : (x ≡ y) ⊎ List·Memᴰ x xs → (List·Memᴰ x xs → P x) → P x
-    go (inl e) ih = subst P (sym e) (h .0)
-    go (inr k) ih = ih k
+use Rattle.proof_records.proofs.Mapped.{mapped-map, mapped-append, mapped-keep, mapped-with, mapped-through}
 
 -- what every element is set to
 pub set-each : (R : Point → S.Point → Type 0) (xs : List Point) (f : ℕ → S.Point) (q : ℕ) (v : Point) (y : S.Point)
@@ -108,8 +78,8 @@ module _ (zs : List Pair) (st : State) (s : S.State) (end t : ℕ) (T : StateLik
         points = set-each (PointLike zs) (st .points) (s .points) (x .command .point) _ _ full (T .points) (record { holding = P .holding; move = P .move; taken = P .taken; value = refl });
         floors = es;
         records =
-            rw (es, T .records, executed-record x, ← map-append g (st .records) (new ∷ []))
-            (keep-map g _ u (λ r. refl) (st .records ++ (new ∷ [])));
+            rw (es, executed-record x)
+            (mapped-keep g _ u (λ r. refl) (mapped-append g (T .records) (mapped-map g (new ∷ []))));
         heard = T .heard;
       }
 
@@ -119,7 +89,7 @@ module _ (zs : List Pair) (st : State) (s : S.State) (end t : ℕ) (T : StateLik
       record {
         points = T .points;
         floors = ap (keep (isNotClient (n .client))) (T .floors);
-        records = rw (T .records) (keep-map (completionOf zs) _ (Apply.isOfOther (n .client)) (λ r. refl) (st .records));
+        records = mapped-keep (completionOf zs) _ (Apply.isOfOther (n .client)) (λ r. refl) (T .records);
         heard = ap (λ (h : ℕ). max h (n .time)) (T .heard);
       }
 
@@ -141,17 +111,13 @@ module _ (zs : List Pair) (st : State) (s : S.State) (end t : ℕ) (T : StateLik
       record {
         points = set-each (PointLike zs) (st .points) (s .points) (r .point) _ _ full (T .points) (record { holding = refl; move = P .move; taken = P .taken; value = P .value });
         floors = T .floors;
-        records = rw (T .records) (keep-map (completionOf zs) _ (Apply.isOnOther (r .point)) (λ r. refl) (st .records));
+        records = mapped-keep (completionOf zs) _ (Apply.isOnOther (r .point)) (λ r. refl) (T .records);
         heard = T .heard;
       }
 
   taken-entry : (p : ℕ) (e : ImageEntry) → completionOf zs (Apply.takenRecord p end e) ≡ takenAs (suc (s .count)) p e
   unfolding Apply.takenRecord completionOf takenAs
   taken-entry p e = rw placed
-
-  taken-entries : (p : ℕ) (es : List ImageEntry) → map (takenAs (suc (s .count)) p) es ≡ map (completionOf zs) (map (Apply.takenRecord p end) es)
-  taken-entries p [] = refl
-  taken-entries p (e ∷ es) = rw (← taken-entry p e, taken-entries p es)
 
   took-like : (i : Image) (a : S.Image) → ImageLike i a → i .point ≤ lastPoint → StateLike zs (Apply.applyTook i end st) (S.applyRecord s (S.took a) t)
   unfolding Apply.applyTook S.applyRecord pointAt S.tookPoint S.isOnOther Apply.isOnOther S.staysOverFloors Apply.staysOverFloors completionOf Apply.tookPoint holdingOf readingOf
@@ -162,15 +128,15 @@ module _ (zs : List Pair) (st : State) (s : S.State) (end t : ℕ) (T : StateLik
       let u : Completion → Bool = Apply.isOnOther (i .point) in
       let v : Completion → Bool = Apply.staysOverFloors fs in
       let news = map (Apply.takenRecord (i .point) end) (i .entries) in
-      let olds = keep u (st .records) in
-      let eo : keep (S.isOnOther (a .point)) (s .records) ≡ map g olds = rw (L .point, T .records) (keep-map g _ u (λ r. refl) (st .records)) in
-      let en : map (S.takenRecord (suc (s .count))) (a .records) ≡ map g news = L .records (suc (s .count)) ∙ taken-entries (i .point) (i .entries) in
+      let olds : Mapped g (keep u (st .records)) (keep (S.isOnOther (a .point)) (s .records)) = rw (L .point) (mapped-keep g _ u (λ r. refl) (T .records)) in
+      let taken : Mapped g news (map (S.takenRecord (suc (s .count))) (a .records))
+      = mapped-through (Apply.takenRecord (i .point) end) g (mapped-with _ _ (λ e m. sym (taken-entry (i .point) e)) (L .records (suc (s .count)))) in
       let points : (p : ℕ) → p ≤ lastPoint → PointLike zs (getD (set (st .points) (i .point) (Apply.tookPoint i end)) p noPoint) (S.atPoint (s .points) (i .point) (S.tookPoint a) p)
       = set-each (PointLike zs) (st .points) (s .points) (i .point) _ _ full (T .points) (record { holding = refl; move = L .move; taken = L .move; value = L .value }) in
       record {
         points = rw (L .point) points;
         floors = es;
-        records = rw (es, eo, en, ← map-append g olds news) (keep-map g _ v (λ r. refl) (olds ++ news));
+        records = rw es (mapped-keep g _ v (λ r. refl) (mapped-append g olds taken));
         heard = rw (L .heard, T .heard);
       }
 

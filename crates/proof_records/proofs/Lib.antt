@@ -1,4 +1,5 @@
 pub mod Made
+pub mod Mapped
 pub mod Applied
 pub mod Replays
 pub mod Places

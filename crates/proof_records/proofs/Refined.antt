@@ -5,11 +5,11 @@
 use Prim.Native.Nat.{ℕ, suc, _≤_, _<_}
 use mathlib.Core.Path.{_≡_, refl, sym, ap, _∙_, subst}
 use mathlib.Core.Bool.{Bool, true, false, _&&_}
-use mathlib.Core.List.{List, [], _∷_, map, List·Memᴰ, List·Memᴰ·head, List·Memᴰ·tail, List·Memᴰ·cases-cons}
-use mathlib.Core.Logic.{_⊎_, inl, inr, _≢_}
+use mathlib.Core.List.{List, [], _∷_, map, map-map, List·Memᴰ, List·Memᴰ·head, List·Memᴰ·tail}
+use mathlib.Core.Logic.{_≢_}
 use mathlib.Core.Option.{none, some}
 use native.Mathlib.Omega.{arith}
-use lib.ListN.{length}
+use lib.ListN.{length, length-map}
 use lib.Dec.{eqb, leb}
 use borrow.Author.Tests.{eqb-true, eq-eqb, leb-true, le-leb}
 use Rattle.model.specs.Versions.{Versions}
@@ -18,7 +18,6 @@ use Rattle.model.specs.declared.Reading.{Reading}
 use Rattle.model.specs.declared.Request.{Request}
 use Rattle.model.specs.declared.Give.{Give}
 use Rattle.model.specs.declared.Release.{Release}
-use Rattle.model.specs.declared.ImageEntry.{ImageEntry}
 use Rattle.model.specs.declared.Point.{Point}
 use Rattle.model.specs.declared.Completion.{Completion}
 use Rattle.model.specs.declared.Packet.{Packet}
@@ -30,34 +29,33 @@ use Rattle.model.specs.Tables.{keep}
 use Rattle.model.specs.Plan.{entryAt}
 use Rattle.model.specs.Sequential.{readingMeant, resultMeant}
 use Rattle.model.specs.Packets.{commandOk, outcomeOk, idOk, requestOk, resultOk, resultBytes, receiptOk, receiptBytes, packetBytes}
-use Rattle.model.specs.Images.{idBefore, imageBytes, floorOf}
+use Rattle.model.specs.Images.{imageBytes, floorOf}
 use Rattle.model.specs.Logs.{LogRecord, executed}
 use Rattle.model.specs.States.{State, pointAt, held, given, isId, releasedStatus}
-use Rattle.model.specs.Decisions.{find, resultOfRecord, resultFor, executedFor, isOnPoint, entryOfRecord, insertEntry, sortEntries, imageFor}
+use Rattle.model.specs.Decisions.{find, resultOfRecord, resultFor, executedFor, isOnPoint, entryOfRecord, sortEntries, imageFor}
 use Rattle.model_laws.proofs.Meaning.{rule-tie}
-use Rattle.model_laws.specs.Bytes.{All}
 use Rattle.model_laws.specs.Fits.{IsPacket}
+use Rattle.model_laws.proofs.Tables.{all-member}
 use Rattle.model_laws.proofs.Tests.{and-left, and-both}
 use Rattle.model_laws.proofs.Commands.{CommandParts, command-parts}
 use Rattle.model_invariants.specs.Sound.{GoodCompletion, GoodRequest, SoundBy}
 use Rattle.model_invariants.specs.History.{Decides, byRequest, byNotice, byGive, byTake, byRelease}
 use Rattle.model.specs.Calls.{Operation}
 use Rattle.model_invariants.specs.Calls.{Named}
-use Rattle.model_invariants.proofs.Lists.{all-to, keep-passes}
 use Rattle.model_invariants.proofs.Tests.{split, entry-good, sound-entry}
 use Rattle.model_invariants.proofs.Decided.{find-fresh}
-use Rattle.model_invariants.proofs.Images.{image-good}
+use Rattle.model_invariants.proofs.Images.{image-good, sort-length}
 use Rattle.proof_protocol.specs.Servers as S
 use Rattle.proof_protocol.specs.World.{askedIn}
 use Rattle.proof_protocol.specs.Allowed.{Given, Written, executing, going, giving, taking, freeing, Told, repeating, imaging, receipting}
 use Rattle.proof_protocol.proofs.Basics.{keep-in, keep-out, map-in, map-out}
-use Rattle.proof_records.specs.Likeness.{Pair, placeOf, readingOf, resultOf, takenAs, RecordLike, completionOf, holdingOf, PointLike, AnyLength, Alike}
+use Rattle.proof_records.specs.Likeness.{Pair, placeOf, readingOf, resultOf, Mapped, takenAs, RecordLike, completionOf, holdingOf, PointLike, AnyLength, Alike}
 use Rattle.proof_records.specs.Likeness as Likeness
 use Rattle.proof_records.specs.Made.{Means, ImageMeans, PacketLike}
 use Rattle.proof_records.specs.Inverse.{Appends, Replies}
 use Rattle.proof_records.specs.Inverse as Inverse
 use Rattle.proof_records.specs.Matched.{Source, execution, no-execution}
-use Rattle.proof_records.proofs.Applied.{all-in}
+use Rattle.proof_records.proofs.Mapped.{mapped-map, mapped-with, mapped-through, mapped-sort}
 use Rattle.proof_records.proofs.Places.{place-rises}
 use Rattle.proof_records.proofs.Made.{like-packet, like-image}
 
@@ -135,66 +133,6 @@ request-command : (q : Request) → GoodRequest q → CommandParts (q .command .
 unfolding requestOk
 request-command q G = command-parts (q .command .op) (q .command .point) (q .command .argument) (and-left (commandOk (q .command .op) (q .command .point) (q .command .argument)) _ (G .ok))
 
--- ---- an image's records: `model` sorts them; here any order serves
-
--- the same records, by their entries in an image of point p
-abbrev Entered : ℕ → List S.Completion → List ImageEntry → Type 0
-Entered p rs es = (n : ℕ) → map (S.takenRecord n) rs ≡ map (takenAs n p) es
-
-record Sorted (p : ℕ) (rs : List S.Completion) (es : List ImageEntry) : Type 0 where
-  list : List S.Completion
-  entered : Entered p list es
-  to : (r : S.Completion) → List·Memᴰ r list → List·Memᴰ r rs
-  back : (r : S.Completion) → List·Memᴰ r rs → List·Memᴰ r list
-
-cons-in : (x y : S.Completion) (l k : List S.Completion) → (List·Memᴰ x l → List·Memᴰ x k) → List·Memᴰ x (y ∷ l) → List·Memᴰ x (y ∷ k)
-cons-in x y l k t m = go (List·Memᴰ·cases-cons m)
-  where
-    go : (x ≡ y) ⊎ List·Memᴰ x l → List·Memᴰ x (y ∷ k)
-    go (inl z) = List·Memᴰ·head z
-    go (inr z) = List·Memᴰ·tail (t z)
-
-swap-in : (x a b : S.Completion) (l : List S.Completion) → List·Memᴰ x (a ∷ (b ∷ l)) → List·Memᴰ x (b ∷ (a ∷ l))
-swap-in x a b l m = go (List·Memᴰ·cases-cons m)
-  where
-    go : (x ≡ a) ⊎ List·Memᴰ x (b ∷ l) → List·Memᴰ x (b ∷ (a ∷ l))
-    go (inl z) = List·Memᴰ·tail (List·Memᴰ·head z)
-    go (inr z) = cons-in x b l (a ∷ l) (λ k. List·Memᴰ·tail k) z
-
-module _ (p : ℕ) where
-  insert-like : (q : S.Completion) (e : ImageEntry) → ((n : ℕ) → S.takenRecord n q ≡ takenAs n p e) → (rs : List S.Completion) (es : List ImageEntry) → Entered p rs es
-      → Sorted p (q ∷ rs) (insertEntry e es)
-  unfolding insertEntry
-  insert-like q e h [] [] k = record { list = q ∷ []; entered = λ n. rw (h n); to = λ r m. m; back = λ r m. m }
-  insert-like q e h [] (f ∷ es) k = absurd (omega (arith, ap length (k 0)))
-  insert-like q e h (y ∷ rs) [] k = absurd (omega (arith, ap length (k 0)))
-  insert-like q e h (y ∷ rs) (f ∷ es) k =
-      go (idBefore (e .client) (e .call) (f .client) (f .call)) (insert-like q e h rs es (λ n. let z = k n in cc))
-    where
-      first : (n : ℕ) → S.takenRecord n y ≡ takenAs n p f
-      first n = let z = k n in cc
-
-      go : (t : Bool) → Sorted p (q ∷ rs) (insertEntry e es) → Sorted p (q ∷ (y ∷ rs)) (pick t (e ∷ (f ∷ es)) (f ∷ insertEntry e es))
-      go true s = record { list = q ∷ (y ∷ rs); entered = λ n. rw (h n, k n); to = λ r m. m; back = λ r m. m }
-      go false s =
-          record {
-            list = y ∷ s .list;
-            entered = λ n. rw (first n, s .entered n);
-            to = λ r m. swap-in r y q rs (cons-in r y (s .list) (q ∷ rs) (s .to r) m);
-            back = λ r m. cons-in r y (q ∷ rs) (s .list) (s .back r) (swap-in r q y rs m);
-          }
-
-  sort-like : (zs : List Pair) (rs : List Completion) → All (λ (r : Completion). r .command .point ≡ p) rs → Sorted p (map (completionOf zs) rs) (sortEntries (map entryOfRecord rs))
-  unfolding sortEntries
-  sort-like zs [] h = record { list = []; entered = λ n. refl; to = λ r m. m; back = λ r m. m }
-  sort-like zs (r ∷ rs) h =
-      let s = sort-like zs rs (h .1) in
-      let i = insert-like (completionOf zs r) (entryOfRecord r) (λ n. same n r (h .0)) (s .list) (sortEntries (map entryOfRecord rs)) (s .entered) in
-      record { list = i .list; entered = i .entered; to = λ x m. cons-in x _ (s .list) _ (s .to x) (i .to x m); back = λ x m. i .back x (cons-in x _ _ (s .list) (s .back x) m) }
-    where
-      same : (n : ℕ) (q : Completion) → q .command .point ≡ p → S.takenRecord n (completionOf zs q) ≡ takenAs n p (entryOfRecord q)
-      same n q e = unfold S.takenRecord completionOf takenAs entryOfRecord in rw e
-
 -- ---- the relation's facts
 
 -- what is no request
@@ -234,9 +172,9 @@ module _ (plan : List PlanEntry) (c : ℕ) (zs : List Pair) (st : State) (s : S.
   -- no completion record has a fresh id
   none-held : (x k : ℕ) → find x k (st .records) ≡ none → (r : S.Completion) → List·Memᴰ r (s .records) → r .id ≡ record { client = x; call = k } → ⊥
   none-held x k f r m e =
-      let y = map-out (completionOf zs) r (st .records) (subst (List·Memᴰ r) (A .like .records) m) in
+      let y = A .like .records .back r m in
       let i : completionOf zs (y .0) .id ≡ record { client = x; call = k } = ap (λ (z : S.Completion). z .id) (sym (y .2)) ∙ e in
-      go (y .0) i (all-in _ (y .0) (st .records) (find-fresh x k (st .records) f) (y .1))
+      go (y .0) i (all-member _ (find-fresh x k (st .records) f) (y .1))
     where
       go : (y : Completion) → completionOf zs y .id ≡ record { client = x; call = k } → (y .command .client ≡ x → y .command .call ≡ k → ⊥) → ⊥
       go y i n = n (unfold completionOf in ap (λ (z : S.Id). z .client) i) (unfold completionOf in ap (λ (z : S.Id). z .call) i)
@@ -299,53 +237,65 @@ module _ (plan : List PlanEntry) (c : ℕ) (zs : List Pair) (st : State) (s : S.
 
   -- the image of a given point
   module _ (p : ℕ) (l : p ≤ lastPoint) (g : pointAt st p .status ≡ given) where
-    mine : List Completion
+    abbrev mine : List Completion
     mine = keep (isOnPoint p) (st .records)
 
-    sorted : Sorted p (map (completionOf zs) mine) (sortEntries (map entryOfRecord mine))
-    unfolding isOnPoint mine
-    sorted = sort-like p zs mine (all-points (st .records))
+    -- the image's records, in the order of arrival; `model` sorts its entries
+    abbrev told : List S.Completion
+    told = map (completionOf zs) mine
+
+    on-point : (r : Completion) → List·Memᴰ r mine → r .command .point ≡ p
+    unfolding isOnPoint
+    on-point r m = eqb-true _ _ (keep-out (isOnPoint p) r (st .records) m .1)
+
+    entered : (n : ℕ) → Mapped (takenAs n p) (sortEntries (map entryOfRecord mine)) (map (S.takenRecord n) told)
+    entered n =
+        mapped-sort (takenAs n p)
+        (mapped-through entryOfRecord (takenAs n p)
+        (mapped-with _ _ (λ r m. same r (on-point r m)) (subst (Mapped _ mine) (sym (map-map (S.takenRecord n) (completionOf zs) mine)) (mapped-map _ mine))))
       where
-        all-points : (rs : List Completion) → All (λ (r : Completion). r .command .point ≡ p) (keep (isOnPoint p) rs)
-        all-points rs = all-to (keep (isOnPoint p) rs) (λ (r : Completion) (e : isOnPoint p r ≡ true). eqb-true _ _ e) (keep-passes (isOnPoint p) rs)
+        same : (r : Completion) → r .command .point ≡ p → S.takenRecord n (completionOf zs r) ≡ takenAs n p (entryOfRecord r)
+        same r e = unfold S.takenRecord completionOf takenAs entryOfRecord in rw e
+
+    count : length told ≡ length (sortEntries (map entryOfRecord mine))
+    count = length-map mine (completionOf zs) ∙ sym (sort-length (map entryOfRecord mine) ∙ length-map mine entryOfRecord)
 
     image-spoke : pointAt st p .giveEnd ≤ st .mark → Spoke (imageBytes (imageFor st p))
-    unfolding imageFor S.imageFor readingOf isOnPoint mine completionOf given-like
+    unfolding imageFor S.imageFor readingOf isOnPoint completionOf given-like
     image-spoke h =
         let P = A .like .points p l in
         let G = given-like zs (pointAt st p) (s .points p) P g in
-        let K = sorted in
-        let a = S.imageFor s p (G .destination) (K .list) in
+        let a = S.imageFor s p (G .destination) told in
         record {
           packet = S.image a;
-          why = imaging p G (K .list) (place-rises zs _ _ h) to back;
+          why = imaging p G told (place-rises zs _ _ h) to back;
           like =
               λ M m.
               like-image (imageFor st p) a (image-good st p (A .sound) l .0)
-              (record { point = refl; destination = refl; move = P .move; heard = A .like .heard; value = P .value; floors = A .like .floors; records = K .entered }) m;
+              (record { point = refl; destination = refl; move = P .move; heard = A .like .heard; value = P .value; floors = A .like .floors; records = entered; count = count }) m;
         }
       where
-        to : (r : S.Completion) → List·Memᴰ r (sorted .list) → List·Memᴰ r (s .records) × (r .point ≡ p)
+        to : (r : S.Completion) → List·Memᴰ r told → List·Memᴰ r (s .records) × (r .point ≡ p)
         to r m =
-            let y = map-out (completionOf zs) r mine (sorted .to r m) in
+            let y = map-out (completionOf zs) r mine m in
             let k = keep-out (isOnPoint p) (y .0) (st .records) (y .1) in
-            (rw (A .like .records, y .2) (map-in (completionOf zs) (y .0) (st .records) (k .0)), rw (y .2) (eqb-true _ _ (k .1)))
+            (rw (y .2) (A .like .records .to (y .0) (k .0)), rw (y .2) (eqb-true _ _ (k .1)))
 
-        back : (r : S.Completion) → List·Memᴰ r (s .records) → r .point ≡ p → List·Memᴰ r (sorted .list)
+        back : (r : S.Completion) → List·Memᴰ r (s .records) → r .point ≡ p → List·Memᴰ r told
         back r m e =
-            let y = map-out (completionOf zs) r (st .records) (subst (List·Memᴰ r) (A .like .records) m) in
+            let y = A .like .records .back r m in
             let q : y .0 .command .point ≡ p = ap (λ (z : S.Completion). z .point) (sym (y .2)) ∙ e in
-            sorted .back r (rw (y .2) (map-in (completionOf zs) (y .0) mine (keep-in (isOnPoint p) (y .0) (st .records) (y .1) (eq-eqb _ _ q))))
+            rw (y .2) (map-in (completionOf zs) (y .0) mine (keep-in (isOnPoint p) (y .0) (st .records) (y .1) (eq-eqb _ _ q)))
 
   -- the result of a completion record
   result-spoke : (x k : ℕ) (r : Completion) → find x k (st .records) ≡ some r → r .end ≤ st .mark → Spoke (resultBytes (resultOfRecord r))
   unfolding completionOf resultOfRecord Means
   result-spoke x k r f l =
       let i = found-in x k (st .records) r f in
-      let I = result-packet st (A .sound) r (all-in _ r (st .records) (A .sound .records) i) in
+      let I = result-packet st (A .sound) r (all-member _ (A .sound .records) i) in
       record {
         packet = _;
-        why = repeating (completionOf zs r) (rw (A .like .records) (map-in (completionOf zs) r (st .records) i)) (place-rises zs _ _ l);
+        why = repeating (completionOf zs r) (A .like .records .to r i) (place-rises zs _ _ l);
         like = λ M m. like-packet (Resulted (resultOfRecord r)) I (I .fits, m);
       }
 

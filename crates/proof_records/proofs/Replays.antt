@@ -24,6 +24,7 @@ use Rattle.model.specs.Logs.{LogRecord, executed, gone, gave, took, released, r
 use Rattle.model.specs.States.{State, pointAt, noPoint, absent, held, given, releasedStatus}
 use Rattle.model.specs.Apply.{applyRecord, applyExecuted, applyGone, applyGave, applyTook, applyReleased, apply, foundedPoint, founded, replayFrom, replay, withMark}
 use Rattle.model.specs.Operations.{recovered}
+use Rattle.model_laws.proofs.Tables.{all-member}
 use Rattle.model_laws.proofs.Logs.{record-least}
 use Rattle.model_invariants.specs.Sound.{SoundBy, GoodCompletion, GoodRecord}
 use Rattle.model_invariants.specs.History.{GoodPlan}
@@ -32,8 +33,9 @@ use Rattle.model_invariants.proofs.Kept.{founded-by, decided-good, decided-foll
 use Rattle.model_invariants.proofs.Recovery.{replay-next, recovered-next, apply-size}
 use Rattle.proof_protocol.specs.Servers as S
 use Rattle.proof_records.specs.Likeness.{Pair, placeOf, entriesIn, abstractIn, readingOf, completionOf, holdingOf, PointLike, StateLike, AnyLength, Chain, Alike}
+use Rattle.proof_records.proofs.Mapped.{mapped-map, mapped-with}
 use Rattle.proof_records.proofs.Places.{place-old, place-new}
-use Rattle.proof_records.proofs.Applied.{map-with, record-like}
+use Rattle.proof_records.proofs.Applied.{record-like}
 
 -- ---- what no record changes
 
@@ -77,7 +79,7 @@ alike-founded plan c g h =
           record {
             points = λ (p : ℕ) (l : p ≤ lastPoint). rw (getD-map (foundedPoint c) plan p noPoint noEntry (omega (arith, g .length))) (founded-point plan c p);
             floors = refl;
-            records = refl;
+            records = mapped-map (completionOf []) [];
             heard = refl;
           };
       count = refl;
@@ -105,9 +107,8 @@ module _ (z : Pair) (zs : List Pair) where
         points = λ (p : ℕ) (l : p ≤ lastPoint). point-grow (pointAt st p) (s .points p) (omega (arith, G .point p l .giveEnd .within)) (T .points p l);
         floors = T .floors;
         records =
-            T .records
-            ∙ map-with (completionOf zs) (completionOf (z ∷ zs)) (st .records)
-            (all-to (st .records) (λ (r : Completion) (g : GoodCompletion (st .plan) (st .size) r). completion-grow r (omega (arith, g .within))) (G .records));
+            mapped-with (completionOf zs) (completionOf (z ∷ zs))
+            (λ r m. completion-grow r (let g = all-member (GoodCompletion (st .plan) (st .size)) (G .records) m in omega (arith, g .within))) (T .records);
         heard = T .heard;
       }
 

@@ -11,7 +11,7 @@ use mathlib.Core.List.{List, [], _∷_, _++_}
 use mathlib.Core.Logic.{_⊎_, inl, inr}
 use native.Mathlib.Omega.{arith}
 use lib.Dec.{leb}
-use lib.ListN.{length, length-map}
+use lib.ListN.{length}
 use Rattle.model.specs.declared.PlanEntry.{PlanEntry}
 use Rattle.model.specs.Choice.{pick}
 use Rattle.model.specs.Limits.{lastServer, headSize}
@@ -24,7 +24,7 @@ use Rattle.model_invariants.proofs.Recovery.{replay-next, apply-size}
 use Rattle.proof_protocol.specs.Servers as S
 use Rattle.proof_protocol.proofs.Logs.{Tail, Tail-cons}
 use Rattle.proof_protocol.proofs.Logs as Logs
-use Rattle.proof_records.specs.Likeness.{takenAs, RecordLike, Pair, entriesIn, abstractIn, placeOf, Chain, Within}
+use Rattle.proof_records.specs.Likeness.{RecordLike, Pair, entriesIn, abstractIn, placeOf, Chain, Within}
 use Rattle.proof_records.specs.Likeness as Likeness
 use Rattle.proof_records.specs.Matched.{sizeOf, bytesIn}
 use Rattle.proof_records.proofs.Places.{place-all, place-rises, abstract-length}
@@ -35,9 +35,7 @@ unfolding recordSize sizeOf imageLength
 size-like (Likeness.executed v x) = refl
 size-like (Likeness.gone n) = refl
 size-like (Likeness.gave g) = refl
-size-like (Likeness.took i a k) =
-    let n : length (a .records) ≡ length (i .entries) = sym (length-map (a .records) (S.takenRecord 0)) ∙ ap length (k .records 0) ∙ length-map (i .entries) (takenAs 0 (i .point)) in
-    rw (k .floors, n)
+size-like (Likeness.took i a k) = rw (k .floors, k .count)
 size-like (Likeness.released r) = refl
 
 -- the replay's recorded length with one more record

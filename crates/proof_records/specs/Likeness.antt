@@ -3,7 +3,7 @@
 -- Assumes nothing.
 use Prim.Native.Nat.{ℕ, suc, _≤_, _+_, _-_, _<_}
 use mathlib.Core.Path.{_≡_}
-use mathlib.Core.List.{List, [], _∷_, _++_, map}
+use mathlib.Core.List.{List, [], _∷_, _++_, map, List·Memᴰ}
 use lib.Dec.{eqb, leb}
 use Rattle.model.specs.Versions.{Version}
 use Rattle.model.specs.declared.CommandResult.{CommandResult}
@@ -36,6 +36,11 @@ readingOf x = readingMeant (record { value = x .value; quality = x .quality })
 abbrev pub resultOf : CommandResult → S.Result
 resultOf r = record { answer = resultMeant r }
 
+-- ys has just what f makes of the elements of xs, in any order
+pub record Mapped {A B : Type 0} (f : A → B) (xs : List A) (ys : List B) : Type 0 where
+  pub to : (x : A) → List·Memᴰ x xs → List·Memᴰ (f x) ys
+  pub back : (y : B) → List·Memᴰ y ys → (x : A) × List·Memᴰ x xs × (y ≡ f x)
+
 -- ---- images; the places of an image's records are its giver's, and no taker reads them
 
 -- a record of an image of point p, at place n of the taker's log
@@ -49,7 +54,8 @@ pub record ImageLike (i : Image) (a : S.Image) : Type 0 where
   pub heard : a .heard ≡ i .heard
   pub value : a .value ≡ readingMeant (record { value = i .value; quality = i .quality })
   pub floors : a .floors ≡ i .floors
-  pub records : (n : ℕ) → map (S.takenRecord n) (a .records) ≡ map (takenAs n (i .point)) (i .entries)
+  pub records : (n : ℕ) → Mapped (takenAs n (i .point)) (i .entries) (map (S.takenRecord n) (a .records))
+  pub count : length (a .records) ≡ length (i .entries)
 
 -- ---- log records and logs
 
@@ -103,7 +109,7 @@ pub record PointLike (zs : List Pair) (x : Point) (y : S.Point) : Type 0 where
 pub record StateLike (zs : List Pair) (st : State) (s : S.State) : Type 0 where
   pub points : (p : ℕ) → p ≤ lastPoint → PointLike zs (pointAt st p) (s .points p)
   pub floors : s .floors ≡ st .floors
-  pub records : s .records ≡ map (completionOf zs) (st .records)
+  pub records : Mapped (completionOf zs) (st .records) (s .records)
   pub heard : s .heard ≡ st .heard
 
 -- a log since the founding may have any length
