@@ -25,13 +25,13 @@ use Rattle.model.specs.Operations.{After, answerOf, after, short, unfit, freeIn
 use Rattle.model.specs.Checkpoints.{rebased, checkpointRefusal, checkpointOf, tailOf, inspectRefusal, inspectOf}
 use Rattle.model_laws.specs.Bytes.{Bytes}
 use Rattle.model_laws.specs.Alike.{Alike}
+use Rattle.model_laws.proofs.Tests.{or-left}
 use Rattle.model_laws.proofs.Refused.{if-passed}
 use Rattle.model_laws.proofs.Alike.{load-alike, sound-alike, stored-alike}
 use Rattle.model_invariants.specs.Sound.{Sound}
 use Rattle.model.specs.Calls.{Operation, decision, operated}
 use Rattle.model_invariants.specs.Calls.{appends, sets, Allowed, output, outputSize, decidedOn, LentBytes, Call, found, operate, recover, left, CallBytes, AlikeAfter, AlikeCheckpoint}
 use Rattle.model_invariants.proofs.Tests.{fits-of}
-use Rattle.model_invariants.proofs.Decided.{or-left-no}
 use Rattle.model_invariants.proofs.Steps.{sound-mark}
 use Rattle.model_invariants.proofs.Kept.{founded-sound, decided-sound, decided-space}
 use Rattle.model_invariants.proofs.Crash.{recovered-bytes}
@@ -143,7 +143,7 @@ module _ (s t : List ℕ) (a : Alike s t) where
     unfolding checkpointRefusal short
     checkpoint-fit log cs ts e =
         let d = if-passed Refusals.tooShort refl (ltb (length s) stateSize || (ltb cs checkpointSize || ltb ts headSize)) _ (eqb-true _ passed e) in
-        (ltb-false _ _ (or-left-no (ltb (length s) stateSize) (ltb cs checkpointSize || ltb ts headSize) (d .0)), if-passed Refusals.unsound refl (unfit s log) _ (d .1) .0)
+        (ltb-false _ _ (or-left (ltb (length s) stateSize) (ltb cs checkpointSize || ltb ts headSize) (d .0)), if-passed Refusals.unsound refl (unfit s log) _ (d .1) .0)
 
     pub checkpoint-alike : (log checkpoint tail : List ℕ) → AlikeCheckpoint (checkpointOf s log checkpoint tail) (checkpointOf t log checkpoint tail)
     unfolding checkpointOf

@@ -40,13 +40,13 @@ use Rattle.model.specs.Calls.{OperationOf, Operation, request, fetch, sync, not
 use Rattle.model_laws.specs.Bytes.{Bytes}
 use Rattle.model_invariants.specs.History.{GoodPlan, Decides, byGive}
 use Rattle.model_invariants.specs.Calls.{Only, refuses, denies, replies, appends, sets, Allowed, Named, LentBytes, outputSize, outputFor, output, HandedOver, decidedOn, Call, found, operate, recover, left, CallBytes}
-use Rattle.model_laws.proofs.Tests.{choose}
+use Rattle.model_laws.proofs.Tests.{choose, or-left, or-right}
 use Rattle.model_laws.proofs.Refused.{unless}
 use Rattle.model_laws.proofs.Written.{bytes-written}
 use Rattle.model_laws.proofs.Logs.{head-bytes, record-bytes}
 use Rattle.model_laws.proofs.States.{state-bytes}
 use Rattle.model_invariants.proofs.Tests.{fits-of}
-use Rattle.model_invariants.proofs.Decided.{or-left-no, or-right-no, sync-passed}
+use Rattle.model_invariants.proofs.Decided.{sync-passed}
 use Rattle.model_invariants.proofs.Steps.{sound-mark}
 use Rattle.model_invariants.proofs.Kept.{founded-sound, decided-good, decided-sound, decided-space}
 use Rattle.model_invariants.proofs.Formats.{record-good, on-request, on-notice, on-take, on-release}
@@ -189,8 +189,8 @@ sync-kept state log m = go (onSync (load state) m) refl (only-sync (load state) 
 pub fit-parts : (state log : List ℕ) → unfit state log ≡ false → (sound state ≡ true) × (load state .size ≤ length log)
 unfolding unfit
 fit-parts state log e = (
-  not-false _ (or-left-no (not (sound state)) (ltb (length log) (load state .size)) e),
-  ltb-false _ _ (or-right-no (not (sound state)) (ltb (length log) (load state .size)) e),
+  not-false _ (or-left (not (sound state)) (ltb (length log) (load state .size)) e),
+  ltb-false _ _ (or-right (not (sound state)) (ltb (length log) (load state .size)) e),
 )
 
 -- 2, 19, or a sound state with its log: the refusal's number
@@ -203,7 +203,7 @@ lent-number P state log n need two nineteen k =
     choose P (unfit state log) (λ f. nineteen)
     (λ f.
     let g = fit-parts state log f in
-    k (ltb-false _ _ (or-left-no (ltb (length state) stateSize) (ltb n need) e)) (g .0) (g .1)))
+    k (ltb-false _ _ (or-left (ltb (length state) stateSize) (ltb n need) e)) (g .0) (g .1)))
 
 -- or what the operation decides
 pub lent-elim : (P : Decided → Type 0) (state log out : List ℕ) (need : ℕ) (d : Decided) → P (refuse Refusals.tooShort) → P (refuse Refusals.unsound)
@@ -222,8 +222,8 @@ found-number P states logs plan n b two one k =
     (λ e.
     choose P (not (planOk plan) || ltb lastServer n) (λ f. one)
     (λ f.
-    let p : planOk plan ≡ true = not-false _ (or-left-no (not (planOk plan)) (ltb lastServer n) f) in
-    k (ltb-false _ _ (or-left-no s l e)) (ltb-false _ _ (or-right-no s l e)) (plan-good plan b p) p (ltb-false _ _ (or-right-no (not (planOk plan)) (ltb lastServer n) f))))
+    let p : planOk plan ≡ true = not-false _ (or-left (not (planOk plan)) (ltb lastServer n) f) in
+    k (ltb-false _ _ (or-left s l e)) (ltb-false _ _ (or-right s l e)) (plan-good plan b p) p (ltb-false _ _ (or-right (not (planOk plan)) (ltb lastServer n) f))))
 
 -- or the founding state
 pub found-elim : (P : After → Type 0) (state log plan : List ℕ) (n : ℕ) → Bytes plan → P (after (answerOf Refusals.tooShort 0) state log [])

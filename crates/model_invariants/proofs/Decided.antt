@@ -40,24 +40,15 @@ use Rattle.model.specs.States.{State, pointAt, isHeld, isGiven, isSynced, isId,
 use Rattle.model.specs.Apply.{foundedPoint, founded}
 use Rattle.model.specs.Decisions.{Decided, find, sameCommand, requestRefusal, heldRefusal, onHeld, newRefusal, onNew, onId, executedFor, decideRequest, fetchRefusal, noticeRefusal, decideNotice, placesBad, giveRefusal, onGive, imageRefusal, freeFor, takeRefusal, takeTests, decideTake, receiptRefusal, releaseRefusal, decideRelease, syncRefusal, onSync, resultOfRecord}
 use Rattle.model_laws.specs.Bytes.{All}
+use Rattle.model_laws.proofs.Tests.{or-left, or-right}
 use Rattle.model_laws.proofs.Reflects.{flag, of, both}
 use Rattle.model_laws.proofs.Refused.{unless-passed, unless-does, unless-appends, passing, small-if, other-if, other-test}
 use Rattle.model_invariants.specs.Sound.{Ranged, GoodValues}
 use Rattle.model_invariants.specs.Passed.{Fresh, Admits, FirstRequest, PassedRequest, PassedGive, FreeFor, PassedTake, PassedRelease}
 use Rattle.model_laws.proofs.Tables.{every-all}
-use Rattle.model_invariants.proofs.Lists.{all-to, impossible}
+use Rattle.model_invariants.proofs.Lists.{all-to}
 use Rattle.model_invariants.proofs.Floors.{eqb-no}
 use Rattle.model_invariants.proofs.Tests.{is-id, id-is, id-not, not-id, range-says}
-
--- ---- choices
-
-pub or-left-no : (a b : Bool) → (a || b) ≡ false → a ≡ false
-or-left-no true b e = e
-or-left-no false b e = refl
-
-pub or-right-no : (a b : Bool) → (a || b) ≡ false → b ≡ false
-or-right-no true b e = impossible e
-or-right-no false b e = e
 
 -- ---- request
 
@@ -225,8 +216,8 @@ pub give-tests : (st : State) (free p d : ℕ) → placesBad p d ≡ false → g
 unfolding placesBad giveRefusal isHeld
 give-tests st free p d g e = (
   record {
-    point = search (passing, or-left-no) depth 12;
-    destination = search (passing, or-right-no) depth 12;
+    point = search (passing, or-left) depth 12;
+    destination = search (passing, or-right) depth 12;
     held = search passing depth 12;
     other = eqb-no d (st .server) (search passing depth 12);
     moveNumber = search passing depth 12;
@@ -314,8 +305,8 @@ take-tests st free i e = (
     values = image-in-range (entryAt (st .plan) (i .point)) i (search passing depth 12);
     destination = search passing depth 12;
     newer = search passing depth 12;
-    away = eqb-no (pointAt st (i .point) .status) held (search (passing, or-left-no) depth 12);
-    free = frees-all (i .point) (st .records) (i .entries) (search (passing, or-right-no) depth 12);
+    away = eqb-no (pointAt st (i .point) .status) held (search (passing, or-left) depth 12);
+    free = frees-all (i .point) (st .records) (i .entries) (search (passing, or-right) depth 12);
     clients = search passing depth 12;
   },
   search passing depth 12,
@@ -342,7 +333,7 @@ take-passed st free i r e =
 
 pub sync-tests : (mark size m : ℕ) → syncRefusal mark size m ≡ passed → (mark ≤ m) × (m ≤ size)
 unfolding syncRefusal
-sync-tests mark size m e = (search (passing, or-left-no) depth 12, search (passing, or-right-no) depth 12)
+sync-tests mark size m e = (search (passing, or-left) depth 12, search (passing, or-right) depth 12)
 
 pub sync-passed : (st : State) (m n : ℕ) → onSync st m ≡ marks n → (n ≡ m) × (st .mark ≤ m) × (m ≤ st .size)
 unfolding onSync

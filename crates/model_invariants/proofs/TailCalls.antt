@@ -24,12 +24,11 @@ use Rattle.model.specs.Apply.{withMark}
 use Rattle.model.specs.Operations.{After, answerOf, short, unfit, stored, settle, leftUnless, settleRecovered, recoveredOn}
 use Rattle.model.specs.Checkpoints.{rebased, checkpointBytes, checkpointState, AfterCheckpoint, checkpointRefusal, checkpointOf, recoveredTail, recoverTailRefusal, recoverTailOf}
 use Rattle.model_laws.specs.Bytes.{Bytes}
-use Rattle.model_laws.proofs.Tests.{choose, impossible}
+use Rattle.model_laws.proofs.Tests.{choose, impossible, or-left, or-right}
 use Rattle.model_laws.proofs.Logs.{head-length}
 use Rattle.model_laws.proofs.TwoWalks.{recovered-on, recovered-off}
 use Rattle.model_invariants.specs.History.{RecoveredSound}
 use Rattle.model_invariants.specs.Passed.{PassedCheckpoint}
-use Rattle.model_invariants.proofs.Decided.{or-left-no, or-right-no}
 use Rattle.model_invariants.proofs.Crash.{recovered-from}
 use Rattle.model_invariants.proofs.Loaded.{loaded-sound, stored-sound}
 use Rattle.model_invariants.proofs.Checkpoints.{rebased-sound64}
@@ -67,12 +66,12 @@ module _ (state log k tail : List ℕ) where
       (λ f.
       choose (λ (n : ℕ). P (left n)) (ltb (load state .mark) (load state .size)) (λ g. out Refusals.notSynced (omega arith))
       (λ g.
-      let i = or-right-no s (b || t) e in
+      let i = or-right s (b || t) e in
       on (record {
-        whole = ltb-false _ _ (or-left-no s (b || t) e);
-        room = ltb-false _ _ (or-left-no b t i);
-        head = ltb-false _ _ (or-right-no b t i);
-        sound = not-false _ (or-left-no (not (sound state)) (ltb (length log) (load state .size)) f);
+        whole = ltb-false _ _ (or-left s (b || t) e);
+        room = ltb-false _ _ (or-left b t i);
+        head = ltb-false _ _ (or-right b t i);
+        sound = not-false _ (or-left (not (sound state)) (ltb (length log) (load state .size)) f);
         synced = ltb-false _ _ g;
       }))))
 

@@ -10,13 +10,12 @@
 -- Assumes nothing.
 use Prim.Native.Nat.{ℕ, _+_, _-_, _*_, _≤_, _<_}
 use mathlib.Core.Path.{_≡_, refl, sym, ap, _∙_, subst}
-use mathlib.Core.Bool.{Bool, true, and-assoc}
+use mathlib.Core.Bool.{true, and-assoc}
 use mathlib.Core.List.{List, [], _∷_, _++_, append-assoc}
 use native.Mathlib.Omega.{arith}
 use lib.ListN.{length, take, drop, replicate, length-append, length-drop, length-replicate}
 use lib.Seq.{drop-at, drop-drop}
-use lib.Dec.{eqb, leb, lit<}
-use borrow.Author.Tests.{eqb-true, eq-eqb, leb-true, le-leb}
+use lib.Dec.{lit<}
 use Rattle.model.specs.declared.Point.{Point}
 use Rattle.model.specs.declared.Completion.{Completion}
 use Rattle.model.specs.Numbers.{byteAt, le32At, le64At, le64, zeros3At, startsWith}
@@ -32,7 +31,8 @@ use Rattle.model_laws.specs.Bytes.{Bytes, All, part}
 use Rattle.model_laws.specs.Codec.{Codec}
 use Rattle.model_laws.specs.Fields.{Field, byte, word32, signed, word64, fixed, fixedAll, gotAll, putAll, testsOf, passAll, nth, Bounded, fixedBytes, Layout, Computes}
 use Rattle.model_laws.specs.Fits.{PointFits, CompletionFits, StateFits, Sound}
-use Rattle.model_laws.proofs.Tests.{and-both, joined-all, all-joined}
+use Rattle.model_laws.proofs.Tests.{and-both, joined-all}
+use Rattle.model_laws.proofs.Reflects.{Reflects, Test, le, eq, flag, facts, passed, reflects}
 use Rattle.model_laws.proofs.Numbers.{part-join, le32-below}
 use Rattle.model_laws.proofs.Numbers.{le64-below, bytes-append}
 use Rattle.model_laws.proofs.Numbers.{bytes-drop, bytes-run}
@@ -44,11 +44,16 @@ use Rattle.model_laws.proofs.Images.{floorCodec}
 use Rattle.model_laws.proofs.Windows.{records-count}
 use Rattle.model_laws.proofs.Plans.{planCodec, plan-length, plan-bytes}
 
--- the tests of a state's frame, one by one
-abbrev framedTests : List ℕ → List Bool
+-- the tests of a state's frame, and of a state, one by one
+abbrev framedTests : List ℕ → List Test
 framedTests s =
-    startsWith s stateMagic ∷ zeros3At s 5 ∷ eqb (le32At s 20) 0 ∷ leb (clientsIn s) clientCount ∷ leb (recordsIn s) recordCount
-    ∷ zeros (floorRow * (clientCount - clientsIn s)) (drop (floorsStart + floorRow * clientsIn s) s) ∷ []
+    flag (startsWith s stateMagic) ∷ flag (zeros3At s 5) ∷ eq (le32At s 20) 0 ∷ le (clientsIn s) clientCount ∷ le (recordsIn s) recordCount
+    ∷ flag (zeros (floorRow * (clientCount - clientsIn s)) (drop (floorsStart + floorRow * clientsIn s) s)) ∷ []
+
+abbrev soundTests : List ℕ → List Test
+soundTests s =
+    le stateEnd (length s) ∷ flag (stateFramed s) ∷ flag (everyRow planRowOk planRow pointCount (drop stateHead s)) ∷ flag (everyRow pointRowOk pointRow pointCount (drop pointsStart s))
+    ∷ flag (stateOk (load s)) ∷ []
 
 -- ---- the rows
 
@@ -266,7 +271,7 @@ module _ (st : State) where
             records = record-rows i;
           }
 
-      head-framed : ((startsWith (stateBytes st ++ rest) stateMagic ≡ true) × (zeros3At (stateBytes st ++ rest) 5 ≡ true) × (eqb (le32At (stateBytes st ++ rest) 20) 0 ≡ true))
+      head-framed : ((startsWith (stateBytes st ++ rest) stateMagic ≡ true) × (zeros3At (stateBytes st ++ rest) 5 ≡ true) × (le32At (stateBytes st ++ rest) 20 ≡ 0))
       unfolding stateBytes stateHeadBytes zeros3At le32At
       head-framed = (refl, refl, refl)
 
@@ -278,21 +283,8 @@ module _ (st : State) where
       framed : stateFramed (stateBytes st ++ rest) ≡ true
       unfolding stateFramed
       framed =
-          let b : List ℕ = stateBytes st ++ rest in
           let h = head-framed in
-          all-joined (framedTests b) (
-            h .0,
-            (
-              h .1,
-              (
-                h .2,
-                (
-                  rw clients-at (le-leb (length (st .floors)) clientCount (f .floors-count)),
-                  (rw records-at (le-leb (length (st .records)) recordCount (f .records-count)), (floors-zeros, tt)),
-                ),
-              ),
-            ),
-          )
+          passed (framedTests (stateBytes st ++ rest)) (h .0) (h .1) (h .2) (rw clients-at (f .floors-count)) (rw records-at (f .records-count)) floors-zeros
 
       plan-tests : everyRow planRowOk planRow pointCount (drop stateHead (stateBytes st ++ rest)) ≡ true
       unfolding planBytes
@@ -308,11 +300,7 @@ module _ (st : State) where
 
       pub sound-front : stateEnd ≤ length (stateBytes st ++ rest) → stateOk st ≡ true → sound (stateBytes st ++ rest) ≡ true
       unfolding sound
-      sound-front long ok =
-          let b : List ℕ = stateBytes st ++ rest in
-          all-joined
-          (leb stateEnd (length b) ∷ stateFramed b ∷ everyRow planRowOk planRow pointCount (drop stateHead b) ∷ everyRow pointRowOk pointRow pointCount (drop pointsStart b) ∷ stateOk (load b) ∷ [])
-          (le-leb stateEnd (length b) long, (framed, (plan-tests, (point-tests, (rw load-front ok, tt)))))
+      sound-front long ok = passed (soundTests (stateBytes st ++ rest)) long framed plan-tests point-tests (rw load-front ok)
 
     -- in a buffer
     pub load-back : (s : List ℕ) → stateEnd ≤ length s → load (written s 0 (stateBytes st)) ≡ st
@@ -325,45 +313,21 @@ module _ (st : State) where
 
 -- ---- soundness, as a test and as a record
 
-pub sound-is : (s : List ℕ) → sound s ≡ true → Sound s
+sound-says : (s : List ℕ) → Reflects Unit (sound s) (Sound s)
 unfolding sound stateFramed
-sound-is s e =
-    let t = joined-all
-    (leb stateEnd (length s) ∷ stateFramed s ∷ everyRow planRowOk planRow pointCount (drop stateHead s) ∷ everyRow pointRowOk pointRow pointCount (drop pointsStart s) ∷ stateOk (load s) ∷ []) e in
-    let u = joined-all (framedTests s) (t .1 .0) in
-    record {
-      long = leb-true stateEnd (length s) (t .0);
-      magic = u .0;
-      at5 = u .1 .0;
-      at20 = eqb-true (le32At s 20) 0 (u .1 .1 .0);
-      few-clients = leb-true (clientsIn s) clientCount (u .1 .1 .1 .0);
-      few-records = leb-true (recordsIn s) recordCount (u .1 .1 .1 .1 .0);
-      past-clients = u .1 .1 .1 .1 .1 .0;
-      plan-rows = t .1 .1 .0;
-      point-rows = t .1 .1 .1 .0;
-      state = t .1 .1 .1 .1 .0;
-    }
+sound-says s =
+    reflects (soundTests s)
+    (λ u p.
+    let q = facts (framedTests s) (p 1) in
+    record { long = p 0; magic = q 0; at5 = q 1; at20 = q 2; few-clients = q 3; few-records = q 4; past-clients = q 5; plan-rows = p 2; point-rows = p 3; state = p 4 })
+    (λ d k.
+    k (d .long) (passed (framedTests s) (d .magic) (d .at5) (d .at20) (d .few-clients) (d .few-records) (d .past-clients)) (d .plan-rows) (d .point-rows) (d .state))
+
+pub sound-is : (s : List ℕ) → sound s ≡ true → Sound s
+sound-is s e = sound-says s .holds tt e
 
 pub is-sound : (s : List ℕ) → Sound s → sound s ≡ true
-unfolding sound stateFramed
-is-sound s d =
-    all-joined
-    (leb stateEnd (length s) ∷ stateFramed s ∷ everyRow planRowOk planRow pointCount (drop stateHead s) ∷ everyRow pointRowOk pointRow pointCount (drop pointsStart s) ∷ stateOk (load s) ∷ []) (
-      le-leb stateEnd (length s) (d .long),
-      (
-        all-joined (framedTests s) (
-          d .magic,
-          (
-            d .at5,
-            (
-              eq-eqb (le32At s 20) 0 (d .at20),
-              (le-leb (clientsIn s) clientCount (d .few-clients), (le-leb (recordsIn s) recordCount (d .few-records), (d .past-clients, tt))),
-            ),
-          ),
-        ),
-        (d .plan-rows, (d .point-rows, (d .state, tt))),
-      ),
-    )
+is-sound s d = sound-says s .passes d
 
 -- ---- a sound state that was read is written again: the same bytes
 
@@ -429,17 +393,16 @@ completion-window : (st : State) (r : Completion) → completionOk st r ≡ true
 unfolding completionOk
 completion-window st r e =
     let c = r .command in
-    joined-all
-    (commandOk (c .op) (c .point) (c .argument) ∷ outcomeOk (r .result .outcome) (r .result .quality) ∷ idOk (c .client) (c .call)
-    ∷ inRange (entryAt (st .plan) (c .point)) (r .result .value) ∷ keepsRecords (pointAt st (r .command .point)) ∷ leb headSize (r .end) ∷ leb (r .end) (st .size)
-    ∷ inWindow (floorOf (c .client) (st .floors)) (c .call) ∷ []) e .1 .1 .1 .1 .1 .1 .1 .0
+    facts
+    (flag (commandOk (c .op) (c .point) (c .argument)) ∷ flag (outcomeOk (r .result .outcome) (r .result .quality)) ∷ flag (idOk (c .client) (c .call))
+    ∷ flag (inRange (entryAt (st .plan) (c .point)) (r .result .value)) ∷ flag (keepsRecords (pointAt st (c .point))) ∷ le headSize (r .end) ∷ le (r .end) (st .size)
+    ∷ flag (inWindow (floorOf (c .client) (st .floors)) (c .call)) ∷ []) e 7
 
 pub state-records : (st : State) → stateOk st ≡ true → length (st .records) ≤ callWindow * length (st .floors)
 unfolding stateOk
 state-records st ok =
-    let t = joined-all
-    (leb (st .server) lastServer ∷ leb headSize (st .mark) ∷ leb (st .mark) (st .size) ∷ pointsOk (st .server) (st .size) (st .plan) (st .points) ∷ every floorOk (st .floors)
-    ∷ clientsAscend (st .floors) ∷ every (completionOk st) (st .records) ∷ idsDiffer (st .records) ∷ endsFrom headSize (st .records) ∷ []) ok in
-    records-count (st .floors) (st .records) (t .1 .1 .1 .1 .1 .0)
-    (every-imp (completionOk st) (λ r. inWindow (floorOf (r .command .client) (st .floors)) (r .command .call)) (completion-window st) (st .records) (t .1 .1 .1 .1 .1 .1 .0))
-    (t .1 .1 .1 .1 .1 .1 .1 .0)
+    let p = facts
+    (le (st .server) lastServer ∷ le headSize (st .mark) ∷ le (st .mark) (st .size) ∷ flag (pointsOk (st .server) (st .size) (st .plan) (st .points)) ∷ flag (every floorOk (st .floors))
+    ∷ flag (clientsAscend (st .floors)) ∷ flag (every (completionOk st) (st .records)) ∷ flag (idsDiffer (st .records)) ∷ flag (endsFrom headSize (st .records)) ∷ []) ok in
+    records-count (st .floors) (st .records) (p 5)
+    (every-imp (completionOk st) (λ r. inWindow (floorOf (r .command .client) (st .floors)) (r .command .call)) (completion-window st) (st .records) (p 6)) (p 7)

@@ -30,10 +30,11 @@ use Rattle.model.specs.Decisions.{Decided, placesBad, giveRefusal, onGive, imag
 use Rattle.model.specs.Operations.{answerOf, after, settle, stored, lentRefusal, lent, freeIn, giveOf, receiptOf, imageOf, releaseOf}
 use Rattle.model.specs.Refusals.{noRefusal, malformed}
 use Rattle.model_laws.specs.Bytes.{Bytes}
+use Rattle.model_laws.proofs.Tests.{or-left, or-right}
 use Rattle.model_laws.proofs.Images.{image-length}
 use Rattle.model_invariants.specs.Passed.{PassedGive}
 use Rattle.model_laws.proofs.Refused.{unless-passed}
-use Rattle.model_invariants.proofs.Decided.{or-left-no, or-right-no, give-passed, release-passed}
+use Rattle.model_invariants.proofs.Decided.{give-passed, release-passed}
 use Rattle.model_invariants.proofs.Loaded.{loaded-sound}
 use Rattle.model_invariants.proofs.Images.{image-good, image-short}
 use Rattle.model_invariants.proofs.Formats.{parsed-receipt}
@@ -79,7 +80,7 @@ pub places-good : (p d : ℕ) {u : Bool} → u ≡ placesBad p d → u ≡ false
 unfolding placesBad
 places-good p d q e =
     let k = sym q ∙ e in
-    (ltb-false lastPoint p (or-left-no (ltb lastPoint p) (ltb lastServer d) k), ltb-false lastServer d (or-right-no (ltb lastPoint p) (ltb lastServer d) k))
+    (ltb-false lastPoint p (or-left (ltb lastPoint p) (ltb lastServer d) k), ltb-false lastServer d (or-right (ltb lastPoint p) (ltb lastServer d) k))
 
 -- ---- give
 
