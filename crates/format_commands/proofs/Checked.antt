@@ -22,7 +22,7 @@ use Rattle.model_laws.proofs.Tests.{and-both}
 use Rattle.format_commands.specs.Results.{checkedRule}
 
 module _ (e : PlanEntry) (op a : ℕ) (r : Reading) where
-  pub checked-inside : argumentOk op a ≡ true → checkedRule e op a r ≡ ruleOf (today op) e op a r
+  pub checked-inside : argumentOk op a ≡ true → checkedRule e op a r ≡ ruleOf (today .rule op) e op a r
   unfolding checkedRule
   checked-inside p = rw p
 
@@ -31,7 +31,7 @@ module _ (e : PlanEntry) (op a : ℕ) (r : Reading) where
   checked-outside p = rw p
 
 module _ (e : PlanEntry) (op a : ℕ) (r : Reading) {k : ℕ} {x : CommandResult} (q : op ≡ k) where
-  pub inside : {u : Bool} → u ≡ argumentOk k a → u ≡ true → x ≡ ruleOf (today k) e k a r → x ≡ checkedRule e op a r
+  pub inside : {u : Bool} → u ≡ argumentOk k a → u ≡ true → x ≡ ruleOf (today .rule k) e k a r → x ≡ checkedRule e op a r
   inside p t z = rw q (z ∙ sym (checked-inside e k a r (sym p ∙ t)))
 
   pub outside : {u : Bool} → u ≡ argumentOk k a → u ≡ false → x ≡ same outOfRange r → x ≡ checkedRule e op a r

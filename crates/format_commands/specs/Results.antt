@@ -11,4 +11,4 @@ use Rattle.model.specs.Rules.{same, ruleOf, argumentOk}
 
 -- the rule, for an argument in its op's range; any other changes nothing, outcome 1, as an op that no command has
 unfoldable pub checkedRule : PlanEntry → ℕ → ℕ → Reading → CommandResult
-checkedRule e op a r = pick (argumentOk op a) (ruleOf (today op) e op a r) (same outOfRange r)
+checkedRule e op a r = pick (argumentOk op a) (ruleOf (today .rule op) e op a r) (same outOfRange r)

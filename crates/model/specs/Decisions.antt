@@ -73,12 +73,12 @@ heldRefusal mark q r =
 unfoldable pub onHeld : State → Request → Completion → Decided
 onHeld st q r = unlessRefused (heldRefusal (st .mark) q r) (reply (resultBytes (resultOfRecord r)))
 
--- what the command does to its point, by the version that v has for its op
+-- what the command does to its point, by v's version of its op's rule
 unfoldable pub resultFor : Versions → State → Request → CommandResult
 resultFor v st q =
     let c = q .command in
     let x = pointAt st (c .point) in
-    ruleOf (v (c .op)) (entryAt (st .plan) (c .point)) (c .op) (c .argument) (record { value = x .value; quality = x .quality })
+    ruleOf (v .rule (c .op)) (entryAt (st .plan) (c .point)) (c .op) (c .argument) (record { value = x .value; quality = x .quality })
 
 unfoldable pub executedFor : Versions → State → Request → Executed
 executedFor v st q = record { command = q .command; done = q .done; result = resultFor v st q }

@@ -143,7 +143,7 @@ pub record Marked : Type 0 where
 
 -- a command as a program that executes by v marks it
 abbrev pub markedBy : Versions → Command → Marked
-markedBy v k = record { version = v (k .op); command = k }
+markedBy v k = record { version = v .rule (k .op); command = k }
 
 -- each point's value and quality
 abbrev pub Book : Type 0

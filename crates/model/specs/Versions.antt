@@ -10,10 +10,10 @@ pub data Version : Type 0 where
   first : Version
   second : Version
 
--- the version of each op's rule that a program executes by
-abbrev pub Versions : Type 0
-Versions = ℕ → Version
+-- what a program executes by; `rule op` is the version of an op's rule
+pub record Versions : Type 0 where
+  pub rule : ℕ → Version
 
 -- this program's: of step the second, which stops at the range's end; of part the second, which rounds to the nearest
 abbrev pub today : Versions
-today op = pick (eqb op stepOp) second (pick (eqb op partOp) second first)
+today = record { rule = λ op. pick (eqb op stepOp) second (pick (eqb op partOp) second first) }

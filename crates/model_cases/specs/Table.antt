@@ -68,7 +68,7 @@ pub data Outcome : Type 0 where
   number : ℕ → Outcome
 
 unfoldable pub got : Case → Outcome
-got (command e op a n b r z k) = results (ruleZ (today op) (entryZ e) op a b) (ruleOf (today op) e op n r) (readingMeant r) (resultMeant k)
+got (command e op a n b r z k) = results (ruleZ (today .rule op) (entryZ e) op a b) (ruleOf (today .rule op) e op n r) (readingMeant r) (resultMeant k)
 got (lease end heard n) = number (asked (heardAt heard) (asking 1 1 end))
 got (window call done n) = number (asked (heardAt 0) (asking call done 1))
 

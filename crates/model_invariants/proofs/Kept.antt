@@ -220,7 +220,7 @@ result-good v st q S G =
     let e = entryAt (st .plan) (q .command .point) in
     let P : GoodPoint (st .server) (st .size) e x = S .point (q .command .point) (A .point) in
     rule-in-range e (q .command .op) (q .command .argument) (record { value = x .value; quality = x .quality })
-    (entry-good e (sound-entry st S (q .command .point) (A .point))) (range-says e (x .value) .passes (P .value)) (P .quality) (A .argument) (v (q .command .op))
+    (entry-good e (sound-entry st S (q .command .point) (A .point))) (range-says e (x .value) .passes (P .value)) (P .quality) (A .argument) (v .rule (q .command .op))
 
 request-good : {P : ℕ → Type 0} (v : Versions) (st : State) (q : Request) → SoundBy P st → GoodRequest q → GoodExecuted (executedFor v st q)
 unfolding executedFor executedOk

@@ -323,7 +323,7 @@ module _ (f : ℕ → ℕ) (st : State) where
       record {
         command = c;
         done = q .done;
-        result = ruleOf (v (c .op)) (entryAt (st .plan) (c .point)) (c .op) (c .argument) (record { value = x .value; quality = x .quality });
+        result = ruleOf (v .rule (c .op)) (entryAt (st .plan) (c .point)) (c .op) (c .argument) (record { value = x .value; quality = x .quality });
       })
       f (λ (x : Point). refl) st (c .point)
 

@@ -71,7 +71,7 @@ module _ {w : World} {v v′ : W.World} where
   receive-on (M.other e a h s) d b r e′ f′ k = absurd (h d b r e′ f′ k)
 
   request-on : {c p room : ℕ} {vs : Versions} {a : W.Change} → Matched w v v′ (R.call c (request vs p) room) a → (q : Request) → Executed w c p vs room q
-      → (r : S.Result) × (a ≡ W.server c (W.writes (S.executed (vs (q .command .op)) (q .command) (q .done) r)))
+      → (r : S.Result) × (a ≡ W.server c (W.writes (S.executed (vs .rule (q .command .op)) (q .command) (q .done) r)))
   unfolding Quiet
   request-on (M.executed c p vs room k r X) q Y =
       let j : X .bytes ≡ Y .bytes = some-same (X .delivered) (Y .delivered) in
@@ -181,7 +181,7 @@ module _ (plan : List ℕ) (es : List Event) (cs : List W.Change) (F : Follows (
           → a ≡ W.server c (W.writes (S.executed (m .version) (m .command) (x .done) (x .res))) → Executes es n c m
       go e q a (M.executed d p vs room k r Y) z =
           let i : d ≡ c = cc in
-          let j : vs (k .command .op) ≡ m .version = cc in
+          let j : vs .rule (k .command .op) ≡ m .version = cc in
           let t : k .command ≡ m .command = cc in
           subst (λ (y : ℕ). Executes es n y m) i
           (record {

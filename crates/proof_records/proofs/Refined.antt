@@ -158,7 +158,7 @@ module _ (plan : List PlanEntry) (c : ℕ) (zs : List Pair) (st : State) (s : S.
     pub like : (M : S.Packet → Type 0) → M packet → PacketLike M b
 
   -- the rule of a command
-  rule-same : (v : Versions) (q : Request) → GoodRequest q → resultMeant (resultFor v st q) ≡ S.ruleAt plan (v (q .command .op)) (q .command) (s .points (q .command .point) .value)
+  rule-same : (v : Versions) (q : Request) → GoodRequest q → resultMeant (resultFor v st q) ≡ S.ruleAt plan (v .rule (q .command .op)) (q .command) (s .points (q .command .point) .value)
   unfolding resultFor S.ruleAt readingOf
   rule-same v q G =
       let P = request-command q G in
@@ -166,7 +166,7 @@ module _ (plan : List PlanEntry) (c : ℕ) (zs : List Pair) (st : State) (s : S.
       let e = entryAt (st .plan) (q .command .point) in
       let w : s .points (q .command .point) .value ≡ readingMeant x = A .like .points (q .command .point) (P .point) .value in
       let g = entry-good e (sound-entry st (A .sound) (q .command .point) (P .point)) in
-      let t = rule-tie e (v (q .command .op)) (q .command .op) (q .command .argument) x g (P .ranged) in
+      let t = rule-tie e (v .rule (q .command .op)) (q .command .op) (q .command .argument) x g (P .ranged) in
       rw (w, ← A .planned) t
 
   -- no completion record has a fresh id
@@ -189,9 +189,9 @@ module _ (plan : List PlanEntry) (c : ℕ) (zs : List Pair) (st : State) (s : S.
       let P = A .like .points (q .command .point) (request-command q (m .0) .point) in
       record {
         abstract = _;
-        like = Likeness.executed (v (q .command .op)) (executedFor v st q);
+        like = Likeness.executed (v .rule (q .command .op)) (executedFor v st q);
         why =
-            executing (v (q .command .op)) (askedIn q) (resultOf (resultFor v st q)) (m .1) (held-like zs _ _ P h) (omega (arith, A .like .heard)) (rw (floor-same (q .command .client)) f)
+            executing (v .rule (q .command .op)) (askedIn q) (resultOf (resultFor v st q)) (m .1) (held-like zs _ _ P h) (omega (arith, A .like .heard)) (rw (floor-same (q .command .client)) f)
             (none-held _ _ n) (rule-same v q (m .0));
         decides = byRequest v q (m .0) d;
         source = execution v b q _ refl e refl;

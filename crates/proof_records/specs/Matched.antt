@@ -59,7 +59,7 @@ NoExecution (S.freed p m) = Unit {0}
 -- a request writes the execution of its command by its program's version, and no other call writes an execution
 pub data Source (o : Operation) (a : S.LogRecord) : Type 0 where
   execution : (v : Versions) (b : List ℕ) (q : Request) (r : S.Result) → o ≡ request v b → parsePacket b ≡ Requested q
-      → a ≡ S.executed (v (q .command .op)) (q .command) (q .done) r → Source o a
+      → a ≡ S.executed (v .rule (q .command .op)) (q .command) (q .done) r → Source o a
   no-execution : ((v : Versions) (b : List ℕ) → o ≡ request v b → ⊥) → NoExecution a → Source o a
 
 -- ---- events
@@ -110,7 +110,7 @@ Quiet w (R.outside (query x t)) = Unit
 
 pub data Matched (w : World) (v v′ : W.World) : Event → W.Change → Type 0 where
   executed : (c p : ℕ) (vs : Versions) (room : ℕ) (q : Request) (r : S.Result) → Executed w c p vs room q
-      → Matched w v v′ (R.call c (request vs p) room) (W.server c (W.writes (S.executed (vs (q .command .op)) (q .command) (q .done) r)))
+      → Matched w v v′ (R.call c (request vs p) room) (W.server c (W.writes (S.executed (vs .rule (q .command .op)) (q .command) (q .done) r)))
   cut : (c b j : ℕ) → Cut v v′ c b → Matched w v v′ (R.crash c b) (W.server c (W.crashes j))
   issued : (x op p a : ℕ) (d : Client) (q : Request) → w .clients x ≡ some d → issueOf d op p a .answer ≡ Asked q
       → Matched w v v′ (R.outside (issue x op p a)) (W.client x (W.issues d op p a))

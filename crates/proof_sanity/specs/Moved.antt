@@ -72,7 +72,7 @@ stoppedResult = record { outcome = stopped; value = half + 1000; quality = valid
 
 -- a program from before the second versions
 abbrev pub before : Versions
-before op = first
+before = record { rule = λ op. first }
 
 -- as requests, with the lease ends 10 and 1000, and their result packets
 abbrev pub settingAsked : Request
