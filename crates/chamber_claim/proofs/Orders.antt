@@ -1,9 +1,9 @@
--- Places of an order, and the book at them.
+-- Places of an order, and the values at them.
 --     place-in, place-of      an entry of an order has a place
 --     one-command, part-of, is-part, its-commands    an entry has one command
 --     one-place               an id has one place;  before-places   what stands before has the lesser place
---     book-step, book-past    the book one place on
---     answered                a result is the book's at a place
+--     values-step, values-past    the values one place on
+--     answered                a result is the answer at a place
 --     other-value             an entry leaves other points
 --     read-opens-none         a read is no opening
 --     gate-value              a value 0 stays under read, set and part, but for an opening
@@ -26,10 +26,10 @@ use Rattle.model.specs.declared.CommandResult.{CommandResult}
 use Rattle.model.specs.Numbers.{half, signed}
 use Rattle.model.specs.Plan.{entryAt}
 use Rattle.model.specs.Limits.{readOp, setOp, partOp}
-use Rattle.model.specs.Sequential.{Marked, OrderEntry, single, parts, commands, EntryResult, one, ResultZ, EntryZ, ReadingZ, Book, resultMeant, afterZ, entryZ, inRangeZ, setZ, readZ, ruleZ}
-use Rattle.model.specs.Sequential.{answerZ, answerTo, bookWith, bookAfter, Answers, here, later}
+use Rattle.model.specs.Sequential.{Marked, OrderEntry, single, parts, commands, EntryResult, one, ResultZ, EntryZ, ReadingZ, Values, resultMeant, afterZ, entryZ, inRangeZ, setZ, readZ, ruleZ}
+use Rattle.model.specs.Sequential.{answerZ, answerTo, valuesWith, valuesAfter, Answers, here, later}
 use Rattle.model_laws.proofs.Tests.{choose, impossible}
-use Rattle.model_laws.proofs.Book.{untouched, single-here}
+use Rattle.model_laws.proofs.Sequential.{untouched, single-here}
 use Rattle.claim.specs.Claim.{_∈_, Once, none-left, one-more, Before}
 use Rattle.claim.specs.Claim as Claim
 use Rattle.chamber_claim.specs.Chamber.{isOpening}
@@ -91,7 +91,7 @@ before-places o i j k m p q b =
     let v = one-place o j (h .1) m m q (h .3) refl refl in
     omega (arith, h .4)
 
--- ---- the book
+-- ---- the values at a place
 
 -- read, set or part
 abbrev pub GateOp : ℕ → Type 0
@@ -111,28 +111,28 @@ unfolding isOpening
 read-opens-none op a e h = let k : false ≡ true = rw e at h in impossible cc
 
 module _ (plan : List PlanEntry) where
-  pub book-step : (b : Book) (order : List OrderEntry) (k : ℕ) (e : OrderEntry) → getElem? order k ≡ some e
-      → bookAfter plan b (take (suc k) order) ≡ bookWith plan (bookAfter plan b (take k order)) e
-  unfolding bookAfter
-  book-step b [] k e h = impossible cc
-  book-step b (x ∷ order) zero e h = ap (bookWith plan b) (let q : x ≡ e = cc in q)
-  book-step b (x ∷ order) (suc k) e h = book-step (bookWith plan b x) order k e h
+  pub values-step : (b : Values) (order : List OrderEntry) (k : ℕ) (e : OrderEntry) → getElem? order k ≡ some e
+      → valuesAfter plan b (take (suc k) order) ≡ valuesWith plan (valuesAfter plan b (take k order)) e
+  unfolding valuesAfter
+  values-step b [] k e h = impossible cc
+  values-step b (x ∷ order) zero e h = ap (valuesWith plan b) (let q : x ≡ e = cc in q)
+  values-step b (x ∷ order) (suc k) e h = values-step (valuesWith plan b x) order k e h
 
-  pub book-past : (b : Book) (order : List OrderEntry) (k : ℕ) → getElem? order k ≡ none → bookAfter plan b (take (suc k) order) ≡ bookAfter plan b (take k order)
-  unfolding bookAfter
-  book-past b [] zero h = refl
-  book-past b [] (suc k) h = refl
-  book-past b (x ∷ order) zero h = impossible cc
-  book-past b (x ∷ order) (suc k) h = book-past (bookWith plan b x) order k h
+  pub values-past : (b : Values) (order : List OrderEntry) (k : ℕ) → getElem? order k ≡ none → valuesAfter plan b (take (suc k) order) ≡ valuesAfter plan b (take k order)
+  unfolding valuesAfter
+  values-past b [] zero h = refl
+  values-past b [] (suc k) h = refl
+  values-past b (x ∷ order) zero h = impossible cc
+  values-past b (x ∷ order) (suc k) h = values-past (valuesWith plan b x) order k h
 
-  pub answered : {b : Book} {order : List OrderEntry} {ks : List Command} {r : EntryResult} → Answers plan b order ks r
-      → (k : ℕ) × (e : OrderEntry) × (getElem? order k ≡ some e) × (commands e ≡ ks) × (answerTo plan (bookAfter plan b (take k order)) e ≡ r)
-  unfolding bookAfter
+  pub answered : {b : Values} {order : List OrderEntry} {ks : List Command} {r : EntryResult} → Answers plan b order ks r
+      → (k : ℕ) × (e : OrderEntry) × (getElem? order k ≡ some e) × (commands e ≡ ks) × (answerTo plan (valuesAfter plan b (take k order)) e ≡ r)
+  unfolding valuesAfter
   answered (here {e = e}) = (0, e, refl, refl, refl)
   answered (later a) = let h = answered a in (suc (h .0), h .1, h .2, h .3, h .4)
 
-  module _ (b : Book) (m : Marked) where
-    pub other-value : (p : ℕ) → (m .command .point ≡ p → ⊥) → bookWith plan b (single m) p ≡ b p
+  module _ (b : Values) (m : Marked) where
+    pub other-value : (p : ℕ) → (m .command .point ≡ p → ⊥) → valuesWith plan b (single m) p ≡ b p
     other-value p f = untouched plan b (single m) p (λ j h e. f (ap (λ (z : Marked). z .command .point) (sym (part-of m j h)) ∙ e))
 
     rule-value : (e : EntryZ) (r : ReadingZ) → GateOp (m .command .op) → isOpening (m .command .op) (m .command .argument) ≡ false → r .value ≡ pos 0
@@ -152,17 +152,17 @@ module _ (plan : List PlanEntry) where
         go false p false q false x t y k = impossible cc
 
     pub gate-value : (p : ℕ) → (m .command .point ≡ p → GateOp (m .command .op)) → b p .value ≡ pos 0
-        → (bookWith plan b (single m) p .value ≡ pos 0) ⊎ ((m .command .point ≡ p) × (isOpening (m .command .op) (m .command .argument) ≡ true))
+        → (valuesWith plan b (single m) p .value ≡ pos 0) ⊎ ((m .command .point ≡ p) × (isOpening (m .command .op) (m .command .argument) ≡ true))
     unfolding afterZ answerZ
     gate-value p g z = go (eqb (m .command .point) p) refl (isOpening (m .command .op) (m .command .argument)) refl
       where
         go : (u : Bool) → eqb (m .command .point) p ≡ u → (v : Bool) → isOpening (m .command .op) (m .command .argument) ≡ v
-            → (bookWith plan b (single m) p .value ≡ pos 0) ⊎ ((m .command .point ≡ p) × (isOpening (m .command .op) (m .command .argument) ≡ true))
+            → (valuesWith plan b (single m) p .value ≡ pos 0) ⊎ ((m .command .point ≡ p) × (isOpening (m .command .op) (m .command .argument) ≡ true))
         go false e v f = inl (ap (λ (r : ReadingZ). r .value) (other-value p (eqb-false _ _ e)) ∙ z)
         go true e true f = inr (eqb-true _ _ e, f)
         go true e false f =
             let h : m .command .point ≡ p = eqb-true _ _ e in
-            inl (subst (λ (q : ℕ). bookWith plan b (single m) q .value ≡ pos 0) h
+            inl (subst (λ (q : ℕ). valuesWith plan b (single m) q .value ≡ pos 0) h
             (rw (single-here plan b m) (rule-value (entryZ (entryAt plan (m .command .point))) (b (m .command .point)) (g h) f (ap (λ (q : ℕ). b q .value) h ∙ z))))
 
     pub read-value : (r : CommandResult) → m .command .op ≡ readOp → answerTo plan b (single m) ≡ one (resultMeant r) → r .value ≡ half → b (m .command .point) .value ≡ pos 0

@@ -24,7 +24,7 @@ use Rattle.model.specs.declared.Packet.the-variants.{Requested}
 use Rattle.model.specs.Limits.{readOp}
 use Rattle.model.specs.Plan.{planOf}
 use Rattle.model.specs.Packets.{parsePacket}
-use Rattle.model.specs.Sequential.{Marked, markedBy, OrderEntry, single, one, ReadingZ, Book, resultMeant, opened, answerTo, bookWith, bookAfter}
+use Rattle.model.specs.Sequential.{Marked, markedBy, OrderEntry, single, one, ReadingZ, Values, resultMeant, opened, answerTo, valuesWith, valuesAfter}
 use Rattle.claim.specs.World.{Event, outside, issue, after, packet}
 use Rattle.claim.specs.Claim.{Issues, Completes, Executes, SurvivesAt, Explains}
 use Rattle.claim.specs.Fence.{Fences}
@@ -33,7 +33,7 @@ use Rattle.chamber_claim.specs.declared.LockPoints.{LockPoints}
 use Rattle.chamber_claim.specs.Chamber.{isOpening, roleIn, mayOpen, readAt, pointsOk}
 use Rattle.chamber_claim.specs.Lock.{LockEvent, kernel}
 use Rattle.chamber_claim.specs.Safe.{OneClosed, events, lockAt, AtLock, Begins, IsGate, FencedOff, LockProvisos, ChamberSafe}
-use Rattle.chamber_claim.proofs.Orders.{Stands, GateOp, place-of, one-command, part-of, is-part, its-commands, before-places, book-step, book-past, answered, other-value, read-opens-none}
+use Rattle.chamber_claim.proofs.Orders.{Stands, GateOp, place-of, one-command, part-of, is-part, its-commands, before-places, values-step, values-past, answered, other-value, read-opens-none}
 use Rattle.chamber_claim.proofs.Orders.{gate-value, read-value}
 use Rattle.chamber_claim.proofs.Commands.{Gates, up, down, gates-differ, Closed, closed-seen, passed}
 use Rattle.chamber_claim.proofs.Frame.{Commands}
@@ -74,12 +74,12 @@ module _ (plan : List ℕ) (s : LockPoints) (ls : List LockEvent) (pr : LockProv
   abbrev es : List Event
   es = events plan s ls
 
-  -- the book at a place, and a point's value in it
-  abbrev bookAt : ℕ → Book
-  bookAt k = bookAfter (planOf plan) (opened (planOf plan)) (take k order)
+  -- the values at a place, and a point's
+  abbrev valuesAt : ℕ → Values
+  valuesAt k = valuesAfter (planOf plan) (opened (planOf plan)) (take k order)
 
   abbrev valueAt : ℕ → ℕ → ℤ
-  valueAt k p = bookAt k p .value
+  valueAt k p = valuesAt k p .value
 
   gate-is : {g g' : ℕ} → Gates s g g' → IsGate plan s ls g
   gate-is up = inl refl
@@ -177,9 +177,9 @@ module _ (plan : List ℕ) (s : LockPoints) (ls : List LockEvent) (pr : LockProv
           (subst (λ (z : ℕ). mayOpen (p .command .chamber) (roleIn (p .command .chamber .points) z) ≡ true) (o .on)
           (passed (p .command .chamber) _ _ _ (p .command .request) (p .command .answer) .safe (o .opening)))
 
-      -- r, read as the book answers it at the place j, where its entry e stands
+      -- r, read as the order answers it at the place j, where its entry e stands
       entered : (c : Closed s (p .command .chamber) g') (r : ReadBy plan s ls (m .command .client) (c .role) (readAt (p .command .chamber) (c .role))) → r .at < p .its .event
-          → (j : ℕ) (e : Marked) → Stands order j e → e .command ≡ r .read → answerTo (planOf plan) (bookAt j) (single e) ≡ one (resultMeant (r .result)) → Read m p g'
+          → (j : ℕ) (e : Marked) → Stands order j e → e .command ≡ r .read → answerTo (planOf plan) (valuesAt j) (single e) ≡ one (resultMeant (r .result)) → Read m p g'
       entered c r soon j e st q a =
           let on : e .command .point ≡ g' = ap (λ (z : Command). z .point) q ∙ c .is (r .read .point) (r .role) in
           let op : e .command .op ≡ readOp = ap (λ (z : Command). z .op) q ∙ r .op in
@@ -191,7 +191,7 @@ module _ (plan : List ℕ) (s : LockPoints) (ls : List LockEvent) (pr : LockProv
             op = op;
             on = on;
             fresh = let n : e .command .call ≡ readAt (p .command .chamber) (c .role) .call = ap (λ (z : Command). z .call) q ∙ r .number in omega (arith, c .fresh);
-            zero = subst (λ (z : ℕ). valueAt j z ≡ pos 0) on (read-value (planOf plan) (bookAt j) e (r .result) op a (r .value ∙ c .zero));
+            zero = subst (λ (z : ℕ). valueAt j z ≡ pos 0) on (read-value (planOf plan) (valuesAt j) e (r .result) op a (r .value ∙ c .zero));
             done =
                 record {
                   at = r .at;
@@ -300,16 +300,16 @@ module _ (plan : List ℕ) (s : LockPoints) (ls : List LockEvent) (pr : LockProv
 
   -- an entry turns a gate away from 0 only by an opening
   gate-step : (k : ℕ) (m : Marked) {g g' : ℕ} → Stands order k m → Gates s g g' → valueAt k g ≡ pos 0 → (valueAt (suc k) g ≡ pos 0) ⊎ Opens k m g g'
-  gate-step k m {g} {g'} h d z = go (gate-value (planOf plan) (bookAt k) m g (λ e. gate-ops k m h (subst (IsGate plan s ls) (sym e) (gate-is d))) z)
+  gate-step k m {g} {g'} h d z = go (gate-value (planOf plan) (valuesAt k) m g (λ e. gate-ops k m h (subst (IsGate plan s ls) (sym e) (gate-is d))) z)
     where
-      go : (bookWith (planOf plan) (bookAt k) (single m) g .value ≡ pos 0) ⊎ ((m .command .point ≡ g) × (isOpening (m .command .op) (m .command .argument) ≡ true))
+      go : (valuesWith (planOf plan) (valuesAt k) (single m) g .value ≡ pos 0) ⊎ ((m .command .point ≡ g) × (isOpening (m .command .op) (m .command .argument) ≡ true))
           → (valueAt (suc k) g ≡ pos 0) ⊎ Opens k m g g'
-      go (inl e) = inl (ap (λ (b : Book). b g .value) (book-step (planOf plan) (opened (planOf plan)) order k (single m) h) ∙ e)
+      go (inl e) = inl (ap (λ (b : Values). b g .value) (values-step (planOf plan) (opened (planOf plan)) order k (single m) h) ∙ e)
       go (inr e) = inr (record { stands = h; gates = d; on = e .0; opening = e .1 })
 
   -- a place with no entry
   past-step : (k p : ℕ) → getElem? order k ≡ none → valueAt (suc k) p ≡ valueAt k p
-  past-step k p h = ap (λ (b : Book). b p .value) (book-past (planOf plan) (opened (planOf plan)) order k h)
+  past-step k p h = ap (λ (b : Values). b p .value) (values-past (planOf plan) (opened (planOf plan)) order k h)
 
   other-closed : (k : ℕ) (m : Marked) {g g' : ℕ} → Opens k m g g' → valueAt k g' ≡ pos 0
   other-closed k m {g} {g'} o = through k (omega (arith, by-time (r .place) k (p .its .event) (r .marked) m (r .stands) (o .stands) (r .done) (p .its .issues))) (omega arith)
@@ -348,18 +348,18 @@ module _ (plan : List ℕ) (s : LockPoints) (ls : List LockEvent) (pr : LockProv
       go (inl e) = inl e
       go (inr o) =
           let n : m .command .point ≡ g' → ⊥ = λ e. apart s (begins-points plan s ls _ _ (opener k m o .begins)) d (sym (o .on) ∙ e) in
-          inr (ap (λ (b : Book). b g' .value) (book-step (planOf plan) (opened (planOf plan)) order k (single m) h)
-          ∙ ap (λ (b : ReadingZ). b .value) (other-value (planOf plan) (bookAt k) m g' n) ∙ other-closed k m o)
+          inr (ap (λ (b : Values). b g' .value) (values-step (planOf plan) (opened (planOf plan)) order k (single m) h)
+          ∙ ap (λ (b : ReadingZ). b .value) (other-value (planOf plan) (valuesAt k) m g' n) ∙ other-closed k m o)
 
-  safe : (k : ℕ) → OneClosed s (bookAt k)
-  safe zero = inl (unfold bookAfter in (pr .fallback (s .upper) (inl refl)))
+  safe : (k : ℕ) → OneClosed s (valuesAt k)
+  safe zero = inl (unfold valuesAfter in (pr .fallback (s .upper) (inl refl)))
   safe (suc k) = step (getElem? order k) refl (safe k)
     where
       swap : {A B : Type 0} → A ⊎ B → B ⊎ A
       swap (inl a) = inr a
       swap (inr b) = inl b
 
-      step : (e : Option OrderEntry) → getElem? order k ≡ e → OneClosed s (bookAt k) → OneClosed s (bookAt (suc k))
+      step : (e : Option OrderEntry) → getElem? order k ≡ e → OneClosed s (valuesAt k) → OneClosed s (valuesAt (suc k))
       step none h (inl z) = inl (past-step k (s .upper) h ∙ z)
       step none h (inr z) = inr (past-step k (s .lower) h ∙ z)
       step (some e) h (inl z) = entry-safe k e h up z

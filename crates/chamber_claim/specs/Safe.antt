@@ -12,7 +12,7 @@ use Rattle.model.specs.declared.Command.{Command}
 use Rattle.model.specs.declared.Started.the-variants.{Running}
 use Rattle.model.specs.Limits.{readOp}
 use Rattle.model.specs.Plan.{planOf}
-use Rattle.model.specs.Sequential.{OrderEntry, Book, opened, bookAfter}
+use Rattle.model.specs.Sequential.{OrderEntry, Values, opened, valuesAfter}
 use Rattle.claim.specs.World.{Event, outside, issue, receive, packet}
 use Rattle.claim.specs.Provisos.{Provisos}
 use Rattle.claim.specs.Claim.{Issues, Explains}
@@ -24,7 +24,7 @@ use Rattle.chamber_claim.specs.Chamber.{startIn}
 use Rattle.chamber_claim.specs.Lock.{LockEvent, kernel, begin, Lock, lockProduct}
 
 -- both gates away from 0 is excluded
-abbrev pub OneClosed : LockPoints → Book → Type 0
+abbrev pub OneClosed : LockPoints → Values → Type 0
 OneClosed s b = (b (s .upper) .value ≡ pos 0) ⊎ (b (s .lower) .value ≡ pos 0)
 
 module _ (plan : List ℕ) (s : LockPoints) (ls : List LockEvent) where
@@ -79,4 +79,4 @@ module _ (plan : List ℕ) (s : LockPoints) (ls : List LockEvent) where
 unfoldable pub ChamberSafe : Type 0
 ChamberSafe = (plan : List ℕ) (s : LockPoints) (ls : List LockEvent) → LockProvisos plan s ls → Fences plan (events plan s ls)
     → (order : List OrderEntry) → Explains plan (events plan s ls) order → (k : ℕ)
-    → OneClosed s (bookAfter (planOf plan) (opened (planOf plan)) (take k order))
+    → OneClosed s (valuesAfter (planOf plan) (opened (planOf plan)) (take k order))

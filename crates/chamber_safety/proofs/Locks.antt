@@ -15,7 +15,7 @@ use Rattle.model.specs.Limits.{pointCount}
 use Rattle.model.specs.Plan.{planOf}
 use Rattle.model.specs.Numbers.{signed}
 use Rattle.model.specs.States.{State, pointAt}
-use Rattle.model.specs.Sequential.{OrderEntry, ReadingZ, readingMeant, opened, bookAfter}
+use Rattle.model.specs.Sequential.{OrderEntry, ReadingZ, readingMeant, opened, valuesAfter}
 use Rattle.claim.specs.World.{Event}
 use Rattle.claim.specs.Claim.{readingAt, Holder, Explains, Demand3}
 use Rattle.claim.specs.Fence.{Fence}
@@ -29,23 +29,23 @@ use Rattle.chamber_claim.proofs.Moments.{lock-provisos-first}
 
 module _ (plan : List ℕ) (s : LockPoints) (ls : List LockEvent) (P : LockProvisos plan s ls) where
   pub safe-in-all : (order : List OrderEntry) → Explains plan (events plan s ls) order → (k : ℕ)
-      → OneClosed s (bookAfter (planOf plan) (opened (planOf plan)) (take k order))
+      → OneClosed s (valuesAfter (planOf plan) (opened (planOf plan)) (take k order))
   unfolding Fence ChamberSafe
   safe-in-all = chamber-safe plan s ls P (fence plan (events plan s ls) (P .kernels))
 
   pub lock-safe : (order : List OrderEntry) × Explains plan (events plan s ls) order
-      × ((k : ℕ) → OneClosed s (bookAfter (planOf plan) (opened (planOf plan)) (take k order)))
+      × ((k : ℕ) → OneClosed s (valuesAfter (planOf plan) (opened (planOf plan)) (take k order)))
   unfolding Demand3
   lock-safe = let x = demand3 plan (events plan s ls) (P .kernels) in (x .0, x .1, safe-in-all (x .0) (x .1))
 
-  -- when the schedule ends: the order's last book has the values at the holders
+  -- when the schedule ends: the values after the whole order are those at the holders
   safe-at-end : (c d : ℕ) (u l : State) → s .upper < pointCount → s .lower < pointCount
       → Holder plan (events plan s ls) (s .upper) c u → Holder plan (events plan s ls) (s .lower) d l
       → (signed (pointAt u (s .upper) .value) ≡ pos 0) ⊎ (signed (pointAt l (s .lower) .value) ≡ pos 0)
   unfolding readingMeant readingAt
   safe-at-end c d u l a b hu hl =
       let x = lock-safe in
-      let z = subst (λ (o : List OrderEntry). OneClosed s (bookAfter (planOf plan) (opened (planOf plan)) o)) (take-length (x .0)) (x .2 (length (x .0))) in
+      let z = subst (λ (o : List OrderEntry). OneClosed s (valuesAfter (planOf plan) (opened (planOf plan)) o)) (take-length (x .0)) (x .2 (length (x .0))) in
       elim z [
         | inl e ↦ inl (ap (λ (r : ReadingZ). r .value) (x .1 .values (s .upper) c u a hu) ∙ e)
         | inr e ↦ inr (ap (λ (r : ReadingZ). r .value) (x .1 .values (s .lower) d l b hl) ∙ e)

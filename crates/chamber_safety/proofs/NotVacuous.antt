@@ -13,7 +13,7 @@ use Rattle.model.specs.Plan.{planOf}
 use Rattle.model.specs.Versions.{today}
 use Rattle.model.specs.Sequential.{markedBy, opened}
 use Rattle.model.specs.Simulator.{simulatorPlan}
-use Rattle.model_laws.specs.Opened.{openNumbers, openTables, openPlan, openBook}
+use Rattle.model_laws.specs.Opened.{openNumbers, openTables, openPlan, openSequential}
 use Rattle.claim.specs.World.{Event}
 use Rattle.claim.specs.Claim.{Executes, SurvivesAt}
 use Rattle.chamber_claim.specs.Safe.{events, Begins, IsGate, LockProvisos}
@@ -27,7 +27,7 @@ es = events simulatorPlan lockPoints handed
 
 -- all points of the plan fall back to 0
 falls-to : (opened (planOf simulatorPlan) 10 .value ≡ pos 0) × (opened (planOf simulatorPlan) 11 .value ≡ pos 0)
-unfolding openNumbers openTables openPlan openBook simulatorPlan
+unfolding openNumbers openTables openPlan openSequential simulatorPlan
 falls-to = (refl, refl)
 
 provisos : LockProvisos simulatorPlan lockPoints handed

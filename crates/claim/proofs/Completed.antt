@@ -1,4 +1,4 @@
--- A completed command is in the order: the book answers it from an entry there.
+-- A completed command is in the order: an entry there answers it.
 --     answered-in, completed
 -- Assumes nothing.
 use Prim.Native.Nat.{ℕ}
@@ -6,10 +6,10 @@ use mathlib.Core.Path.{_≡_, refl}
 use mathlib.Core.List.{List, List·Memᴰ·head, List·Memᴰ·tail}
 use Rattle.model.specs.declared.Command.{Command}
 use Rattle.model.specs.declared.PlanEntry.{PlanEntry}
-use Rattle.model.specs.Sequential.{OrderEntry, commands, EntryResult, Book, Answers, here, later}
+use Rattle.model.specs.Sequential.{OrderEntry, commands, EntryResult, Values, Answers, here, later}
 use Rattle.claim.specs.Claim.{_∈_, Account, ExplainedBy}
 
-pub answered-in : {plan : List PlanEntry} {b : Book} {order : List OrderEntry} {ks : List Command} {r : EntryResult} → Answers plan b order ks r
+pub answered-in : {plan : List PlanEntry} {b : Values} {order : List OrderEntry} {ks : List Command} {r : EntryResult} → Answers plan b order ks r
     → (a : OrderEntry) × (commands a ≡ ks) × (a ∈ order)
 answered-in (here {e = e}) = (e, refl, List·Memᴰ·head refl)
 answered-in (later x) = let a = answered-in x in (a .0, a .1, List·Memᴰ·tail (a .2))

@@ -18,7 +18,7 @@ use Rattle.model.specs.declared.Received.the-variants.{Completed}
 use Rattle.model.specs.Limits.{pointCount}
 use Rattle.model.specs.Plan.{planOf, entryAt}
 use Rattle.model.specs.Versions.{Versions}
-use Rattle.model.specs.Sequential.{Marked, markedBy, OrderEntry, parts, commands, EntryResult, one, readingMeant, resultMeant, opened, bookAfter, Answers}
+use Rattle.model.specs.Sequential.{Marked, markedBy, OrderEntry, parts, commands, EntryResult, one, readingMeant, resultMeant, opened, valuesAfter, Answers}
 use Rattle.model.specs.Packets.{parsePacket}
 use Rattle.model.specs.States.{State, load, pointAt}
 use Rattle.model.specs.Operations.{answerOf, requestOf, recoveredState}
@@ -128,7 +128,7 @@ module _ (plan : List ℕ) (seen : Account) where
     pub results : (n : ℕ) (ks : List Command) (r : EntryResult) → seen .Completes n ks r → Answers (planOf plan) (opened (planOf plan)) order ks r
     -- "and, at its end, each point's value and quality at its holder"
     pub values : (p c : ℕ) (st : State) → p < pointCount → HolderBy p c st
-        → readingMeant (readingAt (pointAt st p)) ≡ bookAfter (planOf plan) (opened (planOf plan)) order p
+        → readingMeant (readingAt (pointAt st p)) ≡ valuesAfter (planOf plan) (opened (planOf plan)) order p
     -- "a command completed before another was issued stands first"
     pub real-time : (m n : ℕ) (a b : OrderEntry) (r : EntryResult) → seen .Completes m (commands a) r → seen .Issues n (commands b) → m < n
         → a ∈ order → b ∈ order → Before a b order

@@ -145,21 +145,21 @@ pub record Marked : Type 0 where
 abbrev pub markedBy : Versions → Command → Marked
 markedBy v k = record { version = v .rule (k .op); command = k }
 
--- each point's value and quality
-abbrev pub Book : Type 0
-Book = ℕ → ReadingZ
+-- each point's value and quality, as the paper's book has them at a place of an order
+abbrev pub Values : Type 0
+Values = ℕ → ReadingZ
 
 -- first fallback and quality 1
-unfoldable pub opened : List PlanEntry → Book
+unfoldable pub opened : List PlanEntry → Values
 opened plan p = readingZ (entryZ (entryAt plan p) .fallback) invalid
 
 -- the answer to a command
-unfoldable pub answerZ : List PlanEntry → Book → Marked → ResultZ
+unfoldable pub answerZ : List PlanEntry → Values → Marked → ResultZ
 answerZ plan b m =
     ruleZ (m .version) (entryZ (entryAt plan (m .command .point))) (m .command .op) (signed (m .command .argument)) (b (m .command .point))
 
 -- a command changes only its point
-unfoldable pub entered : List PlanEntry → Book → Marked → Book
+unfoldable pub entered : List PlanEntry → Values → Marked → Values
 entered plan b m p = pick (eqb p (m .command .point)) (afterZ (answerZ plan b m)) (b p)
 
 -- an entry of an order: commands with one place in it, its parts
@@ -172,24 +172,24 @@ parts (single m) = m ∷ []
 unfoldable pub commands : OrderEntry → List Command
 commands e = map (λ (m : Marked). m .command) (parts e)
 
--- what the book answers to an entry
+-- the answer to an entry
 pub data EntryResult : Type 0 where
   one : ResultZ → EntryResult
 
-unfoldable pub answerTo : List PlanEntry → Book → OrderEntry → EntryResult
+unfoldable pub answerTo : List PlanEntry → Values → OrderEntry → EntryResult
 answerTo plan b (single m) = one (answerZ plan b m)
 
--- the book once an entry is entered
-unfoldable pub bookWith : List PlanEntry → Book → OrderEntry → Book
-bookWith plan b (single m) = entered plan b m
+-- the values once an entry is entered
+unfoldable pub valuesWith : List PlanEntry → Values → OrderEntry → Values
+valuesWith plan b (single m) = entered plan b m
 
--- the book after an order of entries, from b
-unfoldable pub bookAfter : List PlanEntry → Book → List OrderEntry → Book
-bookAfter plan b [] = b
-bookAfter plan b (e ∷ es) = bookAfter plan (bookWith plan b e) es
+-- the values after an order of entries, from b
+unfoldable pub valuesAfter : List PlanEntry → Values → List OrderEntry → Values
+valuesAfter plan b [] = b
+valuesAfter plan b (e ∷ es) = valuesAfter plan (valuesWith plan b e) es
 
--- `Answers plan b es ks r`: run over es from b, the book answers r to the entry of the commands ks
-pub data Answers (plan : List PlanEntry) : Book → List OrderEntry → List Command → EntryResult → Type 0 where
-  here : {b : Book} {e : OrderEntry} {es : List OrderEntry} → Answers plan b (e ∷ es) (commands e) (answerTo plan b e)
-  later : {b : Book} {e : OrderEntry} {ks : List Command} {es : List OrderEntry} {r : EntryResult}
-      → Answers plan (bookWith plan b e) es ks r → Answers plan b (e ∷ es) ks r
+-- `Answers plan b es ks r`: run over es from b, the answer to the entry of the commands ks is r
+pub data Answers (plan : List PlanEntry) : Values → List OrderEntry → List Command → EntryResult → Type 0 where
+  here : {b : Values} {e : OrderEntry} {es : List OrderEntry} → Answers plan b (e ∷ es) (commands e) (answerTo plan b e)
+  later : {b : Values} {e : OrderEntry} {ks : List Command} {es : List OrderEntry} {r : EntryResult}
+      → Answers plan (valuesWith plan b e) es ks r → Answers plan b (e ∷ es) ks r

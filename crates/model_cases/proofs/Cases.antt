@@ -2,9 +2,9 @@
 -- Assumes nothing.
 use mathlib.Core.Path.{_≡_, refl}
 use mathlib.Core.List.{map}
-use Rattle.model_laws.specs.Opened.{openServers, openBook}
+use Rattle.model_laws.specs.Opened.{openServers, openSequential}
 use Rattle.model_cases.specs.Table.{cases, got, wanted, asked, heardAt, refusalOf}
 
 pub p-cases : map got cases ≡ map wanted cases
-unfolding openServers openBook cases got wanted asked heardAt refusalOf
+unfolding openServers openSequential cases got wanted asked heardAt refusalOf
 p-cases = refl

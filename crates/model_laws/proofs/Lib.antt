@@ -1,5 +1,5 @@
 pub mod Tests
-pub mod Book
+pub mod Sequential
 pub mod Refused
 pub mod Numbers
 pub mod Reflects

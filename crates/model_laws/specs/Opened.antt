@@ -15,7 +15,7 @@ use Rattle.model.specs.Decisions.{orMalformed, find, requestRefusal, resultOfRe
 use Rattle.model.specs.Operations.{short, unfit, freeIn, stored, settle, lentRefusal, lent, leftUnless, foundRefusal, foundOf, requestOf, fetchOf, syncOf, noticeOf, giveOf, imageOf, takeOf, receiptOf, releaseOf, recovered, recoveredAll, recoveredOn, recoveredState, settleRecovered, recoverRefusal, recoverOf, logEndOf}
 use Rattle.model.specs.Clients.{placeOf, callAt, isOpen, leastOpen, firstOpen, withCalls, withLease, closed, requestFor, startWith, startOf, newCall, withCall, notSent, sent, issueOf, resendOf, isOwn, notReceived, receiveResult, receiveRefusal, receiveGrant, receiveWith, receiveOf, startNumber, sendNumber, receiveNumber, brought, sentBytes}
 use Rattle.model.specs.Leases.{timeAt, endedAt, runningAt, leaseEnd, isTaken, withNewLease, extended, spanOk, manager, notTold, granted, openOf, renewOf, queryOf, toldNumber, toldBytes}
-use Rattle.model.specs.Sequential.{entryZ, readingMeant, resultMeant, afterZ, inRangeZ, quotientDown, quotientNearest, readZ, setZ, pastEndZ, stepZ, reportZ, faultZ, roundedZ, partZ, ruleZ, opened, answerZ, entered, bookWith, bookAfter}
+use Rattle.model.specs.Sequential.{entryZ, readingMeant, resultMeant, afterZ, inRangeZ, quotientDown, quotientNearest, readZ, setZ, pastEndZ, stepZ, reportZ, faultZ, roundedZ, partZ, ruleZ, opened, answerZ, entered, valuesWith, valuesAfter}
 use Rattle.model.specs.Simulator.{simulatorPlan, simulatorServer, simulatorClient, newSimulator, serverOf, clientOf, withServer, withClient, withPacket, called, room, delivered, deliverTo, cutAt, cutServer, issued, receivedAt, deliverAt, receiveAt, packetAt, known, ran, runLines, isDigit, digitsFrom, atMost, numberIn, negative, positive, argumentIn, fieldsFrom, letterIn, letterLine, lineBy, fieldIn, andThen, numbersFrom, lineWith, lineOfFields, lineOf, endLine, linesFrom, linesOf, digitsOf, shown, shownSigned, replyText, repliesText, answersOf}
 
 -- a name that opens others
@@ -128,9 +128,9 @@ unfolding timeAt endedAt runningAt leaseEnd isTaken withNewLease extended spanOk
 openLeases = tt
 
 -- Sequential
-unfoldable pub openBook : Opens
-unfolding entryZ readingMeant resultMeant afterZ inRangeZ quotientDown quotientNearest readZ setZ pastEndZ stepZ reportZ faultZ roundedZ partZ ruleZ opened answerZ entered bookWith bookAfter
-openBook = tt
+unfoldable pub openSequential : Opens
+unfolding entryZ readingMeant resultMeant afterZ inRangeZ quotientDown quotientNearest readZ setZ pastEndZ stepZ reportZ faultZ roundedZ partZ ruleZ opened answerZ entered valuesWith valuesAfter
+openSequential = tt
 
 -- Simulator: its parts and steps, lines, answers
 unfoldable pub openSimulatorSteps : Opens

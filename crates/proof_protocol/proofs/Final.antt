@@ -1,6 +1,6 @@
 -- The order of a run: the points' pasts, merged by event.
 --     order          the order;  timeline   its executions, the newest first;  H   each point's past
---     once           no id stands twice;  results   every result received is the book's;  values   so is every holder's value
+--     once           no id stands twice;  results   every result received is the order's;  values   so is every holder's value
 -- Assumes nothing.
 use mathlib.Core.Path.{_≡_, refl, sym, _∙_, ap, subst}
 use mathlib.Core.Bool.{Bool, true, false}
@@ -12,7 +12,7 @@ use lib.Dec.{eqb}
 use borrow.Author.Tests.{eqb-false}
 use Rattle.model.specs.Limits.{pointCount}
 use Rattle.model.specs.Versions.{Version}
-use Rattle.model.specs.Sequential.{Marked, OrderEntry, parts, one, opened, bookAfter, Answers}
+use Rattle.model.specs.Sequential.{Marked, OrderEntry, parts, one, opened, valuesAfter, Answers}
 use Rattle.model.specs.declared.Command.{Command}
 use Rattle.model.specs.Choice.{pick}
 use Rattle.proof_protocol.specs.Servers.{Plan, Id, idOf, Result, Execution, Entry, LogRecord, State}
@@ -33,7 +33,7 @@ use Rattle.proof_protocol.proofs.Clients.{Saw}
 use Rattle.proof_protocol.proofs.Inv.{Inv, run-inv}
 use Rattle.proof_protocol.proofs.Top.{Top, one-past}
 use Rattle.proof_protocol.proofs.Order as Order
-use Rattle.proof_protocol.proofs.Order.{merged, entry, ordered, only, past-rises, merged-good, merged-only, merged-in, book-values, book-answers}
+use Rattle.proof_protocol.proofs.Order.{merged, entry, ordered, only, past-rises, merged-good, merged-only, merged-in, order-values, order-answers}
 
 -- a command that is executed was issued
 pub written-issued : (plan : Plan) (w : World) → Inv plan w → {c : ℕ} {s : State} {y : LogRecord} {v : Version} {k : Command} {done : ℕ} {x : Result} → Written plan c s (In (w .made)) y
@@ -97,13 +97,13 @@ module _ (plan : Plan) (cs : List Change) (r : Run plan emptyWorld cs) where
       let t = shown-top (s .0) (idOf k) (b .point) x (s .1) in
       let same : d .cmd ≡ k = inv .clients .single (d .cmd) k (issued-past (b .point) d t) (h .0) (s .1 .id) in
       let on : b .point < pointCount = subst (λ (z : ℕ). z < pointCount) (on-point (tops (b .point) .past) d t) (inv .clients .small (d .cmd) (issued-past (b .point) d t)) in
-      let a = book-answers plan (merged byEvent H pointCount) good d (merged-in byEvent H d (b .point) pointCount on t) in
+      let a = order-answers plan (merged byEvent H pointCount) good d (merged-in byEvent H d (b .point) pointCount on t) in
       subst (λ (z : Result). Answers plan (opened plan) (ordered (merged byEvent H pointCount)) (k ∷ []) (one (z .answer))) (s .1 .res)
       (subst (λ (z : Command). Answers plan (opened plan) (ordered (merged byEvent H pointCount)) (z ∷ []) (one (d .res .answer))) same a)
 
   -- ---- values
 
-  pub values : (p c : ℕ) → p < pointCount → Holder plan cs p c → stateOf plan (final cs) c .points p .value ≡ bookAfter plan (opened plan) order p
+  pub values : (p c : ℕ) → p < pointCount → Holder plan cs p c → stateOf plan (final cs) c .points p .value ≡ valuesAfter plan (opened plan) order p
   unfolding order timeline final stateOf
   values p c lt h =
       let v = tops p .holder c (record {
@@ -113,7 +113,7 @@ module _ (plan : Plan) (cs : List Change) (r : Run plan emptyWorld cs) where
         home = h .home;
       }) .1 in
       let only-p = merged-only byEvent plan H (λ q. tops q .past) (λ q. past-rises (H q) (tops q .past)) p pointCount lt in
-      v ∙ ap (valueAfter plan p) (sym only-p) ∙ sym (book-values plan (merged byEvent H pointCount) good p)
+      v ∙ ap (valueAfter plan p) (sym only-p) ∙ sym (order-values plan (merged byEvent H pointCount) good p)
 
   -- ---- each once
 

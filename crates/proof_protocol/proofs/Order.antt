@@ -1,7 +1,7 @@
--- One order of all executions: the points' pasts merged by a key that rises along each, for one the event's number; what the book makes of it.
+-- One order of all executions: the points' pasts merged by a key that rises along each, for one the event's number; its values and answers.
 --     merged, ordered            the executions of all points, the newest first; their entries, the oldest first
 --     merged-only, merged-good   each point's part of it is that point's past
---     book-values, book-answers  the book's values and answers over it are the pasts'
+--     order-values, order-answers  the values after it and the answers in it are the pasts'
 --     merged-falls               it falls by the key
 -- Assumes nothing.
 use mathlib.Core.Path.{_≡_, refl, sym, _∙_, ap, subst}
@@ -12,7 +12,7 @@ use native.Mathlib.Omega.{arith}
 use Prim.Native.Nat.{ℕ, zero, suc, _≤_, _<_}
 use lib.Dec.{ltb, eqb}
 use borrow.Author.Tests.{eqb-true, eqb-false, ltb-true, ltb-false}
-use Rattle.model.specs.Sequential.{Marked, OrderEntry, single, parts, commands, EntryResult, one, ReadingZ, Book, afterZ, opened, answerZ, entered, answerTo, bookWith, bookAfter, Answers, here, later}
+use Rattle.model.specs.Sequential.{Marked, OrderEntry, single, parts, commands, EntryResult, one, ReadingZ, Values, afterZ, opened, answerZ, entered, answerTo, valuesWith, valuesAfter, Answers, here, later}
 use Rattle.model.specs.declared.Command.{Command}
 use Rattle.model.specs.Choice.{pick}
 use Rattle.proof_protocol.specs.Servers.{Plan, ruleAt, Execution}
@@ -234,12 +234,12 @@ past-rises [] begun = tt
 past-rises (d ∷ ds) (more pt r f old rest) = (old, past-rises ds rest)
 
 module _ (plan : Plan) where
-  -- ---- the book over an order
+  -- ---- values and answers
 
-  book-last : (b : Book) (xs : List OrderEntry) (c : OrderEntry) → bookAfter plan b (xs ++ (c ∷ [])) ≡ bookWith plan (bookAfter plan b xs) c
-  unfolding bookAfter
-  book-last b [] c = refl
-  book-last b (x ∷ xs) c = book-last (bookWith plan b x) xs c
+  values-last : (b : Values) (xs : List OrderEntry) (c : OrderEntry) → valuesAfter plan b (xs ++ (c ∷ [])) ≡ valuesWith plan (valuesAfter plan b xs) c
+  unfolding valuesAfter
+  values-last b [] c = refl
+  values-last b (x ∷ xs) c = values-last (valuesWith plan b x) xs c
 
   pub tail-good : (d : Execution) (ds : List Execution) → ((p : ℕ) → Past plan p (only p (d ∷ ds))) → (p : ℕ) → Past plan p (only p ds)
   unfolding only
@@ -259,41 +259,42 @@ module _ (plan : Plan) where
       go true e (more pt r f old rest) = r
       go false e k = impossible (sym e)
 
-  -- the book's pages are the pasts' values
-  pub book-values : (l : List Execution) → ((p : ℕ) → Past plan p (only p l)) → (p : ℕ) → bookAfter plan (opened plan) (ordered l) p ≡ valueAfter plan p (only p l)
-  unfolding ordered bookAfter bookWith entered answerZ only valueAfter ruleAt
-  book-values [] g p = refl
-  book-values (d ∷ ds) g p = ap (λ (b : Book). b p) (book-last (opened plan) (ordered ds) (entry d)) ∙ go (book-values ds (tail-good d ds g)) (eqb p (d .cmd .point)) refl (eqb (d .cmd .point) p) refl
+  -- the values after the order are the pasts' values
+  pub order-values : (l : List Execution) → ((p : ℕ) → Past plan p (only p l)) → (p : ℕ) → valuesAfter plan (opened plan) (ordered l) p ≡ valueAfter plan p (only p l)
+  unfolding ordered valuesAfter valuesWith entered answerZ only valueAfter ruleAt
+  order-values [] g p = refl
+  order-values (d ∷ ds) g p = ap (λ (b : Values). b p) (values-last (opened plan) (ordered ds) (entry d))
+      ∙ go (order-values ds (tail-good d ds g)) (eqb p (d .cmd .point)) refl (eqb (d .cmd .point) p) refl
     where
-      go : ((q : ℕ) → bookAfter plan (opened plan) (ordered ds) q ≡ valueAfter plan q (only q ds)) → (b : Bool) → eqb p (d .cmd .point) ≡ b → (c : Bool) → eqb (d .cmd .point) p ≡ c
-          → pick b (afterZ (ruleAt plan (d .version) (d .cmd) (bookAfter plan (opened plan) (ordered ds) (d .cmd .point)))) (bookAfter plan (opened plan) (ordered ds) p)
+      go : ((q : ℕ) → valuesAfter plan (opened plan) (ordered ds) q ≡ valueAfter plan q (only q ds)) → (b : Bool) → eqb p (d .cmd .point) ≡ b → (c : Bool) → eqb (d .cmd .point) p ≡ c
+          → pick b (afterZ (ruleAt plan (d .version) (d .cmd) (valuesAfter plan (opened plan) (ordered ds) (d .cmd .point)))) (valuesAfter plan (opened plan) (ordered ds) p)
           ≡ valueAfter plan p (pick c (d ∷ only p ds) (only p ds))
       go ih true q true r = ap (λ (v : ReadingZ). afterZ (ruleAt plan (d .version) (d .cmd) v)) (ih (d .cmd .point)) ∙ ap afterZ (sym (head-good d ds g))
       go ih true q false r = absurd (eqb-false _ _ r (sym (eqb-true p (d .cmd .point) q)))
       go ih false q true r = absurd (eqb-false _ _ q (sym (eqb-true (d .cmd .point) p r)))
       go ih false q false r = ih p
 
-  answers-left : (b : Book) (xs ys : List OrderEntry) (c : List Command) (r : EntryResult) → Answers plan b xs c r → Answers plan b (xs ++ ys) c r
+  answers-left : (b : Values) (xs ys : List OrderEntry) (c : List Command) (r : EntryResult) → Answers plan b xs c r → Answers plan b (xs ++ ys) c r
   answers-left b xs ys c r here = here
   answers-left b xs ys c r (later a) = later (answers-left _ _ ys c r a)
 
-  answers-last : (b : Book) (xs : List OrderEntry) (c : OrderEntry) → Answers plan b (xs ++ (c ∷ [])) (commands c) (answerTo plan (bookAfter plan b xs) c)
-  unfolding bookAfter
+  answers-last : (b : Values) (xs : List OrderEntry) (c : OrderEntry) → Answers plan b (xs ++ (c ∷ [])) (commands c) (answerTo plan (valuesAfter plan b xs) c)
+  unfolding valuesAfter
   answers-last b [] c = here
-  answers-last b (x ∷ xs) c = later (answers-last (bookWith plan b x) xs c)
+  answers-last b (x ∷ xs) c = later (answers-last (valuesWith plan b x) xs c)
 
-  answer-is : (b : Book) (d : Execution) → answerTo plan b (entry d) ≡ one (ruleAt plan (d .version) (d .cmd) (b (d .cmd .point)))
+  answer-is : (b : Values) (d : Execution) → answerTo plan b (entry d) ≡ one (ruleAt plan (d .version) (d .cmd) (b (d .cmd .point)))
   unfolding answerTo answerZ ruleAt
   answer-is b d = refl
 
-  -- the book answers what was answered
-  pub book-answers : (l : List Execution) → ((p : ℕ) → Past plan p (only p l)) → (d : Execution) → List·Memᴰ d l → Answers plan (opened plan) (ordered l) (d .cmd ∷ []) (one (d .res .answer))
+  -- the order's answers are those given
+  pub order-answers : (l : List Execution) → ((p : ℕ) → Past plan p (only p l)) → (d : Execution) → List·Memᴰ d l → Answers plan (opened plan) (ordered l) (d .cmd ∷ []) (one (d .res .answer))
   unfolding ordered commands parts
-  book-answers [] g d m = absurd (List·Memᴰ·not-nil m)
-  book-answers (e ∷ es) g d m = go (λ j. book-answers es (tail-good e es g) d j) (List·Memᴰ·cases-cons m)
+  order-answers [] g d m = absurd (List·Memᴰ·not-nil m)
+  order-answers (e ∷ es) g d m = go (λ j. order-answers es (tail-good e es g) d j) (List·Memᴰ·cases-cons m)
     where
-      last : answerTo plan (bookAfter plan (opened plan) (ordered es)) (entry e) ≡ one (e .res .answer)
-      last = answer-is (bookAfter plan (opened plan) (ordered es)) e ∙ ap one (ap (ruleAt plan (e .version) (e .cmd)) (book-values es (tail-good e es g) (e .cmd .point)) ∙ sym (head-good e es g))
+      last : answerTo plan (valuesAfter plan (opened plan) (ordered es)) (entry e) ≡ one (e .res .answer)
+      last = answer-is (valuesAfter plan (opened plan) (ordered es)) e ∙ ap one (ap (ruleAt plan (e .version) (e .cmd)) (order-values es (tail-good e es g) (e .cmd .point)) ∙ sym (head-good e es g))
 
       go : (List·Memᴰ d es → Answers plan (opened plan) (ordered es) (d .cmd ∷ []) (one (d .res .answer))) → (d ≡ e) ⊎ List·Memᴰ d es
           → Answers plan (opened plan) (ordered es ++ (entry e ∷ [])) (d .cmd ∷ []) (one (d .res .answer))

@@ -1,4 +1,4 @@
--- After a run each point has one past: all its executions that stand in logs, each once, with the book's results; the holder has it.
+-- After a run each point has one past: all its executions that stand in logs, each once, with the rules' results; the holder has it.
 --     Holds          the paper's holder;  Top   a past with these properties
 --     one-past       every point has one
 -- Assumes nothing.

@@ -13,7 +13,7 @@ use Rattle.model.specs.declared.Command.{Command}
 use Rattle.model.specs.declared.Client.{Client}
 use Rattle.model.specs.Limits.{pointCount}
 use Rattle.model.specs.Plan.{entryAt}
-use Rattle.model.specs.Sequential.{Marked, OrderEntry, parts, commands, EntryResult, one, opened, bookAfter, Answers}
+use Rattle.model.specs.Sequential.{Marked, OrderEntry, parts, commands, EntryResult, one, opened, valuesAfter, Answers}
 use Rattle.claim.specs.Claim.{_∈_, Once, Before}
 use Rattle.proof_protocol.specs.Servers.{Plan, Id, Result}
 use Rattle.proof_protocol.specs.Servers as S
@@ -97,7 +97,7 @@ module _ (plan : Plan) (cs : List Change) where
     -- "the book of document 01, run over it, gives every result that a desk received"
     pub results : (n : ℕ) (ks : List Command) (r : EntryResult) → Completes cs n ks r → Answers plan (opened plan) order ks r
     -- "and, at its end, each point's value and quality at its holder"
-    pub values : (p c : ℕ) → p < pointCount → Holder p c → endsAt p c .value ≡ bookAfter plan (opened plan) order p
+    pub values : (p c : ℕ) → p < pointCount → Holder p c → endsAt p c .value ≡ valuesAfter plan (opened plan) order p
     -- "a command completed before another was issued stands first"
     pub real-time : (m n : ℕ) (a b : OrderEntry) (r : EntryResult) → Completes cs m (commands a) r → Issues cs n (commands b) → m < n
         → a ∈ order → b ∈ order → Before a b order

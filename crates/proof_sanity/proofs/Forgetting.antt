@@ -1,6 +1,6 @@
 -- The two servers of Forgetting break demand 3: no order explains their schedules, which keep every proviso, since the value at the holder is not
--- the book's.
---     crash-book               what the book says of point 5 after commands of which each is the set
+-- the sequential specification's.
+--     crash-values             the value of point 5 after commands of which each is the set
 --     values-broken            so the founding state at the holder is not explained
 --     crash-provisos, not-explained     the server that recovers to the founding state
 --     store-provisos, store-completed, store-recovers, checkpoint-not-explained     the one that forgets the checkpoint
@@ -26,7 +26,7 @@ use Rattle.model.specs.Logs.{headBytes, headServer}
 use Rattle.model.specs.States.{State, pointAt}
 use Rattle.model.specs.Apply.{foundedPoint, founded}
 use Rattle.model.specs.Versions.{Version, today}
-use Rattle.model.specs.Sequential.{one, resultMeant, OrderEntry, single, parts, bookWith, markedBy, Marked, ReadingZ, Book, readingMeant, opened, bookAfter, entered, answerZ, afterZ, ruleZ, setZ, inRangeZ, entryZ}
+use Rattle.model.specs.Sequential.{one, resultMeant, OrderEntry, single, parts, valuesWith, markedBy, Marked, ReadingZ, Values, readingMeant, opened, valuesAfter, entered, answerZ, afterZ, ruleZ, setZ, inRangeZ, entryZ}
 use Rattle.model.specs.Checkpoints.{rebased, checkpointBytes}
 use Rattle.model.specs.Calls.{sync}
 use Rattle.model.specs.Clients.{placeOf, callAt, receiveOf}
@@ -46,17 +46,17 @@ parsed : parsePacket (requestBytes settingAsked) ≡ Requested settingAsked
 unfolding flip le32At signedAt zeros3At packetLength argumentRange inArguments argumentOk idOk doneOk commandOk requestAt requestOk requestBytes whole parseRequest parsePacket
 parsed = refl
 
--- ---- the book
+-- ---- the sequential specification
 
 -- value 40, quality 0
 abbrev isSet : ReadingZ
 isSet = readingMeant (record { value = half + 40; quality = valid })
 
-entered-set : (b : Book) (v : Version) → entered (planOf simulatorPlan) b (record { version = v; command = setting }) 5 ≡ isSet
+entered-set : (b : Values) (v : Version) → entered (planOf simulatorPlan) b (record { version = v; command = setting }) 5 ≡ isSet
 unfolding simulatorPlan rows bytesOf flip le32At signedAt planEntryOf planEntryBytes planOf planBytes entryAt signed readingMeant entered answerZ afterZ ruleZ setZ inRangeZ entryZ
 entered-set b v = refl
 
-entered-marked : (b : Book) (m : Marked) → m .command ≡ setting → entered (planOf simulatorPlan) b m 5 ≡ isSet
+entered-marked : (b : Values) (m : Marked) → m .command ≡ setting → entered (planOf simulatorPlan) b m 5 ≡ isSet
 entered-marked b m e =
     subst (λ (k : Command). entered (planOf simulatorPlan) b (record { version = m .version; command = k }) 5 ≡ isSet) (sym e) (entered-set b (m .version))
 
@@ -64,24 +64,24 @@ entered-marked b m e =
 abbrev Sets : OrderEntry → Type 0
 Sets o = (m : Marked) → List·Memᴰ m (parts o) → m .command ≡ setting
 
-with-set : (b : Book) (o : OrderEntry) → Sets o → bookWith (planOf simulatorPlan) b o 5 ≡ isSet
-unfolding bookWith parts
+with-set : (b : Values) (o : OrderEntry) → Sets o → valuesWith (planOf simulatorPlan) b o 5 ≡ isSet
+unfolding valuesWith parts
 with-set b (single m) h = entered-marked b m (h m (List·Memᴰ·head refl))
 
-stays-set : (os : List OrderEntry) → ((o : OrderEntry) → List·Memᴰ o os → Sets o) → (b : Book) → b 5 ≡ isSet → bookAfter (planOf simulatorPlan) b os 5 ≡ isSet
-unfolding bookAfter
+stays-set : (os : List OrderEntry) → ((o : OrderEntry) → List·Memᴰ o os → Sets o) → (b : Values) → b 5 ≡ isSet → valuesAfter (planOf simulatorPlan) b os 5 ≡ isSet
+unfolding valuesAfter
 stays-set [] h b e = e
-stays-set (o ∷ os) h b e = stays-set os (λ x i. h x (List·Memᴰ·tail i)) (bookWith (planOf simulatorPlan) b o) (with-set b o (h o (List·Memᴰ·head refl)))
+stays-set (o ∷ os) h b e = stays-set os (λ x i. h x (List·Memᴰ·tail i)) (valuesWith (planOf simulatorPlan) b o) (with-set b o (h o (List·Memᴰ·head refl)))
 
-first-set : (x : OrderEntry) (os : List OrderEntry) → ((o : OrderEntry) → List·Memᴰ o (x ∷ os) → Sets o) → (b : Book)
-    → bookAfter (planOf simulatorPlan) b (x ∷ os) 5 ≡ isSet
-unfolding bookAfter
-first-set x os h b = stays-set os (λ o j. h o (List·Memᴰ·tail j)) (bookWith (planOf simulatorPlan) b x) (with-set b x (h x (List·Memᴰ·head refl)))
+first-set : (x : OrderEntry) (os : List OrderEntry) → ((o : OrderEntry) → List·Memᴰ o (x ∷ os) → Sets o) → (b : Values)
+    → valuesAfter (planOf simulatorPlan) b (x ∷ os) 5 ≡ isSet
+unfolding valuesAfter
+first-set x os h b = stays-set os (λ o j. h o (List·Memᴰ·tail j)) (valuesWith (planOf simulatorPlan) b x) (with-set b x (h x (List·Memᴰ·head refl)))
 
-pub crash-book : {os : List OrderEntry} {o : OrderEntry} → List·Memᴰ o os → ((x : OrderEntry) → List·Memᴰ x os → Sets x) → (b : Book)
-    → bookAfter (planOf simulatorPlan) b os 5 ≡ isSet
-crash-book (List·Memᴰ·head {x = x} {xs = xs} e) h b = first-set x xs h b
-crash-book (List·Memᴰ·tail {x = x} {xs = xs} i) h b = first-set x xs h b
+pub crash-values : {os : List OrderEntry} {o : OrderEntry} → List·Memᴰ o os → ((x : OrderEntry) → List·Memᴰ x os → Sets x) → (b : Values)
+    → valuesAfter (planOf simulatorPlan) b os 5 ≡ isSet
+crash-values (List·Memᴰ·head {x = x} {xs = xs} e) h b = first-set x xs h b
+crash-values (List·Memᴰ·tail {x = x} {xs = xs} i) h b = first-set x xs h b
 
 -- ---- the holder
 
@@ -149,15 +149,15 @@ module _ (es : List Event) (rs : List Seen) (x : Ended) (is : traceFrom simulato
           home = λ z. at-home;
         }
 
-    -- whatever order has just the surviving commands: the value and quality at the holder are not the book's
+    -- whatever order has just the surviving commands: the value and quality at the holder are not the order's
     pub values-broken : (order : List OrderEntry) → ((e : OrderEntry) → SurvivesBy simulatorPlan told e ↔ List·Memᴰ e order)
-        → readingMeant (readingAt (pointAt (founded (planOf simulatorPlan) 0) 5)) ≡ bookAfter (planOf simulatorPlan) (opened (planOf simulatorPlan)) order 5 → ⊥
+        → readingMeant (readingAt (pointAt (founded (planOf simulatorPlan) 0) 5)) ≡ valuesAfter (planOf simulatorPlan) (opened (planOf simulatorPlan)) order 5 → ⊥
     unfolding readingMeant parts
     values-broken order s e =
         let m : Marked = markedBy today setting in
         let i : List·Memᴰ (single m) order = s (single m) .0 (record { part = m; among = List·Memᴰ·head refl; at = 4; survives = set-survives kept }) in
         let h : (o : OrderEntry) → List·Memᴰ o order → Sets o = λ o j. own o (s o .1 j) in
-        let q = ap (λ (y : ReadingZ). y .quality) (e ∙ crash-book i h (opened (planOf simulatorPlan))) in
+        let q = ap (λ (y : ReadingZ). y .quality) (e ∙ crash-values i h (opened (planOf simulatorPlan))) in
         omega (arith, q, quality-lost)
       where
         own : (o : OrderEntry) → SurvivesBy simulatorPlan told o → Sets o
