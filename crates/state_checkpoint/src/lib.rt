@@ -45,14 +45,7 @@ fn write_frame(checkpoint: &mut [u8], server: u8, heard: u32)
     requires { ⌜ checkpointHead ≤ length (now checkpoint) ⌝ }
     ensures { λ r. ⌜ now (checkpoint .exit) ≡ written (now (checkpoint .entry)) 0 (checkpointMagic ++ (quad server 0 0 0 ++ le32 heard)) ⌝ }
 {
-    format_numbers::write_4(
-        checkpoint,
-        0,
-        CHECKPOINT_MAGIC[0],
-        CHECKPOINT_MAGIC[1],
-        CHECKPOINT_MAGIC[2],
-        CHECKPOINT_MAGIC[3],
-    );
+    format_numbers::write_magic(checkpoint, CHECKPOINT_MAGIC);
     format_numbers::write_4(checkpoint, constants::CHECKPOINT_SERVER, server, 0, 0, 0);
     format_numbers::write_u32(checkpoint, constants::CHECKPOINT_HEARD, heard);
 }

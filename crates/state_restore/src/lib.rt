@@ -141,14 +141,7 @@ fn put_head(s: &mut [u8], checkpoint: &[u8], n: usize, m: usize)
     requires { ⌜ (stateHead ≤ length (now s)) × (checkpointHead ≤ length (now checkpoint)) × (n ≤ clientCount) × (m ≤ recordCount) ⌝ }
     ensures { λ r. ⌜ now (s .exit) ≡ written (now (s .entry)) 0 (headRestored n m (now (checkpoint .entry))) ⌝ }
 {
-    format_numbers::write_4(
-        s,
-        0,
-        constants::STATE_MAGIC[0],
-        constants::STATE_MAGIC[1],
-        constants::STATE_MAGIC[2],
-        constants::STATE_MAGIC[3],
-    );
+    format_numbers::write_magic(s, constants::STATE_MAGIC);
     format_numbers::copy_part(
         s,
         constants::STATE_SERVER,
