@@ -71,10 +71,8 @@ pub fn write_4(s: &mut [u8], at: usize, a: u8, b: u8, c: u8, d: u8)
 // Stores a magic at the front.
 pub fn write_magic(s: &mut [u8], magic: [u8; 4])
     requires { ⌜ 4 ≤ length (now s) ⌝ }
-    ensures {
-        λ r. ⌜ now (s .exit)
-            ≡ written (now (s .entry)) 0 (quad (byteAt magic 0) (byteAt magic 1) (byteAt magic 2) (byteAt magic 3)) ⌝
-    }
+    ensures { λ r. ⌜ now (s .exit)
+        ≡ written (now (s .entry)) 0 (quad (byteAt magic 0) (byteAt magic 1) (byteAt magic 2) (byteAt magic 3)) ⌝ }
 {
     write_4(s, 0, magic[0], magic[1], magic[2], magic[3]);
 }
