@@ -1,6 +1,7 @@
 -- Laws of tables: rows of one width, over a Codec.
 --     length-rows, rows-append, rows-snoc, getD-rows, rows-cons     rows as they are read, from a place, from an index on
 --     everyRow-rows, everyRow-cons, everyRow-true
+--     row-in, places                a row within its table; the places of a table
 --     bytesOf-append, bytesOf-one, length-bytesOf, bytes-bytesOf    the bytes of rows
 --     rows-back, everyRow-back      rows that were written are read back, and pass the rows' test
 --     rows-again, rows-fit          rows that were read are written again: the same bytes; and they fit
@@ -15,7 +16,7 @@ use mathlib.Core.Bool.{Bool, true, false, _&&_, and-assoc}
 use mathlib.Core.List.{List, [], _∷_, _++_, append-assoc, append-nil, List·Memᴰ, List·Memᴰ·head, List·Memᴰ·tail}
 use native.Mathlib.Omega.{arith}
 use native.Mathlib.Numerals.{add-one}
-use native.Mathlib.Nat.{zero-add, suc-add, mul-suc, mul-add, mul-zero}
+use native.Mathlib.Nat.{zero-add, suc-add, mul-suc, mul-add, mul-zero, mul-le-mul-left}
 use lib.ListN.{length, getD, take, drop, replicate, length-append, length-drop}
 use lib.Seq.{drop-at, drop-drop, take-add, take-take, getD-drop, take-nil}
 use lib.Dec.{eqb, lit<}
@@ -89,6 +90,10 @@ pub everyRow-true : (w n : ℕ) (s : List ℕ) → everyRow (λ x. true) w n s �
 unfolding everyRow
 everyRow-true w zero s = refl
 everyRow-true w (suc n) s = everyRow-true w n (drop w s)
+
+-- a row lies within its table
+pub row-in : (w i n : ℕ) → i < n → w * i + w ≤ w * n
+row-in w i n h = omega (arith, mul-suc w i, mul-le-mul-left w h)
 
 -- m of n places of w bytes, and the others
 pub places : (w m n : ℕ) → m ≤ n → w * m + w * (n - m) ≡ w * n
