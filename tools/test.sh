@@ -56,6 +56,7 @@ part entry-points tools/entry_points.py; count $?
 part callers tools/callers.py; count $?
 part house tools/house.py --check; count $?
 part layout tools/layout.py; count $?
+part layout-tool tests/layout.sh; count $?
 part changelog tools/changelog.py --check; count $?
 part page tools/page.py --check; count $?
 part words tests/words.sh; count $?

@@ -1,5 +1,6 @@
-// The lock chamber controller: start, issue, resend, receive. Values in and values out; every value of the struct is taken. A gate is opened
-// only after reads, in this order and since the last set or part: the other gate 0 and valid, then its own two levels valid and at most 5 apart.
+// The lock chamber controller: start, issue, resend, receive. Values in and values out; every value of the struct is
+// taken. A gate is opened only after reads, in this order and since the last set or part: the other gate 0 and valid,
+// then its own two levels valid and at most 5 apart.
 use chamber_claim::LOCK_POINTS;
 use model::constants;
 ghost use mathlib.Core.Path.{_≡_};
@@ -41,49 +42,53 @@ const LOWER_LEVEL: usize = 4;
 const LEVEL_STEP: u64 = 5;
 
 // The role of a point; the number of roles where it has none.
-fn role_in(s: LockPoints, p: u8) -> usize
-    ensures { λ r. ⌜ r ≡ roleIn s p ⌝ }
+fn role_in(points: LockPoints, p: u8) -> usize
+    ensures { λ r. ⌜ r ≡ roleIn points p ⌝ }
 {
-    if p == s.upper {
+    if p == points.upper {
         return UPPER_GATE;
     }
-    if p == s.lower {
+    if p == points.lower {
         return LOWER_GATE;
     }
-    if p == s.level1 {
+    if p == points.level1 {
         return UPPER_LEVEL;
     }
-    if p == s.level2 {
+    if p == points.level2 {
         return CHAMBER_LEVEL;
     }
-    if p == s.level3 {
+    if p == points.level3 {
         return LOWER_LEVEL;
     }
     LOCK_POINTS
 }
 
-fn all_points(s: LockPoints) -> bool
-    ensures { λ r. ⌜ r ≡ every isPoint (pointList s) ⌝ }
+fn all_points(points: LockPoints) -> bool
+    ensures { λ r. ⌜ r ≡ every isPoint (pointList points) ⌝ }
 {
-    (s.upper <= constants::LAST_POINT)
-        & ((s.lower <= constants::LAST_POINT)
-            & ((s.level1 <= constants::LAST_POINT)
-                & ((s.level2 <= constants::LAST_POINT) & (s.level3 <= constants::LAST_POINT))))
+    (points.upper <= constants::LAST_POINT)
+        & ((points.lower <= constants::LAST_POINT)
+            & ((points.level1 <= constants::LAST_POINT)
+                & ((points.level2 <= constants::LAST_POINT)
+                    & (points.level3 <= constants::LAST_POINT))))
 }
 
-fn all_different(s: LockPoints) -> bool
-    ensures { λ r. ⌜ r ≡ allDifferent (pointList s) ⌝ }
+fn all_different(points: LockPoints) -> bool
+    ensures { λ r. ⌜ r ≡ allDifferent (pointList points) ⌝ }
 {
-    ((s.lower != s.upper)
-        & ((s.level1 != s.upper) & ((s.level2 != s.upper) & (s.level3 != s.upper))))
-        & (((s.level1 != s.lower) & ((s.level2 != s.lower) & (s.level3 != s.lower)))
-            & (((s.level2 != s.level1) & (s.level3 != s.level1)) & (s.level3 != s.level2)))
+    ((points.lower != points.upper)
+        & ((points.level1 != points.upper)
+            & ((points.level2 != points.upper) & (points.level3 != points.upper))))
+        & (((points.level1 != points.lower)
+            & ((points.level2 != points.lower) & (points.level3 != points.lower)))
+            & (((points.level2 != points.level1) & (points.level3 != points.level1))
+                & (points.level3 != points.level2)))
 }
 
-fn points_ok(s: LockPoints) -> bool
-    ensures { λ r. ⌜ r ≡ pointsOk s ⌝ }
+fn points_ok(points: LockPoints) -> bool
+    ensures { λ r. ⌜ r ≡ pointsOk points ⌝ }
 {
-    all_points(s) & all_different(s)
+    all_points(points) & all_different(points)
 }
 
 // Gates are read, set or set by part; levels are read.
@@ -123,56 +128,56 @@ fn read_at(ch: Chamber, i: usize) -> LatestRead
 }
 
 // Any set or part but set 0.
-fn is_opening(op: u8, a: u32) -> bool
-    ensures { λ r. ⌜ r ≡ isOpening op a ⌝ }
+fn is_opening(op: u8, argument: u32) -> bool
+    ensures { λ r. ⌜ r ≡ isOpening op argument ⌝ }
 {
-    (op == constants::PART_OP) | ((op == constants::SET_OP) & (a != constants::HALF))
+    (op == constants::PART_OP) | ((op == constants::SET_OP) & (argument != constants::HALF))
 }
 
-fn valid_gate(q: u8) -> bool
-    ensures { λ r. ⌜ r ≡ validGate q ⌝ }
+fn valid_gate(quality: u8) -> bool
+    ensures { λ r. ⌜ r ≡ validGate quality ⌝ }
 {
-    q == constants::VALID
+    quality == constants::VALID
 }
 
-fn valid_level(q: u8) -> bool
-    ensures { λ r. ⌜ r ≡ validLevel q ⌝ }
+fn valid_level(quality: u8) -> bool
+    ensures { λ r. ⌜ r ≡ validLevel quality ⌝ }
 {
-    q == constants::VALID
+    quality == constants::VALID
 }
 
-fn near(x: u32, y: u32) -> bool
-    ensures { λ r. ⌜ r ≡ near x y ⌝ }
+fn near(level: u32, other: u32) -> bool
+    ensures { λ r. ⌜ r ≡ near level other ⌝ }
 {
-    (x as u64 <= y as u64 + LEVEL_STEP) & (y as u64 <= x as u64 + LEVEL_STEP)
+    (level as u64 <= other as u64 + LEVEL_STEP) & (other as u64 <= level as u64 + LEVEL_STEP)
 }
 
 // The gate was read since the last set or part, closed and valid.
-fn closed_seen(ch: Chamber, g: LatestRead) -> bool
-    ensures { λ r. ⌜ r ≡ closedSeen ch g ⌝ }
+fn closed_seen(ch: Chamber, gate: LatestRead) -> bool
+    ensures { λ r. ⌜ r ≡ closedSeen ch gate ⌝ }
 {
-    let valid = valid_gate(g.quality);
-    (ch.moved < g.call) & ((g.value == constants::HALF) & valid)
+    let valid = valid_gate(gate.quality);
+    (ch.moved < gate.call) & ((gate.value == constants::HALF) & valid)
 }
 
 // Both levels were read after the gate, are valid and near.
-fn levels_seen(g: LatestRead, a: LatestRead, b: LatestRead) -> bool
-    ensures { λ r. ⌜ r ≡ levelsSeen g a b ⌝ }
+fn levels_seen(gate: LatestRead, first: LatestRead, second: LatestRead) -> bool
+    ensures { λ r. ⌜ r ≡ levelsSeen gate first second ⌝ }
 {
-    let valid_a = valid_level(a.quality);
-    let valid_b = valid_level(b.quality);
-    let level = near(a.value, b.value);
-    (g.call < a.call) & ((g.call < b.call) & (valid_a & (valid_b & level)))
+    let valid_a = valid_level(first.quality);
+    let valid_b = valid_level(second.quality);
+    let level = near(first.value, second.value);
+    (gate.call < first.call) & ((gate.call < second.call) & (valid_a & (valid_b & level)))
 }
 
-// g is the role of the other gate, a and b are those of the levels.
-fn clear(ch: Chamber, g: usize, a: usize, b: usize) -> bool
-    requires { ⌜ (g < roleCount) × (a < roleCount) × (b < roleCount) ⌝ }
-    ensures { λ r. ⌜ r ≡ clear ch g a b ⌝ }
+// i is the role of the other gate, j and k are those of the levels.
+fn clear(ch: Chamber, i: usize, j: usize, k: usize) -> bool
+    requires { ⌜ (i < roleCount) × (j < roleCount) × (k < roleCount) ⌝ }
+    ensures { λ r. ⌜ r ≡ clear ch i j k ⌝ }
 {
-    let gate = read_at(ch, g);
-    let first = read_at(ch, a);
-    let second = read_at(ch, b);
+    let gate = read_at(ch, i);
+    let first = read_at(ch, j);
+    let second = read_at(ch, k);
     closed_seen(ch, gate) & levels_seen(gate, first, second)
 }
 
@@ -188,13 +193,13 @@ fn may_open(ch: Chamber, i: usize) -> bool
 
 // ---- start
 
-fn new_chamber(s: LockPoints, d: Client) -> Chamber
-    ensures { λ r. ⌜ r ≡ newChamber s d ⌝ }
+fn new_chamber(points: LockPoints, d: Client) -> Chamber
+    ensures { λ r. ⌜ r ≡ newChamber points d ⌝ }
 {
     let none = no_read();
     Chamber {
         client: d,
-        points: s,
+        points,
         moved: 0,
         reads: [none; LOCK_POINTS],
     }
@@ -203,19 +208,19 @@ fn new_chamber(s: LockPoints, d: Client) -> Chamber
 fn no_client() -> Client
     ensures { λ r. ⌜ r ≡ noClient ⌝ }
 {
-    let k = client::no_call();
+    let none = client::no_call();
     Client {
         client: 0,
         lease: 0,
         next: 0,
-        calls: [k; constants::CALL_WINDOW],
+        calls: [none; constants::CALL_WINDOW],
     }
 }
 
 fn no_chamber() -> Chamber
     ensures { λ r. ⌜ r ≡ noChamber ⌝ }
 {
-    let s = LockPoints {
+    let points = LockPoints {
         upper: 0,
         lower: 0,
         level1: 0,
@@ -223,28 +228,28 @@ fn no_chamber() -> Chamber
         level3: 0,
     };
     let d = no_client();
-    new_chamber(s, d)
+    new_chamber(points, d)
 }
 
-pub fn not_started(n: u32) -> ChamberStart
-    ensures { λ r. ⌜ r ≡ notStartedIn n ⌝ }
+pub fn not_started(refusal: u32) -> ChamberStart
+    ensures { λ r. ⌜ r ≡ notStartedIn refusal ⌝ }
 {
     let ch = no_chamber();
     ChamberStart {
         chamber: ch,
-        answer: Started::NotStarted(n),
+        answer: Started::NotStarted(refusal),
     }
 }
 
-fn started_in(s: LockPoints, a: StartAnswer) -> ChamberStart
-    ensures { λ r. ⌜ r ≡ startedIn s a ⌝ }
+fn started_in(points: LockPoints, start: StartAnswer) -> ChamberStart
+    ensures { λ r. ⌜ r ≡ startedIn points start ⌝ }
 {
-    let d = a.client;
-    let answer = a.answer;
+    let d = start.client;
+    let answer = start.answer;
     match answer {
-        Started::NotStarted(n) => not_started(n),
+        Started::NotStarted(refusal) => not_started(refusal),
         Started::Running => {
-            let ch = new_chamber(s, d);
+            let ch = new_chamber(points, d);
             ChamberStart {
                 chamber: ch,
                 answer: Started::Running,
@@ -258,28 +263,28 @@ pub fn start(packet: &[u8], points: LockPoints) -> ChamberStart
     ensures { λ r. ⌜ r ≡ startIn (now (packet .entry)) points ⌝ }
 {
     if points_ok(points) {
-        let a = client::start(packet);
-        return started_in(points, a);
+        let started = client::start(packet);
+        return started_in(points, started);
     }
     not_started(constants::MALFORMED)
 }
 
 // ---- issue
 
-pub fn not_sent(ch: Chamber, n: u32) -> ChamberSend
-    ensures { λ r. ⌜ r ≡ notSentIn ch n ⌝ }
+pub fn not_sent(ch: Chamber, refusal: u32) -> ChamberSend
+    ensures { λ r. ⌜ r ≡ notSentIn ch refusal ⌝ }
 {
     ChamberSend {
         chamber: ch,
-        answer: Sent::NotSent(n),
+        answer: Sent::NotSent(refusal),
     }
 }
 
 // The last set or part: this one, where it was issued.
-fn moved_by(ch: Chamber, op: u8, a: Sent) -> u32
-    ensures { λ r. ⌜ r ≡ movedBy ch op a ⌝ }
+fn moved_by(ch: Chamber, op: u8, answer: Sent) -> u32
+    ensures { λ r. ⌜ r ≡ movedBy ch op answer ⌝ }
 {
-    let Sent::Asked(q) = a else {
+    let Sent::Asked(q) = answer else {
         return ch.moved;
     };
     if op == constants::READ_OP {
@@ -288,11 +293,11 @@ fn moved_by(ch: Chamber, op: u8, a: Sent) -> u32
     q.command.call
 }
 
-fn sent_in(ch: Chamber, op: u8, s: SendAnswer) -> ChamberSend
-    ensures { λ r. ⌜ r ≡ sentIn ch op s ⌝ }
+fn sent_in(ch: Chamber, op: u8, send: SendAnswer) -> ChamberSend
+    ensures { λ r. ⌜ r ≡ sentIn ch op send ⌝ }
 {
-    let d = s.client;
-    let answer = s.answer;
+    let d = send.client;
+    let answer = send.answer;
     let moved = moved_by(ch, op, answer);
     let points = ch.points;
     let reads = ch.reads;
@@ -307,13 +312,14 @@ fn sent_in(ch: Chamber, op: u8, s: SendAnswer) -> ChamberSend
     }
 }
 
-// Issue: 1 no such command, or another op or point; 15 a command is open; 20 an opening whose conditions fail; 16 the last number is used.
+// Issue: 1 no such command, or another op or point; 15 a command is open; 20 an opening whose conditions fail; 16 the
+// last number is used.
 pub fn issue(ch: Chamber, op: u8, point: u8, argument: u32) -> ChamberSend
     ensures { λ r. ⌜ r ≡ issueIn ch op point argument ⌝ }
 {
-    let s = ch.points;
+    let points = ch.points;
     let d = ch.client;
-    let i = role_in(s, point);
+    let i = role_in(points, point);
     if !(format_numbers::command_ok(op, point, argument) & op_ok(i, op)) {
         return not_sent(ch, constants::MALFORMED);
     }
@@ -324,8 +330,8 @@ pub fn issue(ch: Chamber, op: u8, point: u8, argument: u32) -> ChamberSend
     if is_opening(op, argument) & !may_open(ch, i) {
         return not_sent(ch, constants::NOT_SAFE);
     }
-    let a = client::issue(d, op, point, argument);
-    sent_in(ch, op, a)
+    let sent = client::issue(d, op, point, argument);
+    sent_in(ch, op, sent)
 }
 
 // ---- resend
@@ -335,15 +341,15 @@ pub fn resend(ch: Chamber, call: u32) -> ChamberSend
     ensures { λ r. ⌜ r ≡ resendIn ch call ⌝ }
 {
     let d = ch.client;
-    let s = client::resend(d, call);
-    let e = s.client;
-    let answer = s.answer;
+    let sent = client::resend(d, call);
+    let after = sent.client;
+    let answer = sent.answer;
     let points = ch.points;
     let moved = ch.moved;
     let reads = ch.reads;
     ChamberSend {
         chamber: Chamber {
-            client: e,
+            client: after,
             points,
             moved,
             reads,
@@ -354,51 +360,51 @@ pub fn resend(ch: Chamber, call: u32) -> ChamberSend
 
 // ---- receive
 
-fn read_by(r: ResultPacket) -> LatestRead
-    ensures { λ k. ⌜ k ≡ readBy r ⌝ }
+fn read_by(packet: ResultPacket) -> LatestRead
+    ensures { λ k. ⌜ k ≡ readBy packet ⌝ }
 {
     LatestRead {
-        call: r.call,
-        value: r.result.value,
-        quality: r.result.quality,
+        call: packet.call,
+        value: packet.result.value,
+        quality: packet.result.quality,
     }
 }
 
-// The reads with k as that of the role i, where it is one.
-fn stored(reads: [LatestRead; LOCK_POINTS], i: usize, k: LatestRead) -> [LatestRead; LOCK_POINTS]
-    ensures { λ r. ⌜ r ≡ set reads i k ⌝ }
+// The reads with this one as that of the role i, where it is one.
+fn stored(reads: [LatestRead; LOCK_POINTS], i: usize, read: LatestRead) -> [LatestRead; LOCK_POINTS]
+    ensures { λ r. ⌜ r ≡ set reads i read ⌝ }
 {
     if LOCK_POINTS <= i {
         return reads;
     }
     let mut out = reads;
-    out[i] = k;
+    out[i] = read;
     out
 }
 
 // A read's result becomes its point's latest.
-fn reads_with(ch: Chamber, r: ResultPacket) -> [LatestRead; LOCK_POINTS]
-    ensures { λ rs. ⌜ rs ≡ readsWith ch r ⌝ }
+fn reads_with(ch: Chamber, packet: ResultPacket) -> [LatestRead; LOCK_POINTS]
+    ensures { λ rs. ⌜ rs ≡ readsWith ch packet ⌝ }
 {
     let d = ch.client;
-    let k = client::call_at(d, r.call);
-    if k.op == constants::READ_OP {
-        let s = ch.points;
+    let opened = client::call_at(d, packet.call);
+    if opened.op == constants::READ_OP {
+        let points = ch.points;
         let reads = ch.reads;
-        let i = role_in(s, r.point);
-        let read = read_by(r);
+        let i = role_in(points, packet.point);
+        let read = read_by(packet);
         return stored(reads, i, read);
     }
     ch.reads
 }
 
-fn reads_by(ch: Chamber, a: Received) -> [LatestRead; LOCK_POINTS]
-    ensures { λ rs. ⌜ rs ≡ readsBy ch a ⌝ }
+fn reads_by(ch: Chamber, answer: Received) -> [LatestRead; LOCK_POINTS]
+    ensures { λ rs. ⌜ rs ≡ readsBy ch answer ⌝ }
 {
-    let Received::Completed(r) = a else {
+    let Received::Completed(packet) = answer else {
         return ch.reads;
     };
-    reads_with(ch, r)
+    reads_with(ch, packet)
 }
 
 // Receive: 1 and 17 as the client.
@@ -406,14 +412,14 @@ pub fn receive(ch: Chamber, packet: &[u8]) -> ChamberReceive
     ensures { λ r. ⌜ r ≡ receiveIn ch (now (packet .entry)) ⌝ }
 {
     let d = ch.client;
-    let s = client::receive(d, packet);
-    let e = s.client;
-    let answer = s.answer;
+    let received = client::receive(d, packet);
+    let after = received.client;
+    let answer = received.answer;
     let points = ch.points;
     let reads = reads_by(ch, answer);
     ChamberReceive {
         chamber: Chamber {
-            client: e,
+            client: after,
             points,
             moved: ch.moved,
             reads,

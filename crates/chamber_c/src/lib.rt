@@ -1,5 +1,5 @@
-// The lock chamber controller for a host program in C: numbers, structs with C's layout, byte slices. A signed number is in two's complement
-// here. The controller is given and returned by value.
+// The lock chamber controller for a host program in C: numbers, structs with C's layout, byte slices. A signed number
+// is in two's complement here. The controller is given and returned by value.
 use model::constants;
 ghost use mathlib.Core.Path.{_≡_};
 ghost use Rattle.model.specs.Numbers.{flip};
@@ -38,20 +38,20 @@ pub struct ChamberReceiveReply {
 
 // ---- replies
 
-fn start_number(a: Started) -> u32
-    ensures { λ r. ⌜ r ≡ startNumber a ⌝ }
+fn start_number(answer: Started) -> u32
+    ensures { λ r. ⌜ r ≡ startNumber answer ⌝ }
 {
-    match a {
-        Started::NotStarted(n) => n,
+    match answer {
+        Started::NotStarted(refusal) => refusal,
         Started::Running => constants::NO_REFUSAL,
     }
 }
 
-fn start_reply(a: ChamberStart) -> ChamberStartReply
-    ensures { λ r. ⌜ r ≡ startReplyIn a ⌝ }
+fn start_reply(started: ChamberStart) -> ChamberStartReply
+    ensures { λ r. ⌜ r ≡ startReplyIn started ⌝ }
 {
-    let ch = a.chamber;
-    let answer = a.answer;
+    let ch = started.chamber;
+    let answer = started.answer;
     let number = start_number(answer);
     ChamberStartReply {
         chamber: ch,
@@ -59,20 +59,20 @@ fn start_reply(a: ChamberStart) -> ChamberStartReply
     }
 }
 
-fn send_reply(a: ChamberSend) -> ChamberSendReply
-    ensures { λ r. ⌜ r ≡ sendReplyIn a ⌝ }
+fn send_reply(sent: ChamberSend) -> ChamberSendReply
+    ensures { λ r. ⌜ r ≡ sendReplyIn sent ⌝ }
 {
-    let ch = a.chamber;
-    let answer = a.answer;
+    let ch = sent.chamber;
+    let answer = sent.answer;
     let reply = client_c::send_reply(answer);
     ChamberSendReply { chamber: ch, reply }
 }
 
-fn receive_reply(a: ChamberReceive) -> ChamberReceiveReply
-    ensures { λ r. ⌜ r ≡ receiveReplyIn a ⌝ }
+fn receive_reply(received: ChamberReceive) -> ChamberReceiveReply
+    ensures { λ r. ⌜ r ≡ receiveReplyIn received ⌝ }
 {
-    let ch = a.chamber;
-    let answer = a.answer;
+    let ch = received.chamber;
+    let answer = received.answer;
     let reply = client_c::receive_reply(answer);
     ChamberReceiveReply { chamber: ch, reply }
 }
@@ -107,8 +107,8 @@ pub extern "C" fn mantelorris_chamber_start(
         level2: level2 as u8,
         level3: level3 as u8,
     };
-    let a = chamber::start(packet, points);
-    start_reply(a)
+    let started = chamber::start(packet, points);
+    start_reply(started)
 }
 
 // The argument in two's complement; an op or a point past a byte is malformed, as any past its range.
@@ -125,21 +125,21 @@ pub extern "C" fn mantelorris_chamber_issue(
         let refused = chamber::not_sent(chamber, constants::MALFORMED);
         return send_reply(refused);
     }
-    let a = chamber::issue(
+    let sent = chamber::issue(
         chamber,
         op as u8,
         point as u8,
         format_numbers::flipped(argument),
     );
-    send_reply(a)
+    send_reply(sent)
 }
 
 #[no_mangle]
 pub extern "C" fn mantelorris_chamber_resend(chamber: Chamber, call: u32) -> ChamberSendReply
     ensures { λ r. ⌜ r ≡ sendReplyIn (resendIn chamber call) ⌝ }
 {
-    let a = chamber::resend(chamber, call);
-    send_reply(a)
+    let sent = chamber::resend(chamber, call);
+    send_reply(sent)
 }
 
 #[no_mangle]
@@ -149,6 +149,6 @@ pub extern "C" fn mantelorris_chamber_receive(
 ) -> ChamberReceiveReply
     ensures { λ r. ⌜ r ≡ receiveReplyIn (receiveIn chamber (now (packet .entry))) ⌝ }
 {
-    let a = chamber::receive(chamber, packet);
-    receive_reply(a)
+    let received = chamber::receive(chamber, packet);
+    receive_reply(received)
 }

@@ -1,5 +1,6 @@
-// The client (paper: desk): start, issue, resend, receive. Values in and values out; every value of the struct is taken. Each operation is
-// made of what it changes (the next number or the lease end, and what stands at one place), so that one who is lent a client stores that alone.
+// The client (paper: desk): start, issue, resend, receive. Values in and values out; every value of the struct is
+// taken. Each operation is made of what it changes (the next number or the lease end, and what stands at one place), so
+// that one who is lent a client stores that alone.
 use model::constants;
 use model::constants::CALL_WINDOW;
 use model::constants::GRANT_SIZE;
@@ -81,23 +82,23 @@ pub fn call_at(d: Client, c: u32) -> OpenCall
     ks[i]
 }
 
-fn lesser(k: OpenCall, n: u32) -> u32
-    ensures { λ r. ⌜ r ≡ pick (leb 1 (k .call) && ltb (k .call) n) (k .call) n ⌝ }
+fn lesser(opened: OpenCall, least: u32) -> u32
+    ensures { λ r. ⌜ r ≡ pick (leb 1 (opened .call) && ltb (opened .call) least) (opened .call) least ⌝ }
 {
-    if (1 <= k.call) & (k.call < n) {
-        return k.call;
+    if (1 <= opened.call) & (opened.call < least) {
+        return opened.call;
     }
-    n
+    least
 }
 
-fn least_open(n: u32, ks: [OpenCall; CALL_WINDOW]) -> u32
-    ensures { λ r. ⌜ (r ≡ leastOpen n ks) × (length ks ≡ callWindow) ⌝ }
+fn least_open(next: u32, ks: [OpenCall; CALL_WINDOW]) -> u32
+    ensures { λ r. ⌜ (r ≡ leastOpen next ks) × (length ks ≡ callWindow) ⌝ }
 {
-    let mut least = n;
+    let mut least = next;
     let mut i: usize = 0;
     while i < CALL_WINDOW {
-        let k = ks[i];
-        least = lesser(k, least);
+        let opened = ks[i];
+        least = lesser(opened, least);
         i += 1;
     }
     least
@@ -121,25 +122,25 @@ fn with_calls(d: Client, next: u32, ks: [OpenCall; CALL_WINDOW]) -> Client
     }
 }
 
-// The open calls with k at the place of the call c.
-fn placed(ks: [OpenCall; CALL_WINDOW], c: u32, k: OpenCall) -> [OpenCall; CALL_WINDOW]
-    ensures { λ r. ⌜ r ≡ set ks (placeOf c) k ⌝ }
+// The open calls with this one at the place of the call c.
+fn placed(ks: [OpenCall; CALL_WINDOW], c: u32, opened: OpenCall) -> [OpenCall; CALL_WINDOW]
+    ensures { λ r. ⌜ r ≡ set ks (placeOf c) opened ⌝ }
 {
     let mut out = ks;
     let i = place_of(c);
-    out[i] = k;
+    out[i] = opened;
     out
 }
 
-fn request_with(d: Client, k: OpenCall, done: u32) -> Request
-    ensures { λ r. ⌜ r ≡ requestWith d k done ⌝ }
+fn request_with(d: Client, opened: OpenCall, done: u32) -> Request
+    ensures { λ r. ⌜ r ≡ requestWith d opened done ⌝ }
 {
     let command = Command {
         client: d.client,
-        call: k.call,
-        op: k.op,
-        point: k.point,
-        argument: k.argument,
+        call: opened.call,
+        op: opened.op,
+        point: opened.point,
+        argument: opened.argument,
     };
     Request {
         command,
@@ -150,10 +151,10 @@ fn request_with(d: Client, k: OpenCall, done: u32) -> Request
 
 // ---- start
 
-fn started(p: Packet) -> StartFields
-    ensures { λ r. ⌜ r ≡ startFields (startWith p) ⌝ }
+fn started(packet: Packet) -> StartFields
+    ensures { λ r. ⌜ r ≡ startFields (startWith packet) ⌝ }
 {
-    let Packet::Granted(g) = p else {
+    let Packet::Granted(grant) = packet else {
         return StartFields {
             client: 0,
             lease: 0,
@@ -162,8 +163,8 @@ fn started(p: Packet) -> StartFields
         };
     };
     StartFields {
-        client: g.client,
-        lease: g.lease,
+        client: grant.client,
+        lease: grant.lease,
         next: 1,
         number: constants::NO_REFUSAL,
     }
@@ -186,50 +187,51 @@ fn parse_start(packet: &[u8]) -> Packet
 pub fn start_fields(packet: &[u8]) -> StartFields
     ensures { λ r. ⌜ r ≡ startFields (startOf (now (packet .entry))) ⌝ }
 {
-    let p = parse_start(packet);
-    started(p)
+    let parsed = parse_start(packet);
+    started(parsed)
 }
 
-// ---- issue, resend: k is what stands at the call's place
+// ---- issue, resend: opened is what stands at the call's place
 
-// The first open call once k is open. Where its place was free, the first is as before.
-fn first_with(d: Client, old: OpenCall, k: OpenCall, first: u32) -> u32
-    requires { ⌜ (old ≡ callAt d (d .next)) × (k .call ≡ d .next) × (first ≡ firstOpen d) × (length (d .calls) ≡ callWindow) × (d .next < last32) ⌝ }
-    ensures { λ r. ⌜ r ≡ firstOpen (withCall d k) ⌝ }
+// The first open call once this one is open. Where its place was free, the first is as before.
+fn first_with(d: Client, old: OpenCall, opened: OpenCall, first: u32) -> u32
+    requires { ⌜ (old ≡ callAt d (d .next)) × (opened .call ≡ d .next) × (first ≡ firstOpen d)
+        × (length (d .calls) ≡ callWindow) × (d .next < last32) ⌝ }
+    ensures { λ r. ⌜ r ≡ firstOpen (withCall d opened) ⌝ }
 {
-    if (old.call == 0) & (1 <= k.call) {
+    if (old.call == 0) & (1 <= opened.call) {
         return first;
     }
     let ks = d.calls;
-    let out = placed(ks, k.call, k);
+    let out = placed(ks, opened.call, opened);
     least_open(d.next + 1, out)
 }
 
-fn not_issued(d: Client, k: OpenCall, n: u32) -> SendChange
-    requires { ⌜ k ≡ callAt d (d .next) ⌝ }
-    ensures { λ r. ⌜ issued d r ≡ notSent d n ⌝ }
+fn not_issued(d: Client, opened: OpenCall, refusal: u32) -> SendChange
+    requires { ⌜ opened ≡ callAt d (d .next) ⌝ }
+    ensures { λ r. ⌜ issued d r ≡ notSent d refusal ⌝ }
 {
     SendChange {
         next: d.next,
-        call: k,
-        answer: Sent::NotSent(n),
+        call: opened,
+        answer: Sent::NotSent(refusal),
     }
 }
 
 // Issue: 1 no such command; 15 the window is full; 16 the last number is used.
-pub fn issue_change(d: Client, k: OpenCall, op: u8, point: u8, argument: u32) -> SendChange
-    requires { ⌜ k ≡ callAt d (d .next) ⌝ }
+pub fn issue_change(d: Client, opened: OpenCall, op: u8, point: u8, argument: u32) -> SendChange
+    requires { ⌜ opened ≡ callAt d (d .next) ⌝ }
     ensures { λ r. ⌜ issued d r ≡ issueOf d op point argument ⌝ }
 {
     if !format_numbers::command_ok(op, point, argument) {
-        return not_issued(d, k, constants::MALFORMED);
+        return not_issued(d, opened, constants::MALFORMED);
     }
     let first = first_open(d);
     if first as u64 + constants::CALL_WINDOW_U64 <= d.next as u64 {
-        return not_issued(d, k, constants::WINDOW_FULL);
+        return not_issued(d, opened, constants::WINDOW_FULL);
     }
     if constants::LAST_32 <= d.next {
-        return not_issued(d, k, constants::NUMBERS_OUT);
+        return not_issued(d, opened, constants::NUMBERS_OUT);
     }
     let call = OpenCall {
         call: d.next,
@@ -237,7 +239,7 @@ pub fn issue_change(d: Client, k: OpenCall, op: u8, point: u8, argument: u32) ->
         point,
         argument,
     };
-    let done = first_with(d, k, call, first);
+    let done = first_with(d, opened, call, first);
     let q = request_with(d, call, done);
     SendChange {
         next: d.next + 1,
@@ -247,18 +249,18 @@ pub fn issue_change(d: Client, k: OpenCall, op: u8, point: u8, argument: u32) ->
 }
 
 // Resend: 17 call not open. Nothing changes.
-pub fn resend_answer(d: Client, k: OpenCall, c: u32) -> Sent
-    requires { ⌜ k ≡ callAt d c ⌝ }
+pub fn resend_answer(d: Client, opened: OpenCall, c: u32) -> Sent
+    requires { ⌜ opened ≡ callAt d c ⌝ }
     ensures { λ r. ⌜ record { client = d; answer = r } ≡ resendOf d c ⌝ }
 {
-    if (1 <= c) & (k.call == c) {
-        let q = request_with(d, k, first_open(d));
+    if (1 <= c) & (opened.call == c) {
+        let q = request_with(d, opened, first_open(d));
         return Sent::Asked(q);
     }
     Sent::NotSent(constants::UNKNOWN)
 }
 
-// ---- receive: k is what stands at the place of c, which is the call of a packet that has one
+// ---- receive: opened is what stands at the place of c, which is the call of a packet that has one
 
 // The number where a result and a refusal have their call, 0 in a shorter packet and in one of a later kind.
 pub fn packet_call(packet: &[u8]) -> u32
@@ -289,97 +291,98 @@ fn client_packet(packet: &[u8]) -> Packet
 }
 
 // The packet is of this client and of an open call on its point.
-fn is_own(d: Client, k: OpenCall, client: u32, call: u32, point: u8) -> bool
-    requires { ⌜ k ≡ callAt d call ⌝ }
+fn is_own(d: Client, opened: OpenCall, client: u32, call: u32, point: u8) -> bool
+    requires { ⌜ opened ≡ callAt d call ⌝ }
     ensures { λ r. ⌜ r ≡ isOwn d client call point ⌝ }
 {
-    (client == d.client) & (((1 <= call) & (k.call == call)) & (k.point == point))
+    (client == d.client) & (((1 <= call) & (opened.call == call)) & (opened.point == point))
 }
 
-fn not_received(d: Client, k: OpenCall, c: u32, n: u32) -> ReceiveChange
-    requires { ⌜ k ≡ callAt d c ⌝ }
-    ensures { λ r. ⌜ received d c r ≡ notReceived d n ⌝ }
+fn not_received(d: Client, opened: OpenCall, c: u32, refusal: u32) -> ReceiveChange
+    requires { ⌜ opened ≡ callAt d c ⌝ }
+    ensures { λ r. ⌜ received d c r ≡ notReceived d refusal ⌝ }
 {
     ReceiveChange {
         lease: d.lease,
-        call: k,
-        answer: Received::NotReceived(n),
+        call: opened,
+        answer: Received::NotReceived(refusal),
     }
 }
 
 // Only a result closes its call.
-fn left_open(k: OpenCall, closes: bool) -> OpenCall
-    ensures { λ r. ⌜ r ≡ pick closes noCall k ⌝ }
+fn left_open(opened: OpenCall, closes: bool) -> OpenCall
+    ensures { λ r. ⌜ r ≡ pick closes noCall opened ⌝ }
 {
     if closes {
         return no_call();
     }
-    k
+    opened
 }
 
-fn result_change(d: Client, k: OpenCall, r: ResultPacket) -> ReceiveChange
-    requires { ⌜ k ≡ callAt d (r .call) ⌝ }
-    ensures { λ a. ⌜ received d (r .call) a ≡ receiveResult d r ⌝ }
+fn result_change(d: Client, opened: OpenCall, packet: ResultPacket) -> ReceiveChange
+    requires { ⌜ opened ≡ callAt d (packet .call) ⌝ }
+    ensures { λ a. ⌜ received d (packet .call) a ≡ receiveResult d packet ⌝ }
 {
-    if is_own(d, k, r.client, r.call, r.point) {
-        let call = left_open(k, true);
+    if is_own(d, opened, packet.client, packet.call, packet.point) {
+        let call = left_open(opened, true);
         return ReceiveChange {
             lease: d.lease,
             call,
-            answer: Received::Completed(r),
+            answer: Received::Completed(packet),
         };
     }
-    not_received(d, k, r.call, constants::UNKNOWN)
+    not_received(d, opened, packet.call, constants::UNKNOWN)
 }
 
-fn refusal_change(d: Client, k: OpenCall, r: RefusalPacket) -> ReceiveChange
-    requires { ⌜ k ≡ callAt d (r .call) ⌝ }
-    ensures { λ a. ⌜ received d (r .call) a ≡ receiveRefusal d r ⌝ }
+fn refusal_change(d: Client, opened: OpenCall, packet: RefusalPacket) -> ReceiveChange
+    requires { ⌜ opened ≡ callAt d (packet .call) ⌝ }
+    ensures { λ a. ⌜ received d (packet .call) a ≡ receiveRefusal d packet ⌝ }
 {
-    if is_own(d, k, r.client, r.call, r.point) {
-        let call = left_open(k, false);
+    if is_own(d, opened, packet.client, packet.call, packet.point) {
+        let call = left_open(opened, false);
         return ReceiveChange {
             lease: d.lease,
             call,
-            answer: Received::Denied(r),
+            answer: Received::Denied(packet),
         };
     }
-    not_received(d, k, r.call, constants::UNKNOWN)
+    not_received(d, opened, packet.call, constants::UNKNOWN)
 }
 
-fn grant_change(d: Client, k: OpenCall, c: u32, g: Grant) -> ReceiveChange
-    requires { ⌜ k ≡ callAt d c ⌝ }
-    ensures { λ a. ⌜ received d c a ≡ receiveGrant d g ⌝ }
+fn grant_change(d: Client, opened: OpenCall, c: u32, grant: Grant) -> ReceiveChange
+    requires { ⌜ opened ≡ callAt d c ⌝ }
+    ensures { λ a. ⌜ received d c a ≡ receiveGrant d grant ⌝ }
 {
-    if (g.client == d.client) & (d.lease <= g.lease) {
+    if (grant.client == d.client) & (d.lease <= grant.lease) {
         return ReceiveChange {
-            lease: g.lease,
-            call: k,
-            answer: Received::Extended(g),
+            lease: grant.lease,
+            call: opened,
+            answer: Received::Extended(grant),
         };
     }
-    not_received(d, k, c, constants::UNKNOWN)
+    not_received(d, opened, c, constants::UNKNOWN)
 }
 
-fn taken(d: Client, k: OpenCall, c: u32, p: Packet) -> ReceiveChange
-    requires { ⌜ (k ≡ callAt d c) × OfCall c p ⌝ }
-    ensures { λ r. ⌜ received d c r ≡ receiveWith d p ⌝ }
+fn taken(d: Client, opened: OpenCall, c: u32, packet: Packet) -> ReceiveChange
+    requires { ⌜ (opened ≡ callAt d c) × OfCall c packet ⌝ }
+    ensures { λ r. ⌜ received d c r ≡ receiveWith d packet ⌝ }
 {
-    match p {
-        Packet::Resulted(r) => result_change(d, k, r),
-        Packet::Refused(r) => refusal_change(d, k, r),
-        Packet::Granted(g) => grant_change(d, k, c, g),
-        _ => not_received(d, k, c, constants::MALFORMED),
+    match packet {
+        Packet::Resulted(completed) => result_change(d, opened, completed),
+        Packet::Refused(denied) => refusal_change(d, opened, denied),
+        Packet::Granted(grant) => grant_change(d, opened, c, grant),
+        _ => not_received(d, opened, c, constants::MALFORMED),
     }
 }
 
-// Receive: 1 no well-formed result, refusal or grant; 17 not for this client and an open call of it on that point, or a lease end that falls.
-pub fn receive_change(d: Client, k: OpenCall, packet: &[u8]) -> ReceiveChange
-    requires { ⌜ k ≡ callAt d (packetCall (now packet)) ⌝ }
+// Receive: 1 no well-formed result, refusal or grant; 17 not for this client and an open call of it on that point, or a
+// lease end that falls.
+pub fn receive_change(d: Client, opened: OpenCall, packet: &[u8]) -> ReceiveChange
+    requires { ⌜ opened ≡ callAt d (packetCall (now packet)) ⌝ }
     ensures { λ r. ⌜ received d (packetCall (now (packet .entry))) r ≡ receiveOf d (now (packet .entry)) ⌝ }
 {
-    let p = client_packet(packet);
-    taken(d, k, packet_call(packet), p)
+    let parsed = client_packet(packet);
+    taken(d, opened, packet_call(packet), parsed)
 }
 
 // ---- the operations, by value
@@ -393,17 +396,17 @@ fn started_by(number: u32) -> Started
     Started::NotStarted(number)
 }
 
-fn start_answer(s: StartFields) -> StartAnswer
-    ensures { λ r. ⌜ r ≡ startAnswer s ⌝ }
+fn start_answer(fields: StartFields) -> StartAnswer
+    ensures { λ r. ⌜ r ≡ startAnswer fields ⌝ }
 {
-    let k = no_call();
-    let answer = started_by(s.number);
+    let none = no_call();
+    let answer = started_by(fields.number);
     StartAnswer {
         client: Client {
-            client: s.client,
-            lease: s.lease,
-            next: s.next,
-            calls: [k; CALL_WINDOW],
+            client: fields.client,
+            lease: fields.lease,
+            next: fields.next,
+            calls: [none; CALL_WINDOW],
         },
         answer,
     }
@@ -412,54 +415,51 @@ fn start_answer(s: StartFields) -> StartAnswer
 pub fn start(packet: &[u8]) -> StartAnswer
     ensures { λ r. ⌜ r ≡ startOf (now (packet .entry)) ⌝ }
 {
-    let s = start_fields(packet);
-    start_answer(s)
+    let fields = start_fields(packet);
+    start_answer(fields)
 }
 
 pub fn issue(d: Client, op: u8, point: u8, argument: u32) -> SendAnswer
     ensures { λ r. ⌜ r ≡ issueOf d op point argument ⌝ }
 {
-    let k = call_at(d, d.next);
-    let c = issue_change(d, k, op, point, argument);
+    let opened = call_at(d, d.next);
+    let change = issue_change(d, opened, op, point, argument);
     let ks = d.calls;
-    let call = c.call;
+    let call = change.call;
     let out = placed(ks, d.next, call);
-    let e = with_calls(d, c.next, out);
-    let a = c.answer;
+    let after = with_calls(d, change.next, out);
+    let answer = change.answer;
     SendAnswer {
-        client: e,
-        answer: a,
+        client: after,
+        answer,
     }
 }
 
 pub fn resend(d: Client, c: u32) -> SendAnswer
     ensures { λ r. ⌜ r ≡ resendOf d c ⌝ }
 {
-    let k = call_at(d, c);
-    let a = resend_answer(d, k, c);
-    SendAnswer {
-        client: d,
-        answer: a,
-    }
+    let opened = call_at(d, c);
+    let answer = resend_answer(d, opened, c);
+    SendAnswer { client: d, answer }
 }
 
 pub fn receive(d: Client, packet: &[u8]) -> ReceiveAnswer
     ensures { λ r. ⌜ r ≡ receiveOf d (now (packet .entry)) ⌝ }
 {
-    let n = packet_call(packet);
-    let k = call_at(d, n);
-    let c = receive_change(d, k, packet);
+    let c = packet_call(packet);
+    let opened = call_at(d, c);
+    let change = receive_change(d, opened, packet);
     let ks = d.calls;
-    let call = c.call;
-    let out = placed(ks, n, call);
-    let a = c.answer;
+    let call = change.call;
+    let out = placed(ks, c, call);
+    let answer = change.answer;
     ReceiveAnswer {
         client: Client {
             client: d.client,
-            lease: c.lease,
+            lease: change.lease,
             next: d.next,
             calls: out,
         },
-        answer: a,
+        answer,
     }
 }

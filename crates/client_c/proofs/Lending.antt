@@ -1,5 +1,5 @@
 -- A lent lease manager that is passed on to `store_change` for good, and what a call's value function returns: shared by the walks of
--- `mantelorris_open`, `mantelorris_renew` and `mantelorris_query`.
+-- the calls with two numbers (`TwoNumbers`) and of `mantelorris_renew`.
 --     Store                    the contract of `store_change`
 --     change-val, reply-val    the machine values of what a call changes, and of its reply
 --     said                     the relation of the reply in what changes
@@ -21,8 +21,6 @@ use ghost.Atoms.{Atoms, sem}
 use contract.Monad.{Fun, fact, fact-use}
 use types.Kit.{Given, ‵, raw, _⊛_, some, later, _$_, _∵_, !, qed, move, keep, use1, split, join, pick, fjoin, fjoin3, feqI, feqL, check, frame, await, updating, now as at-once, done}
 use types.SemTy.{Body}
-use denote.Exit.{left, yes}
-use denote.Exit.{left, yes}
 use denote.Exit.{left, yes}
 use denote.Laws.{Is}
 use denote.Memory.{mem}

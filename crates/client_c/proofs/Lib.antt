@@ -4,3 +4,4 @@ pub mod Cases
 pub mod Element
 pub mod Manager
 pub mod Lending
+pub mod TwoNumbers

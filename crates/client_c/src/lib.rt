@@ -1,5 +1,5 @@
-// The client and the lease manager for a host program in C: numbers, structs with C's layout, byte slices. A signed number is
-// in two's complement here.
+// The client and the lease manager for a host program in C: numbers, structs with C's layout, byte slices. A signed
+// number is in two's complement here.
 use model::constants;
 ghost use mathlib.Core.Path.{_≡_};
 ghost use Prim.Native.Nat.{_<_};
@@ -65,8 +65,9 @@ pub struct LeaseReply {
     pub packet: [u8; constants::GRANT_SIZE],
 }
 
-// ---- replies, by value, and what changes: in a client the next number or the lease end, and what stands at one place; in a lease
-// manager time, the latest client number, what stands at one place, and whether the ended leases are cleared before
+// ---- replies, by value, and what changes: in a client the next number or the lease end, and what stands at one place;
+// in a lease manager time, the latest client number, what stands at one place, and whether the ended leases are cleared
+// before
 
 pub struct Sending {
     pub next: u32,
@@ -89,23 +90,23 @@ pub struct Leasing {
     pub reply: LeaseReply,
 }
 
-pub fn send_reply(a: Sent) -> SendReply
-    ensures { λ r. ⌜ r ≡ sendReply a ⌝ }
+pub fn send_reply(answer: Sent) -> SendReply
+    ensures { λ r. ⌜ r ≡ sendReply answer ⌝ }
 {
-    match a {
-        Sent::NotSent(n) => SendReply {
-            number: n,
+    match answer {
+        Sent::NotSent(refusal) => SendReply {
+            number: refusal,
             call: 0,
             length: 0,
             packet: [0u8; constants::REQUEST_SIZE],
         },
         Sent::Asked(q) => {
-            let p = format_packet_writer::request_packet(q);
+            let packet = format_packet_writer::request_packet(q);
             SendReply {
                 number: constants::NO_REFUSAL,
                 call: q.command.call,
                 length: constants::REQUEST_SIZE_U32,
-                packet: p,
+                packet,
             }
         }
     }
@@ -128,124 +129,124 @@ fn empty_reply(number: u32) -> ReceiveReply
     }
 }
 
-pub fn receive_reply(a: Received) -> ReceiveReply
-    ensures { λ r. ⌜ r ≡ receiveReply a ⌝ }
+pub fn receive_reply(answer: Received) -> ReceiveReply
+    ensures { λ r. ⌜ r ≡ receiveReply answer ⌝ }
 {
-    let mut s = empty_reply(constants::NO_REFUSAL);
-    match a {
-        Received::NotReceived(n) => {
-            s.number = n;
-            s
+    let mut reply = empty_reply(constants::NO_REFUSAL);
+    match answer {
+        Received::NotReceived(refusal) => {
+            reply.number = refusal;
+            reply
         }
-        Received::Completed(r) => {
-            s.kind = constants::RESULT_KIND_U32;
-            s.call = r.call;
-            s.value = format_numbers::flipped(r.result.value);
-            s.point = r.point;
-            s.outcome = r.result.outcome;
-            s.quality = r.result.quality;
-            s
+        Received::Completed(packet) => {
+            reply.kind = constants::RESULT_KIND_U32;
+            reply.call = packet.call;
+            reply.value = format_numbers::flipped(packet.result.value);
+            reply.point = packet.point;
+            reply.outcome = packet.result.outcome;
+            reply.quality = packet.result.quality;
+            reply
         }
-        Received::Denied(r) => {
-            s.kind = constants::REFUSAL_KIND_U32;
-            s.call = r.call;
-            s.point = r.point;
-            s.refusal = r.refusal;
-            s
+        Received::Denied(packet) => {
+            reply.kind = constants::REFUSAL_KIND_U32;
+            reply.call = packet.call;
+            reply.point = packet.point;
+            reply.refusal = packet.refusal;
+            reply
         }
-        Received::Extended(g) => {
-            s.kind = constants::GRANT_KIND_U32;
-            s.lease = g.lease;
-            s
+        Received::Extended(grant) => {
+            reply.kind = constants::GRANT_KIND_U32;
+            reply.lease = grant.lease;
+            reply
         }
     }
 }
 
-fn lease_reply(a: Told) -> LeaseReply
-    ensures { λ r. ⌜ r ≡ leaseReply a ⌝ }
+fn lease_reply(answer: Told) -> LeaseReply
+    ensures { λ r. ⌜ r ≡ leaseReply answer ⌝ }
 {
-    match a {
-        Told::NotTold(n) => LeaseReply {
-            number: n,
+    match answer {
+        Told::NotTold(refusal) => LeaseReply {
+            number: refusal,
             kind: 0,
             length: 0,
             packet: [0u8; constants::GRANT_SIZE],
         },
-        Told::ByGrant(g) => {
-            let p = format_packet_writer::grant_packet(g);
+        Told::ByGrant(grant) => {
+            let packet = format_packet_writer::grant_packet(grant);
             LeaseReply {
                 number: constants::NO_REFUSAL,
                 kind: constants::GRANT_KIND_U32,
                 length: constants::GRANT_SIZE_U32,
-                packet: p,
+                packet,
             }
         }
-        Told::ByNotice(n) => {
-            let p = format_packet_writer::notice_packet(n);
+        Told::ByNotice(notice) => {
+            let packet = format_packet_writer::notice_packet(notice);
             LeaseReply {
                 number: constants::NO_REFUSAL,
                 kind: constants::NOTICE_KIND_U32,
                 length: constants::NOTICE_SIZE_U32,
-                packet: p,
+                packet,
             }
         }
     }
 }
 
-fn with_lease_reply(c: LeaseChange) -> Leasing
-    ensures { λ r. ⌜ r ≡ leasing c ⌝ }
+fn with_lease_reply(change: LeaseChange) -> Leasing
+    ensures { λ r. ⌜ r ≡ leasing change ⌝ }
 {
-    let a = c.answer;
-    let reply = lease_reply(a);
-    let lease = c.lease;
+    let answer = change.answer;
+    let reply = lease_reply(answer);
+    let lease = change.lease;
     Leasing {
-        ended: c.ended,
-        time: c.time,
-        issued: c.issued,
-        place: c.place,
+        ended: change.ended,
+        time: change.time,
+        issued: change.issued,
+        place: change.place,
         lease,
         reply,
     }
 }
 
-// ---- the client's operations, by value; k is what stands at the call's place
+// ---- the client's operations, by value; opened is what stands at the call's place
 
 // The argument in two's complement; an op or a point past a byte is malformed, as any past its range.
-fn issue_value(d: Client, k: OpenCall, op: u32, point: u32, argument: u32) -> Sending
-    requires { ⌜ k ≡ callAt d (d .next) ⌝ }
+fn issue_value(d: Client, opened: OpenCall, op: u32, point: u32, argument: u32) -> Sending
+    requires { ⌜ opened ≡ callAt d (d .next) ⌝ }
     ensures { λ r. ⌜ Sends d r (issueOf d op point (flip argument)) ⌝ }
 {
     if (constants::LAST_8 < op) | (constants::LAST_8 < point) {
         let reply = send_reply(Sent::NotSent(constants::MALFORMED));
         return Sending {
             next: d.next,
-            call: k,
+            call: opened,
             reply,
         };
     }
-    let c = client::issue_change(
+    let change = client::issue_change(
         d,
-        k,
+        opened,
         op as u8,
         point as u8,
         format_numbers::flipped(argument),
     );
-    let call = c.call;
-    let a = c.answer;
-    let reply = send_reply(a);
+    let call = change.call;
+    let answer = change.answer;
+    let reply = send_reply(answer);
     Sending {
-        next: c.next,
+        next: change.next,
         call,
         reply,
     }
 }
 
-fn resend_value(d: Client, k: OpenCall, call: u32) -> SendReply
-    requires { ⌜ k ≡ callAt d call ⌝ }
+fn resend_value(d: Client, opened: OpenCall, call: u32) -> SendReply
+    requires { ⌜ opened ≡ callAt d call ⌝ }
     ensures { λ r. ⌜ r ≡ sendReply (resendOf d call .answer) ⌝ }
 {
-    let a = client::resend_answer(d, k, call);
-    send_reply(a)
+    let answer = client::resend_answer(d, opened, call);
+    send_reply(answer)
 }
 
 // The place of the packet's call.
@@ -255,16 +256,16 @@ fn packet_place(packet: &[u8]) -> usize
     client::place_of(client::packet_call(packet))
 }
 
-fn receive_value(d: Client, k: OpenCall, packet: &[u8]) -> Receiving
-    requires { ⌜ k ≡ callAt d (packetCall (now packet)) ⌝ }
+fn receive_value(d: Client, opened: OpenCall, packet: &[u8]) -> Receiving
+    requires { ⌜ opened ≡ callAt d (packetCall (now packet)) ⌝ }
     ensures { λ r. ⌜ Receives d (now (packet .entry)) r ⌝ }
 {
-    let c = client::receive_change(d, k, packet);
-    let call = c.call;
-    let s = c.answer;
-    let reply = receive_reply(s);
+    let change = client::receive_change(d, opened, packet);
+    let call = change.call;
+    let answer = change.answer;
+    let reply = receive_reply(answer);
     Receiving {
-        lease: c.lease,
+        lease: change.lease,
         call,
         reply,
     }
@@ -275,50 +276,59 @@ fn receive_value(d: Client, k: OpenCall, packet: &[u8]) -> Receiving
 fn open_value(m: LeaseManager, time: u32, span: u32) -> Leasing
     ensures { λ r. ⌜ Leases m r (openOf m time span) ⌝ }
 {
-    let c = leases::open_change(m, time, span);
-    with_lease_reply(c)
+    let change = leases::open_change(m, time, span);
+    with_lease_reply(change)
 }
 
 fn renew_value(m: LeaseManager, client: u32, time: u32, span: u32) -> Leasing
     ensures { λ r. ⌜ Leases m r (renewOf m client time span) ⌝ }
 {
-    let c = leases::renew_change(m, client, time, span);
-    with_lease_reply(c)
+    let change = leases::renew_change(m, client, time, span);
+    with_lease_reply(change)
 }
 
 fn query_value(m: LeaseManager, client: u32, time: u32) -> Leasing
     ensures { λ r. ⌜ Leases m r (queryOf m client time) ⌝ }
 {
-    let c = leases::query_change(m, client, time);
-    with_lease_reply(c)
+    let change = leases::query_change(m, client, time);
+    with_lease_reply(change)
 }
 
 // The manager with what changes.
-fn stored_value(m: LeaseManager, c: Leasing) -> LeaseManager
-    requires { ⌜ c .place < leaseCount ⌝ }
-    ensures { λ r. ⌜ r ≡ changed m c ⌝ }
+fn stored_value(m: LeaseManager, change: Leasing) -> LeaseManager
+    requires { ⌜ change .place < leaseCount ⌝ }
+    ensures { λ r. ⌜ r ≡ changed m change ⌝ }
 {
-    let l = c.lease;
-    leases::stored(m, c.ended, c.time, c.issued, c.place, l)
+    let lease = change.lease;
+    leases::stored(
+        m,
+        change.ended,
+        change.time,
+        change.issued,
+        change.place,
+        lease,
+    )
 }
 
 // ---- for C: the client. Start makes one; the others are lent it, and store what changes.
 
-// Always a place. Since it might be the number, which lies over op, point, the padding behind them and the argument, the compiler takes these as a word.
+// Always a place. Since it might be the number, which lies over op, point, the padding behind them and the argument,
+// the compiler takes these as a word.
 enum Slot {
     Number(u64),
     Place(OpenCall),
 }
 
-// A free place in words, without a gap: start stores sixteen bytes at a time. Field by field, past the padding, it takes half as long again.
+// A free place in words, without a gap: start stores sixteen bytes at a time. Field by field, past the padding, it
+// takes half as long again.
 fn whole_place() -> OpenCall
     ensures { λ r. ⌜ r ≡ noCall ⌝ }
 {
-    let k = client::no_call();
-    let s = Slot::Place(k);
-    match s {
-        Slot::Place(p) => p,
-        Slot::Number(_n) => k,
+    let none = client::no_call();
+    let slot = Slot::Place(none);
+    match slot {
+        Slot::Place(opened) => opened,
+        Slot::Number(_n) => none,
     }
 }
 
@@ -326,16 +336,16 @@ fn whole_place() -> OpenCall
 pub extern "C" fn mantelorris_start(packet: &[u8]) -> StartReply
     ensures { λ r. ⌜ r ≡ startReply (startOf (now (packet .entry))) ⌝ }
 {
-    let s = client::start_fields(packet);
-    let k = whole_place();
+    let fields = client::start_fields(packet);
+    let none = whole_place();
     StartReply {
         client: Client {
-            client: s.client,
-            lease: s.lease,
-            next: s.next,
-            calls: [k; constants::CALL_WINDOW],
+            client: fields.client,
+            lease: fields.lease,
+            next: fields.next,
+            calls: [none; constants::CALL_WINDOW],
         },
-        number: s.number,
+        number: fields.number,
     }
 }
 
@@ -345,15 +355,16 @@ pub extern "C" fn mantelorris_issue(d: &mut Client, op: u32, point: u32, argumen
         × (now (d .exit) ≡ issueOf (now (d .entry)) op point (flip argument) .client) ⌝ }
 {
     let i = client::place_of(d.next);
-    let r = issue_value(*d, d.calls[i], op, point, argument);
-    d.next = r.next;
-    d.calls[i] = r.call;
-    r.reply
+    let change = issue_value(*d, d.calls[i], op, point, argument);
+    d.next = change.next;
+    d.calls[i] = change.call;
+    change.reply
 }
 
 #[no_mangle]
 pub extern "C" fn mantelorris_resend(d: &mut Client, call: u32) -> SendReply
-    ensures { λ r. ⌜ (r ≡ sendReply (resendOf (now (d .entry)) call .answer)) × (now (d .exit) ≡ resendOf (now (d .entry)) call .client) ⌝ }
+    ensures { λ r. ⌜ (r ≡ sendReply (resendOf (now (d .entry)) call .answer))
+        × (now (d .exit) ≡ resendOf (now (d .entry)) call .client) ⌝ }
 {
     let i = client::place_of(call);
     resend_value(*d, d.calls[i], call)
@@ -365,10 +376,10 @@ pub extern "C" fn mantelorris_receive(d: &mut Client, packet: &[u8]) -> ReceiveR
         × (now (d .exit) ≡ receiveOf (now (d .entry)) (now (packet .entry)) .client) ⌝ }
 {
     let i = packet_place(packet);
-    let r = receive_value(*d, d.calls[i], packet);
-    d.lease = r.lease;
-    d.calls[i] = r.call;
-    r.reply
+    let change = receive_value(*d, d.calls[i], packet);
+    d.lease = change.lease;
+    d.calls[i] = change.call;
+    change.reply
 }
 
 // ---- for C: the lease manager. It is made once and lent; what changes is stored.
@@ -377,30 +388,30 @@ pub extern "C" fn mantelorris_receive(d: &mut Client, packet: &[u8]) -> ReceiveR
 pub extern "C" fn mantelorris_leases() -> LeaseManager
     ensures { λ r. ⌜ r ≡ newManager ⌝ }
 {
-    let l = Lease {
+    let lease = Lease {
         client: 0,
         lease: 0,
     };
     LeaseManager {
         time: 0,
         issued: 0,
-        leases: [l; constants::LEASE_COUNT],
+        leases: [lease; constants::LEASE_COUNT],
     }
 }
 
 // Stores what a call changes: all anew where leases have ended, else time, latest number and one place.
-fn store_change(m: &mut LeaseManager, c: Leasing)
-    requires { ⌜ c .place < leaseCount ⌝ }
-    ensures { λ r. ⌜ now (m .exit) ≡ changed (now (m .entry)) c ⌝ }
+fn store_change(m: &mut LeaseManager, change: Leasing)
+    requires { ⌜ change .place < leaseCount ⌝ }
+    ensures { λ r. ⌜ now (m .exit) ≡ changed (now (m .entry)) change ⌝ }
 {
-    if c.ended {
-        *m = stored_value(*m, c);
+    if change.ended {
+        *m = stored_value(*m, change);
         return;
     }
-    m.time = c.time;
-    m.issued = c.issued;
-    let i = c.place;
-    m.leases[i] = c.lease;
+    m.time = change.time;
+    m.issued = change.issued;
+    let i = change.place;
+    m.leases[i] = change.lease;
 }
 
 #[no_mangle]
@@ -408,9 +419,9 @@ pub extern "C" fn mantelorris_open(m: &mut LeaseManager, time: u32, span: u32) -
     ensures { λ r. ⌜ (r ≡ leaseReply (openOf (now (m .entry)) time span .answer))
         × (now (m .exit) ≡ openOf (now (m .entry)) time span .manager) ⌝ }
 {
-    let r = open_value(*m, time, span);
-    store_change(m, r);
-    r.reply
+    let change = open_value(*m, time, span);
+    store_change(m, change);
+    change.reply
 }
 
 #[no_mangle]
@@ -423,9 +434,9 @@ pub extern "C" fn mantelorris_renew(
     ensures { λ r. ⌜ (r ≡ leaseReply (renewOf (now (m .entry)) client time span .answer))
         × (now (m .exit) ≡ renewOf (now (m .entry)) client time span .manager) ⌝ }
 {
-    let r = renew_value(*m, client, time, span);
-    store_change(m, r);
-    r.reply
+    let change = renew_value(*m, client, time, span);
+    store_change(m, change);
+    change.reply
 }
 
 #[no_mangle]
@@ -433,7 +444,7 @@ pub extern "C" fn mantelorris_query(m: &mut LeaseManager, client: u32, time: u32
     ensures { λ r. ⌜ (r ≡ leaseReply (queryOf (now (m .entry)) client time .answer))
         × (now (m .exit) ≡ queryOf (now (m .entry)) client time .manager) ⌝ }
 {
-    let r = query_value(*m, client, time);
-    store_change(m, r);
-    r.reply
+    let change = query_value(*m, client, time);
+    store_change(m, change);
+    change.reply
 }

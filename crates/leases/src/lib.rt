@@ -1,5 +1,5 @@
-// The lease manager (paper: lease office): open, renew, query. Values in and values out; every value of the struct is taken. A call is what
-// it changes, so that a lent manager is read in place, and only what changes is stored.
+// The lease manager (paper: lease office): open, renew, query. Values in and values out; every value of the struct is
+// taken. A call is what it changes, so that a lent manager is read in place, and only what changes is stored.
 use model::constants;
 use model::constants::LEASE_COUNT;
 ghost use mathlib.Core.Path.{_≡_};
@@ -17,7 +17,8 @@ use model::LeaseManager;
 use model::Notice;
 use model::Told;
 
-// What a call changes: time, the latest client number, and what stands at one place. ended: the ended leases are cleared before.
+// What a call changes: time, the latest client number, and what stands at one place. ended: the ended leases are
+// cleared before.
 pub struct LeaseChange {
     pub ended: bool,
     pub time: u32,
@@ -27,7 +28,8 @@ pub struct LeaseChange {
     pub answer: Told,
 }
 
-// Who is to be granted a lease, and at which place: the end that it has there, and the latest number then. refusal: 0, or why not.
+// Who is to be granted a lease, and at which place: the end that it has there, and the latest number then. refusal: 0,
+// or why not.
 pub struct Holder {
     pub place: usize,
     pub refusal: u32,
@@ -45,29 +47,29 @@ pub struct Found {
 // ---- one lease
 
 // A lease with end ≤ time has ended; a free place has none.
-fn has_ended(now: u32, l: Lease) -> bool
-    ensures { λ r. ⌜ r ≡ (leb (l .lease) now || eqb (l .client) 0) ⌝ }
+fn has_ended(now: u32, lease: Lease) -> bool
+    ensures { λ r. ⌜ r ≡ (leb (lease .lease) now || eqb (lease .client) 0) ⌝ }
 {
-    (l.lease <= now) | (l.client == 0)
+    (lease.lease <= now) | (lease.client == 0)
 }
 
-fn ended_at(now: u32, l: Lease) -> Lease
-    ensures { λ r. ⌜ r ≡ endedAt now l ⌝ }
+fn ended_at(now: u32, lease: Lease) -> Lease
+    ensures { λ r. ⌜ r ≡ endedAt now lease ⌝ }
 {
-    if has_ended(now, l) {
+    if has_ended(now, lease) {
         return Lease {
             client: 0,
             lease: 0,
         };
     }
-    l
+    lease
 }
 
 // Whether a call at this time must clear the place: a lease that has ended, or what no lease is.
-fn must_clear(now: u32, l: Lease) -> bool
-    ensures { λ r. ⌜ (r ≡ false → endedAt now l ≡ l) ⌝ }
+fn must_clear(now: u32, lease: Lease) -> bool
+    ensures { λ r. ⌜ (r ≡ false → endedAt now lease ≡ lease) ⌝ }
 {
-    has_ended(now, l) & !((l.client == 0) & (l.lease == 0))
+    has_ended(now, lease) & !((lease.client == 0) & (lease.lease == 0))
 }
 
 // ---- the 32 places
@@ -78,9 +80,9 @@ fn running_at(now: u32, ls: [Lease; LEASE_COUNT]) -> [Lease; LEASE_COUNT]
     let mut out = ls;
     let mut i: usize = 0;
     while i < LEASE_COUNT {
-        let l = out[i];
-        let e = ended_at(now, l);
-        out[i] = e;
+        let lease = out[i];
+        let held = ended_at(now, lease);
+        out[i] = held;
         i += 1;
     }
     out
@@ -93,25 +95,26 @@ fn some_ended(now: u32, ls: [Lease; LEASE_COUNT]) -> bool
     let mut found = false;
     let mut i: usize = 0;
     while i < LEASE_COUNT {
-        let l = ls[i];
-        let e = must_clear(now, l);
-        found = found | e;
+        let lease = ls[i];
+        let ended = must_clear(now, lease);
+        found = found | ended;
         i += 1;
     }
     found
 }
 
-// The place of the client's lease and its end, past the last and 0 where it has none; of client 0, the first free place.
-fn lease_at(x: u32, ls: [Lease; LEASE_COUNT]) -> Found
-    ensures { λ r. ⌜ r ≡ leaseAt x ls ⌝ }
+// The place of the client's lease and its end, past the last and 0 where it has none; of client 0, the first free
+// place.
+fn lease_at(client: u32, ls: [Lease; LEASE_COUNT]) -> Found
+    ensures { λ r. ⌜ r ≡ leaseAt client ls ⌝ }
 {
     let mut i: usize = 0;
     while i < LEASE_COUNT {
-        let l = ls[i];
-        if l.client == x {
+        let lease = ls[i];
+        if lease.client == client {
             return Found {
                 place: i,
-                end: l.lease,
+                end: lease.lease,
             };
         }
         i += 1;
@@ -121,10 +124,10 @@ fn lease_at(x: u32, ls: [Lease; LEASE_COUNT]) -> Found
 
 // ---- what the operations are made of
 
-fn time_at(m: LeaseManager, t: u32) -> u32
-    ensures { λ r. ⌜ r ≡ timeAt m t ⌝ }
+fn time_at(m: LeaseManager, time: u32) -> u32
+    ensures { λ r. ⌜ r ≡ timeAt m time ⌝ }
 {
-    format_numbers::greater(m.time, t)
+    format_numbers::greater(m.time, time)
 }
 
 fn span_ok(span: u32) -> bool
@@ -172,18 +175,18 @@ pub fn stored(
 }
 
 // A refused call changes nothing.
-fn no_change(m: LeaseManager, n: u32) -> LeaseChange
-    ensures { λ r. ⌜ r ≡ noChange m n ⌝ }
+fn no_change(m: LeaseManager, number: u32) -> LeaseChange
+    ensures { λ r. ⌜ r ≡ noChange m number ⌝ }
 {
     let held = m.leases;
-    let l = held[0];
+    let lease = held[0];
     LeaseChange {
         ended: false,
         time: m.time,
         issued: m.issued,
         place: 0,
-        lease: l,
-        answer: Told::NotTold(n),
+        lease,
+        answer: Told::NotTold(number),
     }
 }
 
@@ -210,93 +213,88 @@ fn no_lease(end: u32) -> u32
 fn new_holder(m: LeaseManager, ls: [Lease; LEASE_COUNT]) -> Holder
     ensures { λ r. ⌜ r ≡ newHolder m ls ⌝ }
 {
-    let f = lease_at(0, ls);
-    let x = m.issued as u64 + 1;
+    let found = lease_at(0, ls);
+    let next = m.issued as u64 + 1;
     Holder {
-        place: f.place,
-        refusal: no_place(f.place),
-        issued: x,
-        client: x,
+        place: found.place,
+        refusal: no_place(found.place),
+        issued: next,
+        client: next,
         end: 0,
     }
 }
 
-fn holder_of(m: LeaseManager, x: u32, ls: [Lease; LEASE_COUNT]) -> Holder
-    ensures { λ r. ⌜ r ≡ holderOf m x ls ⌝ }
+fn holder_of(m: LeaseManager, client: u32, ls: [Lease; LEASE_COUNT]) -> Holder
+    ensures { λ r. ⌜ r ≡ holderOf m client ls ⌝ }
 {
-    let f = lease_at(x, ls);
+    let found = lease_at(client, ls);
     Holder {
-        place: f.place,
-        refusal: no_lease(f.end),
+        place: found.place,
+        refusal: no_lease(found.end),
         issued: m.issued as u64,
-        client: x as u64,
-        end: f.end,
+        client: client as u64,
+        end: found.end,
     }
 }
 
-// Open and renew: 1 a span outside 1 to 86,400; the holder's refusal; 16 a number or an end past 32 bits. The later end holds.
-fn grant_to(m: LeaseManager, h: Holder, ended: bool, time: u32, span: u32) -> LeaseChange
-    ensures { λ r. ⌜ r ≡ grantTo m h ended time span ⌝ }
+// Open and renew: 1 a span outside 1 to 86,400; the holder's refusal; 16 a number or an end past 32 bits. The later end
+// holds.
+fn grant_to(m: LeaseManager, holder: Holder, ended: bool, time: u32, span: u32) -> LeaseChange
+    ensures { λ r. ⌜ r ≡ grantTo m holder ended time span ⌝ }
 {
     if !span_ok(span) {
         return no_change(m, constants::MALFORMED);
     }
-    if !(h.refusal == 0) {
-        return no_change(m, h.refusal);
+    if !(holder.refusal == 0) {
+        return no_change(m, holder.refusal);
     }
     let now = time_at(m, time);
     let end = now as u64 + span as u64;
-    if (constants::LAST_32_U64 < h.issued)
-        | ((constants::LAST_32_U64 < h.client) | (constants::LAST_32_U64 < end))
+    if (constants::LAST_32_U64 < holder.issued)
+        | ((constants::LAST_32_U64 < holder.client) | (constants::LAST_32_U64 < end))
     {
         return no_change(m, constants::NUMBERS_OUT);
     }
-    let client = h.client as u32;
-    let lease = format_numbers::greater(h.end, end as u32);
+    let client = holder.client as u32;
+    let lease = format_numbers::greater(holder.end, end as u32);
     LeaseChange {
         ended,
         time: now,
-        issued: h.issued as u32,
-        place: h.place,
+        issued: holder.issued as u32,
+        place: holder.place,
         lease: Lease { client, lease },
         answer: Told::ByGrant(Grant { client, lease }),
     }
 }
 
 // A grant, or a notice where no lease runs.
-fn told_end(x: u32, now: u32, end: u32) -> Told
-    ensures { λ r. ⌜ r ≡ toldEnd x now end ⌝ }
+fn told_end(client: u32, now: u32, end: u32) -> Told
+    ensures { λ r. ⌜ r ≡ toldEnd client now end ⌝ }
 {
     if end == 0 {
-        return Told::ByNotice(Notice {
-            client: x,
-            time: now,
-        });
+        return Told::ByNotice(Notice { client, time: now });
     }
-    Told::ByGrant(Grant {
-        client: x,
-        lease: end,
-    })
+    Told::ByGrant(Grant { client, lease: end })
 }
 
 fn query_among(
     m: LeaseManager,
     ls: [Lease; LEASE_COUNT],
     ended: bool,
-    x: u32,
+    client: u32,
     now: u32,
 ) -> LeaseChange
-    ensures { λ r. ⌜ r ≡ queryAmong m ls ended x now ⌝ }
+    ensures { λ r. ⌜ r ≡ queryAmong m ls ended client now ⌝ }
 {
-    let f = lease_at(x, ls);
-    let l = ls[0];
-    let told = told_end(x, now, f.end);
+    let found = lease_at(client, ls);
+    let lease = ls[0];
+    let told = told_end(client, now, found.end);
     LeaseChange {
         ended,
         time: now,
         issued: m.issued,
         place: 0,
-        lease: l,
+        lease,
         answer: told,
     }
 }
@@ -317,67 +315,74 @@ pub fn open_change(m: LeaseManager, time: u32, span: u32) -> LeaseChange
 }
 
 // Renew (client, time, span): 1; 17 no running lease; 16.
-pub fn renew_change(m: LeaseManager, x: u32, time: u32, span: u32) -> LeaseChange
-    ensures { λ r. ⌜ Changes m r (renewOf m x time span) ⌝ }
+pub fn renew_change(m: LeaseManager, client: u32, time: u32, span: u32) -> LeaseChange
+    ensures { λ r. ⌜ Changes m r (renewOf m client time span) ⌝ }
 {
     let now = time_at(m, time);
     let held = m.leases;
     if some_ended(now, held) {
         let ls = running_at(now, held);
-        return grant_to(m, holder_of(m, x, ls), true, time, span);
+        return grant_to(m, holder_of(m, client, ls), true, time, span);
     }
-    grant_to(m, holder_of(m, x, held), false, time, span)
+    grant_to(m, holder_of(m, client, held), false, time, span)
 }
 
 // Query: 17 a number that was never given out; else a grant or, where no lease runs, a notice with the manager's time.
-pub fn query_change(m: LeaseManager, x: u32, time: u32) -> LeaseChange
-    ensures { λ r. ⌜ Changes m r (queryOf m x time) ⌝ }
+pub fn query_change(m: LeaseManager, client: u32, time: u32) -> LeaseChange
+    ensures { λ r. ⌜ Changes m r (queryOf m client time) ⌝ }
 {
-    if (x == 0) | (m.issued < x) {
+    if (client == 0) | (m.issued < client) {
         return no_change(m, constants::UNKNOWN); // never issued
     }
     let now = time_at(m, time);
     let held = m.leases;
     if some_ended(now, held) {
         let ls = running_at(now, held);
-        return query_among(m, ls, true, x, now);
+        return query_among(m, ls, true, client, now);
     }
-    query_among(m, held, false, x, now)
+    query_among(m, held, false, client, now)
 }
 
 // ---- the operations, by value
 
 // The answer that a change makes.
-fn answered(m: LeaseManager, c: LeaseChange) -> LeaseAnswer
-    requires { ⌜ c .place < leaseCount ⌝ }
-    ensures { λ r. ⌜ r ≡ answered m c ⌝ }
+fn answered(m: LeaseManager, change: LeaseChange) -> LeaseAnswer
+    requires { ⌜ change .place < leaseCount ⌝ }
+    ensures { λ r. ⌜ r ≡ answered m change ⌝ }
 {
-    let l = c.lease;
-    let a = c.answer;
-    let next = stored(m, c.ended, c.time, c.issued, c.place, l);
+    let lease = change.lease;
+    let answer = change.answer;
+    let next = stored(
+        m,
+        change.ended,
+        change.time,
+        change.issued,
+        change.place,
+        lease,
+    );
     LeaseAnswer {
         manager: next,
-        answer: a,
+        answer,
     }
 }
 
 pub fn open_lease(m: LeaseManager, time: u32, span: u32) -> LeaseAnswer
     ensures { λ r. ⌜ r ≡ openOf m time span ⌝ }
 {
-    let c = open_change(m, time, span);
-    answered(m, c)
+    let change = open_change(m, time, span);
+    answered(m, change)
 }
 
-pub fn renew(m: LeaseManager, x: u32, time: u32, span: u32) -> LeaseAnswer
-    ensures { λ r. ⌜ r ≡ renewOf m x time span ⌝ }
+pub fn renew(m: LeaseManager, client: u32, time: u32, span: u32) -> LeaseAnswer
+    ensures { λ r. ⌜ r ≡ renewOf m client time span ⌝ }
 {
-    let c = renew_change(m, x, time, span);
-    answered(m, c)
+    let change = renew_change(m, client, time, span);
+    answered(m, change)
 }
 
-pub fn query(m: LeaseManager, x: u32, time: u32) -> LeaseAnswer
-    ensures { λ r. ⌜ r ≡ queryOf m x time ⌝ }
+pub fn query(m: LeaseManager, client: u32, time: u32) -> LeaseAnswer
+    ensures { λ r. ⌜ r ≡ queryOf m client time ⌝ }
 {
-    let c = query_change(m, x, time);
-    answered(m, c)
+    let change = query_change(m, client, time);
+    answered(m, change)
 }

@@ -33,21 +33,21 @@ fn issue_by(d: Client, op: u32, point: u32, argument: u32) -> SendAnswer
     client::issue(d, op as u8, point as u8, argument)
 }
 
-fn send_line(store: &mut [u8], count: u32, a: SendAnswer) -> ClientMade
-    requires { ⌜ Room (now store) count × Sendable (a .answer) ⌝ }
-    ensures { λ r. ⌜ Attends (sentBy (packetsIn (now (store .entry)) count) a) count r (now (store .exit)) ⌝ }
+fn send_line(store: &mut [u8], count: u32, send: SendAnswer) -> ClientMade
+    requires { ⌜ Room (now store) count × Sendable (send .answer) ⌝ }
+    ensures { λ r. ⌜ Attends (sentBy (packetsIn (now (store .entry)) count) send) count r (now (store .exit)) ⌝ }
 {
-    let d = a.client;
-    let s = a.answer;
-    let m = outcome::sent(store, count, s);
-    ClientMade { client: d, made: m }
+    let d = send.client;
+    let answer = send.answer;
+    let made = outcome::sent(store, count, answer);
+    ClientMade { client: d, made }
 }
 
 fn no_packet(d: Client, count: u32) -> ClientMade
     ensures { λ r. ⌜ (r .client ≡ d) × (r .made .count ≡ count) × (replyIs (r .made .reply) ≡ plain unknown) ⌝ }
 {
-    let m = outcome::told(count, constants::UNKNOWN);
-    ClientMade { client: d, made: m }
+    let made = outcome::told(count, constants::UNKNOWN);
+    ClientMade { client: d, made }
 }
 
 fn receive_row(store: &[u8], d: Client, count: u32, row: u32) -> ClientMade
@@ -56,42 +56,45 @@ fn receive_row(store: &[u8], d: Client, count: u32, row: u32) -> ClientMade
         (receiving d (packetsIn (now (store .entry)) count) (some (packetIn (now (store .entry)) row)))
         count r (now (store .entry)) ⌝ }
 {
-    let b = packets::packet_at(store, row);
-    let a = client::receive(d, b);
-    let c = a.client;
-    let s = a.answer;
-    let reply = outcome::received_reply(s);
-    let m = Made { count, reply };
-    ClientMade { client: c, made: m }
+    let packet = packets::packet_at(store, row);
+    let received = client::receive(d, packet);
+    let after = received.client;
+    let answer = received.answer;
+    let reply = outcome::received_reply(answer);
+    let made = Made { count, reply };
+    ClientMade {
+        client: after,
+        made,
+    }
 }
 
 // 17 no such packet; else the client receives it.
-fn receive_line(store: &[u8], d: Client, count: u32, k: u32) -> ClientMade
+fn receive_line(store: &[u8], d: Client, count: u32, number: u32) -> ClientMade
     requires { ⌜ Room (now store) count ⌝ }
     ensures { λ r. ⌜ Receives
-        (receiving d (packetsIn (now (store .entry)) count) (numbered (packetsIn (now (store .entry)) count) k))
+        (receiving d (packetsIn (now (store .entry)) count) (numbered (packetsIn (now (store .entry)) count) number))
         count r (now (store .entry)) ⌝ }
 {
-    let p = packets::place_of(count, k);
-    let Place::Row(row) = p else {
+    let place = packets::place_of(count, number);
+    let Place::Row(row) = place else {
         return no_packet(d, count);
     };
     receive_row(store, d, count, row)
 }
 
-pub fn client_step(store: &mut [u8], d: Client, count: u32, l: ClientLine) -> ClientMade
+pub fn client_step(store: &mut [u8], d: Client, count: u32, line: ClientLine) -> ClientMade
     requires { ⌜ Room (now store) count ⌝ }
-    ensures { λ r. ⌜ Attends (clientRan d (packetsIn (now (store .entry)) count) l) count r (now (store .exit)) ⌝ }
+    ensures { λ r. ⌜ Attends (clientRan d (packetsIn (now (store .entry)) count) line) count r (now (store .exit)) ⌝ }
 {
-    match l {
-        ClientLine::Issue(op, p, a) => {
-            let r = issue_by(d, op, p, a);
-            send_line(store, count, r)
+    match line {
+        ClientLine::Issue(op, point, argument) => {
+            let sent = issue_by(d, op, point, argument);
+            send_line(store, count, sent)
         }
         ClientLine::Resend(c) => {
-            let r = client::resend(d, c);
-            send_line(store, count, r)
+            let sent = client::resend(d, c);
+            send_line(store, count, sent)
         }
-        ClientLine::Receive(k) => receive_line(store, d, count, k),
+        ClientLine::Receive(number) => receive_line(store, d, count, number),
     }
 }

@@ -28,8 +28,8 @@ fn sync_line(s: &mut [u8], log: &[u8], store: &mut [u8], count: u32) -> Made
         count r (now (s .exit)) (now (log .entry)) (now (store .exit)) ⌝ }
 {
     let size = state::size_of(s);
-    let a = server_fetch::sync(s, log, size);
-    outcome::called(store, count, a, &log[0..0])
+    let answer = server_fetch::sync(s, log, size);
+    outcome::called(store, count, answer, &log[0..0])
 }
 
 fn give_line(
@@ -46,8 +46,8 @@ fn give_line(
         (giveOf (now (s .entry)) (now (log .entry)) point destination))
         count r (now (s .exit)) (now (log .exit)) (now (store .exit)) ⌝ }
 {
-    let a = server_moves::give(s, log, point, destination);
-    outcome::called(store, count, a, &log[0..0])
+    let answer = server_moves::give(s, log, point, destination);
+    outcome::called(store, count, answer, &log[0..0])
 }
 
 // An output for the longest image.
@@ -64,8 +64,8 @@ fn image_to(s: &[u8], log: &[u8], store: &mut [u8], count: u32, point: u32, out:
         (imageOf (now (s .entry)) (now (log .entry)) point (now (out .entry))))
         count r (now (s .entry)) (now (log .entry)) (now (store .exit)) ⌝ }
 {
-    let a = server_moves::image(s, log, point, out);
-    outcome::called(store, count, a, out)
+    let answer = server_moves::image(s, log, point, out);
+    outcome::called(store, count, answer, out)
 }
 
 fn image_line(s: &[u8], log: &[u8], store: &mut [u8], count: u32, point: u32) -> Made
@@ -87,8 +87,8 @@ fn receipt_line(s: &[u8], log: &[u8], store: &mut [u8], count: u32, point: u32) 
         count r (now (s .entry)) (now (log .entry)) (now (store .exit)) ⌝ }
 {
     let mut out = [0u8; constants::RECEIPT_SIZE];
-    let a = server_moves::receipt(s, log, point, &mut out);
-    outcome::called(store, count, a, &out)
+    let answer = server_moves::receipt(s, log, point, &mut out);
+    outcome::called(store, count, answer, &out)
 }
 
 // ---- power cuts
@@ -98,9 +98,9 @@ fn recover_from(s: &mut [u8], log: &[u8]) -> u32
     ensures { λ r. ⌜ (r ≡ recoverOf (now (s .entry)) (now (log .entry)) simulatorPlan .answer .refusal)
         × (now (s .exit) ≡ recoverOf (now (s .entry)) (now (log .entry)) simulatorPlan .state) ⌝ }
 {
-    let p = crate::start::plan();
-    let a = server_recover::recover(s, log, &p);
-    a.refusal
+    let table = crate::start::plan();
+    let answer = server_recover::recover(s, log, &table);
+    answer.refusal
 }
 
 // 10 outside mark to length; else the log is cut, and the server recovers.
@@ -126,18 +126,18 @@ pub fn server_step(
     log: &mut [u8],
     store: &mut [u8],
     count: u32,
-    l: ServerLine,
+    line: ServerLine,
 ) -> Made
     requires { ⌜ Room (now store) count × (stateEnd ≤ length (now s)) ⌝ }
-    ensures { λ r. ⌜ Leaves (serverRan (now (s .entry)) (now (log .entry)) (packetsIn (now (store .entry)) count) l)
+    ensures { λ r. ⌜ Leaves (serverRan (now (s .entry)) (now (log .entry)) (packetsIn (now (store .entry)) count) line)
         count r (now (s .exit)) (now (log .exit)) (now (store .exit)) ⌝ }
 {
-    match l {
-        ServerLine::Deliver(k) => crate::delivery::deliver_line(s, log, store, count, k),
+    match line {
+        ServerLine::Deliver(number) => crate::delivery::deliver_line(s, log, store, count, number),
         ServerLine::Sync => sync_line(s, log, store, count),
-        ServerLine::Cut(k) => cut_line(s, log, count, k),
-        ServerLine::Give(p, d) => give_line(s, log, store, count, p, d),
-        ServerLine::Image(p) => image_line(s, log, store, count, p),
-        ServerLine::Receipt(p) => receipt_line(s, log, store, count, p),
+        ServerLine::Cut(number) => cut_line(s, log, count, number),
+        ServerLine::Give(point, destination) => give_line(s, log, store, count, point, destination),
+        ServerLine::Image(point) => image_line(s, log, store, count, point),
+        ServerLine::Receipt(point) => receipt_line(s, log, store, count, point),
     }
 }

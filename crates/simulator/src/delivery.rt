@@ -27,8 +27,8 @@ fn by_request(s: &mut [u8], log: &mut [u8], store: &[u8], row: u32, out: &mut [u
     ensures { λ r. ⌜ after r (now (s .exit)) (now (log .exit)) (now (out .exit))
         ≡ requestOf today (now (s .entry)) (now (log .entry)) (packetIn (now (store .entry)) row) (now (out .entry)) ⌝ }
 {
-    let b = packets::packet_at(store, row);
-    server_request::request(s, log, b, out)
+    let packet = packets::packet_at(store, row);
+    server_request::request(s, log, packet, out)
 }
 
 fn by_release(s: &mut [u8], log: &mut [u8], store: &[u8], row: u32) -> Answer
@@ -36,8 +36,8 @@ fn by_release(s: &mut [u8], log: &mut [u8], store: &[u8], row: u32) -> Answer
     ensures { λ r. ⌜ after r (now (s .exit)) (now (log .exit)) []
         ≡ releaseOf (now (s .entry)) (now (log .entry)) (packetIn (now (store .entry)) row) ⌝ }
 {
-    let b = packets::packet_at(store, row);
-    server_moves::release(s, log, b)
+    let packet = packets::packet_at(store, row);
+    server_moves::release(s, log, packet)
 }
 
 fn by_take(s: &mut [u8], log: &mut [u8], store: &[u8], row: u32) -> Answer
@@ -45,8 +45,8 @@ fn by_take(s: &mut [u8], log: &mut [u8], store: &[u8], row: u32) -> Answer
     ensures { λ r. ⌜ after r (now (s .exit)) (now (log .exit)) []
         ≡ takeOf (now (s .entry)) (now (log .entry)) (packetIn (now (store .entry)) row) ⌝ }
 {
-    let b = packets::packet_at(store, row);
-    server_moves::take::take(s, log, b)
+    let packet = packets::packet_at(store, row);
+    server_moves::take::take(s, log, packet)
 }
 
 fn request_line(s: &mut [u8], log: &mut [u8], store: &mut [u8], count: u32, row: u32) -> Made
@@ -57,8 +57,8 @@ fn request_line(s: &mut [u8], log: &mut [u8], store: &mut [u8], count: u32, row:
         count r (now (s .exit)) (now (log .exit)) (now (store .exit)) ⌝ }
 {
     let mut out = [0u8; constants::RESULT_SIZE];
-    let a = by_request(s, log, store, row, &mut out);
-    outcome::called(store, count, a, &out)
+    let answer = by_request(s, log, store, row, &mut out);
+    outcome::called(store, count, answer, &out)
 }
 
 fn release_line(s: &mut [u8], log: &mut [u8], store: &mut [u8], count: u32, row: u32) -> Made
@@ -68,8 +68,8 @@ fn release_line(s: &mut [u8], log: &mut [u8], store: &mut [u8], count: u32, row:
         (releaseOf (now (s .entry)) (now (log .entry)) (packetIn (now (store .entry)) row)))
         count r (now (s .exit)) (now (log .exit)) (now (store .exit)) ⌝ }
 {
-    let a = by_release(s, log, store, row);
-    outcome::called(store, count, a, &log[0..0])
+    let answer = by_release(s, log, store, row);
+    outcome::called(store, count, answer, &log[0..0])
 }
 
 fn take_line(s: &mut [u8], log: &mut [u8], store: &mut [u8], count: u32, row: u32) -> Made
@@ -79,16 +79,16 @@ fn take_line(s: &mut [u8], log: &mut [u8], store: &mut [u8], count: u32, row: u3
         (takeOf (now (s .entry)) (now (log .entry)) (packetIn (now (store .entry)) row)))
         count r (now (s .exit)) (now (log .exit)) (now (store .exit)) ⌝ }
 {
-    let a = by_take(s, log, store, row);
-    outcome::called(store, count, a, &log[0..0])
+    let answer = by_take(s, log, store, row);
+    outcome::called(store, count, answer, &log[0..0])
 }
 
 // The first byte of a packet, 0 of an empty one.
-fn first_byte(b: &[u8]) -> u8
-    ensures { λ r. ⌜ r ≡ byteAt (now (b .entry)) 0 ⌝ }
+fn first_byte(packet: &[u8]) -> u8
+    ensures { λ r. ⌜ r ≡ byteAt (now (packet .entry)) 0 ⌝ }
 {
-    if 0 < b.len() {
-        return b[0];
+    if 0 < packet.len() {
+        return packet[0];
     }
     0
 }
@@ -97,8 +97,8 @@ fn kind_at(store: &[u8], row: u32) -> u8
     requires { ⌜ rowSize * (row + 1) ≤ length (now store) ⌝ }
     ensures { λ r. ⌜ r ≡ byteAt (packetIn (now (store .entry)) row) 0 ⌝ }
 {
-    let b = packets::packet_at(store, row);
-    first_byte(b)
+    let packet = packets::packet_at(store, row);
+    first_byte(packet)
 }
 
 // Delivery of a packet that was made: request, release or take by kind.
@@ -119,15 +119,15 @@ fn deliver_row(s: &mut [u8], log: &mut [u8], store: &mut [u8], count: u32, row: 
 }
 
 // 17 no such packet; else it is delivered.
-pub fn deliver_line(s: &mut [u8], log: &mut [u8], store: &mut [u8], count: u32, k: u32) -> Made
+pub fn deliver_line(s: &mut [u8], log: &mut [u8], store: &mut [u8], count: u32, number: u32) -> Made
     requires { ⌜ Room (now store) count ⌝ }
     ensures { λ r. ⌜ Leaves
         (delivering (now (s .entry)) (now (log .entry)) (packetsIn (now (store .entry)) count)
-        (numbered (packetsIn (now (store .entry)) count) k))
+        (numbered (packetsIn (now (store .entry)) count) number))
         count r (now (s .exit)) (now (log .exit)) (now (store .exit)) ⌝ }
 {
-    let p = packets::place_of(count, k);
-    let Place::Row(row) = p else {
+    let place = packets::place_of(count, number);
+    let Place::Row(row) = place else {
         return outcome::told(count, constants::UNKNOWN);
     };
     deliver_row(s, log, store, count, row)

@@ -13,11 +13,11 @@ ghost use Rattle.model.specs.Letters.{replyRoom};
 ghost use Rattle.simulator.specs.Whole.{simulatorIn, Ready};
 ghost use Rattle.simulator.specs.Run.{Turned, Space, Fresh, Printed, nextPlace};
 
-// The place behind a line that ends at e, in a text of n bytes.
-fn next_place(e: usize, n: usize) -> usize
-    ensures { λ r. ⌜ r ≡ nextPlace e n ⌝ }
+// The place behind a line's end, in a text of n bytes.
+fn next_place(end: usize, n: usize) -> usize
+    ensures { λ r. ⌜ r ≡ nextPlace end n ⌝ }
 {
-    if e < n { e + 1 } else { n }
+    if end < n { end + 1 } else { n }
 }
 
 // The line at a place of the text is run, and its answer put behind the n bytes of the page.
@@ -29,31 +29,31 @@ fn run_line(
     s1: &mut [u8],
     log1: &mut [u8],
     store: &mut [u8],
-    m: Memory,
+    memory: Memory,
     at: usize,
     n: usize,
-    k: u32,
+    number: u32,
 ) -> Turn
-    requires { ⌜ Ready (now s0) (now s1) (now store) (m .count) × (at < length (now text))
+    requires { ⌜ Ready (now s0) (now s1) (now store) (memory .count) × (at < length (now text))
         × (n + replyRoom ≤ length (now page)) ⌝ }
-    ensures { λ r. ⌜ Turned (now (text .entry)) at k n
-        (simulatorIn (now (s0 .entry)) (now (log0 .entry)) (now (s1 .entry)) (now (log1 .entry)) (now (store .entry)) m)
-        (now (page .entry)) (m .count) r
+    ensures { λ r. ⌜ Turned (now (text .entry)) at number n
+        (simulatorIn (now (s0 .entry)) (now (log0 .entry)) (now (s1 .entry)) (now (log1 .entry))
+        (now (store .entry)) memory) (now (page .entry)) (memory .count) r
         (simulatorIn (now (s0 .exit)) (now (log0 .exit)) (now (s1 .exit)) (now (log1 .exit)) (now (store .exit))
         (r .memory)) (now (page .exit)) ⌝ }
 {
-    let f = simulator_text::find(&text[at..], b'\n');
-    let e = at + f;
-    let line = read_line::line_of(&text[at..e]);
-    let a = crate::step::step(s0, log0, s1, log1, store, m, line);
-    let w = a.memory;
-    let reply = a.reply;
-    let p = write_reply::put_reply(page, n, k, reply);
+    let width = simulator_text::find(&text[at..], b'\n');
+    let end = at + width;
+    let line = read_line::line_of(&text[at..end]);
+    let stepped = crate::step::step(s0, log0, s1, log1, store, memory, line);
+    let after = stepped.memory;
+    let reply = stepped.reply;
+    let i = write_reply::put_reply(page, n, number, reply);
     Turn {
-        memory: w,
+        memory: after,
         reply,
-        at: next_place(e, text.len()),
-        n: p,
+        at: next_place(end, text.len()),
+        n: i,
     }
 }
 
@@ -66,23 +66,22 @@ fn run(
     s1: &mut [u8],
     log1: &mut [u8],
     store: &mut [u8],
-    m: Memory,
+    memory: Memory,
 ) -> usize
-    requires { ⌜ Space (now page) (now s0) (now s1) (now store) (m .count) ⌝ }
-    ensures { λ r. ⌜ Printed (now (text .entry))
-        (simulatorIn (now (s0 .entry)) (now (log0 .entry)) (now (s1 .entry)) (now (log1 .entry)) (now (store .entry)) m)
-        (now (page .exit)) r ⌝ }
+    requires { ⌜ Space (now page) (now s0) (now s1) (now store) (memory .count) ⌝ }
+    ensures { λ r. ⌜ Printed (now (text .entry)) (simulatorIn (now (s0 .entry)) (now (log0 .entry)) (now (s1 .entry))
+        (now (log1 .entry)) (now (store .entry)) memory) (now (page .exit)) r ⌝ }
 {
-    let mut w = m;
+    let mut after = memory;
     let mut at = 0;
     let mut n = 0;
-    let mut k: u32 = 1;
-    while (k <= MOST_LINES) & (at < text.len()) {
-        let t = run_line(text, page, s0, log0, s1, log1, store, w, at, n, k);
-        w = t.memory;
-        at = t.at;
-        n = t.n;
-        k += 1;
+    let mut number: u32 = 1;
+    while (number <= MOST_LINES) & (at < text.len()) {
+        let turn = run_line(text, page, s0, log0, s1, log1, store, after, at, n, number);
+        after = turn.memory;
+        at = turn.at;
+        n = turn.n;
+        number += 1;
     }
     n
 }
@@ -100,6 +99,6 @@ pub fn run_new(
     requires { ⌜ Fresh (now page) (now s0) (now log0) (now s1) (now log1) (now store) ⌝ }
     ensures { λ r. ⌜ Printed (now (text .entry)) newSimulator (now (page .exit)) r ⌝ }
 {
-    let m = crate::start::new_simulator(s0, log0, s1, log1);
-    run(text, page, s0, log0, s1, log1, store, m)
+    let memory = crate::start::new_simulator(s0, log0, s1, log1);
+    run(text, page, s0, log0, s1, log1, store, memory)
 }

@@ -25,41 +25,42 @@ const PLAN: [u8; constants::PLAN_ROW] = [156, 255, 255, 255, 232, 3, 0, 0, 0, 0,
 pub fn plan() -> [u8; constants::PLAN_SIZE]
     ensures { λ r. ⌜ r ≡ simulatorPlan ⌝ }
 {
-    let mut p = [0u8; constants::PLAN_SIZE];
+    let mut table = [0u8; constants::PLAN_SIZE];
     let mut i = 0;
     while i < constants::PLAN_SIZE {
-        p[i] = PLAN[i % constants::PLAN_ROW];
+        table[i] = PLAN[i % constants::PLAN_ROW];
         i += 1;
     }
-    p
+    table
 }
 
-fn new_server(s: &mut [u8], log: &mut [u8], n: u32)
+fn new_server(s: &mut [u8], log: &mut [u8], number: u32)
     requires { ⌜ (length (now s) ≡ stateSize) × (length (now log) ≡ simulatorLog) ⌝ }
-    ensures { λ r. ⌜ (now (s .exit) ≡ simulatorServer n .state) × (now (log .exit) ≡ simulatorServer n .log) ⌝ }
+    ensures { λ r. ⌜ (now (s .exit) ≡ simulatorServer number .state)
+        × (now (log .exit) ≡ simulatorServer number .log) ⌝ }
 {
     let states = s.len();
     let logs = log.len();
     state_rows::clear(s, 0, states);
     state_rows::clear(log, 0, logs);
-    let p = plan();
-    server_found::found(s, log, &p, n);
+    let table = plan();
+    server_found::found(s, log, &table, number);
 }
 
-fn new_client(n: u32) -> Client
-    ensures { λ r. ⌜ r ≡ simulatorClient n ⌝ }
+fn new_client(number: u32) -> Client
+    ensures { λ r. ⌜ r ≡ simulatorClient number ⌝ }
 {
-    let k = OpenCall {
+    let opened = OpenCall {
         call: 0,
         op: 0,
         point: 0,
         argument: 0,
     };
     Client {
-        client: n,
+        client: number,
         lease: LEASE_END,
         next: FIRST_CALL,
-        calls: [k; constants::CALL_WINDOW],
+        calls: [opened; constants::CALL_WINDOW],
     }
 }
 

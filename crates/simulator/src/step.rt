@@ -16,24 +16,24 @@ ghost use Rattle.simulator_memory.specs.Store.{Room, Next};
 ghost use Rattle.simulator.specs.Whole.{simulatorIn, stepIs, Ready, RanTo};
 
 // At client 0 or 1; 1 no such client.
-fn client_line(store: &mut [u8], m: Memory, n: u32, l: ClientLine) -> Stepped
-    requires { ⌜ Room (now store) (m .count) ⌝ }
+fn client_line(store: &mut [u8], memory: Memory, number: u32, line: ClientLine) -> Stepped
+    requires { ⌜ Room (now store) (memory .count) ⌝ }
     ensures { λ r. ⌜ ((s0 l0 s1 l1 : List ℕ) → stepIs r s0 l0 s1 l1 (now (store .exit))
-        ≡ ran (simulatorIn s0 l0 s1 l1 (now (store .entry)) m) (clientLine n l))
-        × Next (m .count) (r .memory .count) ⌝ }
+        ≡ ran (simulatorIn s0 l0 s1 l1 (now (store .entry)) memory) (clientLine number line))
+        × Next (memory .count) (r .memory .count) ⌝ }
 {
-    if n == 0 {
-        let d = m.client0;
-        let a = crate::at_client::client_step(store, d, m.count, l);
-        return simulator_memory::after_first(m, a);
+    if number == 0 {
+        let d = memory.client0;
+        let made = crate::at_client::client_step(store, d, memory.count, line);
+        return simulator_memory::after_first(memory, made);
     }
-    if n == 1 {
-        let d = m.client1;
-        let a = crate::at_client::client_step(store, d, m.count, l);
-        return simulator_memory::after_second(m, a);
+    if number == 1 {
+        let d = memory.client1;
+        let made = crate::at_client::client_step(store, d, memory.count, line);
+        return simulator_memory::after_second(memory, made);
     }
-    let a = outcome::told(m.count, constants::MALFORMED);
-    simulator_memory::after_server(m, a)
+    let made = outcome::told(memory.count, constants::MALFORMED);
+    simulator_memory::after_server(memory, made)
 }
 
 // At server 0 or 1; 1 no such server.
@@ -43,26 +43,26 @@ fn server_line(
     s1: &mut [u8],
     log1: &mut [u8],
     store: &mut [u8],
-    m: Memory,
-    n: u32,
-    l: ServerLine,
+    memory: Memory,
+    number: u32,
+    line: ServerLine,
 ) -> Stepped
-    requires { ⌜ Ready (now s0) (now s1) (now store) (m .count) ⌝ }
+    requires { ⌜ Ready (now s0) (now s1) (now store) (memory .count) ⌝ }
     ensures { λ r. ⌜ RanTo
-        (now (s0 .entry)) (now (log0 .entry)) (now (s1 .entry)) (now (log1 .entry)) (now (store .entry)) m
-        (serverLine n l) r
+        (now (s0 .entry)) (now (log0 .entry)) (now (s1 .entry)) (now (log1 .entry)) (now (store .entry)) memory
+        (serverLine number line) r
         (now (s0 .exit)) (now (log0 .exit)) (now (s1 .exit)) (now (log1 .exit)) (now (store .exit)) ⌝ }
 {
-    if n == 0 {
-        let a = crate::at_server::server_step(s0, log0, store, m.count, l);
-        return simulator_memory::after_server(m, a);
+    if number == 0 {
+        let made = crate::at_server::server_step(s0, log0, store, memory.count, line);
+        return simulator_memory::after_server(memory, made);
     }
-    if n == 1 {
-        let a = crate::at_server::server_step(s1, log1, store, m.count, l);
-        return simulator_memory::after_server(m, a);
+    if number == 1 {
+        let made = crate::at_server::server_step(s1, log1, store, memory.count, line);
+        return simulator_memory::after_server(memory, made);
     }
-    let a = outcome::told(m.count, constants::MALFORMED);
-    simulator_memory::after_server(m, a)
+    let made = outcome::told(memory.count, constants::MALFORMED);
+    simulator_memory::after_server(memory, made)
 }
 
 // One line: its answer, and the memory after it.
@@ -72,20 +72,29 @@ pub fn step(
     s1: &mut [u8],
     log1: &mut [u8],
     store: &mut [u8],
-    m: Memory,
+    memory: Memory,
     line: Line,
 ) -> Stepped
-    requires { ⌜ Ready (now s0) (now s1) (now store) (m .count) ⌝ }
-    ensures { λ r. ⌜ RanTo
-        (now (s0 .entry)) (now (log0 .entry)) (now (s1 .entry)) (now (log1 .entry)) (now (store .entry)) m (lineIs line)
-        r (now (s0 .exit)) (now (log0 .exit)) (now (s1 .exit)) (now (log1 .exit)) (now (store .exit)) ⌝ }
+    requires { ⌜ Ready (now s0) (now s1) (now store) (memory .count) ⌝ }
+    ensures { λ r. ⌜ RanTo (now (s0 .entry)) (now (log0 .entry)) (now (s1 .entry)) (now (log1 .entry))
+        (now (store .entry)) memory (lineIs line) r (now (s0 .exit)) (now (log0 .exit)) (now (s1 .exit))
+        (now (log1 .exit)) (now (store .exit)) ⌝ }
 {
     match line {
         Line::Unreadable => simulator_memory::after_server(
-            m,
-            outcome::told(m.count, constants::MALFORMED),
+            memory,
+            outcome::told(memory.count, constants::MALFORMED),
         ),
-        Line::AtServer(n, l) => server_line(s0, log0, s1, log1, store, m, n, l),
-        Line::AtClient(n, l) => client_line(store, m, n, l),
+        Line::AtServer(number, order) => server_line(
+            s0,
+            log0,
+            s1,
+            log1,
+            store,
+            memory,
+            number,
+            order,
+        ),
+        Line::AtClient(number, order) => client_line(store, memory, number, order),
     }
 }

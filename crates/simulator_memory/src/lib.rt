@@ -41,49 +41,49 @@ pub struct Stepped {
 
 // ---- the memory after a line: at a server, at client 0, at client 1
 
-pub fn after_server(m: Memory, a: Made) -> Stepped
-    ensures { λ r. ⌜ r ≡ serverStepped m a ⌝ }
+pub fn after_server(memory: Memory, made: Made) -> Stepped
+    ensures { λ r. ⌜ r ≡ serverStepped memory made ⌝ }
 {
-    let c0 = m.client0;
-    let c1 = m.client1;
-    let reply = a.reply;
+    let c0 = memory.client0;
+    let c1 = memory.client1;
+    let reply = made.reply;
     Stepped {
         memory: Memory {
             client0: c0,
             client1: c1,
-            count: a.count,
+            count: made.count,
         },
         reply,
     }
 }
 
-pub fn after_first(m: Memory, a: ClientMade) -> Stepped
-    ensures { λ r. ⌜ r ≡ firstStepped m a ⌝ }
+pub fn after_first(memory: Memory, made: ClientMade) -> Stepped
+    ensures { λ r. ⌜ r ≡ firstStepped memory made ⌝ }
 {
-    let c0 = a.client;
-    let c1 = m.client1;
-    let reply = a.made.reply;
+    let c0 = made.client;
+    let c1 = memory.client1;
+    let reply = made.made.reply;
     Stepped {
         memory: Memory {
             client0: c0,
             client1: c1,
-            count: a.made.count,
+            count: made.made.count,
         },
         reply,
     }
 }
 
-pub fn after_second(m: Memory, a: ClientMade) -> Stepped
-    ensures { λ r. ⌜ r ≡ secondStepped m a ⌝ }
+pub fn after_second(memory: Memory, made: ClientMade) -> Stepped
+    ensures { λ r. ⌜ r ≡ secondStepped memory made ⌝ }
 {
-    let c0 = m.client0;
-    let c1 = a.client;
-    let reply = a.made.reply;
+    let c0 = memory.client0;
+    let c1 = made.client;
+    let reply = made.made.reply;
     Stepped {
         memory: Memory {
             client0: c0,
             client1: c1,
-            count: a.made.count,
+            count: made.made.count,
         },
         reply,
     }

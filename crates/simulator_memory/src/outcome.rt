@@ -37,15 +37,15 @@ pub fn told(count: u32, number: u32) -> Made
 }
 
 // What a client received: a result's value is shown.
-pub fn received_reply(a: Received) -> Reply
-    ensures { λ r. ⌜ replyIs r ≡ answered (receiveNumber a) 0 (brought a .result .value) ⌝ }
+pub fn received_reply(answer: Received) -> Reply
+    ensures { λ r. ⌜ replyIs r ≡ answered (receiveNumber answer) 0 (brought answer .result .value) ⌝ }
 {
-    match a {
-        Received::NotReceived(n) => plain_reply(n),
-        Received::Completed(r) => Reply {
+    match answer {
+        Received::NotReceived(refusal) => plain_reply(refusal),
+        Received::Completed(packet) => Reply {
             number: constants::NO_REFUSAL,
             made: 0,
-            value: r.result.value,
+            value: packet.result.value,
         },
         Received::Denied(_) => plain_reply(constants::NO_REFUSAL),
         Received::Extended(_) => plain_reply(constants::NO_REFUSAL),
@@ -56,8 +56,8 @@ pub fn received_reply(a: Received) -> Reply
 pub fn is_outside(mark: u64, size: u64, bytes: u32) -> bool
     ensures { λ r. ⌜ r ≡ outside mark size bytes ⌝ }
 {
-    let k = bytes as u64;
-    (k < mark) | (size < k)
+    let place = bytes as u64;
+    (place < mark) | (size < place)
 }
 
 // A packet was made.
@@ -77,31 +77,31 @@ fn made_one(count: u32, number: u32) -> Made
 }
 
 // A server's call: its number, and the packet that it wrote.
-pub fn called(store: &mut [u8], count: u32, a: Answer, out: &[u8]) -> Made
+pub fn called(store: &mut [u8], count: u32, answer: Answer, out: &[u8]) -> Made
     requires { ⌜ Room (now store) count × (length (now out) ≤ greatestImage) ⌝ }
     ensures { λ r. ⌜ (outcomeIs r (now (store .exit))
-        ≡ outcomeBy (packetsIn (now (store .entry)) count) a (now (out .entry)))
+        ≡ outcomeBy (packetsIn (now (store .entry)) count) answer (now (out .entry)))
         × Next count (r .count) ⌝ }
 {
-    if a.wrote == 0 {
-        return told(count, a.refusal);
+    if answer.wrote == 0 {
+        return told(count, answer.refusal);
     }
-    let n = packets::lesser(a.wrote as usize, out.len());
+    let n = packets::lesser(answer.wrote as usize, out.len());
     packets::put_packet(store, count, &out[0..n]);
-    made_one(count, a.refusal)
+    made_one(count, answer.refusal)
 }
 
 // A client's issue or resend: its number, and the request that it makes.
-pub fn sent(store: &mut [u8], count: u32, a: Sent) -> Made
-    requires { ⌜ Room (now store) count × Sendable a ⌝ }
-    ensures { λ r. ⌜ (outcomeIs r (now (store .exit)) ≡ sentOutcome (packetsIn (now (store .entry)) count) a)
+pub fn sent(store: &mut [u8], count: u32, answer: Sent) -> Made
+    requires { ⌜ Room (now store) count × Sendable answer ⌝ }
+    ensures { λ r. ⌜ (outcomeIs r (now (store .exit)) ≡ sentOutcome (packetsIn (now (store .entry)) count) answer)
         × Next count (r .count) ⌝ }
 {
-    match a {
-        Sent::NotSent(n) => told(count, n),
+    match answer {
+        Sent::NotSent(refusal) => told(count, refusal),
         Sent::Asked(q) => {
-            let p = format_packet_writer::request_packet(q);
-            packets::put_packet(store, count, &p);
+            let packet = format_packet_writer::request_packet(q);
+            packets::put_packet(store, count, &packet);
             made_one(count, constants::NO_REFUSAL)
         }
     }

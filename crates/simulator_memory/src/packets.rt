@@ -14,23 +14,24 @@ const ROW_HEAD: usize = 4;
 
 pub const ROW: usize = ROW_HEAD + constants::GREATEST_IMAGE;
 
-pub fn lesser(a: usize, b: usize) -> usize
-    ensures { λ r. ⌜ r ≡ lesserOf a b ⌝ }
+pub fn lesser(i: usize, j: usize) -> usize
+    ensures { λ r. ⌜ r ≡ lesserOf i j ⌝ }
 {
-    if a < b { a } else { b }
+    if i < j { i } else { j }
 }
 
-// The place of packet k, of as many as were made.
-pub fn place_of(count: u32, k: u32) -> Place
-    ensures { λ r. ⌜ ((store : List ℕ) → packetFor store r ≡ numbered (packetsIn store count) k) × Filled count r ⌝ }
+// The place of a packet by its number, of as many as were made.
+pub fn place_of(count: u32, number: u32) -> Place
+    ensures { λ r. ⌜ ((store : List ℕ) → packetFor store r ≡ numbered (packetsIn store count) number)
+        × Filled count r ⌝ }
 {
-    if k == 0 {
+    if number == 0 {
         return Place::Nowhere;
     }
-    if count < k {
+    if count < number {
         return Place::Nowhere;
     }
-    Place::Row(k - 1)
+    Place::Row(number - 1)
 }
 
 // The packet of a row.
@@ -39,19 +40,19 @@ pub fn packet_at<'a>(store: &'a [u8], row: u32) -> &'a [u8]
     ensures { λ r. ⌜ now r ≡ packetIn (now (store .entry)) row ⌝ }
 {
     let at = ROW * (row as usize);
-    let n = format_numbers::read_u32(store, at);
+    let number = format_numbers::read_u32(store, at);
     let from = at + ROW_HEAD;
-    let to = from + lesser(n as usize, constants::GREATEST_IMAGE);
+    let to = from + lesser(number as usize, constants::GREATEST_IMAGE);
     &store[from..to]
 }
 
 // Puts a packet into a row.
-pub fn put_packet(store: &mut [u8], row: u32, b: &[u8])
-    requires { ⌜ (rowSize * (row + 1) ≤ length (now store)) × (length (now b) ≤ greatestImage) ⌝ }
-    ensures { λ r. ⌜ now (store .exit) ≡ putIn (now (store .entry)) row (now (b .entry)) ⌝ }
+pub fn put_packet(store: &mut [u8], row: u32, packet: &[u8])
+    requires { ⌜ (rowSize * (row + 1) ≤ length (now store)) × (length (now packet) ≤ greatestImage) ⌝ }
+    ensures { λ r. ⌜ now (store .exit) ≡ putIn (now (store .entry)) row (now (packet .entry)) ⌝ }
 {
     let at = ROW * (row as usize);
-    format_numbers::write_u32(store, at, b.len() as u32);
+    format_numbers::write_u32(store, at, packet.len() as u32);
     let from = at + ROW_HEAD;
-    format_numbers::copy_bytes(&mut store[from..], b);
+    format_numbers::copy_bytes(&mut store[from..], packet);
 }

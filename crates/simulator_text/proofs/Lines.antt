@@ -1,7 +1,7 @@
 -- A line read: its letter, the numbers behind it, the line of both.
 --     letter-one, letter-other                       the letter of a field
 --     reading-start, -off, -next, -end               the numbers of the fields, one after the other
---     line-sync, -two, -give, -issue, -other         the line of a letter and its numbers
+--     line-chosen                                    the line of a letter and its numbers
 --     argument-none, -minus, -plain                  a signed number
 -- Assumes nothing.
 use Prim.Native.Nat.{ℕ, zero, suc, _+_, _-_, _≤_, _<_}
@@ -22,7 +22,6 @@ use Rattle.model.specs.Simulator as simulator
 use Rattle.model.specs.Simulator.{numberIn, argumentIn, negative, positive, letterIn, letterLine, lineBy, fieldIn, andThen, numbersFrom, lineWith, fieldsFrom}
 use Rattle.model.specs.Letters.{space, minus, issueLetter, syncLetter, giveLetter}
 use Rattle.model_laws.proofs.Written.{written-sets, length-written, take-written-run, tail-part}
-use Rattle.model_laws.proofs.Tests.{and-left, and-right}
 use Rattle.simulator_text.specs.declared.Number.{Number}
 use Rattle.simulator_text.specs.declared.Number.the-variants.{Nothing, Is}
 use Rattle.simulator_text.specs.Values.{mostNumbers, numberIs, numbersIs, firstOf}
@@ -147,57 +146,32 @@ reading-end {s} {ns} {k} {at} r h =
 
 -- ---- the line of a letter and n numbers
 
--- the numbers of a line, one by one
-four : (P : List ℕ → Type 0) → ((a b d e : ℕ) → P (a ∷ b ∷ d ∷ e ∷ [])) → (ns : List ℕ) → length ns ≡ mostNumbers → P ns
-four P f (a ∷ b ∷ d ∷ e ∷ []) h = f a b d e
-four P f [] h = absurd (omega arith)
-four P f (a ∷ []) h = absurd (omega arith)
-four P f (a ∷ b ∷ []) h = absurd (omega arith)
-four P f (a ∷ b ∷ d ∷ []) h = absurd (omega arith)
-four P f (a ∷ b ∷ d ∷ e ∷ g ∷ ns) h = absurd (omega arith)
+-- the tests of the code, one after the other, for four numbers of which the first n are the line's
+abbrev pub chosen : ℕ → ℕ → List ℕ → simulator.Line
+chosen c n ns =
+    pick (eqb n 1 && eqb c syncLetter) (simulator.sync (getD ns 0 0)) (pick (eqb n 2) (letterLine c (getD ns 0 0) (getD ns 1 0))
+    (pick (eqb n 3 && eqb c giveLetter) (simulator.give (getD ns 0 0) (getD ns 1 0) (getD ns 2 0))
+    (pick (eqb n 4 && eqb c issueLetter) (simulator.issue (getD ns 0 0) (getD ns 1 0) (getD ns 2 0) (getD ns 3 0)) simulator.unreadable)))
 
-module _ (c n : ℕ) where
-  pub line-sync : (ns : List ℕ) → length ns ≡ mostNumbers → (eqb n 1 && eqb c syncLetter) ≡ true → simulator.sync (getD ns 0 0) ≡ lineWith c (numbersIs n ns)
-  unfolding lineWith lineBy numbersIs
-  line-sync ns h t =
-      let p : n ≡ 1 = eqb-true n 1 (and-left (eqb n 1) (eqb c syncLetter) t) in
-      let q : eqb c syncLetter ≡ true = and-right (eqb n 1) (eqb c syncLetter) t in
-      four (λ l. simulator.sync (getD l 0 0) ≡ lineWith c (numbersIs n l)) (λ a b d e. rw (p, q) refl) ns h
-
-  pub line-two : (ns : List ℕ) {l : simulator.Line} → length ns ≡ mostNumbers → n ≡ 2 → l ≡ letterLine c (getD ns 0 0) (getD ns 1 0) → l ≡ lineWith c (numbersIs n ns)
-  unfolding lineWith lineBy numbersIs
-  line-two ns {l} h p =
-      four (λ ms. l ≡ letterLine c (getD ms 0 0) (getD ms 1 0) → l ≡ lineWith c (numbersIs n ms)) (λ a b d e q. q ∙ rw p refl) ns h
-
-  pub line-give : (ns : List ℕ) → length ns ≡ mostNumbers → (eqb n 3 && eqb c giveLetter) ≡ true
-      → simulator.give (getD ns 0 0) (getD ns 1 0) (getD ns 2 0) ≡ lineWith c (numbersIs n ns)
-  unfolding lineWith lineBy numbersIs
-  line-give ns h t =
-      let p : n ≡ 3 = eqb-true n 3 (and-left (eqb n 3) (eqb c giveLetter) t) in
-      let q : eqb c giveLetter ≡ true = and-right (eqb n 3) (eqb c giveLetter) t in
-      four (λ l. simulator.give (getD l 0 0) (getD l 1 0) (getD l 2 0) ≡ lineWith c (numbersIs n l)) (λ a b d e. rw (p, q) refl) ns h
-
-  pub line-issue : (ns : List ℕ) → length ns ≡ mostNumbers → (eqb n 4 && eqb c issueLetter) ≡ true
-      → simulator.issue (getD ns 0 0) (getD ns 1 0) (getD ns 2 0) (getD ns 3 0) ≡ lineWith c (numbersIs n ns)
-  unfolding lineWith lineBy numbersIs
-  line-issue ns h t =
-      let p : n ≡ 4 = eqb-true n 4 (and-left (eqb n 4) (eqb c issueLetter) t) in
-      let q : eqb c issueLetter ≡ true = and-right (eqb n 4) (eqb c issueLetter) t in
-      four (λ l. simulator.issue (getD l 0 0) (getD l 1 0) (getD l 2 0) (getD l 3 0) ≡ lineWith c (numbersIs n l)) (λ a b d e. rw (p, q) refl) ns h
-
-pub line-other : (c n : ℕ) (ns : List ℕ) → length ns ≡ mostNumbers → (eqb n 1 && eqb c syncLetter) ≡ false → (n ≡ 2 → ⊥) → (eqb n 3 && eqb c giveLetter) ≡ false
-    → (eqb n 4 && eqb c issueLetter) ≡ false → simulator.unreadable ≡ lineWith c (numbersIs n ns)
+line-of-four : (c n a b d e : ℕ) → chosen c n (a ∷ b ∷ d ∷ e ∷ []) ≡ lineWith c (numbersIs n (a ∷ b ∷ d ∷ e ∷ []))
 unfolding lineWith lineBy numbersIs
-line-other c n ns h p q r t = four (λ l. simulator.unreadable ≡ lineWith c (numbersIs n l)) (λ a b d e. go a b d e n p q r t) ns h
-  where
-    go : (a b d e n : ℕ) → (eqb n 1 && eqb c syncLetter) ≡ false → (n ≡ 2 → ⊥) → (eqb n 3 && eqb c giveLetter) ≡ false → (eqb n 4 && eqb c issueLetter) ≡ false
-        → simulator.unreadable ≡ lineWith c (numbersIs n (a ∷ b ∷ d ∷ e ∷ []))
-    go a b d e zero p q r t = refl
-    go a b d e (suc zero) p q r t = rw p refl
-    go a b d e (suc (suc zero)) p q r t = absurd (q refl)
-    go a b d e (suc (suc (suc zero))) p q r t = rw r refl
-    go a b d e (suc (suc (suc (suc zero)))) p q r t = rw t refl
-    go a b d e (suc (suc (suc (suc (suc n))))) p q r t = rw (lt-leb (suc (suc (suc (suc (suc n))))) mostNumbers (omega arith)) refl
+line-of-four c zero a b d e = refl
+line-of-four c (suc zero) a b d e = refl
+line-of-four c (suc (suc zero)) a b d e = refl
+line-of-four c (suc (suc (suc zero))) a b d e = refl
+line-of-four c (suc (suc (suc (suc zero)))) a b d e = refl
+line-of-four c (suc (suc (suc (suc (suc n))))) a b d e =
+    let m : ℕ = suc (suc (suc (suc (suc n)))) in
+    let other : (k : ℕ) → k ≤ mostNumbers → eqb m k ≡ false = λ k h. ne-eqb m k (λ g. omega arith) in
+    rw (lt-leb m mostNumbers (omega arith), other 1 (omega arith), other 2 (omega arith), other 3 (omega arith), other 4 (omega arith)) refl
+
+pub line-chosen : (c n : ℕ) (ns : List ℕ) {l : simulator.Line} → length ns ≡ mostNumbers → l ≡ chosen c n ns → l ≡ lineWith c (numbersIs n ns)
+line-chosen c n (a ∷ b ∷ d ∷ e ∷ []) h p = p ∙ line-of-four c n a b d e
+line-chosen c n [] h p = absurd (omega arith)
+line-chosen c n (a ∷ []) h p = absurd (omega arith)
+line-chosen c n (a ∷ b ∷ []) h p = absurd (omega arith)
+line-chosen c n (a ∷ b ∷ d ∷ []) h p = absurd (omega arith)
+line-chosen c n (a ∷ b ∷ d ∷ e ∷ g ∷ ns) h p = absurd (omega arith)
 
 -- ---- a signed number
 

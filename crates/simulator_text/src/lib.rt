@@ -63,13 +63,13 @@ pub enum Number {
 
 // ---- where a text falls apart
 
-// The place of the first byte x, the length where there is none.
-pub fn find(s: &[u8], x: u8) -> usize
-    ensures { λ r. ⌜ (r ≡ firstOf x (now (s .entry))) × (r ≤ length (now (s .entry))) ⌝ }
+// The place of the first byte b, the length where there is none.
+pub fn find(s: &[u8], b: u8) -> usize
+    ensures { λ r. ⌜ (r ≡ firstOf b (now (s .entry))) × (r ≤ length (now (s .entry))) ⌝ }
 {
     let mut i = 0;
     while i < s.len() {
-        if s[i] == x {
+        if s[i] == b {
             return i;
         }
         i += 1;

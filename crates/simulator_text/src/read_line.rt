@@ -16,11 +16,11 @@ const NUMBERS: usize = 4;
 const UNREADABLE: usize = 5;
 
 // The byte of a field of one byte, else 0.
-fn letter_in(c: &[u8]) -> u8
-    ensures { λ r. ⌜ r ≡ letterIn (now (c .entry)) ⌝ }
+fn letter_in(field: &[u8]) -> u8
+    ensures { λ r. ⌜ r ≡ letterIn (now (field .entry)) ⌝ }
 {
-    if c.len() == 1 {
-        return c[0];
+    if field.len() == 1 {
+        return field[0];
     }
     0
 }
@@ -48,15 +48,15 @@ fn numbers_in(s: &[u8], ns: &mut [u32]) -> usize
     let mut k = 0;
     let mut at = 0;
     while at <= s.len() {
-        let f = crate::find(&s[at..], b' ');
-        let e = at + f;
-        let x = field_in(k, &s[at..e]);
-        let Number::Is(v) = x else {
+        let width = crate::find(&s[at..], b' ');
+        let end = at + width;
+        let number = field_in(k, &s[at..end]);
+        let Number::Is(v) = number else {
             return UNREADABLE;
         };
         ns[k] = v;
         k += 1;
-        at = e + 1;
+        at = end + 1;
     }
     k
 }
@@ -64,35 +64,35 @@ fn numbers_in(s: &[u8], ns: &mut [u32]) -> usize
 // ---- by letter
 
 // The lines of two numbers, by letter.
-fn by_letter(c: u8, a: u32, b: u32) -> Line
-    ensures { λ r. ⌜ lineIs r ≡ letterLine c a b ⌝ }
+fn by_letter(letter: u8, first: u32, second: u32) -> Line
+    ensures { λ r. ⌜ lineIs r ≡ letterLine letter first second ⌝ }
 {
-    match c {
-        b's' => Line::AtClient(a, ClientLine::Resend(b)),
-        b'd' => Line::AtServer(b, ServerLine::Deliver(a)),
-        b'r' => Line::AtClient(b, ClientLine::Receive(a)),
-        b'k' => Line::AtServer(a, ServerLine::Cut(b)),
-        b'x' => Line::AtServer(a, ServerLine::Image(b)),
-        b'f' => Line::AtServer(a, ServerLine::Receipt(b)),
+    match letter {
+        b's' => Line::AtClient(first, ClientLine::Resend(second)),
+        b'd' => Line::AtServer(second, ServerLine::Deliver(first)),
+        b'r' => Line::AtClient(second, ClientLine::Receive(first)),
+        b'k' => Line::AtServer(first, ServerLine::Cut(second)),
+        b'x' => Line::AtServer(first, ServerLine::Image(second)),
+        b'f' => Line::AtServer(first, ServerLine::Receipt(second)),
         _ => Line::Unreadable,
     }
 }
 
 // The line of a letter and n numbers.
-fn line_by(c: u8, n: usize, ns: &[u32]) -> Line
+fn line_by(letter: u8, n: usize, ns: &[u32]) -> Line
     requires { ⌜ length (now ns) ≡ mostNumbers ⌝ }
-    ensures { λ r. ⌜ lineIs r ≡ lineWith c (numbersIs n (now (ns .entry))) ⌝ }
+    ensures { λ r. ⌜ lineIs r ≡ lineWith letter (numbersIs n (now (ns .entry))) ⌝ }
 {
-    if (n == 1) & (c == b'y') {
+    if (n == 1) & (letter == b'y') {
         return Line::AtServer(ns[0], ServerLine::Sync);
     }
     if n == 2 {
-        return by_letter(c, ns[0], ns[1]);
+        return by_letter(letter, ns[0], ns[1]);
     }
-    if (n == 3) & (c == b'g') {
+    if (n == 3) & (letter == b'g') {
         return Line::AtServer(ns[0], ServerLine::Give(ns[1], ns[2]));
     }
-    if (n == 4) & (c == b'i') {
+    if (n == 4) & (letter == b'i') {
         return Line::AtClient(ns[0], ClientLine::Issue(ns[1], ns[2], ns[3]));
     }
     Line::Unreadable
@@ -102,12 +102,12 @@ fn line_by(c: u8, n: usize, ns: &[u32]) -> Line
 pub fn line_of(s: &[u8]) -> Line
     ensures { λ r. ⌜ lineIs r ≡ lineOf (now (s .entry)) ⌝ }
 {
-    let e = crate::find(s, b' ');
-    if e < s.len() {
-        let c = letter_in(&s[0..e]);
+    let end = crate::find(s, b' ');
+    if end < s.len() {
+        let letter = letter_in(&s[0..end]);
         let mut ns = [0u32; NUMBERS];
-        let n = numbers_in(&s[e + 1..], &mut ns);
-        return line_by(c, n, &ns);
+        let n = numbers_in(&s[end + 1..], &mut ns);
+        return line_by(letter, n, &ns);
     }
     Line::Unreadable
 }

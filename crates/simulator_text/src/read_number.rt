@@ -14,12 +14,12 @@ fn is_digit(b: u8) -> bool
     (b'0' <= b) & (b <= b'9')
 }
 
-// The number n, with one digit more.
-fn with_digit(n: u64, b: u8) -> u64
-    requires { ⌜ (n ≤ last32) × (firstDigit ≤ b) × (b ≤ lastDigit) ⌝ }
-    ensures { λ r. ⌜ r ≡ 10 * n + (b - firstDigit) ⌝ }
+// A number with one digit more.
+fn with_digit(value: u64, b: u8) -> u64
+    requires { ⌜ (value ≤ last32) × (firstDigit ≤ b) × (b ≤ lastDigit) ⌝ }
+    ensures { λ r. ⌜ r ≡ 10 * value + (b - firstDigit) ⌝ }
 {
-    10 * n + (b - b'0') as u64
+    10 * value + (b - b'0') as u64
 }
 
 // Decimal digits, at least one, of a number of 32 bits.
@@ -29,42 +29,42 @@ pub fn number_in(s: &[u8]) -> Number
     if s.len() == 0 {
         return Number::Nothing;
     }
-    let mut n: u64 = 0;
+    let mut value: u64 = 0;
     let mut i = 0;
     while i < s.len() {
         let b = s[i];
         if !is_digit(b) {
             return Number::Nothing;
         }
-        n = with_digit(n, b);
-        if constants::LAST_32_U64 < n {
+        value = with_digit(value, b);
+        if constants::LAST_32_U64 < value {
             return Number::Nothing;
         }
         i += 1;
     }
-    Number::Is(n as u32)
+    Number::Is(value as u32)
 }
 
-fn negative_of(n: Number) -> Number
-    ensures { λ r. ⌜ numberIs r ≡ negative (numberIs n) ⌝ }
+fn negative_of(number: Number) -> Number
+    ensures { λ r. ⌜ numberIs r ≡ negative (numberIs number) ⌝ }
 {
-    let Number::Is(x) = n else {
+    let Number::Is(client) = number else {
         return Number::Nothing;
     };
-    if x <= constants::HALF {
-        return Number::Is(constants::HALF - x);
+    if client <= constants::HALF {
+        return Number::Is(constants::HALF - client);
     }
     Number::Nothing
 }
 
-fn positive_of(n: Number) -> Number
-    ensures { λ r. ⌜ numberIs r ≡ positive (numberIs n) ⌝ }
+fn positive_of(number: Number) -> Number
+    ensures { λ r. ⌜ numberIs r ≡ positive (numberIs number) ⌝ }
 {
-    let Number::Is(x) = n else {
+    let Number::Is(client) = number else {
         return Number::Nothing;
     };
-    if x < constants::HALF {
-        return Number::Is(constants::HALF + x);
+    if client < constants::HALF {
+        return Number::Is(constants::HALF + client);
     }
     Number::Nothing
 }
@@ -77,9 +77,9 @@ pub fn argument_in(s: &[u8]) -> Number
         return Number::Nothing;
     }
     if s[0] == b'-' {
-        let n = number_in(&s[1..]);
-        return negative_of(n);
+        let number = number_in(&s[1..]);
+        return negative_of(number);
     }
-    let n = number_in(s);
-    positive_of(n)
+    let number = number_in(s);
+    positive_of(number)
 }

@@ -22,19 +22,19 @@ fn put_byte(page: &mut [u8], at: usize, b: u8) -> usize
     at + 1
 }
 
-// At most k digits of v.
-fn put_digits(page: &mut [u8], at: usize, k: u32, v: u32) -> usize
-    requires { ⌜ at + k ≤ length (now page) ⌝ }
-    ensures { λ r. ⌜ Put (now (page .entry)) at (digitsOf k v) (now (page .exit)) r ⌝ }
+// At most room digits of v.
+fn put_digits(page: &mut [u8], at: usize, room: u32, v: u32) -> usize
+    requires { ⌜ at + room ≤ length (now page) ⌝ }
+    ensures { λ r. ⌜ Put (now (page .entry)) at (digitsOf room v) (now (page .exit)) r ⌝ }
 {
-    if k == 0 {
+    if room == 0 {
         return at;
     }
     if v < 10 {
         return put_byte(page, at, b'0' + v as u8);
     }
-    let m = put_digits(page, at, k - 1, v / 10);
-    put_byte(page, m, b'0' + (v % 10) as u8)
+    let count = put_digits(page, at, room - 1, v / 10);
+    put_byte(page, count, b'0' + (v % 10) as u8)
 }
 
 fn put_number(page: &mut [u8], at: usize, v: u32) -> usize
@@ -44,15 +44,15 @@ fn put_number(page: &mut [u8], at: usize, v: u32) -> usize
     put_digits(page, at, DIGITS, v)
 }
 
-fn put_signed(page: &mut [u8], at: usize, x: u32) -> usize
+fn put_signed(page: &mut [u8], at: usize, v: u32) -> usize
     requires { ⌜ at + signedRoom ≤ length (now page) ⌝ }
-    ensures { λ r. ⌜ Put (now (page .entry)) at (shownSigned x) (now (page .exit)) r ⌝ }
+    ensures { λ r. ⌜ Put (now (page .entry)) at (shownSigned v) (now (page .exit)) r ⌝ }
 {
-    if x < constants::HALF {
-        let m = put_byte(page, at, b'-');
-        return put_number(page, m, constants::HALF - x);
+    if v < constants::HALF {
+        let count = put_byte(page, at, b'-');
+        return put_number(page, count, constants::HALF - v);
     }
-    put_number(page, at, x - constants::HALF)
+    put_number(page, at, v - constants::HALF)
 }
 
 // A number and the space behind it.
@@ -60,18 +60,18 @@ fn put_field(page: &mut [u8], at: usize, v: u32) -> usize
     requires { ⌜ at + fieldRoom ≤ length (now page) ⌝ }
     ensures { λ r. ⌜ Put (now (page .entry)) at (shown v ++ (space ∷ [])) (now (page .exit)) r ⌝ }
 {
-    let m = put_number(page, at, v);
-    put_byte(page, m, b' ')
+    let count = put_number(page, at, v);
+    put_byte(page, count, b' ')
 }
 
-// The answer of line k.
-pub fn put_reply(page: &mut [u8], at: usize, k: u32, r: Reply) -> usize
+// The answer of the line of this number.
+pub fn put_reply(page: &mut [u8], at: usize, number: u32, reply: Reply) -> usize
     requires { ⌜ at + replyRoom ≤ length (now page) ⌝ }
-    ensures { λ m. ⌜ Put (now (page .entry)) at (replyText k (replyIs r)) (now (page .exit)) m ⌝ }
+    ensures { λ m. ⌜ Put (now (page .entry)) at (replyText number (replyIs reply)) (now (page .exit)) m ⌝ }
 {
-    let a = put_field(page, at, k);
-    let b = put_field(page, a, r.number);
-    let c = put_field(page, b, r.made);
-    let d = put_signed(page, c, r.value);
-    put_byte(page, d, b'\n')
+    let i = put_field(page, at, number);
+    let j = put_field(page, i, reply.number);
+    let k = put_field(page, j, reply.made);
+    let n = put_signed(page, k, reply.value);
+    put_byte(page, n, b'\n')
 }

@@ -13,7 +13,7 @@ returns : tie.Need-returns
 unfolding every isOther allDifferent
 returns c =
     let middle = c .before .before .before .before .before in
-    let s = middle .before .before .before .before .before .args .s in
+    let s = middle .before .before .before .before .before .args .points in
     let last : (p : ℕ) → (isOther p (s .level3) && true) ≡ isOther p (s .level3) = λ p. and-true (isOther p (s .level3)) in
     rw (last (s .upper), last (s .lower), last (s .level1), last (s .level2), last (s .level2)) refl
 

@@ -11,7 +11,7 @@ use Rattle.chamber.proofs.all_points.Tie as tie
 
 returns : tie.Need-returns
 unfolding every isPoint
-returns c = rw (and-true (leb (c .before .before .before .before .before .args .s .level3) lastPoint)) refl
+returns c = rw (and-true (leb (c .before .before .before .before .before .args .points .level3) lastPoint)) refl
 
 pub all-points-spec : {M : Type 1} → statement M
 all-points-spec = tie.close (tie.spec returns)

@@ -9,15 +9,15 @@ use Rattle.chamber.proofs.moved_by.Statement.{statement}
 use Rattle.chamber.proofs.moved_by.Tie as tie
 
 returns : tie.Need-returns
-returns c = rw (not-asked (c .before .before .args .ch) (c .before .before .args .op) (c .before .before .args .a) (c .before .match .keys2)) refl
+returns c = rw (not-asked (c .before .before .args .ch) (c .before .before .args .op) (c .before .before .args .answer) (c .before .match .keys2)) refl
 
 returns-2 : tie.Need-returns-2
 unfolding movedBy
-returns-2 c = rw (c .before .before .a .given .1, c .if1 .taken) refl
+returns-2 c = rw (c .before .before .answer .given .1, c .if1 .taken) refl
 
 returns-3 : tie.Need-returns-3
 unfolding movedBy
-returns-3 c = rw (c .before .before .a .given .1, ne-eqb _ _ (c .if1 .left)) refl
+returns-3 c = rw (c .before .before .answer .given .1, ne-eqb _ _ (c .if1 .left)) refl
 
 pub moved-by-spec : {M : Type 1} → statement M
 moved-by-spec = tie.close (tie.spec (λ c. search needs) (λ c. search needs) returns returns-2 returns-3)

@@ -13,7 +13,7 @@ returns c = rw (c .before .before .answer .given .1) (c .not-started .ensures)
 
 returns-2 : tie.Need-returns-2
 unfolding startedIn
-returns-2 c = rw (is-running (c .before .before .before .before .args .a .answer) (c .before .before .match .keys2), c .new-chamber .ensures) refl
+returns-2 c = rw (is-running (c .before .before .before .before .args .start .answer) (c .before .before .match .keys2), c .new-chamber .ensures) refl
 
 pub started-in-spec : {M : Type 1} → statement M
 started-in-spec = tie.close (tie.spec (λ c. search needs) (λ c κs. search needs) (λ c. search needs) (λ c κs. search needs) returns returns-2)

@@ -9,11 +9,11 @@ use Rattle.chamber_c.proofs.start_number.Tie as tie
 
 returns : tie.Need-returns
 unfolding startNumber
-returns c = rw (c .before .a .given .1) refl
+returns c = rw (c .before .answer .given .1) refl
 
 returns-2 : tie.Need-returns-2
 unfolding startNumber
-returns-2 c = rw (is-running (c .before .before .args .a) (c .before .match .keys2)) refl
+returns-2 c = rw (is-running (c .before .before .args .answer) (c .before .match .keys2)) refl
 
 pub start-number-spec : {M : Type 1} → statement M
 start-number-spec = tie.close (tie.spec (λ c. search needs) (λ c. search needs) returns returns-2)

@@ -12,7 +12,7 @@ returns : tie.Need-returns
 returns c =
     let start = c .before .before .before in
     let given = start .pre in
-    first-opened (start .args .d) (start .args .k) (given .3) (given .0) (given .1) (given .2) (c .if1 .taken)
+    first-opened (start .args .d) (start .args .opened) (given .3) (given .0) (given .1) (given .2) (c .if1 .taken)
 
 returns-2 : tie.Need-returns-2
 unfolding firstOpen withCall withCalls

@@ -10,16 +10,16 @@ use Rattle.client.proofs.started.Tie as tie
 use Rattle.client.proofs.started.Reads as reads
 use Rattle.client.proofs.started.Lts as lts
 
-enum-known-p : tie.Need-enum-known-p
+enum-known-p : tie.Need-enum-known-packet
 enum-known-p c = search needs
 
 returns : tie.Need-returns
 unfolding startFields startNumber
-returns c = rw (not-grant (c .before .args .p) (c .match .keys2)) refl
+returns c = rw (not-grant (c .before .args .packet) (c .match .keys2)) refl
 
 returns-2 : tie.Need-returns-2
 unfolding startFields startNumber startWith
-returns-2 c = rw (c .before .p .given .1) refl
+returns-2 c = rw (c .before .packet .given .1) refl
 
 pub started-spec : {M : Type 1} → statement M
 started-spec = tie.close (tie.spec enum-known-p returns returns-2)

@@ -10,19 +10,19 @@ use Rattle.client_c.proofs.receive_reply.Tie as tie
 
 returns : tie.Need-returns
 unfolding receiveReply receiveNumber brought flip
-returns c = rw (c .before .a .given .1, c .before .before .before .empty-reply .ensures) refl
+returns c = rw (c .before .answer .given .1, c .before .before .before .empty-reply .ensures) refl
 
 returns-2 : tie.Need-returns-2
 unfolding receiveReply receiveNumber brought
-returns-2 c = rw (c .before .before .a2 .given .1, c .flipped .ensures, c .before .before .before .before .empty-reply .ensures) refl
+returns-2 c = rw (c .before .before .answer2 .given .1, c .flipped .ensures, c .before .before .before .before .empty-reply .ensures) refl
 
 returns-3 : tie.Need-returns-3
 unfolding receiveReply receiveNumber brought flip
-returns-3 c = rw (c .before .a3 .given .1, c .before .before .before .empty-reply .ensures) refl
+returns-3 c = rw (c .before .answer3 .given .1, c .before .before .before .empty-reply .ensures) refl
 
 returns-4 : tie.Need-returns-4
 unfolding receiveReply receiveNumber brought flip
-returns-4 c = rw (c .before .a4 .given .1, c .before .before .before .empty-reply .ensures) refl
+returns-4 c = rw (c .before .answer4 .given .1, c .before .before .before .empty-reply .ensures) refl
 
 pub receive-reply-spec : {M : Type 1} → statement M
 receive-reply-spec =

@@ -6,10 +6,10 @@ use Rattle.client_c.proofs.send_reply.Statement.{statement}
 use Rattle.client_c.proofs.send_reply.Tie as tie
 
 returns : tie.Need-returns
-returns c = rw (c .before .a .given .1) (reply-none _)
+returns c = rw (c .before .answer .given .1) (reply-none _)
 
 returns-2 : tie.Need-returns-2
-returns-2 c = rw (c .before .before .a2 .given .1) (reply-request _ (c .request-packet .ensures))
+returns-2 c = rw (c .before .before .answer2 .given .1) (reply-request _ (c .request-packet .ensures))
 
 pub send-reply-spec : {M : Type 1} → statement M
 send-reply-spec =

@@ -32,14 +32,14 @@ cast-client : tie.Need-cast-client
 cast-client c =
     let t = time-from c in
     let a = start-of t .args in
-    let f = all-fit last32 (a .h .issued) (a .h .client) (t .time-at .result + a .span) (c .before .if3 .left) in
+    let f = all-fit last32 (a .holder .issued) (a .holder .client) (t .time-at .result + a .span) (c .before .if3 .left) in
     omega arith
 
 cast-greater : tie.Need-cast-greater
 cast-greater c =
     let t = time-from c in
     let a = start-of t .args in
-    let f = all-fit last32 (a .h .issued) (a .h .client) (t .time-at .result + a .span) (c .before .if3 .left) in
+    let f = all-fit last32 (a .holder .issued) (a .holder .client) (t .time-at .result + a .span) (c .before .if3 .left) in
     omega arith
 
 cast-t17 : tie.Need-cast-t17
@@ -47,7 +47,7 @@ cast-t17 c =
     let known = c .before .before in
     let t = time-from known in
     let a = start-of t .args in
-    let f = all-fit last32 (a .h .issued) (a .h .client) (t .time-at .result + a .span) (known .before .if3 .left) in
+    let f = all-fit last32 (a .holder .issued) (a .holder .client) (t .time-at .result + a .span) (known .before .if3 .left) in
     omega arith
 
 returns-4 : tie.Need-returns-4

@@ -23,7 +23,7 @@ shared-slice-read-if1 : tie.Need-shared-slice-read-if1 Inv-loop μ-loop
 shared-slice-read-if1 c = omega arith
 
 returns : tie.Need-returns Inv-loop μ-loop
-returns c = let l = c .before .before .before .loop in let a = c .before .before .before .before .args in let f = first-here (a .x) (a .s .now) (l .i) (omega arith)
+returns c = let l = c .before .before .before .loop in let a = c .before .before .before .before .args in let f = first-here (a .b) (a .s .now) (l .i) (omega arith)
     (c .if1 .taken) in (omega (arith, l .inv .1, f), omega arith)
 
 add-i : tie.Need-add-i Inv-loop μ-loop
@@ -33,11 +33,11 @@ loop-less : tie.Need-loop-less Inv-loop μ-loop
 loop-less c = omega arith
 
 loop-again : tie.Need-loop-again Inv-loop μ-loop
-loop-again c = let l = c .before .before .before .loop in let a = c .before .before .before .before .args in let f = first-next (a .x) (a .s .now) (l .i) (omega arith)
+loop-again c = let l = c .before .before .before .loop in let a = c .before .before .before .before .args in let f = first-next (a .b) (a .s .now) (l .i) (omega arith)
     (c .if1 .left) in (omega arith, omega (arith, l .inv .1, f))
 
 returns-2 : tie.Need-returns-2 Inv-loop μ-loop
-returns-2 c = let l = c .before .loop in let a = c .before .before .args in let f = first-end (a .x) (a .s .now) (l .i) (omega arith) in (omega (arith, l .inv .1, f), omega arith)
+returns-2 c = let l = c .before .loop in let a = c .before .before .args in let f = first-end (a .b) (a .s .now) (l .i) (omega arith) in (omega (arith, l .inv .1, f), omega arith)
 
 pub find-spec : {M : Type 1} → statement M
 find-spec =

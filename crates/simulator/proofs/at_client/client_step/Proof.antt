@@ -15,15 +15,15 @@ send-line-requires-2 c κs = (c .before .before .before .before .before .before 
 
 returns : tie.Need-returns
 unfolding clientRan
-returns c = rw (c .before .before .before .before .before .before .l .given .1, ← c .before .before .before .before .issue-by .ensures) (c .before .before .send-line .ensures)
+returns c = rw (c .before .before .before .before .before .before .line .given .1, ← c .before .before .before .before .issue-by .ensures) (c .before .before .send-line .ensures)
 
 returns-2 : tie.Need-returns-2
 unfolding clientRan
-returns-2 c = rw (c .before .before .before .before .before .before .l2 .given .1, ← c .before .before .before .before .resend .ensures) (c .before .before .send-line2 .ensures)
+returns-2 c = rw (c .before .before .before .before .before .before .line2 .given .1, ← c .before .before .before .before .resend .ensures) (c .before .before .send-line2 .ensures)
 
 returns-3 : tie.Need-returns-3
 unfolding clientRan
-returns-3 c = rw (c .before .before .before .l3 .given .1)
+returns-3 c = rw (c .before .before .before .line3 .given .1)
     (c .receive-line .ensures .0, record { least = omega (arith, c .receive-line .ensures .1); most = omega (arith, c .receive-line .ensures .1) })
 
 pub client-step-spec : {M : Type 1} → statement M

@@ -19,7 +19,7 @@ receive-row-requires : tie.Need-receive-row-requires
 receive-row-requires c κs =
     let e = c .before in
     let p = e .before .before in
-    let f = filled-row _ (p .place-of .ensures .1) (e .p .given .1) in
+    let f = filled-row _ (p .place-of .ensures .1) (e .place .given .1) in
     omega (arith, f, p .before .before .pre .rows)
 
 returns-2 : tie.Need-returns-2
@@ -27,7 +27,7 @@ returns-2 c =
     let e = c .before .before in
     let p = e .before .before in
     let a = p .before .before .args in
-    (receive-made _ _ _ (p .place-of .ensures .0 (a .store .now)) _ (e .p .given .1) (c .receive-row .ensures .0), c .receive-row .ensures .1)
+    (receive-made _ _ _ (p .place-of .ensures .0 (a .store .now)) _ (e .place .given .1) (c .receive-row .ensures .0), c .receive-row .ensures .1)
 
 pub receive-line-spec : {M : Type 1} → statement M
 receive-line-spec =

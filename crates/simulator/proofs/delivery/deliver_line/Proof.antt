@@ -19,7 +19,7 @@ deliver-row-requires : tie.Need-deliver-row-requires
 deliver-row-requires c κs =
     let e = c .before .before .before .before in
     let p = e .before .before in
-    (p .before .before .before .before .pre, filled-row _ (p .place-of .ensures .1) (e .p .given .1))
+    (p .before .before .before .before .pre, filled-row _ (p .place-of .ensures .1) (e .place .given .1))
 
 returns-2 : tie.Need-returns-2
 returns-2 c =
@@ -27,7 +27,7 @@ returns-2 c =
     let e = d .before .before .before .before .before in
     let p = e .before .before in
     let a = p .before .before .before .before .args in
-    (deliver-made _ _ _ (p .place-of .ensures .0 (a .store .now)) _ _ (e .p .given .1) (d .deliver-row .ensures .0), d .deliver-row .ensures .1)
+    (deliver-made _ _ _ (p .place-of .ensures .0 (a .store .now)) _ _ (e .place .given .1) (d .deliver-row .ensures .0), d .deliver-row .ensures .1)
 
 pub deliver-line-spec : {M : Type 1} → statement M
 deliver-line-spec =

@@ -6,7 +6,7 @@ use Rattle.simulator.proofs.delivery.first_byte.Statement.{statement}
 use Rattle.simulator.proofs.delivery.first_byte.Tie as tie
 
 returns-2 : tie.Need-returns-2
-returns-2 c = byte-none (c .before .args .b .now) (c .if1 .left)
+returns-2 c = byte-none (c .before .args .packet .now) (c .if1 .left)
 
 pub first-byte-spec : {M : Type 1} → statement M
 first-byte-spec =

@@ -26,7 +26,7 @@ start-of c = c .before .before .before .before .before .before .before
 abbrev test-at : tie.After-run-line-arg6 Inv-loop μ-loop → tie.In-loop Inv-loop μ-loop
 test-at c = c .before .before .before .before .before .before
 
-abbrev line-at : tie.After-w Inv-loop μ-loop → tie.After-run-line Inv-loop μ-loop
+abbrev line-at : tie.After-after Inv-loop μ-loop → tie.After-run-line Inv-loop μ-loop
 line-at c = let at-log0 = c .before .before .before .before .before .before in at-log0 .before .before .before .before .before .before .before
 
 -- ---- the needs
@@ -40,22 +40,22 @@ run-line-requires c κs =
     let l = t .before .loop in
     let a = start-of (t .before .before) in
     let u = l .inv .0 in
-    let k = test-left (l .k) (l .at) (length (a .args .text .now)) (t .loop-test .taken) in
+    let k = test-left (l .number) (l .at) (length (a .args .text .now)) (t .loop-test .taken) in
     let p = a .pre in
     let s = a .args in (
-      ready _ _ _ (s .s0 .now) (s .s1 .now) (s .store .now) _ (l .k) (p .first) (p .second) (p .rows) (l .inv .2) (l .inv .4) (l .inv .6) (u .packets) k,
-      test-right (l .k) (l .at) (length (s .text .now)) (t .loop-test .taken),
+      ready _ _ _ (s .s0 .now) (s .s1 .now) (s .store .now) _ (l .number) (p .first) (p .second) (p .rows) (l .inv .2) (l .inv .4) (l .inv .6) (u .packets) k,
+      test-right (l .number) (l .at) (length (s .text .now)) (t .loop-test .taken),
       omega (arith, u .wrote, u .long, u .least, k),
     )
 
-add-k : tie.Need-add-k Inv-loop μ-loop
-add-k c = omega (arith, test-at (line-at c .before) .before .loop .inv .0 .most)
+add-number : tie.Need-add-number Inv-loop μ-loop
+add-number c = omega (arith, test-at (line-at c .before) .before .loop .inv .0 .most)
 
 loop-less : tie.Need-loop-less Inv-loop μ-loop
 loop-less c =
     let t = test-at (line-at c .before) in
     let l = t .before .loop in
-    omega (arith, l .inv .0 .most, test-left (l .k) (l .at) (length (start-of (t .before .before) .args .text .now)) (t .loop-test .taken))
+    omega (arith, l .inv .0 .most, test-left (l .number) (l .at) (length (start-of (t .before .before) .args .text .now)) (t .loop-test .taken))
 
 loop-again : tie.Need-loop-again Inv-loop μ-loop
 loop-again c =
@@ -71,7 +71,7 @@ loop-again c =
     let s1 = log0 .1 in
     let log1 = s1 .1 in
     let store = log1 .1 in (
-      running-next _ _ _ _ _ _ _ _ (l .inv .0) (test-left (l .k) (l .at) n e) (test-right (l .k) (l .at) n e) (r .ensures),
+      running-next _ _ _ _ _ _ _ _ (l .inv .0) (test-left (l .number) (l .at) n e) (test-right (l .number) (l .at) n e) (r .ensures),
       page .0 ∙ l .inv .1,
       s0 .0 ∙ l .inv .2,
       log0 .0 ∙ l .inv .3,
@@ -109,7 +109,7 @@ run-spec =
     μ-loop
     loop-holds
     run-line-requires
-    add-k
+    add-number
     loop-less
     loop-again
     same-length

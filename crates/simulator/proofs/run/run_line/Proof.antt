@@ -19,8 +19,8 @@ step-at c = let at-log1 = c .before .before .before .before .before .before in a
 
 -- ---- the needs
 
-add-e : tie.Need-add-e
-add-e c = let a = start-of c .args in omega (arith, part-length (a .text .now) (a .at), c .find .ensures .1)
+add-end : tie.Need-add-end
+add-end c = let a = start-of c .args in omega (arith, part-length (a .text .now) (a .at), c .find .ensures .1)
 
 part-line-of-end : tie.Need-part-line-of-end
 part-line-of-end c = let a = start-of c .args in omega (arith, part-length (a .text .now) (a .at), c .find .ensures .1)
@@ -48,7 +48,7 @@ run-line-spec =
     (λ c. search needs)
     (λ c. search needs)
     (λ c κs. search needs)
-    add-e
+    add-end
     (λ c. search needs)
     (λ c. search needs)
     part-line-of-end

@@ -17,11 +17,11 @@ abbrev μ-loop : tie.MeasureT-loop
 loop-holds : tie.Need-loop-holds Inv-loop μ-loop
 loop-holds c = planned-start _ (search needs)
 
-array-read-p : tie.Need-array-read-p Inv-loop μ-loop
-array-read-p c = omega arith
+array-read-table : tie.Need-array-read-table Inv-loop μ-loop
+array-read-table c = omega arith
 
-array-write-p : tie.Need-array-write-p Inv-loop μ-loop
-array-write-p c = omega (arith, c .before .loop .inv .long)
+array-write-table : tie.Need-array-write-table Inv-loop μ-loop
+array-write-table c = omega (arith, c .before .loop .inv .long)
 
 add-i : tie.Need-add-i Inv-loop μ-loop
 add-i c = omega arith
@@ -42,8 +42,8 @@ plan-spec =
     Inv-loop
     μ-loop
     loop-holds
-    array-read-p
-    array-write-p
+    array-read-table
+    array-write-table
     add-i
     loop-less
     loop-again

@@ -12,7 +12,7 @@ returns c =
     let a = i .before .before .before .before .before .before .args in
     let e = t .server-step .ensures in
     rw (c .after-server .ensures)
-    (first-server (a .s0 .now) (a .log0 .now) (a .s1 .now) (a .log1 .now) (a .store .now) _ (a .m) (a .n) (a .l) (t .server-step .result) (i .if1 .taken) (e .0), e .1)
+    (first-server (a .s0 .now) (a .log0 .now) (a .s1 .now) (a .log1 .now) (a .store .now) _ (a .memory) (a .number) (a .line) (t .server-step .result) (i .if1 .taken) (e .0), e .1)
 
 returns-2 : tie.Need-returns-2
 returns-2 c =
@@ -21,7 +21,7 @@ returns-2 c =
     let a = i .before .before .before .before .before .before .before .args in
     let e = t .server-step2 .ensures in
     rw (c .after-server2 .ensures)
-    (second-server (a .s0 .now) (a .log0 .now) (a .s1 .now) (a .log1 .now) (a .store .now) _ (a .m) (a .n) (a .l) (t .server-step2 .result) (i .if2 .taken) (e .0), e .1)
+    (second-server (a .s0 .now) (a .log0 .now) (a .s1 .now) (a .log1 .now) (a .store .now) _ (a .memory) (a .number) (a .line) (t .server-step2 .result) (i .if2 .taken) (e .0), e .1)
 
 returns-3 : tie.Need-returns-3
 returns-3 c =
@@ -32,7 +32,7 @@ returns-3 c =
     let e = t .told .ensures in
     let p = a .store .now in
     rw (c .after-server3 .ensures)
-    (no-such-server (a .s0 .now) (a .log0 .now) (a .s1 .now) (a .log1 .now) p p (a .m) (a .n) (a .l) (t .told .result) (j .if1 .left) (i .if2 .left) (e .0) (e .1), same-count (e .0))
+    (no-such-server (a .s0 .now) (a .log0 .now) (a .s1 .now) (a .log1 .now) p p (a .memory) (a .number) (a .line) (t .told .result) (j .if1 .left) (i .if2 .left) (e .0) (e .1), same-count (e .0))
 
 pub server-line-spec : {M : Type 1} → statement M
 server-line-spec =

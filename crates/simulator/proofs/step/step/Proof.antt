@@ -12,7 +12,7 @@ returns c =
     let a = l .before .before .before .before .before .before .before .args in
     let e = t .told .ensures in
     rw (c .after-server .ensures, l .enum-told .given .1)
-    (no-line (a .s0 .now) (a .log0 .now) (a .s1 .now) (a .log1 .now) (a .store .now) (a .m) (t .told .result) (e .0) (e .1), same-count (e .0))
+    (no-line (a .s0 .now) (a .log0 .now) (a .s1 .now) (a .log1 .now) (a .store .now) (a .memory) (t .told .result) (e .0) (e .1), same-count (e .0))
 
 returns-2 : tie.Need-returns-2
 returns-2 c =

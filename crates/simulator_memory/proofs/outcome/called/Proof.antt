@@ -33,7 +33,7 @@ returns-2 c =
     let a = i .before .before .before .before in
     let out = a .args .out .now in
     made-by _ _ _ _ _ _ (take (n .lesser .result - 0) out) (a .pre .0) (omega (arith, take-most (n .lesser .result - 0) out, a .pre .1))
-    (rw (n .lesser .ensures) (front-part (a .args .a .wrote) out)) (p .put-packet .ensures) (c .made-one .ensures .0) (c .made-one .ensures .1) (i .if1 .left)
+    (rw (n .lesser .ensures) (front-part (a .args .answer .wrote) out)) (p .put-packet .ensures) (c .made-one .ensures .0) (c .made-one .ensures .1) (i .if1 .left)
 
 pub called-spec : {M : Type 1} → statement M
 called-spec =

@@ -8,11 +8,11 @@ use Rattle.simulator_memory.proofs.outcome.received_reply.Tie as tie
 
 returns : tie.Need-returns
 unfolding receiveNumber brought
-returns c = rw (c .before .before .a .given .1) (c .plain-reply .ensures)
+returns c = rw (c .before .before .answer .given .1) (c .plain-reply .ensures)
 
 returns-2 : tie.Need-returns-2
 unfolding receiveNumber brought
-returns-2 c = rw (c .before .a2 .given .1) refl
+returns-2 c = rw (c .before .answer2 .given .1) refl
 
 returns-3 : tie.Need-returns-3
 unfolding receiveNumber brought

@@ -6,14 +6,14 @@ use Rattle.simulator_memory.proofs.outcome.sent.Statement.{statement}
 use Rattle.simulator_memory.proofs.outcome.sent.Tie as tie
 
 returns : tie.Need-returns
-returns c = told-sent _ _ _ _ (c .before .before .a .given .1) (c .before .before .before .before .before .pre .1) (c .told .ensures .0) (c .told .ensures .1)
+returns c = told-sent _ _ _ _ (c .before .before .answer .given .1) (c .before .before .before .before .before .pre .1) (c .told .ensures .0) (c .told .ensures .1)
 
 returns-2 : tie.Need-returns-2
 returns-2 c =
     let p = c .before .before .before in
     let q = p .before .before .before in
     let a = q .before .before in
-    made-sent _ _ _ _ _ (a .a2 .given .1) (a .before .before .before .pre .0) (q .request-packet .ensures) (p .put-packet .ensures) (c .made-one .ensures .0) (c .made-one .ensures .1)
+    made-sent _ _ _ _ _ (a .answer2 .given .1) (a .before .before .before .pre .0) (q .request-packet .ensures) (p .put-packet .ensures) (c .made-one .ensures .0) (c .made-one .ensures .1)
 
 pub sent-spec : {M : Type 1} → statement M
 sent-spec =

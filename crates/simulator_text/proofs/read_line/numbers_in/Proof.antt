@@ -17,8 +17,8 @@ abbrev μ-loop : tie.MeasureT-loop
 loop-holds : tie.Need-loop-holds Inv-loop μ-loop
 loop-holds c = reading-start _ _ (c .before .before .pre)
 
-add-e : tie.Need-add-e Inv-loop μ-loop
-add-e c =
+add-end : tie.Need-add-end Inv-loop μ-loop
+add-end c =
     let at-loop = c .before .before .before in
     omega (arith, field-end (at-loop .before .before .before .args .s .now) (at-loop .loop .at) (c .before .before .loop-test .taken) (c .find .ensures .1))
 
@@ -43,13 +43,13 @@ slice-write-ns : tie.Need-slice-write-ns Inv-loop μ-loop
 slice-write-ns c =
     let at-field = c .before .before .before in
     let at-loop = at-field .before .before .before .before .before in
-    omega (arith, at-loop .loop .inv .long, field-place (at-loop .loop .k) _ (at-field .field-in .ensures) (c .before .x .given .1))
+    omega (arith, at-loop .loop .inv .long, field-place (at-loop .loop .k) _ (at-field .field-in .ensures) (c .before .number .given .1))
 
 mul-ns : tie.Need-mul-ns Inv-loop μ-loop
 mul-ns c =
     let at-field = c .before .before .before in
     let at-loop = at-field .before .before .before .before .before in
-    omega (arith, field-place (at-loop .loop .k) _ (at-field .field-in .ensures) (c .before .x .given .1))
+    omega (arith, field-place (at-loop .loop .k) _ (at-field .field-in .ensures) (c .before .number .given .1))
 
 add-k : tie.Need-add-k Inv-loop μ-loop
 add-k c = omega (arith, c .before .before .before .before .before .before .before .before .loop .inv .most)
@@ -70,7 +70,7 @@ loop-again c =
     let at-field = c .before .before .before in
     let at-find = at-field .before .before in
     let at-test = at-find .before .before in
-    reading-next (at-test .before .loop .inv) (at-test .loop-test .taken) (at-find .find .ensures) (at-field .field-in .ensures) (c .before .x .given .1)
+    reading-next (at-test .before .loop .inv) (at-test .loop-test .taken) (at-find .find .ensures) (at-field .field-in .ensures) (c .before .number .given .1)
 
 same-length-2 : tie.Need-same-length-2 Inv-loop μ-loop
 same-length-2 c = omega (arith, c .before .loop .inv .long, c .before .before .before .before .pre)
@@ -89,7 +89,7 @@ numbers-in-spec =
     (λ c. omega arith)
     (λ c. omega arith)
     (λ c κs. tt)
-    add-e
+    add-end
     (λ c. omega arith)
     (λ c. omega arith)
     part-field-in-end

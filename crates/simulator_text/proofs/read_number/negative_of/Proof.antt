@@ -13,11 +13,11 @@ returns c = rw (c .enum-told .given .1) refl
 
 returns-2 : tie.Need-returns-2
 unfolding negative
-returns-2 c = rw (c .before .before .n .given .1) (search picks depth 12)
+returns-2 c = rw (c .before .before .number .given .1) (search picks depth 12)
 
 returns-3 : tie.Need-returns-3
 unfolding negative
-returns-3 c = rw (c .before .before .n .given .1) (search picks depth 12)
+returns-3 c = rw (c .before .before .number .given .1) (search picks depth 12)
 
 pub negative-of-spec : {M : Type 1} → statement M
 negative-of-spec = tie.close (tie.spec (λ c. search needs) (λ c. search needs) returns returns-2 returns-3)

@@ -62,7 +62,7 @@ module _ (t : ℕ) where
   put-byte-requires-2 c κs =
       let d = c .before .before .before in
       let a = d .before .before .before .before .before .args in
-      omega (arith, d .put-digits .ensures .behind, length-digits (a .k - 1) (a .v / 10), d .put-digits .kept .0)
+      omega (arith, d .put-digits .ensures .behind, length-digits (a .room - 1) (a .v / 10), d .put-digits .kept .0)
 
   same-length-2 : lts.Need-same-length-2 called At Post
   same-length-2 c =

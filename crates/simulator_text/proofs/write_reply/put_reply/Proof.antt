@@ -23,15 +23,15 @@ put-field-requires-2 : tie.Need-put-field-requires-2
 put-field-requires-2 c κs =
     let f = c .before .before .before in
     let a = f .before .before .before in
-    omega (arith, field-room left1 (a .args .k) (omega (arith, a .pre)) (f .put-field .ensures))
+    omega (arith, field-room left1 (a .args .number) (omega (arith, a .pre)) (f .put-field .ensures))
 
 put-field-requires-3 : tie.Need-put-field-requires-3
 put-field-requires-3 c κs =
     let g = c .before .before .before in
     let f = g .before .before .before .before in
     let a = f .before .before .before in
-    let l = field-room left1 (a .args .k) (omega (arith, a .pre)) (f .put-field .ensures) in
-    omega (arith, field-room left2 (a .args .r .number) (omega (arith, l)) (g .put-field2 .ensures))
+    let l = field-room left1 (a .args .number) (omega (arith, a .pre)) (f .put-field .ensures) in
+    omega (arith, field-room left2 (a .args .reply .number) (omega (arith, l)) (g .put-field2 .ensures))
 
 put-signed-requires : tie.Need-put-signed-requires
 put-signed-requires c κs =
@@ -39,9 +39,9 @@ put-signed-requires c κs =
     let g = h .before .before .before .before in
     let f = g .before .before .before .before in
     let a = f .before .before .before in
-    let l = field-room left1 (a .args .k) (omega (arith, a .pre)) (f .put-field .ensures) in
-    let m = field-room left2 (a .args .r .number) (omega (arith, l)) (g .put-field2 .ensures) in
-    omega (arith, field-room left3 (a .args .r .made) (omega (arith, m)) (h .put-field3 .ensures))
+    let l = field-room left1 (a .args .number) (omega (arith, a .pre)) (f .put-field .ensures) in
+    let m = field-room left2 (a .args .reply .number) (omega (arith, l)) (g .put-field2 .ensures) in
+    omega (arith, field-room left3 (a .args .reply .made) (omega (arith, m)) (h .put-field3 .ensures))
 
 put-byte-requires : tie.Need-put-byte-requires
 put-byte-requires c κs =
@@ -50,10 +50,10 @@ put-byte-requires c κs =
     let g = h .before .before .before .before in
     let f = g .before .before .before .before in
     let a = f .before .before .before in
-    let l = field-room left1 (a .args .k) (omega (arith, a .pre)) (f .put-field .ensures) in
-    let m = field-room left2 (a .args .r .number) (omega (arith, l)) (g .put-field2 .ensures) in
-    let n = field-room left3 (a .args .r .made) (omega (arith, m)) (h .put-field3 .ensures) in
-    omega (arith, put-room signedRoom 1 (length-signed (a .args .r .value)) (omega (arith, n)) (i .put-signed .ensures))
+    let l = field-room left1 (a .args .number) (omega (arith, a .pre)) (f .put-field .ensures) in
+    let m = field-room left2 (a .args .reply .number) (omega (arith, l)) (g .put-field2 .ensures) in
+    let n = field-room left3 (a .args .reply .made) (omega (arith, m)) (h .put-field3 .ensures) in
+    omega (arith, put-room signedRoom 1 (length-signed (a .args .reply .value)) (omega (arith, n)) (i .put-signed .ensures))
 
 returns : tie.Need-returns
 returns c =
@@ -63,7 +63,7 @@ returns c =
     let f = g .before .before .before .before in
     let e = f .before .before .before .before in
     let a = e .before .before .before in
-    put-as (reply-parts (a .args .k) (replyIs (a .args .r)))
+    put-as (reply-parts (a .args .number) (replyIs (a .args .reply)))
     (put-then (put-then (put-then (e .put-field .ensures) (f .put-field2 .ensures)) (g .put-field3 .ensures)) (put-then (h .put-signed .ensures) (i .put-byte .ensures)))
 
 pub put-reply-spec : {M : Type 1} → statement M
