@@ -1,7 +1,6 @@
 -- The places of a lease manager.
 --     run-step, run-end                       the running leases, place after place
 --     clear-not, none-step, none-end          no place must be cleared
---     place-miss, place-hit, place-none       the place of a client's lease
 --     place-end, place-under                  what stands there is the client's lease
 --     place-full, place-free                  client 0 has the first free place
 --     place-new, place-extended               what is stored there
@@ -15,10 +14,10 @@ use native.Mathlib.Numerals.{add-one}
 use lib.Dec.{eqb, leb}
 use lib.ListN.{length, getD, set, take, drop, drop-of-length-le}
 use lib.Seq.{drop-cons, take-suc, take-suc-set, drop-set-lt, append-snoc, take-all}
-use borrow.Author.Tests.{eq-eqb, ne-eqb, eqb-true}
+use borrow.Author.Tests.{eqb-true}
 use Rattle.model.specs.declared.Lease.{Lease}
 use Rattle.model.specs.Choice.{pick}
-use Rattle.model.specs.Tables.{every}
+use Rattle.model.specs.Tables.{every, indexOf}
 use Rattle.model.specs.Leases.{noLease, endedAt, runningAt, leaseEnd, isTaken, withNewLease, extended}
 use Rattle.model_laws.proofs.Tests.{or-left, or-right}
 use Rattle.leases.specs.Changes.{leasePlace}
@@ -66,31 +65,10 @@ pub none-end : (now : ℕ) (ls : List Lease) (i : ℕ) → length ls ≤ i → r
 unfolding runningAt
 none-end now ls i h p = rw (p, take-all i ls h, drop-of-length-le ls h, append-nil) refl
 
--- ---- the place of a client's lease
-
-module _ (x : ℕ) (ls : List Lease) (i : ℕ) (p : leasePlace x ls ≡ i + leasePlace x (drop i ls)) where
-  pub place-miss : i < length ls → (getD ls i noLease .client ≡ x → ⊥) → leasePlace x ls ≡ i + 1 + leasePlace x (drop (i + 1) ls)
-  unfolding leasePlace
-  place-miss h n =
-      let e : leasePlace x (drop i ls) ≡ suc (leasePlace x (drop (i + 1) ls)) = rw (drop-cons ls i noLease h, add-one, ne-eqb _ _ n) refl in
-      omega arith
-
-  pub place-hit : i < length ls → getD ls i noLease .client ≡ x → i ≡ leasePlace x ls
-  unfolding leasePlace
-  place-hit h q =
-      let e : leasePlace x (drop i ls) ≡ 0 = rw (drop-cons ls i noLease h, eq-eqb _ _ q) refl in
-      omega arith
-
-  pub place-none : length ls ≤ i → i ≡ leasePlace x ls
-  unfolding leasePlace
-  place-none h =
-      let e : leasePlace x (drop i ls) ≡ 0 = rw (drop-of-length-le ls h) refl in
-      omega arith
-
 -- ---- what stands there
 
 pub place-end : (x : ℕ) (ls : List Lease) → leaseEnd x ls ≡ getD ls (leasePlace x ls) noLease .lease
-unfolding leaseEnd leasePlace
+unfolding leaseEnd leasePlace indexOf
 place-end x [] = refl
 place-end x (l ∷ ls) = go (eqb (l .client) x) (place-end x ls)
   where
@@ -100,7 +78,7 @@ place-end x (l ∷ ls) = go (eqb (l .client) x) (place-end x ls)
     go false e = e
 
 pub place-under : (x : ℕ) (ls : List Lease) → (getD ls (leasePlace x ls) noLease .lease ≡ 0 → ⊥) → leasePlace x ls < length ls
-unfolding leasePlace
+unfolding leasePlace indexOf
 place-under x [] n = absurd (n refl)
 place-under x (l ∷ ls) n = go (eqb (l .client) x) n (place-under x ls)
   where
@@ -110,7 +88,7 @@ place-under x (l ∷ ls) n = go (eqb (l .client) x) n (place-under x ls)
     go false m k = let h = k m in omega arith
 
 pub place-full : (ls : List Lease) → length ls ≤ leasePlace 0 ls → every isTaken ls ≡ true
-unfolding leasePlace every isTaken
+unfolding leasePlace indexOf every isTaken
 place-full [] h = refl
 place-full (l ∷ ls) h = go (eqb (l .client) 0) h (place-full ls)
   where
@@ -119,7 +97,7 @@ place-full (l ∷ ls) h = go (eqb (l .client) 0) h (place-full ls)
     go false k f = f (omega arith)
 
 pub place-free : (ls : List Lease) → leasePlace 0 ls < length ls → every isTaken ls ≡ false
-unfolding leasePlace every isTaken
+unfolding leasePlace indexOf every isTaken
 place-free [] h = absurd (omega arith)
 place-free (l ∷ ls) h = go (eqb (l .client) 0) h (place-free ls)
   where
@@ -128,7 +106,7 @@ place-free (l ∷ ls) h = go (eqb (l .client) 0) h (place-free ls)
     go false k f = f (omega arith)
 
 pub place-new : (n : Lease) (ls : List Lease) → withNewLease n ls ≡ set ls (leasePlace 0 ls) n
-unfolding withNewLease leasePlace isTaken
+unfolding withNewLease leasePlace indexOf isTaken
 place-new n [] = refl
 place-new n (l ∷ ls) = go (eqb (l .client) 0) (place-new n ls)
   where
@@ -137,7 +115,7 @@ place-new n (l ∷ ls) = go (eqb (l .client) 0) (place-new n ls)
     go false e = ap (λ (t : List Lease). l ∷ t) e
 
 pub place-extended : (x e : ℕ) (ls : List Lease) → extended x e ls ≡ set ls (leasePlace x ls) (record { client = x; lease = e })
-unfolding extended leasePlace
+unfolding extended leasePlace indexOf
 place-extended x e [] = refl
 place-extended x e (l ∷ ls) = go (eqb (l .client) x) (place-extended x e ls)
   where

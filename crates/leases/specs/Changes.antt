@@ -1,10 +1,10 @@
 -- What a call changes of a lease manager, and the answer that it makes: time, the latest client number, what stands at one place, and
 -- whether the leases that have ended are cleared before.
 -- Assumes nothing.
-use Prim.Native.Nat.{ℕ, suc, _+_, _<_, max}
+use Prim.Native.Nat.{ℕ, _+_, _<_, max}
 use mathlib.Core.Path.{_≡_}
 use mathlib.Core.Bool.{Bool, false, _||_}
-use mathlib.Core.List.{List, [], _∷_}
+use mathlib.Core.List.{List}
 use lib.Dec.{eqb, ltb}
 use lib.ListN.{getD, set}
 use Rattle.model.specs.declared.Lease.{Lease}
@@ -13,6 +13,7 @@ use Rattle.model.specs.declared.LeaseAnswer.{LeaseAnswer}
 use Rattle.model.specs.declared.Told.{Told}
 use Rattle.model.specs.declared.Told.the-variants.{NotTold, ByGrant, ByNotice}
 use Rattle.model.specs.Choice.{pick}
+use Rattle.model.specs.Tables.{indexOf}
 use Rattle.model.specs.Leases.{noLease, timeAt, runningAt, spanOk, manager}
 use Rattle.model.specs.Limits.{last32, leaseCount}
 use Rattle.model.specs.Refusals.{noRefusal, malformed, leasesFull, unknown, numbersOut}
@@ -22,8 +23,7 @@ use Rattle.leases.specs.declared.Found.{Found}
 
 -- the place of the client's lease, past the last where it has none; of client 0, the first free place
 unfoldable pub leasePlace : ℕ → List Lease → ℕ
-leasePlace x [] = 0
-leasePlace x (l ∷ ls) = pick (eqb (l .client) x) 0 (suc (leasePlace x ls))
+leasePlace x ls = indexOf (λ l. eqb (l .client) x) ls
 
 -- and the lease's end
 unfoldable pub leaseAt : ℕ → List Lease → Found

@@ -215,7 +215,8 @@ module _ (x c : ℕ) (s : List ℕ) (b : Bytes s) (st : State) (e : checkpointSt
         let w : List ℕ = recordFront checkpointRecord r in
         let v : List ℕ = bytesOf (recordFront checkpointRecord) (row .rest) in
         let u : List ℕ = drop (length (checkpointBytes st)) s in
-        let q : bytesOf (recordFront checkpointRecord) (st .records) ≡ f ++ (w ++ v) = ap (bytesOf (recordFront checkpointRecord)) (row .same) ∙ bytesOf-append (recordFront checkpointRecord) (row .front) (r ∷ row .rest) in
+        let q : bytesOf (recordFront checkpointRecord) (st .records) ≡ f ++ (w ++ v) =
+        ap (bytesOf (recordFront checkpointRecord)) (row .same) ∙ bytesOf-append (recordFront checkpointRecord) (row .front) (r ∷ row .rest) in
         let t : s ≡ (h ++ f) ++ (w ++ (v ++ u))
         = sym (take-append-drop (length (checkpointBytes st)) s)
         ∙ ap (λ (j : List ℕ). j ++ u) (checkpoint-again s b st e ∙ checkpoint-split st ∙ ap (λ (j : List ℕ). h ++ j) q)

@@ -167,8 +167,11 @@ module _ (st : State) where
               bytes-each pointFront (st .points) (all-map PointFits (λ (x : Point). Bytes (pointFront x)) point-front-bytes (st .points) (f .points)),
               (
                 bytes-bytesOf floorCodec (st .floors) (f .floors),
-                (bytes-each (recordFront checkpointRecord) (st .records)
-                    (all-map CompletionFits (λ (r : Completion). Bytes (recordFront checkpointRecord r)) (record-front-bytes checkpointRecord) (st .records) (f .records)), tt),
+                (
+                  bytes-each (recordFront checkpointRecord) (st .records)
+                      (all-map CompletionFits (λ (r : Completion). Bytes (recordFront checkpointRecord r)) (record-front-bytes checkpointRecord) (st .records) (f .records)),
+                  tt,
+                ),
               ),
             ),
           ),

@@ -63,8 +63,12 @@ module _ (s : List ℕ) where
   abbrev floorsOfIt : List ℕ
   floorsOfIt = padded (take floorRow) floorRow clientCount (fronts floorRow (clientsOf s) (drop clientsPart s))
 
+  -- the rows of its completion records, each with all that follows it
+  abbrev recordRows : List (List ℕ)
+  recordRows = fronts (recordWidth s) (recordsOf s) (drop (recordsPart (clientsOf s)) s)
+
   abbrev recordsOfIt : List ℕ
-  recordsOfIt = padded (recordWhole (recordWidth s)) recordRow recordCount (fronts (recordWidth s) (recordsOf s) (drop (recordsPart (clientsOf s)) s))
+  recordsOfIt = padded (recordWhole (recordWidth s)) recordRow recordCount recordRows
 
   abbrev tables : List ℕ
   tables = planOfIt ++ (pointsOfIt ++ (floorsOfIt ++ recordsOfIt))
@@ -81,7 +85,7 @@ module _ (s : List ℕ) where
       ≡ stateMagic ++ (take 8 (drop 4 s) ++ (le32 (clientsOf s) ++ (le32 (recordsOf s) ++ (quad 0 0 0 0 ++ (le64 headSize ++ (le64 headSize ++ tables))))))
   unfolding restored restoredBytes
   restored-run =
-      let rows : recordsOfIt ≡ bytesOf (recordWhole (recordWidth s)) (fronts (recordWidth s) (recordsOf s) (drop (recordsPart (clientsOf s)) s)) ++ replicate (recordRow * (recordCount - recordsOf s)) 0 =
+      let rows : recordsOfIt ≡ bytesOf (recordWhole (recordWidth s)) recordRows ++ replicate (recordRow * (recordCount - recordsOf s)) 0 =
       unfold padded in rw (length-fronts (recordWidth s) (recordsOf s) (drop (recordsPart (clientsOf s)) s)) in
       rw rows (simp append-assoc)
 
@@ -115,8 +119,8 @@ module _ (s : List ℕ) where
                               (all-map Bytes (λ (r : List ℕ). Bytes (take floorRow r)) (bytes-take floorRow) (fronts floorRow (clientsOf s) (drop clientsPart s))
                               (fronts-bytes floorRow (clientsOf s) (drop clientsPart s) (bytes-drop clientsPart s h))),
                           (
-                            padded-fit (recordWhole (recordWidth s)) recordRow recordCount (fronts (recordWidth s) (recordsOf s) (drop (recordsPart (clientsOf s)) s))
-                                (all-map Bytes (λ (r : List ℕ). Bytes (recordWhole (recordWidth s) r)) (record-whole-bytes (recordWidth s)) (fronts (recordWidth s) (recordsOf s) (drop (recordsPart (clientsOf s)) s))
+                            padded-fit (recordWhole (recordWidth s)) recordRow recordCount recordRows
+                                (all-map Bytes (λ (r : List ℕ). Bytes (recordWhole (recordWidth s) r)) (record-whole-bytes (recordWidth s)) recordRows
                                 (fronts-bytes (recordWidth s) (recordsOf s) (drop (recordsPart (clientsOf s)) s) (bytes-drop (recordsPart (clientsOf s)) s h))),
                             tt,
                           ),
@@ -157,16 +161,16 @@ module _ (s : List ℕ) where
         padded-width (take floorRow) floorRow clientCount (fronts floorRow (clientsOf s) (drop clientsPart s)) floors-all
         (rw (length-fronts floorRow (clientsOf s) (drop clientsPart s)) (d .few-clients))
 
-    records-all : All (λ (r : List ℕ). length (recordWhole (recordWidth s) r) ≡ recordRow) (fronts (recordWidth s) (recordsOf s) (drop (recordsPart (clientsOf s)) s))
+    records-all : All (λ (r : List ℕ). length (recordWhole (recordWidth s) r) ≡ recordRow) recordRows
     records-all =
         all-map (λ (r : List ℕ). recordWidth s ≤ length r) (λ (r : List ℕ). length (recordWhole (recordWidth s) r) ≡ recordRow)
         (record-whole-width (recordWidth s) (record-width s .1))
-        (fronts (recordWidth s) (recordsOf s) (drop (recordsPart (clientsOf s)) s))
+        recordRows
         (fronts-long (recordWidth s) (recordsOf s) (drop (recordsPart (clientsOf s)) s) (rw length-drop (omega (arith, d .whole))))
 
     records-long : length recordsOfIt ≡ recordRow * recordCount
     records-long =
-        padded-width (recordWhole (recordWidth s)) recordRow recordCount (fronts (recordWidth s) (recordsOf s) (drop (recordsPart (clientsOf s)) s)) records-all
+        padded-width (recordWhole (recordWidth s)) recordRow recordCount recordRows records-all
         (rw (length-fronts (recordWidth s) (recordsOf s) (drop (recordsPart (clientsOf s)) s)) (d .few-records))
 
     -- ---- the bytes by their parts
@@ -283,16 +287,16 @@ module _ (s : List ℕ) where
       unfolding load
       records-count = length-rows completionOf recordRow (recordsIn (restored s)) (drop recordsStart (restored s)) ∙ restored-records
 
-      records-rows : bytesOf completionBytes (load (restored s) .records) ≡ bytesOf (recordWhole (recordWidth s)) (fronts (recordWidth s) (recordsOf s) (drop (recordsPart (clientsOf s)) s))
+      records-rows : bytesOf completionBytes (load (restored s) .records) ≡ bytesOf (recordWhole (recordWidth s)) recordRows
       unfolding load
       records-rows =
-          let n : length (fronts (recordWidth s) (recordsOf s) (drop (recordsPart (clientsOf s)) s)) ≡ recordsOf s
+          let n : length recordRows ≡ recordsOf s
           = length-fronts (recordWidth s) (recordsOf s) (drop (recordsPart (clientsOf s)) s) in
           rows-again completionCodec (recordsIn (restored s)) (drop recordsStart (restored s)) (bytes-drop recordsStart (restored s) fit)
           (omega (arith, length-drop recordsStart (restored s), restored-long, D .few-records)) (everyRow-true recordRow (recordsIn (restored s)) (drop recordsStart (restored s)))
           ∙ rw (restored-records, drop-floors, ← append-nil recordsOfIt)
           (ap (λ (k : ℕ). take (recordRow * k) (recordsOfIt ++ [])) (sym n)
-          ∙ padded-take (recordWhole (recordWidth s)) recordRow recordCount (fronts (recordWidth s) (recordsOf s) (drop (recordsPart (clientsOf s)) s)) [] records-all)
+          ∙ padded-take (recordWhole (recordWidth s)) recordRow recordCount recordRows [] records-all)
 
       records-again : bytesOf (recordFront (recordWidth s)) (load (restored s) .records) ≡ part (recordsPart (clientsOf s)) (recordWidth s * recordsOf s) s
       records-again =

@@ -33,18 +33,13 @@ fn completion(x: Executed, end: u64) -> Completion
     }
 }
 
-fn executed_point(x: Executed, q: Point) -> Point
-    ensures { λ r. ⌜ r ≡ executedPoint x q ⌝ }
+fn executed_point(executed: Executed, x: Point) -> Point
+    ensures { λ r. ⌜ r ≡ executedPoint executed x ⌝ }
 {
     Point {
-        status: q.status,
-        quality: x.result.quality,
-        destination: q.destination,
-        value: x.result.value,
-        moveNumber: q.moveNumber,
-        takenMove: q.takenMove,
-        giveEnd: q.giveEnd,
-        takeEnd: q.takeEnd,
+        quality: executed.result.quality,
+        value: executed.result.value,
+        ..x
     }
 }
 
@@ -84,13 +79,10 @@ fn gave_point(g: Give, end: u64, x: Point) -> Point
 {
     Point {
         status: constants::GIVEN,
-        quality: x.quality,
         destination: g.destination,
-        value: x.value,
         moveNumber: g.moveNumber,
-        takenMove: x.takenMove,
         giveEnd: end,
-        takeEnd: x.takeEnd,
+        ..x
     }
 }
 
@@ -111,13 +103,7 @@ fn released_point(x: Point) -> Point
 {
     Point {
         status: constants::RELEASED,
-        quality: x.quality,
-        destination: x.destination,
-        value: x.value,
-        moveNumber: x.moveNumber,
-        takenMove: x.takenMove,
-        giveEnd: x.giveEnd,
-        takeEnd: x.takeEnd,
+        ..x
     }
 }
 

@@ -1,5 +1,5 @@
 -- What the loops over the clients' table keep, and what a call in them needs and leaves.
---     Sought, sought-..       the search for a client's place
+--     not-below, is-below     the test in the search for a client's place
 --     is-behind, is-there     the client of an index
 --     Moving, moving-..       rows moved up by one, the last but one first
 --     Packing, packing-..     the rows that a test keeps moved to the front
@@ -18,9 +18,9 @@ use mathlib.Core.List.{List, [], _∷_, _++_}
 use native.Mathlib.Omega.{arith}
 use native.Mathlib.Nat.{add-zero, sub-zero}
 use native.Mathlib.Numerals.{add-one}
-use lib.ListN.{length, getD, set, take, drop, drop-of-length-le, length-drop, length-append}
-use lib.Seq.{take-all, take-suc, take-take, drop-cons, length-take-le, take-at}
-use lib.Dec.{eqb}
+use lib.ListN.{length, getD, set, take, drop, length-drop, length-append}
+use lib.Seq.{take-all, take-suc, take-take, length-take-le, take-at}
+use lib.Dec.{eqb, ltb}
 use borrow.Author.Tests.{lt-ltb, le-ltb, eq-eqb, ne-eqb}
 use Rattle.model.specs.declared.Floor.{Floor}
 use Rattle.model.specs.Limits.{clientCount, floorRow, leastImage}
@@ -45,26 +45,12 @@ use Rattle.state_clients.proofs.Raised as Floors
 
 -- ---- a client's place
 
-pub record Sought (x : ℕ) (fs : List Floor) (i : ℕ) : Type 0 where
-  pub below : i ≤ length fs
-  pub rest : orderedPlace x fs ≡ i + orderedPlace x (drop i fs)
+-- the test of a row that was read
+pub not-below : {f g : Floor} {x : ℕ} → f ≡ g → x ≤ f .client → not (ltb (g .client) x) ≡ true
+not-below {f} {g} {x} p q = rw (← p, le-ltb (f .client) x q)
 
-pub sought-start : (x : ℕ) (fs : List Floor) → Sought x fs 0
-sought-start x fs = record { below = omega arith; rest = omega arith }
-
-module _ {x : ℕ} {fs : List Floor} {i : ℕ} (o : Sought x fs i) where
-  pub sought-hit : {f : Floor} → i < length fs → f ≡ getD fs i noFloor → x ≤ f .client → i ≡ orderedPlace x fs
-  unfolding orderedPlace
-  sought-hit {f} h p q = sym (o .rest ∙ rw (drop-cons fs i noFloor h, ← p, le-ltb (f .client) x q) (add-zero i))
-
-  pub sought-next : {f : Floor} → i < length fs → f ≡ getD fs i noFloor → f .client < x → Sought x fs (i + 1)
-  unfolding orderedPlace
-  sought-next {f} h p q =
-      record { below = omega arith; rest = o .rest ∙ rw (drop-cons fs i noFloor h, ← p, lt-ltb (f .client) x q, add-one) (omega arith) }
-
-  pub sought-none : length fs ≤ i → i ≡ orderedPlace x fs
-  unfolding orderedPlace
-  sought-none h = sym (o .rest ∙ rw (drop-of-length-le fs h) (add-zero i))
+pub is-below : {f g : Floor} {x : ℕ} → f ≡ g → f .client < x → not (ltb (g .client) x) ≡ false
+is-below {f} {g} {x} p q = rw (← p, lt-ltb (f .client) x q)
 
 -- the client of an index
 pub is-behind : (x i : ℕ) (fs : List Floor) → length fs ≤ i → false ≡ isAt x i fs

@@ -21,7 +21,7 @@ use lib.Dec.{eqb, ltb}
 use borrow.Author.Tests.{eqb-true, eqb-false, ltb-true, ltb-false, ne-eqb, lt-ltb, le-ltb}
 use Rattle.model.specs.declared.Floor.{Floor}
 use Rattle.model.specs.Choice.{pick}
-use Rattle.model.specs.Tables.{keep}
+use Rattle.model.specs.Tables.{keep, indexOf}
 use Rattle.model.specs.Apply.{raise, mergeFloors}
 use Rattle.model_laws.specs.Bytes.{All}
 use Rattle.model_laws.specs.Fits.{FloorFits}
@@ -29,18 +29,14 @@ use Rattle.model_invariants.specs.Sound.{Above, Ascending}
 use Rattle.model_invariants.proofs.Lists.{all-to}
 use Rattle.model_laws.proofs.Tests.{and-left}
 use Rattle.model_laws.proofs.Tables.{all-getD}
+use Rattle.model_laws.proofs.Searches.{index-most}
 use Rattle.state_clients.specs.Places.{noFloor}
 use Rattle.state_clients.proofs.Changed.{all-take}
 use Rattle.state_clients.specs.Ordered.{orderedPlace, isAt, isKnown, inserted, raisedAt, movedUp}
 
 pub place-below : (x : ℕ) (fs : List Floor) → orderedPlace x fs ≤ length fs
 unfolding orderedPlace
-place-below x [] = omega arith
-place-below x (f ∷ fs) = go (ltb (f .client) x) (place-below x fs)
-  where
-    go : (b : Bool) → orderedPlace x fs ≤ length fs → pick b (suc (orderedPlace x fs)) 0 ≤ suc (length fs)
-    go true h = omega arith
-    go false h = omega arith
+place-below x fs = index-most (λ (f : Floor). not (ltb (f .client) x)) fs
 
 -- ---- a client in its place
 
@@ -66,15 +62,15 @@ ltb-suc a b = go (ltb a b) refl
     go false e = le-ltb (suc a) (suc b) (omega (arith, ltb-false a b e))
 
 known-nil : (x : ℕ) → isKnown x [] ≡ false
-unfolding isKnown isAt orderedPlace
+unfolding isKnown isAt orderedPlace indexOf
 known-nil x = rw (le-ltb 0 0 (omega arith))
 
 known-cons : (x : ℕ) (f : Floor) (fs : List Floor) → isKnown x (f ∷ fs) ≡ pick (ltb (f .client) x) (isKnown x fs) (eqb (f .client) x)
-unfolding isKnown isAt orderedPlace
+unfolding isKnown isAt orderedPlace indexOf
 known-cons x f fs = go (ltb (f .client) x)
   where
     go : (b : Bool)
-        → (ltb (pick b (suc (orderedPlace x fs)) 0) (suc (length fs)) && eqb (getD (f ∷ fs) (pick b (suc (orderedPlace x fs)) 0) noFloor .client) x)
+        → (ltb (pick (not b) 0 (suc (orderedPlace x fs))) (suc (length fs)) && eqb (getD (f ∷ fs) (pick (not b) 0 (suc (orderedPlace x fs))) noFloor .client) x)
         ≡ pick b (ltb (orderedPlace x fs) (length fs) && eqb (getD fs (orderedPlace x fs) noFloor .client) x) (eqb (f .client) x)
     go true = rw (ltb-suc (orderedPlace x fs) (length fs))
     go false = rw (lt-ltb 0 (suc (length fs)) (omega arith))
@@ -84,7 +80,7 @@ abbrev raised : ℕ → ℕ → List Floor → List Floor
 raised x n fs = pick (isKnown x fs) (raisedAt (orderedPlace x fs) x n fs) (inserted (orderedPlace x fs) (record { client = x; floor = n }) fs)
 
 raise-placed : (x n : ℕ) (fs : List Floor) → raise x n fs ≡ raised x n fs
-unfolding raise orderedPlace raisedAt inserted
+unfolding raise orderedPlace indexOf raisedAt inserted
 raise-placed x n [] = rw (known-nil x)
 raise-placed x n (f ∷ fs) = rw (known-cons x f fs) (go (order (f .client) x) (raise-placed x n fs))
   where
@@ -96,8 +92,8 @@ raise-placed x n (f ∷ fs) = rw (known-cons x f fs) (go (order (f .client) x) (
     go : Order (f .client) x → raise x n fs ≡ raised x n fs
         → pick (eqb (f .client) x) (record { client = x; floor = max (f .floor) n } ∷ fs)
         (pick (ltb x (f .client)) (record { client = x; floor = n } ∷ (f ∷ fs)) (f ∷ raise x n fs))
-        ≡ pick (pick (ltb (f .client) x) (isKnown x fs) (eqb (f .client) x)) (raisedAt (pick (ltb (f .client) x) (suc (orderedPlace x fs)) 0) x n (f ∷ fs))
-        (inserted (pick (ltb (f .client) x) (suc (orderedPlace x fs)) 0) (record { client = x; floor = n }) (f ∷ fs))
+        ≡ pick (pick (ltb (f .client) x) (isKnown x fs) (eqb (f .client) x)) (raisedAt (pick (not (ltb (f .client) x)) 0 (suc (orderedPlace x fs))) x n (f ∷ fs))
+        (inserted (pick (not (ltb (f .client) x)) 0 (suc (orderedPlace x fs))) (record { client = x; floor = n }) (f ∷ fs))
     go (below p q r) ih = rw (p, q, r, ih) (more (isKnown x fs))
     go (same p q) ih = rw (p, q)
     go (above p q r) ih = rw (p, q, r)

@@ -14,6 +14,7 @@ use lib.Dec.{eqb, ltb}
 use borrow.Author.Tests.{eqb-true, ltb-true, ltb-false}
 use Rattle.model.specs.declared.Floor.{Floor}
 use Rattle.model.specs.Choice.{pick}
+use Rattle.model.specs.Tables.{indexOf}
 use Rattle.model.specs.Images.{floorOf}
 use Rattle.model.specs.Limits.{callWindow}
 use Rattle.model_invariants.specs.Sound.{Ascending, Above, InWindow}
@@ -21,7 +22,7 @@ use Rattle.model_invariants.proofs.Floors.{floor-above, above-from}
 use Rattle.state_clients.specs.Places.{placeOf, slotOf}
 
 pub place-known : (x : ℕ) (fs : List Floor) → 1 ≤ floorOf x fs → placeOf x fs < length fs
-unfolding placeOf floorOf
+unfolding placeOf indexOf floorOf
 place-known x [] h = absurd (omega arith)
 place-known x (f ∷ fs) h = go (eqb (f .client) x) h (place-known x fs)
   where
@@ -38,7 +39,7 @@ known-above x y fs a h = go (ltb y x) refl
     go false e = absurd (omega (arith, floor-above x fs (above-from x y fs (ltb-false y x e) a)))
 
 pub place-order : (x y : ℕ) (fs : List Floor) → Ascending fs → x < y → 1 ≤ floorOf x fs → 1 ≤ floorOf y fs → placeOf x fs < placeOf y fs
-unfolding placeOf floorOf
+unfolding placeOf indexOf floorOf
 place-order x y [] a l h k = absurd (omega arith)
 place-order x y (f ∷ fs) a l h k =
     go (eqb (f .client) x) refl (eqb (f .client) y) refl h k (place-order x y fs (a .1) l)

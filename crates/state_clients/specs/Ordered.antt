@@ -2,14 +2,13 @@
 -- Assumes nothing.
 use Prim.Native.Nat.{ℕ, zero, suc, max}
 use mathlib.Core.Path.{_≡_}
-use mathlib.Core.Bool.{Bool, _&&_}
+use mathlib.Core.Bool.{Bool, _&&_, not}
 use mathlib.Core.List.{List, [], _∷_, _++_}
 use lib.ListN.{length, getD, set, take, drop}
 use lib.Dec.{eqb, ltb}
 use Rattle.model.specs.declared.Floor.{Floor}
-use Rattle.model.specs.Choice.{pick}
 use Rattle.model.specs.Limits.{leastImage, floorRow}
-use Rattle.model.specs.Tables.{rows, keep}
+use Rattle.model.specs.Tables.{rows, keep, indexOf}
 use Rattle.model.specs.Images.{floorOfBytes}
 use Rattle.model.specs.States.{load}
 use Rattle.model.specs.Apply.{mergeFloors, isNotClient}
@@ -19,8 +18,7 @@ use Rattle.state_clients.specs.Places.{noFloor}
 
 -- the index of the first client that is not below x, the number of clients where there is none
 unfoldable pub orderedPlace : ℕ → List Floor → ℕ
-orderedPlace x [] = 0
-orderedPlace x (f ∷ fs) = pick (ltb (f .client) x) (suc (orderedPlace x fs)) 0
+orderedPlace x fs = indexOf (λ f. not (ltb (f .client) x)) fs
 
 -- the client of index i is x
 unfoldable pub isAt : ℕ → ℕ → List Floor → Bool

@@ -1,17 +1,16 @@
 -- Places in a table of floors: of a client, and of a call in its client's window.
 -- Assumes nothing.
-use Prim.Native.Nat.{ℕ, suc, _+_, _-_, _*_}
-use mathlib.Core.List.{List, [], _∷_}
+use Prim.Native.Nat.{ℕ, _+_, _-_, _*_}
+use mathlib.Core.List.{List}
 use lib.Dec.{eqb}
 use Rattle.model.specs.declared.Floor.{Floor}
-use Rattle.model.specs.Choice.{pick}
+use Rattle.model.specs.Tables.{indexOf}
 use Rattle.model.specs.Limits.{callWindow}
 use Rattle.model.specs.Images.{floorOf}
 
 -- the index of a client, the number of floors where it is not among them
 unfoldable pub placeOf : ℕ → List Floor → ℕ
-placeOf x [] = 0
-placeOf x (f ∷ fs) = pick (eqb (f .client) x) 0 (suc (placeOf x fs))
+placeOf x fs = indexOf (λ f. eqb (f .client) x) fs
 
 -- what a lookup past the floors' end gives
 abbrev pub noFloor : Floor

@@ -1,3 +1,2 @@
 -- What the contracts of `state_records` cite beside `model` and `model_laws`.
 pub mod Rules
-pub mod Sought

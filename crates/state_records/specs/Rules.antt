@@ -1,9 +1,9 @@
 -- What a search of the completion records answers, and which of them a rule lets stay.
 -- Assumes nothing.
-use Prim.Native.Nat.{ℕ, suc, _+_, _*_, _≤_}
+use Prim.Native.Nat.{ℕ, _+_, _*_, _≤_}
 use mathlib.Core.Path.{_≡_}
-use mathlib.Core.Bool.{Bool, _&&_}
-use mathlib.Core.List.{List, [], _∷_, map}
+use mathlib.Core.Bool.{Bool, _&&_, not}
+use mathlib.Core.List.{List, map}
 use mathlib.Core.Option.{Option, none, some}
 use lib.ListN.{length}
 use Rattle.model.specs.declared.Floor.{Floor}
@@ -11,7 +11,7 @@ use Rattle.model.specs.declared.ImageHead.{ImageHead}
 use Rattle.model.specs.declared.Completion.{Completion}
 use Rattle.model.specs.Choice.{pick}
 use Rattle.model.specs.Limits.{leastImage, floorRow, entryRow}
-use Rattle.model.specs.Tables.{bytesOf, keep, written}
+use Rattle.model.specs.Tables.{bytesOf, keep, indexOf, written}
 use Rattle.model.specs.Images.{imageAt}
 use Rattle.model.specs.States.{State, load, recordsStart, recordRow, completionBytes}
 use Rattle.model.specs.Apply.{staysOver, staysOverFloors, isOfOther, isOnOther, takenRecord}
@@ -33,8 +33,7 @@ staysBy (Beside p) fs = λ r. isOnOther p r && staysOverFloors fs r
 
 -- how many elements in front pass a test, before the first that does not
 unfoldable pub front : {A : Type 0} → (A → Bool) → List A → ℕ
-front t [] = 0
-front t (r ∷ rs) = pick (t r) (suc (front t rs)) 0
+front t rs = indexOf (λ r. not (t r)) rs
 
 -- the completion records of a state that stay by a rule, in their order
 abbrev pub keptBy : Rule → State → List Completion

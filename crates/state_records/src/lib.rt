@@ -17,19 +17,19 @@ use model::constants::RECORDS_START;
 use model::constants::WORD;
 use state_rows::state;
 ghost use mathlib.Core.Path.{_≡_};
-ghost use mathlib.Core.Bool.{true};
+ghost use mathlib.Core.Bool.{true, not};
 ghost use Prim.Native.Nat.{_+_, _*_, _≤_, _<_};
 ghost use mathlib.Core.List.{[], _∷_, _++_};
 ghost use lib.ListN.{length, drop};
 ghost use Rattle.model.specs.Limits.{clientCount, recordCount};
 ghost use Rattle.model.specs.Tables.{rows, every, keep};
-ghost use Rattle.model.specs.States.{load, stateEnd, clientsIn, recordRow, isId, completionOf};
+ghost use Rattle.model.specs.States.{load, stateEnd, clientsIn, recordsStart, recordRow, isId, completionOf};
 ghost use Rattle.model.specs.Apply.{staysOver, staysOverFloors, takenRecord};
-ghost use Rattle.model.specs.Decisions.{find, isNone};
+ghost use Rattle.model.specs.Decisions.{find};
 ghost use Rattle.model.specs.Operations.{stored};
 ghost use Rattle.model_laws.specs.Layout.{withRecords};
+ghost use Rattle.model_laws.specs.Sought.{Sought};
 ghost use Rattle.state_rows.specs.Canonical.{Canonical};
-ghost use Rattle.state_records.specs.Sought.{Sought};
 ghost use Rattle.state_records.specs.Rules.{foundOf, staysBy, front, keptBy, brought, lengthBy, PutKept, CompactedBy, PutEntries};
 
 // What a search finds.
@@ -63,7 +63,7 @@ fn is_id(s: &[u8], k: usize, client: u32, call: u32) -> bool
 // None of the four records from k has the id.
 fn is_past(s: &[u8], k: usize, client: u32, call: u32) -> bool
     requires { ⌜ k + 4 * recordRow ≤ length (now s) ⌝ }
-    ensures { λ r. ⌜ r ≡ isNone (find client call (rows completionOf recordRow 4 (drop k (now (s .entry))))) ⌝ }
+    ensures { λ r. ⌜ r ≡ every (λ x. not (isId client call x)) (rows completionOf recordRow 4 (drop k (now (s .entry)))) ⌝ }
 {
     let a = is_id(s, k, client, call);
     let b = is_id(s, k + RECORD_ROW, client, call);
@@ -75,7 +75,7 @@ fn is_past(s: &[u8], k: usize, client: u32, call: u32) -> bool
 // An index before which none of the n records has the id. Rows are tested eight at a time, so that the loop turns once for eight.
 fn pass(s: &[u8], n: usize, client: u32, call: u32) -> usize
     requires { ⌜ Canonical (now s) × (n ≡ length (load (now s) .records)) ⌝ }
-    ensures { λ i. ⌜ Sought client call (now (s .entry)) n i ⌝ }
+    ensures { λ i. ⌜ Sought (isId client call) (rows completionOf recordRow n (drop recordsStart (now (s .entry)))) i ⌝ }
 {
     let mut i = 0;
     while i + 8 <= n {

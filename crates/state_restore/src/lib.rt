@@ -59,8 +59,7 @@ fn table_pairs(s: &[u8], width: usize) -> bool
         & ((third == start)
             & ((records == width * m)
                 & ((n <= constants::CLIENT_COUNT)
-                    & ((m <= constants::RECORD_COUNT)
-                        & (start + width * m <= s.len())))))
+                    & ((m <= constants::RECORD_COUNT) & (start + width * m <= s.len())))))
 }
 
 // The pairs: first those with one value for all checkpoints.
@@ -222,7 +221,13 @@ pub fn restore(work: &mut [u8], checkpoint: &[u8])
     );
     put_points(work, checkpoint);
     put_clients(work, checkpoint, n);
-    put_records(work, checkpoint, CLIENTS_PART + FLOOR_ROW * n, CHECKPOINT_RECORD, m);
+    put_records(
+        work,
+        checkpoint,
+        CLIENTS_PART + FLOOR_ROW * n,
+        CHECKPOINT_RECORD,
+        m,
+    );
 }
 
 // The state that a checkpoint gives, if it gives one: restored, and sound by the state's own rule.

@@ -11,7 +11,7 @@ use lib.Seq.{drop-drop}
 use lib.Dec.{eqb}
 use borrow.Author.Tests.{eq-eqb, ne-eqb}
 use Rattle.model.specs.declared.Floor.{Floor}
-use Rattle.model.specs.Tables.{rows}
+use Rattle.model.specs.Tables.{rows, indexOf}
 use Rattle.model.specs.Images.{floorOfBytes, clientsAscend}
 use Rattle.model.specs.Limits.{floorRow}
 use Rattle.model_laws.proofs.Tables.{length-rows, getD-rows, all-getD}
@@ -20,7 +20,7 @@ use Rattle.model_invariants.proofs.Tests.{ascends}
 use Rattle.state_clients.specs.Places.{placeOf, noFloor}
 
 place-is : (fs : List Floor) → Ascending fs → (i : ℕ) → i < length fs → i ≡ placeOf (getD fs i noFloor .client) fs
-unfolding placeOf
+unfolding placeOf indexOf
 place-is [] e i h = absurd (omega arith)
 place-is (f ∷ fs) e zero h = rw (eq-eqb (f .client) (f .client) refl)
 place-is (f ∷ fs) e (suc i) h =
