@@ -45,8 +45,8 @@ def letters(path, lines):
     """parameters of one letter whose type is not the letter's"""
     text = '\n'.join('' if COMMENT.match(line) else line for line in lines)
     for function in FUNCTION.finditer(text):
-        for parameter in filter(None, (part.strip() for part in function.group(2).split(','))):
-            name, kind = PARAMETER.fullmatch(parameter).groups()
+        for parameter in filter(None, (PARAMETER.fullmatch(part.strip()) for part in function.group(2).split(','))):
+            name, kind = parameter.groups()
             if len(name) == 1 and LETTERS.get(name) != kind:
                 due = 'is %s' % LETTERS[name] if name in LETTERS else 'stands for no type'
                 yield '%s:%d: %s: %s is %s; the letter %s' % (path, text.count('\n', 0, function.start()) + 1, function.group(1), name, kind, due)

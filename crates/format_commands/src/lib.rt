@@ -138,7 +138,8 @@ fn end_past(e: PlanEntry, v: u32, a: u32) -> u32
 
 // v + a, where it is in range; else the end that it is past, outcome 4.
 fn step_valid(e: PlanEntry, a: u32, r: Reading) -> CommandResult
-    ensures { λ x. ⌜ x ≡ pick (sumInRange e (r .value) a) (result carriedOut (r .value + a - half) (r .quality)) (pastEnd second e a r) ⌝ }
+    ensures { λ x. ⌜ x ≡ pick (sumInRange e (r .value) a) (result carriedOut (r .value + a - half) (r .quality))
+        (pastEnd second e a r) ⌝ }
 {
     let v = r.value;
     let q = r.quality;
@@ -149,7 +150,8 @@ fn step_valid(e: PlanEntry, a: u32, r: Reading) -> CommandResult
     }
 }
 
-// What a step of a valid value gives is found before the quality is looked at: a choice, and no jump that a processor guesses.
+// What a step of a valid value gives is found before the quality is looked at: a choice, and no jump that a processor
+// guesses.
 fn step_rule(e: PlanEntry, a: u32, r: Reading) -> CommandResult
     ensures { λ x. ⌜ x ≡ stepRule second e a r ⌝ }
 {
@@ -185,7 +187,8 @@ fn last_bit(n: u64) -> u64
     n & 1
 }
 
-// low + m / 1000, the quotient to the nearest, an exact half to the even one. What is left of m is found by a product, without a second division.
+// low + m / 1000, the quotient to the nearest, an exact half to the even one. What is left of m is found by a product,
+// without a second division.
 fn part_value(low: u32, m: u64) -> u64
     ensures { λ x. ⌜ x ≡ low + nearest m wholePart ⌝ }
 {
@@ -211,8 +214,8 @@ fn part_rule(e: PlanEntry, a: u32) -> CommandResult
     result_of(constants::CARRIED_OUT, v as u32, constants::VALID)
 }
 
-// A command's result: outcome, and value and quality after it. An argument outside its op's range changes nothing, outcome 1;
-// set, step and report take any.
+// A command's result: outcome, and value and quality after it. An argument outside its op's range changes nothing,
+// outcome 1; set, step and report take any.
 pub fn checked_rule(e: PlanEntry, op: u8, argument: u32, r: Reading) -> CommandResult
     ensures { λ x. ⌜ x ≡ checkedRule e op argument r ⌝ }
 {

@@ -1,5 +1,5 @@
-// Numbers in a slice of bytes, and fields in their ranges. Numbers are little-endian; a signed number x of 32 bits is x + 2^31
-// inside and two's complement in a slice.
+// Numbers in a slice of bytes, and fields in their ranges. Numbers are little-endian; a signed number x of 32 bits is
+// x + 2^31 inside and two's complement in a slice.
 use model::ArgumentRange;
 use model::PlanEntry;
 use model::constants::ARGUMENT_RANGES;
@@ -187,8 +187,8 @@ fn in_arguments(r: ArgumentRange, a: u32) -> bool
     (r.least <= a) & (a <= r.greatest)
 }
 
-// The argument lies in its op's range; an op past the last has none. With a literal index the table stays in memory; with another it
-// is copied to the stack first.
+// The argument lies in its op's range; an op past the last has none. With a literal index the table stays in memory;
+// with another it is copied to the stack first.
 pub fn argument_ok(op: u8, a: u32) -> bool
     ensures { λ r. ⌜ r ≡ argumentOk op a ⌝ }
 {
