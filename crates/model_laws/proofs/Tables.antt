@@ -1,4 +1,5 @@
 -- Laws of tables: rows of one width, over a Codec.
+--     row-next, row-end, rows-left, places     the bytes of i rows and one more; a row ends within m rows; the rows from it on; m of n rows and the others
 --     length-rows, rows-append, rows-snoc, getD-rows, rows-cons     rows as they are read, from a place, from an index on
 --     everyRow-rows, everyRow-cons, everyRow-true
 --     bytesOf-append, bytesOf-one, length-bytesOf, bytes-bytesOf    the bytes of rows
@@ -27,6 +28,22 @@ use Rattle.model_laws.specs.Codec.{Codec}
 use Rattle.model_laws.proofs.Tests.{and-left, and-right, and-both}
 use Rattle.model_laws.proofs.Numbers.{bytes-nil, bytes-cons, bytes-append, bytes-drop}
 use Rattle.model_laws.proofs.Written.{take-written, drop-written-past, written-again}
+
+-- ---- rows of w bytes: w * i is one term
+
+pub row-next : (w i : ℕ) → w * i + w ≡ w * (i + 1)
+row-next w i = rw (add-one, mul-suc) (omega arith)
+
+-- m of n places of w bytes, and the others
+pub places : (w m n : ℕ) → m ≤ n → w * m + w * (n - m) ≡ w * n
+places w m n h = let e : m + (n - m) ≡ n = omega arith in sym (mul-add w m (n - m)) ∙ ap (λ (x : ℕ). w * x) e
+
+pub row-end : (w i m : ℕ) → i < m → w * i + w ≤ w * m
+row-end w i m h = omega (arith, row-next w i, places w (i + 1) m (omega arith))
+
+-- the rows from index i on, the first apart
+pub rows-left : (w i m : ℕ) → i < m → w * i + w * (m - (i + 1) + 1) ≡ w * m
+rows-left w i m h = let e : m - (i + 1) + 1 ≡ m - i = omega arith in rw e (places w i m (omega arith))
 
 -- ---- rows
 
@@ -67,7 +84,7 @@ module _ {A : Type 0} (dec : List ℕ → A) (w : ℕ) where
   unfolding rows
   rows-cons s k i n h =
       let e : n - i ≡ suc (n - (i + 1)) = omega arith in
-      let q : k + w * i + w ≡ k + w * (i + 1) = rw (add-one, mul-suc) (omega arith) in
+      let q : k + w * i + w ≡ k + w * (i + 1) = omega (arith, row-next w i) in
       rw (e, drop-drop, q)
 
 -- each row passes a test of its bytes, which is a test of the row
@@ -82,17 +99,13 @@ pub everyRow-cons : (t : List ℕ → Bool) (w : ℕ) (s : List ℕ) (k i n : �
 unfolding everyRow
 everyRow-cons t w s k i n h =
     let e : n - i ≡ suc (n - (i + 1)) = omega arith in
-    let q : k + w * i + w ≡ k + w * (i + 1) = rw (add-one, mul-suc) (omega arith) in
+    let q : k + w * i + w ≡ k + w * (i + 1) = omega (arith, row-next w i) in
     rw (e, drop-drop, q)
 
 pub everyRow-true : (w n : ℕ) (s : List ℕ) → everyRow (λ x. true) w n s ≡ true
 unfolding everyRow
 everyRow-true w zero s = refl
 everyRow-true w (suc n) s = everyRow-true w n (drop w s)
-
--- m of n places of w bytes, and the others
-pub places : (w m n : ℕ) → m ≤ n → w * m + w * (n - m) ≡ w * n
-places w m n h = let e : m + (n - m) ≡ n = omega arith in sym (mul-add w m (n - m)) ∙ ap (λ (x : ℕ). w * x) e
 
 -- ---- the bytes of rows
 
