@@ -40,14 +40,7 @@ fn write_frame(out: &mut [u8], h: ImageHead)
     requires { ⌜ leastImage ≤ length (now out) ⌝ }
     ensures { λ r. ⌜ now (out .exit) ≡ written (now (out .entry)) 0 (frameBytes h) ⌝ }
 {
-    format_numbers::write_4(
-        out,
-        0,
-        IMAGE_MAGIC[0],
-        IMAGE_MAGIC[1],
-        IMAGE_MAGIC[2],
-        IMAGE_MAGIC[3],
-    );
+    format_numbers::write_magic(out, IMAGE_MAGIC);
     format_numbers::write_4(
         out,
         constants::IMAGE_POINT,

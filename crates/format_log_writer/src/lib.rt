@@ -21,14 +21,7 @@ pub fn write_head(log: &mut [u8], n: u8)
     requires { ⌜ headSize ≤ length (now log) ⌝ }
     ensures { λ r. ⌜ now (log .exit) ≡ written (now (log .entry)) 0 (headBytes n) ⌝ }
 {
-    format_numbers::write_4(
-        log,
-        0,
-        LOG_MAGIC[0],
-        LOG_MAGIC[1],
-        LOG_MAGIC[2],
-        LOG_MAGIC[3],
-    );
+    format_numbers::write_magic(log, LOG_MAGIC);
     format_numbers::write_4(log, constants::HEAD_SERVER, n, 0, 0, 0);
 }
 

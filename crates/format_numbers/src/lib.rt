@@ -18,7 +18,7 @@ use model::constants::WORD;
 ghost use mathlib.Core.Path.{_≡_};
 ghost use Prim.Native.Nat.{_+_, _*_, _≤_, _<_, max};
 ghost use lib.ListN.{length};
-ghost use Rattle.model.specs.Numbers.{join32, word, le32At, le32, le64At, le64, signedAt, signed32, flip, zeroAt, zeros3At, quad, startsWith};
+ghost use Rattle.model.specs.Numbers.{join32, word, le32At, le32, le64At, le64, signedAt, signed32, flip, zeroAt, zeros3At, quad, startsWith, byteAt};
 ghost use Rattle.model.specs.Tables.{written};
 ghost use Rattle.model.specs.Plan.{inRange};
 ghost use Rattle.model_laws.specs.Bytes.{part};
@@ -66,6 +66,15 @@ pub fn write_4(s: &mut [u8], at: usize, a: u8, b: u8, c: u8, d: u8)
     s[at + 1] = b;
     s[at + 2] = c;
     s[at + 3] = d;
+}
+
+// Stores a magic at the front.
+pub fn write_magic(s: &mut [u8], magic: [u8; 4])
+    requires { ⌜ 4 ≤ length (now s) ⌝ }
+    ensures { λ r. ⌜ now (s .exit)
+        ≡ written (now (s .entry)) 0 (quad (byteAt magic 0) (byteAt magic 1) (byteAt magic 2) (byteAt magic 3)) ⌝ }
+{
+    write_4(s, 0, magic[0], magic[1], magic[2], magic[3]);
 }
 
 // Stores v in the 4 bytes from at.

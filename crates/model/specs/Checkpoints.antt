@@ -4,7 +4,7 @@
 --     44 plan, 64 × 16    1068 points, 64 × 16    2092 clients, 8 bytes each    then completion records, 20 bytes each, in the state's order
 -- A row of a point or of a completion record is the front of the state's row; left out are the ends of log records, which close that row.
 -- Assumes nothing.
-use Prim.Native.Nat.{ℕ, suc, _+_, _-_, _*_, _/_}
+use Prim.Native.Nat.{ℕ, _+_, _-_, _*_, _/_}
 use mathlib.Core.Bool.{Bool, true, false, _&&_, _||_, not}
 use mathlib.Core.List.{List, [], _∷_, _++_, map}
 use mathlib.Core.Option.{Option, none, some}
@@ -20,7 +20,7 @@ use Rattle.model.specs.Numbers.{le32At, le32, le64, quad, startsWith}
 use Rattle.model.specs.Refusals.{tooShort, notSynced, badLog, unknown, unsound, noRefusal}
 use Rattle.model.specs.Limits.{stateSize, headSize, planSize, pointCount, clientCount, recordCount, floorRow, executedSize, takeHead}
 use Rattle.model.specs.Limits.{checkpointSize, checkpointPairs, checkpointHead, checkpointPoint, checkpointRecord}
-use Rattle.model.specs.Tables.{rows, bytesOf, written}
+use Rattle.model.specs.Tables.{rows, bytesOf, indexOf, written}
 use Rattle.model.specs.Plan.{planBytes}
 use Rattle.model.specs.Images.{floorBytes, entryWidth, entriesStart, imageHead}
 use Rattle.model.specs.Logs.{LogRecord, executed, gone, gave, took, released, headBytes, headServer, recordAt, endsOf}
@@ -87,30 +87,36 @@ clientsPart = pointsPart + checkpointPoint * pointCount
 abbrev pub recordsPart : ℕ → ℕ
 recordsPart n = clientsPart + floorRow * n
 
--- the four pairs, with n clients and k completion records
-unfoldable pub pairsBytes : ℕ → ℕ → List ℕ
-pairsBytes n k =
+-- the four pairs, with n clients and k completion records of w bytes
+unfoldable pub pairsBytes : ℕ → ℕ → ℕ → List ℕ
+pairsBytes w n k =
     le32 planPart
     ++ (le32 planSize
     ++ (le32 pointsPart
     ++ (le32 (checkpointPoint * pointCount)
-    ++ (le32 clientsPart ++ (le32 (floorRow * n) ++ (le32 (recordsPart n) ++ le32 (checkpointRecord * k)))))))
+    ++ (le32 clientsPart ++ (le32 (floorRow * n) ++ (le32 (recordsPart n) ++ le32 (w * k)))))))
 
 unfoldable pub pointFront : Point → List ℕ
 pointFront x = take checkpointPoint (pointBytes x)
 
-unfoldable pub recordFront : Completion → List ℕ
-recordFront r = take checkpointRecord (completionBytes r)
+-- the first w bytes of the state's row
+unfoldable pub recordFront : ℕ → Completion → List ℕ
+recordFront w r = take w (completionBytes r)
 
 unfoldable pub checkpointBytes : State → List ℕ
 checkpointBytes st =
     checkpointMagic
     ++ (quad (st .server) 0 0 0
     ++ (le32 (st .heard)
-    ++ (pairsBytes (length (st .floors)) (length (st .records))
-    ++ (planBytes (st .plan) ++ (bytesOf pointFront (st .points) ++ (bytesOf floorBytes (st .floors) ++ bytesOf recordFront (st .records)))))))
+    ++ (pairsBytes checkpointRecord (length (st .floors)) (length (st .records))
+    ++ (planBytes (st .plan)
+    ++ (bytesOf pointFront (st .points) ++ (bytesOf floorBytes (st .floors) ++ bytesOf (recordFront checkpointRecord) (st .records)))))))
 
 -- ---- reading: the bytes of the state that a checkpoint keeps, which then has to be sound by the state's own rule
+
+-- the bytes of a completion record in the checkpoint s, by its form: there is one
+unfoldable pub recordWidth : List ℕ → ℕ
+recordWidth s = checkpointRecord
 
 -- numbers of clients and of completion records, by the lengths of their parts
 abbrev pub clientsSizeIn : List ℕ → ℕ
@@ -123,15 +129,16 @@ unfoldable pub clientsOf : List ℕ → ℕ
 clientsOf s = clientsSizeIn s / floorRow
 
 unfoldable pub recordsOf : List ℕ → ℕ
-recordsOf s = recordsSizeIn s / checkpointRecord
+recordsOf s = recordsSizeIn s / recordWidth s
 
 -- the state's row of a point, from its front: given and released ones have a give, those with a latest taken move a take, before this log
 unfoldable pub pointWhole : List ℕ → List ℕ
 pointWhole s =
     take checkpointPoint s ++ (le64 (pick (leb given (statusIn s)) headSize 0) ++ le64 (pick (eqb (takenMoveIn s) 0) 0 headSize))
 
-unfoldable pub recordWhole : List ℕ → List ℕ
-recordWhole s = take checkpointRecord s ++ le64 headSize
+-- that of a completion record, from the first w bytes of its front: the rest of the front is zero, its end before this log
+unfoldable pub recordWhole : ℕ → List ℕ → List ℕ
+recordWhole w s = take w s ++ (replicate (checkpointRecord - w) 0 ++ le64 headSize)
 
 -- n rows of w bytes, each with all that follows it
 unfoldable pub fronts : ℕ → ℕ → List ℕ → List (List ℕ)
@@ -150,7 +157,7 @@ restoredBytes s =
     ++ (take planSize (drop planPart s)
     ++ (bytesOf pointWhole (fronts checkpointPoint pointCount (drop pointsPart s))
     ++ (padded (take floorRow) floorRow clientCount (fronts floorRow (clientsOf s) (drop clientsPart s))
-    ++ bytesOf recordWhole (fronts checkpointRecord (recordsOf s) (drop (recordsPart (clientsOf s)) s)))))))))))
+    ++ bytesOf (recordWhole (recordWidth s)) (fronts (recordWidth s) (recordsOf s) (drop (recordsPart (clientsOf s)) s)))))))))))
 
 -- in a buffer of zeros, as long as the state's own test asks
 unfoldable pub restored : List ℕ → List ℕ
@@ -168,9 +175,9 @@ checkpointFramed s =
     && (eqb (le32At s 28) clientsPart
     && (eqb (clientsSizeIn s) (floorRow * clientsOf s)
     && (eqb (le32At s 36) (recordsPart (clientsOf s))
-    && (eqb (recordsSizeIn s) (checkpointRecord * recordsOf s)
+    && (eqb (recordsSizeIn s) (recordWidth s * recordsOf s)
     && (leb (clientsOf s) clientCount
-    && (leb (recordsOf s) recordCount && leb (recordsPart (clientsOf s) + checkpointRecord * recordsOf s) (length s))))))))))))
+    && (leb (recordsOf s) recordCount && leb (recordsPart (clientsOf s) + recordWidth s * recordsOf s) (length s))))))))))))
 
 -- the state that a checkpoint gives; none where it is off its layout, or the state unsound
 unfoldable pub checkpointState : List ℕ → Option State
@@ -244,11 +251,6 @@ placeAt source k n = record { refusal = noRefusal; source = source; start = k; e
 abbrev pub noPlace : ℕ → Place
 noPlace n = record { refusal = n; source = 0; start = 0; end = 0 }
 
--- the index of the first that passes a test, their number where none does
-unfoldable pub indexOf : {A : Type 0} → (A → Bool) → List A → ℕ
-indexOf t [] = 0
-indexOf t (r ∷ rs) = pick (t r) 0 (suc (indexOf t rs))
-
 -- the one of rows of w bytes from k on that passes a test; `found` where none does
 unfoldable pub placeAmong : {A : Type 0} → ℕ → ℕ → ℕ → (A → Bool) → List A → Place → Place
 placeAmong source k w t rs found = pick (ltb (indexOf t rs) (length rs)) (placeAt source (k + w * indexOf t rs) w) found
@@ -276,8 +278,8 @@ latestIn x c log k (e ∷ es) found = latestIn x c log e es (latestOf x c k (rec
 unfoldable pub placeInCheckpoint : ℕ → ℕ → List ℕ → Place
 placeInCheckpoint x c checkpoint =
     pick (leb 1 (length checkpoint))
-    (placeAmong inCheckpoint (recordsPart (clientsOf checkpoint)) checkpointRecord (isId x c) (load (restored checkpoint) .records)
-    (noPlace unknown))
+    (placeAmong inCheckpoint (recordsPart (clientsOf checkpoint)) (recordWidth checkpoint) (isId x c)
+    (load (restored checkpoint) .records) (noPlace unknown))
     (noPlace unknown)
 
 -- there is a checkpoint, but no state in it, or that of a server other than the tail's

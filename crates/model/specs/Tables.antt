@@ -32,6 +32,11 @@ unfoldable pub keep : {A : Type 0} → (A → Bool) → List A → List A
 keep t [] = []
 keep t (r ∷ rs) = pick (t r) (r ∷ keep t rs) (keep t rs)
 
+-- the index of the first that passes a test, their number where none does
+unfoldable pub indexOf : {A : Type 0} → (A → Bool) → List A → ℕ
+indexOf t [] = 0
+indexOf t (r ∷ rs) = pick (t r) 0 (suc (indexOf t rs))
+
 -- n bytes from the front are zero
 unfoldable pub zeros : ℕ → List ℕ → Bool
 zeros zero s = true

@@ -20,13 +20,13 @@ use Rattle.model.specs.declared.Executed.{Executed}
 use Rattle.model.specs.declared.Place.{Place}
 use Rattle.model.specs.Choice.{pick}
 use Rattle.model.specs.Limits.{headSize, executedSize, takeHead}
-use Rattle.model.specs.Tables.{keep}
+use Rattle.model.specs.Tables.{keep, indexOf}
 use Rattle.model.specs.Images.{Image, entryWidth, entriesStart, imageHead}
 use Rattle.model.specs.Logs.{LogRecord, executed, gone, gave, took, released, Entry, recordSize}
 use Rattle.model.specs.States.{State}
 use Rattle.model.specs.Apply.{isOnOther, completion, takenRecord, applyExecuted, applyGone, applyGave, applyTook, applyReleased, applyRecord, apply, replayFrom}
 use Rattle.model.specs.Decisions.{follows, entryOfRecord}
-use Rattle.model.specs.Checkpoints.{inRecord, inImage, placeAt, indexOf, placeAmong, isEntryId, latestOf}
+use Rattle.model.specs.Checkpoints.{inRecord, inImage, placeAt, placeAmong, isEntryId, latestOf}
 use Rattle.model_laws.specs.Bytes.{All}
 use Rattle.model_laws.specs.Fits.{EntriesFrom, lastEnd}
 use Rattle.model_laws.proofs.Reflects.{eq, both}

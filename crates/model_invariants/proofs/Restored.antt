@@ -13,11 +13,11 @@ use mathlib.Core.Option.{some}
 use native.Mathlib.Omega.{arith}
 use lib.ListN.{length, take, drop}
 use lib.Seq.{length-take-le}
-use Rattle.model.specs.Limits.{headSize, checkpointSize, checkpointRecord}
+use Rattle.model.specs.Limits.{headSize, checkpointSize}
 use Rattle.model.specs.Tables.{written}
 use Rattle.model.specs.States.{State, stateEnd, load, sound}
 use Rattle.model.specs.Operations.{stored}
-use Rattle.model.specs.Checkpoints.{rebased, recordsPart, checkpointBytes, clientsOf, recordsOf, restoredBytes, restored, checkpointFramed, checkpointState}
+use Rattle.model.specs.Checkpoints.{rebased, recordsPart, checkpointBytes, recordWidth, clientsOf, recordsOf, restoredBytes, restored, checkpointFramed, checkpointState}
 use Rattle.model_laws.specs.Bytes.{Bytes}
 use Rattle.model_laws.proofs.Tests.{choose}
 use Rattle.model_laws.proofs.Written.{written-front}
@@ -73,7 +73,7 @@ pub checkpoint-again : (s : List ℕ) → Bytes s → (st : State) → checkpoin
 checkpoint-again s h st e =
     let g = gives s st e in
     let d = framed-is s (g .framed) in
-    let n : ℕ = recordsPart (clientsOf s) + checkpointRecord * recordsOf s in
+    let n : ℕ = recordsPart (clientsOf s) + recordWidth s * recordsOf s in
     let same : checkpointBytes st ≡ take n s = ap checkpointBytes (sym (g .same)) ∙ restored-again s d h (sound-is (restored s) (g .sound)) in
     let l : length (checkpointBytes st) ≡ n = ap length same ∙ length-take-le n s (d .whole) in
     ap (λ (k : ℕ). take k s) l ∙ sym same

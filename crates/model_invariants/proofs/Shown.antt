@@ -31,7 +31,7 @@ use Rattle.model.specs.States.{State, completionOf, completionBytes, isId, clie
 use Rattle.model.specs.Apply.{founded, replayFrom, withMark}
 use Rattle.model.specs.Decisions.{find, isNone, entryOfRecord}
 use Rattle.model.specs.Operations.{short, unfit}
-use Rattle.model.specs.Checkpoints.{placedRecord, endBefore, checkpointMagic, recordsPart, pairsBytes, pointFront, recordFront, recordWhole, checkpointBytes, clientsOf, restored, checkpointState}
+use Rattle.model.specs.Checkpoints.{placedRecord, endBefore, checkpointMagic, recordsPart, pairsBytes, pointFront, recordFront, recordWhole, checkpointBytes, recordWidth, clientsOf, restored, checkpointState}
 use Rattle.model.specs.Checkpoints.{inCheckpoint, placeAt, noPlace, placeAmong, latestOf, latestIn, placeInCheckpoint, checkpointBad, tailOf, inspectRefusal, inspectOf, shownOf}
 use Rattle.model_laws.specs.Bytes.{Bytes, All}
 use Rattle.model_laws.specs.Fits.{ImageEntryFits, recordFits, EntriesFrom, lastEnd, CompletionFits}
@@ -168,22 +168,22 @@ module _ (st : State) where
       checkpointMagic
       ++ (quad (st .server) 0 0 0
       ++ (le32 (st .heard)
-      ++ (pairsBytes (length (st .floors)) (length (st .records)) ++ (planBytes (st .plan) ++ (bytesOf pointFront (st .points) ++ bytesOf floorBytes (st .floors))))))
+      ++ (pairsBytes checkpointRecord (length (st .floors)) (length (st .records)) ++ (planBytes (st .plan) ++ (bytesOf pointFront (st .points) ++ bytesOf floorBytes (st .floors))))))
 
-  fronts-length : (rs : List Completion) → length (bytesOf recordFront rs) ≡ checkpointRecord * length rs
-  fronts-length rs = length-each recordFront checkpointRecord rs (all-any rs record-front-width)
+  fronts-length : (rs : List Completion) → length (bytesOf (recordFront checkpointRecord) rs) ≡ checkpointRecord * length rs
+  fronts-length rs = length-each (recordFront checkpointRecord) checkpointRecord rs (all-any rs (record-front-width checkpointRecord (omega arith)))
 
-  checkpoint-split : checkpointBytes st ≡ beforeRecords ++ bytesOf recordFront (st .records)
+  checkpoint-split : checkpointBytes st ≡ beforeRecords ++ bytesOf (recordFront checkpointRecord) (st .records)
   unfolding checkpointBytes beforeRecords pairsBytes
   checkpoint-split =
       let f : List ℕ = bytesOf pointFront (st .points) in
       let g : List ℕ = bytesOf floorBytes (st .floors) in
-      let h : List ℕ = bytesOf recordFront (st .records) in
+      let h : List ℕ = bytesOf (recordFront checkpointRecord) (st .records) in
       rw (append-assoc (planBytes (st .plan)) (f ++ g) h, append-assoc f g h)
 
   before-length : Sound st → length beforeRecords ≡ recordsPart (length (st .floors))
   before-length S =
-      let l = ap length checkpoint-split ∙ length-append beforeRecords (bytesOf recordFront (st .records)) in
+      let l = ap length checkpoint-split ∙ length-append beforeRecords (bytesOf (recordFront checkpointRecord) (st .records)) in
       omega (arith, l, checkpoint-length st S, fronts-length (st .records))
 
 module _ (x c : ℕ) (s : List ℕ) (b : Bytes s) (st : State) (e : checkpointState s ≡ some st) where
@@ -201,27 +201,27 @@ module _ (x c : ℕ) (s : List ℕ) (b : Bytes s) (st : State) (e : checkpointSt
     rowAt = recordsPart (clientsOf s) + checkpointRecord * length (row .front)
 
     row-place : placeInCheckpoint x c s ≡ placeAt inCheckpoint rowAt checkpointRecord
-    unfolding placeInCheckpoint placeAmong rowAt
+    unfolding placeInCheckpoint placeAmong rowAt recordWidth
     row-place =
         let g = gives s st e in
         rw (le-leb 1 (length s) (omega (arith, framed-is s (g .framed) .whole)), g .same, lt-ltb _ _ (split-below (isId x c) (st .records) row), row .index)
 
-    checkpoint-shown : take (rowAt + checkpointRecord - rowAt) (drop rowAt s) ≡ recordFront r
+    checkpoint-shown : take (rowAt + checkpointRecord - rowAt) (drop rowAt s) ≡ recordFront checkpointRecord r
     unfolding rowAt bytesOf
     checkpoint-shown =
         let S = checkpoint-sound s b st e .sound in
         let h : List ℕ = beforeRecords st in
-        let f : List ℕ = bytesOf recordFront (row .front) in
-        let w : List ℕ = recordFront r in
-        let v : List ℕ = bytesOf recordFront (row .rest) in
+        let f : List ℕ = bytesOf (recordFront checkpointRecord) (row .front) in
+        let w : List ℕ = recordFront checkpointRecord r in
+        let v : List ℕ = bytesOf (recordFront checkpointRecord) (row .rest) in
         let u : List ℕ = drop (length (checkpointBytes st)) s in
-        let q : bytesOf recordFront (st .records) ≡ f ++ (w ++ v) = ap (bytesOf recordFront) (row .same) ∙ bytesOf-append recordFront (row .front) (r ∷ row .rest) in
+        let q : bytesOf (recordFront checkpointRecord) (st .records) ≡ f ++ (w ++ v) = ap (bytesOf (recordFront checkpointRecord)) (row .same) ∙ bytesOf-append (recordFront checkpointRecord) (row .front) (r ∷ row .rest) in
         let t : s ≡ (h ++ f) ++ (w ++ (v ++ u))
         = sym (take-append-drop (length (checkpointBytes st)) s)
         ∙ ap (λ (j : List ℕ). j ++ u) (checkpoint-again s b st e ∙ checkpoint-split st ∙ ap (λ (j : List ℕ). h ++ j) q)
         ∙ rw (append-assoc h f (w ++ (v ++ u)), append-assoc h (f ++ (w ++ v)) u, append-assoc f (w ++ v) u, append-assoc w v u) in
         part-at s (h ++ f) w (v ++ u) rowAt checkpointRecord t
-        (omega (arith, length-append h f, before-length st S, fronts-length st (row .front), ap recordsPart clients-of)) (record-front-width r)
+        (omega (arith, length-append h f, before-length st S, fronts-length st (row .front), ap recordsPart clients-of)) (record-front-width checkpointRecord (omega arith) r)
 
 -- ---- what stands at a place is shown
 
@@ -280,12 +280,12 @@ unfolding entryOfRecord
 entry-fits r f =
     record { client = f .client; call = f .call; argument = f .argument; value = f .value; op = f .op; outcome = f .outcome; quality = f .quality }
 
-row-tells : (r : Completion) → CompletionFits r → r .end ≡ headSize → completionOf (recordWhole (recordFront r)) ≡ r
+row-tells : (r : Completion) → CompletionFits r → r .end ≡ headSize → completionOf (recordWhole checkpointRecord (recordFront checkpointRecord r)) ≡ r
 unfolding placedRecord endBefore
 row-tells r f z =
     let b : endBefore (r .end) ≡ headSize = rw z in
     let q : placedRecord endBefore r ≡ r = λ i. record { command = r .command; result = r .result; end = (b ∙ sym z) i } in
-    let w : recordWhole (recordFront r) ≡ completionBytes (placedRecord endBefore r) = rw append-nil at (record-whole r [] b) in
+    let w : recordWhole checkpointRecord (recordFront checkpointRecord r) ≡ completionBytes (placedRecord endBefore r) = rw append-nil at (record-whole r [] b) in
     ap completionOf (w ∙ ap completionBytes q) ∙ rw append-nil at (completionCodec .dec-enc r [] f)
 
 shows-tells : {start : State} {r : Completion} {p : Place} {part : List ℕ} (es : List Entry) → EntriesFrom headSize es → CompletionFits r → Shows start es r p part → Tells r p part
@@ -306,7 +306,7 @@ shows-tells {start} {r} {p} {part} es g f (ofCheckpoint m z q e) =
     record {
       record-tells = λ h. absurd (omega (arith, q, h));
       image-tells = λ h. absurd (omega (arith, q, h));
-      checkpoint-tells = λ h. ap (λ (j : List ℕ). completionOf (recordWhole j)) e ∙ row-tells r f z;
+      checkpoint-tells = λ h. ap (λ (j : List ℕ). completionOf (recordWhole checkpointRecord j)) e ∙ row-tells r f z;
     }
 
 -- ---- inspect

@@ -9,7 +9,7 @@ use Rattle.model.specs.declared.Executed.{Executed}
 use Rattle.model.specs.declared.Completion.{Completion}
 use Rattle.model.specs.declared.Place.{Place}
 use Rattle.model.specs.Refusals.{unknown, noRefusal}
-use Rattle.model.specs.Limits.{headSize, lastServer}
+use Rattle.model.specs.Limits.{headSize, lastServer, checkpointRecord}
 use Rattle.model.specs.Images.{Image, imageEntryOf, imageEntryBytes}
 use Rattle.model.specs.Logs.{executed, took, Entry, recordSize, executedAt, executedBytes}
 use Rattle.model.specs.States.{State, completionOf, load}
@@ -32,13 +32,13 @@ pub data Shows (start : State) (es : List Entry) (r : Completion) (p : Place) (p
   ofImage : (i : Image) → List·Memᴰ (record { item = took i; end = r .end }) es → i .point ≡ r .command .point
       → p .source ≡ inImage → r .end ≤ p .start + recordSize (took i) → p .end ≤ r .end → part ≡ imageEntryBytes (entryOfRecord r) → Shows start es r p part
   ofCheckpoint : List·Memᴰ r (start .records) → r .end ≡ headSize
-      → p .source ≡ inCheckpoint → part ≡ recordFront r → Shows start es r p part
+      → p .source ≡ inCheckpoint → part ≡ recordFront checkpointRecord r → Shows start es r p part
 
 -- the part alone tells the record, by its source: command and result; all of it but the point; all of it
 pub record Tells (r : Completion) (p : Place) (part : List ℕ) : Type 0 where
   pub record-tells : p .source ≡ inRecord → (executedAt part .command ≡ r .command) × (executedAt part .result ≡ r .result)
   pub image-tells : p .source ≡ inImage → imageEntryOf part ≡ entryOfRecord r
-  pub checkpoint-tells : p .source ≡ inCheckpoint → completionOf (recordWhole part) ≡ r
+  pub checkpoint-tells : p .source ≡ inCheckpoint → completionOf (recordWhole checkpointRecord part) ≡ r
 
 -- of the id (x, c): 17 where the state holds no completion record of it, else no refusal and the part that holds that record
 pub record Inspected (start : State) (es : List Entry) (state checkpoint tail : List ℕ) (x c : ℕ) : Type 0 where

@@ -22,7 +22,8 @@ use Rattle.model.specs.Images.{floorBytes}
 use Rattle.model.specs.States.{State, recordRow, pointBytes, completionBytes, stateHeadBytes, padded, stateBytes}
 use Rattle.model.specs.Limits.{headSize, planSize, pointCount, clientCount, recordCount, floorRow, checkpointHead, checkpointPoint, checkpointRecord}
 use Rattle.model.specs.Checkpoints.{placedPoint, placedRecord, placed, endBefore, rebased, checkpointMagic, planPart, pointsPart, clientsPart, recordsPart}
-use Rattle.model.specs.Checkpoints.{pairsBytes, pointFront, recordFront, checkpointBytes, clientsOf, recordsOf, pointWhole, recordWhole, fronts, restoredBytes, restored, checkpointFramed}
+use Rattle.model.specs.Checkpoints.{pairsBytes, pointFront, recordFront, checkpointBytes, recordWidth, clientsOf, recordsOf, pointWhole, recordWhole, fronts}
+use Rattle.model.specs.Checkpoints.{restoredBytes, restored, checkpointFramed}
 use Rattle.model_laws.specs.Bytes.{Bytes, All}
 use Rattle.model_laws.specs.Fields.{Field, byte, word32, fixed, fixedAll, gotAll, putAll, nth, Bounded, fixedBytes}
 use Rattle.model_laws.specs.Fits.{PointFits, CompletionFits, StateFits}
@@ -48,17 +49,17 @@ pub record Framed (s : List ℕ) : Type 0 where
   pub clients : le32At s 28 ≡ clientsPart
   pub clients-size : le32At s 32 ≡ floorRow * clientsOf s
   pub records : le32At s 36 ≡ recordsPart (clientsOf s)
-  pub records-size : le32At s 40 ≡ checkpointRecord * recordsOf s
+  pub records-size : le32At s 40 ≡ recordWidth s * recordsOf s
   pub few-clients : clientsOf s ≤ clientCount
   pub few-records : recordsOf s ≤ recordCount
-  pub whole : recordsPart (clientsOf s) + checkpointRecord * recordsOf s ≤ length s
+  pub whole : recordsPart (clientsOf s) + recordWidth s * recordsOf s ≤ length s
 
 abbrev framedTests : List ℕ → List Test
 framedTests s =
     le checkpointHead (length s) ∷ flag (startsWith s checkpointMagic) ∷ eq (le32At s 12) planPart ∷ eq (le32At s 16) planSize ∷ eq (le32At s 20) pointsPart
     ∷ eq (le32At s 24) (checkpointPoint * pointCount) ∷ eq (le32At s 28) clientsPart ∷ eq (le32At s 32) (floorRow * clientsOf s) ∷ eq (le32At s 36) (recordsPart (clientsOf s))
-    ∷ eq (le32At s 40) (checkpointRecord * recordsOf s) ∷ le (clientsOf s) clientCount ∷ le (recordsOf s) recordCount
-    ∷ le (recordsPart (clientsOf s) + checkpointRecord * recordsOf s) (length s) ∷ []
+    ∷ eq (le32At s 40) (recordWidth s * recordsOf s) ∷ le (clientsOf s) clientCount ∷ le (recordsOf s) recordCount
+    ∷ le (recordsPart (clientsOf s) + recordWidth s * recordsOf s) (length s) ∷ []
 
 pub framed-is : (s : List ℕ) → checkpointFramed s ≡ true → Framed s
 unfolding checkpointFramed
@@ -107,7 +108,7 @@ checkpointNumbers server heard n k =
 
 pub checkpoint-writes : (st : State) → checkpointBytes st
     ≡ putAll checkpointFields (checkpointNumbers (st .server) (st .heard) (length (st .floors)) (length (st .records)))
-    ++ (planBytes (st .plan) ++ (bytesOf pointFront (st .points) ++ (bytesOf floorBytes (st .floors) ++ bytesOf recordFront (st .records))))
+    ++ (planBytes (st .plan) ++ (bytesOf pointFront (st .points) ++ (bytesOf floorBytes (st .floors) ++ bytesOf (recordFront checkpointRecord) (st .records))))
 unfolding checkpointBytes pairsBytes
 checkpoint-writes st = refl
 
@@ -122,7 +123,7 @@ module _ (st : State) where
   clientsBytes = bytesOf floorBytes (st .floors)
 
   abbrev recordsBytes : List ℕ
-  recordsBytes = bytesOf recordFront (st .records)
+  recordsBytes = bytesOf (recordFront checkpointRecord) (st .records)
 
   abbrev frontsBytes : List ℕ
   frontsBytes = bytesOf pointFront (st .points)
@@ -131,7 +132,8 @@ module _ (st : State) where
   clients-length = length-bytesOf floorCodec (st .floors)
 
   records-length : length recordsBytes ≡ checkpointRecord * length (st .records)
-  records-length = length-each recordFront checkpointRecord (st .records) (all-any (λ (r : Completion). length (recordFront r) ≡ checkpointRecord) (st .records) record-front-width)
+  records-length = length-each (recordFront checkpointRecord) checkpointRecord (st .records)
+      (all-any (λ (r : Completion). length (recordFront checkpointRecord r) ≡ checkpointRecord) (st .records) (record-front-width checkpointRecord (omega arith)))
 
   fronts-length : length frontsBytes ≡ checkpointPoint * length (st .points)
   fronts-length = length-each pointFront checkpointPoint (st .points) (all-any (λ (x : Point). length (pointFront x) ≡ checkpointPoint) (st .points) point-front-width)
@@ -165,7 +167,8 @@ module _ (st : State) where
               bytes-each pointFront (st .points) (all-map PointFits (λ (x : Point). Bytes (pointFront x)) point-front-bytes (st .points) (f .points)),
               (
                 bytes-bytesOf floorCodec (st .floors) (f .floors),
-                (bytes-each recordFront (st .records) (all-map CompletionFits (λ (r : Completion). Bytes (recordFront r)) record-front-bytes (st .records) (f .records)), tt),
+                (bytes-each (recordFront checkpointRecord) (st .records)
+                    (all-map CompletionFits (λ (r : Completion). Bytes (recordFront checkpointRecord r)) (record-front-bytes checkpointRecord) (st .records) (f .records)), tt),
               ),
             ),
           ),
@@ -182,7 +185,7 @@ module _ (st : State) where
       clients-at = (λ i. numbers-at i 7 / floorRow) ∙ over-floor (length (st .floors))
 
       records-at : recordsOf (checkpointBytes st ++ rest) ≡ length (st .records)
-      unfolding recordsOf
+      unfolding recordsOf recordWidth
       records-at = (λ i. numbers-at i 9 / checkpointRecord) ∙ over-record (length (st .records))
 
       head-at : take 8 (drop 4 (checkpointBytes st ++ rest)) ≡ quad (st .server) 0 0 0 ++ le32 (st .heard)
@@ -233,6 +236,7 @@ module _ (st : State) where
       magic-at = refl
 
       pub front-framed : Framed (checkpointBytes st ++ rest)
+      unfolding recordWidth
       front-framed =
           let n : clientsOf (checkpointBytes st ++ rest) ≡ length (st .floors) = clients-at in
           let k : recordsOf (checkpointBytes st ++ rest) ≡ length (st .records) = records-at in
@@ -260,13 +264,14 @@ module _ (st : State) where
         (clientsBytes ++ (recordsBytes ++ rest)) (R .points)
         ∙ sym (bytesOf-map pointBytes (placedPoint endBefore) (st .points)))
 
-    completions-at : bytesOf recordWhole
-        (fronts checkpointRecord (recordsOf (checkpointBytes st ++ rest)) (drop (recordsPart (clientsOf (checkpointBytes st ++ rest))) (checkpointBytes st ++ rest)))
+    completions-at : bytesOf (recordWhole (recordWidth (checkpointBytes st ++ rest)))
+        (fronts (recordWidth (checkpointBytes st ++ rest)) (recordsOf (checkpointBytes st ++ rest)) (drop (recordsPart (clientsOf (checkpointBytes st ++ rest))) (checkpointBytes st ++ rest)))
         ≡ bytesOf completionBytes (map (placedRecord endBefore) (st .records))
+    unfolding recordWidth
     completions-at =
         rw (clients-at (R .fits) rest, records-at (R .fits) rest, drop-clients (R .fits) rest)
-        (fronts-back (λ (r : Completion). endBefore (r .end) ≡ headSize) recordFront (λ (r : Completion). completionBytes (placedRecord endBefore r)) checkpointRecord recordWhole
-        (λ r t. record-front-width r) record-whole (st .records) rest (R .records)
+        (fronts-back (λ (r : Completion). endBefore (r .end) ≡ headSize) (recordFront checkpointRecord) (λ (r : Completion). completionBytes (placedRecord endBefore r)) checkpointRecord
+        (recordWhole checkpointRecord) (λ r t. record-front-width checkpointRecord (omega arith) r) record-whole (st .records) rest (R .records)
         ∙ sym (bytesOf-map completionBytes (placedRecord endBefore) (st .records)))
 
     pub restored-front : restoredBytes (checkpointBytes st ++ rest) ≡ stateBytes (rebased st)

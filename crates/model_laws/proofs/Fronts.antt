@@ -5,15 +5,16 @@
 --     point-front-.., record-front-..     a row's front
 --     Told                          a point whose ends its front tells
 --     point-whole, record-whole     the front of a row gives the row, its ends before the log; -width, -bytes, -cut: what any bytes give
+--     record-width                  the bytes of a completion record in a checkpoint
 -- Assumes nothing.
-use Prim.Native.Nat.{ℕ, zero, suc, _+_, _*_, _≤_, _<_}
+use Prim.Native.Nat.{ℕ, zero, suc, _+_, _-_, _*_, _≤_, _<_}
 use mathlib.Core.Path.{_≡_, refl, sym, ap, _∙_}
 use mathlib.Core.Bool.{Bool, true, false}
 use mathlib.Core.List.{List, [], _∷_, _++_, map, append-assoc}
 use native.Mathlib.Omega.{arith}
 use native.Mathlib.Nat.{mul-suc, mul-zero}
-use lib.ListN.{length, take, drop, length-append, length-drop}
-use lib.Seq.{drop-at, take-add, take-at, length-take-le}
+use lib.ListN.{length, take, drop, replicate, length-append, length-drop, length-replicate}
+use lib.Seq.{drop-at, take-add, take-at, take-append-le, length-take-le}
 use lib.Dec.{eqb, leb, lit<}
 use Rattle.model.specs.declared.Point.{Point}
 use Rattle.model.specs.declared.Completion.{Completion}
@@ -22,11 +23,11 @@ use Rattle.model.specs.Numbers.{word, byteAt, le32At, le64}
 use Rattle.model.specs.Tables.{rows, bytesOf}
 use Rattle.model.specs.States.{given, pointRow, recordRow, pointBytes, completionBytes}
 use Rattle.model.specs.Limits.{headSize, checkpointPoint, checkpointRecord}
-use Rattle.model.specs.Checkpoints.{placedPoint, placedRecord, endBefore, pointFront, recordFront, pointWhole, recordWhole, fronts}
+use Rattle.model.specs.Checkpoints.{placedPoint, placedRecord, endBefore, pointFront, recordFront, recordWidth, pointWhole, recordWhole, fronts}
 use Rattle.model_laws.specs.Bytes.{Bytes, All}
 use Rattle.model_laws.specs.Fits.{PointFits, CompletionFits}
 use Rattle.model_laws.proofs.Numbers.{le32-digits, length-le64, bytes-take, bytes-drop, bytes-append, bytes-nil, bytes-le64}
-use Rattle.model_laws.proofs.Tables.{length-rows}
+use Rattle.model_laws.proofs.Tables.{length-rows, bytes-replicate}
 use Rattle.model_laws.proofs.States.{pointCodec, completionCodec}
 
 -- ---- rows with all that follows them
@@ -119,21 +120,23 @@ point-front-bytes x h = bytes-take checkpointPoint (pointBytes x) (pointCodec .e
 
 -- ---- a completion record's front
 
-pub record-front-width : (r : Completion) → length (recordFront r) ≡ checkpointRecord
-unfolding recordFront completionBytes
-record-front-width r = refl
-
-pub record-front-bytes : (r : Completion) → CompletionFits r → Bytes (recordFront r)
+pub record-front-width : (w : ℕ) → w ≤ recordRow → (r : Completion) → length (recordFront w r) ≡ w
 unfolding recordFront
-record-front-bytes r h = bytes-take checkpointRecord (completionBytes r) (completionCodec .enc-bytes r h)
+record-front-width w l r = length-take-le w (completionBytes r) (rw (completionCodec .enc-width r) l)
 
-placed-record-split : (r : Completion) → completionBytes (placedRecord endBefore r) ≡ recordFront r ++ le64 (endBefore (r .end))
+pub record-front-bytes : (w : ℕ) (r : Completion) → CompletionFits r → Bytes (recordFront w r)
+unfolding recordFront
+record-front-bytes w r h = bytes-take w (completionBytes r) (completionCodec .enc-bytes r h)
+
+placed-record-split : (r : Completion) → completionBytes (placedRecord endBefore r) ≡ recordFront checkpointRecord r ++ le64 (endBefore (r .end))
 unfolding recordFront completionBytes placedRecord
 placed-record-split r = refl
 
-pub record-whole : (r : Completion) (rest : List ℕ) → endBefore (r .end) ≡ headSize → recordWhole (recordFront r ++ rest) ≡ completionBytes (placedRecord endBefore r)
+pub record-whole : (r : Completion) (rest : List ℕ) → endBefore (r .end) ≡ headSize
+    → recordWhole checkpointRecord (recordFront checkpointRecord r ++ rest) ≡ completionBytes (placedRecord endBefore r)
 unfolding recordWhole
-record-whole r rest t = rw (take-at (recordFront r) rest checkpointRecord (record-front-width r), placed-record-split r, t)
+record-whole r rest t =
+    rw (take-at (recordFront checkpointRecord r) rest checkpointRecord (record-front-width checkpointRecord (omega arith) r), placed-record-split r, t)
 
 -- ---- rows that any bytes give
 
@@ -161,17 +164,24 @@ point-whole-bytes s h =
     (bytes-append (le64 g) (le64 t) (bytes-le64 g (ends-small (leb given (byteAt s 0)) headSize 0 (omega arith) (omega arith)))
     (bytes-le64 t (ends-small (eqb (le32At s 12) 0) 0 headSize (omega arith) (omega arith))))
 
-pub record-whole-width : (s : List ℕ) → checkpointRecord ≤ length s → length (recordWhole s) ≡ recordRow
+pub record-whole-width : (w : ℕ) → w ≤ checkpointRecord → (s : List ℕ) → w ≤ length s → length (recordWhole w s) ≡ recordRow
 unfolding recordWhole
-record-whole-width s h = simp (length-append, length-take-le checkpointRecord s h, length-le64)
+record-whole-width w l s h = simp (length-append, length-take-le w s h, length-replicate, length-le64) (omega arith)
 
-pub record-whole-cut : (s rest : List ℕ) → checkpointRecord ≤ length s → take checkpointRecord (recordWhole s ++ rest) ≡ take checkpointRecord s
+pub record-whole-cut : (w : ℕ) (s rest : List ℕ) → w ≤ length s → take w (recordWhole w s ++ rest) ≡ take w s
 unfolding recordWhole
-record-whole-cut s rest h = front-cut checkpointRecord s (le64 headSize) rest h
+record-whole-cut w s rest h = front-cut w s (replicate (checkpointRecord - w) 0 ++ le64 headSize) rest h
 
-pub record-whole-bytes : (s : List ℕ) → Bytes s → Bytes (recordWhole s)
+pub record-whole-bytes : (w : ℕ) (s : List ℕ) → Bytes s → Bytes (recordWhole w s)
 unfolding recordWhole
-record-whole-bytes s h = bytes-append (take checkpointRecord s) (le64 headSize) (bytes-take checkpointRecord s h) (bytes-le64 headSize (lit< tt))
+record-whole-bytes w s h =
+    bytes-append (take w s) (replicate (checkpointRecord - w) 0 ++ le64 headSize) (bytes-take w s h)
+    (bytes-append (replicate (checkpointRecord - w) 0) (le64 headSize) (bytes-replicate (checkpointRecord - w)) (bytes-le64 headSize (lit< tt)))
+
+-- a row in a checkpoint: at least the 8 bytes of an id, at most the front
+pub record-width : (s : List ℕ) → (8 ≤ recordWidth s) × (recordWidth s ≤ checkpointRecord)
+unfolding recordWidth
+record-width s = (omega arith, omega arith)
 
 -- ---- the fronts of rows that were made of fronts
 
@@ -179,9 +189,9 @@ pub point-cut : (x : Point) (rest : List ℕ) → take checkpointPoint (pointByt
 unfolding pointFront pointBytes
 point-cut x rest = refl
 
-pub record-cut : (r : Completion) (rest : List ℕ) → take checkpointRecord (completionBytes r ++ rest) ≡ recordFront r
-unfolding recordFront completionBytes
-record-cut r rest = refl
+pub record-cut : (w : ℕ) → w ≤ recordRow → (r : Completion) (rest : List ℕ) → take w (completionBytes r ++ rest) ≡ recordFront w r
+unfolding recordFront
+record-cut w l r rest = take-append-le w (completionBytes r) rest (rw (completionCodec .enc-width r) l)
 
 module _ {A : Type 0} (enc out : A → List ℕ) (whole : List ℕ → List ℕ) (w row : ℕ)
     (enc-width : (x : A) → length (enc x) ≡ row) (enc-cut : (x : A) (rest : List ℕ) → take w (enc x ++ rest) ≡ out x)

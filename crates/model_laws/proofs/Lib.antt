@@ -5,6 +5,7 @@ pub mod Numbers
 pub mod Reflects
 pub mod Written
 pub mod Tables
+pub mod Searches
 pub mod Fields
 pub mod Packets
 pub mod Commands

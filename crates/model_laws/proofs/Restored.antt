@@ -8,6 +8,7 @@ use mathlib.Core.Path.{_≡_, refl, sym, ap, _∙_}
 use mathlib.Core.Bool.{true, and-assoc}
 use mathlib.Core.List.{List, [], _∷_, _++_, append-assoc, append-nil}
 use native.Mathlib.Omega.{arith}
+use native.Mathlib.Nat.{div-le-self}
 use lib.ListN.{length, take, drop, replicate, length-append, length-drop, length-replicate}
 use lib.Seq.{drop-at, drop-drop, take-at, length-take-le}
 use lib.Dec.{lit<}
@@ -18,7 +19,7 @@ use Rattle.model.specs.Images.{floorOfBytes, floorBytes}
 use Rattle.model.specs.States.{stateMagic, stateHead, pointRow, recordRow, pointsStart, floorsStart, recordsStart, stateEnd, pointOf, pointBytes, completionOf, completionBytes}
 use Rattle.model.specs.States.{clientsIn, recordsIn, load, padded}
 use Rattle.model.specs.Limits.{headSize, planSize, pointCount, clientCount, recordCount, floorRow, checkpointPoint, checkpointRecord}
-use Rattle.model.specs.Checkpoints.{checkpointMagic, planPart, pointsPart, clientsPart, recordsPart, pointFront, recordFront, checkpointBytes, clientsOf, recordsOf}
+use Rattle.model.specs.Checkpoints.{checkpointMagic, planPart, pointsPart, clientsPart, recordsPart, pointFront, recordFront, checkpointBytes, recordWidth, clientsOf, recordsOf}
 use Rattle.model.specs.Checkpoints.{pointWhole, recordWhole, fronts, restoredBytes, restored}
 use Rattle.model_laws.specs.Bytes.{Bytes, All, part}
 use Rattle.model_laws.specs.Fields.{gotAll, putAll, testsOf, passAll}
@@ -32,7 +33,7 @@ use Rattle.model_laws.proofs.Images.{floorCodec}
 use Rattle.model_laws.proofs.Plans.{planCodec}
 use Rattle.model_laws.proofs.States.{pointCodec, completionCodec}
 use Rattle.model_laws.proofs.Fronts.{fronts-take, length-fronts, fronts-long, fronts-bytes, length-each, bytes-each, fronts-same, point-cut, record-cut}
-use Rattle.model_laws.proofs.Fronts.{point-whole-width, point-whole-cut, point-whole-bytes, record-whole-width, record-whole-cut, record-whole-bytes}
+use Rattle.model_laws.proofs.Fronts.{point-whole-width, point-whole-cut, point-whole-bytes, record-whole-width, record-whole-cut, record-whole-bytes, record-width}
 use Rattle.model_laws.proofs.Checkpoints.{Framed, checkpointFields, checkpointNumbers, checkpoint-writes}
 
 -- ---- a table with places past its rows
@@ -63,7 +64,7 @@ module _ (s : List ℕ) where
   floorsOfIt = padded (take floorRow) floorRow clientCount (fronts floorRow (clientsOf s) (drop clientsPart s))
 
   abbrev recordsOfIt : List ℕ
-  recordsOfIt = padded recordWhole recordRow recordCount (fronts checkpointRecord (recordsOf s) (drop (recordsPart (clientsOf s)) s))
+  recordsOfIt = padded (recordWhole (recordWidth s)) recordRow recordCount (fronts (recordWidth s) (recordsOf s) (drop (recordsPart (clientsOf s)) s))
 
   abbrev tables : List ℕ
   tables = planOfIt ++ (pointsOfIt ++ (floorsOfIt ++ recordsOfIt))
@@ -80,8 +81,8 @@ module _ (s : List ℕ) where
       ≡ stateMagic ++ (take 8 (drop 4 s) ++ (le32 (clientsOf s) ++ (le32 (recordsOf s) ++ (quad 0 0 0 0 ++ (le64 headSize ++ (le64 headSize ++ tables))))))
   unfolding restored restoredBytes
   restored-run =
-      let rows : recordsOfIt ≡ bytesOf recordWhole (fronts checkpointRecord (recordsOf s) (drop (recordsPart (clientsOf s)) s)) ++ replicate (recordRow * (recordCount - recordsOf s)) 0 =
-      unfold padded in rw (length-fronts checkpointRecord (recordsOf s) (drop (recordsPart (clientsOf s)) s)) in
+      let rows : recordsOfIt ≡ bytesOf (recordWhole (recordWidth s)) (fronts (recordWidth s) (recordsOf s) (drop (recordsPart (clientsOf s)) s)) ++ replicate (recordRow * (recordCount - recordsOf s)) 0 =
+      unfold padded in rw (length-fronts (recordWidth s) (recordsOf s) (drop (recordsPart (clientsOf s)) s)) in
       rw rows (simp append-assoc)
 
   -- ---- bytes
@@ -96,7 +97,7 @@ module _ (s : List ℕ) where
           (
             bytes-le32 (clientsOf s) (unfold clientsOf in omega (arith, le32-below s 32 h)),
             (
-              bytes-le32 (recordsOf s) (unfold recordsOf in omega (arith, le32-below s 40 h)),
+              bytes-le32 (recordsOf s) (unfold recordsOf in omega (arith, div-le-self (le32At s 40) (recordWidth s), le32-below s 40 h)),
               (
                 bytes-quad 0 0 0 0 (lit< tt) (lit< tt) (lit< tt) (lit< tt),
                 (
@@ -114,9 +115,9 @@ module _ (s : List ℕ) where
                               (all-map Bytes (λ (r : List ℕ). Bytes (take floorRow r)) (bytes-take floorRow) (fronts floorRow (clientsOf s) (drop clientsPart s))
                               (fronts-bytes floorRow (clientsOf s) (drop clientsPart s) (bytes-drop clientsPart s h))),
                           (
-                            padded-fit recordWhole recordRow recordCount (fronts checkpointRecord (recordsOf s) (drop (recordsPart (clientsOf s)) s))
-                                (all-map Bytes (λ (r : List ℕ). Bytes (recordWhole r)) record-whole-bytes (fronts checkpointRecord (recordsOf s) (drop (recordsPart (clientsOf s)) s))
-                                (fronts-bytes checkpointRecord (recordsOf s) (drop (recordsPart (clientsOf s)) s) (bytes-drop (recordsPart (clientsOf s)) s h))),
+                            padded-fit (recordWhole (recordWidth s)) recordRow recordCount (fronts (recordWidth s) (recordsOf s) (drop (recordsPart (clientsOf s)) s))
+                                (all-map Bytes (λ (r : List ℕ). Bytes (recordWhole (recordWidth s) r)) (record-whole-bytes (recordWidth s)) (fronts (recordWidth s) (recordsOf s) (drop (recordsPart (clientsOf s)) s))
+                                (fronts-bytes (recordWidth s) (recordsOf s) (drop (recordsPart (clientsOf s)) s) (bytes-drop (recordsPart (clientsOf s)) s h))),
                             tt,
                           ),
                         ),
@@ -156,16 +157,17 @@ module _ (s : List ℕ) where
         padded-width (take floorRow) floorRow clientCount (fronts floorRow (clientsOf s) (drop clientsPart s)) floors-all
         (rw (length-fronts floorRow (clientsOf s) (drop clientsPart s)) (d .few-clients))
 
-    records-all : All (λ (r : List ℕ). length (recordWhole r) ≡ recordRow) (fronts checkpointRecord (recordsOf s) (drop (recordsPart (clientsOf s)) s))
+    records-all : All (λ (r : List ℕ). length (recordWhole (recordWidth s) r) ≡ recordRow) (fronts (recordWidth s) (recordsOf s) (drop (recordsPart (clientsOf s)) s))
     records-all =
-        all-map (λ (r : List ℕ). checkpointRecord ≤ length r) (λ (r : List ℕ). length (recordWhole r) ≡ recordRow) record-whole-width
-        (fronts checkpointRecord (recordsOf s) (drop (recordsPart (clientsOf s)) s))
-        (fronts-long checkpointRecord (recordsOf s) (drop (recordsPart (clientsOf s)) s) (rw length-drop (omega (arith, d .whole))))
+        all-map (λ (r : List ℕ). recordWidth s ≤ length r) (λ (r : List ℕ). length (recordWhole (recordWidth s) r) ≡ recordRow)
+        (record-whole-width (recordWidth s) (record-width s .1))
+        (fronts (recordWidth s) (recordsOf s) (drop (recordsPart (clientsOf s)) s))
+        (fronts-long (recordWidth s) (recordsOf s) (drop (recordsPart (clientsOf s)) s) (rw length-drop (omega (arith, d .whole))))
 
     records-long : length recordsOfIt ≡ recordRow * recordCount
     records-long =
-        padded-width recordWhole recordRow recordCount (fronts checkpointRecord (recordsOf s) (drop (recordsPart (clientsOf s)) s)) records-all
-        (rw (length-fronts checkpointRecord (recordsOf s) (drop (recordsPart (clientsOf s)) s)) (d .few-records))
+        padded-width (recordWhole (recordWidth s)) recordRow recordCount (fronts (recordWidth s) (recordsOf s) (drop (recordsPart (clientsOf s)) s)) records-all
+        (rw (length-fronts (recordWidth s) (recordsOf s) (drop (recordsPart (clientsOf s)) s)) (d .few-records))
 
     -- ---- the bytes by their parts
 
@@ -281,25 +283,27 @@ module _ (s : List ℕ) where
       unfolding load
       records-count = length-rows completionOf recordRow (recordsIn (restored s)) (drop recordsStart (restored s)) ∙ restored-records
 
-      records-rows : bytesOf completionBytes (load (restored s) .records) ≡ bytesOf recordWhole (fronts checkpointRecord (recordsOf s) (drop (recordsPart (clientsOf s)) s))
+      records-rows : bytesOf completionBytes (load (restored s) .records) ≡ bytesOf (recordWhole (recordWidth s)) (fronts (recordWidth s) (recordsOf s) (drop (recordsPart (clientsOf s)) s))
       unfolding load
       records-rows =
-          let n : length (fronts checkpointRecord (recordsOf s) (drop (recordsPart (clientsOf s)) s)) ≡ recordsOf s
-          = length-fronts checkpointRecord (recordsOf s) (drop (recordsPart (clientsOf s)) s) in
+          let n : length (fronts (recordWidth s) (recordsOf s) (drop (recordsPart (clientsOf s)) s)) ≡ recordsOf s
+          = length-fronts (recordWidth s) (recordsOf s) (drop (recordsPart (clientsOf s)) s) in
           rows-again completionCodec (recordsIn (restored s)) (drop recordsStart (restored s)) (bytes-drop recordsStart (restored s) fit)
           (omega (arith, length-drop recordsStart (restored s), restored-long, D .few-records)) (everyRow-true recordRow (recordsIn (restored s)) (drop recordsStart (restored s)))
           ∙ rw (restored-records, drop-floors, ← append-nil recordsOfIt)
           (ap (λ (k : ℕ). take (recordRow * k) (recordsOfIt ++ [])) (sym n)
-          ∙ padded-take recordWhole recordRow recordCount (fronts checkpointRecord (recordsOf s) (drop (recordsPart (clientsOf s)) s)) [] records-all)
+          ∙ padded-take (recordWhole (recordWidth s)) recordRow recordCount (fronts (recordWidth s) (recordsOf s) (drop (recordsPart (clientsOf s)) s)) [] records-all)
 
-      records-again : bytesOf recordFront (load (restored s) .records) ≡ part (recordsPart (clientsOf s)) (checkpointRecord * recordsOf s) s
+      records-again : bytesOf (recordFront (recordWidth s)) (load (restored s) .records) ≡ part (recordsPart (clientsOf s)) (recordWidth s * recordsOf s) s
       records-again =
-          fronts-same completionBytes recordFront recordWhole checkpointRecord recordRow (completionCodec .enc-width) record-cut record-whole-width record-whole-cut (load (restored s) .records)
-          (recordsOf s)
+          let w : ℕ = recordWidth s in
+          let l : w ≤ checkpointRecord = record-width s .1 in
+          fronts-same completionBytes (recordFront w) (recordWhole w) w recordRow (completionCodec .enc-width) (record-cut w (omega arith)) (record-whole-width w l) (record-whole-cut w)
+          (load (restored s) .records) (recordsOf s)
           (drop (recordsPart (clientsOf s)) s) records-count (rw length-drop (omega (arith, d .whole))) records-rows
 
       head-again : putAll checkpointFields (checkpointNumbers (load (restored s) .server) (load (restored s) .heard) (clientsOf s) (recordsOf s)) ≡ take planPart s
-      unfolding load zeros3At
+      unfolding load zeros3At recordWidth
       head-again =
           let same : checkpointNumbers (load (restored s) .server) (load (restored s) .heard) (clientsOf s) (recordsOf s) ≡ gotAll checkpointFields s 0 =
           λ j. restored-server j ∷ restored-heard j ∷ sym (d .plan) j ∷ sym (d .plan-size) j ∷ sym (d .points) j ∷ sym (d .points-size) j ∷ sym (d .clients) j ∷ sym (d .clients-size) j
@@ -307,7 +311,8 @@ module _ (s : List ℕ) where
           let tests : passAll checkpointFields s 0 ≡ true = simp and-assoc at (and-both (startsWith s checkpointMagic) (zeros3At s 5) (d .magic) (sym restored-zeros ∙ D .at5)) in
           ap (putAll checkpointFields) same ∙ all-again checkpointFields s 0 h (omega (arith, d .whole)) (joined-all (testsOf checkpointFields s 0) tests)
 
-      pub restored-again : checkpointBytes (load (restored s)) ≡ take (recordsPart (clientsOf s) + checkpointRecord * recordsOf s) s
+      pub restored-again : checkpointBytes (load (restored s)) ≡ take (recordsPart (clientsOf s) + recordWidth s * recordsOf s) s
+      unfolding recordWidth
       restored-again =
           let n : ℕ = floorRow * clientsOf s in
           let k : ℕ = checkpointRecord * recordsOf s in

@@ -1,5 +1,5 @@
 -- Laws of tables: rows of one width, over a Codec.
---     row-next, row-end, rows-left, places     the bytes of i rows and one more; a row ends within m rows; the rows from it on; m of n rows and the others
+--     row-next, row-in, rows-left, places     the bytes of i rows and one more; a row ends within m rows; the rows from it on; m of n rows and the others
 --     length-rows, rows-append, rows-snoc, getD-rows, rows-cons     rows as they are read, from a place, from an index on
 --     everyRow-rows, everyRow-cons, everyRow-true
 --     bytesOf-append, bytesOf-one, length-bytesOf, bytes-bytesOf    the bytes of rows
@@ -38,8 +38,8 @@ row-next w i = rw (add-one, mul-suc) (omega arith)
 pub places : (w m n : ℕ) → m ≤ n → w * m + w * (n - m) ≡ w * n
 places w m n h = let e : m + (n - m) ≡ n = omega arith in sym (mul-add w m (n - m)) ∙ ap (λ (x : ℕ). w * x) e
 
-pub row-end : (w i m : ℕ) → i < m → w * i + w ≤ w * m
-row-end w i m h = omega (arith, row-next w i, places w (i + 1) m (omega arith))
+pub row-in : (w i m : ℕ) → i < m → w * i + w ≤ w * m
+row-in w i m h = omega (arith, row-next w i, places w (i + 1) m (omega arith))
 
 -- the rows from index i on, the first apart
 pub rows-left : (w i m : ℕ) → i < m → w * i + w * (m - (i + 1) + 1) ≡ w * m

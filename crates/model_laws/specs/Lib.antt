@@ -1,5 +1,6 @@
 pub mod Bytes
 pub mod Codec
+pub mod Sought
 pub mod Fields
 pub mod Fits
 pub mod Alike

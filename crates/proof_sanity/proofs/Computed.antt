@@ -27,7 +27,7 @@ unfolding endsInOrder Checkpoints.placedPoint Checkpoints.placedRecord Checkpoin
 openRebased = tt
 
 unfoldable openLayout : Opens
-unfolding Checkpoints.pairsBytes Checkpoints.pointFront Checkpoints.recordFront Checkpoints.checkpointBytes Checkpoints.clientsOf Checkpoints.recordsOf
+unfolding Checkpoints.pairsBytes Checkpoints.pointFront Checkpoints.recordFront Checkpoints.checkpointBytes Checkpoints.recordWidth Checkpoints.clientsOf Checkpoints.recordsOf
     Checkpoints.pointWhole Checkpoints.recordWhole Checkpoints.fronts Checkpoints.restoredBytes Checkpoints.restored
 openLayout = tt
 

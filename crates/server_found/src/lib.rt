@@ -30,14 +30,7 @@ fn put_head(s: &mut [u8], n: u8)
     requires { ⌜ stateHead ≤ length (now s) ⌝ }
     ensures { λ r. ⌜ now (s .exit) ≡ written (now (s .entry)) 0 (stateHeadBytes (founded [] n)) ⌝ }
 {
-    format_numbers::write_4(
-        s,
-        0,
-        constants::STATE_MAGIC[0],
-        constants::STATE_MAGIC[1],
-        constants::STATE_MAGIC[2],
-        constants::STATE_MAGIC[3],
-    );
+    format_numbers::write_magic(s, constants::STATE_MAGIC);
     format_numbers::write_4(s, constants::STATE_SERVER, n, 0, 0, 0);
     state_rows::clear(s, constants::STATE_HEARD, constants::STATE_LENGTH);
     state_rows::put_size(s, constants::HEAD_SIZE_U64);

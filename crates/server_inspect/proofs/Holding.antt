@@ -12,8 +12,8 @@ use borrow.Author.Tests.{lt-leb}
 use Rattle.model.specs.declared.Place.{Place}
 use Rattle.model.specs.Choice.{pick}
 use Rattle.model.specs.Refusals.{unknown}
-use Rattle.model.specs.Limits.{entryRow}
-use Rattle.model.specs.Checkpoints.{recordsPart, clientsOf, recordsOf, fronts, inCheckpoint, placeAt, noPlace, indexOf, placeInCheckpoint}
+use Rattle.model.specs.Tables.{indexOf}
+use Rattle.model.specs.Checkpoints.{recordsPart, recordWidth, clientsOf, recordsOf, fronts, inCheckpoint, placeAt, noPlace, placeInCheckpoint}
 use Rattle.model_laws.proofs.Checkpoints.{Framed}
 use Rattle.server_inspect.specs.Places.{isRowId}
 use Rattle.server_inspect.proofs.Kept.{kept-place}
@@ -23,10 +23,10 @@ unfolding placeInCheckpoint
 held-nowhere t x c e q = rw (lt-leb 1 (length t) (omega (arith, e))) q
 
 module _ {t : List ℕ} (w : Framed t) where
-  pub held-within : {m n : ℕ} → m ≡ recordsOf t → n ≡ clientsOf t → recordsPart n + entryRow * m ≤ length t
+  pub held-within : {m n : ℕ} → m ≡ recordsOf t → n ≡ clientsOf t → recordsPart n + recordWidth t * m ≤ length t
   held-within p q = rw (p, q) (w .whole)
 
   pub held-at : (x c : ℕ) {m n i : ℕ} {none r : Place} → m ≡ recordsOf t → n ≡ clientsOf t → none ≡ noPlace unknown
-      → i ≡ indexOf (isRowId x c) (fronts entryRow m (drop (recordsPart n) t)) → r ≡ pick (ltb i m) (placeAt inCheckpoint (recordsPart n + entryRow * i) entryRow) none
+      → i ≡ indexOf (isRowId x c) (fronts (recordWidth t) m (drop (recordsPart n) t)) → r ≡ pick (ltb i m) (placeAt inCheckpoint (recordsPart n + recordWidth t * i) (recordWidth t)) none
       → r ≡ placeInCheckpoint x c t
   held-at x c p q z e f = (rw (p, q, z) at f) ∙ kept-place t w x c (rw (p, q) at e)

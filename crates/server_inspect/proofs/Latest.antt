@@ -21,9 +21,10 @@ use Rattle.model.specs.Choice.{pick, orElse}
 use Rattle.model.specs.Numbers.{word}
 use Rattle.model.specs.Refusals.{unknown}
 use Rattle.model.specs.Limits.{headSize, executedSize, leastImage, floorRow, entryRow}
+use Rattle.model.specs.Tables.{indexOf}
 use Rattle.model.specs.Images.{floorOfBytes, imageEntryOf, imageHeadOf, imageAt, imageOk}
 use Rattle.model.specs.Logs.{LogRecord, executed, spans, recordAt, recordSize}
-use Rattle.model.specs.Checkpoints.{inImage, placeAt, noPlace, fronts, indexOf, isEntryId, latestOf, latestIn}
+use Rattle.model.specs.Checkpoints.{inImage, placeAt, noPlace, fronts, isEntryId, latestOf, latestIn}
 use Rattle.model_laws.specs.Bytes.{Bytes, part}
 use Rattle.model_laws.specs.Fits.{IsRecord}
 use Rattle.model_laws.proofs.Numbers.{bytes-drop}
@@ -57,7 +58,7 @@ image-place s from x c found {h} {i} {r} e p q =
     let b : r ≡ pick (ltb i (d .entries)) (placeAt inImage (from + at + entryRow * i) entryRow) found = rw e at q in
     b
     ∙ ap (λ (m : ℕ). pick (ltb i (d .entries)) (placeAt inImage (m + entryRow * i) entryRow) found) k
-    ∙ among imageEntryOf (isEntryId x c) inImage (from + leastImage + floorRow * length (imageIn s .floors)) (d .entries) (drop at s) found a
+    ∙ among imageEntryOf (isEntryId x c) inImage (from + leastImage + floorRow * length (imageIn s .floors)) entryRow (d .entries) (drop at s) found a
 
 -- ---- one record
 

@@ -5,7 +5,7 @@
 --     placed-entry                  in the checkpoint
 --     inspect-inside                the answer
 -- Assumes nothing.
-use Prim.Native.Nat.{ℕ, _+_, _*_, _≤_, _<_}
+use Prim.Native.Nat.{ℕ, _+_, _*_, _≤_}
 use mathlib.Core.Path.{_≡_, refl, sym, ap, _∙_}
 use mathlib.Core.Bool.{Bool, true, _&&_}
 use mathlib.Core.List.{List, [], _∷_}
@@ -19,16 +19,18 @@ use Rattle.model.specs.declared.Place.{Place}
 use Rattle.model.specs.Choice.{pick, orElse, isPassed}
 use Rattle.model.specs.Refusals.{unknown, noRefusal}
 use Rattle.model.specs.Limits.{headSize, takeHead, leastImage, floorRow, entryRow}
+use Rattle.model.specs.Tables.{indexOf}
 use Rattle.model.specs.Images.{imageLength}
 use Rattle.model.specs.Logs.{LogRecord, executed, gone, gave, took, released, spans, off, cut, recordAt, recordSize, endsOf}
 use Rattle.model.specs.Logs.{Extent as LogExtent}
-use Rattle.model.specs.Checkpoints.{inImage, inCheckpoint, noPlace, indexOf, placeAmong, isEntryId, latestOf, latestIn}
+use Rattle.model.specs.Checkpoints.{inImage, inCheckpoint, noPlace, placeAmong, isEntryId, latestOf, latestIn}
 use Rattle.model.specs.States.{load, isId}
-use Rattle.model.specs.Checkpoints.{recordsPart, clientsOf, restored, checkpointFramed, placeInCheckpoint, tailOf, inspectRefusal, inspectOf}
+use Rattle.model.specs.Checkpoints.{recordsPart, recordWidth, clientsOf, restored, checkpointFramed, placeInCheckpoint, tailOf, inspectRefusal, inspectOf}
 use Rattle.model_laws.specs.Bytes.{Bytes}
 use Rattle.model_laws.specs.Fits.{IsRecord}
 use Rattle.model_laws.proofs.Tests.{choose, impossible}
 use Rattle.model_laws.proofs.Numbers.{bytes-drop, bytes-take}
+use Rattle.model_laws.proofs.Tables.{row-in}
 use Rattle.model_laws.proofs.Logs.{record-is}
 use Rattle.model_laws.proofs.Ends.{joinEnd}
 use Rattle.format_log_ends.specs.Answers.{extentFrom}
@@ -45,12 +47,14 @@ module _ (checkpoint tail : List ℕ) where
   placed-none n = record { order = omega arith; within = omega arith }
 
   -- rows of the tail or, from another source, of the checkpoint
-  pub placed-among : {A : Type 0} (t : A → Bool) (rs : List A) (source k : ℕ) (found : Place) → k + entryRow * length rs ≤ length (pick (eqb source inCheckpoint) checkpoint tail)
-      → Inside checkpoint tail found → Inside checkpoint tail (placeAmong source k entryRow t rs found)
+  pub placed-among : {A : Type 0} (t : A → Bool) (rs : List A) (source k w : ℕ) (found : Place) → k + w * length rs ≤ length (pick (eqb source inCheckpoint) checkpoint tail)
+      → Inside checkpoint tail found → Inside checkpoint tail (placeAmong source k w t rs found)
   unfolding placeAmong
-  placed-among t rs source k found h o =
+  placed-among t rs source k w found h o =
       choose (Inside checkpoint tail) (ltb (indexOf t rs) (length rs))
-      (λ e. let l : indexOf t rs < length rs = ltb-true (indexOf t rs) (length rs) e in record { order = omega arith; within = omega arith }) (λ e. o)
+      (λ e.
+      let l : w * indexOf t rs + w ≤ w * length rs = row-in w (indexOf t rs) (length rs) (ltb-true (indexOf t rs) (length rs) e) in
+      record { order = omega arith; within = omega arith }) (λ e. o)
 
   -- ---- the records of a log in front of the tail
 
@@ -70,7 +74,7 @@ module _ (checkpoint tail : List ℕ) where
             choose (Inside checkpoint tail) (eqb (r .command .client) x && eqb (r .command .call) c)
             (λ (t : (eqb (r .command .client) x && eqb (r .command .call) c) ≡ true). record { order = omega arith; within = omega (arith, size (executed r) q) }) (λ t. o)
         go (some (took i)) q =
-            placed-among (isEntryId x c) (i .entries) inImage (at + takeHead + leastImage + floorRow * length (i .floors)) found (omega (arith, size (took i) q)) o
+            placed-among (isEntryId x c) (i .entries) inImage (at + takeHead + leastImage + floorRow * length (i .floors)) entryRow found (omega (arith, size (took i) q)) o
         go (some (gone r)) q = o
         go (some (gave r)) q = o
         go (some (released r)) q = o
@@ -104,7 +108,7 @@ module _ (checkpoint tail : List ℕ) where
       choose (Inside checkpoint tail) (leb 1 (length checkpoint))
       (λ e.
       let w : Framed checkpoint = framed-is checkpoint (u (leb-true 1 (length checkpoint) e)) in
-      placed-among (isId x c) (load (restored checkpoint) .records) inCheckpoint (recordsPart (clientsOf checkpoint)) (noPlace unknown)
+      placed-among (isId x c) (load (restored checkpoint) .records) inCheckpoint (recordsPart (clientsOf checkpoint)) (recordWidth checkpoint) (noPlace unknown)
       (rw (kept-count checkpoint w) (w .whole)) (placed-none unknown)) (λ e. placed-none unknown)
 
 -- ---- the answer

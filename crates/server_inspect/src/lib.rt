@@ -3,6 +3,7 @@ pub mod records;
 
 use model::Place;
 use model::constants;
+use model::constants::CHECKPOINT_RECORD;
 use model::constants::NO_REFUSAL;
 use state_records::Found;
 use state_rows::state;
@@ -92,11 +93,11 @@ fn place_in_checkpoint(checkpoint: &[u8], client: u32, call: u32) -> Place
     if checkpoint.len() == 0 {
         return none;
     }
-    let n = state_restore::records_of(checkpoint);
+    let n = state_restore::records_of(checkpoint, CHECKPOINT_RECORD);
     let clients = state_restore::clients_of(checkpoint);
     let at = constants::CLIENTS_PART + constants::FLOOR_ROW * clients;
-    let i = records::index_of(checkpoint, at, n, client, call);
-    records::place_of(constants::IN_CHECKPOINT, at, n, i, none)
+    let i = records::index_of(checkpoint, at, CHECKPOINT_RECORD, n, client, call);
+    records::place_of(constants::IN_CHECKPOINT, at, CHECKPOINT_RECORD, n, i, none)
 }
 
 // In a log that is as long as the state records, and in the checkpoint before it.

@@ -14,10 +14,11 @@ ghost use lib.Dec.{ltb};
 ghost use Rattle.model.specs.Choice.{pick};
 ghost use Rattle.model.specs.Numbers.{word};
 ghost use mathlib.Core.Option.{some};
-ghost use Rattle.model.specs.Limits.{headSize, entryRow, executedSize};
+ghost use Rattle.model.specs.Limits.{headSize, executedSize};
+ghost use Rattle.model.specs.Tables.{indexOf};
 ghost use Rattle.model.specs.Images.{imageOk};
 ghost use Rattle.model.specs.Logs.{executed, spans, recordAt};
-ghost use Rattle.model.specs.Checkpoints.{placeAt, fronts, indexOf, latestOf};
+ghost use Rattle.model.specs.Checkpoints.{placeAt, fronts, latestOf};
 ghost use Rattle.format_log_reader.specs.Answers.{imageIn};
 ghost use Rattle.format_log_ends.specs.Answers.{extentFrom};
 ghost use Rattle.format_log_ends.specs.Walked.{endAt, endFrom};
@@ -40,7 +41,7 @@ fn place_at(source: u32, k: usize, n: usize) -> Place
 
 // The row from k has the id: client and call come first.
 fn is_row_id(s: &[u8], k: usize, client: u32, call: u32) -> bool
-    requires { ⌜ k + entryRow ≤ length (now s) ⌝ }
+    requires { ⌜ k + 8 ≤ length (now s) ⌝ }
     ensures { λ r. ⌜ r ≡ isRowId client call (drop k (now (s .entry))) ⌝ }
 {
     let x = format_numbers::read_u32(s, k);
@@ -48,14 +49,14 @@ fn is_row_id(s: &[u8], k: usize, client: u32, call: u32) -> bool
     (x == client) & (c == call)
 }
 
-// The index of the first of n rows from at that has the id, n where none has.
-pub fn index_of(s: &[u8], at: usize, n: usize, client: u32, call: u32) -> usize
-    requires { ⌜ at + entryRow * n ≤ length (now s) ⌝ }
-    ensures { λ r. ⌜ r ≡ indexOf (isRowId client call) (fronts entryRow n (drop at (now (s .entry)))) ⌝ }
+// The index of the first of n rows of width bytes from at that has the id, n where none has.
+pub fn index_of(s: &[u8], at: usize, width: usize, n: usize, client: u32, call: u32) -> usize
+    requires { ⌜ (at + width * n ≤ length (now s)) × (8 ≤ width) ⌝ }
+    ensures { λ r. ⌜ r ≡ indexOf (isRowId client call) (fronts width n (drop at (now (s .entry)))) ⌝ }
 {
     let mut i = 0;
     while i < n {
-        if is_row_id(s, at + ENTRY_ROW * i, client, call) {
+        if is_row_id(s, at + width * i, client, call) {
             return i;
         }
         i += 1;
@@ -63,13 +64,13 @@ pub fn index_of(s: &[u8], at: usize, n: usize, client: u32, call: u32) -> usize
     n
 }
 
-// The row of index i of n rows from at, or `found` where the index is none of theirs.
-pub fn place_of(source: u32, at: usize, n: usize, i: usize, found: Place) -> Place
-    requires { ⌜ at + entryRow * n < word * word ⌝ }
-    ensures { λ r. ⌜ r ≡ pick (ltb i n) (placeAt source (at + entryRow * i) entryRow) found ⌝ }
+// The row of index i of n rows of width bytes from at, or `found` where the index is none of theirs.
+pub fn place_of(source: u32, at: usize, width: usize, n: usize, i: usize, found: Place) -> Place
+    requires { ⌜ at + width * n < word * word ⌝ }
+    ensures { λ r. ⌜ r ≡ pick (ltb i n) (placeAt source (at + width * i) width) found ⌝ }
 {
     if i < n {
-        return place_at(source, at + ENTRY_ROW * i, ENTRY_ROW);
+        return place_at(source, at + width * i, width);
     }
     found
 }
@@ -95,8 +96,8 @@ fn place_in_image(image: &[u8], from: usize, client: u32, call: u32, found: Plac
     let h = format_image_rows::head_from(image);
     let n = h.entries as usize;
     let at = LEAST_IMAGE + FLOOR_ROW * (h.floors as usize);
-    let i = index_of(image, at, n, client, call);
-    place_of(constants::IN_IMAGE, from + at, n, i, found)
+    let i = index_of(image, at, ENTRY_ROW, n, client, call);
+    place_of(constants::IN_IMAGE, from + at, ENTRY_ROW, n, i, found)
 }
 
 // The whole record of n bytes at a place of the log has the id, or `found` holds it.

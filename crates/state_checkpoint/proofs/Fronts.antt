@@ -1,5 +1,4 @@
 -- Fronts of rows.
---     row-in                        a row lies within its table
 --     fronts-length                 the bytes of fronts
 --     Fronted, fronted-..           a loop that stores them, one behind the other
 --     fronts-again                  the front of a row that was read is the front of its bytes
@@ -9,7 +8,7 @@ use mathlib.Core.Path.{_≡_, refl, sym, ap, _∙_}
 use mathlib.Core.Bool.{true}
 use mathlib.Core.List.{List, _++_}
 use native.Mathlib.Omega.{arith}
-use native.Mathlib.Nat.{mul-zero, mul-suc, mul-le-mul-left, zero-add}
+use native.Mathlib.Nat.{mul-zero, mul-suc, zero-add}
 use lib.ListN.{length, take, drop, length-append, length-drop}
 use lib.Seq.{length-take-le, take-take}
 use Rattle.model.specs.Tables.{rows, everyRow, bytesOf, written}
@@ -19,10 +18,7 @@ use Rattle.model_laws.specs.Codec.{Codec}
 use Rattle.model_laws.proofs.Tests.{and-left, and-right}
 use Rattle.model_laws.proofs.Numbers.{bytes-drop}
 use Rattle.model_laws.proofs.Written.{length-written, written-none, run-behind}
-use Rattle.model_laws.proofs.Tables.{rows-snoc, bytesOf-append, bytesOf-one}
-
-pub row-in : (w i n : ℕ) → i < n → w * i + w ≤ w * n
-row-in w i n h = omega (arith, mul-suc w i, mul-le-mul-left w h)
+use Rattle.model_laws.proofs.Tables.{rows-snoc, row-in, bytesOf-append, bytesOf-one}
 
 pub fronts-length : (w v n : ℕ) (t : List ℕ) → w ≤ v → v * n ≤ length t → length (bytesOf (take w) (fronts v n t)) ≡ w * n
 unfolding fronts rows bytesOf

@@ -48,7 +48,7 @@ module _ (s : List ℕ) (h : Bytes s) (d : Sound s) where
       sym (rows-again floorCodec (clientsIn s) (drop floorsStart s) (bytes-drop floorsStart s h) (rw length-drop (omega (arith, d .long, d .few-clients)))
       (everyRow-true floorRow (clientsIn s) (drop floorsStart s)))
 
-  pub records-part : bytesOf (take checkpointRecord) (fronts recordRow (recordsIn s) (drop recordsStart s)) ≡ bytesOf recordFront (load s .records)
+  pub records-part : bytesOf (take checkpointRecord) (fronts recordRow (recordsIn s) (drop recordsStart s)) ≡ bytesOf (recordFront checkpointRecord) (load s .records)
   unfolding load recordFront
   records-part =
       fronts-again completionCodec checkpointRecord (omega arith) (recordsIn s) (drop recordsStart s) (bytes-drop recordsStart s h) (rw length-drop (omega (arith, d .long, d .few-records)))
@@ -65,7 +65,7 @@ module _ (s : List ℕ) (h : Bytes s) (d : Sound s) where
 
   pub records-written : (t : List ℕ) (k : ℕ)
       → putMid k (length t - k) t (written (midOf k (length t - k) t) 0 (bytesOf (take checkpointRecord) (fronts recordRow (recordsIn s) (midOf recordsStart (length s - recordsStart) s))))
-      ≡ written t k (bytesOf recordFront (load s .records))
+      ≡ written t k (bytesOf (recordFront checkpointRecord) (load s .records))
   records-written t k =
       tail-back k t (bytesOf (take checkpointRecord) (fronts recordRow (recordsIn s) (midOf recordsStart (length s - recordsStart) s)))
       ∙ ap (λ (x : List ℕ). written t k x) (rw (tail-part recordsStart s) records-part)
@@ -83,7 +83,7 @@ pair k n = le32 k ++ le32 n
 pub pairs-runs : (s : List ℕ) (n k : ℕ)
     → written (written (written (written s 12 (pair planPart planSize)) 20 (pair pointsPart (checkpointPoint * pointCount))) 28 (pair clientsPart (floorRow * n))) 36
     (pair (recordsPart n) (checkpointRecord * k))
-    ≡ written s 12 (pairsBytes n k)
+    ≡ written s 12 (pairsBytes checkpointRecord n k)
 unfolding pairsBytes storedBy bytesBy
 pairs-runs s n k =
     runs-stored s checkpointPairs
@@ -98,12 +98,12 @@ abbrev frame : State → List ℕ
 frame st = checkpointMagic ++ (quad (st .server) 0 0 0 ++ le32 (st .heard))
 
 -- with the numbers of clients and completion records as they stand in the state's head
-whole : (s : List ℕ) → checkpointBytes (load s) ≡ frame (load s) ++ (pairsBytes (clientsIn s) (recordsIn s)
-    ++ (planBytes (load s .plan) ++ (bytesOf pointFront (load s .points) ++ (bytesOf floorBytes (load s .floors) ++ bytesOf recordFront (load s .records)))))
+whole : (s : List ℕ) → checkpointBytes (load s) ≡ frame (load s) ++ (pairsBytes checkpointRecord (clientsIn s) (recordsIn s)
+    ++ (planBytes (load s .plan) ++ (bytesOf pointFront (load s .points) ++ (bytesOf floorBytes (load s .floors) ++ bytesOf (recordFront checkpointRecord) (load s .records)))))
 unfolding checkpointBytes
 whole s = rw (floors-count s, records-count s)
 
-pairs-length : (n k : ℕ) → length (pairsBytes n k) ≡ 32
+pairs-length : (n k : ℕ) → length (pairsBytes checkpointRecord n k) ≡ 32
 unfolding pairsBytes
 pairs-length n k = refl
 
@@ -119,18 +119,18 @@ module _ (s : List ℕ) (h : Bytes s) (d : Sound s) where
   clients-long = length-bytesOf floorCodec (load s .floors) ∙ ap (λ (n : ℕ). floorRow * n) (floors-count s)
 
   pub checkpoint-runs : (t : List ℕ)
-      → written (written (written (written (written (written t 0 (frame (load s))) 12 (pairsBytes (clientsIn s) (recordsIn s))) planPart (planBytes (load s .plan))) pointsPart
-      (bytesOf pointFront (load s .points))) clientsPart (bytesOf floorBytes (load s .floors))) (recordsPart (clientsIn s)) (bytesOf recordFront (load s .records))
+      → written (written (written (written (written (written t 0 (frame (load s))) 12 (pairsBytes checkpointRecord (clientsIn s) (recordsIn s))) planPart (planBytes (load s .plan))) pointsPart
+      (bytesOf pointFront (load s .points))) clientsPart (bytesOf floorBytes (load s .floors))) (recordsPart (clientsIn s)) (bytesOf (recordFront checkpointRecord) (load s .records))
       ≡ written t 0 (checkpointBytes (load s))
   unfolding storedBy bytesBy
   checkpoint-runs t =
       runs-stored t 0
       (run (frame (load s)) checkpointPairs refl
-      (run (pairsBytes (clientsIn s) (recordsIn s)) planPart (ap (λ (n : ℕ). checkpointPairs + n) (pairs-length (clientsIn s) (recordsIn s)))
+      (run (pairsBytes checkpointRecord (clientsIn s) (recordsIn s)) planPart (ap (λ (n : ℕ). checkpointPairs + n) (pairs-length (clientsIn s) (recordsIn s)))
       (run (planBytes (load s .plan)) pointsPart (ap (λ (n : ℕ). planPart + n) plan-long)
       (run (bytesOf pointFront (load s .points)) clientsPart (ap (λ (n : ℕ). pointsPart + n) points-long)
       (run (bytesOf floorBytes (load s .floors)) (recordsPart (clientsIn s)) (ap (λ (n : ℕ). clientsPart + n) clients-long)
-      (last (bytesOf recordFront (load s .records))))))))
+      (last (bytesOf (recordFront checkpointRecord) (load s .records))))))))
       ∙ ap (λ (x : List ℕ). written t 0 x) (sym (whole s))
 
   pub checkpoint-size : recordsPart (clientsIn s) + checkpointRecord * recordsIn s ≡ length (checkpointBytes (load s))

@@ -15,7 +15,7 @@ ghost use mathlib.Core.Path.{_≡_};
 ghost use mathlib.Core.List.{_++_};
 ghost use Prim.Native.Nat.{_+_, _*_, _≤_};
 ghost use lib.ListN.{length, take};
-ghost use Rattle.model.specs.Limits.{clientCount, recordCount, pairSize, checkpointPairs, checkpointHead, checkpointSize};
+ghost use Rattle.model.specs.Limits.{clientCount, recordCount, pairSize, checkpointPairs, checkpointHead, checkpointRecord, checkpointSize};
 ghost use Rattle.model.specs.Numbers.{le32, quad};
 ghost use Rattle.model.specs.Tables.{bytesOf, written};
 ghost use Rattle.model.specs.Plan.{planBytes};
@@ -45,14 +45,7 @@ fn write_frame(checkpoint: &mut [u8], server: u8, heard: u32)
     requires { ⌜ checkpointHead ≤ length (now checkpoint) ⌝ }
     ensures { λ r. ⌜ now (checkpoint .exit) ≡ written (now (checkpoint .entry)) 0 (checkpointMagic ++ (quad server 0 0 0 ++ le32 heard)) ⌝ }
 {
-    format_numbers::write_4(
-        checkpoint,
-        0,
-        CHECKPOINT_MAGIC[0],
-        CHECKPOINT_MAGIC[1],
-        CHECKPOINT_MAGIC[2],
-        CHECKPOINT_MAGIC[3],
-    );
+    format_numbers::write_magic(checkpoint, CHECKPOINT_MAGIC);
     format_numbers::write_4(checkpoint, constants::CHECKPOINT_SERVER, server, 0, 0, 0);
     format_numbers::write_u32(checkpoint, constants::CHECKPOINT_HEARD, heard);
 }
@@ -69,7 +62,7 @@ fn write_pair(checkpoint: &mut [u8], at: usize, offset: u32, size: u32)
 // The pairs, for n clients and k completion records.
 fn write_pairs(checkpoint: &mut [u8], n: usize, k: usize)
     requires { ⌜ (checkpointHead ≤ length (now checkpoint)) × (n ≤ clientCount) × (k ≤ recordCount) ⌝ }
-    ensures { λ r. ⌜ now (checkpoint .exit) ≡ written (now (checkpoint .entry)) checkpointPairs (pairsBytes n k) ⌝ }
+    ensures { λ r. ⌜ now (checkpoint .exit) ≡ written (now (checkpoint .entry)) checkpointPairs (pairsBytes checkpointRecord n k) ⌝ }
 {
     write_pair(
         checkpoint,
@@ -136,7 +129,7 @@ fn write_clients(checkpoint: &mut [u8], s: &[u8])
 // The completion records, behind the clients.
 fn write_records(checkpoint: &mut [u8], s: &[u8], from: usize)
     requires { ⌜ (Sound (now s)) × (from ≤ recordsPart clientCount) × (checkpointSize ≤ length (now checkpoint)) ⌝ }
-    ensures { λ r. ⌜ now (checkpoint .exit) ≡ written (now (checkpoint .entry)) from (bytesOf recordFront (load (now (s .entry)) .records)) ⌝ }
+    ensures { λ r. ⌜ now (checkpoint .exit) ≡ written (now (checkpoint .entry)) from (bytesOf (recordFront checkpointRecord) (load (now (s .entry)) .records)) ⌝ }
 {
     let k = state_rows::records_in(s) as usize;
     copy_fronts(

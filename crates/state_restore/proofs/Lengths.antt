@@ -1,31 +1,36 @@
 -- The frame of a checkpoint, and lengths of what is stored of it.
 --     framed-by                     the test of the frame, with the pairs tested apart
+--     whole-rows                    the rows of a part
 --     length-part                   n bytes of a slice
 --     rows-length, padded-length, head-length     rows, a table with the zeros past its rows, the head
 -- Assumes nothing.
-use Prim.Native.Nat.{ℕ, zero, suc, _+_, _-_, _*_, _≤_}
+use Prim.Native.Nat.{ℕ, zero, suc, _+_, _-_, _*_, _/_, _≤_}
 use mathlib.Core.Path.{_≡_, sym, _∙_}
 use mathlib.Core.Bool.{Bool, _&&_}
 use mathlib.Core.List.{List}
 use native.Mathlib.Omega.{arith}
-use native.Mathlib.Nat.{mul-zero, mul-suc}
+use native.Mathlib.Nat.{mul-zero, mul-suc, mul-div-le}
 use lib.ListN.{length, drop, replicate, length-append, length-drop, length-replicate}
 use lib.Seq.{length-take-le}
 use borrow.Author.Tests.{le-leb}
 use Rattle.model.specs.Numbers.{le64, startsWith}
-use Rattle.model.specs.Limits.{checkpointHead}
+use Rattle.model.specs.Limits.{checkpointHead, checkpointRecord}
 use Rattle.model.specs.Tables.{rows, bytesOf}
 use Rattle.model.specs.States.{stateHead, padded}
-use Rattle.model.specs.Checkpoints.{checkpointMagic, fronts, checkpointFramed}
+use Rattle.model.specs.Checkpoints.{checkpointMagic, recordWidth, recordsOf, fronts, checkpointFramed}
 use Rattle.model_laws.specs.Bytes.{part}
 use Rattle.model_laws.proofs.Tables.{places}
 use Rattle.model_laws.proofs.Fronts.{length-fronts}
 use Rattle.state_restore.specs.Parts.{fixedPairs, tablePairs, headRestored}
 
 -- the test of the frame, with the pairs tested apart
-pub framed-by : (s : List ℕ) {m b : Bool} → checkpointHead ≤ length s → m ≡ startsWith s checkpointMagic → b ≡ fixedPairs s → (m && b) ≡ checkpointFramed s
-unfolding checkpointFramed fixedPairs tablePairs
+pub framed-by : (s : List ℕ) {m b : Bool} → checkpointHead ≤ length s → m ≡ startsWith s checkpointMagic → b ≡ fixedPairs checkpointRecord s → (m && b) ≡ checkpointFramed s
+unfolding checkpointFramed fixedPairs tablePairs recordsOf recordWidth
 framed-by s h q p = rw (q, p, le-leb checkpointHead (length s) h)
+
+-- whole rows of w bytes take no more than what was read
+pub whole-rows : {v b : ℕ} (w : ℕ) → v ≡ b → w * (v / w) ≤ v
+whole-rows {v} w e = mul-div-le v w
 
 -- ---- lengths
 

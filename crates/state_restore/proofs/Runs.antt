@@ -9,7 +9,7 @@ use mathlib.Core.Path.{_≡_, refl, sym, ap, _∙_}
 use mathlib.Core.List.{List, _++_, append-assoc}
 use native.Mathlib.Omega.{arith}
 use native.Mathlib.Nat.{add-zero}
-use lib.ListN.{length, getD, take, drop, replicate, length-drop}
+use lib.ListN.{length, getD, take, drop, replicate, length-drop, length-replicate}
 use lib.Seq.{getD-drop, drop-drop}
 use lib.Dec.{eqb, leb}
 use Rattle.model.specs.Choice.{pick}
@@ -17,7 +17,7 @@ use Rattle.model.specs.Numbers.{le32At, le32, le64, quad}
 use Rattle.model.specs.Limits.{headSize, planSize, pointCount, clientCount, floorRow, checkpointHead, checkpointPoint, checkpointRecord}
 use Rattle.model.specs.Tables.{rows, bytesOf, written}
 use Rattle.model.specs.States.{given, stateMagic, clientsPlace, recordsPlace, lengthPlace, markPlace, stateHead, pointsStart, floorsStart, recordsStart, pointRow, padded}
-use Rattle.model.specs.Checkpoints.{planPart, pointsPart, clientsPart, recordsPart, clientsOf, recordsOf, pointWhole, recordWhole, fronts, restoredBytes}
+use Rattle.model.specs.Checkpoints.{planPart, pointsPart, clientsPart, recordsPart, recordWidth, clientsOf, recordsOf, pointWhole, recordWhole, fronts, restoredBytes}
 use Rattle.model_laws.specs.Bytes.{part}
 use Rattle.model_laws.specs.Runs.{last, run, storedBy, bytesBy}
 use Rattle.model_laws.proofs.Numbers.{le32-drop, length-le64}
@@ -41,10 +41,16 @@ point-runs s to t from {g} {h} l p q =
     runs-stored s to (run (part from checkpointPoint t) (to + 16) front (run (le64 g) (to + 24) give (last (le64 h))))
     ∙ rw (p, q, status, le32-drop from t 12)
 
-pub record-runs : (s : List ℕ) (to : ℕ) (t : List ℕ) (from : ℕ) → from + checkpointRecord ≤ length t
-    → written (written s to (part from checkpointRecord t)) (to + 20) (le64 headSize) ≡ written s to (recordWhole (drop from t))
-unfolding recordWhole
-record-runs s to t from l = run-behind s to (part from checkpointRecord t) (le64 headSize) (length-part from checkpointRecord t l) refl
+pub record-runs : (s : List ℕ) (to : ℕ) (t : List ℕ) (from w : ℕ) → from + w ≤ length t → w ≤ checkpointRecord
+    → written (written (written s to (part from w t)) (to + w) (replicate (to + checkpointRecord - (to + w)) 0)) (to + checkpointRecord) (le64 headSize)
+    ≡ written s to (recordWhole w (drop from t))
+unfolding recordWhole storedBy bytesBy
+record-runs s to t from w l h =
+    let gap : to + checkpointRecord - (to + w) ≡ checkpointRecord - w = omega arith in
+    let zeros : List ℕ = replicate (checkpointRecord - w) 0 in
+    let front : to + length (part from w t) ≡ to + w = ap (λ (k : ℕ). to + k) (length-part from w t l) in
+    let fill : to + w + length zeros ≡ to + checkpointRecord = omega (arith, length-replicate {A = ℕ} (checkpointRecord - w) 0) in
+    rw gap (runs-stored s to (run (part from w t) (to + w) front (run zeros (to + checkpointRecord) fill (last (le64 headSize)))))
 
 -- ---- a loop over rows
 
@@ -127,7 +133,7 @@ module _ (t : List ℕ) (i : Framed t) where
   clients = padded (take floorRow) floorRow clientCount (fronts floorRow n (drop clientsPart t))
 
   abbrev records : List ℕ
-  records = bytesOf recordWhole (fronts checkpointRecord m (drop (recordsPart n) t))
+  records = bytesOf (recordWhole (recordWidth t)) (fronts (recordWidth t) m (drop (recordsPart n) t))
 
   parts : restoredBytes t ≡ headRestored n m t ++ (planBytes ++ (points ++ (clients ++ records)))
   unfolding restoredBytes headRestored
@@ -146,7 +152,7 @@ module _ (t : List ℕ) (i : Framed t) where
   -- as the calls leave it, with the counts that were read
   pub restored-runs : (s : List ℕ) {c k : ℕ} {s1 s2 s3 s4 s5 : List ℕ} → c ≡ n → k ≡ m → s1 ≡ written s 0 (headRestored c k t) → s2 ≡ written s1 stateHead planBytes
       → s3 ≡ written s2 pointsStart points → s4 ≡ written s3 floorsStart (padded (take floorRow) floorRow clientCount (fronts floorRow c (drop clientsPart t)))
-      → s5 ≡ written s4 recordsStart (bytesOf recordWhole (fronts checkpointRecord k (drop (recordsPart c) t))) → s5 ≡ written s 0 (restoredBytes t)
+      → s5 ≡ written s4 recordsStart (bytesOf (recordWhole (recordWidth t)) (fronts (recordWidth t) k (drop (recordsPart c) t))) → s5 ≡ written s 0 (restoredBytes t)
   unfolding storedBy bytesBy
   restored-runs s p q a b d e f =
       rw (f, e, d, b, a, p, q)

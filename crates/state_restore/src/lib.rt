@@ -14,14 +14,14 @@ use model::constants::RECORD_ROW;
 use model::constants::RECORDS_START;
 ghost use mathlib.Core.Path.{_≡_};
 ghost use mathlib.Core.Bool.{true};
-ghost use Prim.Native.Nat.{_+_, _*_, _≤_, _<_};
+ghost use Prim.Native.Nat.{_+_, _*_, _/_, _≤_, _<_};
 ghost use lib.Dec.{eqb, leb};
 ghost use lib.ListN.{length, take, drop};
 ghost use Rattle.model.specs.Choice.{pick};
 ghost use Rattle.model.specs.Limits.{headSize, pointCount, clientCount, recordCount, floorRow, checkpointHead, checkpointPoint, checkpointRecord};
 ghost use Rattle.model.specs.Tables.{bytesOf, written};
 ghost use Rattle.model.specs.States.{given, stateEnd, stateHead, pointsStart, pointRow, floorsStart, recordsStart, recordRow, padded};
-ghost use Rattle.model.specs.Checkpoints.{pointsPart, clientsPart, recordsPart, clientsOf, recordsOf, pointWhole, recordWhole, fronts};
+ghost use Rattle.model.specs.Checkpoints.{pointsPart, clientsPart, recordsPart, clientsOf, recordsSizeIn, pointWhole, recordWhole, fronts};
 ghost use Rattle.model.specs.Checkpoints.{restoredBytes, checkpointFramed};
 ghost use Rattle.state_restore.specs.Parts.{fixedPairs, tablePairs, headRestored};
 ghost use Rattle.state_restore.specs.Restored.{RestoredBy};
@@ -36,39 +36,39 @@ pub fn clients_of(s: &[u8]) -> usize
     format_numbers::read_u32(s, constants::CHECKPOINT_CLIENTS_LENGTH) as usize / FLOOR_ROW
 }
 
-// The number of completion records, by the length of theirs.
-pub fn records_of(s: &[u8]) -> usize
-    requires { ⌜ checkpointHead ≤ length (now s) ⌝ }
-    ensures { λ r. ⌜ r ≡ recordsOf (now (s .entry)) ⌝ }
+// The number of completion records of width bytes, by the length of their part.
+pub fn records_of(s: &[u8], width: usize) -> usize
+    requires { ⌜ (checkpointHead ≤ length (now s)) × (1 ≤ width) ⌝ }
+    ensures { λ r. ⌜ r ≡ recordsSizeIn (now (s .entry)) / width ⌝ }
 {
-    format_numbers::read_u32(s, constants::CHECKPOINT_RECORDS_LENGTH) as usize / CHECKPOINT_RECORD
+    format_numbers::read_u32(s, constants::CHECKPOINT_RECORDS_LENGTH) as usize / width
 }
 
-// The pairs of the two tables: whole rows, few enough, and within the slice.
-fn table_pairs(s: &[u8]) -> bool
-    requires { ⌜ checkpointHead ≤ length (now s) ⌝ }
-    ensures { λ r. ⌜ r ≡ tablePairs (now (s .entry)) ⌝ }
+// The pairs of the two tables: whole rows, few enough, and within the slice. A completion record has width bytes.
+fn table_pairs(s: &[u8], width: usize) -> bool
+    requires { ⌜ (checkpointHead ≤ length (now s)) × (1 ≤ width) ⌝ }
+    ensures { λ r. ⌜ r ≡ tablePairs width (now (s .entry)) ⌝ }
 {
     let clients = format_numbers::read_u32(s, constants::CHECKPOINT_CLIENTS_LENGTH) as usize;
     let third = format_numbers::read_u32(s, constants::CHECKPOINT_RECORDS_PAIR) as usize;
     let records = format_numbers::read_u32(s, constants::CHECKPOINT_RECORDS_LENGTH) as usize;
     let n = clients / FLOOR_ROW;
-    let m = records / CHECKPOINT_RECORD;
+    let m = records / width;
     let start = CLIENTS_PART + FLOOR_ROW * n;
     (clients == FLOOR_ROW * n)
         & ((third == start)
-            & ((records == CHECKPOINT_RECORD * m)
+            & ((records == width * m)
                 & ((n <= constants::CLIENT_COUNT)
                     & ((m <= constants::RECORD_COUNT)
-                        & (start + CHECKPOINT_RECORD * m <= s.len())))))
+                        & (start + width * m <= s.len())))))
 }
 
 // The pairs: first those with one value for all checkpoints.
-fn pairs_ok(s: &[u8]) -> bool
-    requires { ⌜ checkpointHead ≤ length (now s) ⌝ }
-    ensures { λ r. ⌜ r ≡ fixedPairs (now (s .entry)) ⌝ }
+fn pairs_ok(s: &[u8], width: usize) -> bool
+    requires { ⌜ (checkpointHead ≤ length (now s)) × (1 ≤ width) ⌝ }
+    ensures { λ r. ⌜ r ≡ fixedPairs width (now (s .entry)) ⌝ }
 {
-    let tables = table_pairs(s);
+    let tables = table_pairs(s, width);
     let plan = format_numbers::read_u32(s, constants::CHECKPOINT_PLAN_PAIR) as usize;
     let plan_length = format_numbers::read_u32(s, constants::CHECKPOINT_PLAN_LENGTH) as usize;
     let points = format_numbers::read_u32(s, constants::CHECKPOINT_POINTS_PAIR) as usize;
@@ -89,7 +89,7 @@ pub fn framed(checkpoint: &[u8]) -> bool
         return false;
     }
     let magic = format_numbers::starts_with(checkpoint, constants::CHECKPOINT_MAGIC);
-    let pairs = pairs_ok(checkpoint);
+    let pairs = pairs_ok(checkpoint, CHECKPOINT_RECORD);
     magic & pairs
 }
 
@@ -125,12 +125,13 @@ fn put_point(s: &mut [u8], to: usize, checkpoint: &[u8], from: usize)
     format_numbers::write_u64(s, to + constants::POINT_TAKE_END, take);
 }
 
-// The completion record in the 20 bytes from one place, with its end, in the 28 bytes from another.
-fn put_record(s: &mut [u8], to: usize, checkpoint: &[u8], from: usize)
-    requires { ⌜ (to + recordRow ≤ length (now s)) × (from + checkpointRecord ≤ length (now checkpoint)) ⌝ }
-    ensures { λ r. ⌜ now (s .exit) ≡ written (now (s .entry)) to (recordWhole (drop from (now (checkpoint .entry)))) ⌝ }
+// The completion record in the width bytes from one place, in the 28 bytes from another: zeros up to its front's end, and its end.
+fn put_record(s: &mut [u8], to: usize, checkpoint: &[u8], from: usize, width: usize)
+    requires { ⌜ (to + recordRow ≤ length (now s)) × (from + width ≤ length (now checkpoint)) × (width ≤ checkpointRecord) ⌝ }
+    ensures { λ r. ⌜ now (s .exit) ≡ written (now (s .entry)) to (recordWhole width (drop from (now (checkpoint .entry)))) ⌝ }
 {
-    format_numbers::copy_part(s, to, checkpoint, from, CHECKPOINT_RECORD);
+    format_numbers::copy_part(s, to, checkpoint, from, width);
+    state_rows::clear(s, to + width, to + constants::RECORD_END);
     format_numbers::write_u64(s, to + constants::RECORD_END, HEAD_SIZE_U64);
 }
 
@@ -141,14 +142,7 @@ fn put_head(s: &mut [u8], checkpoint: &[u8], n: usize, m: usize)
     requires { ⌜ (stateHead ≤ length (now s)) × (checkpointHead ≤ length (now checkpoint)) × (n ≤ clientCount) × (m ≤ recordCount) ⌝ }
     ensures { λ r. ⌜ now (s .exit) ≡ written (now (s .entry)) 0 (headRestored n m (now (checkpoint .entry))) ⌝ }
 {
-    format_numbers::write_4(
-        s,
-        0,
-        constants::STATE_MAGIC[0],
-        constants::STATE_MAGIC[1],
-        constants::STATE_MAGIC[2],
-        constants::STATE_MAGIC[3],
-    );
+    format_numbers::write_magic(s, constants::STATE_MAGIC);
     format_numbers::copy_part(
         s,
         constants::STATE_SERVER,
@@ -188,10 +182,13 @@ fn put_clients(s: &mut [u8], checkpoint: &[u8], n: usize)
     state_rows::clear(s, FLOORS_START + FLOOR_ROW * n, RECORDS_START);
 }
 
-// m completion records of the checkpoint, from a place. What lies behind the last of them is left as it is.
-fn put_records(s: &mut [u8], checkpoint: &[u8], from: usize, m: usize)
-    requires { ⌜ (stateEnd ≤ length (now s)) × (from + checkpointRecord * m ≤ length (now checkpoint)) × (m ≤ recordCount) ⌝ }
-    ensures { λ r. ⌜ now (s .exit) ≡ written (now (s .entry)) recordsStart (bytesOf recordWhole (fronts checkpointRecord m (drop from (now (checkpoint .entry))))) ⌝ }
+// m completion records of width bytes, from a place of the checkpoint. What lies behind the last of them is left as it is.
+fn put_records(s: &mut [u8], checkpoint: &[u8], from: usize, width: usize, m: usize)
+    requires { ⌜ (stateEnd ≤ length (now s)) × (from + width * m ≤ length (now checkpoint)) × (m ≤ recordCount)
+        × (width ≤ checkpointRecord) ⌝ }
+    ensures { λ r. ⌜ now (s .exit)
+        ≡ written (now (s .entry)) recordsStart
+        (bytesOf (recordWhole width) (fronts width m (drop from (now (checkpoint .entry))))) ⌝ }
 {
     let mut i = 0;
     while i < m {
@@ -199,7 +196,8 @@ fn put_records(s: &mut [u8], checkpoint: &[u8], from: usize, m: usize)
             s,
             RECORDS_START + RECORD_ROW * i,
             checkpoint,
-            from + CHECKPOINT_RECORD * i,
+            from + width * i,
+            width,
         );
         i += 1;
     }
@@ -213,7 +211,7 @@ pub fn restore(work: &mut [u8], checkpoint: &[u8])
     ensures { λ r. ⌜ now (work .exit) ≡ written (now (work .entry)) 0 (restoredBytes (now (checkpoint .entry))) ⌝ }
 {
     let n = clients_of(checkpoint);
-    let m = records_of(checkpoint);
+    let m = records_of(checkpoint, CHECKPOINT_RECORD);
     put_head(work, checkpoint, n, m);
     format_numbers::copy_part(
         work,
@@ -224,7 +222,7 @@ pub fn restore(work: &mut [u8], checkpoint: &[u8])
     );
     put_points(work, checkpoint);
     put_clients(work, checkpoint, n);
-    put_records(work, checkpoint, CLIENTS_PART + FLOOR_ROW * n, m);
+    put_records(work, checkpoint, CLIENTS_PART + FLOOR_ROW * n, CHECKPOINT_RECORD, m);
 }
 
 // The state that a checkpoint gives, if it gives one: restored, and sound by the state's own rule.

@@ -6,7 +6,7 @@ use borrow.Author.Needs.{needs}
 use lib.ListN.{drop}
 use Rattle.model.specs.Tables.{rows, every}
 use Rattle.model.specs.Images.{imageEntryOf, entryInRange}
-use Rattle.model_laws.proofs.Tables.{row-end}
+use Rattle.model_laws.proofs.Tables.{row-in}
 use Rattle.model_laws.proofs.Loops.{Open, rowTest, every-open, open-next, open-false, open-true}
 use Rattle.format_image_reader.proofs.entries_in_range.Statement.{statement}
 use Rattle.format_image_reader.proofs.entries_in_range.Tie as tie
@@ -22,12 +22,12 @@ loop-holds : tie.Need-loop-holds Inv-loop μ-loop
 loop-holds c = every-open imageEntryOf _ _ (entryInRange _) _ _
 
 entry-at-requires : tie.Need-entry-at-requires Inv-loop μ-loop
-entry-at-requires c κs = let a = c .before .before .before .args in omega (arith, row-end (a .width) _ (a .entries) (c .loop-test .taken))
+entry-at-requires c κs = let a = c .before .before .before .args in omega (arith, row-in (a .width) _ (a .entries) (c .loop-test .taken))
 
 entry-in-range-requires : tie.Need-entry-in-range-requires Inv-loop μ-loop
 entry-in-range-requires c κs =
     let a = c .before .before .before .before .args in
-    omega (arith, c .entry-at .ensures, row-end (a .width) _ (a .entries) (c .before .loop-test .taken))
+    omega (arith, c .entry-at .ensures, row-in (a .width) _ (a .entries) (c .before .loop-test .taken))
 
 returns : tie.Need-returns Inv-loop μ-loop
 returns c =

@@ -3,7 +3,7 @@
 use Prim.Native.Nat.{_-_}
 use native.Mathlib.Omega.{arith}
 use borrow.Author.Needs.{needs}
-use Rattle.model_laws.proofs.Tables.{row-end, rows-left}
+use Rattle.model_laws.proofs.Tables.{row-in, rows-left}
 use Rattle.model_laws.proofs.Loops.{walk-true}
 use Rattle.format_image_reader.proofs.Tables.{Beside, ids-ordered, beside-start, beside-cursor, beside-next, beside-false}
 use Rattle.format_image_reader.proofs.entries_ok.Statement.{statement}
@@ -19,12 +19,12 @@ loop-holds : tie.Need-loop-holds Inv-loop μ-loop
 loop-holds c = beside-start _ _ _ _ _ _
 
 entry-at-requires : tie.Need-entry-at-requires Inv-loop μ-loop
-entry-at-requires c κs = let a = c .before .before .before .args in omega (arith, row-end (a .width) _ (a .entries) (c .loop-test .taken))
+entry-at-requires c κs = let a = c .before .before .before .args in omega (arith, row-in (a .width) _ (a .entries) (c .loop-test .taken))
 
 entry-from-requires : tie.Need-entry-from-requires Inv-loop μ-loop
 entry-from-requires c κs =
     let a = c .before .before .before .before .args in
-    omega (arith, c .entry-at .ensures, row-end (a .width) _ (a .entries) (c .before .loop-test .taken))
+    omega (arith, c .entry-at .ensures, row-in (a .width) _ (a .entries) (c .before .loop-test .taken))
 
 next-floor-requires : tie.Need-next-floor-requires Inv-loop μ-loop
 next-floor-requires c κs =

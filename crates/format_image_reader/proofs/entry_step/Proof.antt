@@ -3,7 +3,7 @@
 use Prim.Native.Nat.{_+_}
 use native.Mathlib.Omega.{arith}
 use borrow.Author.Needs.{needs}
-use Rattle.model_laws.proofs.Tables.{row-end}
+use Rattle.model_laws.proofs.Tables.{row-in}
 use Rattle.format_image_reader.proofs.Tables.{entry-last, entry-before}
 use Rattle.format_image_reader.proofs.entry_step.Statement.{statement}
 use Rattle.format_image_reader.proofs.entry_step.Tie as tie
@@ -16,7 +16,7 @@ returns c =
 id-before-requires : tie.Need-id-before-requires
 id-before-requires c κs =
     let start = c .before .before .before .before .before in
-    let second = row-end (start .args .width) 1 (start .args .left + 1) (omega (arith, c .if1 .left)) in
+    let second = row-in (start .args .width) 1 (start .args .left + 1) (omega (arith, c .if1 .left)) in
     (omega (arith, start .pre, second), omega (arith, start .pre, second))
 
 returns-2 : tie.Need-returns-2

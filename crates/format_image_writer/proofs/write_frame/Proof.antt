@@ -13,16 +13,12 @@ returns c =
     let c3 = c4 .before .before .before .before in
     let c2 = c3 .before .before .before .before in
     let c1 = c2 .before .before .before .before in
-    rw (c4 .write-u322 .ensures, c3 .write-u32 .ensures, c2 .write-42 .ensures, c1 .write-4 .ensures) (simp written-sets)
+    rw (c4 .write-u322 .ensures, c3 .write-u32 .ensures, c2 .write-4 .ensures, c1 .write-magic .ensures) (simp written-sets)
 
 pub write-frame-spec : {M : Type 1} → statement M
 write-frame-spec =
     tie.close
     (tie.spec
-    (λ c. search needs)
-    (λ c. search needs)
-    (λ c. search needs)
-    (λ c. search needs)
     (λ c κs. search needs)
     (λ c κs. search needs)
     (λ c κs. search needs)

@@ -11,16 +11,12 @@ unfolding headBytes
 returns c =
     let c2 = c .before .before in
     let c1 = c2 .before .before .before .before in
-    rw (c2 .write-42 .ensures, c1 .write-4 .ensures) (simp written-sets)
+    rw (c2 .write-4 .ensures, c1 .write-magic .ensures) (simp written-sets)
 
 pub write-head-spec : {M : Type 1} → statement M
 write-head-spec =
     tie.close
     (tie.spec
-    (λ c. search needs)
-    (λ c. search needs)
-    (λ c. search needs)
-    (λ c. search needs)
     (λ c κs. search needs)
     (λ c κs. search needs)
     (λ c. search needs)

@@ -13,17 +13,13 @@ returns c =
     let server = zeros .before .before .before .before in
     let magic = server .before .before .before .before in
     let start = magic .before .before .before .args in
-    rw (mark .put-mark .ensures, size .put-size .ensures, zeros .clear .ensures, server .write-42 .ensures, magic .write-4 .ensures)
+    rw (mark .put-mark .ensures, size .put-size .ensures, zeros .clear .ensures, server .write-4 .ensures, magic .write-magic .ensures)
     (head-runs (start .s .now) (start .n))
 
 pub put-head-spec : {M : Type 1} → statement M
 put-head-spec =
     tie.close
     (tie.spec
-    (λ c. search needs)
-    (λ c. search needs)
-    (λ c. search needs)
-    (λ c. search needs)
     (λ c κs. search needs)
     (λ c κs. search needs)
     (λ c κs. search needs)

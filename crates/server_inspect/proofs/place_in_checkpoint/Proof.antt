@@ -2,6 +2,7 @@
 -- Assumes nothing.
 use native.Mathlib.Omega.{arith}
 use borrow.Author.Needs.{needs}
+use Rattle.model.specs.Checkpoints.{recordWidth, recordsOf}
 use Rattle.model_laws.proofs.Checkpoints.{framed-is}
 use Rattle.server_inspect.proofs.Holding.{held-nowhere, held-within, held-at}
 use Rattle.server_inspect.proofs.place_in_checkpoint.Statement.{statement}
@@ -13,7 +14,9 @@ returns c =
     held-nowhere (start .args .checkpoint .now) (start .args .client) (start .args .call) (c .if1 .taken) (c .before .no-place .ensures)
 
 records-of-requires : tie.Need-records-of-requires
-records-of-requires c κs = let start = c .before .before .before in omega (arith, framed-is _ (start .pre (omega (arith, c .if1 .left))) .whole)
+records-of-requires c κs =
+    let start = c .before .before .before in
+    (omega (arith, framed-is _ (start .pre (omega (arith, c .if1 .left))) .whole), search needs)
 
 clients-of-requires : tie.Need-clients-of-requires
 clients-of-requires c κs = let start = c .before .before .before .before in omega (arith, framed-is _ (start .pre (omega (arith, c .before .if1 .left))) .whole)
@@ -31,12 +34,14 @@ add-at c =
     omega (arith, framed-is _ (start .pre (omega (arith, branch .if1 .left))) .few-clients, c .clients-of .ensures)
 
 index-of-requires : tie.Need-index-of-requires
+unfolding recordsOf recordWidth
 index-of-requires c κs =
     let branch = c .before .before in
     let start = branch .before .before .before in
-    held-within (framed-is (start .args .checkpoint .now) (start .pre (omega (arith, branch .if1 .left)))) (c .before .records-of .ensures) (c .clients-of .ensures)
+    (held-within (framed-is (start .args .checkpoint .now) (start .pre (omega (arith, branch .if1 .left)))) (c .before .records-of .ensures) (c .clients-of .ensures), search needs)
 
 place-of-requires : tie.Need-place-of-requires
+unfolding recordsOf recordWidth
 place-of-requires c κs =
     let branch = c .before .before .before in
     let start = branch .before .before .before in
@@ -44,6 +49,7 @@ place-of-requires c κs =
     omega (arith, w)
 
 returns-2 : tie.Need-returns-2
+unfolding recordsOf recordWidth
 returns-2 c =
     let index = c .before in
     let branch = index .before .before .before in

@@ -3,7 +3,8 @@
 use Prim.Native.Nat.{_-_}
 use native.Mathlib.Omega.{arith}
 use borrow.Author.Needs.{needs}
-use Rattle.state_checkpoint.proofs.Fronts.{row-in, Fronted, fronted-start, fronted-next, fronted-end}
+use Rattle.model_laws.proofs.Tables.{row-in}
+use Rattle.state_checkpoint.proofs.Fronts.{Fronted, fronted-start, fronted-next, fronted-end}
 use Rattle.state_checkpoint.proofs.copy_fronts.Statement.{statement}
 use Rattle.state_checkpoint.proofs.copy_fronts.Tie as tie
 

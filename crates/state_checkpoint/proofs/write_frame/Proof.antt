@@ -11,16 +11,12 @@ returns c =
     let server = heard .before .before .before .before in
     let magic = server .before .before .before .before in
     let start = magic .before .before .before .args in
-    rw (heard .write-u32 .ensures, server .write-42 .ensures, magic .write-4 .ensures) (frame-runs (start .checkpoint .now) (start .server) (start .heard))
+    rw (heard .write-u32 .ensures, server .write-4 .ensures, magic .write-magic .ensures) (frame-runs (start .checkpoint .now) (start .server) (start .heard))
 
 pub write-frame-spec : {M : Type 1} → statement M
 write-frame-spec =
     tie.close
     (tie.spec
-    (λ c. search needs)
-    (λ c. search needs)
-    (λ c. search needs)
-    (λ c. search needs)
     (λ c κs. search needs)
     (λ c κs. search needs)
     (λ c κs. search needs)

@@ -1,12 +1,10 @@
 -- `state_restore::records_of` meets its contract.
 -- Assumes nothing.
-use Rattle.model.specs.Checkpoints.{recordsOf}
 use borrow.Author.Needs.{needs}
 use Rattle.state_restore.proofs.records_of.Statement.{statement}
 use Rattle.state_restore.proofs.records_of.Tie as tie
 
 returns : tie.Need-returns
-unfolding recordsOf
 returns c = rw (c .read-u32 .ensures)
 
 pub records-of-spec : {M : Type 1} → statement M
@@ -14,5 +12,6 @@ records-of-spec =
     tie.close
     (tie.spec
     (λ c κs. search needs)
+    (λ c. search needs)
     (λ c. search needs)
     returns)

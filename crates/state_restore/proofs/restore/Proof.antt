@@ -1,6 +1,7 @@
 -- `state_restore::restore` meets its contract.
 -- Assumes nothing.
 use native.Mathlib.Omega.{arith}
+use Rattle.model.specs.Checkpoints.{recordWidth, recordsOf}
 use Rattle.model_laws.proofs.Checkpoints.{framed-is}
 use Rattle.state_restore.proofs.Runs.{restored-runs}
 use borrow.Author.Needs.{needs}
@@ -30,9 +31,10 @@ clients-of-requires : tie.Need-clients-of-requires
 clients-of-requires c κs = omega (arith, framed-is _ (c .before .before .pre .0) .whole)
 
 records-of-requires : tie.Need-records-of-requires
-records-of-requires c κs = omega (arith, framed-is _ (c .before .before .before .pre .0) .whole)
+records-of-requires c κs = (omega (arith, framed-is _ (c .before .before .before .pre .0) .whole), search needs)
 
 put-head-requires : tie.Need-put-head-requires
+unfolding recordsOf recordWidth
 put-head-requires c κs =
     let counted = c .before in
     let start = start-of counted in
@@ -70,15 +72,17 @@ add-put-records c =
     omega (arith, framed-is _ (start-of counted .pre .0) .few-clients, counted .before .clients-of .ensures)
 
 put-records-requires : tie.Need-put-records-requires
+unfolding recordsOf recordWidth
 put-records-requires c κs =
     let counted = counted-at (head-at (plan-at (points-at (c .before .before .before)))) in
     let start = start-of counted in
     let w = framed-is _ (start .pre .0) in
     let clients = counted .before .clients-of .ensures in
     let records = counted .records-of .ensures in
-    (search needs, omega (arith, w .whole, clients, records), omega (arith, w .few-records, records))
+    (search needs, omega (arith, w .whole, clients, records), omega (arith, w .few-records, records), search needs)
 
 returns : tie.Need-returns
+unfolding recordsOf recordWidth
 returns c =
     let records = c .before .before in
     let clients = records .before .before .before .before in

@@ -15,7 +15,7 @@ index-of-requires : tie.Need-index-of-requires
 index-of-requires c κs =
     let read = c .before .before in
     let start = read .before .before in
-    ok-size (start .args .image .now) (start .pre .0) (read .head-from .ensures)
+    (ok-size (start .args .image .now) (start .pre .0) (read .head-from .ensures), search needs)
 
 add-place-of : tie.Need-add-place-of
 add-place-of c =
