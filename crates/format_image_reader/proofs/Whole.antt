@@ -1,7 +1,6 @@
 -- The whole image, as the reader's functions walk it.
 --     parts-size, ok-least, ok-size     both tables lie within the slice
 --     last-test        the walk through imageOk ends with the body
---     floor-count, entry-count, head-same     an image that was read with a head has that head
 --     read-malformed, read-head     what the reader answers
 --     read-ok, read-none     what the answer says: the image is well-formed, its head stands there, its tables lie in the slice and in
 --                      their limits; or it is malformed
@@ -11,29 +10,27 @@ use mathlib.Core.Path.{_≡_, refl, sym, _∙_}
 use mathlib.Core.Bool.{Bool, true, false}
 use mathlib.Core.List.{List, [], _∷_}
 use native.Mathlib.Omega.{arith}
-use lib.ListN.{length, drop}
+use lib.ListN.{length}
 use lib.Dec.{leb}
 use borrow.Author.Tests.{leb-true, le-leb}
 use Rattle.model.specs.declared.ImageHead.{ImageHead}
-use Rattle.model.specs.Limits.{leastImage, greatestImage, floorRow, entryRow, clientCount, recordCount, lastPoint, lastServer, lastQuality, callWindow}
-use Rattle.model.specs.Images.{imageHeadOf, imageAt, imageFramed, imageHeadOk, imageParts, imageTablesOk, imageOk, parseImage, floorOfBytes, imageEntryOf}
-use Rattle.model_laws.specs.Fits.{imageHead}
+use Rattle.model.specs.Limits.{leastImage, greatestImage, clientCount, recordCount, lastPoint, lastServer, lastQuality, callWindow}
+use Rattle.model.specs.Images.{imageHeadOf, imageAt, imageFramed, imageHeadOk, imageParts, imageTablesOk, imageOk, parseImage, imageHead, lengthBy}
 use Rattle.model_laws.proofs.Tests.{joined-all, choose}
-use Rattle.model_laws.proofs.Tables.{length-rows}
-use Rattle.model_laws.proofs.Images.{tested, placed}
+use Rattle.model_laws.proofs.Images.{tested, placed, floor-count, entry-count, head-same}
 use Rattle.model_laws.proofs.Windows.{image-entries}
 use Rattle.format_image_reader.specs.declared.ImageRead.the-variants.{Malformed, Head}
 use Rattle.format_image_reader.specs.Answers.{bodyOk, readOf}
 use Rattle.format_image_reader.specs.Walks.{rowsOk}
 use Rattle.model_laws.proofs.Ands.{go, go-test}
 
-pub parts-size : (h : ImageHead) (s : List ℕ) {u : Bool} → u ≡ imageParts h s → u ≡ true → leastImage + floorRow * h .floors + entryRow * h .entries ≤ length s
+pub parts-size : (h : ImageHead) (s : List ℕ) {u : Bool} → u ≡ imageParts h s → u ≡ true → lengthBy h ≤ length s
 parts-size h s p e = omega (arith, placed h s (sym p ∙ e) .size)
 
 pub ok-least : (s : List ℕ) {u : Bool} → u ≡ imageOk s → u ≡ true → leastImage ≤ length s
 ok-least s p e = leb-true leastImage (length s) (tested s (sym p ∙ e) .least)
 
-pub ok-size : (s : List ℕ) {h : ImageHead} → imageOk s ≡ true → h ≡ imageHeadOf s → leastImage + floorRow * h .floors + entryRow * h .entries ≤ length s
+pub ok-size : (s : List ℕ) {h : ImageHead} → imageOk s ≡ true → h ≡ imageHeadOf s → lengthBy h ≤ length s
 ok-size s {h} e p = parts-size h s refl (rw p (tested s e .parts))
 
 pub last-test : (s : List ℕ) {f b : Bool} {h : ImageHead} → leastImage ≤ length s → length s ≤ greatestImage → f ≡ imageFramed s → f ≡ true → h ≡ imageHeadOf s → b ≡ bodyOk h s
@@ -41,31 +38,6 @@ pub last-test : (s : List ℕ) {f b : Bool} {h : ImageHead} → leastImage ≤ l
 unfolding imageOk bodyOk rowsOk
 last-test s l g p e q r =
     go-test (le-leb leastImage (length s) l) (go-test (le-leb (length s) greatestImage g) (go p e (rw q at r)))
-
--- the numbers of rows of an image that was read with a head, and its head again
-pub floor-count : (h : ImageHead) (s : List ℕ) → length (imageAt h s .floors) ≡ h .floors
-unfolding imageAt
-floor-count h s = length-rows floorOfBytes floorRow (h .floors) (drop leastImage s)
-
-pub entry-count : (h : ImageHead) (s : List ℕ) → length (imageAt h s .entries) ≡ h .entries
-unfolding imageAt
-entry-count h s = length-rows imageEntryOf entryRow (h .entries) (drop (leastImage + floorRow * h .floors) s)
-
-pub head-same : (h : ImageHead) (s : List ℕ) → imageHead (imageAt h s) ≡ h
-unfolding imageHead imageAt
-head-same h s =
-    λ j.
-    record {
-      point = h .point;
-      destination = h .destination;
-      source = h .source;
-      moveNumber = h .moveNumber;
-      heard = h .heard;
-      value = h .value;
-      quality = h .quality;
-      floors = floor-count h s j;
-      entries = entry-count h s j;
-    }
 
 pub read-malformed : (s : List ℕ) {u : Bool} → u ≡ imageOk s → u ≡ false → Malformed ≡ readOf (parseImage s)
 unfolding parseImage readOf
@@ -79,7 +51,7 @@ read-head s p e q = rw (sym p ∙ e, head-same, q)
 pub record IsRead (s : List ℕ) (h : ImageHead) : Type 0 where
   pub ok : imageOk s ≡ true
   pub head : h ≡ imageHeadOf s
-  pub size : leastImage + floorRow * h .floors + entryRow * h .entries ≤ length s
+  pub size : lengthBy h ≤ length s
   pub most : length s ≤ greatestImage
   pub floors : h .floors ≤ clientCount
   pub entries : h .entries ≤ recordCount

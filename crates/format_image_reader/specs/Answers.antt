@@ -5,8 +5,7 @@ use Prim.Native.Nat.{ℕ}
 use mathlib.Core.Bool.{Bool, _&&_}
 use mathlib.Core.List.{List}
 use Rattle.model.specs.declared.ImageHead.{ImageHead}
-use Rattle.model.specs.Images.{Image, imageHeadOk, imageParts}
-use Rattle.model_laws.specs.Fits.{imageHead}
+use Rattle.model.specs.Images.{Image, imageHeadOk, imageParts, imageHead}
 use Rattle.format_image_reader.specs.Walks.{rowsOk}
 use Rattle.format_image_reader.specs.declared.ImageRead.{ImageRead}
 use Rattle.format_image_reader.specs.declared.ImageRead.the-variants.{Malformed, Head}

@@ -1,6 +1,6 @@
 -- What the two walks of the reader answer, over the floors and over the completion records, and one step of each.
 -- Assumes nothing.
-use Prim.Native.Nat.{ℕ, suc, _+_, _*_}
+use Prim.Native.Nat.{ℕ, suc}
 use mathlib.Core.Bool.{Bool, true, _&&_}
 use mathlib.Core.List.{List, [], _∷_}
 use lib.ListN.{drop}
@@ -10,9 +10,9 @@ use Rattle.model.specs.declared.ImageEntry.{ImageEntry}
 use Rattle.model.specs.declared.ImageHead.{ImageHead}
 use Rattle.model.specs.Choice.{pick}
 use Rattle.model.specs.Tables.{rows, everyRow, every}
-use Rattle.model.specs.Limits.{leastImage, floorRow, entryRow}
+use Rattle.model.specs.Limits.{leastImage, floorRow}
 use Rattle.model.specs.Packets.{commandOk, outcomeOk, idOk}
-use Rattle.model.specs.Images.{floorOfBytes, imageEntryOf, imageAt, floorOk, inWindow, clientsAscend, idsAscend, entryRowOk, imageEntryOk, imageTablesOk}
+use Rattle.model.specs.Images.{floorOfBytes, imageEntryOf, entryWidth, entriesStart, imageAt, floorOk, inWindow, clientsAscend, idsAscend, entryRowOk, imageEntryOk, imageTablesOk}
 use Rattle.format_image_rows.specs.Order.{entryBefore}
 
 -- ---- floors
@@ -56,18 +56,18 @@ unfoldable pub entryFieldsOk : ℕ → ℕ → ImageEntry → Bool
 entryFieldsOk p k e =
     commandOk (e .op) p (e .argument) && (outcomeOk (e .result .outcome) (e .result .quality) && (idOk (e .client) (e .call) && inWindow k (e .call)))
 
--- the record in front of t, with so many behind it
-unfoldable pub entryStep : ℕ → ℕ → ℕ → List ℕ → Bool
-entryStep p k left t =
-    idFollows (imageEntryOf t) (rows imageEntryOf entryRow left (drop entryRow t)) && (entryRowOk t && entryFieldsOk p k (imageEntryOf t))
+-- the record in front of t, with so many of w bytes behind it
+unfoldable pub entryStep : ℕ → ℕ → ℕ → ℕ → List ℕ → Bool
+entryStep p k w left t =
+    idFollows (imageEntryOf t) (rows imageEntryOf w left (drop w t)) && (entryRowOk t && entryFieldsOk p k (imageEntryOf t))
 
--- m records of the point p in front of t, among the floors fs
-unfoldable pub entriesOk : ℕ → List Floor → ℕ → List ℕ → Bool
-entriesOk p fs m t =
-    everyRow entryRowOk entryRow m t
-    && (every (imageEntryOk p fs) (rows imageEntryOf entryRow m t) && idsAscend (rows imageEntryOf entryRow m t))
+-- m records of the point p, of w bytes each, in front of t, among the floors fs
+unfoldable pub entriesOk : ℕ → List Floor → ℕ → ℕ → List ℕ → Bool
+entriesOk p fs w m t =
+    everyRow entryRowOk w m t
+    && (every (imageEntryOk p fs) (rows imageEntryOf w m t) && idsAscend (rows imageEntryOf w m t))
 
 -- ---- both tables
 
 unfoldable pub rowsOk : ImageHead → List ℕ → Bool
-rowsOk h s = everyRow entryRowOk entryRow (h .entries) (drop (leastImage + floorRow * h .floors) s) && imageTablesOk (imageAt h s)
+rowsOk h s = everyRow entryRowOk (entryWidth h) (h .entries) (drop (entriesStart (h .floors)) s) && imageTablesOk (imageAt h s)

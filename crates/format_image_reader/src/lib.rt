@@ -3,7 +3,6 @@
 use model::ImageEntry;
 use model::ImageHead;
 use model::PlanEntry;
-use model::constants::ENTRY_ROW;
 use model::constants::FLOOR_ROW;
 use model::constants::GREATEST_IMAGE;
 use model::constants::LEAST_IMAGE;
@@ -13,7 +12,7 @@ ghost use lib.ListN.{length, drop};
 ghost use mathlib.Core.Bool.{true};
 ghost use Rattle.model.specs.Tables.{rows, every};
 ghost use Rattle.model.specs.Limits.{leastImage, floorRow, entryRow};
-ghost use Rattle.model.specs.Images.{floorOfBytes, imageEntryOf, imageAt};
+ghost use Rattle.model.specs.Images.{floorOfBytes, imageEntryOf, imageAt, entriesStart, lengthBy};
 ghost use Rattle.model.specs.Images.{clientsAscend, imageOk, parseImage, entryInRange, imageInRange};
 ghost use Rattle.format_image_reader.specs.Answers.{bodyOk, readOf};
 ghost use Rattle.format_image_reader.specs.Walks.{floorsIn, floorStep, floorsOk, leading, floorFirst, entryFieldsOk, entryStep, entriesOk, rowsOk};
@@ -41,7 +40,7 @@ fn floor_step(s: &[u8], k: usize, left: usize) -> bool
 
 // Each of n floors, strictly ascending by client.
 fn floors_ok(s: &[u8], n: usize) -> bool
-    requires { ⌜ leastImage + floorRow * n ≤ length (now s) ⌝ }
+    requires { ⌜ entriesStart n ≤ length (now s) ⌝ }
     ensures { λ r. ⌜ r ≡ floorsOk (floorsIn (now (s .entry)) n) ⌝ }
 {
     let mut i = 0;
@@ -56,7 +55,7 @@ fn floors_ok(s: &[u8], n: usize) -> bool
 
 // How many of n floors have a client below x, where the first `below` have.
 fn next_floor(s: &[u8], n: usize, x: u32, below: usize) -> usize
-    requires { ⌜ (leastImage + floorRow * n ≤ length (now s)) × (below ≤ leading x (floorsIn (now s) n)) ⌝ }
+    requires { ⌜ (entriesStart n ≤ length (now s)) × (below ≤ leading x (floorsIn (now s) n)) ⌝ }
     ensures { λ r. ⌜ r ≡ leading x (floorsIn (now (s .entry)) n) ⌝ }
 {
     let mut j = below;
@@ -72,7 +71,7 @@ fn next_floor(s: &[u8], n: usize, x: u32, below: usize) -> usize
 
 // The floor of the client x, where the floor of index j is its own; else 0.
 fn floor_here(s: &[u8], n: usize, x: u32, j: usize) -> u32
-    requires { ⌜ leastImage + floorRow * n ≤ length (now s) ⌝ }
+    requires { ⌜ entriesStart n ≤ length (now s) ⌝ }
     ensures { λ r. ⌜ r ≡ floorFirst x (rows floorOfBytes floorRow (n - j) (drop (leastImage + floorRow * j) (now (s .entry)))) ⌝ }
 {
     if n <= j {
@@ -88,45 +87,50 @@ fn floor_here(s: &[u8], n: usize, x: u32, j: usize) -> u32
 // ---- completion records
 
 // The fields of a record of the point, whose client has this floor.
-fn entry_fields_ok(point: u8, floor: u32, e: ImageEntry) -> bool
-    ensures { λ r. ⌜ r ≡ entryFieldsOk point floor e ⌝ }
+fn entry_fields_ok(point: u8, floor: u32, entry: ImageEntry) -> bool
+    ensures { λ r. ⌜ r ≡ entryFieldsOk point floor entry ⌝ }
 {
-    let command = format_numbers::command_ok(e.op, point, e.argument);
-    let outcome = format_numbers::outcome_ok(e.result.outcome, e.result.quality);
-    let id = format_numbers::id_ok(e.client, e.call);
-    let window = format_floors::in_window(floor, e.call);
+    let command = format_numbers::command_ok(entry.op, point, entry.argument);
+    let outcome = format_numbers::outcome_ok(entry.result.outcome, entry.result.quality);
+    let id = format_numbers::id_ok(entry.client, entry.call);
+    let window = format_floors::in_window(floor, entry.call);
     command & (outcome & (id & window))
 }
 
 // The record from k, before the left records behind it: its row, and the next id is greater.
-fn entry_step(s: &[u8], point: u8, floor: u32, k: usize, left: usize) -> bool
-    requires { ⌜ k + entryRow * (left + 1) ≤ length (now s) ⌝ }
-    ensures { λ r. ⌜ r ≡ entryStep point floor left (drop k (now (s .entry))) ⌝ }
+fn entry_step(s: &[u8], point: u8, floor: u32, width: usize, k: usize, left: usize) -> bool
+    requires { ⌜ (entryRow ≤ width) × (k + width * (left + 1) ≤ length (now s)) ⌝ }
+    ensures { λ r. ⌜ r ≡ entryStep point floor width left (drop k (now (s .entry))) ⌝ }
 {
     let zero = format_image_rows::entry_row_ok(s, k);
-    let e = format_image_rows::entry_from(s, k);
-    let fields = entry_fields_ok(point, floor, e);
+    let entry = format_image_rows::entry_from(s, k);
+    let fields = entry_fields_ok(point, floor, entry);
     if left == 0 {
         return zero & fields;
     }
-    let next = format_image_rows::id_before(s, k);
+    let next = format_image_rows::id_before(s, k, width);
     next & (zero & fields)
 }
 
-// Each of m records of the point from at, strictly ascending by client, then call; n floors ascend by client, so that the
-// floors are walked once beside the records.
-fn entries_ok(s: &[u8], n: usize, point: u8, at: usize, m: usize) -> bool
-    requires { ⌜ (leastImage + floorRow * n ≤ length (now s)) × (at + entryRow * m ≤ length (now s)) × (clientsAscend (floorsIn (now s) n) ≡ true) ⌝ }
-    ensures { λ r. ⌜ r ≡ entriesOk point (floorsIn (now (s .entry)) n) m (drop at (now (s .entry))) ⌝ }
+// Each of so many records of the point from at, strictly ascending by client, then call; n floors ascend by client, so that
+// the floors are walked once beside the records.
+fn entries_ok(s: &[u8], n: usize, point: u8, width: usize, at: usize, entries: usize) -> bool
+    requires {
+        ⌜ (entryRow ≤ width) × (entriesStart n ≤ length (now s)) × (at + width * entries ≤ length (now s))
+            × (clientsAscend (floorsIn (now s) n) ≡ true) ⌝
+    }
+    ensures {
+        λ r. ⌜ r ≡ entriesOk point (floorsIn (now (s .entry)) n) width entries (drop at (now (s .entry))) ⌝
+    }
 {
     let mut i = 0;
     let mut j = 0;
-    while i < m {
-        let k = at + ENTRY_ROW * i;
-        let e = format_image_rows::entry_from(s, k);
-        j = next_floor(s, n, e.client, j);
-        let floor = floor_here(s, n, e.client, j);
-        if !entry_step(s, point, floor, k, m - (i + 1)) {
+    while i < entries {
+        let k = format_image_rows::entry_at(at, width, i);
+        let entry = format_image_rows::entry_from(s, k);
+        j = next_floor(s, n, entry.client, j);
+        let floor = floor_here(s, n, entry.client, j);
+        if !entry_step(s, point, floor, width, k, entries - (i + 1)) {
             return false;
         }
         i += 1;
@@ -138,15 +142,16 @@ fn entries_ok(s: &[u8], n: usize, point: u8, at: usize, m: usize) -> bool
 
 // Both tables, of an image whose parts end within the slice.
 fn tables_ok(s: &[u8], h: ImageHead) -> bool
-    requires { ⌜ leastImage + floorRow * h .floors + entryRow * h .entries ≤ length (now s) ⌝ }
+    requires { ⌜ lengthBy h ≤ length (now s) ⌝ }
     ensures { λ r. ⌜ r ≡ rowsOk h (now (s .entry)) ⌝ }
 {
     let n = h.floors as usize;
-    let m = h.entries as usize;
     if !floors_ok(s, n) {
         return false;
     }
-    entries_ok(s, n, h.point, LEAST_IMAGE + FLOOR_ROW * n, m)
+    let width = format_image_rows::entry_width(h);
+    let at = format_image_rows::entries_start(h.floors);
+    entries_ok(s, n, h.point, width, at, h.entries as usize)
 }
 
 // The head's fields, the parts, and the rows of both tables.
@@ -192,14 +197,16 @@ pub fn image_read(s: &[u8]) -> ImageRead
 
 // ---- values in the point's range
 
-// The value of each of m records from at.
-fn entries_in_range(s: &[u8], e: PlanEntry, at: usize, m: usize) -> bool
-    requires { ⌜ at + entryRow * m ≤ length (now s) ⌝ }
-    ensures { λ r. ⌜ r ≡ every (entryInRange e) (rows imageEntryOf entryRow m (drop at (now (s .entry)))) ⌝ }
+// The value of each of so many records from at.
+fn entries_in_range(s: &[u8], e: PlanEntry, width: usize, at: usize, entries: usize) -> bool
+    requires { ⌜ (entryRow ≤ width) × (at + width * entries ≤ length (now s)) ⌝ }
+    ensures {
+        λ r. ⌜ r ≡ every (entryInRange e) (rows imageEntryOf width entries (drop at (now (s .entry)))) ⌝
+    }
 {
     let mut i = 0;
-    while i < m {
-        if !format_image_rows::entry_in_range(s, e, at + ENTRY_ROW * i) {
+    while i < entries {
+        if !format_image_rows::entry_in_range(s, e, format_image_rows::entry_at(at, width, i)) {
             return false;
         }
         i += 1;
@@ -209,13 +216,13 @@ fn entries_in_range(s: &[u8], e: PlanEntry, at: usize, m: usize) -> bool
 
 // The values of an image that was read with the head h.
 pub fn values_in_range(s: &[u8], h: ImageHead, e: PlanEntry) -> bool
-    requires { ⌜ leastImage + floorRow * h .floors + entryRow * h .entries ≤ length (now s) ⌝ }
+    requires { ⌜ lengthBy h ≤ length (now s) ⌝ }
     ensures { λ r. ⌜ r ≡ imageInRange e (imageAt h (now (s .entry))) ⌝ }
 {
     if !format_numbers::in_range(e, h.value) {
         return false;
     }
-    let m = h.entries as usize;
-    let at = LEAST_IMAGE + FLOOR_ROW * (h.floors as usize);
-    entries_in_range(s, e, at, m)
+    let width = format_image_rows::entry_width(h);
+    let at = format_image_rows::entries_start(h.floors);
+    entries_in_range(s, e, width, at, h.entries as usize)
 }

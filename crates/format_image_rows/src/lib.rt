@@ -6,12 +6,37 @@ use model::ImageHead;
 use model::PlanEntry;
 use model::constants;
 ghost use mathlib.Core.Path.{_≡_};
-ghost use Prim.Native.Nat.{_+_, _*_, _≤_};
+ghost use Prim.Native.Nat.{_+_, _*_, _≤_, _<_};
 ghost use lib.ListN.{length, drop};
 ghost use Rattle.model.specs.Limits.{entryRow, leastImage};
-ghost use Rattle.model.specs.Images.{imageEntryOf, imageHeadOf};
+ghost use Rattle.model.specs.Numbers.{word};
+ghost use Rattle.model.specs.Images.{imageEntryOf, imageHeadOf, entryWidth, entriesStart};
 ghost use Rattle.model.specs.Images.{imageFramed, imageHeadOk, imageParts, entryRowOk, entryInRange};
 ghost use Rattle.format_image_rows.specs.Order.{entryBefore};
+
+// ---- places
+
+// The bytes of a completion record in an image with the head h: the one place that knows them.
+pub fn entry_width(h: ImageHead) -> usize
+    ensures { λ r. ⌜ r ≡ entryWidth h ⌝ }
+{
+    constants::ENTRY_ROW
+}
+
+// Where the completion records start, behind so many floors.
+pub fn entries_start(floors: u32) -> usize
+    ensures { λ r. ⌜ r ≡ entriesStart floors ⌝ }
+{
+    constants::LEAST_IMAGE + constants::FLOOR_ROW * (floors as usize)
+}
+
+// Where the record of index i starts, of records of a width from k.
+pub fn entry_at(k: usize, width: usize, i: usize) -> usize
+    requires { ⌜ k + width * i < word * word ⌝ }
+    ensures { λ r. ⌜ r ≡ k + width * i ⌝ }
+{
+    k + width * i
+}
 
 // ---- rows and head, at their places
 
@@ -82,8 +107,8 @@ pub fn parts_ok(s: &[u8], h: ImageHead) -> bool
     ensures { λ r. ⌜ r ≡ imageParts h (now (s .entry)) ⌝ }
 {
     let floors = constants::FLOOR_ROW * (h.floors as usize);
-    let entries = constants::ENTRY_ROW * (h.entries as usize);
-    let records = constants::LEAST_IMAGE + floors;
+    let entries = entry_width(h) * (h.entries as usize);
+    let records = entries_start(h.floors);
     let first = format_numbers::read_u32(s, constants::IMAGE_POINT_PAIR);
     let first_length = format_numbers::read_u32(s, constants::IMAGE_POINT_LENGTH);
     let second = format_numbers::read_u32(s, constants::IMAGE_FLOORS_PAIR);
@@ -109,13 +134,16 @@ pub fn entry_row_ok(s: &[u8], k: usize) -> bool
 }
 
 // The id of the record from k is before that of the next.
-pub fn id_before(s: &[u8], k: usize) -> bool
-    requires { ⌜ k + 2 * entryRow ≤ length (now s) ⌝ }
-    ensures { λ r. ⌜ r ≡ entryBefore (imageEntryOf (drop k (now (s .entry)))) (imageEntryOf (drop (k + entryRow) (now (s .entry)))) ⌝ }
+pub fn id_before(s: &[u8], k: usize, width: usize) -> bool
+    requires { ⌜ (k + entryRow ≤ length (now s)) × (k + width + entryRow ≤ length (now s)) ⌝ }
+    ensures {
+        λ r. ⌜ r ≡ entryBefore (imageEntryOf (drop k (now (s .entry))))
+            (imageEntryOf (drop (k + width) (now (s .entry)))) ⌝
+    }
 {
-    let e = entry_from(s, k);
-    let f = entry_from(s, k + constants::ENTRY_ROW);
-    (e.client < f.client) | ((e.client == f.client) & (e.call < f.call))
+    let entry = entry_from(s, k);
+    let next = entry_from(s, k + width);
+    (entry.client < next.client) | ((entry.client == next.client) & (entry.call < next.call))
 }
 
 // The value of the record from k.
@@ -123,6 +151,6 @@ pub fn entry_in_range(s: &[u8], e: PlanEntry, k: usize) -> bool
     requires { ⌜ k + entryRow ≤ length (now s) ⌝ }
     ensures { λ r. ⌜ r ≡ entryInRange e (imageEntryOf (drop k (now (s .entry)))) ⌝ }
 {
-    let x = entry_from(s, k);
-    format_numbers::in_range(e, x.result.value)
+    let entry = entry_from(s, k);
+    format_numbers::in_range(e, entry.result.value)
 }

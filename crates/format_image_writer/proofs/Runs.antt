@@ -1,9 +1,8 @@
 -- Runs of stores, one after the other, as one; and the whole image.
---     head-parts              the bytes before the tables, in three parts
---     head-image              and those of an image, by its head
+--     head-written, head-length     the bytes before the tables, in three parts; there are 48
 --     rows-next               a row stored behind rows
 --     Copied, copied-..       a loop that stores rows
---     image-written           head, floors and records stored one after the other are the image; image-kept: bytes past it are kept
+--     image-written           head, floors and records stored one after the other are the image
 -- Assumes nothing.
 use Prim.Native.Nat.{ℕ, _+_, _*_, _≤_, _<_}
 use mathlib.Core.Path.{_≡_, refl, sym, ap, _∙_}
@@ -12,31 +11,20 @@ use native.Mathlib.Omega.{arith}
 use lib.ListN.{length, drop}
 use Rattle.model.specs.declared.ImageHead.{ImageHead}
 use Rattle.model.specs.Tables.{rows, bytesOf, written}
-use Rattle.model.specs.Limits.{imagePairs, partsStart, leastImage, floorRow, entryRow}
-use Rattle.model.specs.Images.{Image, imageAt, imageHeadBytes, imageBytes, imageLength, floorOfBytes, floorBytes, imageEntryOf, imageEntryBytes}
+use Rattle.model.specs.Limits.{imagePairs, partsStart, leastImage}
+use Rattle.model.specs.Images.{Image, entriesStart, imageHead, imageHeadBytes, imageBytes, floorBytes, imageEntryBytes}
 use Rattle.model_laws.specs.Codec.{Codec}
 use Rattle.model_laws.specs.Runs.{last, run, storedBy, bytesBy}
-use Rattle.model_laws.specs.Fits.{imageHead}
-use Rattle.model_laws.proofs.Written.{length-written, written-none, written-append, drop-written-past, runs-stored}
+use Rattle.model_laws.proofs.Written.{length-written, written-none, written-append, runs-stored}
 use Rattle.model_laws.proofs.Tables.{length-rows, rows-snoc, bytesOf-append, bytesOf-one, length-bytesOf}
-use Rattle.model_laws.proofs.Images.{floorCodec, image-length}
-use Rattle.format_image_writer.specs.Heads.{headBytes, frameBytes, pairBytes, pointBytes}
-
-pub head-parts : (h : ImageHead) → headBytes h ≡ frameBytes h ++ (pairBytes (h .floors) (h .entries) ++ pointBytes (h .value) (h .quality))
-unfolding headBytes frameBytes pairBytes pointBytes imageHeadBytes imageAt
-head-parts h = rw (length-rows floorOfBytes floorRow (h .floors) [], length-rows imageEntryOf entryRow (h .entries) (drop (leastImage + floorRow * h .floors) []))
+use Rattle.model_laws.proofs.Images.{floorCodec}
+use Rattle.format_image_writer.specs.Heads.{frameBytes, pairBytes, pointBytes}
 
 pub head-written : (s : List ℕ) (h : ImageHead)
-    → written (written (written s 0 (frameBytes h)) 16 (pairBytes (h .floors) (h .entries))) 40 (pointBytes (h .value) (h .quality)) ≡ written s 0 (headBytes h)
-unfolding frameBytes pairBytes storedBy bytesBy
+    → written (written (written s 0 (frameBytes h)) 16 (pairBytes h)) 40 (pointBytes (h .value) (h .quality)) ≡ written s 0 (imageHeadBytes h)
+unfolding frameBytes pairBytes pointBytes imageHeadBytes storedBy bytesBy
 head-written s h =
-    runs-stored s 0 (run (frameBytes h) imagePairs refl (run (pairBytes (h .floors) (h .entries)) partsStart refl (last (pointBytes (h .value) (h .quality)))))
-    ∙ ap (λ (x : List ℕ). written s 0 x) (sym (head-parts h))
-
-pub head-image : (i : Image) → headBytes (imageHead i) ≡ imageHeadBytes i
-unfolding headBytes imageHeadBytes imageHead imageAt
-head-image i =
-    rw (length-rows floorOfBytes floorRow (length (i .floors)) [], length-rows imageEntryOf entryRow (length (i .entries)) (drop (leastImage + floorRow * length (i .floors)) []))
+    runs-stored s 0 (run (frameBytes h) imagePairs refl (run (pairBytes h) partsStart refl (last (pointBytes (h .value) (h .quality)))))
 
 -- ---- rows
 
@@ -73,16 +61,12 @@ module _ {A : Type 0} (C : Codec A) where
 
 -- ---- the whole
 
-head-length : (i : Image) → length (imageHeadBytes i) ≡ leastImage
+pub head-length : (h : ImageHead) → length (imageHeadBytes h) ≡ leastImage
 unfolding imageHeadBytes
-head-length i = refl
+head-length h = refl
 
 pub image-written : (s : List ℕ) (i : Image)
-    → written (written (written s 0 (headBytes (imageHead i))) leastImage (bytesOf floorBytes (i .floors))) (leastImage + floorRow * length (i .floors)) (bytesOf imageEntryBytes (i .entries))
+    → written (written (written s 0 (imageHeadBytes (imageHead i))) leastImage (bytesOf floorBytes (i .floors))) (entriesStart (length (i .floors))) (bytesOf imageEntryBytes (i .entries))
     ≡ written s 0 (imageBytes i)
 unfolding imageBytes
-image-written s i =
-    rw (head-image i, written-append s 0 (imageHeadBytes i), written-append, head-length i, length-bytesOf floorCodec (i .floors))
-
-pub image-kept : (s : List ℕ) (i : Image) → drop (imageLength i) (written s 0 (imageBytes i)) ≡ drop (imageLength i) s
-image-kept s i = drop-written-past (imageLength i) s 0 (imageBytes i) (omega (arith, image-length i))
+image-written s i = rw (written-append s 0 (imageHeadBytes (imageHead i)), written-append, head-length (imageHead i), length-bytesOf floorCodec (i .floors))

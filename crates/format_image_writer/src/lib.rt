@@ -2,7 +2,6 @@
 use model::ImageEntry;
 use model::ImageHead;
 use model::constants;
-use model::constants::ENTRY_ROW;
 use model::constants::FLOOR_ROW;
 use model::constants::IMAGE_MAGIC;
 use model::constants::LEAST_IMAGE;
@@ -11,26 +10,26 @@ ghost use Prim.Native.Nat.{_+_, _*_, _≤_};
 ghost use lib.ListN.{length};
 ghost use Rattle.model.specs.Limits.{imagePairs, partsStart, leastImage, floorRow, entryRow, clientCount, recordCount};
 ghost use Rattle.model.specs.Tables.{rows, bytesOf, written};
-ghost use Rattle.model.specs.Images.{floorOfBytes, floorBytes, imageEntryBytes};
-ghost use Rattle.format_image_writer.specs.Heads.{headBytes, frameBytes, pairBytes, pointBytes};
+ghost use Rattle.model.specs.Images.{floorOfBytes, floorBytes, imageEntryBytes, imageHeadBytes, entriesStart};
+ghost use Rattle.format_image_writer.specs.Heads.{frameBytes, pairBytes, pointBytes};
 
 // ---- rows, from a place
 
 // Stores a completion record in the 20 bytes from k.
-fn put_entry(out: &mut [u8], k: usize, e: ImageEntry)
+pub fn put_entry(out: &mut [u8], k: usize, entry: ImageEntry)
     requires { ⌜ k + entryRow ≤ length (now out) ⌝ }
-    ensures { λ r. ⌜ now (out .exit) ≡ written (now (out .entry)) k (imageEntryBytes e) ⌝ }
+    ensures { λ r. ⌜ now (out .exit) ≡ written (now (out .entry)) k (imageEntryBytes entry) ⌝ }
 {
-    format_numbers::write_u32(out, k, e.client);
-    format_numbers::write_u32(out, k + constants::ENTRY_CALL, e.call);
-    format_numbers::write_signed(out, k + constants::ENTRY_ARGUMENT, e.argument);
-    format_numbers::write_signed(out, k + constants::ENTRY_VALUE, e.result.value);
+    format_numbers::write_u32(out, k, entry.client);
+    format_numbers::write_u32(out, k + constants::ENTRY_CALL, entry.call);
+    format_numbers::write_signed(out, k + constants::ENTRY_ARGUMENT, entry.argument);
+    format_numbers::write_signed(out, k + constants::ENTRY_VALUE, entry.result.value);
     format_numbers::write_4(
         out,
         k + constants::ENTRY_OP,
-        e.op,
-        e.result.outcome,
-        e.result.quality,
+        entry.op,
+        entry.result.outcome,
+        entry.result.quality,
         0,
     );
 }
@@ -54,11 +53,13 @@ fn write_frame(out: &mut [u8], h: ImageHead)
     format_numbers::write_u32(out, constants::IMAGE_HEARD, h.heard);
 }
 
-// The three pairs of offset and length, for m floors and n records.
-fn write_pairs(out: &mut [u8], m: u32, n: u32)
-    requires { ⌜ (leastImage ≤ length (now out)) × (m ≤ clientCount) × (n ≤ recordCount) ⌝ }
-    ensures { λ r. ⌜ now (out .exit) ≡ written (now (out .entry)) imagePairs (pairBytes m n) ⌝ }
+// The three pairs of offset and length.
+fn write_pairs(out: &mut [u8], h: ImageHead)
+    requires { ⌜ (leastImage ≤ length (now out)) × (h .floors ≤ clientCount) × (h .entries ≤ recordCount) ⌝ }
+    ensures { λ r. ⌜ now (out .exit) ≡ written (now (out .entry)) imagePairs (pairBytes h) ⌝ }
 {
+    let records = format_image_rows::entries_start(h.floors) as u32;
+    let entries = (format_image_rows::entry_width(h) * (h.entries as usize)) as u32;
     format_numbers::write_u32(out, constants::IMAGE_POINT_PAIR, constants::PARTS_START_U32);
     format_numbers::write_u32(
         out,
@@ -73,18 +74,10 @@ fn write_pairs(out: &mut [u8], m: u32, n: u32)
     format_numbers::write_u32(
         out,
         constants::IMAGE_FLOORS_LENGTH,
-        constants::FLOOR_ROW_U32 * m,
+        constants::FLOOR_ROW_U32 * h.floors,
     );
-    format_numbers::write_u32(
-        out,
-        constants::IMAGE_ENTRIES_PAIR,
-        constants::LEAST_IMAGE_U32 + constants::FLOOR_ROW_U32 * m,
-    );
-    format_numbers::write_u32(
-        out,
-        constants::IMAGE_ENTRIES_LENGTH,
-        constants::ENTRY_ROW_U32 * n,
-    );
+    format_numbers::write_u32(out, constants::IMAGE_ENTRIES_PAIR, records);
+    format_numbers::write_u32(out, constants::IMAGE_ENTRIES_LENGTH, entries);
 }
 
 fn write_point(out: &mut [u8], value: u32, quality: u8)
@@ -98,27 +91,22 @@ fn write_point(out: &mut [u8], value: u32, quality: u8)
 // All that stands before the tables.
 pub fn write_head(out: &mut [u8], h: ImageHead)
     requires { ⌜ (leastImage ≤ length (now out)) × (h .floors ≤ clientCount) × (h .entries ≤ recordCount) ⌝ }
-    ensures { λ r. ⌜ now (out .exit) ≡ written (now (out .entry)) 0 (headBytes h) ⌝ }
+    ensures { λ r. ⌜ now (out .exit) ≡ written (now (out .entry)) 0 (imageHeadBytes h) ⌝ }
 {
     write_frame(out, h);
-    write_pairs(out, h.floors, h.entries);
+    write_pairs(out, h);
     write_point(out, h.value, h.quality);
 }
 
 // ---- the tables
 
-// The completion record of index i behind n floors.
-pub fn write_entry(out: &mut [u8], n: usize, i: usize, e: ImageEntry)
-    requires { ⌜ leastImage + floorRow * n + entryRow * (i + 1) ≤ length (now out) ⌝ }
-    ensures { λ r. ⌜ now (out .exit) ≡ written (now (out .entry)) (leastImage + floorRow * n + entryRow * i) (imageEntryBytes e) ⌝ }
-{
-    put_entry(out, LEAST_IMAGE + FLOOR_ROW * n + ENTRY_ROW * i, e);
-}
-
 // n floors, from a table of rows of the same layout.
 pub fn write_floors(out: &mut [u8], table: &[u8], n: usize)
-    requires { ⌜ (leastImage + floorRow * n ≤ length (now out)) × (floorRow * n ≤ length (now table)) ⌝ }
-    ensures { λ r. ⌜ now (out .exit) ≡ written (now (out .entry)) leastImage (bytesOf floorBytes (rows floorOfBytes floorRow n (now (table .entry)))) ⌝ }
+    requires { ⌜ (entriesStart n ≤ length (now out)) × (floorRow * n ≤ length (now table)) ⌝ }
+    ensures {
+        λ r. ⌜ now (out .exit) ≡ written (now (out .entry)) leastImage
+            (bytesOf floorBytes (rows floorOfBytes floorRow n (now (table .entry)))) ⌝
+    }
 {
     let mut i = 0;
     while i < n {

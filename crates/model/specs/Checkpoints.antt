@@ -18,11 +18,11 @@ use Rattle.model.specs.declared.ImageEntry.{ImageEntry}
 use Rattle.model.specs.Choice.{pick, orElse, _if_else_, passed, isPassed}
 use Rattle.model.specs.Numbers.{le32At, le32, le64, quad, startsWith}
 use Rattle.model.specs.Refusals.{tooShort, notSynced, badLog, unknown, unsound, noRefusal}
-use Rattle.model.specs.Limits.{stateSize, headSize, planSize, pointCount, clientCount, recordCount, floorRow, entryRow, executedSize, takeHead, leastImage}
+use Rattle.model.specs.Limits.{stateSize, headSize, planSize, pointCount, clientCount, recordCount, floorRow, executedSize, takeHead}
 use Rattle.model.specs.Limits.{checkpointSize, checkpointPairs, checkpointHead, checkpointPoint, checkpointRecord}
 use Rattle.model.specs.Tables.{rows, bytesOf, indexOf, written}
 use Rattle.model.specs.Plan.{planBytes}
-use Rattle.model.specs.Images.{floorBytes}
+use Rattle.model.specs.Images.{floorBytes, entryWidth, entriesStart, imageHead}
 use Rattle.model.specs.Logs.{LogRecord, executed, gone, gave, took, released, headBytes, headServer, recordAt, endsOf}
 use Rattle.model.specs.States.{State, given, stateMagic, recordRow, statusIn, takenMoveIn, pointBytes, completionBytes, padded, load, sound, isId}
 use Rattle.model.specs.Decisions.{find, isNone}
@@ -264,7 +264,7 @@ latestOf x c k none found = found
 latestOf x c k (some (executed r)) found =
     pick (eqb (r .command .client) x && eqb (r .command .call) c) (placeAt inRecord k executedSize) found
 latestOf x c k (some (took i)) found =
-    placeAmong inImage (k + takeHead + leastImage + floorRow * length (i .floors)) entryRow (isEntryId x c) (i .entries) found
+    placeAmong inImage (k + takeHead + entriesStart (length (i .floors))) (entryWidth (imageHead i)) (isEntryId x c) (i .entries) found
 latestOf x c k (some (gone n)) found = found
 latestOf x c k (some (gave g)) found = found
 latestOf x c k (some (released r)) found = found

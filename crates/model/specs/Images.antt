@@ -95,6 +95,43 @@ imageEntryOk p fs e =
     commandOk (e .op) p (e .argument)
     && (outcomeOk (e .result .outcome) (e .result .quality) && (idOk (e .client) (e .call) && inWindow (floorOf (e .client) fs) (e .call)))
 
+-- ---- the head, and the places by it
+
+-- bytes of a completion record in an image with this head
+unfoldable pub entryWidth : ImageHead → ℕ
+entryWidth h = entryRow
+
+-- where the completion records start, behind n floors
+abbrev pub entriesStart : ℕ → ℕ
+entriesStart n = leastImage + floorRow * n
+
+-- where the completion record of index i starts
+abbrev pub entryPlace : ImageHead → ℕ → ℕ
+entryPlace h i = entriesStart (h .floors) + entryWidth h * i
+
+-- the end of the last one: the image's length
+abbrev pub lengthBy : ImageHead → ℕ
+lengthBy h = entryPlace h (h .entries)
+
+-- the fields outside the tables, with the numbers of their rows
+unfoldable pub imageHead : Image → ImageHead
+imageHead i =
+    record {
+      point = i .point;
+      destination = i .destination;
+      source = i .source;
+      moveNumber = i .moveNumber;
+      heard = i .heard;
+      value = i .value;
+      quality = i .quality;
+      floors = length (i .floors);
+      entries = length (i .entries);
+    }
+
+unfoldable pub imageLength : Image → ℕ
+unfolding imageHead
+imageLength i = lengthBy (imageHead i)
+
 -- ---- the whole
 
 -- the lengths of the two tables, by their pairs
@@ -130,7 +167,7 @@ imageAt h s =
       value = h .value;
       quality = h .quality;
       floors = rows floorOfBytes floorRow (h .floors) (drop leastImage s);
-      entries = rows imageEntryOf entryRow (h .entries) (drop (leastImage + floorRow * h .floors) s);
+      entries = rows imageEntryOf (entryWidth h) (h .entries) (drop (entriesStart (h .floors)) s);
     }
 
 -- 4D 56 49 31, and the zero bytes
@@ -144,8 +181,8 @@ imageParts h s =
     && (eqb (le32At s 20) pointPart
     && (eqb (le32At s 24) leastImage
     && (eqb (floorsSizeIn s) (floorRow * h .floors)
-    && (eqb (le32At s 32) (leastImage + floorRow * h .floors)
-    && (eqb (entriesSizeIn s) (entryRow * h .entries) && eqb (length s) (leastImage + floorRow * h .floors + entryRow * h .entries))))))
+    && (eqb (le32At s 32) (entriesStart (h .floors))
+    && (eqb (entriesSizeIn s) (entryWidth h * h .entries) && eqb (length s) (lengthBy h))))))
 
 unfoldable pub imageHeadOk : ImageHead → Bool
 imageHeadOk h =
@@ -170,7 +207,7 @@ imageOk s =
     && (imageFramed s
     && (imageHeadOk (imageHeadOf s)
     && (imageParts (imageHeadOf s) s
-    && (everyRow entryRowOk entryRow (imageHeadOf s .entries) (drop (leastImage + floorRow * imageHeadOf s .floors) s)
+    && (everyRow entryRowOk (entryWidth (imageHeadOf s)) (imageHeadOf s .entries) (drop (entriesStart (imageHeadOf s .floors)) s)
     && imageTablesOk (imageAt (imageHeadOf s) s))))))
 
 unfoldable pub parseImage : List ℕ → Option Image
@@ -183,21 +220,17 @@ entryInRange e r = inRange e (r .result .value)
 unfoldable pub imageInRange : PlanEntry → Image → Bool
 imageInRange e i = inRange e (i .value) && every (entryInRange e) (i .entries)
 
-unfoldable pub imageLength : Image → ℕ
-imageLength i = leastImage + floorRow * length (i .floors) + entryRow * length (i .entries)
-
-unfoldable pub imageHeadBytes : Image → List ℕ
-imageHeadBytes i =
+unfoldable pub imageHeadBytes : ImageHead → List ℕ
+imageHeadBytes h =
     imageMagic
-    ++ (quad (i .point) (i .destination) (i .source) 0
-    ++ (le32 (i .moveNumber)
-    ++ (le32 (i .heard)
+    ++ (quad (h .point) (h .destination) (h .source) 0
+    ++ (le32 (h .moveNumber)
+    ++ (le32 (h .heard)
     ++ (le32 partsStart
     ++ (le32 pointPart
     ++ (le32 leastImage
-    ++ (le32 (floorRow * length (i .floors))
-    ++ (le32 (leastImage + floorRow * length (i .floors))
-    ++ (le32 (entryRow * length (i .entries)) ++ (signed32 (i .value) ++ quad (i .quality) 0 0 0))))))))))
+    ++ (le32 (floorRow * h .floors)
+    ++ (le32 (entriesStart (h .floors)) ++ (le32 (entryWidth h * h .entries) ++ (signed32 (h .value) ++ quad (h .quality) 0 0 0))))))))))
 
 unfoldable pub imageBytes : Image → List ℕ
-imageBytes i = imageHeadBytes i ++ (bytesOf floorBytes (i .floors) ++ bytesOf imageEntryBytes (i .entries))
+imageBytes i = imageHeadBytes (imageHead i) ++ (bytesOf floorBytes (i .floors) ++ bytesOf imageEntryBytes (i .entries))

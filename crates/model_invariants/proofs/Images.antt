@@ -23,12 +23,12 @@ use Rattle.model.specs.Tables.{every, keep}
 use Rattle.model.specs.Limits.{lastPoint, lastServer, lastQuality, clientCount, greatestImage}
 use Rattle.model.specs.Plan.{entryAt}
 use Rattle.model.specs.Packets.{commandOk, outcomeOk, idOk}
-use Rattle.model.specs.Images.{Image, floorOf, clientsAscend, idBefore, idsAscend, floorOk, imageEntryOk, imageHeadOk, imageTablesOk, imageLength}
+use Rattle.model.specs.Images.{Image, floorOf, clientsAscend, idBefore, idsAscend, floorOk, imageEntryOk, imageHeadOk, imageTablesOk, imageLength, imageHead, entryWidth}
 use Rattle.model.specs.States.{State, pointAt}
 use Rattle.model.specs.Apply.{takenRecord}
 use Rattle.model.specs.Decisions.{isOnPoint, entryOfRecord, insertEntry, sortEntries, imageFor}
 use Rattle.model_laws.specs.Bytes.{All}
-use Rattle.model_laws.specs.Fits.{ImageEntryFits, ImageFits, imageHead, imageWell}
+use Rattle.model_laws.specs.Fits.{ImageEntryFits, ImageFits, imageWell}
 use Rattle.model_laws.proofs.Tests.{and-both}
 use Rattle.model_laws.proofs.Reflects.{Reflects, Test, le, lt, eq, flag, of, both, facts, passed, reflects, rows-hold, rows-pass, choose-or}
 use Rattle.model_invariants.specs.Sound.{GoodEntry, Ranged, GoodPoint, GoodCompletion, Windowed, Distinct, SoundBy, Before, EntriesAscending, GoodImageEntry, GoodImage, GoodValues}
@@ -192,7 +192,7 @@ image-of i h F =
     }
 
 pub image-short : (i : Image) → GoodImage i → imageLength i ≤ greatestImage
-unfolding imageLength
+unfolding imageLength entryWidth
 image-short i G = omega (arith, G .clients, G .count)
 
 pub image-well : (i : Image) → GoodImage i → imageWell i ≡ true

@@ -19,9 +19,9 @@ use Rattle.model.specs.declared.ImageEntry.{ImageEntry}
 use Rattle.model.specs.declared.Executed.{Executed}
 use Rattle.model.specs.declared.Place.{Place}
 use Rattle.model.specs.Choice.{pick}
-use Rattle.model.specs.Limits.{headSize, floorRow, entryRow, executedSize, takeHead, leastImage}
+use Rattle.model.specs.Limits.{headSize, executedSize, takeHead}
 use Rattle.model.specs.Tables.{keep, indexOf}
-use Rattle.model.specs.Images.{Image}
+use Rattle.model.specs.Images.{Image, entryWidth, entriesStart, imageHead}
 use Rattle.model.specs.Logs.{LogRecord, executed, gone, gave, took, released, Entry, recordSize}
 use Rattle.model.specs.States.{State}
 use Rattle.model.specs.Apply.{isOnOther, completion, takenRecord, applyExecuted, applyGone, applyGave, applyTook, applyReleased, applyRecord, apply, replayFrom}
@@ -100,7 +100,7 @@ latest-append x c k (y ∷ es) e found = latest-append x c (y .end) es e (latest
 
 -- where the entries of the image of a take start, which stands behind the entries a
 abbrev pub entriesAt : List Entry → Image → ℕ
-entriesAt a i = lastEnd headSize a + takeHead + leastImage + floorRow * length (i .floors)
+entriesAt a i = lastEnd headSize a + takeHead + entriesStart (length (i .floors))
 
 -- the completion record r stands at p: before the log, whose first place is `first`; or in the log es, behind its entries a
 pub data Found (start : State) (first : Place) (es : List Entry) (r : Completion) (p : Place) : Type 0 where
@@ -110,7 +110,7 @@ pub data Found (start : State) (first : Place) (es : List Entry) (r : Completion
       → p ≡ placeAt inRecord (lastEnd headSize a) executedSize → Found start first es r p
   inTake : (a b : List Entry) (i : Image) → es ≡ a ++ (record { item = took i; end = r .end } ∷ b) → EntriesFrom headSize a
       → i .point ≡ r .command .point → (front rest : List ImageEntry) → i .entries ≡ front ++ (entryOfRecord r ∷ rest)
-      → r .end ≡ lastEnd headSize a + recordSize (took i) → p ≡ placeAt inImage (entriesAt a i + entryRow * length front) entryRow → Found start first es r p
+      → r .end ≡ lastEnd headSize a + recordSize (took i) → p ≡ placeAt inImage (entriesAt a i + entryWidth (imageHead i) * length front) (entryWidth (imageHead i)) → Found start first es r p
 
 found-more : (start : State) (first : Place) (es : List Entry) (e : Entry) (r : Completion) (p : Place) → Found start first es r p → Found start first (es ++ (e ∷ [])) r p
 found-more start first es e r p (before m q) = before m q
@@ -205,7 +205,7 @@ module _ (start : State) (first : Place) (x c : ℕ) where
 
     took-here : (i : Image) → EntriesAscending (i .entries) → (r : Completion) → Taken (i .point) (st .size + recordSize (took i)) (i .entries) r → r .command .client ≡ x → r .command .call ≡ c
         → (indexOf (isEntryId x c) (i .entries) < length (i .entries))
-        × Found start first (es ++ (entryFor st (took i) ∷ [])) r (placeAt inImage (entriesAt es i + entryRow * indexOf (isEntryId x c) (i .entries)) entryRow)
+        × Found start first (es ++ (entryFor st (took i) ∷ [])) r (placeAt inImage (entriesAt es i + entryWidth (imageHead i) * indexOf (isEntryId x c) (i .entries)) (entryWidth (imageHead i)))
     unfolding takenRecord entryOfRecord
     took-here i a r T k l =
         let t = isEntryId x c in
@@ -219,7 +219,7 @@ module _ (start : State) (first : Place) (x c : ℕ) where
           split-below t (i .entries) s,
           inTake es [] i (ap (λ (j : ℕ). es ++ (record { item = took i; end = j } ∷ [])) (sym n)) F (sym (ap (λ (j : Completion). j .command .point) q)) (s .front) (s .rest)
               same (n ∙ ap (λ (j : ℕ). j + recordSize (took i)) z)
-              (ap (λ (j : ℕ). placeAt inImage (entriesAt es i + entryRow * j) entryRow) (s .index)),
+              (ap (λ (j : ℕ). placeAt inImage (entriesAt es i + entryWidth (imageHead i) * j) (entryWidth (imageHead i))) (s .index)),
         )
 
     took-standing : (i : Image) → EntriesAscending (i .entries) → follows st (took i) ≡ true
@@ -230,7 +230,7 @@ module _ (start : State) (first : Place) (x c : ℕ) where
       where
         go : (b : Bool) → ltb (indexOf (isEntryId x c) (i .entries)) (length (i .entries)) ≡ b
             → List·Memᴰ r (keep (isOnOther (i .point)) (st .records)) ⊎ List·Memᴰ r (map (takenRecord (i .point) (st .size + recordSize (took i))) (i .entries))
-            → Found start first (es ++ (entryFor st (took i) ∷ [])) r (pick b (placeAt inImage (entriesAt es i + entryRow * indexOf (isEntryId x c) (i .entries)) entryRow) p)
+            → Found start first (es ++ (entryFor st (took i) ∷ [])) r (pick b (placeAt inImage (entriesAt es i + entryWidth (imageHead i) * indexOf (isEntryId x c) (i .entries)) (entryWidth (imageHead i))) p)
         go true q (inl old) = absurd (took-other i h (index-has (isEntryId x c) (i .entries) (ltb-true _ _ q)) r old k l)
         go true q (inr new) = took-here i a r (taken-from _ _ (i .entries) r new) k l .1
         go false q (inl old) = found-more start first es (entryFor st (took i)) r p (S r (keep-member _ _ old) k l)

@@ -23,8 +23,8 @@ use Rattle.model.specs.Choice.{pick, _if_else_, passed}
 use Rattle.model.specs.Refusals.{unknown, noRefusal}
 use Rattle.model.specs.Numbers.{le32, quad}
 use Rattle.model.specs.Tables.{bytesOf}
-use Rattle.model.specs.Limits.{stateSize, headSize, floorRow, entryRow, executedSize, takeHead, leastImage, takeKind, checkpointRecord}
-use Rattle.model.specs.Images.{Image, floorOfBytes, floorBytes, imageEntryOf, imageEntryBytes, imageLength, imageHeadBytes, imageBytes}
+use Rattle.model.specs.Limits.{stateSize, headSize, floorRow, entryRow, executedSize, takeHead, takeKind, checkpointRecord}
+use Rattle.model.specs.Images.{Image, floorOfBytes, floorBytes, imageEntryOf, imageEntryBytes, entryWidth, entriesStart, imageHead, imageLength, imageHeadBytes, imageBytes}
 use Rattle.model.specs.Logs.{LogRecord, executed, took, Entry, headBytes, recordBytes, recordSize, takeBytes, executedAt, executedBytes, recordAt, headServer, headOk, endsOf, wholeEnd, lastOf, entriesTo, entriesBytes}
 use Rattle.model.specs.Plan.{planBytes}
 use Rattle.model.specs.States.{State, completionOf, completionBytes, isId, clientsIn, load}
@@ -115,9 +115,9 @@ module _ (n : ℕ) (es : List Entry) (tail : List ℕ) (logged : take (lastEnd h
   -- the bytes of a take before the entries that follow `front`
   imageFront : Image → List ImageEntry → List ℕ
   imageFront i front =
-      quad takeKind 0 0 0 ++ (le32 (imageLength i) ++ (imageHeadBytes i ++ (bytesOf floorBytes (i .floors) ++ bytesOf imageEntryBytes front)))
+      quad takeKind 0 0 0 ++ (le32 (imageLength i) ++ (imageHeadBytes (imageHead i) ++ (bytesOf floorBytes (i .floors) ++ bytesOf imageEntryBytes front)))
 
-  front-length : (i : Image) (front : List ImageEntry) → length (imageFront i front) ≡ takeHead + leastImage + floorRow * length (i .floors) + entryRow * length front
+  front-length : (i : Image) (front : List ImageEntry) → length (imageFront i front) ≡ takeHead + entriesStart (length (i .floors)) + entryRow * length front
   unfolding imageFront imageHeadBytes
   front-length i front =
       let l = length-append (bytesOf floorBytes (i .floors)) (bytesOf imageEntryBytes front) in
@@ -131,7 +131,7 @@ module _ (n : ℕ) (es : List Entry) (tail : List ℕ) (logged : take (lastEnd h
 
   image-shown : (a b : List Entry) (i : Image) (end : ℕ) → es ≡ a ++ (record { item = took i; end = end } ∷ b) → EntriesFrom headSize a
       → (front rest : List ImageEntry) (e : ImageEntry) → i .entries ≡ front ++ (e ∷ rest) → (k : ℕ)
-      → k ≡ lastEnd headSize a + takeHead + leastImage + floorRow * length (i .floors) + entryRow * length front
+      → k ≡ lastEnd headSize a + takeHead + entriesStart (length (i .floors)) + entryRow * length front
       → take (k + entryRow - k) (drop k tail) ≡ imageEntryBytes e
   unfolding recordBytes
   image-shown a b i end q f front rest e s k z =
@@ -258,14 +258,15 @@ module _ (start : State) (es : List Entry) (checkpoint tail : List ℕ) (x c : �
     (logged : take (lastEnd headSize es) tail ≡ headBytes (start .server) ++ entriesBytes es) where
   found-shown : (r : Completion) (p : Place) → r .command .client ≡ x → r .command .call ≡ c → Found start (placeInCheckpoint x c checkpoint) es r p
       → Shown start es checkpoint tail r p
+  unfolding entryWidth
   found-shown r p k l (before m q) = subst (Shown start es checkpoint tail r) (sym q) (before-shown start es checkpoint tail x c F r m k l)
   found-shown r p k l (inLog a b y s f d t n q) =
       subst (Shown start es checkpoint tail r) (sym q)
       (refl, ofRecord y (member-at es a b s) d t refl (sym n) (record-shown (start .server) es tail logged a b y (r .end) s f))
   found-shown r p k l (inTake a b i s f d u v t n q) =
-      let at : ℕ = lastEnd headSize a + takeHead + leastImage + floorRow * length (i .floors) + entryRow * length u in
+      let at : ℕ = lastEnd headSize a + takeHead + entriesStart (length (i .floors)) + entryRow * length u in
       let w : length (i .entries) ≡ length u + suc (length v) = ap length t ∙ length-append u (entryOfRecord r ∷ v) in
-      let z : recordSize (took i) ≡ takeHead + (leastImage + floorRow * length (i .floors) + entryRow * length (i .entries)) = unfold recordSize imageLength in refl in
+      let z : recordSize (took i) ≡ takeHead + (entriesStart (length (i .floors)) + entryRow * length (i .entries)) = unfold recordSize imageLength in refl in
       subst (Shown start es checkpoint tail r) (sym q)
       (refl, ofImage i (member-at es a b s) d refl (omega (arith, n, z, w)) (omega (arith, n, z, w)) (image-shown (start .server) es tail logged a b i (r .end) s f u v (entryOfRecord r) t at refl))
 

@@ -3,6 +3,8 @@
 --     image-length, image-least, image-limit, image-bytes     the length of an image's bytes, 48 to 10,544; they are bytes
 --     image-back                    what was written is read back, for every well-formed image that fits
 --     image-is                      what parses is well-formed, fits, and is written again: the same bytes
+--     width-least, width-most, entries-within     an entry's width in every image, and where the entries end
+--     floor-count, entry-count, head-same     an image that was read with a head has that head
 --     tested, placed                what imageOk and imageParts ask, one by one
 --     image-most                    what parses has at most 10,544 bytes
 -- Assumes nothing.
@@ -21,13 +23,13 @@ use Rattle.model.specs.declared.ImageEntry.{ImageEntry}
 use Rattle.model.specs.declared.ImageHead.{ImageHead}
 use Rattle.model.specs.Numbers.{byteAt, le32At, signedAt, zeros3At}
 use Rattle.model.specs.Tables.{rows, everyRow, bytesOf}
-use Rattle.model.specs.Images.{Image, floorOfBytes, floorBytes, imageEntryOf, imageEntryBytes, imageHeadOf, imageAt, imageFramed, imageParts}
+use Rattle.model.specs.Images.{Image, floorOfBytes, floorBytes, imageEntryOf, imageEntryBytes, entryWidth, entriesStart, lengthBy, imageHead, imageHeadOf, imageAt, imageFramed, imageParts}
 use Rattle.model.specs.Images.{imageHeadOk, entryRowOk, imageTablesOk, imageOk, parseImage, imageLength, imageHeadBytes, imageBytes, imageMagic}
 use Rattle.model.specs.Limits.{leastImage, greatestImage, floorRow, entryRow, partsStart, pointPart}
 use Rattle.model_laws.specs.Bytes.{Bytes}
 use Rattle.model_laws.specs.Codec.{Codec}
 use Rattle.model_laws.specs.Fields.{Field, byte, word32, signed, fixed, fixedAll, gotAll, putAll, testsOf, passAll, nth, Bounded, fixedBytes, Layout, Computes}
-use Rattle.model_laws.specs.Fits.{FloorFits, ImageEntryFits, ImageFits, imageHead, imageWell, IsImage}
+use Rattle.model_laws.specs.Fits.{FloorFits, ImageEntryFits, ImageFits, imageWell, IsImage}
 use Rattle.model_laws.proofs.Tests.{joined-all, choose}
 use Rattle.model_laws.proofs.Reflects.{Test, le, eq, flag, facts, passed}
 use Rattle.model_laws.proofs.Numbers.{part-join, le32-below, signed-below}
@@ -82,14 +84,28 @@ entry-fit s h = layout-fit entry-computes s h
 over-floor : (n : ℕ) → floorRow * n / floorRow ≡ n
 over-floor n = omega arith
 
-over-entry : (n : ℕ) → entryRow * n / entryRow ≡ n
-over-entry n = omega arith
+over-entry : (h : ImageHead) (n : ℕ) → entryWidth h * n / entryRow ≡ n
+unfolding entryWidth
+over-entry h n = omega arith
 
--- the tests of the three parts, with m floors and n entries
-abbrev partTests : ℕ → ℕ → List ℕ → List Test
-partTests m n s =
-    eq (le32At s 16) partsStart ∷ eq (le32At s 20) pointPart ∷ eq (le32At s 24) leastImage ∷ eq (le32At s 28) (floorRow * m) ∷ eq (le32At s 32) (leastImage + floorRow * m)
-    ∷ eq (le32At s 36) (entryRow * n) ∷ eq (length s) (leastImage + floorRow * m + entryRow * n) ∷ []
+-- what holds of an entry's width in every image: a row is read within it, and counts to no more than these bytes
+pub width-least : (h : ImageHead) → entryRow ≤ entryWidth h
+unfolding entryWidth
+width-least h = omega arith
+
+pub width-most : (h : ImageHead) (n : ℕ) → entryWidth h * n ≤ entryRow * n
+unfolding entryWidth
+width-most h n = omega arith
+
+-- the entries of an image that lies within n bytes
+pub entries-within : (h : ImageHead) {n w k : ℕ} → lengthBy h ≤ n → w ≡ entryWidth h → k ≡ entriesStart (h .floors) → (entryRow ≤ w) × (k + w * h .entries ≤ n)
+entries-within h l p q = rw (p, q) (width-least h, l)
+
+-- the tests of the three parts
+abbrev partTests : ImageHead → List ℕ → List Test
+partTests h s =
+    eq (le32At s 16) partsStart ∷ eq (le32At s 20) pointPart ∷ eq (le32At s 24) leastImage ∷ eq (le32At s 28) (floorRow * h .floors)
+    ∷ eq (le32At s 32) (entriesStart (h .floors)) ∷ eq (le32At s 36) (entryWidth h * h .entries) ∷ eq (length s) (lengthBy h) ∷ []
 
 -- the head's fields
 
@@ -102,18 +118,18 @@ abbrev headTo : (ℕ → ℕ) → ImageHead
 headTo v =
     record { point = v 0; destination = v 1; source = v 2; moveNumber = v 3; heard = v 4; value = v 11; quality = v 12; floors = v 8 / floorRow; entries = v 10 / entryRow }
 
-abbrev headNumbers : Image → List ℕ
-headNumbers i =
-    let m = floorRow * length (i .floors) in
-    i .point ∷ i .destination ∷ i .source ∷ i .moveNumber ∷ i .heard ∷ partsStart ∷ pointPart ∷ leastImage ∷ m ∷ (leastImage + m) ∷ (entryRow * length (i .entries)) ∷ i .value ∷ i .quality ∷ []
+abbrev headNumbers : ImageHead → List ℕ
+headNumbers h =
+    h .point ∷ h .destination ∷ h .source ∷ h .moveNumber ∷ h .heard ∷ partsStart ∷ pointPart ∷ leastImage ∷ (floorRow * h .floors)
+    ∷ entriesStart (h .floors) ∷ (entryWidth h * h .entries) ∷ h .value ∷ h .quality ∷ []
 
 head-reads : (s : List ℕ) → imageHeadOf s ≡ headTo (nth (gotAll headFields s 0))
 unfolding imageHeadOf
 head-reads s = refl
 
-head-writes : (i : Image) → imageHeadBytes i ≡ putAll headFields (headNumbers i)
+head-writes : (h : ImageHead) → imageHeadBytes h ≡ putAll headFields (headNumbers h)
 unfolding imageHeadBytes
-head-writes i = refl
+head-writes h = refl
 
 head-tests : (s : List ℕ) → imageFramed s ≡ passAll headFields s 0
 unfolding imageFramed zeros3At
@@ -123,21 +139,21 @@ pub image-limit : (i : Image) → imageWell i ≡ true → imageLength i ≤ gre
 unfolding imageWell
 image-limit i ok = facts (flag (imageHeadOk (imageHead i)) ∷ le (imageLength i) greatestImage ∷ flag (imageTablesOk i) ∷ []) ok 1
 
-head-bounded : (i : Image) → imageWell i ≡ true → ImageFits i → Bounded headFields (headNumbers i)
+head-bounded : (i : Image) → imageWell i ≡ true → ImageFits i → Bounded headFields (headNumbers (imageHead i))
 unfolding imageLength
 head-bounded i ok f =
-    let l : leastImage + floorRow * length (i .floors) + entryRow * length (i .entries) ≤ greatestImage = image-limit i ok in
+    let l : lengthBy (imageHead i) ≤ greatestImage = image-limit i ok in
     (f .point, (f .destination, (f .source, (f .moveNumber, (f .heard, (lit< tt, (lit< tt, (lit< tt, (omega arith, (omega arith, (omega arith, (f .value, (f .quality, tt)))))))))))))
 
 module _ (i : Image) where
-  drop-floors : drop (leastImage + floorRow * length (i .floors)) (imageBytes i) ≡ bytesOf imageEntryBytes (i .entries)
+  drop-floors : drop (entriesStart (length (i .floors))) (imageBytes i) ≡ bytesOf imageEntryBytes (i .entries)
   unfolding imageBytes imageHeadBytes
   drop-floors =
       sym (drop-drop (floorRow * length (i .floors)) leastImage (imageBytes i))
       ∙ drop-at (bytesOf floorBytes (i .floors)) (bytesOf imageEntryBytes (i .entries)) (floorRow * length (i .floors)) (length-bytesOf floorCodec (i .floors))
 
   pub image-length : length (imageBytes i) ≡ imageLength i
-  unfolding imageBytes imageHeadBytes imageLength
+  unfolding imageBytes imageHeadBytes imageLength entryWidth
   image-length =
       let e : length (bytesOf floorBytes (i .floors) ++ bytesOf imageEntryBytes (i .entries)) ≡ floorRow * length (i .floors) + entryRow * length (i .entries) =
       rw (length-append, length-bytesOf floorCodec (i .floors), length-bytesOf entryCodec (i .entries)) in
@@ -149,11 +165,11 @@ module _ (i : Image) where
 
   module _ (f : ImageFits i) (ok : imageWell i ≡ true) where
     image-at : imageAt (imageHead i) (imageBytes i) ≡ i
-    unfolding imageAt imageHead imageBytes imageHeadBytes
+    unfolding imageAt imageHead imageBytes imageHeadBytes entryWidth
     image-at =
         let floors : rows floorOfBytes floorRow (length (i .floors)) (bytesOf floorBytes (i .floors) ++ bytesOf imageEntryBytes (i .entries)) ≡ i .floors =
         rows-back floorCodec (i .floors) (bytesOf imageEntryBytes (i .entries)) (f .floors) in
-        let entries : rows imageEntryOf entryRow (length (i .entries)) (drop (leastImage + floorRow * length (i .floors)) (imageBytes i)) ≡ i .entries =
+        let entries : rows imageEntryOf entryRow (length (i .entries)) (drop (entriesStart (length (i .floors))) (imageBytes i)) ≡ i .entries =
         ap (λ (x : List ℕ). rows imageEntryOf entryRow (length (i .entries)) x) (drop-floors ∙ sym (append-nil (bytesOf imageEntryBytes (i .entries))))
         ∙ rows-back entryCodec (i .entries) [] (f .entries) in
         λ j.
@@ -169,21 +185,22 @@ module _ (i : Image) where
           entries = entries j;
         }
 
-    entry-rows : everyRow entryRowOk entryRow (length (i .entries)) (drop (leastImage + floorRow * length (i .floors)) (imageBytes i)) ≡ true
+    entry-rows : everyRow entryRowOk (entryWidth (imageHead i)) (length (i .entries)) (drop (entriesStart (length (i .floors))) (imageBytes i)) ≡ true
+    unfolding entryWidth
     entry-rows =
         ap (λ (x : List ℕ). everyRow entryRowOk entryRow (length (i .entries)) x) (drop-floors ∙ sym (append-nil (bytesOf imageEntryBytes (i .entries))))
         ∙ everyRow-back entryCodec (i .entries) [] (f .entries)
 
     -- the head's numbers, read back
-    numbers : nth (gotAll headFields (imageBytes i) 0) ≡ nth (headNumbers i)
+    numbers : nth (gotAll headFields (imageBytes i) 0) ≡ nth (headNumbers (imageHead i))
     unfolding imageBytes
     numbers =
         rw head-writes
-        (all-front headFields (headNumbers i) (bytesOf floorBytes (i .floors) ++ bytesOf imageEntryBytes (i .entries)) (head-bounded i ok f))
+        (all-front headFields (headNumbers (imageHead i)) (bytesOf floorBytes (i .floors) ++ bytesOf imageEntryBytes (i .entries)) (head-bounded i ok f))
 
     head-at : imageHeadOf (imageBytes i) ≡ imageHead i
     unfolding imageHead
-    head-at = head-reads (imageBytes i) ∙ ap headTo numbers ∙ rw (over-floor (length (i .floors)), over-entry (length (i .entries)))
+    head-at = head-reads (imageBytes i) ∙ ap headTo numbers ∙ rw (over-floor (length (i .floors)), over-entry (imageHead i) (length (i .entries)))
 
     framed : imageFramed (imageBytes i) ≡ true
     unfolding imageFramed imageBytes imageHeadBytes zeros3At
@@ -193,10 +210,8 @@ module _ (i : Image) where
     unfolding imageParts imageHead imageLength
     parts =
         let s : List ℕ = imageBytes i in
-        let m : ℕ = length (i .floors) in
-        let n : ℕ = length (i .entries) in
-        let is : (k : ℕ) → nth (gotAll headFields s 0) k ≡ nth (headNumbers i) k = λ k. ap (λ (v : ℕ → ℕ). v k) numbers in
-        passed (partTests m n s) (is 5) (is 6) (is 7) (is 8) (is 9) (is 10) image-length
+        let is : (k : ℕ) → nth (gotAll headFields s 0) k ≡ nth (headNumbers (imageHead i)) k = λ k. ap (λ (v : ℕ → ℕ). v k) numbers in
+        passed (partTests (imageHead i) s) (is 5) (is 6) (is 7) (is 8) (is 9) (is 10) image-length
 
     image-ok : imageOk (imageBytes i) ≡ true
     unfolding imageOk imageWell imageHead
@@ -206,7 +221,7 @@ module _ (i : Image) where
         rw head-at
         (passed
         (le leastImage (length s) ∷ le (length s) greatestImage ∷ flag (imageFramed s) ∷ flag (imageHeadOk (imageHead i)) ∷ flag (imageParts (imageHead i) s)
-        ∷ flag (everyRow entryRowOk entryRow (length (i .entries)) (drop (leastImage + floorRow * length (i .floors)) s)) ∷ flag (imageTablesOk (imageAt (imageHead i) s)) ∷ [])
+        ∷ flag (everyRow entryRowOk (entryWidth (imageHead i)) (length (i .entries)) (drop (entriesStart (length (i .floors))) s)) ∷ flag (imageTablesOk (imageAt (imageHead i) s)) ∷ [])
         (rw image-length image-least) (rw image-length (p 1)) framed (p 0) parts entry-rows (rw image-at (p 2)))
 
     pub image-back : parseImage (imageBytes i) ≡ some i
@@ -217,8 +232,8 @@ module _ (i : Image) where
 pub image-bytes : (i : Image) → imageWell i ≡ true → ImageFits i → Bytes (imageBytes i)
 unfolding imageBytes
 image-bytes i ok f =
-    bytes-append (imageHeadBytes i) (bytesOf floorBytes (i .floors) ++ bytesOf imageEntryBytes (i .entries))
-    (subst Bytes (sym (head-writes i)) (all-bytes headFields (headNumbers i) (joined-all (fixedBytes headFields) refl) (head-bounded i ok f)))
+    bytes-append (imageHeadBytes (imageHead i)) (bytesOf floorBytes (i .floors) ++ bytesOf imageEntryBytes (i .entries))
+    (subst Bytes (sym (head-writes (imageHead i))) (all-bytes headFields (headNumbers (imageHead i)) (joined-all (fixedBytes headFields) refl) (head-bounded i ok f)))
     (bytes-append (bytesOf floorBytes (i .floors)) (bytesOf imageEntryBytes (i .entries)) (bytes-bytesOf floorCodec (i .floors) (f .floors)) (bytes-bytesOf entryCodec (i .entries) (f .entries)))
 
 -- ---- what parses is well-formed, fits, and is written again: the same bytes
@@ -230,7 +245,7 @@ pub record Tested (b : List ℕ) : Type 0 where
   pub framed : imageFramed b ≡ true
   pub head : imageHeadOk (imageHeadOf b) ≡ true
   pub parts : imageParts (imageHeadOf b) b ≡ true
-  pub zero-bytes : everyRow entryRowOk entryRow (imageHeadOf b .entries) (drop (leastImage + floorRow * imageHeadOf b .floors) b) ≡ true
+  pub zero-bytes : everyRow entryRowOk (entryWidth (imageHeadOf b)) (imageHeadOf b .entries) (drop (entriesStart (imageHeadOf b .floors)) b) ≡ true
   pub tables : imageTablesOk (imageAt (imageHeadOf b) b) ≡ true
 
 pub tested : (b : List ℕ) → imageOk b ≡ true → Tested b
@@ -238,76 +253,77 @@ unfolding imageOk
 tested b e =
     let p = facts
     (flag (leb leastImage (length b)) ∷ flag (leb (length b) greatestImage) ∷ flag (imageFramed b) ∷ flag (imageHeadOk (imageHeadOf b)) ∷ flag (imageParts (imageHeadOf b) b)
-    ∷ flag (everyRow entryRowOk entryRow (imageHeadOf b .entries) (drop (leastImage + floorRow * imageHeadOf b .floors) b)) ∷ flag (imageTablesOk (imageAt (imageHeadOf b) b)) ∷ []) e in
+    ∷ flag (everyRow entryRowOk (entryWidth (imageHeadOf b)) (imageHeadOf b .entries) (drop (entriesStart (imageHeadOf b .floors)) b)) ∷ flag (imageTablesOk (imageAt (imageHeadOf b) b)) ∷ []) e in
     record { least = p 0; most = p 1; framed = p 2; head = p 3; parts = p 4; zero-bytes = p 5; tables = p 6 }
 
 -- the numbers of the three parts
-pub record Placed (m n : ℕ) (b : List ℕ) : Type 0 where
+pub record Placed (h : ImageHead) (b : List ℕ) : Type 0 where
   pub at16 : le32At b 16 ≡ partsStart
   pub at20 : le32At b 20 ≡ pointPart
   pub at24 : le32At b 24 ≡ leastImage
-  pub at28 : le32At b 28 ≡ floorRow * m
-  pub at32 : le32At b 32 ≡ leastImage + floorRow * m
-  pub at36 : le32At b 36 ≡ entryRow * n
-  pub size : length b ≡ leastImage + floorRow * m + entryRow * n
+  pub at28 : le32At b 28 ≡ floorRow * h .floors
+  pub at32 : le32At b 32 ≡ entriesStart (h .floors)
+  pub at36 : le32At b 36 ≡ entryWidth h * h .entries
+  pub size : length b ≡ lengthBy h
 
-pub placed : (k : ImageHead) (b : List ℕ) → imageParts k b ≡ true → Placed (k .floors) (k .entries) b
+pub placed : (h : ImageHead) (b : List ℕ) → imageParts h b ≡ true → Placed h b
 unfolding imageParts
-placed k b e =
-    let p = facts (partTests (k .floors) (k .entries) b) e in
+placed h b e =
+    let p = facts (partTests h b) e in
     record { at16 = p 0; at20 = p 1; at24 = p 2; at28 = p 3; at32 = p 4; at36 = p 5; size = p 6 }
 
-module _ (b : List ℕ) (h : Bytes b) (t : Tested b) where
-  found-head : imageHead (imageAt (imageHeadOf b) b) ≡ imageHeadOf b
-  unfolding imageHead imageAt imageHeadOf
-  found-head =
-      let floors : length (rows floorOfBytes floorRow (le32At b 28 / floorRow) (drop leastImage b)) ≡ le32At b 28 / floorRow =
-      length-rows floorOfBytes floorRow (le32At b 28 / floorRow) (drop leastImage b) in
-      let entries : length (rows imageEntryOf entryRow (le32At b 36 / entryRow) (drop (leastImage + floorRow * (le32At b 28 / floorRow)) b)) ≡ le32At b 36 / entryRow =
-      length-rows imageEntryOf entryRow (le32At b 36 / entryRow) (drop (leastImage + floorRow * (le32At b 28 / floorRow)) b) in
+-- the numbers of rows of an image that was read with a head, and its head again
+module _ (h : ImageHead) (s : List ℕ) where
+  pub floor-count : length (imageAt h s .floors) ≡ h .floors
+  unfolding imageAt
+  floor-count = length-rows floorOfBytes floorRow (h .floors) (drop leastImage s)
+
+  pub entry-count : length (imageAt h s .entries) ≡ h .entries
+  unfolding imageAt
+  entry-count = length-rows imageEntryOf (entryWidth h) (h .entries) (drop (entriesStart (h .floors)) s)
+
+  pub head-same : imageHead (imageAt h s) ≡ h
+  unfolding imageHead imageAt
+  head-same =
       λ j.
       record {
-        point = byteAt b 4;
-        destination = byteAt b 5;
-        source = byteAt b 6;
-        moveNumber = le32At b 8;
-        heard = le32At b 12;
-        value = signedAt b 40;
-        quality = byteAt b 44;
-        floors = floors j;
-        entries = entries j;
+        point = h .point;
+        destination = h .destination;
+        source = h .source;
+        moveNumber = h .moveNumber;
+        heard = h .heard;
+        value = h .value;
+        quality = h .quality;
+        floors = floor-count j;
+        entries = entry-count j;
       }
 
-  head-again : imageHeadBytes (imageAt (imageHeadOf b) b) ≡ take leastImage b
-  unfolding imageAt imageHeadOf
+module _ (b : List ℕ) (h : Bytes b) (t : Tested b) where
+  head-again : imageHeadBytes (imageHeadOf b) ≡ take leastImage b
+  unfolding imageHeadOf
   head-again =
-      let m : ℕ = le32At b 28 / floorRow in
-      let n : ℕ = le32At b 36 / entryRow in
       let p = placed (imageHeadOf b) b (t .parts) in
-      let floors : floorRow * length (rows floorOfBytes floorRow m (drop leastImage b)) ≡ floorRow * m = ap (λ (x : ℕ). floorRow * x) (length-rows floorOfBytes floorRow m (drop leastImage b)) in
-      let entries : entryRow * length (rows imageEntryOf entryRow n (drop (leastImage + floorRow * m) b)) ≡ entryRow * n =
-      ap (λ (x : ℕ). entryRow * x) (length-rows imageEntryOf entryRow n (drop (leastImage + floorRow * m) b)) in
-      let same : headNumbers (imageAt (imageHeadOf b) b) ≡ gotAll headFields b 0 =
-      λ j. byteAt b 4 ∷ byteAt b 5 ∷ byteAt b 6 ∷ le32At b 8 ∷ le32At b 12 ∷ sym (p .at16) j ∷ sym (p .at20) j ∷ sym (p .at24) j ∷ (floors ∙ sym (p .at28)) j
-      ∷ (ap (λ (x : ℕ). leastImage + x) floors ∙ sym (p .at32)) j ∷ (entries ∙ sym (p .at36)) j ∷ signedAt b 40 ∷ byteAt b 44 ∷ [] in
-      head-writes (imageAt (imageHeadOf b) b)
+      let same : headNumbers (imageHeadOf b) ≡ gotAll headFields b 0 =
+      λ j. byteAt b 4 ∷ byteAt b 5 ∷ byteAt b 6 ∷ le32At b 8 ∷ le32At b 12 ∷ sym (p .at16) j ∷ sym (p .at20) j ∷ sym (p .at24) j ∷ sym (p .at28) j
+      ∷ sym (p .at32) j ∷ sym (p .at36) j ∷ signedAt b 40 ∷ byteAt b 44 ∷ [] in
+      head-writes (imageHeadOf b)
       ∙ ap (putAll headFields) same
       ∙ all-again headFields b 0 h (leb-true leastImage (length b) (t .least)) (joined-all (testsOf headFields b 0) (sym (head-tests b) ∙ t .framed))
 
   found-same : imageBytes (imageAt (imageHeadOf b) b) ≡ b
-  unfolding imageBytes imageAt
+  unfolding imageBytes imageAt entryWidth
   found-same =
       let m : ℕ = imageHeadOf b .floors in
       let n : ℕ = imageHeadOf b .entries in
       let p = placed (imageHeadOf b) b (t .parts) in
-      part-join b 0 leastImage (floorRow * m + entryRow * n) head-again
+      part-join b 0 leastImage (floorRow * m + entryRow * n) (ap imageHeadBytes (head-same (imageHeadOf b) b) ∙ head-again)
       (part-join b leastImage (floorRow * m) (entryRow * n)
       (rows-again floorCodec m (drop leastImage b) (bytes-drop leastImage b h) (rw length-drop (omega arith)) (everyRow-true floorRow m (drop leastImage b)))
-      (rows-again entryCodec n (drop (leastImage + floorRow * m) b) (bytes-drop (leastImage + floorRow * m) b h) (rw length-drop (omega arith)) (t .zero-bytes)))
+      (rows-again entryCodec n (drop (entriesStart m) b) (bytes-drop (entriesStart m) b h) (rw length-drop (omega arith)) (t .zero-bytes)))
       ∙ take-all (leastImage + (floorRow * m + entryRow * n)) b (omega arith)
 
   found-fits : ImageFits (imageAt (imageHeadOf b) b)
-  unfolding imageAt imageHeadOf
+  unfolding imageAt imageHeadOf entryWidth
   found-fits =
       record {
         point = h 4;
@@ -318,15 +334,15 @@ module _ (b : List ℕ) (h : Bytes b) (t : Tested b) where
         value = signed-below b 40;
         quality = h 44;
         floors = rows-fit floorCodec (le32At b 28 / floorRow) (drop leastImage b) (bytes-drop leastImage b h) (everyRow-true floorRow (le32At b 28 / floorRow) (drop leastImage b));
-        entries = rows-fit entryCodec (le32At b 36 / entryRow) (drop (leastImage + floorRow * (le32At b 28 / floorRow)) b)
-            (bytes-drop (leastImage + floorRow * (le32At b 28 / floorRow)) b h) (t .zero-bytes);
+        entries = rows-fit entryCodec (le32At b 36 / entryRow) (drop (entriesStart (le32At b 28 / floorRow)) b)
+            (bytes-drop (entriesStart (le32At b 28 / floorRow)) b h) (t .zero-bytes);
       }
 
   found-well : imageWell (imageAt (imageHeadOf b) b) ≡ true
   unfolding imageWell
   found-well =
       let n : length b ≡ imageLength (imageAt (imageHeadOf b) b) = ap length (sym found-same) ∙ image-length (imageAt (imageHeadOf b) b) in
-      rw (found-head, t .head, ← n, t .most) (t .tables)
+      rw (head-same, t .head, ← n, t .most) (t .tables)
 
   found-image : IsImage b (imageAt (imageHeadOf b) b)
   found-image = record { ok = found-well; fits = found-fits; same = found-same }

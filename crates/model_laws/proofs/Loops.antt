@@ -9,13 +9,12 @@ use mathlib.Core.Path.{_≡_, refl, sym, _∙_}
 use mathlib.Core.Bool.{Bool, true, false, _&&_, not}
 use mathlib.Core.List.{List, [], _∷_}
 use native.Mathlib.Omega.{arith}
-use native.Mathlib.Numerals.{add-one}
-use native.Mathlib.Nat.{add-zero, mul-zero, mul-suc, sub-zero}
+use native.Mathlib.Nat.{add-zero, mul-zero, sub-zero}
 use lib.ListN.{drop}
 use lib.Seq.{drop-drop}
 use borrow.Author.Tests.{not-true, not-false}
 use Rattle.model.specs.Tables.{rows, everyRow, every}
-use Rattle.model_laws.proofs.Tables.{rows-cons, everyRow-cons, everyRow-rows}
+use Rattle.model_laws.proofs.Tables.{row-next, rows-cons, everyRow-cons, everyRow-rows}
 
 -- ---- a test of each row
 
@@ -76,7 +75,7 @@ module _ {A : Type 0} {dec : List ℕ → A} {f : List A → Bool} {t : List ℕ
     step : x ≡ (u && (everyRow t w (n - (i + 1)) (drop (k + w * (i + 1)) s) && f (rows dec w (n - (i + 1)) (drop (k + w * (i + 1)) s))))
     step =
         let at : List ℕ = drop (k + w * i) s in
-        let place : k + w * i + w ≡ k + w * (i + 1) = rw (add-one, mul-suc) (omega arith) in
+        let place : k + w * i + w ≡ k + w * (i + 1) = omega (arith, row-next w i) in
         let next : drop w at ≡ drop (k + w * (i + 1)) s = rw (drop-drop, place) in
         let others : List A = rows dec w (n - (i + 1)) (drop (k + w * (i + 1)) s) in
         let u' : u ≡ (before (dec at) others && t at) = rw next at p in

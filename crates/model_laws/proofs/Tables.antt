@@ -1,7 +1,7 @@
 -- Laws of tables: rows of one width, over a Codec.
+--     row-next, row-in, rows-left, places     the bytes of i rows and one more; a row ends within m rows; the rows from it on; m of n rows and the others
 --     length-rows, rows-append, rows-snoc, getD-rows, rows-cons     rows as they are read, from a place, from an index on
 --     everyRow-rows, everyRow-cons, everyRow-true
---     row-in, places                a row within its table; the places of a table
 --     bytesOf-append, bytesOf-one, length-bytesOf, bytes-bytesOf    the bytes of rows
 --     rows-back, everyRow-back      rows that were written are read back, and pass the rows' test
 --     rows-again, rows-fit          rows that were read are written again: the same bytes; and they fit
@@ -16,7 +16,7 @@ use mathlib.Core.Bool.{Bool, true, false, _&&_, and-assoc}
 use mathlib.Core.List.{List, [], _∷_, _++_, append-assoc, append-nil, List·Memᴰ, List·Memᴰ·head, List·Memᴰ·tail}
 use native.Mathlib.Omega.{arith}
 use native.Mathlib.Numerals.{add-one}
-use native.Mathlib.Nat.{zero-add, suc-add, mul-suc, mul-add, mul-zero, mul-le-mul-left}
+use native.Mathlib.Nat.{zero-add, suc-add, mul-suc, mul-add, mul-zero}
 use lib.ListN.{length, getD, take, drop, replicate, length-append, length-drop}
 use lib.Seq.{drop-at, drop-drop, take-add, take-take, getD-drop, take-nil}
 use lib.Dec.{eqb, lit<}
@@ -28,6 +28,22 @@ use Rattle.model_laws.specs.Codec.{Codec}
 use Rattle.model_laws.proofs.Tests.{and-left, and-right, and-both}
 use Rattle.model_laws.proofs.Numbers.{bytes-nil, bytes-cons, bytes-append, bytes-drop}
 use Rattle.model_laws.proofs.Written.{take-written, drop-written-past, written-again}
+
+-- ---- rows of w bytes: w * i is one term
+
+pub row-next : (w i : ℕ) → w * i + w ≡ w * (i + 1)
+row-next w i = rw (add-one, mul-suc) (omega arith)
+
+-- m of n places of w bytes, and the others
+pub places : (w m n : ℕ) → m ≤ n → w * m + w * (n - m) ≡ w * n
+places w m n h = let e : m + (n - m) ≡ n = omega arith in sym (mul-add w m (n - m)) ∙ ap (λ (x : ℕ). w * x) e
+
+pub row-in : (w i m : ℕ) → i < m → w * i + w ≤ w * m
+row-in w i m h = omega (arith, row-next w i, places w (i + 1) m (omega arith))
+
+-- the rows from index i on, the first apart
+pub rows-left : (w i m : ℕ) → i < m → w * i + w * (m - (i + 1) + 1) ≡ w * m
+rows-left w i m h = let e : m - (i + 1) + 1 ≡ m - i = omega arith in rw e (places w i m (omega arith))
 
 -- ---- rows
 
@@ -68,7 +84,7 @@ module _ {A : Type 0} (dec : List ℕ → A) (w : ℕ) where
   unfolding rows
   rows-cons s k i n h =
       let e : n - i ≡ suc (n - (i + 1)) = omega arith in
-      let q : k + w * i + w ≡ k + w * (i + 1) = rw (add-one, mul-suc) (omega arith) in
+      let q : k + w * i + w ≡ k + w * (i + 1) = omega (arith, row-next w i) in
       rw (e, drop-drop, q)
 
 -- each row passes a test of its bytes, which is a test of the row
@@ -83,21 +99,13 @@ pub everyRow-cons : (t : List ℕ → Bool) (w : ℕ) (s : List ℕ) (k i n : �
 unfolding everyRow
 everyRow-cons t w s k i n h =
     let e : n - i ≡ suc (n - (i + 1)) = omega arith in
-    let q : k + w * i + w ≡ k + w * (i + 1) = rw (add-one, mul-suc) (omega arith) in
+    let q : k + w * i + w ≡ k + w * (i + 1) = omega (arith, row-next w i) in
     rw (e, drop-drop, q)
 
 pub everyRow-true : (w n : ℕ) (s : List ℕ) → everyRow (λ x. true) w n s ≡ true
 unfolding everyRow
 everyRow-true w zero s = refl
 everyRow-true w (suc n) s = everyRow-true w n (drop w s)
-
--- a row lies within its table
-pub row-in : (w i n : ℕ) → i < n → w * i + w ≤ w * n
-row-in w i n h = omega (arith, mul-suc w i, mul-le-mul-left w h)
-
--- m of n places of w bytes, and the others
-pub places : (w m n : ℕ) → m ≤ n → w * m + w * (n - m) ≡ w * n
-places w m n h = let e : m + (n - m) ≡ n = omega arith in sym (mul-add w m (n - m)) ∙ ap (λ (x : ℕ). w * x) e
 
 -- ---- the bytes of rows
 

@@ -17,7 +17,6 @@ use Rattle.model.specs.declared.Packet.{Packet}
 use Rattle.model.specs.declared.Packet.the-variants.{Malformed, Requested, Resulted, Refused, Receipted, Noticed, Granted}
 use Rattle.model.specs.declared.Floor.{Floor}
 use Rattle.model.specs.declared.ImageEntry.{ImageEntry}
-use Rattle.model.specs.declared.ImageHead.{ImageHead}
 use Rattle.model.specs.declared.PlanEntry.{PlanEntry}
 use Rattle.model.specs.declared.Point.{Point}
 use Rattle.model.specs.declared.Completion.{Completion}
@@ -25,7 +24,7 @@ use Rattle.model.specs.declared.Executed.{Executed}
 use Rattle.model.specs.declared.Give.{Give}
 use Rattle.model.specs.declared.Release.{Release}
 use Rattle.model.specs.Numbers.{word, le32At, zeros3At, startsWith}
-use Rattle.model.specs.Images.{Image, imageHeadOk, imageTablesOk, imageLength, imageBytes}
+use Rattle.model.specs.Images.{Image, imageHead, imageHeadOk, imageTablesOk, imageLength, imageBytes}
 use Rattle.model.specs.Logs.{LogRecord, executed, gone, gave, took, released, executedOk, giveOk, releaseOk, recordBytes, recordSize, cut, extentOf, Entry, entriesBytes}
 use Rattle.model.specs.Plan.{planEntryOk, planRowOk}
 use Rattle.model.specs.Tables.{everyRow, zeros}
@@ -132,21 +131,6 @@ pub record ImageFits (i : Image) : Type 0 where
   pub quality : i .quality < 256
   pub floors : All FloorFits (i .floors)
   pub entries : All ImageEntryFits (i .entries)
-
--- the fields outside the tables, with the numbers of rows
-unfoldable pub imageHead : Image → ImageHead
-imageHead i =
-    record {
-      point = i .point;
-      destination = i .destination;
-      source = i .source;
-      moveNumber = i .moveNumber;
-      heard = i .heard;
-      value = i .value;
-      quality = i .quality;
-      floors = length (i .floors);
-      entries = length (i .entries);
-    }
 
 -- well-formed: the head's fields in their ranges, at most 32 floors, at most 10,544 bytes, the tables as they should be
 unfoldable pub imageWell : Image → Bool

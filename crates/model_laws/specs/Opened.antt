@@ -7,7 +7,7 @@ use Rattle.model.specs.Tables.{rows, everyRow, bytesOf, every, keep, zeros, wri
 use Rattle.model.specs.Plan.{planEntryOf, planEntryBytes, planEntryOk, planRowOk, planOk, planOf, planBytes, entryAt, inRange}
 use Rattle.model.specs.Rules.{argumentRange, inArguments, argumentOk, sumInRange, setRule, stepRule, reportRule, faultRule, partRule, ruleOf}
 use Rattle.model.specs.Packets.{packetLength, idOk, doneOk, commandOk, outcomeOk, requestAt, requestOk, requestBytes, resultAt, resultOk, resultBytes, refusalAt, refusalOk, refusalBytes, receiptAt, receiptOk, receiptBytes, noticeAt, noticeOk, noticeBytes, grantAt, grantOk, grantBytes, whole, parseRequest, parseResult, parseRefusal, parseReceipt, parseNotice, parseGrant, parsePacket, packetBytes, asRequest, asReceipt, asNotice}
-use Rattle.model.specs.Images.{floorOfBytes, floorBytes, imageEntryOf, imageEntryBytes, floorOf, inWindow, clientsAscend, idBefore, idsAscend, floorOk, imageEntryOk, imageHeadOf, imageAt, imageFramed, imageParts, imageHeadOk, entryRowOk, imageTablesOk, imageOk, parseImage, entryInRange, imageInRange, imageLength, imageHeadBytes, imageBytes}
+use Rattle.model.specs.Images.{floorOfBytes, floorBytes, imageEntryOf, imageEntryBytes, floorOf, inWindow, clientsAscend, idBefore, idsAscend, floorOk, imageEntryOk, entryWidth, imageHead, imageHeadOf, imageAt, imageFramed, imageParts, imageHeadOk, entryRowOk, imageTablesOk, imageOk, parseImage, entryInRange, imageInRange, imageLength, imageHeadBytes, imageBytes}
 use Rattle.model.specs.Logs.{headBytes, headServer, headOk, executedAt, executedOk, executedBytes, giveAt, giveOk, giveBytes, takeBytes, releaseAt, releaseOk, releaseBytes, recordBytes, recordSize, within, takeExtent, extentOf, takeParsed, recordAt, walkEnds, endsOf, lastOf, wholeEnd, entriesTo, entriesBytes}
 use Rattle.model.specs.States.{pointAt, isHeld, isGiven, isSynced, pointOf, pointBytes, completionOf, completionBytes, clientsIn, recordsIn, load, stateHeadBytes, padded, stateBytes, endOk, endsInOrder, notGiven, originOk, absentOk, heldOk, givenOk, statusOk, pointOk, pointsOk, keepsRecords, completionOk, isId, idsDiffer, endsFrom, stateFramed, pointRowOk, stateOk, sound}
 use Rattle.model.specs.Apply.{raise, mergeFloors, isNotClient, staysOver, staysOverFloors, isOfOther, isOnOther, executedPoint, completion, applyExecuted, applyGone, gavePoint, applyGave, tookPoint, takenRecord, applyTook, releasedPoint, applyReleased, applyRecord, apply, foundedPoint, founded, replayFrom, replay, withMark}
@@ -61,7 +61,7 @@ unfolding floorOfBytes floorBytes imageEntryOf imageEntryBytes floorOf inWindow 
 openImageRows = tt
 
 unfoldable pub openImages : Opens
-unfolding openImageRows imageHeadOf imageAt imageFramed imageParts imageHeadOk entryRowOk imageTablesOk imageOk parseImage entryInRange imageInRange imageLength imageHeadBytes imageBytes
+unfolding openImageRows entryWidth imageHead imageHeadOf imageAt imageFramed imageParts imageHeadOk entryRowOk imageTablesOk imageOk parseImage entryInRange imageInRange imageLength imageHeadBytes imageBytes
 openImages = tt
 
 -- Logs: records, a log

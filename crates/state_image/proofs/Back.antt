@@ -13,11 +13,11 @@ use native.Mathlib.Nat.{zero-add}
 use lib.ListN.{length, take}
 use Rattle.model.specs.Limits.{lastPoint, greatestImage}
 use Rattle.model.specs.Tables.{written}
-use Rattle.model.specs.Images.{imageBytes, imageLength, parseImage}
+use Rattle.model.specs.Images.{imageBytes, imageLength, parseImage, imageHead}
 use Rattle.model.specs.States.{load}
 use Rattle.model.specs.Decisions.{imageFor}
 use Rattle.model_laws.specs.Bytes.{Bytes}
-use Rattle.model_laws.specs.Fits.{Sound, imageHead}
+use Rattle.model_laws.specs.Fits.{Sound}
 use Rattle.model_laws.proofs.Written.{take-written-run}
 use Rattle.model_laws.proofs.Images.{image-length, image-back, image-is}
 use Rattle.model_invariants.specs.Sound.{GoodImage}

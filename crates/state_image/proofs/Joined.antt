@@ -16,11 +16,12 @@ use Rattle.model.specs.declared.ImageHead.{ImageHead}
 use Rattle.model.specs.declared.Point.{Point}
 use Rattle.model.specs.Limits.{recordCount, callWindow, entryRow}
 use Rattle.model.specs.Tables.{bytesOf, written}
-use Rattle.model.specs.Images.{imageEntryBytes}
+use Rattle.model.specs.Images.{imageEntryBytes, imageHead}
 use Rattle.model.specs.States.{load, clientsIn, recordsIn, completionOf, pointAt, recordRow, recordsStart}
 use Rattle.model.specs.Decisions.{entryOfRecord, imageFor}
 use Rattle.model_laws.specs.Bytes.{Bytes}
-use Rattle.model_laws.specs.Fits.{Sound, imageHead}
+use Rattle.model_laws.specs.Fits.{Sound}
+use Rattle.model_laws.proofs.Images.{entryCodec}
 use Rattle.model_invariants.specs.Sound.{Sound as StateSound}
 use Rattle.state_image.specs.Slots.{noRecord, pointSlots, entryIn, entriesIn}
 use Rattle.state_image.proofs.Order.{entries-take}
@@ -47,11 +48,11 @@ module _ (p : ℕ) (s : List ℕ) (S : Sound s) {n : ℕ} (q : n ≡ clientsIn s
   unfolding entryIn
   slot-entry v z l x = x ∙ ap entryOfRecord (sym (record-at s (v - 1) (omega arith)))
 
-  module _ {at : ℕ} {s₀ s₁ : List ℕ} {k j : ℕ} (o : Walking (load s .records) (take (callWindow * n) t) at s₀ k j s₁) (l : k < callWindow * n) where
+  module _ {at : ℕ} {s₀ s₁ : List ℕ} {k j : ℕ} (o : Walking entryCodec (load s .records) (take (callWindow * n) t) at s₀ k j s₁) (l : k < callWindow * n) where
     short : k < length (take (callWindow * n) t)
     short = omega (arith, slots-count)
 
-    pub next-skip : getD t k 0 ≡ 0 → Walking (load s .records) (take (callWindow * n) t) at s₀ (k + 1) j s₁
+    pub next-skip : getD t k 0 ≡ 0 → Walking entryCodec (load s .records) (take (callWindow * n) t) at s₀ (k + 1) j s₁
     next-skip z = walk-skip o short (slot-at k l ∙ z)
 
     other : getD t k 0 ≢ 0 → getD (take (callWindow * n) t) k 0 ≢ 0
@@ -61,7 +62,7 @@ module _ (p : ℕ) (s : List ℕ) (S : Sound s) {n : ℕ} (q : n ≡ clientsIn s
     next-room z = omega (arith, slots-count, walk-room o short (other z))
 
     pub next-put : getD t k 0 ≢ 0 → {x : ImageEntry} → x ≡ entryOfRecord (completionOf (drop (recordsStart + recordRow * (getD t k 0 - 1)) s)) → {s₂ : List ℕ}
-        → s₂ ≡ written s₁ (at + entryRow * j) (imageEntryBytes x) → Walking (load s .records) (take (callWindow * n) t) at s₀ (k + 1) (j + 1) s₂
+        → s₂ ≡ written s₁ (at + entryRow * j) (imageEntryBytes x) → Walking entryCodec (load s .records) (take (callWindow * n) t) at s₀ (k + 1) (j + 1) s₂
     next-put z {x} y w =
         walk-put o short (other z) (slot-entry (getD t k 0) z (slot-most k) y ∙ ap (entryIn (load s .records)) (sym (slot-at k l))) w
 
@@ -75,7 +76,7 @@ module _ (p : ℕ) (s : List ℕ) (S : Sound s) {n : ℕ} (q : n ≡ clientsIn s
       ∙ slots-sorted p (load s .floors) (T .clients) (load s .records) (T .ascending) 0 (load s .records) (λ (j : ℕ). ap (λ (i : ℕ). getD (load s .records) i noRecord) (zero-add j)) (T .windows)
       (T .ids)
 
-  pub entries-done : Bytes s → {at : ℕ} {s₀ s₁ : List ℕ} {k j : ℕ} → Walking (load s .records) (take (callWindow * n) t) at s₀ k j s₁ → callWindow * n ≤ k
+  pub entries-done : Bytes s → {at : ℕ} {s₀ s₁ : List ℕ} {k j : ℕ} → Walking entryCodec (load s .records) (take (callWindow * n) t) at s₀ k j s₁ → callWindow * n ≤ k
       → (s₁ ≡ written s₀ at (bytesOf imageEntryBytes (imageFor (load s) p .entries))) × (j ≡ length (imageFor (load s) p .entries))
   entries-done b o l = rw (← entries-image b) (walk-end o (omega (arith, slots-count)))
 

@@ -18,21 +18,20 @@ use Rattle.model.specs.declared.Completion.{Completion}
 use Rattle.model.specs.declared.ImageEntry.{ImageEntry}
 use Rattle.model.specs.Choice.{pick}
 use Rattle.model.specs.Tables.{bytesOf, written}
-use Rattle.model.specs.Images.{imageEntryBytes}
-use Rattle.model.specs.Limits.{entryRow}
+use Rattle.model_laws.specs.Codec.{Codec}
 use Rattle.model_laws.proofs.Written.{length-written, written-none, written-append}
-use Rattle.model_laws.proofs.Images.{entryCodec}
+use Rattle.model_laws.proofs.Tables.{row-next}
 use Rattle.state_image.specs.Slots.{entryIn, entriesIn}
 
--- k slots were passed, and j entries stored behind s₀'s place at
-pub record Walking (rs : List Completion) (u : List ℕ) (at : ℕ) (s₀ : List ℕ) (k j : ℕ) (s : List ℕ) : Type 0 where
+-- k slots were passed, and j entries stored from s₀'s place at on, by a layout C of rows
+pub record Walking (C : Codec ImageEntry) (rs : List Completion) (u : List ℕ) (at : ℕ) (s₀ : List ℕ) (k j : ℕ) (s : List ℕ) : Type 0 where
   pub below : k ≤ length u
   pub same : length s ≡ length s₀
   pub count : j + length (entriesIn rs (drop k u)) ≡ length (entriesIn rs u)
-  pub bytes : written s₀ at (bytesOf imageEntryBytes (entriesIn rs u)) ≡ written s (at + entryRow * j) (bytesOf imageEntryBytes (entriesIn rs (drop k u)))
+  pub bytes : written s₀ at (bytesOf (C .enc) (entriesIn rs u)) ≡ written s (at + C .width * j) (bytesOf (C .enc) (entriesIn rs (drop k u)))
 
-pub walk-start : (rs : List Completion) (u : List ℕ) (at : ℕ) (s : List ℕ) → Walking rs u at s 0 0 s
-walk-start rs u at s = record { below = omega arith; same = refl; count = omega arith; bytes = rw (mul-zero, add-zero) }
+pub walk-start : (C : Codec ImageEntry) (rs : List Completion) (u : List ℕ) (at : ℕ) (s : List ℕ) → Walking C rs u at s 0 0 s
+walk-start C rs u at s = record { below = omega arith; same = refl; count = omega arith; bytes = rw (mul-zero, add-zero) }
 
 entries-length : (rs : List Completion) (t : List ℕ) → length (entriesIn rs t) ≤ length t
 unfolding entriesIn
@@ -58,26 +57,26 @@ module _ (rs : List Completion) (u : List ℕ) (k : ℕ) where
   entries-over l = rw (drop-of-length-le u {i = k} l)
 
 -- an entry before others, as it is written
-next-written : (s : List ℕ) (at j : ℕ) (e : ImageEntry) (es : List ImageEntry)
-    → written s (at + entryRow * j) (bytesOf imageEntryBytes (e ∷ es)) ≡ written (written s (at + entryRow * j) (imageEntryBytes e)) (at + entryRow * (j + 1)) (bytesOf imageEntryBytes es)
+next-written : (C : Codec ImageEntry) (s : List ℕ) (at j : ℕ) (e : ImageEntry) (es : List ImageEntry)
+    → written s (at + C .width * j) (bytesOf (C .enc) (e ∷ es)) ≡ written (written s (at + C .width * j) (C .enc e)) (at + C .width * (j + 1)) (bytesOf (C .enc) es)
 unfolding bytesOf
-next-written s at j e es =
-    let q : at + entryRow * j + entryRow ≡ at + entryRow * (j + 1) = omega arith in
-    written-append s (at + entryRow * j) (imageEntryBytes e) (bytesOf imageEntryBytes es) ∙ rw (entryCodec .enc-width e, q)
+next-written C s at j e es =
+    let q : at + C .width * j + C .width ≡ at + C .width * (j + 1) = omega (arith, row-next (C .width) j) in
+    written-append s (at + C .width * j) (C .enc e) (bytesOf (C .enc) es) ∙ rw (C .enc-width e, q)
 
-module _ {rs : List Completion} {u : List ℕ} {at : ℕ} {s₀ : List ℕ} {k j : ℕ} {s : List ℕ} (o : Walking rs u at s₀ k j s) where
-  pub walk-skip : k < length u → getD u k 0 ≡ 0 → Walking rs u at s₀ (k + 1) j s
+module _ {C : Codec ImageEntry} {rs : List Completion} {u : List ℕ} {at : ℕ} {s₀ : List ℕ} {k j : ℕ} {s : List ℕ} (o : Walking C rs u at s₀ k j s) where
+  pub walk-skip : k < length u → getD u k 0 ≡ 0 → Walking C rs u at s₀ (k + 1) j s
   walk-skip l z =
       let e : entriesIn rs (drop k u) ≡ entriesIn rs (drop (k + 1) u) = entries-skip rs u k l z in
       record {
         below = omega arith;
         same = o .same;
         count = ap (λ (x : List ImageEntry). j + length x) (sym e) ∙ o .count;
-        bytes = o .bytes ∙ ap (λ (x : List ImageEntry). written s (at + entryRow * j) (bytesOf imageEntryBytes x)) e;
+        bytes = o .bytes ∙ ap (λ (x : List ImageEntry). written s (at + C .width * j) (bytesOf (C .enc) x)) e;
       }
 
-  pub walk-put : {e : ImageEntry} {s' : List ℕ} → k < length u → getD u k 0 ≢ 0 → e ≡ entryIn rs (getD u k 0) → s' ≡ written s (at + entryRow * j) (imageEntryBytes e)
-      → Walking rs u at s₀ (k + 1) (j + 1) s'
+  pub walk-put : {e : ImageEntry} {s' : List ℕ} → k < length u → getD u k 0 ≢ 0 → e ≡ entryIn rs (getD u k 0) → s' ≡ written s (at + C .width * j) (C .enc e)
+      → Walking C rs u at s₀ (k + 1) (j + 1) s'
   walk-put {e} {s'} l n p q =
       let x : entriesIn rs (drop k u) ≡ e ∷ entriesIn rs (drop (k + 1) u) = entries-next rs u k l n ∙ rw (← p) in
       record {
@@ -86,8 +85,8 @@ module _ {rs : List Completion} {u : List ℕ} {at : ℕ} {s₀ : List ℕ} {k j
         count = omega (arith, ap length x, o .count);
         bytes =
             o .bytes
-            ∙ ap (λ (y : List ImageEntry). written s (at + entryRow * j) (bytesOf imageEntryBytes y)) x
-            ∙ next-written s at j e (entriesIn rs (drop (k + 1) u))
+            ∙ ap (λ (y : List ImageEntry). written s (at + C .width * j) (bytesOf (C .enc) y)) x
+            ∙ next-written C s at j e (entriesIn rs (drop (k + 1) u))
             ∙ rw (← q);
       }
 
@@ -95,7 +94,7 @@ module _ {rs : List Completion} {u : List ℕ} {at : ℕ} {s₀ : List ℕ} {k j
   pub walk-room : k < length u → getD u k 0 ≢ 0 → j < length u
   walk-room l n = omega (arith, o .count, ap length (entries-next rs u k l n), entries-length rs u)
 
-  pub walk-end : length u ≤ k → (s ≡ written s₀ at (bytesOf imageEntryBytes (entriesIn rs u))) × (j ≡ length (entriesIn rs u))
+  pub walk-end : length u ≤ k → (s ≡ written s₀ at (bytesOf (C .enc) (entriesIn rs u))) × (j ≡ length (entriesIn rs u))
   unfolding bytesOf
   walk-end l =
       let e : entriesIn rs (drop k u) ≡ [] = entries-over rs u k l in

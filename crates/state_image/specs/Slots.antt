@@ -1,6 +1,6 @@
 -- A point's completion records by slot: the order of slots is that of an image.
 -- Assumes nothing.
-use Prim.Native.Nat.{ℕ, suc, _+_, _-_, _*_}
+use Prim.Native.Nat.{ℕ, suc, _-_}
 use mathlib.Core.Path.{_≡_}
 use mathlib.Core.List.{List, [], _∷_}
 use lib.ListN.{length, getD, set, replicate}
@@ -9,10 +9,10 @@ use Rattle.model.specs.declared.Floor.{Floor}
 use Rattle.model.specs.declared.Completion.{Completion}
 use Rattle.model.specs.declared.ImageEntry.{ImageEntry}
 use Rattle.model.specs.Choice.{pick}
-use Rattle.model.specs.Limits.{recordCount, leastImage, floorRow}
+use Rattle.model.specs.Limits.{recordCount}
 use Rattle.model.specs.Tables.{bytesOf, written}
 use Rattle.model.specs.Images.{imageEntryBytes}
-use Rattle.model.specs.States.{State, load, clientsIn}
+use Rattle.model.specs.States.{State, load}
 use Rattle.model.specs.Decisions.{isOnPoint, entryOfRecord, imageFor}
 use Rattle.state_clients.specs.Places.{slotOf}
 
@@ -43,8 +43,8 @@ unfoldable pub entriesIn : List Completion → List ℕ → List ImageEntry
 entriesIn rs [] = []
 entriesIn rs (v ∷ vs) = pick (eqb v 0) (entriesIn rs vs) (entryIn rs v ∷ entriesIn rs vs)
 
--- the entries of the point's image stored in out behind the floors, which left t; n of them
-abbrev pub EntriesPut : ℕ → List ℕ → List ℕ → List ℕ → ℕ → Type 0
-EntriesPut point s out t n =
-    (t ≡ written out (leastImage + floorRow * clientsIn s) (bytesOf imageEntryBytes (imageFor (load s) point .entries)))
+-- the entries of the point's image stored in out from at on, which left t; n of them
+abbrev pub EntriesPut : ℕ → List ℕ → ℕ → List ℕ → List ℕ → ℕ → Type 0
+EntriesPut point s at out t n =
+    (t ≡ written out at (bytesOf imageEntryBytes (imageFor (load s) point .entries)))
     × (n ≡ length (imageFor (load s) point .entries))

@@ -6,9 +6,7 @@ use model::ImageHead;
 use model::constants;
 use model::constants::CALL_WINDOW;
 use model::constants::ENTRY_ROW;
-use model::constants::FLOOR_ROW;
 use model::constants::FLOORS_START;
-use model::constants::LEAST_IMAGE;
 use model::constants::RECORD_ROW;
 use model::constants::RECORDS_START;
 use state_clients::floors;
@@ -16,12 +14,12 @@ use state_rows::state;
 ghost use mathlib.Core.Path.{_≡_};
 ghost use Prim.Native.Nat.{_+_, _*_, _≤_};
 ghost use lib.ListN.{length, drop};
-ghost use Rattle.model.specs.Limits.{lastPoint, greatestImage};
+ghost use Rattle.model.specs.Limits.{lastPoint, greatestImage, recordCount, entryRow};
 ghost use Rattle.model.specs.Tables.{written};
-ghost use Rattle.model.specs.Images.{imageBytes, imageLength};
+ghost use Rattle.model.specs.Images.{imageBytes, imageLength, imageHead};
 ghost use Rattle.model.specs.States.{load, completionOf, recordsStart, recordRow};
 ghost use Rattle.model.specs.Decisions.{entryOfRecord, imageFor};
-ghost use Rattle.model_laws.specs.Fits.{Sound, imageHead};
+ghost use Rattle.model_laws.specs.Fits.{Sound};
 ghost use Rattle.state_image.specs.Slots.{pointSlots, EntriesPut};
 
 // ---- the records of a point, by slot
@@ -61,21 +59,22 @@ fn entry_of(s: &[u8], i: usize) -> ImageEntry
     }
 }
 
-// Stores the point's entries behind the floors, slot by slot, and answers their number.
-fn write_entries(out: &mut [u8], s: &[u8], point: u8) -> usize
-    requires { ⌜ (Sound (now s)) × (greatestImage ≤ length (now out)) ⌝ }
-    ensures { λ r. ⌜ EntriesPut point (now (s .entry)) (now (out .entry)) (now (out .exit)) r ⌝ }
+// Stores the point's entries from at on, slot by slot, and answers their number.
+fn write_entries(out: &mut [u8], at: usize, s: &[u8], point: u8) -> usize
+    requires { ⌜ (Sound (now s)) × (at + entryRow * recordCount ≤ length (now out)) ⌝ }
+    ensures { λ r. ⌜ EntriesPut point (now (s .entry)) at (now (out .entry)) (now (out .exit)) r ⌝ }
 {
     let n = state_rows::clients_in(s) as usize;
     let slots = point_slots(s, point);
     let mut j = 0;
     let mut k = 0;
     while k < CALL_WINDOW * n {
-        let v = slots[k] as usize;
+        let slot = slots[k] as usize;
         k += 1;
-        if v != 0 {
-            let e = entry_of(s, v - 1);
-            format_image_writer::write_entry(out, n, j, e);
+        if slot != 0 {
+            let entry = entry_of(s, slot - 1);
+            let place = format_image_rows::entry_at(at, ENTRY_ROW, j);
+            format_image_writer::put_entry(out, place, entry);
             j += 1;
         }
     }
@@ -106,12 +105,17 @@ fn head_for(s: &[u8], point: u8, entries: u32) -> ImageHead
 // Stores the image of the point at the front of out, and answers its length.
 pub fn write_image(out: &mut [u8], s: &[u8], point: u8) -> usize
     requires { ⌜ (Sound (now s)) × (point ≤ lastPoint) × (greatestImage ≤ length (now out)) ⌝ }
-    ensures { λ r. ⌜ (now (out .exit) ≡ written (now (out .entry)) 0 (imageBytes (imageFor (load (now (s .entry))) point))) × (r ≡ imageLength (imageFor (load (now (s .entry))) point)) ⌝ }
+    ensures {
+        λ r. ⌜ (now (out .exit) ≡ written (now (out .entry)) 0 (imageBytes (imageFor (load (now (s .entry))) point)))
+            × (r ≡ imageLength (imageFor (load (now (s .entry))) point)) ⌝
+    }
 {
-    let n = state_rows::clients_in(s) as usize;
-    format_image_writer::write_floors(out, &s[FLOORS_START..], n);
-    let m = write_entries(out, s, point);
-    let h = head_for(s, point, m as u32);
+    let floors = state_rows::clients_in(s);
+    format_image_writer::write_floors(out, &s[FLOORS_START..], floors as usize);
+    let at = format_image_rows::entries_start(floors);
+    let n = write_entries(out, at, s, point);
+    let h = head_for(s, point, n as u32);
     format_image_writer::write_head(out, h);
-    LEAST_IMAGE + FLOOR_ROW * n + ENTRY_ROW * m
+    let width = format_image_rows::entry_width(h);
+    format_image_rows::entry_at(at, width, n)
 }

@@ -1,6 +1,9 @@
 -- `format_image_reader::entry_step` meets its contract.
 -- Assumes nothing.
+use Prim.Native.Nat.{_+_}
+use native.Mathlib.Omega.{arith}
 use borrow.Author.Needs.{needs}
+use Rattle.model_laws.proofs.Tables.{row-in}
 use Rattle.format_image_reader.proofs.Tables.{entry-last, entry-before}
 use Rattle.format_image_reader.proofs.entry_step.Statement.{statement}
 use Rattle.format_image_reader.proofs.entry_step.Tie as tie
@@ -8,12 +11,18 @@ use Rattle.format_image_reader.proofs.entry_step.Tie as tie
 returns : tie.Need-returns
 returns c =
     let start = c .before .before .before .before .before .args in
-    entry-last (start .s .now) (start .k) _ _ _ (c .before .before .entry-from .ensures) (c .before .before .before .entry-row-ok .ensures) (c .before .entry-fields-ok .ensures) (c .if1 .taken)
+    entry-last (start .s .now) (start .k) _ _ _ (start .width) (c .before .before .entry-from .ensures) (c .before .before .before .entry-row-ok .ensures) (c .before .entry-fields-ok .ensures) (c .if1 .taken)
+
+id-before-requires : tie.Need-id-before-requires
+id-before-requires c κs =
+    let start = c .before .before .before .before .before in
+    let second = row-in (start .args .width) 1 (start .args .left + 1) (omega (arith, c .if1 .left)) in
+    (omega (arith, start .pre, second), omega (arith, start .pre, second))
 
 returns-2 : tie.Need-returns-2
 returns-2 c =
     let start = c .before .before .before .before .before .before .args in
-    entry-before (start .s .now) (start .k) _ _ _ (c .before .before .before .entry-from .ensures) (c .before .before .before .before .entry-row-ok .ensures)
+    entry-before (start .s .now) (start .k) _ _ _ (start .width) (c .before .before .before .entry-from .ensures) (c .before .before .before .before .entry-row-ok .ensures)
     (c .before .before .entry-fields-ok .ensures) (c .before .if1 .left) (c .id-before .ensures)
 
 pub entry-step-spec : {M : Type 1} → statement M
@@ -24,5 +33,5 @@ entry-step-spec =
     (λ c κs. search needs)
     (λ c κs. search needs)
     returns
-    (λ c κs. search needs)
+    id-before-requires
     returns-2)

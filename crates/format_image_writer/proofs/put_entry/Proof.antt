@@ -23,11 +23,11 @@ returns c =
     let k = start .k in
     rw (c5 .write-4 .ensures, c4 .write-signed2 .ensures, c3 .write-signed .ensures, c2 .write-u322 .ensures, c1 .write-u32 .ensures)
     (runs-stored (start .out .now) k
-    (run (le32 (start .e .client)) (k + 4) refl
-    (run (le32 (start .e .call)) (k + 8) (omega arith)
-    (run (signed32 (start .e .argument)) (k + 12) (omega arith)
-    (run (signed32 (start .e .result .value)) (k + 16) (omega arith)
-    (last (quad (start .e .op) (start .e .result .outcome) (start .e .result .quality) 0)))))))
+    (run (le32 (start .entry .client)) (k + 4) refl
+    (run (le32 (start .entry .call)) (k + 8) (omega arith)
+    (run (signed32 (start .entry .argument)) (k + 12) (omega arith)
+    (run (signed32 (start .entry .result .value)) (k + 16) (omega arith)
+    (last (quad (start .entry .op) (start .entry .result .outcome) (start .entry .result .quality) 0)))))))
 
 pub put-entry-spec : {M : Type 1} → statement M
 put-entry-spec =

@@ -1,118 +1,98 @@
 -- `state_image::write_entries` meets its contract.
 -- Assumes nothing.
-use Prim.Native.Nat.{_+_, _-_, _*_}
+use Prim.Native.Nat.{_-_, _*_, _<_}
 use native.Mathlib.Omega.{arith}
 use lib.ListN.{take}
 use borrow.Author.Needs.{needs}
 use Rattle.model.specs.States.{load}
-use Rattle.model.specs.Limits.{callWindow, floorRow, leastImage}
+use Rattle.model.specs.Limits.{callWindow, recordCount}
 use Rattle.model_laws.specs.Bytes.{Bytes}
+use Rattle.model_laws.proofs.Images.{entryCodec}
 use Rattle.state_image.proofs.Writing.{Walking, walk-start}
 use Rattle.state_image.proofs.Joined.{slot-most, next-skip, next-put, next-room, entries-done}
 use Rattle.state_image.proofs.write_entries.Statement.{statement}
 use Rattle.state_image.proofs.write_entries.Tie as tie
 
 abbrev Inv-loop : tie.InvT-loop
-Inv-loop out₀ s point n slots j₀ k₀ out j k = Walking (load s .records) (take (callWindow * n) slots) (leastImage + floorRow * n) out₀ k j out
+Inv-loop out₀ at s point n slots j₀ k₀ out j k = Walking entryCodec (load s .records) (take (callWindow * n) slots) at out₀ k j out
 
 abbrev μ-loop : tie.MeasureT-loop
-μ-loop out₀ s point n slots j₀ k₀ out j k = callWindow * n - k
+μ-loop out₀ at s point n slots j₀ k₀ out j k = callWindow * n - k
+
+-- ---- the places on the way
+
+abbrev clients-at : tie.At-loop Inv-loop μ-loop → tie.After-clients-in Inv-loop μ-loop
+clients-at c = c .before .before
+
+abbrev start-of : tie.At-loop Inv-loop μ-loop → tie.Start Inv-loop μ-loop
+start-of c = c .before .before .before .before .before
+
+-- ---- the needs
+
+-- an entry that is still to be written is one of 512
+room : (c : tie.Then1 Inv-loop μ-loop) → c .before .before .loop .j < recordCount
+room c =
+    let loop = c .before .before in
+    let start = start-of loop in
+    omega (
+      arith,
+      start .pre .0 .few-clients,
+      clients-at loop .clients-in .ensures,
+      next-room (start .args .point) (start .args .s .now) (start .pre .0) (clients-at loop .clients-in .ensures) (loop .before .point-slots .ensures)
+          (loop .loop .inv) (c .before .loop-test .taken) (c .if1 .taken),
+    )
 
 loop-holds : tie.Need-loop-holds Inv-loop μ-loop
-loop-holds c =
-    let clients = c .before in
-    let a = clients .before .before .before .args in
-    walk-start (load (a .s .now) .records) (take (callWindow * clients .clients-in .result) (c .point-slots .result)) (leastImage + floorRow * clients .clients-in .result) (a .out .now)
+loop-holds c = let a = c .before .before .before .before .args in walk-start entryCodec (load (a .s .now) .records) _ (a .at) (a .out .now)
 
 entry-of-requires : tie.Need-entry-of-requires Inv-loop μ-loop
 entry-of-requires c κs =
     let loop = c .before .before in
-    let slots = loop .before in
-    let clients = slots .before in
-    let known = clients .before in
-    let start = known .before .before in
-    let a = start .args in
+    let start = start-of loop in
     omega (
       arith,
       start .pre .0 .long,
       start .pre .0 .few-records,
       c .if1 .taken,
-      slot-most (a .point) (a .s .now) (start .pre .0) (clients .clients-in .ensures) (slots .point-slots .ensures)
+      slot-most (start .args .point) (start .args .s .now) (start .pre .0) (clients-at loop .clients-in .ensures) (loop .before .point-slots .ensures)
           (loop .loop .k),
     )
 
-write-entry-requires : tie.Need-write-entry-requires Inv-loop μ-loop
-write-entry-requires c κs =
-    let at-if1 = c .before .before in
-    let at-loop-test = at-if1 .before in
-    let loop = at-loop-test .before in
-    let slots = loop .before in
-    let clients = slots .before in
-    let known = clients .before in
-    let start = known .before .before in
-    let a = start .args in
-    omega (
-      arith,
-      start .pre .1,
-      start .pre .0 .few-clients,
-      clients .clients-in .ensures,
-      loop .loop .inv .same,
-      next-room (a .point) (a .s .now) (start .pre .0) (clients .clients-in .ensures)
-          (slots .point-slots .ensures) (loop .loop .inv) (at-loop-test .loop-test .taken) (at-if1 .if1 .taken),
-    )
+entry-at-requires : tie.Need-entry-at-requires Inv-loop μ-loop
+entry-at-requires c κs = omega (arith, start-of (c .before .before .before) .pre .1, room (c .before))
+
+put-entry-requires : tie.Need-put-entry-requires Inv-loop μ-loop
+put-entry-requires c κs =
+    let taken = c .before .before .before in
+    let loop = taken .before .before in
+    omega (arith, start-of loop .pre .1, loop .loop .inv .same, c .before .entry-at .ensures, room taken)
 
 add-j : tie.Need-add-j Inv-loop μ-loop
-add-j c =
-    let at-if1 = c .before .before .before .before .before in
-    let at-loop-test = at-if1 .before in
-    let loop = at-loop-test .before in
-    let slots = loop .before in
-    let clients = slots .before in
-    let known = clients .before in
-    let start = known .before .before in
-    let a = start .args in
-    omega (
-      arith,
-      start .pre .0 .few-clients,
-      clients .clients-in .ensures,
-      next-room (a .point) (a .s .now) (start .pre .0) (clients .clients-in .ensures) (slots .point-slots .ensures)
-          (loop .loop .inv) (at-loop-test .loop-test .taken) (at-if1 .if1 .taken),
-    )
+add-j c = omega (arith, room (c .before .before .before .before .before .before))
 
 loop-again : tie.Need-loop-again Inv-loop μ-loop
 loop-again c =
-    let at-write-entry = c .before .before in
-    let read = at-write-entry .before .before in
-    let loop = read .before .before .before in
-    let slots = loop .before in
-    let clients = slots .before in
-    let known = clients .before in
-    let start = known .before .before in
-    let a = start .args in
-    next-put (a .point) (a .s .now) (start .pre .0) (clients .clients-in .ensures) (slots .point-slots .ensures) (loop .loop .inv) (read .before .before .loop-test .taken) (read .before .if1 .taken)
-    (read .entry-of .ensures) (at-write-entry .write-entry .ensures)
+    let put = c .before .before in
+    let place = put .before .before in
+    let taken = place .before .before in
+    let loop = taken .before .before in
+    let start = start-of loop in
+    next-put (start .args .point) (start .args .s .now) (start .pre .0) (clients-at loop .clients-in .ensures) (loop .before .point-slots .ensures) (loop .loop .inv) (taken .before .loop-test .taken)
+    (taken .if1 .taken) (place .before .entry-of .ensures) (rw (place .entry-at .ensures) at (put .put-entry .ensures))
 
 loop-again-2 : tie.Need-loop-again-2 Inv-loop μ-loop
 loop-again-2 c =
     let loop = c .before .before in
-    let slots = loop .before in
-    let clients = slots .before in
-    let known = clients .before in
-    let start = known .before .before in
-    let a = start .args in
-    next-skip (a .point) (a .s .now) (start .pre .0) (clients .clients-in .ensures) (slots .point-slots .ensures) (loop .loop .inv) (c .before .loop-test .taken) (c .if1 .left)
+    let start = start-of loop in
+    next-skip (start .args .point) (start .args .s .now) (start .pre .0) (clients-at loop .clients-in .ensures) (loop .before .point-slots .ensures) (loop .loop .inv) (c .before .loop-test .taken)
+    (c .if1 .left)
 
 returns : tie.Need-returns Inv-loop μ-loop
 returns c =
     let loop = c .before in
-    let slots = loop .before in
-    let clients = slots .before in
-    let known = clients .before in
-    let start = known .before .before in
-    let a = start .args in
-    let b : Bytes (a .s .now) = λ i. known .shared-slice-known .given i .fits in
-    rw (← clients .clients-in .ensures)
-    (entries-done (a .point) (a .s .now) (start .pre .0) (clients .clients-in .ensures) (slots .point-slots .ensures) b (loop .loop .inv) (c .loop-test .left))
+    let start = start-of loop in
+    let b : Bytes (start .args .s .now) = λ i. clients-at loop .before .shared-slice-known .given i .fits in
+    entries-done (start .args .point) (start .args .s .now) (start .pre .0) (clients-at loop .clients-in .ensures) (loop .before .point-slots .ensures) b (loop .loop .inv) (c .loop-test .left)
 
 pub write-entries-spec : {M : Type 1} → statement M
 write-entries-spec =
@@ -131,7 +111,8 @@ write-entries-spec =
     (λ c. search needs)
     (λ c. search needs)
     entry-of-requires
-    write-entry-requires
+    entry-at-requires
+    put-entry-requires
     add-j
     (λ c. search needs)
     loop-again
