@@ -145,7 +145,7 @@ pub extern "C" fn mantelorris_recover(state: &mut [u8], log: &[u8], plan: &[u8])
     ensures { λ r. ⌜ returned r (now (state .exit)) (now (log .entry)) []
         ≡ inC (recoverOf (now (state .entry)) (now (log .entry)) (now (plan .entry))) ⌝ }
 {
-    word_of(server_recover::recover(state, log, plan))
+    word_of(server_recover::recover::recover(state, log, plan))
 }
 
 // The state of a checkpoint and the kept tail that follows it. The tail slice is what was kept, no more.
@@ -158,7 +158,7 @@ pub extern "C" fn mantelorris_recover_checkpoint(
     ensures { λ r. ⌜ returned r (now (state .exit)) (now (tail .entry)) []
         ≡ inC (recoverTailOf (now (state .entry)) (now (checkpoint .entry)) (now (tail .entry))) ⌝ }
 {
-    word_of(server_recover::recover_checkpoint(state, checkpoint, tail))
+    word_of(server_recover::recover_checkpoint::recover_checkpoint(state, checkpoint, tail))
 }
 
 // A checkpoint of the state, and the head of the tail that follows it.
@@ -169,8 +169,10 @@ pub extern "C" fn mantelorris_checkpoint(
     checkpoint: &mut [u8],
     tail: &mut [u8],
 ) -> u64
-    ensures { λ r. ⌜ checkpointReturned r (now (state .exit)) (now (log .entry)) (now (checkpoint .exit)) (now (tail .exit))
-        ≡ checkpointInC (checkpointOf (now (state .entry)) (now (log .entry)) (now (checkpoint .entry)) (now (tail .entry))) ⌝ }
+    ensures { λ r. ⌜ checkpointReturned r (now (state .exit)) (now (log .entry))
+        (now (checkpoint .exit)) (now (tail .exit))
+        ≡ checkpointInC (checkpointOf (now (state .entry)) (now (log .entry))
+        (now (checkpoint .entry)) (now (tail .entry))) ⌝ }
 {
     word_of(server_checkpoint::checkpoint(state, log, checkpoint, tail))
 }
@@ -195,5 +197,5 @@ pub extern "C" fn mantelorris_inspect(
 ) -> Place
     ensures { λ r. ⌜ r ≡ inspectOf (now (state .entry)) (now (checkpoint .entry)) (now (tail .entry)) client call ⌝ }
 {
-    server_inspect::place(state, checkpoint, tail, client, call)
+    server_inspect::place::place(state, checkpoint, tail, client, call)
 }

@@ -1,6 +1,4 @@
-// What every call of a server has: the tests of lent memory, which come first, the space left in the log, and the
-// answer.
-use model::Answer;
+// The memory that is lent to every call of a server: its tests, which come first, and the space left in the log.
 use model::constants::NO_REFUSAL;
 use model::constants::STATE_SIZE;
 use model::constants::TOO_SHORT;
@@ -10,9 +8,7 @@ ghost use mathlib.Core.Path.{_≡_};
 ghost use Prim.Native.Nat.{_≤_};
 ghost use lib.ListN.{length};
 ghost use Rattle.model.specs.States.{load, stateEnd};
-ghost use Rattle.model.specs.Operations.{answerOf, unfit, lentRefusal, freeIn};
-
-// ---- lent memory
+ghost use Rattle.model.specs.Operations.{unfit, lentRefusal, freeIn};
 
 // 19: the state is not sound, or the log slice is shorter than its recorded length.
 fn is_unfit(s: &[u8], log: &[u8]) -> bool
@@ -46,26 +42,4 @@ pub fn free_in(s: &[u8], log: &[u8]) -> usize
 {
     let size = state::size_of(s);
     log.len() - size as usize
-}
-
-// ---- answers
-
-// A refusal's number, and no packet.
-pub fn refused(n: u32) -> Answer
-    ensures { λ r. ⌜ r ≡ answerOf n 0 ⌝ }
-{
-    Answer {
-        refusal: n,
-        wrote: 0,
-    }
-}
-
-// Not refused, and n bytes written.
-pub fn made(n: u32) -> Answer
-    ensures { λ r. ⌜ r ≡ answerOf 0 n ⌝ }
-{
-    Answer {
-        refusal: NO_REFUSAL,
-        wrote: n,
-    }
 }

@@ -51,7 +51,7 @@ fn give_done(s: &mut [u8], log: &mut [u8], point: u8, destination: u8) -> Answer
     };
     format_log_writer::append_give(log, size as usize, g);
     server_apply::apply_gave(s, g, size + constants::GIVE_SIZE_U64);
-    server_memory::made(0)
+    server_decide::made(0)
 }
 
 // 2; 19; 1; 3; 11 destination is this server; 16 move number at its greatest; 9; else the point is given.
@@ -61,7 +61,7 @@ pub fn give(s: &mut [u8], log: &mut [u8], point: u32, destination: u32) -> Answe
 {
     let n = give_number(s, log, point, destination);
     if n != 0 {
-        return server_memory::refused(n);
+        return server_decide::refused(n);
     }
     give_done(s, log, point as u8, destination as u8)
 }

@@ -1,5 +1,5 @@
-// Image: what a server knows of a point that it has given. It answers and leaves its lent slices as its definition says,
-// for all arguments.
+// Image: what a server knows of a point that it has given. It answers and leaves its lent slices as its definition
+// says, for all arguments.
 use model::Answer;
 use model::constants;
 use state_rows::state;
@@ -23,10 +23,10 @@ fn image_made(s: &[u8], point: u8, out: &mut [u8]) -> Answer
     let mark = state::mark_of(s);
     let refusal = server_decide::image_refusal(x, mark);
     if refusal != 0 {
-        return server_memory::refused(refusal);
+        return server_decide::refused(refusal);
     }
     let size = state_image::write_image(out, s, point);
-    server_memory::made(size as u32)
+    server_decide::made(size as u32)
 }
 
 // 2; 19; 1; 3 not given, or released; 7 give not synced; else the image of the point.
@@ -36,7 +36,7 @@ pub fn image(s: &[u8], log: &[u8], point: u32, out: &mut [u8]) -> Answer
 {
     let refusal = crate::point::place_number(s, log, out.len(), constants::GREATEST_IMAGE, point);
     if refusal != 0 {
-        return server_memory::refused(refusal);
+        return server_decide::refused(refusal);
     }
     image_made(s, point as u8, out)
 }

@@ -23,7 +23,7 @@ fn receipt_made(s: &[u8], point: u8, out: &mut [u8]) -> Answer
     let mark = state::mark_of(s);
     let refusal = server_decide::receipt_refusal(x, mark);
     if refusal != 0 {
-        return server_memory::refused(refusal);
+        return server_decide::refused(refusal);
     }
     let receipt = Receipt {
         point,
@@ -31,7 +31,7 @@ fn receipt_made(s: &[u8], point: u8, out: &mut [u8]) -> Answer
         moveNumber: x.takenMove,
     };
     format_packet_writer::write_receipt(out, receipt);
-    server_memory::made(constants::RECEIPT_SIZE_U32)
+    server_decide::made(constants::RECEIPT_SIZE_U32)
 }
 
 // 2; 19; 1; 3 never taken; 7 latest take not synced; else the receipt of the latest taken move.
@@ -41,7 +41,7 @@ pub fn receipt(s: &[u8], log: &[u8], point: u32, out: &mut [u8]) -> Answer
 {
     let refusal = crate::point::place_number(s, log, out.len(), constants::RECEIPT_SIZE, point);
     if refusal != 0 {
-        return server_memory::refused(refusal);
+        return server_decide::refused(refusal);
     }
     receipt_made(s, point as u8, out)
 }

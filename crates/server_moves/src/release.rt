@@ -35,7 +35,7 @@ fn release_done(s: &mut [u8], log: &mut [u8], point: u8) -> Answer
     };
     format_log_writer::append_release(log, size as usize, q);
     server_apply::apply_released(s, q, size + constants::RELEASE_SIZE_U64);
-    server_memory::made(0)
+    server_decide::made(0)
 }
 
 // By a receipt: 3 the point is not given, or no longer; 12 a receipt of an earlier move; 9; else the point is released.
@@ -49,7 +49,7 @@ fn release_by(s: &mut [u8], log: &mut [u8], q: Receipt) -> Answer
     let free = server_memory::free_in(s, log);
     let n = server_decide::release_refusal(x, free, q.moveNumber);
     if n != 0 {
-        return server_memory::refused(n);
+        return server_decide::refused(n);
     }
     release_done(s, log, q.point)
 }
@@ -61,13 +61,13 @@ fn release_on(s: &mut [u8], log: &mut [u8], p: Packet) -> Answer
         ≡ settledBy (λ st free. onRelease st free p) (now (s .entry)) (now (log .entry)) [] ⌝ }
 {
     match p {
-        Packet::Malformed => server_memory::refused(constants::MALFORMED),
-        Packet::Requested(_) => server_memory::refused(constants::MALFORMED),
-        Packet::Resulted(_) => server_memory::refused(constants::MALFORMED),
-        Packet::Refused(_) => server_memory::refused(constants::MALFORMED),
+        Packet::Malformed => server_decide::refused(constants::MALFORMED),
+        Packet::Requested(_) => server_decide::refused(constants::MALFORMED),
+        Packet::Resulted(_) => server_decide::refused(constants::MALFORMED),
+        Packet::Refused(_) => server_decide::refused(constants::MALFORMED),
         Packet::Receipted(q) => release_by(s, log, q),
-        Packet::Noticed(_) => server_memory::refused(constants::MALFORMED),
-        Packet::Granted(_) => server_memory::refused(constants::MALFORMED),
+        Packet::Noticed(_) => server_decide::refused(constants::MALFORMED),
+        Packet::Granted(_) => server_decide::refused(constants::MALFORMED),
     }
 }
 
@@ -78,7 +78,7 @@ pub fn release(s: &mut [u8], log: &mut [u8], packet: &[u8]) -> Answer
 {
     let n = server_memory::lent_refusal(s, log, 0, 0);
     if n != 0 {
-        return server_memory::refused(n);
+        return server_decide::refused(n);
     }
     let p = format_packet_reader::parse_packet(packet);
     release_on(s, log, p)

@@ -69,7 +69,7 @@ fn take_done(s: &mut [u8], log: &mut [u8], image: &[u8], h: ImageHead) -> Answer
     format_log_writer::append_take(log, size as usize, image);
     let end = size + constants::TAKE_HEAD_U64 + image.len() as u64;
     server_apply::took::apply_took(s, image, h, end);
-    server_memory::made(0)
+    server_decide::made(0)
 }
 
 // Of a well-formed image.
@@ -81,7 +81,7 @@ fn take_by(s: &mut [u8], log: &mut [u8], image: &[u8], h: ImageHead) -> Answer
 {
     let n = take_number(s, log, image, h);
     if n != 0 {
-        return server_memory::refused(n);
+        return server_decide::refused(n);
     }
     take_done(s, log, image, h)
 }
@@ -93,11 +93,11 @@ pub fn take(s: &mut [u8], log: &mut [u8], image: &[u8]) -> Answer
 {
     let n = server_memory::lent_refusal(s, log, 0, 0);
     if n != 0 {
-        return server_memory::refused(n);
+        return server_decide::refused(n);
     }
     let f = format_image_reader::image_read(image);
     match f {
-        ImageRead::Malformed => server_memory::refused(constants::MALFORMED),
+        ImageRead::Malformed => server_decide::refused(constants::MALFORMED),
         ImageRead::Head(h) => take_by(s, log, image, h),
     }
 }

@@ -21,12 +21,12 @@ fn fetched(s: &[u8], client: u32, call: u32, out: &mut [u8]) -> Answer
 {
     let found = state_records::find(s, client, call);
     match found {
-        Found::Nothing => server_memory::refused(constants::UNKNOWN),
+        Found::Nothing => server_decide::refused(constants::UNKNOWN),
         Found::At(r) => {
             let mark = state::mark_of(s);
             let refusal = server_decide::fetch_refusal(mark, r);
             if refusal != 0 {
-                return server_memory::refused(refusal);
+                return server_decide::refused(refusal);
             }
             crate::reply::reply(out, r)
         }
@@ -40,7 +40,7 @@ pub fn fetch(s: &[u8], log: &[u8], client: u32, call: u32, out: &mut [u8]) -> An
 {
     let refusal = server_memory::lent_refusal(s, log, out.len(), constants::RESULT_SIZE);
     if refusal != 0 {
-        return server_memory::refused(refusal);
+        return server_decide::refused(refusal);
     }
     fetched(s, client, call, out)
 }

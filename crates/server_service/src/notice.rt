@@ -25,12 +25,12 @@ fn noticed(s: &mut [u8], log: &mut [u8], n: Notice) -> Answer
     let free = server_memory::free_in(s, log);
     let m = server_decide::notice_refusal(floor, free);
     if m != 0 {
-        return server_memory::refused(m);
+        return server_decide::refused(m);
     }
     let size = state::size_of(s);
     format_log_writer::append_gone(log, size as usize, n);
     server_apply::apply_gone(s, n, size + constants::GONE_SIZE_U64);
-    server_memory::made(0)
+    server_decide::made(0)
 }
 
 // 2; 19; 1 malformed or no notice; 17; 9.
@@ -40,11 +40,11 @@ pub fn notice(s: &mut [u8], log: &mut [u8], packet: &[u8]) -> Answer
 {
     let k = server_memory::lent_refusal(s, log, 0, 0);
     if k != 0 {
-        return server_memory::refused(k);
+        return server_decide::refused(k);
     }
     let p = format_packet_reader::parse_packet(packet);
     let Packet::Noticed(n) = p else {
-        return server_memory::refused(constants::MALFORMED);
+        return server_decide::refused(constants::MALFORMED);
     };
     noticed(s, log, n)
 }

@@ -32,5 +32,5 @@ pub fn reply(out: &mut [u8], x: Completion) -> Answer
         × (now (out .exit) ≡ written (now (out .entry)) 0 (resultBytes (resultOfRecord x))) ⌝ }
 {
     format_packet_writer::write_result(out, result_of(x));
-    server_memory::made(constants::RESULT_SIZE_U32)
+    server_decide::made(constants::RESULT_SIZE_U32)
 }

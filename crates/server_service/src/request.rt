@@ -142,7 +142,7 @@ fn execute(s: &mut [u8], log: &mut [u8], x: Executed) -> Answer
     let size = state::size_of(s);
     format_log_writer::append_executed(log, size as usize, x);
     server_apply::apply_executed(s, x, size + constants::EXECUTED_SIZE_U64);
-    server_memory::made(0)
+    server_decide::made(0)
 }
 
 // A well-formed request, once the tests of lent memory are passed.
@@ -168,11 +168,11 @@ pub fn request(s: &mut [u8], log: &mut [u8], packet: &[u8], out: &mut [u8]) -> A
 {
     let k = server_memory::lent_refusal(s, log, out.len(), constants::RESULT_SIZE);
     if k != 0 {
-        return server_memory::refused(k);
+        return server_decide::refused(k);
     }
     let p = format_packet_reader::parse_packet(packet);
     let Packet::Requested(q) = p else {
-        return server_memory::refused(constants::MALFORMED);
+        return server_decide::refused(constants::MALFORMED);
     };
     requested(s, log, q, out)
 }

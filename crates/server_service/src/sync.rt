@@ -18,10 +18,10 @@ fn synced(s: &mut [u8], mark: u64) -> Answer
     let size = state::size_of(s);
     let refusal = server_decide::sync_refusal(present, size, mark);
     if refusal != 0 {
-        return server_memory::refused(refusal);
+        return server_decide::refused(refusal);
     }
     state::set_mark(s, mark);
-    server_memory::made(0)
+    server_decide::made(0)
 }
 
 // 2; 19; 10 below the present mark or above the log's length; else the mark is set.
@@ -31,7 +31,7 @@ pub fn sync(s: &mut [u8], log: &[u8], mark: u64) -> Answer
 {
     let refusal = server_memory::lent_refusal(s, log, 0, 0);
     if refusal != 0 {
-        return server_memory::refused(refusal);
+        return server_decide::refused(refusal);
     }
     synced(s, mark)
 }

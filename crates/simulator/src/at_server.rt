@@ -99,7 +99,7 @@ fn recover_from(s: &mut [u8], log: &[u8]) -> u32
         × (now (s .exit) ≡ recoverOf (now (s .entry)) (now (log .entry)) simulatorPlan .state) ⌝ }
 {
     let p = crate::start::plan();
-    let a = server_recover::recover(s, log, &p);
+    let a = server_recover::recover::recover(s, log, &p);
     a.refusal
 }
 
