@@ -133,8 +133,8 @@ fn records_end(log: &[u8]) -> LogEnd
     }
 }
 
-// The end of a log's last whole record, by the kinds and image lengths of its records alone; 14 where one of them, or the head, is off
-// its layout.
+// The end of a log's last whole record, by the kinds and image lengths of its records alone; 14 where one of them, or
+// the head, is off its layout.
 pub fn log_end(log: &[u8]) -> LogEnd
     ensures { λ r. ⌜ r ≡ logEndOf (now (log .entry)) ⌝ }
 {

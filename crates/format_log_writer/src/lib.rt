@@ -111,7 +111,9 @@ fn append_take_head(log: &mut [u8], at: usize, n: u32)
 // A take of a well-formed image.
 pub fn append_take(log: &mut [u8], at: usize, image: &[u8])
     requires { ⌜ (imageOk (now image) ≡ true) × (at + takeHead + length (now image) ≤ length (now log)) ⌝ }
-    ensures { λ r. ⌜ now (log .exit) ≡ written (now (log .entry)) at (recordBytes (took (imageAt (imageHeadOf (now (image .entry))) (now (image .entry))))) ⌝ }
+    ensures { λ r. ⌜ now (log .exit)
+        ≡ written (now (log .entry)) at
+        (recordBytes (took (imageAt (imageHeadOf (now (image .entry))) (now (image .entry))))) ⌝ }
 {
     append_take_head(log, at, image.len() as u32);
     let from = at + constants::TAKE_HEAD;

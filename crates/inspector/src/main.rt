@@ -55,7 +55,7 @@ fn write_record<'a>(s: &[u8], checkpoint: &'a [u8], tail: &'a [u8], i: usize)
     io::write_all(1, b" ");
     io::print_decimal(1, call as u64);
     io::write_all(1, b":");
-    let part = server_inspect::shown(s, checkpoint, tail, client, call);
+    let part = server_inspect::shown::shown(s, checkpoint, tail, client, call);
     write_bytes(part);
     io::write_all(1, b"\n");
 }
@@ -93,7 +93,11 @@ fn inspect(card: &[u8]) {
     let checkpoint = &card[..end];
     let tail = &card[end..];
     let mut s = state_buffer();
-    let a: Answer = server_recover::recover_checkpoint(&mut s, checkpoint, tail);
+    let a: Answer = server_recover::recover_checkpoint::recover_checkpoint(
+        &mut s,
+        checkpoint,
+        tail,
+    );
     if a.refusal != constants::NO_REFUSAL {
         io::write_all(2, b"inspector: no checkpoint with its tail\n");
         return;

@@ -1,5 +1,5 @@
-// A take applied to a state's buffer: the image's floors merged, the state's own old records of the point gone, the image's records
-// added, those under a floor gone, the point and its move number set, heard time raised.
+// A take applied to a state's buffer: the image's floors merged, the state's own old records of the point gone, the
+// image's records added, those under a floor gone, the point and its move number set, heard time raised.
 use model::ImageHead;
 use model::Point;
 use model::constants;
@@ -35,11 +35,13 @@ fn took_point(h: ImageHead, end: u64) -> Point
     }
 }
 
-// What leaves the records, the point's and those under a floor, in one pass. A second pass would move rows again, and leave others than
-// the first found behind the last record.
+// What leaves the records, the point's and those under a floor, in one pass. A second pass would move rows again, and
+// leave others than the first found behind the last record.
 fn drop_records(s: &mut [u8], point: u8)
     requires { ⌜ Canonical (now s) ⌝ }
-    ensures { λ r. ⌜ now (s .exit) ≡ stored (now (s .entry)) (withRecords (keptBy (Beside point) (load (now (s .entry)))) (load (now (s .entry)))) ⌝ }
+    ensures { λ r. ⌜ now (s .exit)
+        ≡ stored (now (s .entry))
+        (withRecords (keptBy (Beside point) (load (now (s .entry)))) (load (now (s .entry)))) ⌝ }
 {
     state_records::keep_records(s, Rule::Beside(point));
 }
@@ -47,7 +49,8 @@ fn drop_records(s: &mut [u8], point: u8)
 // The two tables: floors merged, then the records that go, then those that come.
 fn take_tables(s: &mut [u8], image: &[u8], h: ImageHead, end: u64)
     requires { ⌜ RoomFor (now s) (now image) h end ⌝ }
-    ensures { λ r. ⌜ now (s .exit) ≡ stored (now (s .entry)) (tabled (now (image .entry)) h end (load (now (s .entry)))) ⌝ }
+    ensures { λ r. ⌜ now (s .exit)
+        ≡ stored (now (s .entry)) (tabled (now (image .entry)) h end (load (now (s .entry)))) ⌝ }
 {
     state_clients::merge(s, image, h.floors as usize);
     drop_records(s, h.point);
@@ -69,7 +72,8 @@ fn take_point(s: &mut [u8], h: ImageHead, end: u64)
 // A take of the image that has the head h.
 pub fn apply_took(s: &mut [u8], image: &[u8], h: ImageHead, end: u64)
     requires { ⌜ TakesInto (now s) (now image) h end ⌝ }
-    ensures { λ r. ⌜ now (s .exit) ≡ stored (now (s .entry)) (applyTook (imageAt h (now (image .entry))) end (load (now (s .entry)))) ⌝ }
+    ensures { λ r. ⌜ now (s .exit)
+        ≡ stored (now (s .entry)) (applyTook (imageAt h (now (image .entry))) end (load (now (s .entry)))) ⌝ }
 {
     take_tables(s, image, h, end);
     take_point(s, h, end);

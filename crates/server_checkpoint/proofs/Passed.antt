@@ -1,5 +1,5 @@
 -- The refusals of a checkpoint.
---     tail-short, lent-refused, not-synced, synced     the tests in code
+--     tail-short, lent-refused, last-test              the tests in code
 --     passed-known                                     what they leave known
 --     by-refused, by-passed, passed-done               the call, by the number
 -- Assumes nothing.
@@ -20,6 +20,8 @@ use Rattle.model.specs.Operations.{answerOf, short, unfit, lentRefusal}
 use Rattle.model.specs.Checkpoints.{AfterCheckpoint, checkpointRefusal, checkpointOf}
 use Rattle.model_laws.specs.Fits.{Sound}
 use Rattle.model_laws.proofs.States.{sound-is}
+use Rattle.server_decide.specs.Lists.{checkpointTests}
+use Rattle.server_decide.proofs.Lists.{checkpoint-list}
 use Rattle.server_memory.specs.Memory.{Fit}
 use Rattle.server_memory.proofs.Settled.{lent-fit}
 use Rattle.server_checkpoint.specs.Taken.{afterCheckpoint, checkpointTaken}
@@ -46,23 +48,17 @@ module _ (s log : List ℕ) (n t : ℕ) where
 
   in-order : headSize ≤ t
       → checkpointRefusal s log n t
-      ≡ pick (eqb (lentRefusal s log n checkpointSize) noRefusal) (pick (ltb (load s .mark) (load s .size)) notSynced noRefusal) (lentRefusal s log n checkpointSize)
-  unfolding checkpointRefusal lentRefusal
-  in-order h = rw (le-ltb t headSize h) (in-turn (short s stateSize) (ltb n checkpointSize) (unfit s log) (pick (ltb (load s .mark) (load s .size)) notSynced noRefusal))
+      ≡ pick (eqb (lentRefusal s log n checkpointSize) noRefusal) (checkpointTests (load s .mark) (load s .size)) (lentRefusal s log n checkpointSize)
+  unfolding lentRefusal
+  in-order h =
+      checkpoint-list s log n t ∙ rw (le-ltb t headSize h) (in-turn (short s stateSize) (ltb n checkpointSize) (unfit s log) (checkpointTests (load s .mark) (load s .size)))
 
   module _ (h : headSize ≤ t) {k : ℕ} (p : k ≡ lentRefusal s log n checkpointSize) where
     pub lent-refused : (k ≡ noRefusal → ⊥) → k ≡ checkpointRefusal s log n t
     lent-refused z = rw (in-order h, ← p, ne-eqb k noRefusal z)
 
-    module _ (z : k ≡ noRefusal) {mark size : ℕ} (e : mark ≡ load s .mark) (f : size ≡ load s .size) where
-      last-test : checkpointRefusal s log n t ≡ pick (ltb mark size) notSynced noRefusal
-      last-test = rw (in-order h, ← p, z, e, f)
-
-      pub not-synced : mark < size → notSynced ≡ checkpointRefusal s log n t
-      not-synced l = rw (last-test, lt-ltb mark size l)
-
-      pub synced : size ≤ mark → noRefusal ≡ checkpointRefusal s log n t
-      synced l = rw (last-test, le-ltb mark size l)
+    pub last-test : k ≡ noRefusal → {mark size r : ℕ} → mark ≡ load s .mark → size ≡ load s .size → r ≡ checkpointTests mark size → r ≡ checkpointRefusal s log n t
+    last-test z e f q = rw (in-order h, ← p, z, ← e, ← f) q
 
   -- what a call that passes knows
   pub passed-known : checkpointRefusal s log n t ≡ noRefusal → Fit s log n checkpointSize × (headSize ≤ t)
@@ -79,7 +75,7 @@ module _ (s log : List ℕ) (n t : ℕ) where
       go true k = absurd (omega (arith, tail-short (ltb-true t headSize k) ∙ e))
       go false k =
           let h : headSize ≤ t = ltb-false t headSize k in
-          (lent-fit s log n checkpointSize (zero (lentRefusal s log n checkpointSize) (pick (ltb (load s .mark) (load s .size)) notSynced noRefusal) (sym (in-order h) ∙ e)), h)
+          (lent-fit s log n checkpointSize (zero (lentRefusal s log n checkpointSize) (checkpointTests (load s .mark) (load s .size)) (sym (in-order h) ∙ e)), h)
 
 -- ---- the call
 

@@ -24,10 +24,7 @@ fn checkpoint_refusal(s: &[u8], log: &[u8], checkpoints: usize, tails: usize) ->
     }
     let mark = state::mark_of(s);
     let size = state::size_of(s);
-    if mark < size {
-        return constants::NOT_SYNCED;
-    }
-    constants::NO_REFUSAL
+    server_decide::checkpoint_refusal(mark, size)
 }
 
 // The checkpoint of a sound state, and from it the state that the tail starts with, beside whatever log.
@@ -40,7 +37,7 @@ fn checkpoint_done(s: &mut [u8], checkpoint: &mut [u8], tail: &mut [u8]) -> Answ
     let n = state_checkpoint::write_checkpoint(checkpoint, s);
     state_restore::restore(s, checkpoint);
     format_log_writer::write_head(tail, server);
-    server_memory::made(n)
+    server_decide::made(n)
 }
 
 // 2; 19; 7; else the checkpoint, the tail's head, and the state that starts from both. The log is only measured.
@@ -50,7 +47,7 @@ pub fn checkpoint(state: &mut [u8], log: &[u8], checkpoint: &mut [u8], tail: &mu
 {
     let n = checkpoint_refusal(state, log, checkpoint.len(), tail.len());
     if n != 0 {
-        return server_memory::refused(n);
+        return server_decide::refused(n);
     }
     checkpoint_done(state, checkpoint, tail)
 }

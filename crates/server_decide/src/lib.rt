@@ -1,9 +1,12 @@
-// The tests of each call of a server, on values: the refusal's number, 0 if it is not refused. They stand in the order of
-// docs/REFERENCE.md; those of lent memory (2, 19) come before. Recovery asks the same functions.
+// The tests of each call of a server, on values: the refusal's number, 0 if it is not refused; and the answer by it.
+// They stand in the order of docs/REFERENCE.md; those of lent memory (2, 19) come before. Recovery asks the same
+// functions.
+use model::Answer;
 use model::Completion;
 use model::Point;
 use model::Request;
 use model::constants::ALREADY_HELD;
+use model::constants::BAD_LOG;
 use model::constants::BAD_MARK;
 use model::constants::CLIENT_COUNT;
 use model::constants::CLIENTS_FULL;
@@ -38,7 +41,9 @@ ghost use Rattle.model.specs.Limits.{clientCount};
 ghost use Rattle.model.specs.Images.{notKnown};
 ghost use Rattle.model.specs.States.{isHeld, isGiven, isSynced};
 ghost use Rattle.model.specs.Decisions.{sameCommand, requestRefusal, heldRefusal, newRefusal, fetchRefusal, syncRefusal, noticeRefusal, placesBad, giveRefusal, imageRefusal, receiptRefusal, releaseRefusal, takeRefusal};
-ghost use Rattle.model.specs.Operations.{foundRefusal, recoverRefusal};
+ghost use Rattle.model.specs.Operations.{answerOf, foundRefusal, recoverRefusal};
+ghost use Rattle.model.specs.Checkpoints.{recoverTailRefusal};
+ghost use Rattle.server_decide.specs.Lists.{checkpointTests, inspectTests};
 
 // ---- single tests
 
@@ -115,6 +120,41 @@ pub fn recover_refusal(states: usize, good: bool) -> u32
     }
     if !good {
         return MALFORMED;
+    }
+    NO_REFUSAL
+}
+
+// From checkpoint and tail: 2 state.
+pub fn recover_checkpoint_refusal(states: usize) -> u32
+    ensures { λ r. ⌜ r ≡ recoverTailRefusal states ⌝ }
+{
+    if states < STATE_SIZE {
+        return TOO_SHORT;
+    }
+    NO_REFUSAL
+}
+
+// ---- checkpoint and inspect
+
+// 7 records not synced.
+pub fn checkpoint_refusal(mark: u64, size: u64) -> u32
+    ensures { λ r. ⌜ r ≡ checkpointTests mark size ⌝ }
+{
+    if mark < size {
+        return NOT_SYNCED;
+    }
+    NO_REFUSAL
+}
+
+// 14 a bad checkpoint, or a tail that the first walk refuses; 17 the state lacks the id.
+pub fn inspect_refusal(bad: bool, off: bool, lacks: bool) -> u32
+    ensures { λ r. ⌜ r ≡ inspectTests bad off lacks ⌝ }
+{
+    if bad | off {
+        return BAD_LOG;
+    }
+    if lacks {
+        return UNKNOWN;
     }
     NO_REFUSAL
 }
@@ -269,8 +309,8 @@ fn is_kept(x: Point, ids: bool) -> bool
     held | !ids
 }
 
-// 1 a value out of range; 11 for another server; 12 no later move; 13 held here, or an id that is here for another point; 8 too many
-// clients; 9 no space for the record.
+// 1 a value out of range; 11 for another server; 12 no later move; 13 held here, or an id that is here for another
+// point; 8 too many clients; 9 no space for the record.
 pub fn take_refusal(
     x: Point,
     server: u8,
@@ -303,4 +343,26 @@ pub fn take_refusal(
         return LOG_FULL;
     }
     NO_REFUSAL
+}
+
+// ---- answers
+
+// A refusal's number, and no packet.
+pub fn refused(n: u32) -> Answer
+    ensures { λ r. ⌜ r ≡ answerOf n 0 ⌝ }
+{
+    Answer {
+        refusal: n,
+        wrote: 0,
+    }
+}
+
+// Not refused, and n bytes written.
+pub fn made(n: u32) -> Answer
+    ensures { λ r. ⌜ r ≡ answerOf 0 n ⌝ }
+{
+    Answer {
+        refusal: NO_REFUSAL,
+        wrote: n,
+    }
 }

@@ -12,6 +12,7 @@ use native.Mathlib.Nat.{sub-zero}
 use lib.ListN.{length, drop, replicate, length-map}
 use lib.Dec.{eqb, ltb}
 use borrow.Author.Tests.{eqb-true, ne-eqb, ltb-false, not-false}
+use Rattle.model.specs.declared.Answer.{Answer}
 use Rattle.model.specs.declared.PlanEntry.{PlanEntry}
 use Rattle.model.specs.declared.Point.{Point}
 use Rattle.model.specs.Limits.{lastServer, stateSize, headSize, pointCount, planRow, planSize, floorRow, clientCount}
@@ -130,9 +131,9 @@ either-no false b e = (refl, e)
 
 -- by the refusal's number, with the plan's test as a call gave it
 module _ (s log plan : List ℕ) (n : ℕ) {g : Bool} (p : g ≡ planOk plan) {k : ℕ} (q : k ≡ foundRefusal (length s) (length log) g n) where
-  pub found-refused : (k ≡ noRefusal → ⊥) → after (answerOf k 0) s log [] ≡ foundOf s log plan n
+  pub found-refused : (k ≡ noRefusal → ⊥) → {r : Answer} → r ≡ answerOf k 0 → after r s log [] ≡ foundOf s log plan n
   unfolding foundOf leftUnless settle
-  found-refused h = rw (← p, ← q, ne-eqb k noRefusal h)
+  found-refused h e = rw (e, ← p, ← q, ne-eqb k noRefusal h)
 
   module _ (z : k ≡ noRefusal) where
     tests : (ltb (length s) stateSize || ltb (length log) headSize) ≡ false × (not g || ltb lastServer n) ≡ false
@@ -151,6 +152,7 @@ module _ (s log plan : List ℕ) (n : ℕ) {g : Bool} (p : g ≡ planOk plan) {k
         let e = either-no (not g) (ltb lastServer n) (tests .1) in
         (sym p ∙ not-false g (e .0), ltb-false lastServer n (e .1))
 
-    pub found-done : {s' log' : List ℕ} → s' ≡ stored s (founded (planOf plan) n) → log' ≡ written log 0 (headBytes n) → after (answerOf noRefusal 0) s' log' [] ≡ foundOf s log plan n
+    pub found-done : {s' log' : List ℕ} {r : Answer} → s' ≡ stored s (founded (planOf plan) n) → log' ≡ written log 0 (headBytes n) → r ≡ answerOf noRefusal 0
+        → after r s' log' [] ≡ foundOf s log plan n
     unfolding foundOf leftUnless
-    found-done e f = rw (← p, ← q, z, e, f)
+    found-done e f g = rw (← p, ← q, z, e, f, g)

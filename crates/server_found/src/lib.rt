@@ -66,7 +66,9 @@ fn founded_point(e: PlanEntry, n: u8) -> Point
 // The point of index i, by its entry of the plan.
 fn put_founded(s: &mut [u8], plan: &[u8], n: u8, i: usize)
     requires { ⌜ (stateEnd ≤ length (now s)) × (planSize ≤ length (now plan)) × (i < pointCount) ⌝ }
-    ensures { λ r. ⌜ now (s .exit) ≡ written (now (s .entry)) (pointsStart + pointRow * i) (pointBytes (foundedPoint n (planEntryOf (drop (planRow * i) (now (plan .entry)))))) ⌝ }
+    ensures { λ r. ⌜ now (s .exit)
+        ≡ written (now (s .entry)) (pointsStart + pointRow * i)
+        (pointBytes (foundedPoint n (planEntryOf (drop (planRow * i) (now (plan .entry)))))) ⌝ }
 {
     let e = format_commands::plan_entry(plan, constants::PLAN_ROW * i);
     state_rows::put_point(s, POINTS_START + POINT_ROW * i, founded_point(e, n));
@@ -74,7 +76,9 @@ fn put_founded(s: &mut [u8], plan: &[u8], n: u8, i: usize)
 
 fn put_points(s: &mut [u8], plan: &[u8], n: u8)
     requires { ⌜ (stateEnd ≤ length (now s)) × (planSize ≤ length (now plan)) ⌝ }
-    ensures { λ r. ⌜ now (s .exit) ≡ written (now (s .entry)) pointsStart (bytesOf pointBytes (map (foundedPoint n) (planOf (now (plan .entry))))) ⌝ }
+    ensures { λ r. ⌜ now (s .exit)
+        ≡ written (now (s .entry)) pointsStart
+        (bytesOf pointBytes (map (foundedPoint n) (planOf (now (plan .entry))))) ⌝ }
 {
     let mut i = 0;
     while i < POINT_COUNT {
@@ -108,21 +112,16 @@ pub fn found_state(s: &mut [u8], plan: &[u8], n: u8)
 
 // 2 state or log too short; 1 bad plan or server number; else the state and the log's head.
 pub fn found(state: &mut [u8], log: &mut [u8], plan: &[u8], server: u32) -> Answer
-    ensures { λ r. ⌜ after r (now (state .exit)) (now (log .exit)) [] ≡ foundOf (now (state .entry)) (now (log .entry)) (now (plan .entry)) server ⌝ }
+    ensures { λ r. ⌜ after r (now (state .exit)) (now (log .exit)) []
+        ≡ foundOf (now (state .entry)) (now (log .entry)) (now (plan .entry)) server ⌝ }
 {
     let good = format_commands::plan_ok(plan);
-    let k = server_decide::found_refusal(state.len(), log.len(), good, server);
-    if k != 0 {
-        return Answer {
-            refusal: k,
-            wrote: 0,
-        };
+    let refusal = server_decide::found_refusal(state.len(), log.len(), good, server);
+    if refusal != 0 {
+        return server_decide::refused(refusal);
     }
     let n = server as u8;
     found_state(state, plan, n);
     format_log_writer::write_head(log, n);
-    Answer {
-        refusal: constants::NO_REFUSAL,
-        wrote: 0,
-    }
+    server_decide::made(0)
 }

@@ -35,10 +35,12 @@ use Rattle.format_log_ends.specs.Walked.{endsFrom}
 use Rattle.format_log_ends.proofs.Walked.{log-end-head}
 use Rattle.state_restore.specs.Restored.{RestoredBy}
 use Rattle.state_restore.proofs.Answers.{restored-none, restored-some}
+use Rattle.server_decide.specs.Lists.{inspectTests}
+use Rattle.server_decide.proofs.Lists.{inspect-list}
 use Rattle.server_memory.specs.Memory.{Fit}
 use Rattle.server_memory.proofs.Settled.{lent-fit}
 use Rattle.server_inspect.specs.Places.{latestFrom}
-use Rattle.server_inspect.specs.Inspected.{foreign, laterRefusal, Logged}
+use Rattle.server_inspect.specs.Inspected.{foreign, Logged}
 
 or-left : (a b : Bool) → (a || b) ≡ false → a ≡ false
 or-left true b e = e
@@ -124,9 +126,9 @@ offBy log = orElse (endsOf log) true (λ es. false)
 
 module _ (state log : List ℕ) (f : Fit state log 0 0) where
   later-same : (checkpoint : List ℕ) (x c : ℕ)
-      → inspectRefusal state checkpoint log x c ≡ laterRefusal (checkpointBad checkpoint log) (offBy (tailOf state log)) (isNone (find x c (load state .records)))
-  unfolding inspectRefusal laterRefusal short unfit
-  later-same checkpoint x c = rw (le-ltb (length state) stateSize (f .long), f .sound, le-ltb (length log) (load state .size) (f .logged))
+      → inspectRefusal state checkpoint log x c ≡ inspectTests (checkpointBad checkpoint log) (offBy (tailOf state log)) (isNone (find x c (load state .records)))
+  unfolding short unfit
+  later-same checkpoint x c = inspect-list state checkpoint log x c ∙ rw (le-ltb (length state) stateSize (f .long), f .sound, le-ltb (length log) (load state .size) (f .logged))
 
 bad-front : (state checkpoint tail : List ℕ) → Bytes state → Fit state tail 0 0 → checkpointBad checkpoint (take (load state .size) tail) ≡ checkpointBad checkpoint tail
 unfolding checkpointBad headServer
@@ -184,7 +186,7 @@ walk-off log {w} e = ap (λ (r : LogEnd). not (eqb (r .refusal) noRefusal)) e �
     go (some es) q = rw (q, logEndOf, wholeEnd)
 
 module _ (state checkpoint log : List ℕ) (x c : ℕ) (l : Logged state log) {w : LogEnd} (e : w ≡ logEndOf log) {bad lacks : Bool} (p : bad ≡ checkpointBad checkpoint log)
-    (q : lacks ≡ isNone (find x c (load state .records))) {n : ℕ} (k : n ≡ laterRefusal bad (not (eqb (w .refusal) noRefusal)) lacks) where
+    (q : lacks ≡ isNone (find x c (load state .records))) {n : ℕ} (k : n ≡ inspectTests bad (not (eqb (w .refusal) noRefusal)) lacks) where
   tail-whole : tailOf state log ≡ log
   unfolding tailOf
   tail-whole = rw (← l .whole) (take-length log)
@@ -198,7 +200,7 @@ module _ (state checkpoint log : List ℕ) (x c : ℕ) (l : Logged state log) {w
 
   module _ (z : n ≡ noRefusal) where
     tests : ((bad || not (eqb (w .refusal) noRefusal)) ≡ false) × (lacks ≡ false)
-    unfolding laterRefusal
+    unfolding inspectTests
     tests =
         let a = if-passed badLog refl (bad || not (eqb (w .refusal) noRefusal)) _ (sym k ∙ z) in
         (a .0, if-passed unknown refl lacks noRefusal (a .1) .0)

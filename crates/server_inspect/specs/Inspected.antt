@@ -1,15 +1,14 @@
--- Refusals past those of lent memory; and where a place lies.
+-- The test of a checkpoint beside its log; and where a place lies.
 -- Assumes nothing.
 use Prim.Native.Nat.{ℕ, _+_, _-_, _≤_}
 use mathlib.Core.Path.{_≡_}
-use mathlib.Core.Bool.{Bool, true, _||_, not}
+use mathlib.Core.Bool.{Bool, true, not}
 use mathlib.Core.List.{List}
 use mathlib.Core.Option.{Option}
 use lib.ListN.{length, take, drop}
 use lib.Dec.{eqb}
 use Rattle.model.specs.declared.Place.{Place}
-use Rattle.model.specs.Choice.{pick, orElse, _if_else_, passed}
-use Rattle.model.specs.Refusals.{badLog, unknown}
+use Rattle.model.specs.Choice.{pick, orElse}
 use Rattle.model.specs.Logs.{headServer}
 use Rattle.model.specs.States.{State, load}
 use Rattle.model.specs.Checkpoints.{inCheckpoint}
@@ -18,10 +17,6 @@ use Rattle.server_memory.specs.Memory.{Fit}
 -- no state, or one of another server than the log
 unfoldable pub foreign : Option State → List ℕ → Bool
 foreign o log = orElse o true (λ st. not (eqb (headServer log) (st .server)))
-
--- by the tests of the checkpoint, of the log by the first walk, and of the id
-unfoldable pub laterRefusal : Bool → Bool → Bool → ℕ
-laterRefusal bad off lacks = badLog if (bad || off) else unknown if lacks else passed
 
 -- a sound state, and a log of just its recorded length
 pub record Logged (state log : List ℕ) : Type 0 where

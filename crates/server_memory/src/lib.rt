@@ -1,9 +1,5 @@
-// What every call of a server has: the tests of lent memory, which come first, the space left in the log, and the answer.
-use model::Answer;
-use model::Completion;
-use model::ResultPacket;
+// The memory that is lent to every call of a server: its tests, which come first, and the space left in the log.
 use model::constants::NO_REFUSAL;
-use model::constants::RESULT_SIZE_U32;
 use model::constants::STATE_SIZE;
 use model::constants::TOO_SHORT;
 use model::constants::UNSOUND;
@@ -11,14 +7,8 @@ use state_rows::state;
 ghost use mathlib.Core.Path.{_≡_};
 ghost use Prim.Native.Nat.{_≤_};
 ghost use lib.ListN.{length};
-ghost use Rattle.model.specs.Limits.{resultSize};
-ghost use Rattle.model.specs.Tables.{written};
-ghost use Rattle.model.specs.Packets.{resultBytes};
 ghost use Rattle.model.specs.States.{load, stateEnd};
-ghost use Rattle.model.specs.Decisions.{resultOfRecord};
-ghost use Rattle.model.specs.Operations.{answerOf, unfit, lentRefusal, freeIn};
-
-// ---- lent memory
+ghost use Rattle.model.specs.Operations.{unfit, lentRefusal, freeIn};
 
 // 19: the state is not sound, or the log slice is shorter than its recorded length.
 fn is_unfit(s: &[u8], log: &[u8]) -> bool
@@ -52,48 +42,4 @@ pub fn free_in(s: &[u8], log: &[u8]) -> usize
 {
     let size = state::size_of(s);
     log.len() - size as usize
-}
-
-// ---- answers
-
-// A refusal's number, and no packet.
-pub fn refused(n: u32) -> Answer
-    ensures { λ r. ⌜ r ≡ answerOf n 0 ⌝ }
-{
-    Answer {
-        refusal: n,
-        wrote: 0,
-    }
-}
-
-// Not refused, and n bytes written.
-pub fn made(n: u32) -> Answer
-    ensures { λ r. ⌜ r ≡ answerOf 0 n ⌝ }
-{
-    Answer {
-        refusal: NO_REFUSAL,
-        wrote: n,
-    }
-}
-
-// The result packet of a completion record.
-fn result_of(x: Completion) -> ResultPacket
-    ensures { λ r. ⌜ r ≡ resultOfRecord x ⌝ }
-{
-    let result = x.result;
-    ResultPacket {
-        client: x.command.client,
-        call: x.command.call,
-        point: x.command.point,
-        result,
-    }
-}
-
-// A held result: its packet, written to the output.
-pub fn reply(out: &mut [u8], x: Completion) -> Answer
-    requires { ⌜ resultSize ≤ length (now out) ⌝ }
-    ensures { λ r. ⌜ (r ≡ answerOf 0 resultSize) × (now (out .exit) ≡ written (now (out .entry)) 0 (resultBytes (resultOfRecord x))) ⌝ }
-{
-    format_packet_writer::write_result(out, result_of(x));
-    made(RESULT_SIZE_U32)
 }

@@ -3,7 +3,7 @@
 --     first-no, first-yes     the first test in code; first-zero: both are passed
 --     places-good             a point and a server number in range
 --     give-is, give-ready, give-settled
---     receipt-is, image-is, place-ready, receipt-done, image-done, image-most
+--     image-most, receipt-is, image-is, receipt-done, image-done, place-ready
 --     release-is, release-chain, release-room, release-settled, release-placed
 -- Assumes nothing.
 use Prim.Native.Nat.{ℕ, suc, _+_, _≤_}
@@ -24,13 +24,15 @@ use Rattle.model.specs.Tables.{written}
 use Rattle.model.specs.Packets.{parsePacket, receiptBytes}
 use Rattle.model.specs.Images.{imageBytes, imageLength}
 use Rattle.model.specs.Logs.{LogRecord, gave, released, recordBytes, recordSize}
-use Rattle.model.specs.States.{load, sound, pointAt}
+use Rattle.model.specs.States.{load, pointAt}
 use Rattle.model.specs.Apply.{applyRecord, applyGave, applyReleased}
-use Rattle.model.specs.Decisions.{Decided, placesBad, giveRefusal, onGive, imageFor, imageRefusal, onImage, receiptRefusal, onReceipt, releaseRefusal, decideRelease, onRelease}
+use Rattle.model.specs.Decisions.{Decided, placesBad, giveRefusal, onGive, imageFor, onImage, onReceipt, releaseRefusal, decideRelease, onRelease}
 use Rattle.model.specs.Operations.{answerOf, after, settle, stored, lentRefusal, lent, freeIn, giveOf, receiptOf, imageOf, releaseOf}
 use Rattle.model.specs.Refusals.{noRefusal, malformed}
 use Rattle.model_laws.specs.Bytes.{Bytes}
 use Rattle.model_laws.proofs.Tests.{or-left, or-right}
+use Rattle.model_laws.specs.Fits.{Sound}
+use Rattle.model_laws.proofs.States.{is-sound}
 use Rattle.model_laws.proofs.Images.{image-length}
 use Rattle.model_invariants.specs.Passed.{PassedGive}
 use Rattle.model_laws.proofs.Refused.{unless-passed}
@@ -40,7 +42,7 @@ use Rattle.model_invariants.proofs.Images.{image-good, image-short}
 use Rattle.model_invariants.proofs.Formats.{parsed-receipt}
 use Rattle.server_memory.specs.Memory.{Fit}
 use Rattle.server_memory.proofs.Settled.{lent-fit}
-use Rattle.server_moves.specs.Numbers.{first, giveFor, giveNumber, placeNumber, releaseFor, Placed}
+use Rattle.server_moves.specs.Numbers.{first, giveFor, giveNumber, placeNumber, imageDecided, receiptDecided, releaseFor, Placed}
 
 -- ---- numbers one behind the other
 
@@ -116,21 +118,20 @@ module _ (s log : List ℕ) where
 
 -- ---- receipt and image
 
+pub image-most : (s : List ℕ) → Bytes s → Sound s → (p : ℕ) → p ≤ lastPoint → {n : ℕ} → n ≡ imageLength (imageFor (load s) p) → n ≤ greatestImage
+image-most s h S p l q = rw q (image-short (imageFor (load s) p) (image-good (load s) p (loaded-sound s h (is-sound s S)) l .0))
+
 module _ (s log : List ℕ) (p : ℕ) where
   module _ (out : List ℕ) where
     place-by : (need m : ℕ) (d : Decided) → lent s log out need (unlessRefused (pick (ltb lastPoint p) malformed m) d) ≡ unlessRefused (placeNumber s log (length out) need p) (unlessRefused m d)
     unfolding placeNumber lent
     place-by need m d = ap (unlessRefused (lentRefusal s log (length out) need)) (malformed-by (ltb lastPoint p) m d) ∙ first-by _ _ (unlessRefused m d)
 
-    pub receipt-is : receiptOf s log p out
-        ≡ settle s log out (unlessRefused (placeNumber s log (length out) receiptSize p) (unlessRefused (receiptRefusal (pointAt (load s) p) (load s .mark))
-        (reply (receiptBytes (record { point = p; server = load s .server; moveNumber = pointAt (load s) p .takenMove })))))
+    pub receipt-is : receiptOf s log p out ≡ settle s log out (unlessRefused (placeNumber s log (length out) receiptSize p) (receiptDecided (load s) p))
     unfolding receiptOf onReceipt
     receipt-is = ap (settle s log out) (place-by receiptSize _ _)
 
-    pub image-is : imageOf s log p out
-        ≡ settle s log out (unlessRefused (placeNumber s log (length out) greatestImage p) (unlessRefused (imageRefusal (pointAt (load s) p) (load s .mark))
-        (reply (imageBytes (imageFor (load s) p)))))
+    pub image-is : imageOf s log p out ≡ settle s log out (unlessRefused (placeNumber s log (length out) greatestImage p) (imageDecided (load s) p))
     unfolding imageOf onImage
     image-is = ap (settle s log out) (place-by greatestImage _ _)
 
@@ -152,9 +153,6 @@ module _ (s log : List ℕ) (p : ℕ) where
       within : (t : Bool) → ltb lastPoint p ≡ t → pick {A = ℕ} t malformed noRefusal ≡ noRefusal → p ≤ lastPoint
       within true e k = absurd (omega (arith, k))
       within false e k = ltb-false lastPoint p e
-
-  pub image-most : Bytes s → sound s ≡ true → p ≤ lastPoint → {n : ℕ} → n ≡ imageLength (imageFor (load s) p) → n ≤ greatestImage
-  image-most h e l q = rw q (image-short (imageFor (load s) p) (image-good (load s) p (loaded-sound s h e) l .0))
 
 -- ---- release
 

@@ -8,11 +8,13 @@ use Rattle.model.specs.declared.Give.{Give}
 use Rattle.model.specs.declared.Release.{Release}
 use Rattle.model.specs.declared.Packet.{Packet}
 use Rattle.model.specs.declared.Packet.the-variants.{Malformed, Requested, Resulted, Refused, Receipted, Noticed, Granted}
-use Rattle.model.specs.Choice.{pick}
+use Rattle.model.specs.Choice.{pick, reply, unlessRefused}
 use Rattle.model.specs.Refusals.{malformed, noRefusal}
 use Rattle.model.specs.Limits.{lastPoint}
+use Rattle.model.specs.Packets.{receiptBytes}
+use Rattle.model.specs.Images.{imageBytes}
 use Rattle.model.specs.States.{State, load, pointAt}
-use Rattle.model.specs.Decisions.{placesBad, giveRefusal}
+use Rattle.model.specs.Decisions.{Decided, placesBad, giveRefusal, imageFor, imageRefusal, receiptRefusal}
 use Rattle.model.specs.Operations.{lentRefusal, freeIn}
 
 -- the number n, or what comes behind it where n is 0
@@ -32,6 +34,15 @@ giveNumber s log p d =
 
 unfoldable pub placeNumber : List ℕ → List ℕ → ℕ → ℕ → ℕ → ℕ
 placeNumber s log n need p = first (lentRefusal s log n need) (pick (ltb lastPoint p) malformed noRefusal)
+
+-- and what they decide then
+abbrev pub imageDecided : State → ℕ → Decided
+imageDecided st p = unlessRefused (imageRefusal (pointAt st p) (st .mark)) (reply (imageBytes (imageFor st p)))
+
+abbrev pub receiptDecided : State → ℕ → Decided
+receiptDecided st p =
+    unlessRefused (receiptRefusal (pointAt st p) (st .mark))
+    (reply (receiptBytes (record { point = p; server = st .server; moveNumber = pointAt st p .takenMove })))
 
 -- ---- release
 

@@ -5,9 +5,9 @@
 --     rebuilt-none, rebuilt-as, begun-stands     both, one after the other
 --     settled-no, settled-done, recovered-settled     what is left of the lent state
 --     recover-refused, long-passed, plan-passed, recover-done     the answers of the operation on a log
---     tail-short, tail-done         and on a checkpoint and its tail
+--     tail-refused, tail-long, tail-done     and on a checkpoint and its tail
 -- Assumes nothing.
-use Prim.Native.Nat.{ℕ, _+_, _≤_, _<_}
+use Prim.Native.Nat.{ℕ, _+_, _≤_}
 use mathlib.Core.Path.{_≡_, refl, sym, ap, _∙_}
 use mathlib.Core.Bool.{Bool, true, false, not, false≢true}
 use mathlib.Core.List.{List, []}
@@ -15,7 +15,7 @@ use mathlib.Core.Option.{Option, none, some}
 use native.Mathlib.Omega.{arith}
 use lib.ListN.{length, take}
 use lib.Dec.{eqb, ltb}
-use borrow.Author.Tests.{ltb-false, lt-ltb, le-ltb, ne-eqb, not-true, not-false}
+use borrow.Author.Tests.{ltb-false, ne-eqb, not-true, not-false}
 use Rattle.model.specs.declared.Answer.{Answer}
 use Rattle.model.specs.Choice.{pick}
 use Rattle.model.specs.Limits.{stateSize, headSize}
@@ -224,12 +224,17 @@ module _ (state log plan : List ℕ) {g : Bool} (p : g ≡ planOk plan) {k : ℕ
     unfolding recoverOf leftUnless
     recover-done r e = rw (← p, ← q, z) (recovered-settled state log (recoveredState (planOf plan) log) r e)
 
-module _ (state checkpoint tail : List ℕ) where
-  pub tail-short : {a : Answer} → length state < stateSize → a ≡ answerOf tooShort 0 → after a state tail [] ≡ recoverTailOf state checkpoint tail
-  unfolding recoverTailOf recoverTailRefusal leftUnless settle
-  tail-short h e = rw (e, lt-ltb (length state) stateSize h)
+module _ (state checkpoint tail : List ℕ) {k : ℕ} (q : k ≡ recoverTailRefusal (length state)) where
+  pub tail-refused : {a : Answer} → (k ≡ noRefusal → ⊥) → a ≡ answerOf k 0 → after a state tail [] ≡ recoverTailOf state checkpoint tail
+  unfolding recoverTailOf leftUnless settle
+  tail-refused h e = rw (e, ← q, ne-eqb k noRefusal h)
 
-  pub tail-done : {s state' : List ℕ} {r : Bool} {a : Answer} → stateSize ≤ length state → Rebuilt (recoveredTail checkpoint tail) s r
-      → after a state' [] [] ≡ settledState state [] (stateIn r s) → after a state' tail [] ≡ recoverTailOf state checkpoint tail
-  unfolding recoverTailOf recoverTailRefusal leftUnless
-  tail-done h r e = rw (le-ltb (length state) stateSize h) (recovered-settled state tail (recoveredTail checkpoint tail) r e)
+  module _ (z : k ≡ noRefusal) where
+    pub tail-long : stateSize ≤ length state
+    unfolding recoverTailRefusal
+    tail-long = ltb-false (length state) stateSize (if-passed tooShort refl (ltb (length state) stateSize) noRefusal (sym q ∙ z) .0)
+
+    pub tail-done : {s state' : List ℕ} {r : Bool} {a : Answer} → Rebuilt (recoveredTail checkpoint tail) s r
+        → after a state' [] [] ≡ settledState state [] (stateIn r s) → after a state' tail [] ≡ recoverTailOf state checkpoint tail
+    unfolding recoverTailOf leftUnless
+    tail-done r e = rw (← q, z) (recovered-settled state tail (recoveredTail checkpoint tail) r e)

@@ -1,38 +1,23 @@
 -- One record replayed.
 --     replayed-no, replayed-yes     one that does not follow, and one that does
---     free-yes, free-no             what a search answers of a free id, and of another
 --     gave-tests                    a give in range
 -- Assumes nothing.
 use Prim.Native.Nat.{ℕ, _+_, _≤_}
 use mathlib.Core.Path.{_≡_, sym, _∙_}
 use mathlib.Core.Bool.{Bool, true, false, _&&_, not}
 use mathlib.Core.List.{List}
-use mathlib.Core.Option.{Option}
 use native.Mathlib.Numerals.{add-one}
 use lib.Dec.{eqb}
 use borrow.Author.Tests.{le-ltb, not-true, not-false}
 use Rattle.model.specs.declared.Give.{Give}
-use Rattle.model.specs.declared.Completion.{Completion}
 use Rattle.model.specs.Limits.{lastPoint, lastServer, giveSize}
 use Rattle.model.specs.Logs.{LogRecord, gave}
 use Rattle.model.specs.States.{State, load, pointAt}
 use Rattle.model.specs.Apply.{applyRecord}
-use Rattle.model.specs.Decisions.{isNone, placesBad, giveRefusal, follows}
+use Rattle.model.specs.Decisions.{placesBad, giveRefusal, follows}
 use Rattle.model.specs.Operations.{stored}
 use Rattle.model.specs.Choice.{passed}
-use Rattle.state_records.specs.declared.Found.{Found}
-use Rattle.state_records.specs.declared.Found.the-variants.{Nothing, At}
-use Rattle.state_records.specs.Rules.{foundOf}
-use Rattle.state_records.proofs.Search.{found-none, found-at}
 use Rattle.server_replay.specs.Standing.{replayed, ReplayedBy}
-
-pub free-yes : (o : Option Completion) {f : Found} → f ≡ foundOf o → f ≡ Nothing → true ≡ isNone o
-unfolding isNone
-free-yes o p q = rw (found-none o (sym q ∙ p))
-
-pub free-no : (o : Option Completion) {f : Found} {r : Completion} → f ≡ foundOf o → f ≡ At r → false ≡ isNone o
-unfolding isNone
-free-no o {r = r} p q = rw (found-at o r (sym q ∙ p))
 
 -- a give in range
 pub gave-tests : (st : State) (g : Give) → g .point ≤ lastPoint → g .destination ≤ lastServer

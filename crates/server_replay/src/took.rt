@@ -56,8 +56,10 @@ fn replay_image(s: &mut [u8], image: &[u8], h: ImageHead, end: u64) -> bool
 }
 
 pub fn replay_took(s: &mut [u8], image: &[u8], end: u64) -> bool
-    requires { ⌜ Ready (now s) (took (imageAt (imageHeadOf (now image)) (now image))) end × (imageOk (now image) ≡ true) ⌝ }
-    ensures { λ r. ⌜ ReplayedBy (took (imageAt (imageHeadOf (now (image .entry))) (now (image .entry)))) end (now (s .entry)) (now (s .exit)) r ⌝ }
+    requires { ⌜ Ready (now s) (took (imageAt (imageHeadOf (now image)) (now image))) end
+        × (imageOk (now image) ≡ true) ⌝ }
+    ensures { λ r. ⌜ ReplayedBy (took (imageAt (imageHeadOf (now (image .entry))) (now (image .entry)))) end
+        (now (s .entry)) (now (s .exit)) r ⌝ }
 {
     let h = format_image_rows::head_from(image);
     replay_image(s, image, h, end)

@@ -28,7 +28,7 @@ fn sync_line(s: &mut [u8], log: &[u8], store: &mut [u8], count: u32) -> Made
         count r (now (s .exit)) (now (log .entry)) (now (store .exit)) ⌝ }
 {
     let size = state::size_of(s);
-    let answer = server_fetch::sync(s, log, size);
+    let answer = server_service::sync::sync(s, log, size);
     outcome::called(store, count, answer, &log[0..0])
 }
 
@@ -46,7 +46,7 @@ fn give_line(
         (giveOf (now (s .entry)) (now (log .entry)) point destination))
         count r (now (s .exit)) (now (log .exit)) (now (store .exit)) ⌝ }
 {
-    let answer = server_moves::give(s, log, point, destination);
+    let answer = server_moves::give::give(s, log, point, destination);
     outcome::called(store, count, answer, &log[0..0])
 }
 
@@ -64,7 +64,7 @@ fn image_to(s: &[u8], log: &[u8], store: &mut [u8], count: u32, point: u32, out:
         (imageOf (now (s .entry)) (now (log .entry)) point (now (out .entry))))
         count r (now (s .entry)) (now (log .entry)) (now (store .exit)) ⌝ }
 {
-    let answer = server_moves::image(s, log, point, out);
+    let answer = server_moves::image::image(s, log, point, out);
     outcome::called(store, count, answer, out)
 }
 
@@ -87,7 +87,7 @@ fn receipt_line(s: &[u8], log: &[u8], store: &mut [u8], count: u32, point: u32) 
         count r (now (s .entry)) (now (log .entry)) (now (store .exit)) ⌝ }
 {
     let mut out = [0u8; constants::RECEIPT_SIZE];
-    let answer = server_moves::receipt(s, log, point, &mut out);
+    let answer = server_moves::receipt::receipt(s, log, point, &mut out);
     outcome::called(store, count, answer, &out)
 }
 
@@ -99,7 +99,7 @@ fn recover_from(s: &mut [u8], log: &[u8]) -> u32
         × (now (s .exit) ≡ recoverOf (now (s .entry)) (now (log .entry)) simulatorPlan .state) ⌝ }
 {
     let table = crate::start::plan();
-    let answer = server_recover::recover(s, log, &table);
+    let answer = server_recover::recover::recover(s, log, &table);
     answer.refusal
 }
 

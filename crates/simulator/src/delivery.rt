@@ -28,7 +28,7 @@ fn by_request(s: &mut [u8], log: &mut [u8], store: &[u8], row: u32, out: &mut [u
         ≡ requestOf today (now (s .entry)) (now (log .entry)) (packetIn (now (store .entry)) row) (now (out .entry)) ⌝ }
 {
     let packet = packets::packet_at(store, row);
-    server_request::request(s, log, packet, out)
+    server_service::request::request(s, log, packet, out)
 }
 
 fn by_release(s: &mut [u8], log: &mut [u8], store: &[u8], row: u32) -> Answer
@@ -37,7 +37,7 @@ fn by_release(s: &mut [u8], log: &mut [u8], store: &[u8], row: u32) -> Answer
         ≡ releaseOf (now (s .entry)) (now (log .entry)) (packetIn (now (store .entry)) row) ⌝ }
 {
     let packet = packets::packet_at(store, row);
-    server_moves::release(s, log, packet)
+    server_moves::release::release(s, log, packet)
 }
 
 fn by_take(s: &mut [u8], log: &mut [u8], store: &[u8], row: u32) -> Answer

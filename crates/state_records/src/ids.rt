@@ -1,4 +1,5 @@
-// The ids of an image's completion records against those of a state: none of them is held for another point.
+// Ids against the completion records of a state: one that none of them has; those of an image, none of which is held for
+// another point.
 use crate::Found;
 use model::ImageEntry;
 use model::ImageHead;
@@ -16,6 +17,19 @@ ghost use Rattle.model.specs.Decisions.{freeFor};
 ghost use Rattle.model_invariants.specs.Sound.{Distinct};
 ghost use Rattle.state_rows.specs.Canonical.{Canonical};
 ghost use Rattle.state_records.specs.Rules.{lengthBy};
+ghost use Rattle.model.specs.Decisions.{find, isNone};
+
+// No completion record has the id.
+pub fn is_missing(s: &[u8], client: u32, call: u32) -> bool
+    requires { ⌜ Canonical (now s) ⌝ }
+    ensures { λ r. ⌜ r ≡ isNone (find client call (load (now (s .entry)) .records)) ⌝ }
+{
+    let found = crate::find(s, client, call);
+    match found {
+        Found::Nothing => true,
+        Found::At(r) => false,
+    }
+}
 
 // An id is held for no other point.
 fn is_free(s: &[u8], point: u8, e: ImageEntry) -> bool

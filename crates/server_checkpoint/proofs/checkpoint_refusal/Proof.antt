@@ -1,7 +1,7 @@
 -- `server_checkpoint::checkpoint_refusal` meets its contract.
 -- Assumes nothing.
 use Rattle.server_memory.proofs.Settled.{passed-long}
-use Rattle.server_checkpoint.proofs.Passed.{tail-short, lent-refused, not-synced, synced}
+use Rattle.server_checkpoint.proofs.Passed.{tail-short, lent-refused, last-test}
 use borrow.Author.Needs.{needs}
 use Rattle.server_checkpoint.proofs.checkpoint_refusal.Statement.{statement}
 use Rattle.server_checkpoint.proofs.checkpoint_refusal.Tie as tie
@@ -22,13 +22,8 @@ returns-3 : tie.Need-returns-3
 returns-3 c =
     let at-mark-of = c .before .before in
     let at-lent = at-mark-of .before .before in
-    not-synced _ _ _ _ (at-lent .before .if1 .left) (at-lent .lent-refusal .ensures) (at-mark-of .before .if2 .left) (at-mark-of .mark-of .ensures) (c .before .size-of .ensures) (c .if3 .taken)
-
-returns-4 : tie.Need-returns-4
-returns-4 c =
-    let at-mark-of = c .before .before in
-    let at-lent = at-mark-of .before .before in
-    synced _ _ _ _ (at-lent .before .if1 .left) (at-lent .lent-refusal .ensures) (at-mark-of .before .if2 .left) (at-mark-of .mark-of .ensures) (c .before .size-of .ensures) (c .if3 .left)
+    last-test _ _ _ _ (at-lent .before .if1 .left) (at-lent .lent-refusal .ensures) (at-mark-of .before .if2 .left) (at-mark-of .mark-of .ensures) (c .before .size-of .ensures)
+    (c .checkpoint-refusal .ensures)
 
 pub checkpoint-refusal-spec : {M : Type 1} → statement M
 checkpoint-refusal-spec =
@@ -39,5 +34,5 @@ checkpoint-refusal-spec =
     returns-2
     mark-of-requires
     size-of-requires
-    returns-3
-    returns-4)
+    (λ c κs. search needs)
+    returns-3)

@@ -14,10 +14,11 @@ found-refusal-requires c κs = search needs
 
 returns : tie.Need-returns
 returns c =
-    let at-found-refusal = c .before in
+    let at-found-refusal = c .before .before in
     let at-plan-ok = at-found-refusal .before in
     let start = at-plan-ok .before .before .before .before in
-    let a = start .args in found-refused (a .state .now) (a .log .now) (a .plan .now) (a .server) (at-plan-ok .plan-ok .ensures) (at-found-refusal .found-refusal .ensures) (c .if1 .taken)
+    let a = start .args in
+    found-refused (a .state .now) (a .log .now) (a .plan .now) (a .server) (at-plan-ok .plan-ok .ensures) (at-found-refusal .found-refusal .ensures) (c .before .if1 .taken) (c .refused .ensures)
 
 cast-n : tie.Need-cast-n
 cast-n c =
@@ -58,7 +59,7 @@ same-length-2 c = search needs
 
 returns-2 : tie.Need-returns-2
 returns-2 c =
-    let at-write-head = c .before .before in
+    let at-write-head = c .before .before .before in
     let at-found-state = at-write-head .before .before .before .before in
     let at-if1 = at-found-state .before .before in
     let at-found-refusal = at-if1 .before in
@@ -66,7 +67,7 @@ returns-2 c =
     let start = at-plan-ok .before .before .before .before in
     let a = start .args in
     found-done (a .state .now) (a .log .now) (a .plan .now) (a .server) (at-plan-ok .plan-ok .ensures) (at-found-refusal .found-refusal .ensures) (at-if1 .if1 .left)
-    (at-found-state .found-state .ensures) (at-write-head .write-head .ensures)
+    (at-found-state .found-state .ensures) (at-write-head .write-head .ensures) (c .made .ensures)
 
 pub found-spec : {M : Type 1} → statement M
 found-spec =
@@ -74,10 +75,12 @@ found-spec =
     (tie.spec
     plan-ok-requires
     found-refusal-requires
+    (λ c κs. search needs)
     returns
     cast-n
     found-state-requires
     write-head-requires
+    (λ c κs. search needs)
     same-length
     same-length-2
     returns-2)

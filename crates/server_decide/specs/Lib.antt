@@ -1,0 +1,2 @@
+-- What the contracts of `server_decide` cite beside `model`.
+pub mod Lists

@@ -1,2 +1,0 @@
--- Laws that the proofs of `server_fetch` cite.
-pub mod Chains

@@ -1,0 +1,72 @@
+-- `server_inspect::place::place_in_checkpoint` meets its contract.
+-- Assumes nothing.
+use native.Mathlib.Omega.{arith}
+use borrow.Author.Needs.{needs}
+use Rattle.model.specs.Checkpoints.{recordWidth, recordsOf}
+use Rattle.model_laws.proofs.Checkpoints.{framed-is}
+use Rattle.server_inspect.proofs.Holding.{held-nowhere, held-within, held-at}
+use Rattle.server_inspect.proofs.place.place_in_checkpoint.Statement.{statement}
+use Rattle.server_inspect.proofs.place.place_in_checkpoint.Tie as tie
+
+returns : tie.Need-returns
+returns c =
+    let start = c .before .before .before in
+    held-nowhere (start .args .checkpoint .now) (start .args .client) (start .args .call) (c .if1 .taken) (c .before .no-place .ensures)
+
+records-of-requires : tie.Need-records-of-requires
+records-of-requires c κs =
+    let start = c .before .before .before in
+    (omega (arith, framed-is _ (start .pre (omega (arith, c .if1 .left))) .whole), search needs)
+
+clients-of-requires : tie.Need-clients-of-requires
+clients-of-requires c κs = let start = c .before .before .before .before in omega (arith, framed-is _ (start .pre (omega (arith, c .before .if1 .left))) .whole)
+
+mul-at : tie.Need-mul-at
+mul-at c =
+    let branch = c .before .before in
+    let start = branch .before .before .before in
+    omega (arith, framed-is _ (start .pre (omega (arith, branch .if1 .left))) .few-clients, c .clients-of .ensures)
+
+add-at : tie.Need-add-at
+add-at c =
+    let branch = c .before .before in
+    let start = branch .before .before .before in
+    omega (arith, framed-is _ (start .pre (omega (arith, branch .if1 .left))) .few-clients, c .clients-of .ensures)
+
+index-of-requires : tie.Need-index-of-requires
+unfolding recordsOf recordWidth
+index-of-requires c κs =
+    let branch = c .before .before in
+    let start = branch .before .before .before in
+    (held-within (framed-is (start .args .checkpoint .now) (start .pre (omega (arith, branch .if1 .left)))) (c .before .records-of .ensures) (c .clients-of .ensures), search needs)
+
+place-of-requires : tie.Need-place-of-requires
+unfolding recordsOf recordWidth
+place-of-requires c κs =
+    let branch = c .before .before .before in
+    let start = branch .before .before .before in
+    let w = held-within (framed-is (start .args .checkpoint .now) (start .pre (omega (arith, branch .if1 .left)))) (c .before .before .records-of .ensures) (c .before .clients-of .ensures) in
+    omega (arith, w)
+
+returns-2 : tie.Need-returns-2
+unfolding recordsOf recordWidth
+returns-2 c =
+    let index = c .before in
+    let branch = index .before .before .before in
+    let start = branch .before .before .before in
+    held-at (framed-is (start .args .checkpoint .now) (start .pre (omega (arith, branch .if1 .left)))) (start .args .client) (start .args .call) (index .before .before .records-of .ensures)
+    (index .before .clients-of .ensures) (branch .before .no-place .ensures) (index .index-of .ensures) (c .place-of .ensures)
+
+pub place-in-checkpoint-spec : {M : Type 1} → statement M
+place-in-checkpoint-spec =
+    tie.close
+    (tie.spec
+    (λ c κs. search needs)
+    returns
+    records-of-requires
+    clients-of-requires
+    mul-at
+    add-at
+    index-of-requires
+    place-of-requires
+    returns-2)

@@ -1,0 +1,40 @@
+// An executed record on the state in a buffer: whether it follows the state, and its replay there if it does.
+use model::Executed;
+use model::constants::EXECUTED_SIZE;
+use model::constants::NO_REFUSAL;
+use state_records::ids;
+use state_rows::state;
+ghost use mathlib.Core.Path.{_≡_};
+ghost use Prim.Native.Nat.{_≤_};
+ghost use Rattle.model.specs.Limits.{lastPoint};
+ghost use Rattle.model.specs.Logs.{executed};
+ghost use Rattle.model.specs.States.{load};
+ghost use Rattle.model.specs.Decisions.{follows};
+ghost use Rattle.state_rows.specs.Canonical.{Canonical};
+ghost use Rattle.server_replay.specs.Standing.{Ready, ReplayedBy};
+
+fn executed_follows(s: &[u8], x: Executed) -> bool
+    requires { ⌜ Canonical (now s) × (x .command .point ≤ lastPoint) ⌝ }
+    ensures { λ r. ⌜ r ≡ follows (load (now (s .entry))) (executed x) ⌝ }
+{
+    let q = state::point_at(s, x.command.point);
+    let e = state::entry_at(s, x.command.point);
+    let floor = state_clients::floor_in(s, x.command.client);
+    let fresh = ids::is_missing(s, x.command.client, x.command.call);
+    let clients = state::clients_of(s);
+    let asked = server_decide::request_refusal(q, false, floor, x.command.call);
+    let new = server_decide::new_refusal(floor, clients, EXECUTED_SIZE);
+    let in_range = format_numbers::in_range(e, x.result.value);
+    (asked == NO_REFUSAL) & (fresh & ((new == NO_REFUSAL) & in_range))
+}
+
+pub fn replay_executed(s: &mut [u8], x: Executed, end: u64) -> bool
+    requires { ⌜ Ready (now s) (executed x) end ⌝ }
+    ensures { λ r. ⌜ ReplayedBy (executed x) end (now (s .entry)) (now (s .exit)) r ⌝ }
+{
+    if !executed_follows(s, x) {
+        return false;
+    }
+    server_apply::apply_executed(s, x, end);
+    true
+}

@@ -1,2 +1,0 @@
--- What the contracts of `server_request` cite beside `model`.
-pub mod Decisions

@@ -1,0 +1,4 @@
+-- Laws that the proofs of `server_service` cite.
+pub mod Chains
+pub mod Passed
+pub mod Requests

@@ -1,0 +1,2 @@
+-- What the contracts of `server_service` cite beside `model`.
+pub mod Decisions

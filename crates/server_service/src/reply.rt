@@ -1,0 +1,36 @@
+// A held result as its packet, the answer of a request and of a fetch.
+use model::Answer;
+use model::Completion;
+use model::ResultPacket;
+use model::constants;
+ghost use mathlib.Core.Path.{_≡_};
+ghost use Prim.Native.Nat.{_≤_};
+ghost use lib.ListN.{length};
+ghost use Rattle.model.specs.Limits.{resultSize};
+ghost use Rattle.model.specs.Tables.{written};
+ghost use Rattle.model.specs.Packets.{resultBytes};
+ghost use Rattle.model.specs.Decisions.{resultOfRecord};
+ghost use Rattle.model.specs.Operations.{answerOf};
+
+// The result packet of a completion record.
+fn result_of(x: Completion) -> ResultPacket
+    ensures { λ r. ⌜ r ≡ resultOfRecord x ⌝ }
+{
+    let result = x.result;
+    ResultPacket {
+        client: x.command.client,
+        call: x.command.call,
+        point: x.command.point,
+        result,
+    }
+}
+
+// A held result: its packet, written to the output.
+pub fn reply(out: &mut [u8], x: Completion) -> Answer
+    requires { ⌜ resultSize ≤ length (now out) ⌝ }
+    ensures { λ r. ⌜ (r ≡ answerOf 0 resultSize)
+        × (now (out .exit) ≡ written (now (out .entry)) 0 (resultBytes (resultOfRecord x))) ⌝ }
+{
+    format_packet_writer::write_result(out, result_of(x));
+    server_decide::made(constants::RESULT_SIZE_U32)
+}
