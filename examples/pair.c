@@ -80,6 +80,10 @@ static void start(void) {
         fprintf(stderr, "pair: the card is of server %u, and this is server %u\n", mantelorris_server(state), server);
         exit(1);
     }
+    if (memcmp(mantelorris_plan(state), plan, sizeof plan)) {
+        fprintf(stderr, "pair: the card has another plan\n");
+        exit(1);
+    }
     card_store(&card, checkpoint, card.base, log_space, (size_t)mantelorris_length(state));
     move_gate();
 }
@@ -100,11 +104,11 @@ static void print_card(void) {
 
 /* ---- the lease manager */
 
-/* 8, clients full: it is asked for each client known here, and sends the notices of those whose lease has ended (docs/STATE.md: the clients) */
+/* 8, clients full: it is asked for each client known here, and sends the notices of those whose lease has ended */
 static void ask_for_notices(void) {
-    for (uint32_t i = 0; i < mantelorris_number_at(state, 12); i++) {
+    for (uint32_t i = 0; i < mantelorris_clients(state); i++) {
         uint8_t query[QUERY_SIZE] = {LINE_QUERY};
-        memcpy(query + 4, state + 3112 + 8 * i, 4);
+        put32(query + 4, mantelorris_client_number(state, i));
         line_send(line, &leases, query, sizeof query);
     }
 }

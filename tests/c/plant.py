@@ -374,7 +374,7 @@ def plant(programs, hook, rng, seconds, name, repeat=12, kills=True):
 
 
 def main():
-    if DIST == 'dist':
+    if not os.environ.get('MANTELORRIS_DIST'):
         subprocess.run(['tools/lib.sh'], check=True, stdout=subprocess.DEVNULL)
     print('seed %d' % SEED, flush=True)
     rng = random.Random(SEED)
