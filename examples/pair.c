@@ -200,8 +200,14 @@ static void take_request(const uint8_t *packet, size_t length, const address *fr
     else if (number == 0) owe(MANTELORRIS_KIND_RESULT, mantelorris_packet_client(packet), mantelorris_packet_call(packet), from);
 }
 
+static uint64_t held_points(void) {
+    uint64_t points = 0;
+    for (uint32_t point = 0; point < MANTELORRIS_POINTS; point++) points |= (uint64_t)(mantelorris_status(state, point) == MANTELORRIS_HELD) << point;
+    return points;
+}
+
 static void answer(const struct owed *o) {
-    uint8_t out[MANTELORRIS_REPLY_SIZE] = {o->kind};
+    uint8_t out[SAVED_SIZE] = {o->kind}; /* the longest of them */
     uint64_t a = 0;
     size_t n = 0;
     if (o->kind == MANTELORRIS_KIND_RESULT) a = mantelorris_fetch(state, sizeof state, log_space, sizeof log_space, o->a, o->b, out, sizeof out);
@@ -210,6 +216,7 @@ static void answer(const struct owed *o) {
         out[1] = (uint8_t)server;
         put32(out + 4, o->a);
         put32(out + 8, mantelorris_heard(state)); /* all of the log is synced */
+        put64(out + 12, held_points());
         n = SAVED_SIZE;
     }
     if (o->kind == LINE_PLACE) {
