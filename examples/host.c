@@ -8,7 +8,7 @@
  *   1. a request is executed in memory: nothing is sent for it;
  *   2. the log's new bytes are written to the card, and the card has them for certain;
  *   3. the mark is set (sync), and only then results leave and the gate moves.
- * A start takes no card of another server, and none on which no server was founded. After it the card has the log's whole records and nothing behind them, for certain,
+ * A start takes no card of another server or of another plan, and none on which no server was founded. After it the card has the log's whole records and nothing behind them, for certain,
  * before anything is appended: the rest of a torn record must not stay behind a new one.
  * When the log is longer than LIMIT, a checkpoint takes its place, so that the card never fills:
  *   4. it is made in memory: the card stays as it is, and nothing of this server is called until step 6;
@@ -108,11 +108,16 @@ static void recover(size_t kept) {
     if (number) card_refused(number, kept);
 }
 
-/* all servers have one plan, so recovery takes the card of any of them: only the number tells */
+/* all servers have one plan, so recovery takes the card of any of them: only the number tells. A checkpoint has the plan of its founding, whatever this program's is */
 static void own_card(void) {
-    if (mantelorris_server(state) == SERVER) return;
-    fprintf(stderr, "card: of server %u, and this is server %d: put its own card in\n", mantelorris_server(state), SERVER);
-    exit(1);
+    if (mantelorris_server(state) != SERVER) {
+        fprintf(stderr, "card: of server %u, and this is server %d: put its own card in\n", mantelorris_server(state), SERVER);
+        exit(1);
+    }
+    if (memcmp(mantelorris_plan(state), plan, sizeof plan)) {
+        fprintf(stderr, "card: its plan is not this program's: put its own card in, or the program with its plan\n");
+        exit(1);
+    }
 }
 
 /* all of the log is synced; until the checkpoint is stored, nothing else of this server is called */

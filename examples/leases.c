@@ -122,25 +122,26 @@ static struct named *free_row(void) {
 }
 
 /* a name that has a client gets that client's grant, as long as the lease runs */
-static struct mantelorris_lease_reply open_lease(uint64_t name) {
+static struct mantelorris_lease_reply open_lease(uint64_t name, uint32_t span) {
     struct named *row = named(name);
     if (row) return mantelorris_query(&book.manager, row->client, now());
     row = free_row();
     if (!row) return (struct mantelorris_lease_reply){.number = MANTELORRIS_LEASES_FULL};
-    struct mantelorris_lease_reply r = mantelorris_open(&book.manager, now(), SPAN);
+    struct mantelorris_lease_reply r = mantelorris_open(&book.manager, now(), span);
     if (r.number == 0) *row = (struct named){.name = name, .client = mantelorris_packet_client(r.packet)};
     return r;
 }
 
-static struct mantelorris_lease_reply renew_lease(uint64_t name) {
+static struct mantelorris_lease_reply renew_lease(uint64_t name, uint32_t span) {
     struct named *row = named(name);
-    return row ? mantelorris_renew(&book.manager, row->client, now(), SPAN) : (struct mantelorris_lease_reply){.number = MANTELORRIS_UNKNOWN};
+    return row ? mantelorris_renew(&book.manager, row->client, now(), span) : (struct mantelorris_lease_reply){.number = MANTELORRIS_UNKNOWN};
 }
 
 /* stored, then answered; a lease that has ended is no lease any more */
 static void asked(const uint8_t *message, const address *from) {
     uint64_t name = mantelorris_word_at(message, 4);
-    struct mantelorris_lease_reply r = message[0] == LINE_OPEN ? open_lease(name) : renew_lease(name);
+    uint32_t wanted = mantelorris_number_at(message, 12), span = wanted < SPAN ? wanted : SPAN; /* 0: malformed */
+    struct mantelorris_lease_reply r = message[0] == LINE_OPEN ? open_lease(name, span) : renew_lease(name, span);
     uint8_t out[LEASE_SIZE] = {LINE_LEASE, (uint8_t)r.number};
     if (r.number == 0) store();
     if (r.kind == MANTELORRIS_KIND_NOTICE) out[1] = MANTELORRIS_UNKNOWN;
@@ -151,7 +152,7 @@ static void asked(const uint8_t *message, const address *from) {
 
 /* ---- notices */
 
-/* a cabinet whose table is full asks for each of its clients */
+/* a cabinet whose table is full asks for each of its clients, a desk for the one whose duty it takes over */
 static void queried(uint32_t client, const address *from) {
     struct mantelorris_lease_reply r = mantelorris_query(&book.manager, client, now());
     if (r.number || r.kind != MANTELORRIS_KIND_NOTICE) return;

@@ -1,11 +1,12 @@
 /* The line of a plant with several cabinets, a lease manager and desks: UDP on 127.0.0.1, and the messages that go over it beside the library's packets (first byte 1
  * to 6). Each may be lost, late or repeated, and whoever sent one sends it again until the answer has come, so each is made such that a repeat does no harm.
  *
- *     OPEN    desk to lease manager      0 0 0, name (8)                    a lease for the desk of this name, drawn at random at each of its starts
- *     RENEW   desk to lease manager      0 0 0, name (8)                    a later end
+ *     OPEN    desk to lease manager      0 0 0, name (8), seconds           a lease for the desk of this name, drawn at random at each of its starts
+ *     RENEW   desk to lease manager      0 0 0, name (8), seconds           a later end
  *     LEASE   the answer to both         number 0 0, name (8), grant (12)   number: 0, or the refusal's, and then there is no grant
- *     QUERY   cabinet to lease manager   0 0 0, client                      has its lease ended? Then the notice comes
- *     SAVED   cabinet to lease manager   server 0 0, client, heard time     the client is not known here, and the card has that: the answer to a notice
+ *     QUERY   any to lease manager       0 0 0, client                      has its lease ended? Then the notice comes, to hand on to cabinets
+ *     SAVED   cabinet, to a notice       server 0 0, client, heard time,    the client is not known here, and the card has that; which points are held here then, a bit
+ *                                        points (8)                         for each: of these the card's heard time is the fence
  *     MOVE    desk to cabinets           point destination 0, move          give the point away, if this would be its move of this number
  *     PLACE   the answer                 point status server, move          where the point stands there
  *     PIECE   giver to taker             point index 0, length, sum (8)     up to 1,024 bytes of an image of this length and sum; the answer is a receipt
@@ -24,11 +25,11 @@
 #include <time.h>
 
 enum { LINE_OPEN = 0x81, LINE_RENEW, LINE_LEASE, LINE_QUERY, LINE_SAVED, LINE_MOVE, LINE_PLACE, LINE_PIECE };
-enum { ASK_SIZE = 12, LEASE_SIZE = 24, QUERY_SIZE = 8, SAVED_SIZE = 12, MOVE_SIZE = 8, PIECE_HEAD = 16, PIECE_BYTES = 1024, LINE_LONGEST = PIECE_HEAD + PIECE_BYTES };
+enum { ASK_SIZE = 16, LEASE_SIZE = 24, QUERY_SIZE = 8, SAVED_SIZE = 20, MOVE_SIZE = 8, PIECE_HEAD = 16, PIECE_BYTES = 1024, LINE_LONGEST = PIECE_HEAD + PIECE_BYTES };
 enum { CABINETS = 2 };
 
 #ifndef SPAN
-#define SPAN 600 /* seconds of a lease */
+#define SPAN 600 /* seconds of a lease, at most */
 #endif
 
 typedef struct sockaddr_in address;

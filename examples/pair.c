@@ -80,6 +80,10 @@ static void start(void) {
         fprintf(stderr, "pair: the card is of server %u, and this is server %u\n", mantelorris_server(state), server);
         exit(1);
     }
+    if (memcmp(mantelorris_plan(state), plan, sizeof plan)) {
+        fprintf(stderr, "pair: the card has another plan\n");
+        exit(1);
+    }
     card_store(&card, checkpoint, card.base, log_space, (size_t)mantelorris_length(state));
     move_gate();
 }
@@ -100,11 +104,11 @@ static void print_card(void) {
 
 /* ---- the lease manager */
 
-/* 8, clients full: it is asked for each client known here, and sends the notices of those whose lease has ended (docs/STATE.md: the clients) */
+/* 8, clients full: it is asked for each client known here, and sends the notices of those whose lease has ended */
 static void ask_for_notices(void) {
-    for (uint32_t i = 0; i < mantelorris_number_at(state, 12); i++) {
+    for (uint32_t i = 0; i < mantelorris_clients(state); i++) {
         uint8_t query[QUERY_SIZE] = {LINE_QUERY};
-        memcpy(query + 4, state + 3112 + 8 * i, 4);
+        put32(query + 4, mantelorris_client_number(state, i));
         line_send(line, &leases, query, sizeof query);
     }
 }
@@ -196,8 +200,14 @@ static void take_request(const uint8_t *packet, size_t length, const address *fr
     else if (number == 0) owe(MANTELORRIS_KIND_RESULT, mantelorris_packet_client(packet), mantelorris_packet_call(packet), from);
 }
 
+static uint64_t held_points(void) {
+    uint64_t points = 0;
+    for (uint32_t point = 0; point < MANTELORRIS_POINTS; point++) points |= (uint64_t)(mantelorris_status(state, point) == MANTELORRIS_HELD) << point;
+    return points;
+}
+
 static void answer(const struct owed *o) {
-    uint8_t out[MANTELORRIS_REPLY_SIZE] = {o->kind};
+    uint8_t out[SAVED_SIZE] = {o->kind}; /* the longest of them */
     uint64_t a = 0;
     size_t n = 0;
     if (o->kind == MANTELORRIS_KIND_RESULT) a = mantelorris_fetch(state, sizeof state, log_space, sizeof log_space, o->a, o->b, out, sizeof out);
@@ -206,6 +216,7 @@ static void answer(const struct owed *o) {
         out[1] = (uint8_t)server;
         put32(out + 4, o->a);
         put32(out + 8, mantelorris_heard(state)); /* all of the log is synced */
+        put64(out + 12, held_points());
         n = SAVED_SIZE;
     }
     if (o->kind == LINE_PLACE) {

@@ -2,25 +2,29 @@
  * open, renews its lease, and leaves; now and then it has the gate's point moved to the other cabinet. Whatever the line loses or repeats and whoever is killed, each step is
  * carried out once.
  *
- *     pair_desk LEASES CABINET0 CABINET1 [STEPS [MOVE_EVERY]]      the ports; ends with 0 when so many steps have completed and no result came twice
+ *     pair_desk LEASES CABINET0 CABINET1 [STEPS [MOVE_EVERY [LOST..]]]      the ports; ends with 0 when so many steps have completed and no result came twice. LOST: the clients
+ *                                                                           of a pair_desk that was killed, whose gate this one takes over
  *
- * Prints a line for each name that it asks by, each client, step and result.
+ * Prints a line for each name that it asks by, each client, step and result, and when a client has left with nothing open, or was lost and the fence stands.
  *   1. A desk draws a name at random and asks for a lease by it until the answer with this name comes. The first answer starts its client; what comes after it, a repeat or a renewal,
  *      is only received: a client that is started twice would give one number to two commands.
  *   2. A command goes to the cabinet that had the point last; where that refuses it with 3, the same call goes to the other one. Never a new call.
  *   3. It asks for a later end by its own clock, counted from when it asked last: the lease cannot end before that time and a span.
- *   4. Where the lease has ended all the same, nobody may take its open commands as not carried out: they are counted as unknown, and a new desk begins and reads the gate. */
+ *   4. Where the lease has ended all the same, nobody may take its open commands as not carried out: they are counted as unknown, and a new desk begins and reads the gate.
+ *   5. Before that, the fence: the cabinet that holds the gate has a notice of each lost desk on its card, or a later one. From then on no command of a lost desk is carried out on the gate,
+ *      so what the new desk reads is the last that they did. It counts on that: each of its own steps adds 1 to what it has read. */
 #define _GNU_SOURCE
 #include "line.h"
 #include "mantelorris_client.h"
 #include <sys/random.h>
 
-enum { GATE = 5, OPEN = 4, EACH = 12, MOST = 100000, AGAIN_MS = 15, PATIENCE_MS = 60000 };
+enum { GATE = 5, OPEN = 4, EACH = 12, MOST = 100000, AGAIN_MS = 15, PATIENCE_MS = 60000, SHORT = 1, LOST = 64 };
 
 static int line;
 static address leases, cabinet[CABINETS];
 static struct mantelorris_client client;
 static uint64_t name;
+static uint32_t span;                 /* seconds of its lease */
 static int started, over;             /* the first grant has come; the lease has ended */
 static long asked, granted;           /* when the desk asked for its lease: at last, and before the grant that it has */
 static uint32_t at;                   /* the cabinet that commands go to */
@@ -29,6 +33,10 @@ static uint32_t holder, move;         /* that cabinet, and the point's move ther
 static uint32_t ordered, every;       /* the move that is under way, 0: none; a move after so many steps */
 static int stepping;                  /* the results that come are those of steps */
 static uint8_t quality;               /* of the last result */
+static int32_t value;
+static int32_t most;                  /* what the gate has when all steps of this desk are carried out, and nothing else */
+static uint32_t lost[LOST];           /* clients whose commands may still be on the way */
+static size_t losts;
 static uint8_t seen[MOST + 1];        /* results of steps, by value */
 static unsigned long steps, again, completed, unknown, moves, desks, refused[32];
 static long last_news;
@@ -43,6 +51,7 @@ static void fail(const char *what) {
 static void ask(uint8_t kind) {
     uint8_t message[ASK_SIZE] = {kind};
     put64(message + 4, name);
+    put32(message + 12, span);
     line_send(line, &leases, message, sizeof message);
     asked = milliseconds();
 }
@@ -60,7 +69,7 @@ static void take_lease(const uint8_t *message) {
         if (s.number) return;
         client = s.client;
         started = 1;
-        printf("client %u\n", client.client);
+        printf("%s %u\n", span == SPAN ? "client" : "messenger", client.client);
     }
     granted = asked;
     last_news = milliseconds();
@@ -71,10 +80,12 @@ static void take_lease(const uint8_t *message) {
 static void take_result(const struct mantelorris_receive_reply *r) {
     last_news = milliseconds();
     quality = r->quality;
+    value = r->value;
     if (r->outcome != MANTELORRIS_OUTCOME_DONE) fail("a command was carried out with another outcome");
     if (!stepping) return;
     printf("result %d\n", r->value);
     if (r->value < 1 || r->value > MOST || seen[r->value]) fail("a result that another command had: a step was carried out twice, or not at all");
+    if (r->value > most) fail("a result above this desk's own steps: a lost desk's command was carried out behind the fence");
     seen[r->value] = 1;
     completed++;
 }
@@ -98,6 +109,27 @@ static void take_place(const uint8_t *message) {
     last_news = milliseconds();
 }
 
+/* ---- the fence: notices of lost desks, and what the cabinet that holds the gate says of them */
+
+static uint32_t asked_for;            /* the client whose notice is wanted; 0: none */
+static uint8_t notice[12];            /* it, once the lease has ended; before that its first byte is 0 */
+static int answered;                  /* the cabinet that holds the gate has answered it */
+static uint32_t heard;                /* the heard time that it has on its card */
+
+static void take_notice(const uint8_t *packet) {
+    if (mantelorris_packet_client(packet) != asked_for || notice[0]) return;
+    memcpy(notice, packet, sizeof notice);
+    last_news = milliseconds();
+}
+
+static void take_saved(const uint8_t *message) {
+    int holds = mantelorris_word_at(message, 12) >> GATE & 1;
+    if (!holds || mantelorris_number_at(message, 4) != asked_for) return;
+    answered = 1;
+    heard = mantelorris_number_at(message, 8);
+    last_news = milliseconds();
+}
+
 static void listen_for(int timeout) {
     uint8_t message[LINE_LONGEST];
     address from;
@@ -106,6 +138,8 @@ static void listen_for(int timeout) {
     while ((n = line_receive(line, message, &from))) {
         if (message[0] == LINE_LEASE && n == LEASE_SIZE) take_lease(message);
         if (message[0] == LINE_PLACE && n == MOVE_SIZE && message[1] == GATE) take_place(message);
+        if (message[0] == MANTELORRIS_KIND_NOTICE && n == sizeof notice) take_notice(message);
+        if (message[0] == LINE_SAVED && n == SAVED_SIZE) take_saved(message);
         if (!started || message[0] >= LINE_OPEN) continue;
         struct mantelorris_receive_reply r = mantelorris_receive(&client, message, n);
         if (r.number == 0 && r.kind == MANTELORRIS_KIND_RESULT) take_result(&r);
@@ -134,7 +168,22 @@ static void repeat(void) {
         again++;
     }
     if (ordered) order(ordered);
-    if (last - granted > SPAN * 1000 / 3 && last - asked > 10 * AGAIN_MS) ask(LINE_RENEW);
+    if (last - granted > (long)span * 1000 / 3 && last - asked > 10 * AGAIN_MS) ask(LINE_RENEW);
+}
+
+/* the notice of a client comes once its lease has ended; both cabinets get it until the one that holds the gate has answered. The notice's time. That cabinet's own, heard, is under it
+ * where it does not know the client, or no longer: then it has had another notice of it, or none */
+static uint32_t hand_over(uint32_t ended) {
+    uint8_t query[QUERY_SIZE] = {LINE_QUERY};
+    put32(query + 4, ended);
+    asked_for = ended;
+    notice[0] = 0;
+    for (answered = 0; !answered; listen_for(4 * AGAIN_MS)) {
+        if (notice[0] == 0) line_send(line, &leases, query, sizeof query);
+        for (int i = 0; i < CABINETS && notice[0]; i++) line_send(line, &cabinet[i], notice, sizeof notice);
+    }
+    asked_for = 0;
+    return mantelorris_packet_time(notice);
 }
 
 static int open_calls(void) {
@@ -161,9 +210,10 @@ static int issue(uint32_t op, int32_t argument, int most) {
 
 /* ---- a desk: from its name to its leaving */
 
-static void start(void) {
+static void start(uint32_t seconds) {
     client = (struct mantelorris_client){0};
     started = over = stepping = 0;
+    span = seconds;
     if (getrandom(&name, sizeof name, 0) != sizeof name) fail("no random number");
     printf("name %016llx\n", (unsigned long long)name);
     desks++;
@@ -173,20 +223,41 @@ static void start(void) {
     }
 }
 
+/* A cabinet that answers a notice with an earlier time of its own is brought to a later one by a messenger: a desk of a short lease that reads the gate there and leaves, and whose notice
+ * that cabinet then takes. The lease manager's time never falls, so it is not under the times before. */
+static void fence(void) {
+    uint32_t latest = 0;
+    for (size_t i = 0; i < losts; i++) {
+        uint32_t time = hand_over(lost[i]);
+        if (latest < time) latest = time;
+    }
+    while (losts && heard < latest) {
+        start(SHORT);
+        uint32_t messenger = client.client;
+        if (issue(MANTELORRIS_READ, 0, 0)) hand_over(messenger);
+    }
+    while (losts) printf("fence %u\n", lost[--losts]);
+}
+
 static int step(void) {
     printf("step\n");
+    most++;
     if (every && ++steps % every == 0 && !ordered) order(ordered = move + 1);
     return issue(MANTELORRIS_STEP, 1, OPEN - 1);
 }
 
-/* up to so many steps. A desk begins by reading the gate: the one before may have left commands on the way */
-static void work(unsigned long most) {
-    start();
+/* up to so many steps. A desk begins behind the fence and by reading the gate: the one before may have left commands on the way */
+static void work(unsigned long count) {
+    fence();
+    start(SPAN);
     int runs = issue(MANTELORRIS_READ, 0, 0);
     if (runs && quality == MANTELORRIS_INVALID) runs = issue(MANTELORRIS_SET, 0, 0);
     stepping = runs;
-    for (unsigned long i = 0; i < most && runs; i++) runs = step();
+    most = value;
+    for (unsigned long i = 0; i < count && runs; i++) runs = step();
     if (stepping && !settled(0)) unknown += (unsigned long)open_calls();
+    if (over) lost[losts++] = client.client;
+    else printf("left %u\n", client.client); /* nothing of it is open */
 }
 
 static void summary(void) {
@@ -197,12 +268,13 @@ static void summary(void) {
 }
 
 int main(int argc, char **argv) {
-    if (argc < 4 || argc > 6) {
-        fprintf(stderr, "usage: pair_desk LEASES CABINET0 CABINET1 [STEPS [MOVE_EVERY]]\n");
+    if (argc < 4 || argc > 6 + LOST - 1) {
+        fprintf(stderr, "usage: pair_desk LEASES CABINET0 CABINET1 [STEPS [MOVE_EVERY [LOST..]]]\n");
         return 2;
     }
     unsigned long total = argc > 4 ? strtoul(argv[4], NULL, 10) : 200;
     every = argc > 5 ? (uint32_t)atoi(argv[5]) : 10;
+    for (int i = 6; i < argc; i++) lost[losts++] = (uint32_t)strtoul(argv[i], NULL, 10);
     setvbuf(stdout, NULL, _IOLBF, 0);
     line = line_open("0");
     leases = line_address(argv[1]);

@@ -15,8 +15,8 @@
  *
  * Request. Number 0 and nothing written: the command is executed, and its record stands in the log. There is no packet to send yet: send a
  * result once its record is synced. The client repeats its request for that, or the host calls fetch after the sync and sends what it
- * gives. Number 0 and 16 bytes: the result packet; send it. A number from 3 to 9: 12 bytes, the refusal packet; send it. Number 4 or 5 does
- * not say that the command was not executed: it may have been.
+ * gives. Number 0 and 16 bytes: the result packet; send it. A number from 3 to 9: 12 bytes, the refusal packet; send it. No number says that
+ * the command was not executed: it may have been, by an earlier packet or at another server.
  *
  * Sync. Write the log's bytes from mantelorris_mark(state) to mantelorris_length(state) to the card; when the card has them for certain, call
  * sync with the length up to which it has them. Results, images and receipts are given for what is synced, and for nothing else (7). One
@@ -27,7 +27,8 @@
  * begins with the same bytes. An incomplete last record is dropped; mantelorris_length(state) is the log's length then, and all of it
  * counts as synced. Until recover has answered 0, call nothing else; after a refusal call it again.
  * Both recoveries take the server's number from the card and compare it with nothing: all servers have one plan, so the card of another one is as good.
- * Compare mantelorris_server(state) with the number of this cabinet before anything else is done, and do not serve where they differ.
+ * Compare mantelorris_server(state) with the number of this cabinet before anything else is done, and do not serve where they differ. Nor do they tell another
+ * plan: a log that fits the given plan is taken, and with a checkpoint the plan is the card's. Compare mantelorris_plan(state) with this cabinet's too.
  * Recover without a crash (another program takes over) is lent the log up to its recorded length, which the card must have.
  *
  * Log end. Recover walks the log twice: it finds the ends of all records, then it replays them. mantelorris_log_end is the first walk by itself, on
@@ -296,6 +297,28 @@ static inline uint64_t mantelorris_mark(const uint8_t *state) {
     return mantelorris_word_at(state, 32);
 }
 
+/* the plan that the state has, MANTELORRIS_PLAN_SIZE bytes: the one that was given, or the checkpoint's */
+static inline const uint8_t *mantelorris_plan(const uint8_t *state) {
+    return state + 40;
+}
+
+/* ---- the clients that a state knows, at most MANTELORRIS_CLIENTS, by ascending number: how many there are, and of each (from 0) its number and its floor. After refusal 8 ask
+ * the lease manager for each of them */
+
+#define MANTELORRIS_CLIENTS 32
+
+static inline uint32_t mantelorris_clients(const uint8_t *state) {
+    return mantelorris_number_at(state, 12);
+}
+
+static inline uint32_t mantelorris_client_number(const uint8_t *state, uint32_t index) {
+    return mantelorris_number_at(state, 3112 + 8 * (size_t)(index % MANTELORRIS_CLIENTS));
+}
+
+static inline uint32_t mantelorris_client_floor(const uint8_t *state, uint32_t index) {
+    return mantelorris_number_at(state, 3116 + 8 * (size_t)(index % MANTELORRIS_CLIENTS));
+}
+
 /* ---- a point in the state, after a call that answered 0. Drive a gate from its value, and only once the log is synced */
 
 static inline size_t mantelorris_point_at(uint32_t point) {
@@ -404,13 +427,17 @@ static inline uint32_t mantelorris_image_move(const uint8_t *image) {
     return mantelorris_number_at(image, 8);
 }
 
-/* ---- client and call of a request, result or refusal packet that a call has accepted or made */
+/* ---- of a packet that a call has accepted or made: the client, of all but a receipt; the call, of a request, result or refusal; the time, of a notice, and the lease end, of a grant */
 
 static inline uint32_t mantelorris_packet_client(const uint8_t *packet) {
     return mantelorris_number_at(packet, 4);
 }
 
 static inline uint32_t mantelorris_packet_call(const uint8_t *packet) {
+    return mantelorris_number_at(packet, 8);
+}
+
+static inline uint32_t mantelorris_packet_time(const uint8_t *packet) {
     return mantelorris_number_at(packet, 8);
 }
 

@@ -1,6 +1,6 @@
 #!/usr/bin/env bash
 # What `make dist` packs: the same bytes from two folders, each file as MANIFEST says and none beside them, a page without a lost picture; unpacked anywhere, the example host is built by pkg-config's
-# line and by CMake, which refuses a later version. `make install` with DESTDIR.
+# line and by CMake, which refuses a later version, and tried under power cuts. `make install` with DESTDIR.
 set -eu
 cd "$(dirname "$0")/.."
 top=$PWD
@@ -55,6 +55,8 @@ cc examples/host.c examples/card.c $flags -o "$work/host"
 "$work/host" >/dev/null 2>&1 && exit 1 # it asks for a card
 # and by the guide's line
 $(sed -nE 's/^    (cc examples\/host.c .* -Llib .*)$/\1/p' "$top/docs/GUIDE.md")
+# a maker's trial of it, with what is in the delivery and no kit
+PATH=/usr/local/bin:/usr/bin:/bin POWER_KILLS=12 tests/c/power.py --serve './host {card} {port} 400' --found './host --found {card}' >"$work/power" 2>&1 || { cat "$work/power"; exit 1; }
 rm host
 if command -v cmake >/dev/null; then
   printf 'cmake_minimum_required(VERSION 3.5)\nproject(user C)\nfind_package(mantelorris 1.0 REQUIRED)\nfind_package(mantelorris 2.0 QUIET)\nif(mantelorris_FOUND)\n  message(FATAL_ERROR "2.0")\nendif()\n' >"$work/CMakeLists.txt"

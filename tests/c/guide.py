@@ -145,7 +145,7 @@ def copied():
 
 
 def main():
-    if DIST == 'dist':
+    if not os.environ.get('MANTELORRIS_DIST'):
         if subprocess.run(['tools/lib.sh'], stdout=subprocess.DEVNULL).returncode:
             sys.exit('no library, and nothing to hold the documents to')
     for part in (stack, stale, examples, sizes, memory, refusal_names, safety_file, readme, copied):

@@ -107,9 +107,25 @@ static void request(struct mantelorris_client *client, uint32_t op, int32_t argu
     is("a request", r.packet, r.length, 0, 0, 0);
 }
 
+/* the table of clients: this client is there with this floor, and with it there are so many */
+static void known(uint32_t count, uint32_t client, uint32_t floor) {
+    uint32_t at = 0;
+    expect("clients", mantelorris_clients(state), count);
+    while (at < mantelorris_clients(state) && mantelorris_client_number(state, at) != client) at++;
+    expect("clients: this one", at < count, floor != 0);
+    expect("clients: its floor", mantelorris_client_floor(state, at), floor); /* past the last row: 0 */
+    expect("clients: ascending", at && floor && mantelorris_client_number(state, at - 1) >= client, 0);
+}
+
 static void synced(void) {
     expect("sync", mantelorris_sync(state, sizeof state, space, SPACE, mantelorris_length(state)), 0);
     expect("mark", mantelorris_mark(state), mantelorris_log_end(space, mantelorris_length(state)).end);
+}
+
+static void fetched(struct mantelorris_client *client, uint32_t call) {
+    uint8_t out[MANTELORRIS_REPLY_SIZE];
+    uint64_t a = mantelorris_fetch(state, sizeof state, space, SPACE, client->client, call, out, sizeof out);
+    expect("receive", mantelorris_receive(client, out, mantelorris_written(a)).number, 0);
 }
 
 static void taken_by(uint32_t server, size_t length, uint32_t want) {
@@ -122,18 +138,29 @@ static void heard_and_moved(void) {
     struct mantelorris_lease_reply grant = mantelorris_open(&manager, 0, 600), notice;
     struct mantelorris_client first = mantelorris_start(grant.packet, grant.length).client, second;
     expect("found", founded(1), 0);
+    expect("the plan", (uint64_t)memcmp(mantelorris_plan(state), plan, sizeof plan), 0);
+    known(0, first.client, 0);
     is("a log", space, mantelorris_length(state), 1, 0, 0);
     stored();
     request(&first, MANTELORRIS_SET, 40, 0);
     request(&first, MANTELORRIS_STEP, 2, 0);
+    known(1, first.client, 1);
     grant = mantelorris_open(&manager, 1, 650);
     second = mantelorris_start(grant.packet, grant.length).client;
     request(&second, MANTELORRIS_READ, 0, 0);
     synced();
+    fetched(&second, 1);
+    request(&second, MANTELORRIS_READ, 0, 0);
+    known(2, first.client, 1);
+    known(2, second.client, 2); /* its first call is finished at the desk */
+    synced();
     stored();
+    expect("grant: its end", mantelorris_packet_time(grant.packet), second.lease);
     notice = mantelorris_query(&manager, first.client, 651);
     expect("notice", mantelorris_notice(state, sizeof state, space, SPACE, notice.packet, notice.length), 0);
-    expect("heard: the notice's time", mantelorris_heard(state), mantelorris_number_at(notice.packet, 8));
+    expect("heard: the notice's time", mantelorris_heard(state), mantelorris_packet_time(notice.packet));
+    known(1, mantelorris_packet_client(notice.packet), 0);
+    known(1, second.client, 2);
     request(&second, MANTELORRIS_READ, 0, MANTELORRIS_LEASE_ENDED); /* its lease ends at the heard time */
     expect("heard: the second's end", mantelorris_heard(state), second.lease);
 
@@ -150,11 +177,34 @@ static void heard_and_moved(void) {
     expect("image: its move", mantelorris_image_move(image), mantelorris_move(state, POINT));
     taken_by(8, mantelorris_written(a), MANTELORRIS_BAD_DESTINATION);
     taken_by(mantelorris_image_destination(image), mantelorris_written(a), 0);
+    expect("taken: its clients", mantelorris_clients(other), mantelorris_clients(state));
     expect("taken: heard", mantelorris_heard(other), mantelorris_heard(state));
     expect("taken: value", (uint32_t)mantelorris_value(other, mantelorris_image_point(image)), 42);
     expect("taken: move", mantelorris_move(other, POINT), mantelorris_image_move(image));
     stored();
     is("nothing", NULL, 0, 0, 0, 0);
+}
+
+/* a full table has its 32 clients in order; the next one is refused with 8. What recovery does not tell, the state's plan does */
+static void full(void) {
+    struct mantelorris_lease_manager manager = mantelorris_leases();
+    uint8_t narrower[MANTELORRIS_PLAN_SIZE];
+    expect("found", founded(1), 0);
+    for (uint32_t i = 0; i <= MANTELORRIS_CLIENTS; i++) {
+        struct mantelorris_lease_reply grant = mantelorris_open(&manager, i, 30); /* at most 30 run at a time */
+        struct mantelorris_client client = mantelorris_start(grant.packet, grant.length).client;
+        request(&client, MANTELORRIS_SET, 1, i < MANTELORRIS_CLIENTS ? 0 : MANTELORRIS_CLIENTS_FULL);
+    }
+    expect("clients, full", mantelorris_clients(state), MANTELORRIS_CLIENTS);
+    for (uint32_t i = 0; i < mantelorris_clients(state); i++) expect("clients, full: each", mantelorris_client_number(state, i) << 8 | mantelorris_client_floor(state, i), (i + 1) << 8 | 1);
+    synced();
+    memcpy(narrower, plan, sizeof plan);
+    mantelorris_plan_row(narrower, POINT + 1, 0, 5, 1, 3);
+    expect("recover, by another plan", mantelorris_recover(other, sizeof other, space, mantelorris_length(state), narrower, sizeof narrower), 0);
+    expect("another plan, of a log: as given", (uint64_t)memcmp(mantelorris_plan(other), narrower, sizeof narrower), 0);
+    stored();
+    expect("recover_checkpoint", mantelorris_recover_checkpoint(other, sizeof other, checkpoint, sizeof checkpoint, tail, sizeof tail), 0);
+    expect("the plan, of a checkpoint", (uint64_t)memcmp(mantelorris_plan(other), plan, sizeof plan), 0);
 }
 
 static void names(void) {
@@ -174,6 +224,7 @@ static void names(void) {
 int main(void) {
     plans();
     heard_and_moved();
+    full();
     names();
     printf("%d passed, %d failed\n", passed, failed);
     return failed != 0;

@@ -6,7 +6,9 @@
   - a full table of clients at a cabinet: it asks the lease manager for their notices
   - a plant over a poor line, every party killed again and again, desks among them: each step is carried out once, each name has at most one lease, each client number one desk, and in the
     end every cabinet has answered every notice
-  - programs with a planted fault fail these: a grant that leaves before the file has it, a repeated open that takes a lease, answers before the card has the log, a client started by each grant
+  - a desk is lost with a command on its way, at a cabinet that does not know it: its successor begins behind the fence, and the command, which comes late, is not carried out
+  - programs with a planted fault fail these: a grant that leaves before the file has it, a repeated open that takes a lease, answers before the card has the log, a client started by each grant,
+    a successor without the fence, one that does not look at the cabinet's heard time
 PLANT_SEED sets the seed, PLANT_SECONDS how long the plant is disturbed. MANTELORRIS_DIST names a folder with archive and headers; without it `make lib` makes dist/."""
 import os, random, re, shutil, signal, socket, struct, subprocess, sys, tempfile, time
 
@@ -15,12 +17,12 @@ os.chdir(ROOT)
 SEED = int(os.environ.get('PLANT_SEED', '0')) or random.SystemRandom().randrange(1, 1 << 30)
 SECONDS = float(os.environ.get('PLANT_SECONDS', '4.5'))
 DIST = os.environ.get('MANTELORRIS_DIST') or 'dist'
-FLAGS = ['-std=gnu11', '-O1', '-Wall', '-Wextra', '-Werror', '-I' + DIST, '-Iexamples', '-DSPAN=2']
+FLAGS = ['-std=gnu11', '-O1', '-Wall', '-Wextra', '-Werror', '-I' + DIST, '-Iexamples', '-DSPAN=2']  # seconds of a lease, as SPAN below
 SOURCES = {'leases': ['examples/leases.c'], 'pair': ['examples/pair.c', 'examples/card.c'], 'pair_desk': ['examples/pair_desk.c'], 'relay': ['examples/relay.c']}
 PATIENCE = 40  # seconds for what takes less than one on a machine with nothing else to do
 WORK = tempfile.mkdtemp(prefix='mantelorris-plant-')
 OPEN, RENEW, LEASE, QUERY, SAVED, MOVE, PLACE, PIECE = range(0x81, 0x89)
-GATE = 5
+GATE, SPAN = 5, 2
 passed, failed = 0, 0
 began = time.time()
 running = []
@@ -101,7 +103,7 @@ def asked(line, port, message, good):
 # ---- the lease manager by itself
 
 def grant_of(line, port, name):
-    answer = asked(line, port, struct.pack('<B3xQ', OPEN, name), lambda a: len(a) == 24 and a[0] == LEASE and struct.unpack_from('<Q', a, 4)[0] == name)
+    answer = asked(line, port, struct.pack('<B3xQI', OPEN, name, SPAN), lambda a: len(a) == 24 and a[0] == LEASE and struct.unpack_from('<Q', a, 4)[0] == name)
     return answer and (answer[1], answer[12:])
 
 
@@ -242,7 +244,7 @@ def full_table(pair, leases, hook, rng):
         p.start()
     for name in range(1, 34):
         # a desk that finds no lease free asks again until one has ended
-        answer = asked(line, port, struct.pack('<B3xQ', OPEN, name), lambda a: len(a) == 24 and a[0] == LEASE and a[1] == 0 and struct.unpack_from('<Q', a, 4)[0] == name)
+        answer = asked(line, port, struct.pack('<B3xQI', OPEN, name, SPAN), lambda a: len(a) == 24 and a[0] == LEASE and a[1] == 0 and struct.unpack_from('<Q', a, 4)[0] == name)
         client, lease = struct.unpack_from('<II', answer, 16) if answer else (0, 0)
         if not asked(line, at, struct.pack('<BBBBIIIIi', 1, 0, GATE, 0, client, 1, 1, lease, 0), result(client)):
             wrong = wrong or 'name %d has no result' % name
@@ -251,17 +253,57 @@ def full_table(pair, leases, hook, rng):
     return wrong or ('' if 8 in refusals else 'the table was never full')
 
 
+def late_command(pair, leases, pair_desk, name):
+    """a desk is lost that no cabinet knows, with a step on its way that comes when its successor is at work; what went wrong, or ''"""
+    book, line, (port, *at) = os.path.join(WORK, name + '.book'), socket.socket(socket.AF_INET, socket.SOCK_DGRAM), ports(3)
+    cards = founded(pair, name)
+    subprocess.run([leases, '--found', book], check=True)
+    start([leases, book, port, *at])
+    for i, card in enumerate(cards):
+        start([pair, card, str(i), at[i], port, at[1 - i]])
+    first, until = subprocess.run([pair_desk, port, *at, '1', '0'], capture_output=True, text=True), time.time() + PATIENCE  # sets the gate
+    while ', 0 desks' not in said([leases, book])[1] and time.time() < until:  # its notice is saved: the cabinets' heard time stays from here on
+        time.sleep(0.02)
+    granted = grant_of(line, port, 77)
+    client, lease = struct.unpack_from('<II', granted[1], 4)
+    late = struct.pack('<BBBBIIIIi', 1, 2, GATE, 0, client, 1, 1, lease, 1)
+    out = open(os.path.join(WORK, name + '.out'), 'w+')
+    desk = subprocess.Popen([pair_desk, port, *at, '60', '4', str(client)], stdout=out, stderr=subprocess.PIPE, text=True)
+    running.append(desk)
+    refusals, until = set(), time.time() + PATIENCE
+    while desk.poll() is None and time.time() < until:
+        time.sleep(0.002)
+        if 'result' not in open(out.name).read():
+            continue
+        for cabinet in at:
+            line.sendto(late, ('127.0.0.1', int(cabinet)))
+        try:
+            line.settimeout(0.001)
+            answer = line.recv(2048)
+            refusals.add(answer[1] if answer[0] == 3 else 0)
+        except (TimeoutError, socket.timeout, ConnectionError):
+            pass
+    kill(desk)
+    said_last, text = desk.stderr.read().strip(), open(out.name).read()
+    for p in list(running):
+        kill(p)
+    if first.returncode or desk.returncode:
+        return 'the successor has ended with %d: %s' % (desk.returncode, said_last)
+    return '' if 'fence %d' % client in text and refusals <= {3, 4} and 4 in refusals else 'answers to the late command: %s' % refusals
+
+
 # ---- the plant
 
 class Desk:
-    """desks one after the other; what all of them have said"""
+    """desks one after the other; what all of them have said. One that follows a killed one is told of its clients"""
 
     def __init__(self, words):
         self.words, self.lines, self.kills, self.process, self.status = words, [], 0, None, None
         self.out = os.path.join(WORK, 'desk.out')
 
     def start(self, steps, every):
-        self.process = subprocess.Popen([*self.words, str(steps), str(every)], stdout=open(self.out, 'w'), stderr=subprocess.PIPE, text=True)
+        lost = sorted(set(self.said('client')) - set(self.said('left')) - set(self.said('fence')))
+        self.process = subprocess.Popen([*self.words, str(steps), str(every), *lost], stdout=open(self.out, 'w'), stderr=subprocess.PIPE, text=True)
         running.append(self.process)
 
     def end(self):
@@ -273,6 +315,10 @@ class Desk:
         ended, self.process = self.process, None
         self.status = ended.returncode
         return ended.stderr.read().strip() if alone and self.status else ''
+
+    def waits(self):
+        """it has no result yet"""
+        return 'result' not in open(self.out).read()
 
     def said(self, word):
         return [line.split()[1] for line in self.lines if line.startswith(word + ' ')]
@@ -290,7 +336,7 @@ def disturbed(parties, desk, rng, seconds, pair, cards):
     """kills for so many seconds; what went wrong, or '', and how many cabinets were killed while the point was on its way"""
     under_way, until, wrong = [0, 0], time.time() + seconds, ''
     lives = {p: 0 for p in parties}
-    desk_ends = 0
+    desk_ends, works = 0, 0
     while not wrong and (time.time() < until or min(under_way) == 0 and time.time() < until + PATIENCE):
         time.sleep(0.005)
         for p in parties:
@@ -302,10 +348,11 @@ def disturbed(parties, desk, rng, seconds, pair, cards):
                 under_way[seen.index('given') != cards.index(p.path)] += 1
             p.start(40)
             lives[p] = time.time() + rng.uniform(0.05, 1.2 if p.is_card else 2.5) # a manager's clock goes on by whole seconds that it has run
-        if desk.process is None or desk.process.poll() is not None or time.time() > desk_ends:
+        # every other desk is killed wherever it is, before the fence too; the others once they have worked
+        if desk.process is None or desk.process.poll() is not None or time.time() > desk_ends and not (works and desk.waits()):
             wrong = (desk.process and desk.end()) or wrong
             desk.start(100000, 4)
-            desk_ends = time.time() + rng.uniform(0.3, 2.5)
+            desk_ends, works = time.time() + rng.uniform(0.3, 2.5), rng.randrange(2)
     return wrong or desk.end(), under_way
 
 
@@ -374,7 +421,7 @@ def plant(programs, hook, rng, seconds, name, repeat=12, kills=True):
 
 
 def main():
-    if DIST == 'dist':
+    if not os.environ.get('MANTELORRIS_DIST'):
         subprocess.run(['tools/lib.sh'], check=True, stdout=subprocess.DEVNULL)
     print('seed %d' % SEED, flush=True)
     rng = random.Random(SEED)
@@ -386,6 +433,7 @@ def main():
     wrong, *counts = moves(programs['pair'], hook, rng, 4)
     told('a point moves %d times, its taker killed inside a write %d times' % tuple(counts), wrong)
     told('a full table of clients', full_table(programs['pair'], build('leases_1', SOURCES['leases'], ['-USPAN', '-DSPAN=1']), hook, rng))
+    told("a lost desk's command comes when its successor is at work: the fence", late_command(programs['pair'], programs['leases'], programs['pair_desk'], 'late'))
     wrong, seen, under_way = plant(programs, hook, rng, SECONDS, 'plant')
     print(seen)
     told('a plant under kills', wrong or (min(under_way) == 0 and 'no kill while the point was on its way'))
@@ -398,6 +446,10 @@ def main():
     planted('the mark set and answers sent before the write', moves(early, hook, rng, 60)[0])
     twice = changed('pair_desk', 'twice', '    if (started) {\n', '    if (0) {\n')
     planted('each grant starts a client', plant(dict(programs, pair_desk=twice), hook, rng, 0, 'twice', 90, False)[0])
+    unfenced = changed('pair_desk', 'unfenced', '    fence();\n    start(SPAN);', '    start(SPAN);')
+    planted('a successor starts without the fence', late_command(programs['pair'], programs['leases'], unfenced, 'late_unfenced'))
+    unheard = changed('pair_desk', 'unheard', '    while (losts && heard < latest) {', '    while (0) {')
+    planted('the heard time of a cabinet that does not know the client is not looked at', late_command(programs['pair'], programs['leases'], unheard, 'late_unheard'))
     print('%.1f s' % (time.time() - began))
     print('%d passed, %d failed' % (passed, failed))
     sys.exit(1 if failed else 0)

@@ -7,14 +7,15 @@ with card_raw.c):
     by itself; where the name of the new file is not certain, the old one may come back; the card stays small
   - the same on raw sectors: each sector that was not certain is lost, kept, torn or garbled, or the process alone has ended and all is still in the cache
   - a card cut at every byte of its last records starts with just the whole records; so does one with a checkpoint, cut in its tail
-  - damaged cards are refused with a message that says where, and stay as they were; so is another server's card, which recovery itself takes
+  - damaged cards are refused with a message that says where, and stay as they were; so are another server's card and a checkpoint of another plan, which recovery itself takes
   - printing what a card has changes nothing on it or beside it, needs no more than to read it, and may be done beside a host that serves
   - only --found founds, and only on an empty card; a second program does not get a card that is in use; the gate is driven after a start; a state that something else has
     written into is recovered from the card
   - hosts with a planted fault fail the first tests: FAULTS and RAW_FAULTS
 --serve 'COMMAND {card} {port}' --found 'COMMAND {card}' tries your own host (docs/GUIDE.md, Power cuts on your own host); --sectors: its card is raw sectors.
-POWER_SEED sets the seed, POWER_KILLS the number of kills. MANTELORRIS_DIST names a folder with archive and headers; without it `make lib` makes dist/."""
-import argparse, glob, os, random, shlex, shutil, signal, socket, struct, subprocess, sys, tempfile, threading, time
+POWER_SEED sets the seed, POWER_KILLS the number of kills. MANTELORRIS_DIST names a folder with archive and headers; without it an unpacked
+delivery takes its own, and in the repository `make lib` makes dist/."""
+import argparse, atexit, glob, os, random, shlex, shutil, signal, socket, struct, subprocess, sys, tempfile, threading, time
 from concurrent.futures import ThreadPoolExecutor
 
 ROOT = os.path.join(os.path.dirname(os.path.abspath(__file__)), '..', '..')
@@ -22,10 +23,14 @@ FROM = os.getcwd()
 os.chdir(ROOT)
 SEED = int(os.environ.get('POWER_SEED', '0')) or random.SystemRandom().randrange(1, 1 << 30)
 KILLS = int(os.environ.get('POWER_KILLS', '220'))
-DIST = os.environ.get('MANTELORRIS_DIST') or 'dist'
+NAMED = os.environ.get('MANTELORRIS_DIST')
+UNPACKED = not os.path.exists('tools/lib.sh')  # a delivery, not the repository
 HOST, RAW = ['examples/host.c', 'examples/card.c'], ['examples/host.c', 'examples/card_raw.c']
-FLAGS = ['-std=gnu11', '-O1', '-Wall', '-Wextra', '-Werror', '-I' + DIST, '-Iexamples']
+DIST = os.path.abspath(next((path for path in (os.path.join(FROM, NAMED), NAMED) if os.path.isdir(path)), NAMED) if NAMED else 'dist')
+ARCHIVE, HEADERS = ('lib/libmantelorris.a', 'include') if UNPACKED and not NAMED else (DIST + '/libmantelorris.a', DIST)
+FLAGS = ['-std=gnu11', '-O1', '-Wall', '-Wextra', '-Werror', '-I' + HEADERS, '-Iexamples']
 WORK = os.path.realpath(tempfile.mkdtemp(prefix='mantelorris-power-'))
+atexit.register(shutil.rmtree, WORK, True)
 LIMIT = 400  # bytes of log, for hosts that make checkpoints
 LARGEST = 12588 + LIMIT + 256 * 28  # a checkpoint, and a log that was just under the limit before a turn of 256 commands
 GATE = 5
@@ -51,7 +56,7 @@ def told(what, wrong):
 def build(sources, name, more=()):
     """a program of the examples"""
     out = os.path.join(WORK, name)
-    subprocess.run(['cc', *FLAGS, *more, *sources, DIST + '/libmantelorris.a', '-o', out], check=True)
+    subprocess.run(['cc', *FLAGS, *more, *sources, ARCHIVE, '-o', out], check=True)
     return out
 
 
@@ -454,6 +459,11 @@ def swapped(starts, log, card):
     blind = changed('cabinet_1_blind', [*starts[0], '    own_card();\n'], [*starts[1], ''], ['-DSERVER=1'])
     taken = [ran(blind, 'taken', c)[0] for c in (log, card)]
     count('a host that does not compare the numbers takes both, as server 0', all(done.returncode == 0 and done.stdout.startswith('server 0, ') for done in taken))
+    wider = (['-1000000, 1000000, 0, 0);'], ['-1000000, 2000000, 0, 0);'])
+    other = changed('other_plan', starts[0] + wider[0], starts[1] + wider[1])
+    told("a checkpoint of another plan is refused, and left as it was", refused(other, [('a checkpoint and its tail', card, "card: its plan is not this program's")]))
+    blind = changed('other_plan_blind', [*starts[0], *wider[0], '    own_card();\n'], [*starts[1], *wider[1], ''])
+    count('a host that does not compare the plans takes it, with the plan that it has', ran(blind, 'taken', card)[0].returncode == 0)
 
 
 def foundings(host, starter, raw, log, card):
@@ -663,7 +673,7 @@ def own_hosts(hosts):
     for name, (program, more, status) in hosts.items():
         words = [sys.executable, os.path.abspath('tests/c/power.py'), '--serve', './%s {card} {port} 400' % os.path.basename(program)]
         words += ['--found', program + ' --found {card}', *more]
-        env = dict(os.environ, POWER_KILLS='25' if status == 0 else '1000', POWER_SEED=str(SEED), MANTELORRIS_DIST=os.path.abspath(DIST))
+        env = dict(os.environ, POWER_KILLS='25' if status == 0 else '1000', POWER_SEED=str(SEED), MANTELORRIS_DIST=DIST)
         done = subprocess.run(words, cwd=WORK, env=env, capture_output=True, text=True)
         told('a maker tries %s' % name, '' if done.returncode == status and ', %d failed' % status in done.stdout else done.stdout + done.stderr)
 
@@ -688,6 +698,19 @@ def example(tools, port):
     own_hosts({'a card in a file': (host, [], 0), 'raw sectors': (raw, ['--sectors'], 0), 'one with a fault': (os.path.join(WORK, 'mark_before_write'), [], 1)})
 
 
+def made():
+    """an archive and its headers: those that are named, those of an unpacked delivery, or made anew"""
+    if NAMED or UNPACKED:
+        for path in (ARCHIVE, HEADERS + '/mantelorris.h'):
+            if not os.path.exists(path):
+                sys.exit('power.py: there is no %s; MANTELORRIS_DIST names a folder with archive and headers' % path)
+        return
+    if not shutil.which('rt'):
+        sys.exit("power.py: the kit's rt is not on the PATH, so the library cannot be made. Put it there, or name a folder that has archive and headers: MANTELORRIS_DIST=dist")
+    if subprocess.run(['tools/lib.sh'], stdout=subprocess.DEVNULL).returncode:
+        sys.exit('power.py: tools/lib.sh did not make the library')
+
+
 def main():
     words = argparse.ArgumentParser(description=__doc__, formatter_class=argparse.RawDescriptionHelpFormatter)
     words.add_argument('--serve')
@@ -698,8 +721,7 @@ def main():
     if bool(words.serve) != bool(words.found):
         sys.exit('power.py: --serve and --found belong together')
     print('seed %d' % SEED)
-    if DIST == 'dist':
-        subprocess.run(['tools/lib.sh'], stdout=subprocess.DEVNULL, check=True)
+    made()
     tools = {n: build(['examples/%s.c' % n], n) for n in ('relay', 'desk')}
     tools['hook'] = build(['tests/c/power.c'], 'power.so', ['-shared', '-fPIC', '-ldl'])
     port = 20000 + SEED % 20000
@@ -708,7 +730,6 @@ def main():
     else:
         example(tools, port)
     print('%d passed, %d failed' % (passed, failed))
-    shutil.rmtree(WORK)
     sys.exit(1 if failed else 0)
 
 
