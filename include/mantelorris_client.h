@@ -62,10 +62,14 @@ struct mantelorris_receive_reply {
     uint8_t refusal;
 };
 
-MANTELORRIS_GIVES struct mantelorris_start_reply mantelorris_start(const uint8_t *packet, size_t length);
-MANTELORRIS_GIVES struct mantelorris_send_reply mantelorris_issue(struct mantelorris_client *client, uint32_t op, uint32_t point, int32_t argument);
-MANTELORRIS_GIVES struct mantelorris_send_reply mantelorris_resend(struct mantelorris_client *client, uint32_t call);
-MANTELORRIS_GIVES struct mantelorris_receive_reply mantelorris_receive(struct mantelorris_client *client, const uint8_t *packet, size_t length);
+MANTELORRIS_GIVES
+struct mantelorris_start_reply mantelorris_start(const uint8_t *packet, size_t length);
+MANTELORRIS_GIVES
+struct mantelorris_send_reply mantelorris_issue(struct mantelorris_client *client, uint32_t op, uint32_t point, int32_t argument);
+MANTELORRIS_GIVES
+struct mantelorris_send_reply mantelorris_resend(struct mantelorris_client *client, uint32_t call);
+MANTELORRIS_GIVES
+struct mantelorris_receive_reply mantelorris_receive(struct mantelorris_client *client, const uint8_t *packet, size_t length);
 
 struct mantelorris_lease {
     uint32_t client;
@@ -87,10 +91,14 @@ struct mantelorris_lease_reply {
 };
 
 /* time 0, no leases */
-MANTELORRIS_GIVES struct mantelorris_lease_manager mantelorris_leases(void);
-MANTELORRIS_GIVES struct mantelorris_lease_reply mantelorris_open(struct mantelorris_lease_manager *manager, uint32_t time, uint32_t span);
-MANTELORRIS_GIVES struct mantelorris_lease_reply mantelorris_renew(struct mantelorris_lease_manager *manager, uint32_t client, uint32_t time, uint32_t span);
-MANTELORRIS_GIVES struct mantelorris_lease_reply mantelorris_query(struct mantelorris_lease_manager *manager, uint32_t client, uint32_t time);
+MANTELORRIS_GIVES
+struct mantelorris_lease_manager mantelorris_leases(void);
+MANTELORRIS_GIVES
+struct mantelorris_lease_reply mantelorris_open(struct mantelorris_lease_manager *manager, uint32_t time, uint32_t span);
+MANTELORRIS_GIVES
+struct mantelorris_lease_reply mantelorris_renew(struct mantelorris_lease_manager *manager, uint32_t client, uint32_t time, uint32_t span);
+MANTELORRIS_GIVES
+struct mantelorris_lease_reply mantelorris_query(struct mantelorris_lease_manager *manager, uint32_t client, uint32_t time);
 
 /* the layouts that the library has */
 MANTELORRIS_HAS_SIZE(struct mantelorris_open_call, 12);
