@@ -16,13 +16,13 @@ picture:
 demo: lib
 	@examples/demo.sh
 
-#: dist/: the library for C, its headers and a pkg-config file
+#: dist/: the library for C, its headers and a pkg-config file; TARGET=aarch64: dist/aarch64/, the same for 64-bit Arm
 lib:
-	@tools/lib.sh
+	@tools/lib.sh --target "$(TARGET)"
 
-#: the library, its headers, pkg-config and CMake files below PREFIX=/path [DESTDIR=folder]
+#: the library, its headers, pkg-config and CMake files below PREFIX=/path [DESTDIR=folder] [TARGET=aarch64]
 install:
-	@tools/lib.sh install "$(PREFIX)" "$(DESTDIR)"
+	@tools/lib.sh --target "$(TARGET)" install "$(PREFIX)" "$(DESTDIR)"
 
 #: dist/mantelorris-VERSION.tar.gz: library, headers, guide, examples, manifest
 dist:

@@ -67,6 +67,13 @@
 #include <stddef.h>
 #include <stdint.h>
 
+/* 32 bits, or the greatest byte of a number first, is another library than this one (docs/GUIDE.md, 64-bit Arm) */
+#if defined(__SIZEOF_SIZE_T__) && defined(__BYTE_ORDER__)
+#if __SIZEOF_SIZE_T__ != 8 || __BYTE_ORDER__ != __ORDER_LITTLE_ENDIAN__
+#error "mantelorris is for x86-64 and for 64-bit Arm, little-endian"
+#endif
+#endif
+
 #ifdef __cplusplus
 extern "C" {
 #endif
@@ -222,11 +229,31 @@ struct mantelorris_log_end_reply {
 
 /* the layouts that the library has */
 #if defined(__cplusplus)
-#define MANTELORRIS_HAS_SIZE(type, size) static_assert(sizeof(type) == (size), #type)
+#define MANTELORRIS_HOLDS(test, text) static_assert(test, text)
 #else
-#define MANTELORRIS_HAS_SIZE(type, size) _Static_assert(sizeof(type) == (size), #type)
+#define MANTELORRIS_HOLDS(test, text) _Static_assert(test, text)
 #endif
+#define MANTELORRIS_HAS_SIZE(type, size) MANTELORRIS_HOLDS(sizeof(type) == (size), #type)
+#define MANTELORRIS_HAS_OFFSET(type, field, offset) MANTELORRIS_HOLDS(offsetof(type, field) == (offset), #type ": " #field)
 MANTELORRIS_HAS_SIZE(struct mantelorris_log_end_reply, 16);
+MANTELORRIS_HAS_OFFSET(struct mantelorris_log_end_reply, end, 8);
+
+/* MANTELORRIS_GIVES stands before a call that gives a struct of more than 16 bytes. The library gets the place for it as its first argument. So does C on x86-64: there these are the library's own
+ * functions. C on Arm gives the place in another register: there each is an inline function over the library's, which C has as name_at; to the linker the library's function is name, and the
+ * inline one, where a compiler does not put it into its caller, name_inline. */
+#if defined(__aarch64__)
+#define MANTELORRIS_GIVES static inline
+#define MANTELORRIS_PLACED(reply, name, arguments, ...) \
+    reply *name##_at(reply *place, __VA_ARGS__) __asm__(#name); \
+    MANTELORRIS_GIVES reply name(__VA_ARGS__) __asm__(#name "_inline"); \
+    MANTELORRIS_GIVES reply name(__VA_ARGS__) { \
+        reply given; \
+        name##_at arguments; \
+        return given; \
+    }
+#else
+#define MANTELORRIS_GIVES
+#endif
 
 /* the end of a log's last whole record; the log slice is exactly what was kept */
 struct mantelorris_log_end_reply mantelorris_log_end(const uint8_t *log, size_t log_length);
@@ -243,10 +270,20 @@ struct mantelorris_place {
 };
 
 MANTELORRIS_HAS_SIZE(struct mantelorris_place, 24);
+MANTELORRIS_HAS_OFFSET(struct mantelorris_place, source, 4);
+MANTELORRIS_HAS_OFFSET(struct mantelorris_place, start, 8);
+MANTELORRIS_HAS_OFFSET(struct mantelorris_place, end, 16);
 
 /* where the completion record of client and call lies; tail is the log that the state records */
+MANTELORRIS_GIVES
 struct mantelorris_place mantelorris_inspect(const uint8_t *state, size_t state_length, const uint8_t *checkpoint, size_t checkpoint_length,
                                              const uint8_t *tail, size_t tail_length, uint32_t client, uint32_t call);
+#if defined(__aarch64__)
+MANTELORRIS_PLACED(struct mantelorris_place, mantelorris_inspect,
+                   (&given, state, state_length, checkpoint, checkpoint_length, tail, tail_length, client, call),
+                   const uint8_t *state, size_t state_length, const uint8_t *checkpoint, size_t checkpoint_length, const uint8_t *tail,
+                   size_t tail_length, uint32_t client, uint32_t call)
+#endif
 
 /* its first byte; a null pointer where refused. It has place.end - place.start bytes */
 static inline const uint8_t *mantelorris_shown(struct mantelorris_place place, const uint8_t *checkpoint, const uint8_t *tail) {

@@ -18,7 +18,7 @@ part of the promise that it would break. What shows a fact twice is left out; an
 def calls():
     """the calls of the headers, those without arguments aside: they answer one constant"""
     text = re.sub(r'/\*.*?\*/', '', ''.join(open(f, encoding='utf-8').read() for f in sorted(glob.glob('include/*.h'))), flags=re.S)
-    return [m[1] for m in re.finditer(r'^(?!static|    )[\w ]+?[ *]mantelorris_(\w+)\((?!void\))[^{};]*\);', text, flags=re.M)]
+    return [m[1] for m in re.finditer(r'^(?!static|    )[\w ]+?[ *]mantelorris_(\w+)\((?!void\))[^{};()]*\);', text, flags=re.M)]
 
 
 def misfits():

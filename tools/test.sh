@@ -1,7 +1,7 @@
 #!/usr/bin/env bash
 # The whole check: the kit's identity, the format; that documents cite what is there, that stored pictures are what is drawn, and that entry points have no `requires`; then the
 # toolchain's own gate, `rt ci`: every crate from nothing, every must-fail edit by itself, every program; then the tests of the second program, the comparison of both, the
-# simulator's too, the C programs, `make run`.
+# simulator's too, the C programs, the library for Arm, `make run`.
 # Prints seconds per part, and what rt says of each crate and edit; the last line is 'N passed, M failed' over all; any failure exits non-zero.
 set -u
 cd "$(dirname "$0")/.." || exit 2
@@ -111,6 +111,8 @@ in_c() {
   grep -E '^(seed|starts)' "$logs/plant" | sed 's/^/   /'
   part guide tests/c/guide.py; count $?
   part reference tests/reference/run.sh; count $?
+  part arm tests/arm/run.sh; count $?
+  grep -E '^(skipped|recorded calls)' "$logs/arm" | sed 's/^/   /'
   # the simulator's case, and the host program in C
   part run tools/run.sh; count $?
 }

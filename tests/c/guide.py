@@ -1,6 +1,6 @@
 #!/usr/bin/env python3
 """guide.py: what docs/GUIDE.md and README.md state in numbers, bytes and code, held to the archive. The last line is 'N passed, M failed'.
-  - the stack of each call (tests/c/stack.c) against the guide's table
+  - the stack of each call (tests/c/stack.c) against the guide's table, on Arm with the rows that its section has
   - the worked example of a card that is not cut (tests/c/stale.c): the bytes in the guide are those of the run
   - the examples in bytes of docs/FORMATS.md (tests/c/bytes.c)
   - the archive's code size and undefined symbols; the sizes of slices and structs; how many commands a log holds
@@ -15,6 +15,7 @@ os.chdir(os.path.join(os.path.dirname(os.path.abspath(__file__)), '..', '..'))
 DIST = os.environ.get('MANTELORRIS_DIST') or 'dist'
 GUIDE, README = open('docs/GUIDE.md', encoding='utf-8').read(), open('README.md', encoding='utf-8').read()
 WORK = tempfile.mkdtemp(prefix='mantelorris-guide-')
+ARM = subprocess.run(['cc', '-dumpmachine'], capture_output=True, text=True, check=True).stdout.startswith('aarch64')
 passed, failed = 0, 0
 
 
@@ -46,7 +47,7 @@ def ran(program):
 
 
 def stack():
-    bounds = {name: int(n) for name, n in table('call | bytes')}
+    bounds = {name: int(n) for name, n in table('call | bytes') + (table('call | bytes on Arm') if ARM else [])}
     code, said = ran(built('tests/c/stack.c', 'stack', ['-DBOUND_%s=%d' % (k.upper(), v) for k, v in bounds.items()]))
     print(said, end='')
     count('the stack of %d calls is within the table' % len(bounds), 'exit %d' % code if code else '')
@@ -75,10 +76,11 @@ def sizes():
     lines = subprocess.run(['size', DIST + '/libmantelorris.a'], capture_output=True, text=True, check=True).stdout.split('\n')[1:]
     parts = [[int(n) for n in line.split()[:3]] for line in lines if line.strip()]
     code, rest = sum(p[0] for p in parts), sum(p[1] + p[2] for p in parts)
-    most = number(GUIDE, r'at most ([\d,]+) bytes in the whole archive')
+    greatest = number(GUIDE, r'at most ([\d,]+) bytes in the whole archive')
+    most = number(GUIDE, r'at most ([\d,]+) bytes on Arm') if ARM else greatest
     print('code %d bytes' % code)
-    count('code of at most %d bytes, no data' % most, code > most and code or rest)
-    count('README.md says the same', number(README, r'Code under ([\d,]+) bytes') != most and most)
+    count('code of at most %d bytes, no data' % most, most > greatest or code > most and code or rest)
+    count('README.md says the same', number(README, r'Code under ([\d,]+) bytes') != greatest and greatest)
     nm = subprocess.run(['nm', DIST + '/libmantelorris.a'], capture_output=True, text=True, check=True).stdout
     missing = sorted(set(re.findall(r'^ +U (\S+)', nm, flags=re.M)))
     count('the archive needs memcpy and memset alone', missing != ['memcpy', 'memset'] and missing)
