@@ -12,6 +12,7 @@ to=$stage/$name
 mkdir "$to" "$to/examples"
 tools/lib.sh install / "$to" | sed '/^installed below/d'
 cp examples/*.c examples/*.h "$to/examples/"
+cp -r examples/reader "$to/examples/"
 cp CHANGELOG.md LICENSE SECURITY.md "$to/"
 tools/page.py "$to/guide.html" >/dev/null
 commit=$(tools/commit.sh)
