@@ -10,8 +10,6 @@
 #include <sys/stat.h>
 #include <unistd.h>
 
-enum { FRONT = 8192 }; /* the superblocks of a raw card; a host that serves from a card changes them and nothing else that counts */
-
 void fail(const char *format, ...) {
     va_list values;
     va_start(values, format);
@@ -45,24 +43,13 @@ static size_t read_front(int file, const char *path, uint8_t *bytes, size_t coun
     return done;
 }
 
-/* a host may go on meanwhile: then all is read again */
-static size_t read_all(int file, const char *path, uint8_t *bytes, size_t size) {
-    uint8_t after[FRONT];
-    size_t length, front;
-    do {
-        length = read_front(file, path, bytes, size);
-        front = read_front(file, path, after, length < FRONT ? length : FRONT);
-    } while (memcmp(bytes, after, front));
-    return length;
-}
-
 struct slice read_file(const char *path, size_t device_part) {
     int file = open(path, O_RDONLY | O_NONBLOCK | O_NOCTTY | O_CLOEXEC);
     if (file < 0) fail("%s: %s", path, strerror(errno));
     size_t size = size_of(file, path, device_part);
     uint8_t *bytes = malloc(size ? size : 1);
     if (!bytes) fail("%s: no memory for its %zu bytes", path, size);
-    struct slice read = {bytes, read_all(file, path, bytes, size)};
+    struct slice read = {bytes, read_front(file, path, bytes, size)};
     close(file);
     return read;
 }

@@ -93,7 +93,7 @@ int main(int count, char **arguments) {
     struct slice plan, bytes = asked.hex ? hex_bytes(asked.hex) : read_file(asked.file, RAW_SIZE);
     if (asked.plan) plan = plan_named(asked.plan);
     object(NULL);
-    uint32_t answer = show_bytes(bytes, asked.tail, asked.plan ? &plan : NULL);
+    uint32_t answer = show_bytes(bytes, asked.file, asked.tail, asked.plan ? &plan : NULL);
     close_object();
     if (print_end()) fail("the output cannot be written");
     return answer ? 1 : 0;

@@ -9,7 +9,8 @@ enum {
     CHECKPOINT_AREA = 25 * SECTOR,
     LOG_AREA = 1 << 22,
     SLOT = CHECKPOINT_AREA + LOG_AREA,
-    SEQUENCE = 0, IN_FORCE = 8, CHECKPOINT = 12, LOG = 16, LAST = 20, CHECK = LAST + SECTOR
+    SEQUENCE = 0, IN_FORCE = 8, CHECKPOINT = 12, LOG = 16, LAST = 20, CHECK = LAST + SECTOR,
+    TRIES = 100
 };
 
 _Static_assert(RAW_SIZE == 2 * COPY + 2 * SLOT, "the size of a raw card");
@@ -33,7 +34,7 @@ static int that_counts(const struct raw *raw) {
     return raw->good[0] ? 0 : raw->good[1] ? 1 : -1;
 }
 
-/* the log's area, with the superblock's copy of its last sector over that one */
+/* a copy of the log's area, with the superblock's copy of its last sector over that one */
 static struct slice log_of(const uint8_t *area, const uint8_t *super) {
     size_t length = mantelorris_number_at(super, LOG), last = length % SECTOR;
     uint8_t *log = malloc(length ? length : 1);
@@ -43,7 +44,7 @@ static struct slice log_of(const uint8_t *area, const uint8_t *super) {
     return (struct slice){log, length};
 }
 
-struct raw read_raw(struct slice card) {
+static struct raw read_raw(struct slice card) {
     struct raw raw = {.counts = -1};
     for (int i = 0; i < 2; i++) {
         raw.good[i] = good(card.bytes + i * COPY);
@@ -57,5 +58,33 @@ struct raw read_raw(struct slice card) {
     raw.log_at = raw.checkpoint_at + CHECKPOINT_AREA;
     raw.checkpoint = (struct slice){card.bytes + raw.checkpoint_at, mantelorris_number_at(super, CHECKPOINT)};
     raw.log = log_of(card.bytes + raw.log_at, super);
+    return raw;
+}
+
+/* ---- beside a host that serves from the card: what is read may be of two moments */
+
+static int begins_with(struct slice whole, struct slice front) {
+    return whole.length >= front.length && memcmp(whole.bytes, front.bytes, front.length) == 0;
+}
+
+/* whether what a second reading found has all of the first one's, and more log at most: then the first is of one moment */
+static int goes_on(const struct raw *first, const struct raw *second) {
+    if (first->counts < 0 || second->counts < 0) return first->counts == second->counts;
+    return first->checkpoint.length == second->checkpoint.length && begins_with(second->checkpoint, first->checkpoint) && begins_with(second->log, first->log);
+}
+
+struct raw settled_raw(const char *path, struct slice card) {
+    struct raw raw = read_raw(card);
+    for (int i = 0; path && i < TRIES; i++) {
+        struct slice again = read_file(path, RAW_SIZE);
+        if (again.length < RAW_SIZE) break;
+        struct raw second = read_raw(again);
+        if (goes_on(&raw, &second)) return raw;
+        free((void *)raw.log.bytes);
+        free((void *)card.bytes);
+        raw = second;
+        card = again;
+    }
+    if (path) fail("%s: it changes all the time; stop the host that serves from it", path);
     return raw;
 }

@@ -131,12 +131,12 @@ struct card {
 uint32_t show_card(struct card card, const struct slice *plan);
 uint32_t show_image_alone(struct slice image, const struct slice *plan);
 uint32_t show_packet(struct slice packet);
-uint32_t show_bytes(struct slice bytes, const char *tail, const struct slice *plan); /* tail: the name of a file, or NULL */
+uint32_t show_bytes(struct slice bytes, const char *path, const char *tail, const struct slice *plan); /* path: of these bytes; tail: of the tail; each or NULL */
 
 /* ---- files.c: on a failure they say so and end the program with status 2 */
 
 struct slice read_file(const char *path, size_t device_part); /* of a device its front alone */
-void fail(const char *format, ...);
+_Noreturn void fail(const char *format, ...);
 
 /* ---- raw.c */
 
@@ -151,6 +151,6 @@ struct raw {
     struct slice checkpoint, log;
 };
 
-struct raw read_raw(struct slice card);
+struct raw settled_raw(const char *path, struct slice card); /* path: of the card, or NULL */
 
 #endif

@@ -34,8 +34,8 @@ static void show_superblocks(const struct raw *raw) {
     close_list();
 }
 
-static uint32_t show_raw_card(struct slice bytes, const struct slice *plan) {
-    struct raw raw = read_raw(bytes);
+static uint32_t show_raw_card(struct slice bytes, const char *path, const struct slice *plan) {
+    struct raw raw = settled_raw(path, bytes);
     text("what", "raw card");
     number("bytes", (int64_t)bytes.length);
     words("a raw card, %zu bytes\n", bytes.length);
@@ -64,13 +64,13 @@ static uint32_t show_packet_file(struct slice bytes) {
 }
 
 /* an image and a packet by themselves, and else a card; what nothing begins like is shown as a log, and refused as one */
-uint32_t show_bytes(struct slice bytes, const char *tail, const struct slice *plan) {
+uint32_t show_bytes(struct slice bytes, const char *path, const char *tail, const struct slice *plan) {
     if (tail && !mantelorris_is_checkpoint(bytes.bytes, bytes.length)) fail("--tail goes with a checkpoint, and this is none");
     if (mantelorris_is_checkpoint(bytes.bytes, bytes.length)) return show_checkpoint_card(bytes, tail, plan);
     if (mantelorris_is_log(bytes.bytes, bytes.length)) return show_log_card(bytes, "log", "a log, %zu bytes\n", plan);
     if (mantelorris_is_image(bytes.bytes, bytes.length)) return show_image_file(bytes, plan);
     if (bytes.length == 0) return show_log_card(bytes, "empty", "an empty card, %zu bytes: no server was founded on it\n", plan);
     if (bytes.length <= LONGEST_PACKET && layout_of(packet_layouts, bytes.bytes[0])) return show_packet_file(bytes);
-    if (bytes.length >= RAW_SIZE) return show_raw_card(bytes, plan);
+    if (bytes.length >= RAW_SIZE) return show_raw_card(bytes, path, plan);
     return show_log_card(bytes, "not known", "%zu bytes that are no checkpoint (57 4C 47 32), no image (4D 56 49 31) and no packet\n", plan);
 }

@@ -43,7 +43,7 @@ static void ask(const uint8_t *from, size_t length) {
     for (size_t i = 0; i < length; i++) copy[i] = from[i];
     ask_library(bytes, plan);
     object(NULL);
-    show_bytes(bytes, NULL, &plan);
+    show_bytes(bytes, NULL, NULL, &plan);
     close_object();
     if (print_end()) exit(1);
     free(copy);

@@ -3,11 +3,12 @@
   - the stored logs and checkpoints of every version (tests/logs): state and records are those that were stored, words and JSON say the same
   - every cut of a log; every bit of two logs turned, a bit of each byte of a card with a checkpoint, of images and packets: its answer is the library's, the place that it names holds the first
     byte that the library refuses, and there is a reason; by a build that ends at a read past the bytes (tests/c/reader.c)
-  - records that cannot follow, each with its own reason; what docs/GUIDE.md shows; raw cards; wrong plans; no plan
+  - records that cannot follow and checkpoints that are off, each with its own reason; logs made up; what docs/GUIDE.md shows; raw cards; wrong plans; no plan
+  - a card beside the host that serves from it: a file, and raw sectors
   - an empty file, a folder, no file, no permission, a full disk behind its output, wrong options; 16 MB of log, damaged at its end, of zeros and of noise: each under a second of processor time
   - the card is not changed and not opened for writing; a reader that opens it so is found out
 MANTELORRIS_DIST names a folder with archive and headers; without it `make lib` makes dist/."""
-import ctypes, glob, hashlib, json, os, random, re, resource, shutil, struct, subprocess, sys, tempfile
+import ctypes, glob, hashlib, json, os, random, re, resource, shutil, socket, struct, subprocess, sys, tempfile, threading, time
 
 os.chdir(os.path.join(os.path.dirname(os.path.abspath(__file__)), '..', '..'))
 DIST = os.environ.get('MANTELORRIS_DIST') or 'dist'
@@ -346,6 +347,77 @@ def cannot_follow():
     told('%d records that cannot follow, each with its reason' % len(CANNOT), wrong)
 
 
+def changed(data, at, new):
+    return data[:at] + new + data[at + len(new):]
+
+
+def number(value):
+    return struct.pack('<I', value)
+
+
+def checkpoints():
+    """server 1 has point 5, client 1 with floor 1, and nine completion records from 2100 on"""
+    good, tail = (open('tests/logs/third/server1.' + kind, 'rb').read() for kind in ('checkpoint', 'log'))
+    first, point_5 = 2100, 1068 + 16 * 5
+    cases = [('checkpoint', 0, 'byte 4, server, is 16, and 0 to 15 is due', changed(good, 4, b'\x10') + tail),
+             ('checkpoint', 12, 'the four pairs of offset and length, bytes 12 to 43, are off their layout', changed(good, 20, number(1069)) + tail),
+             ('checkpoint', 0, 'its end is missing: it has 2280 bytes, and 2279 are here', good[:-1]), ('checkpoint', 0, 'the head is cut off: 43 of its 44 bytes are here', good[:43]),
+             ('checkpoint', 44 + 32, 'a fallback outside its own range in the plan', changed(good, 44 + 32 + 8, number(1001)) + tail),
+             ('checkpoint', 44 + 32, 'byte 88, home, is 16, and 0 to 15 is due', changed(good, 44 + 32 + 12, number(16)) + tail),
+             ('checkpoint', point_5, 'the value of point 5 is outside its range', changed(good, point_5 + 4, number(1001)) + tail),
+             ('checkpoint', point_5, 'byte 1149, quality, is 2, and 0 to 1 is due', changed(good, point_5 + 1, b'\2') + tail),
+             ('checkpoint', point_5 + 16, 'status, destination, moves and home of point 6 do not fit each other', changed(good, point_5 + 16, b'\1') + tail),
+             ('checkpoint', 2092, 'byte 2096, floor, is 0, and 1 or more is due', changed(good, 2096, number(0)) + tail),
+             ('checkpoint', 2092 + 8, 'clients do not ascend here', changed(changed(changed(good[:2100] + good[2092:], 32, number(16)), 36, number(2108)), 2100, number(1)) + tail),
+             ('checkpoint', first, 'its call is under its client\'s floor', changed(good, 2096, number(9)) + tail), ('checkpoint', first, 'its client is not among the clients', changed(good, first, number(2)) + tail),
+             ('checkpoint', first + 20, 'its call is more than 15 above its client\'s floor', changed(good, first + 24, number(17)) + tail),
+             ('checkpoint', first, 'its point is neither held nor given', changed(good, first + 19, b'\6') + tail),
+             ('checkpoint', first, 'its value is outside its point\'s range', changed(good, first + 12, number(1001)) + tail),
+             ('checkpoint', first + 40, 'its client and call stand before already', changed(good, first + 40, good[first:first + 20]) + tail),
+             ('tail', 4, 'it is of server 0, and the checkpoint of server 1', good + changed(tail, 4, b'\0')), ('tail', 0, 'the head is cut off: 7 of its 8 bytes are here', good + tail[:7]),
+             ('tail', 36, 'client 1, call 13 stands already', good + tail[:36] + tail[8:36])]
+    wrong = []
+    for (part, at, why, _), (answer, shortest, told_json) in zip(cases, asked([c[3] for c in cases])):
+        refused = told_json.get('refused', {})
+        if answer != 14 or [refused.get(k) for k in ('part', 'at', 'why')] != [part, at, why] or judged(answer, shortest, told_json):
+            wrong.append((why, answer, refused))
+    told('%d checkpoints and tails that are off, each with its place and reason' % len(cases), wrong)
+
+
+def any_record(rng):
+    """of few points, clients, calls and moves, so that a run of them often follows; some fields are off"""
+    p, client, call, move = rng.randrange(3), rng.randint(1, 3), rng.randint(1, 6), rng.randrange(3)
+    kind = rng.choices(range(6), [40, 10, 20, 20, 10, 1])[0]
+    if kind == 0:
+        return executed(rng.randrange(6), p, client, call, rng.choice([0, 0, 7, 2000]), rng.choice([0, 5, 1000, 1001, -101] if rng.randrange(9) == 0 else [0, 5]), rng.randint(1, call + (rng.randrange(9) == 0)), rng.randrange(5))
+    if kind == 1:
+        return gone(client, rng.choice([0, 5, 0xFFFFFFFF]))
+    if kind == 2:
+        return short(3, p, rng.choice([1, 1, 2, 0]), 0, move)
+    if kind == 3:
+        clients = sorted({rng.randint(1, 40): rng.randint(1, 3) for _ in range(rng.choice([0, 1, 3, 32]))}.items())
+        return take(p, rng.choice([0, 0, 0, 1]), move, clients, [(c, f + rng.choice([0, 1, 16] if rng.randrange(9) == 0 else [0])) for c, f in clients[:2]])
+    return short(5, p, 0, 0, move) if kind == 4 else rng.randbytes(rng.randint(1, 30))
+
+
+def made_up():
+    """runs of records that follow as far as they do: each next one is any, and is kept more often if it can follow"""
+    rng, cards = random.Random(SEED), [HEAD] * 300
+    wrong, count, refused = [], 0, {}
+    for _ in range(12):
+        cards = [c + any_record(rng) for c in cards]
+        answers = list(asked(cards))
+        wrong += [(judged(*a), c.hex()) for c, a in zip(cards, answers) if judged(*a)]
+        for a in answers:
+            if a[0]:
+                why = re.sub(r'-?\d+', 'N', a[2]['refused']['why'])
+                refused[why] = refused.get(why, 0) + 1
+        count += len(cards)
+        good = [c for c, a in zip(cards, answers) if a[0] == 0] or [HEAD]
+        cards = [c if a[0] == 0 or rng.randrange(4) == 0 else rng.choice(good) for c, a in zip(cards, answers)]
+    told('%d logs made up, %d of them refused for %d reasons: the library\'s answer, its place and a reason' % (count, sum(refused.values()), len(refused)), wrong[:3] or len(refused) < 15)
+
+
 def guide():
     """the cards of the worked example in docs/GUIDE.md, as its section on the reader shows them"""
     text = open('docs/GUIDE.md', encoding='utf-8').read()
@@ -401,6 +473,68 @@ def raw_cards():
     status, none, said = card(PLAN, saved('none', data))
     wrong += [none] if status != 1 or none['answer'] != 14 or 'no good superblock' not in said else []
     told('raw cards of all versions; the older superblock; none', wrong)
+
+
+# ---- beside a host
+
+class Desk(threading.Thread):
+    """sets point 5 to 1, 2, 3 .. at a host; sure: the latest result, sent: the latest request"""
+
+    def __init__(self, port):
+        super().__init__(daemon=True)
+        self.line, self.sent, self.sure, self.going = socket.socket(socket.AF_INET, socket.SOCK_DGRAM), 0, 0, True
+        self.line.connect(('127.0.0.1', port))
+        self.line.settimeout(0.2)
+
+    def answered(self, call):
+        packet = struct.pack('<4B4Ii', 1, 1, 5, 0, 1, call, call, 600, call)
+        try:
+            self.line.send(packet)
+            reply = self.line.recv(64)
+        except OSError:  # not up yet, or lost
+            time.sleep(0.01)
+            return False
+        return reply[0] == 2 and struct.unpack_from('<I', reply, 8)[0] == call
+
+    def run(self):
+        while self.going:
+            self.sent = self.sure + 1
+            if self.answered(self.sent):
+                self.sure = self.sent
+
+
+def free_port():
+    with socket.socket(socket.AF_INET, socket.SOCK_DGRAM) as s:
+        s.bind(('127.0.0.1', 0))
+        return s.getsockname()[1]
+
+
+def read_beside(path, desk):
+    """the value of point 5 lies between what was told before the call and what was asked for behind it"""
+    before = desk.sure
+    status, text, errors = run('--json', path, '--plan=-1000000,1000000,0,0')
+    after = desk.sent
+    value = json.loads(text)['state']['points'][5]['value'] if status == 0 else None
+    return [] if value is not None and before <= value <= after else [(status, errors, before, value, after)]
+
+
+def beside_a_host():
+    wrong, counts = [], []
+    for kind in 'card.c', 'card_raw.c':
+        host, path, port = built('host-' + kind, ['examples/host.c', 'examples/' + kind]), os.path.join(WORK, 'served-' + kind), free_port()
+        subprocess.run([host, '--found', path], check=True, stdout=subprocess.DEVNULL)
+        server, desk = subprocess.Popen([host, path, str(port), '3000']), Desk(port)
+        desk.start()
+        until = time.time() + 40
+        while desk.sure < 400 and time.time() < until:
+            wrong += read_beside(path, desk)
+        desk.going = False
+        desk.join()
+        server.kill()
+        server.wait()
+        wrong += read_beside(path, desk) + (['only %d commands' % desk.sure] if desk.sure < 400 else [])
+        counts.append(desk.sure)
+    told('read again and again beside a host that makes checkpoints, %d and %d commands' % tuple(counts), wrong[:3])
 
 
 # ---- what is no card
@@ -475,6 +609,8 @@ class Watch:
     def __init__(self, path):
         self.libc = ctypes.CDLL(None, use_errno=True)
         self.file = self.libc.inotify_init1(os.O_NONBLOCK)
+        if self.file < 0:
+            sys.exit('reader.py: inotify: ' + os.strerror(ctypes.get_errno()))
         self.own = self.libc.inotify_add_watch(self.file, path.encode(), 0xFFF)
         self.libc.inotify_add_watch(self.file, os.path.dirname(path).encode(), 0xFC0)  # made, moved, removed there
 
@@ -518,7 +654,7 @@ def main():
     print('seed %d' % SEED)
     READER = built('mantelorris-card', UNITS)
     TRIAL = built('trial', [u for u in UNITS if not u.endswith('/main.c')] + ['tests/c/reader.c'], ['-g', '-fsanitize=address,undefined', '-fno-sanitize-recover=all'])
-    for part in stored_cards, without_plan, cuts, damaged, exit_statuses, packets, images, cannot_follow, guide, raw_cards, odd, plans, large, never_written:
+    for part in stored_cards, without_plan, cuts, damaged, exit_statuses, packets, images, cannot_follow, checkpoints, made_up, guide, raw_cards, beside_a_host, odd, plans, large, never_written:
         part()
     shutil.rmtree(WORK)
     print('%d passed, %d failed' % (passed, failed))
