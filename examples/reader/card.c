@@ -3,6 +3,8 @@
 #include "mantelorris_client.h"
 #include <string.h>
 
+static const char NO_PLAN[] = "no plan was given: values are not held to their points' ranges, and a fallback that nobody has changed is shown as 0\n";
+
 static uint8_t state[MANTELORRIS_STATE_SIZE];
 
 static uint32_t answered(uint32_t answer, const struct fault *fault) {
@@ -22,8 +24,9 @@ static uint32_t answered(uint32_t answer, const struct fault *fault) {
 /* ---- a log, or a checkpoint and its tail */
 
 static uint32_t recover(struct slice checkpoint, struct slice log, struct slice plan) {
-    if (checkpoint.length) return mantelorris_number(mantelorris_recover_checkpoint(state, sizeof state, checkpoint.bytes, checkpoint.length, log.bytes, log.length));
-    return mantelorris_number(mantelorris_recover(state, sizeof state, log.bytes, log.length, plan.bytes, plan.length));
+    uint64_t a = checkpoint.length ? mantelorris_recover_checkpoint(state, sizeof state, checkpoint.bytes, checkpoint.length, log.bytes, log.length)
+                                   : mantelorris_recover(state, sizeof state, log.bytes, log.length, plan.bytes, plan.length);
+    return mantelorris_number(a);
 }
 
 static struct slice front(struct slice log) {
@@ -123,7 +126,7 @@ uint32_t show_card(struct card card, const struct slice *plan) {
     show_plan(&card, plan);
     uint32_t answer = recover(card.checkpoint, card.log, used);
     if (answer == MANTELORRIS_OK) {
-        if (!card.checkpoint.length && !plan) words("no plan was given: values are not held to their points' ranges, and a fallback that nobody has changed is shown as 0\n");
+        if (!card.checkpoint.length && !plan) words(NO_PLAN);
         show_state(state);
     } else if (answer == MANTELORRIS_MALFORMED)
         why_plan_bad(&fault, used);
@@ -165,11 +168,13 @@ static uint32_t at_server(struct slice packet) {
     uint8_t log[64], out[MANTELORRIS_REPLY_SIZE];
     struct slice plan = widest_plan(0);
     mantelorris_found(state, sizeof state, log, sizeof log, plan.bytes, plan.length, 0);
+    uint64_t a;
     switch (packet.bytes[0]) {
-    case MANTELORRIS_KIND_REQUEST: return mantelorris_number(mantelorris_request(state, sizeof state, log, sizeof log, packet.bytes, packet.length, out, sizeof out));
-    case MANTELORRIS_KIND_NOTICE: return mantelorris_number(mantelorris_notice(state, sizeof state, log, sizeof log, packet.bytes, packet.length));
-    default: return mantelorris_number(mantelorris_release(state, sizeof state, log, sizeof log, packet.bytes, packet.length));
+    case MANTELORRIS_KIND_REQUEST: a = mantelorris_request(state, sizeof state, log, sizeof log, packet.bytes, packet.length, out, sizeof out); break;
+    case MANTELORRIS_KIND_NOTICE: a = mantelorris_notice(state, sizeof state, log, sizeof log, packet.bytes, packet.length); break;
+    default: a = mantelorris_release(state, sizeof state, log, sizeof log, packet.bytes, packet.length);
     }
+    return mantelorris_number(a);
 }
 
 static uint32_t at_party(struct slice packet) {

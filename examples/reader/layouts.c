@@ -5,62 +5,77 @@
 #define ZEROS_1_TO_3 {"", 1, ZERO, ""}, {"", 2, ZERO, ""}, {"", 3, ZERO, ""}
 #define END {NULL, 0, ZERO, NULL}
 
-/* ---- log records. A later kind that has a field more at its end is a line among the layouts, and that field among the fields: one past a layout's length is not there */
+/* ---- log records. A later kind with a field more at its end is a line among the layouts, and that field among the fields: one past a layout's length
+ * is not there */
 
-static const struct field executed[] = {{"client", 4, FROM_ONE, "client %"}, {"call", 8, FROM_ONE, ", call %: "}, {"op", 1, OP, "%"}, {"point", 2, POINT, " point %"},
-    {"argument", 16, ARGUMENT, ""}, {"outcome", 3, OUTCOME, ": %"}, {"value", 20, SIGNED, ", value %"}, {"quality", 24, QUALITY, ", %"}, {"done", 12, DONE, "; done %"},
-    {"", 25, ZERO, ""}, {"", 26, ZERO, ""}, {"", 27, ZERO, ""}, END};
+static const struct field executed[] = {{"client", 4, FROM_ONE, "client %"}, {"call", 8, FROM_ONE, ", call %: "}, {"op", 1, OP, "%"},
+    {"point", 2, POINT, " point %"}, {"argument", 16, ARGUMENT, ""}, {"outcome", 3, OUTCOME, ": %"}, {"value", 20, SIGNED, ", value %"},
+    {"quality", 24, QUALITY, ", %"}, {"done", 12, DONE, "; done %"}, {"", 25, ZERO, ""}, {"", 26, ZERO, ""}, {"", 27, ZERO, ""}, END};
 static const struct field gone[] = {{"client", 4, FROM_ONE, "client %: its lease has ended"}, {"time", 8, ANY, ", time %"}, ZEROS_1_TO_3, END};
-static const struct field give[] = {{"point", 1, POINT, "point % is given"}, {"destination", 2, SERVER, " to server %"}, {"move", 4, ANY, ", move %"}, {"", 3, ZERO, ""}, END};
+static const struct field give[] = {{"point", 1, POINT, "point % is given"}, {"destination", 2, SERVER, " to server %"},
+    {"move", 4, ANY, ", move %"}, {"", 3, ZERO, ""}, END};
 static const struct field take[] = {{"image_length", 4, IMAGE_LENGTH, "an image of % bytes"}, ZEROS_1_TO_3, END};
-static const struct field release[] = {{"point", 1, POINT, "point % is released"}, {"move", 4, ANY, ", move %"}, {"", 2, ZERO, ""}, {"", 3, ZERO, ""}, END};
+static const struct field release[] = {{"point", 1, POINT, "point % is released"}, {"move", 4, ANY, ", move %"}, {"", 2, ZERO, ""},
+    {"", 3, ZERO, ""}, END};
 
-const struct layout record_layouts[] = {{KIND_EXECUTED, "executed", 28, executed}, {KIND_GONE, "gone", 12, gone}, {KIND_GIVE, "give", 8, give}, {KIND_TAKE, "take", 8, take},
-    {KIND_RELEASE, "release", 8, release}, {0, NULL, 0, NULL}};
+const struct layout record_layouts[] = {{KIND_EXECUTED, "executed", 28, executed}, {KIND_GONE, "gone", 12, gone},
+    {KIND_GIVE, "give", 8, give}, {KIND_TAKE, "take", 8, take}, {KIND_RELEASE, "release", 8, release}, {0, NULL, 0, NULL}};
 
 /* ---- packets */
 
-static const struct field request[] = {{"client", 4, FROM_ONE, "client %"}, {"call", 8, FROM_ONE, ", call %: "}, {"op", 1, OP, "%"}, {"point", 2, POINT, " point %"},
-    {"argument", 20, ARGUMENT, ""}, {"done", 12, DONE, "; done %"}, {"lease_end", 16, ANY, ", lease end %"}, {"", 3, ZERO, ""}, END};
-static const struct field result[] = {{"client", 4, FROM_ONE, "client %"}, {"call", 8, FROM_ONE, ", call %"}, {"point", 2, POINT, " on point %"}, {"outcome", 1, OUTCOME, ": %"},
-    {"value", 12, SIGNED, ", value %"}, {"quality", 3, QUALITY, ", %"}, END};
-static const struct field refusal[] = {{"client", 4, FROM_ONE, "client %"}, {"call", 8, FROM_ONE, ", call %"}, {"point", 2, POINT, " on point %"}, {"refusal", 1, REFUSAL, ": %"},
+static const struct field request[] = {{"client", 4, FROM_ONE, "client %"}, {"call", 8, FROM_ONE, ", call %: "}, {"op", 1, OP, "%"},
+    {"point", 2, POINT, " point %"}, {"argument", 20, ARGUMENT, ""}, {"done", 12, DONE, "; done %"}, {"lease_end", 16, ANY, ", lease end %"},
     {"", 3, ZERO, ""}, END};
-static const struct field receipt[] = {{"point", 1, POINT, "point % was taken"}, {"server", 2, SERVER, " by server %"}, {"move", 4, ANY, ", move %"}, {"", 3, ZERO, ""}, END};
+static const struct field result[] = {{"client", 4, FROM_ONE, "client %"}, {"call", 8, FROM_ONE, ", call %"},
+    {"point", 2, POINT, " on point %"}, {"outcome", 1, OUTCOME, ": %"}, {"value", 12, SIGNED, ", value %"}, {"quality", 3, QUALITY, ", %"},
+    END};
+static const struct field refusal[] = {{"client", 4, FROM_ONE, "client %"}, {"call", 8, FROM_ONE, ", call %"},
+    {"point", 2, POINT, " on point %"}, {"refusal", 1, REFUSAL, ": %"}, {"", 3, ZERO, ""}, END};
+static const struct field receipt[] = {{"point", 1, POINT, "point % was taken"}, {"server", 2, SERVER, " by server %"},
+    {"move", 4, ANY, ", move %"}, {"", 3, ZERO, ""}, END};
 static const struct field grant[] = {{"client", 4, FROM_ONE, "client %"}, {"lease_end", 8, ANY, ": lease end %"}, ZEROS_1_TO_3, END};
 
 const struct layout packet_layouts[] = {{MANTELORRIS_KIND_REQUEST, "request", 24, request}, {MANTELORRIS_KIND_RESULT, "result", 16, result},
-    {MANTELORRIS_KIND_REFUSAL, "refusal", 12, refusal}, {MANTELORRIS_KIND_RECEIPT, "receipt", 8, receipt}, {MANTELORRIS_KIND_NOTICE, "notice", 12, gone},
-    {MANTELORRIS_KIND_GRANT, "grant", 12, grant}, {0, NULL, 0, NULL}};
+    {MANTELORRIS_KIND_REFUSAL, "refusal", 12, refusal}, {MANTELORRIS_KIND_RECEIPT, "receipt", 8, receipt},
+    {MANTELORRIS_KIND_NOTICE, "notice", 12, gone}, {MANTELORRIS_KIND_GRANT, "grant", 12, grant}, {0, NULL, 0, NULL}};
 
 /* ---- heads and rows */
 
-static const struct field head[] = {{"server", 4, SERVER, "server %"}, {"heard", 8, ANY, ", heard time %"}, {"", 5, ZERO, ""}, {"", 6, ZERO, ""}, {"", 7, ZERO, ""}, END};
-static const struct field plan_fields[] = {{"low", 0, SIGNED, "from %"}, {"high", 4, SIGNED, " to %"}, {"fallback", 8, SIGNED, ", fallback %"}, {"home", 12, SERVER, ", home server %"},
-    {"", 13, ZERO, ""}, {"", 14, ZERO, ""}, {"", 15, ZERO, ""}, END};
-static const struct field point_fields[] = {{"status", 0, STATUS, "%"}, {"destination", 2, GIVEN_TO, ""}, {"value", 4, SIGNED, ", value %"}, {"quality", 1, QUALITY, ", %"},
-    {"move", 8, ANY, ", move %"}, {"taken", 12, TAKEN, ""}, {"", 3, ZERO, ""}, END};
+static const struct field head[] = {{"server", 4, SERVER, "server %"}, {"heard", 8, ANY, ", heard time %"}, {"", 5, ZERO, ""},
+    {"", 6, ZERO, ""}, {"", 7, ZERO, ""}, END};
+static const struct field plan_fields[] = {{"low", 0, SIGNED, "from %"}, {"high", 4, SIGNED, " to %"},
+    {"fallback", 8, SIGNED, ", fallback %"}, {"home", 12, SERVER, ", home server %"}, {"", 13, ZERO, ""}, {"", 14, ZERO, ""},
+    {"", 15, ZERO, ""}, END};
+static const struct field point_fields[] = {{"status", 0, STATUS, "%"}, {"destination", 2, GIVEN_TO, ""}, {"value", 4, SIGNED, ", value %"},
+    {"quality", 1, QUALITY, ", %"}, {"move", 8, ANY, ", move %"}, {"taken", 12, TAKEN, ""}, {"", 3, ZERO, ""}, END};
 static const struct field client_fields[] = {{"client", 0, FROM_ONE, "client %"}, {"floor", 4, FROM_ONE, ": floor %"}, END};
-static const struct field completion[] = {{"client", 0, FROM_ONE, "client %"}, {"call", 4, FROM_ONE, ", call %: "}, {"op", 16, OP, "%"}, {"point", 19, POINT, " point %"},
-    {"argument", 8, ARGUMENT, ""}, {"outcome", 17, OUTCOME, ": %"}, {"value", 12, SIGNED, ", value %"}, {"quality", 18, QUALITY, ", %"}, END};
-static const struct field image_fields[] = {{"point", 4, POINT, "point %"}, {"source", 6, SERVER, " from server %"}, {"destination", 5, SERVER, " to server %"}, {"move", 8, ANY, ", move %"},
-    {"heard", 12, ANY, ", heard time %"}, {"value", 40, SIGNED, ": value %"}, {"quality", 44, QUALITY, ", %"}, {"", 7, ZERO, ""}, {"", 45, ZERO, ""}, {"", 46, ZERO, ""}, {"", 47, ZERO, ""}, END};
-static const struct field entry[] = {{"client", 0, FROM_ONE, "client %"}, {"call", 4, FROM_ONE, ", call %: "}, {"op", 16, OP, "%"}, {"argument", 8, ARGUMENT, ""}, {"outcome", 17, OUTCOME, ": %"},
-    {"value", 12, SIGNED, ", value %"}, {"quality", 18, QUALITY, ", %"}, {"", 19, ZERO, ""}, END};
+static const struct field completion[] = {{"client", 0, FROM_ONE, "client %"}, {"call", 4, FROM_ONE, ", call %: "}, {"op", 16, OP, "%"},
+    {"point", 19, POINT, " point %"}, {"argument", 8, ARGUMENT, ""}, {"outcome", 17, OUTCOME, ": %"}, {"value", 12, SIGNED, ", value %"},
+    {"quality", 18, QUALITY, ", %"}, END};
+static const struct field image_fields[] = {{"point", 4, POINT, "point %"}, {"source", 6, SERVER, " from server %"},
+    {"destination", 5, SERVER, " to server %"}, {"move", 8, ANY, ", move %"}, {"heard", 12, ANY, ", heard time %"},
+    {"value", 40, SIGNED, ": value %"}, {"quality", 44, QUALITY, ", %"}, {"", 7, ZERO, ""}, {"", 45, ZERO, ""}, {"", 46, ZERO, ""},
+    {"", 47, ZERO, ""}, END};
+static const struct field entry[] = {{"client", 0, FROM_ONE, "client %"}, {"call", 4, FROM_ONE, ", call %: "}, {"op", 16, OP, "%"},
+    {"argument", 8, ARGUMENT, ""}, {"outcome", 17, OUTCOME, ": %"}, {"value", 12, SIGNED, ", value %"}, {"quality", 18, QUALITY, ", %"},
+    {"", 19, ZERO, ""}, END};
 
-const struct layout log_head = {0, "head", MANTELORRIS_LOG_HEAD, head}, checkpoint_head = {0, "head", 12, head}, plan_row = {0, "plan", MANTELORRIS_PLAN_ROW, plan_fields},
-                    point_row = {0, "point", 16, point_fields}, client_row = {0, "client", 8, client_fields}, completion_row = {0, "completion", 20, completion},
-                    image_head = {0, "image", MANTELORRIS_IMAGE_LEAST, image_fields}, image_entry = {0, "entry", 20, entry};
+const struct layout log_head = {0, "head", MANTELORRIS_LOG_HEAD, head}, checkpoint_head = {0, "head", 12, head},
+    plan_row = {0, "plan", MANTELORRIS_PLAN_ROW, plan_fields}, point_row = {0, "point", 16, point_fields},
+    client_row = {0, "client", 8, client_fields}, completion_row = {0, "completion", 20, completion},
+    image_head = {0, "image", MANTELORRIS_IMAGE_LEAST, image_fields}, image_entry = {0, "entry", 20, entry};
 
 /* ---- fields */
 
 static const struct {
     uint8_t width;
     struct range range;
-} types[] = {[ZERO] = {1, {0, 0}}, [OP] = {1, {0, MANTELORRIS_PART}}, [POINT] = {1, {0, MANTELORRIS_POINTS - 1}}, [SERVER] = {1, {0, MANTELORRIS_SERVERS - 1}},
-    [OUTCOME] = {1, {0, MANTELORRIS_OUTCOME_STOPPED}}, [QUALITY] = {1, {0, MANTELORRIS_INVALID}}, [STATUS] = {1, {0, MANTELORRIS_RELEASED}}, [REFUSAL] = {1, {3, 9}},
-    [FROM_ONE] = {4, {1, UINT32_MAX}}, [ANY] = {4, {0, UINT32_MAX}}, [SIGNED] = {4, {0, UINT32_MAX}}, [ARGUMENT] = {4, {0, UINT32_MAX}}, [DONE] = {4, {1, UINT32_MAX}},
-    [IMAGE_LENGTH] = {4, {MANTELORRIS_IMAGE_LEAST, MANTELORRIS_IMAGE_SIZE}}, [GIVEN_TO] = {1, {0, MANTELORRIS_SERVERS - 1}}, [TAKEN] = {4, {0, UINT32_MAX}}};
+} types[] = {
+    [ZERO] = {1, {0, 0}}, [OP] = {1, {0, MANTELORRIS_PART}}, [POINT] = {1, {0, MANTELORRIS_POINTS - 1}}, [SERVER] = {1, {0, MANTELORRIS_SERVERS - 1}},
+    [OUTCOME] = {1, {0, MANTELORRIS_OUTCOME_STOPPED}}, [QUALITY] = {1, {0, MANTELORRIS_INVALID}}, [STATUS] = {1, {0, MANTELORRIS_RELEASED}},
+    [REFUSAL] = {1, {3, 9}}, [FROM_ONE] = {4, {1, UINT32_MAX}}, [ANY] = {4, {0, UINT32_MAX}}, [SIGNED] = {4, {0, UINT32_MAX}},
+    [ARGUMENT] = {4, {0, UINT32_MAX}}, [DONE] = {4, {1, UINT32_MAX}}, [IMAGE_LENGTH] = {4, {MANTELORRIS_IMAGE_LEAST, MANTELORRIS_IMAGE_SIZE}},
+    [GIVEN_TO] = {1, {0, MANTELORRIS_SERVERS - 1}}, [TAKEN] = {4, {0, UINT32_MAX}}};
 
 const struct layout *layout_of(const struct layout *layouts, uint8_t kind) {
     for (; layouts->name; layouts++)
@@ -76,6 +91,11 @@ const struct field *next_field(const struct layout *layout, const struct field *
 
 uint32_t field_value(const struct field *field, const uint8_t *row) {
     return types[field->type].width == 1 ? row[field->at] : mantelorris_number_at(row, field->at);
+}
+
+int64_t plain_value(const struct field *field, const uint8_t *row) {
+    uint32_t value = field_value(field, row);
+    return field->type == SIGNED || field->type == ARGUMENT ? (int64_t)(int32_t)value : (int64_t)value;
 }
 
 const char *value_name(enum type type, uint32_t value) {
@@ -170,8 +190,8 @@ struct parts image_parts(struct slice image) {
     p.rows = rows / 8;
     p.entries_at = p.rows_at + rows;
     p.entries = entries / 20;
-    p.good = pair_is(image.bytes, 16, 40, 8) && pair_is(image.bytes, 24, p.rows_at, 8 * p.rows) && pair_is(image.bytes, 32, p.entries_at, 20 * p.entries) && p.rows <= 32 &&
-             p.entries_at + entries == image.length;
+    p.good = pair_is(image.bytes, 16, 40, 8) && pair_is(image.bytes, 24, p.rows_at, 8 * p.rows) && p.rows <= 32 &&
+             pair_is(image.bytes, 32, p.entries_at, 20 * p.entries) && p.entries_at + entries == image.length;
     return p;
 }
 

@@ -9,18 +9,20 @@ static const char usage[] =
     "mantelorris-card [--json] [--plan PLAN] [--tail FILE] FILE\n"
     "mantelorris-card [--json] [--plan PLAN] --hex BYTES\n"
     "\n"
-    "Prints what is on a card, and never writes to it: a log; a checkpoint and behind it its tail (examples/card.c); a raw card (examples/card_raw.c);\n"
-    "an image of a moving point; a packet. FILE may be a device.\n"
+    "Prints what is on a card, and never writes to it: a log; a checkpoint and behind it its tail (examples/card.c); a raw\n"
+    "card (examples/card_raw.c); an image of a moving point; a packet. FILE may be a device.\n"
     "\n"
-    "  --plan PLAN   of the plant: a file with its 1,024 bytes, or low,high,fallback,home for all points: --plan=-1000000,1000000,0,0 for the example host.\n"
-    "                A checkpoint has its own. Without a plan a log's values are not held to their points' ranges, and a fallback that nobody has changed is\n"
-    "                shown as 0\n"
-    "  --tail FILE   the tail of a checkpoint, where your card has it in a file of its own. A tail by itself looks like a log: give both\n"
+    "  --plan PLAN   of the plant: a file with its 1,024 bytes, or low,high,fallback,home for all points, as\n"
+    "                --plan=-1000000,1000000,0,0 for the example host. A checkpoint has its own. Without a plan a log's\n"
+    "                values are not held to their points' ranges, and a fallback that nobody has changed is shown as 0\n"
+    "  --tail FILE   the tail of a checkpoint, where your card has it in a file of its own. A tail by itself looks like\n"
+    "                a log: give both\n"
     "  --hex BYTES   these, in hexadecimal, in place of a file\n"
     "  --json        for programs\n"
     "  --help        this\n"
     "\n"
-    "Exit status: 0 the library takes it; 1 the library refuses it: number, place and reason are printed; 2 it was called wrongly, or a file cannot be read.\n";
+    "Exit status: 0 the library takes it; 1 the library refuses it, and number, place and reason are printed; 2 the call\n"
+    "is wrong, or a file cannot be read.\n";
 
 struct asked {
     const char *file, *hex, *plan, *tail;

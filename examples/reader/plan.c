@@ -34,8 +34,8 @@ static uint32_t point_of(struct slice log, struct step step) {
     return step.layout->kind == KIND_TAKE ? mantelorris_image_point(record + MANTELORRIS_LOG_TAKE) : row_value(step.layout, "point", record);
 }
 
-/* A point whose first record is no take was here from the founding on, so this server is its home; of any other the home is another server. Ranges and fallbacks do not
- * stand in a log: each range is the widest, and each fallback 0. */
+/* A point whose first record is no take was here from the founding on, so this server is its home; of any other the home is another server. Ranges and
+ * fallbacks do not stand in a log: each range is the widest, and each fallback 0. */
 struct slice plan_of_log(struct slice log) {
     uint8_t seen[MANTELORRIS_POINTS] = {0};
     uint32_t here = log.length < MANTELORRIS_LOG_HEAD ? 0 : log.bytes[4] % MANTELORRIS_SERVERS;
@@ -44,9 +44,10 @@ struct slice plan_of_log(struct slice log) {
         struct step step = step_at(log, at);
         if (step.ending != WHOLE) break;
         uint32_t point = point_of(log, step);
-        if (point < MANTELORRIS_POINTS && !seen[point] && step.layout->kind != KIND_TAKE) mantelorris_plan_row(made, point, INT32_MIN, INT32_MAX, 0, here);
-        if (point < MANTELORRIS_POINTS) seen[point] = 1;
         at = step.end;
+        if (point >= MANTELORRIS_POINTS || seen[point]) continue;
+        seen[point] = 1;
+        if (step.layout->kind != KIND_TAKE) mantelorris_plan_row(made, point, INT32_MIN, INT32_MAX, 0, here);
     }
     return plan;
 }

@@ -141,11 +141,6 @@ static const char *phrase_of(const struct layout *layout, const struct field *f,
     }
 }
 
-static int64_t plain_value(const struct field *f, const uint8_t *row) {
-    uint32_t value = field_value(f, row);
-    return f->type == SIGNED || f->type == ARGUMENT ? (int64_t)(int32_t)value : (int64_t)value;
-}
-
 static void say_value(const struct field *f, const uint8_t *row) {
     const char *name = value_name(f->type, field_value(f, row));
     if (name) {
@@ -209,7 +204,7 @@ void show_row(const char *name, const struct layout *layout, const uint8_t *row,
 
 static void show_rows(const char *name, const struct layout *layout, const uint8_t *bytes, size_t at, size_t rows, int64_t place) {
     list(name);
-    for (size_t i = 0; i < rows; i++) show_row(NULL, layout, bytes + at + i * layout->length, place < 0 ? -1 : place + (int64_t)(at + i * layout->length), -1);
+    for (size_t i = 0; i < rows; i++, at += layout->length) show_row(NULL, layout, bytes + at, place < 0 ? -1 : place + (int64_t)at, -1);
     close_list();
 }
 
@@ -246,7 +241,8 @@ void show_records(struct slice log, size_t end) {
 
 /* held, with its fallback, invalid, never moved */
 static int as_founded(const uint8_t *row, const uint8_t *plan) {
-    return row[0] == MANTELORRIS_HELD && row[1] == MANTELORRIS_INVALID && mantelorris_number_at(row, 8) == 0 && mantelorris_number_at(row, 4) == mantelorris_number_at(plan, 8);
+    return row[0] == MANTELORRIS_HELD && row[1] == MANTELORRIS_INVALID && mantelorris_number_at(row, 8) == 0 &&
+           mantelorris_number_at(row, 4) == mantelorris_number_at(plan, 8);
 }
 
 /* those of them that are as founded, in one line */
@@ -291,7 +287,8 @@ void show_state(const uint8_t *state) {
     number("server", mantelorris_server(state));
     number("heard", mantelorris_heard(state));
     number("length", (int64_t)mantelorris_length(state));
-    words("recovered: server %u, heard time %u, log of %llu bytes\n", mantelorris_server(state), mantelorris_heard(state), (unsigned long long)mantelorris_length(state));
+    words("recovered: server %u, heard time %u, log of %llu bytes\n", mantelorris_server(state), mantelorris_heard(state),
+          (unsigned long long)mantelorris_length(state));
     words("points that are or were here:\n");
     show_points(state + mantelorris_point_at(0), 32, state + STATE_PLAN, -1);
     words("clients, %u of 32:\n", clients);

@@ -70,7 +70,8 @@ static int begins_with(struct slice whole, struct slice front) {
 /* whether what a second reading found has all of the first one's, and more log at most: then the first is of one moment */
 static int goes_on(const struct raw *first, const struct raw *second) {
     if (first->counts < 0 || second->counts < 0) return first->counts == second->counts;
-    return first->checkpoint.length == second->checkpoint.length && begins_with(second->checkpoint, first->checkpoint) && begins_with(second->log, first->log);
+    return first->checkpoint.length == second->checkpoint.length && begins_with(second->checkpoint, first->checkpoint) &&
+           begins_with(second->log, first->log);
 }
 
 struct raw settled_raw(const char *path, struct slice card) {

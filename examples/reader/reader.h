@@ -1,7 +1,11 @@
-/* mantelorris-card prints what is on a card, in words or as JSON. Its units: main.c (options), what.c (what the bytes are), files.c (they are opened for reading alone), raw.c (the raw
- * card of examples/card_raw.c), plan.c (a log's plan), card.c (what is said of a card, an image or a packet), layouts.c (docs/FORMATS.md and docs/STATE.md as tables, and the walk over a
- * log), print.c (words and JSON), why.c and why_log.c (what the library refuses, where, and why). Whether bytes are good is always the library's answer; these units find the place and the
- * words. */
+/* mantelorris-card prints what is on a card, in words or as JSON. Its units:
+ *     main.c      options                          what.c       what the bytes are
+ *     files.c     files, opened to read alone      raw.c        the raw card of examples/card_raw.c
+ *     plan.c      the plan of a log                card.c       what is said of a card, an image or a packet
+ *     layouts.c   docs/FORMATS.md and docs/STATE.md as tables, and the walk over a log
+ *     print.c     words and JSON
+ *     why.c, why_log.c   what the library refuses, where, and why
+ * Whether bytes are good is always the library's answer; these units find the place and the words. */
 #ifndef READER_H
 #define READER_H
 
@@ -43,6 +47,7 @@ extern const struct layout packet_layouts[], record_layouts[]; /* the last one h
 const struct layout *layout_of(const struct layout *layouts, uint8_t kind);
 const struct field *next_field(const struct layout *layout, const struct field *field); /* the first, of NULL; NULL behind the last */
 uint32_t field_value(const struct field *field, const uint8_t *row);
+int64_t plain_value(const struct field *field, const uint8_t *row); /* with its sign */
 const char *value_name(enum type type, uint32_t value); /* NULL where it is a number */
 struct range field_range(const struct layout *layout, const struct field *field, const uint8_t *row);
 uint32_t row_value(const struct layout *layout, const char *name, const uint8_t *row);
@@ -131,7 +136,8 @@ struct card {
 uint32_t show_card(struct card card, const struct slice *plan);
 uint32_t show_image_alone(struct slice image, const struct slice *plan);
 uint32_t show_packet(struct slice packet);
-uint32_t show_bytes(struct slice bytes, const char *path, const char *tail, const struct slice *plan); /* path: of these bytes; tail: of the tail; each or NULL */
+/* path: of these bytes; tail: of the tail; each or NULL */
+uint32_t show_bytes(struct slice bytes, const char *path, const char *tail, const struct slice *plan);
 
 /* ---- files.c: on a failure they say so and end the program with status 2 */
 

@@ -28,8 +28,8 @@ static void show_superblocks(const struct raw *raw) {
         number("good", raw->good[i]);
         if (raw->good[i]) number("sequence", (int64_t)raw->sequence[i]);
         close_object();
-        words(raw->good[i] ? "superblock at %d: good, sequence number %llu%s\n" : "superblock at %d: not a good one\n", 4096 * i, (unsigned long long)raw->sequence[i],
-              raw->counts == i ? "; it counts" : "");
+        words(raw->good[i] ? "superblock at %d: good, sequence number %llu%s\n" : "superblock at %d: not a good one\n", 4096 * i,
+              (unsigned long long)raw->sequence[i], raw->counts == i ? "; it counts" : "");
     }
     close_list();
 }

@@ -30,10 +30,14 @@ static const char *range_words(char *to, size_t space, struct range due) {
 void because_field(struct fault *fault, const struct layout *layout, const uint8_t *row, size_t at) {
     char due[48];
     const struct field *f = bad_field(layout, row);
-    fault->at = at;
-    fault->byte = at + f->at;
+    fault->at = fault->byte = at;
+    if (!f) {
+        because(fault, "no field is out of the range that this program knows; is the library of a later version?");
+        return;
+    }
+    fault->byte += f->at;
     range_words(due, sizeof due, field_range(layout, f, row));
-    because(fault, "byte %zu, %s, is %lld, and %s is due", fault->byte, *f->name ? f->name : "a zero", f->type == ARGUMENT ? (long long)(int32_t)field_value(f, row) : (long long)field_value(f, row), due);
+    because(fault, "byte %zu, %s, is %lld, and %s is due", fault->byte, *f->name ? f->name : "a zero", (long long)plain_value(f, row), due);
 }
 
 void why_head(struct fault *fault, struct slice log) {
@@ -41,7 +45,8 @@ void why_head(struct fault *fault, struct slice log) {
     if (log.length < MANTELORRIS_LOG_HEAD)
         because(fault, log.length ? "the head is cut off: %zu of its 8 bytes are here" : "there is no head: %zu bytes", log.length);
     else if (!mantelorris_is_log(log.bytes, log.length))
-        because(fault, "bytes 0 to 3 are %02X %02X %02X %02X, and a log begins with 57 4C 47 31", log.bytes[0], log.bytes[1], log.bytes[2], log.bytes[3]);
+        because(fault, "bytes 0 to 3 are %02X %02X %02X %02X, and a log begins with 57 4C 47 31", log.bytes[0], log.bytes[1], log.bytes[2],
+                log.bytes[3]);
     else if (bad_field(&log_head, log.bytes))
         because_field(fault, &log_head, log.bytes, 0);
 }
@@ -84,7 +89,8 @@ static int client_row_off(struct fault *fault, const uint8_t *rows, size_t i, si
 }
 
 static int outside(const uint8_t *plan, uint32_t point, int32_t value) {
-    return plan && (value < (int32_t)mantelorris_number_at(plan, 16 * (size_t)point) || value > (int32_t)mantelorris_number_at(plan, 16 * (size_t)point + 4));
+    size_t row = MANTELORRIS_PLAN_ROW * (size_t)point;
+    return plan && (value < (int32_t)mantelorris_number_at(plan, row) || value > (int32_t)mantelorris_number_at(plan, row + 4));
 }
 
 static int entry_off(struct fault *fault, struct slice image, struct parts parts, size_t i, const uint8_t *plan, size_t at) {
@@ -151,7 +157,8 @@ static int front_taken(struct slice checkpoint, uint32_t points, size_t clients,
     mantelorris_put_number(trial, 36, (uint32_t)(CLIENTS_AT + 8 * clients));
     mantelorris_put_number(trial, 40, (uint32_t)(20 * records));
     for (uint32_t p = points; p < MANTELORRIS_POINTS; p++) found_row(trial, p);
-    return !mantelorris_number(mantelorris_recover_checkpoint(state, sizeof state, trial, CLIENTS_AT + 8 * clients + 20 * records, head, sizeof head));
+    size_t length = CLIENTS_AT + 8 * clients + 20 * records;
+    return !mantelorris_number(mantelorris_recover_checkpoint(state, sizeof state, trial, length, head, sizeof head));
 }
 
 static void why_point(struct fault *fault, struct slice checkpoint, uint32_t point) {
@@ -210,16 +217,17 @@ static void why_plan(struct fault *fault, struct slice checkpoint, uint32_t poin
 /* of a checkpoint that the library refuses */
 void why_checkpoint(struct fault *fault, struct slice checkpoint) {
     struct parts parts = checkpoint_parts(checkpoint);
+    size_t due = mantelorris_checkpoint_length(checkpoint.bytes, checkpoint.length);
     fault->at = fault->byte = 0;
     fault->why[0] = 0;
     if (checkpoint.length < MANTELORRIS_CHECKPOINT_HEAD)
         because(fault, "the head is cut off: %zu of its 44 bytes are here", checkpoint.length);
     else if (bad_field(&checkpoint_head, checkpoint.bytes))
         because_field(fault, &checkpoint_head, checkpoint.bytes, 0);
-    else if (!mantelorris_checkpoint_length(checkpoint.bytes, checkpoint.length))
+    else if (!due)
         because_at(fault, 12, "the four pairs of offset and length, bytes 12 to 43, are off their layout");
     else if (!parts.good)
-        because(fault, "its end is missing: it has %zu bytes, and %zu are here", mantelorris_checkpoint_length(checkpoint.bytes, checkpoint.length), checkpoint.length);
+        because(fault, "its end is missing: it has %zu bytes, and %zu are here", due, checkpoint.length);
     else if (mantelorris_plan_bad_row(checkpoint.bytes + PLAN_AT) < MANTELORRIS_POINTS)
         why_plan(fault, checkpoint, mantelorris_plan_bad_row(checkpoint.bytes + PLAN_AT));
     else

@@ -1,4 +1,5 @@
-/* Which record of a log the library refuses, and why: the log is replayed in spans, and the state before that record is asked what its operation would answer. */
+/* Which record of a log the library refuses, and why: the log is replayed in spans, and the state before that record is asked what its operation would
+ * answer. */
 #include "reader.h"
 #include <string.h>
 
@@ -51,6 +52,10 @@ static int32_t bound(uint32_t point, size_t at) {
     return (int32_t)mantelorris_number_at(state, STATE_PLAN + MANTELORRIS_PLAN_ROW * (size_t)point + at);
 }
 
+static uint32_t known_floor(uint32_t client) {
+    return floor_of(state + STATE_CLIENTS_AT, mantelorris_number_at(state, STATE_CLIENTS), client);
+}
+
 static void not_held(struct fault *fault, uint32_t point) {
     because(fault, "point %u is %s here", point, mantelorris_status_name(mantelorris_status(state, point)));
 }
@@ -64,14 +69,15 @@ static void why_executed(struct fault *fault, const uint8_t *record) {
     uint64_t a = mantelorris_request(state, sizeof state, tail, sizeof tail, packet, sizeof packet, out, sizeof out);
     switch (mantelorris_number(a)) {
     case MANTELORRIS_NOT_HELD: not_held(fault, point); break;
-    case MANTELORRIS_UNDER_FLOOR: because(fault, "call %u is under the floor of client %u, %u", call, client, floor_of(state + STATE_CLIENTS_AT, mantelorris_number_at(state, STATE_CLIENTS), client)); break;
+    case MANTELORRIS_UNDER_FLOOR: because(fault, "call %u is under the floor of client %u, %u", call, client, known_floor(client)); break;
     case MANTELORRIS_CLIENTS_FULL: because(fault, "32 clients are known, and client %u is none of them", client); break;
     case MANTELORRIS_OTHER_COMMAND: because(fault, "client %u, call %u stands already, for another command", client, call); break;
     default:
         if (mantelorris_written(a))
             because(fault, "client %u, call %u stands already", client, call);
         else
-            because(fault, "value %d is outside the range of point %u, %d to %d", (int32_t)mantelorris_number_at(record, 20), point, bound(point, 0), bound(point, 4));
+            because(fault, "value %d is outside the range of point %u, %d to %d", (int32_t)mantelorris_number_at(record, 20), point, bound(point, 0),
+                    bound(point, 4));
     }
 }
 
@@ -90,13 +96,16 @@ static void why_give(struct fault *fault, const uint8_t *record) {
 }
 
 static void why_taken(struct fault *fault, struct slice image, size_t at) {
-    uint32_t point = image.bytes[4];
+    uint32_t point = image.bytes[4], move = mantelorris_image_move(image.bytes), own = mantelorris_move(state, point);
+    int held = mantelorris_status(state, point) == MANTELORRIS_HELD;
     switch (mantelorris_number(mantelorris_take(state, sizeof state, tail, sizeof tail, image.bytes, image.length))) {
-    case MANTELORRIS_BAD_DESTINATION: because(fault, "the image is for server %u, and this is server %u", image.bytes[5], mantelorris_server(state)); break;
-    case MANTELORRIS_OLD_MOVE: because(fault, "move %u is not above the own one of point %u, %u", mantelorris_image_move(image.bytes), point, mantelorris_move(state, point)); break;
+    case MANTELORRIS_BAD_DESTINATION:
+        because(fault, "the image is for server %u, and this is server %u", mantelorris_image_destination(image.bytes), mantelorris_server(state));
+        break;
+    case MANTELORRIS_OLD_MOVE: because(fault, "move %u is not above the own one of point %u, %u", move, point, own); break;
     case MANTELORRIS_CLIENTS_FULL: because(fault, "with the image's there would be more than 32 clients"); break;
     case MANTELORRIS_HELD_HERE:
-        because(fault, mantelorris_status(state, point) == MANTELORRIS_HELD ? "point %u is held here" : "a record of the image of point %u stands here for another point", point);
+        because(fault, held ? "point %u is held here" : "a record of the image of point %u stands here for another point", point);
         break;
     default:
         why_image(fault, image, at + MANTELORRIS_LOG_TAKE, state + STATE_PLAN);

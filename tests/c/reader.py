@@ -76,7 +76,8 @@ SENTENCES = {
     'give': lambda r: 'point %d is given to server %d, move %d' % (r['point'], r['destination'], r['move']),
     'take': lambda r: 'an image of %d bytes' % r['image_length'],
     'release': lambda r: 'point %d is released, move %d' % (r['point'], r['move']),
-    'image': lambda r: 'point %d from server %d to server %d, move %d, heard time %d: value %d, %s' % tuple(r[k] for k in ('point', 'source', 'destination', 'move', 'heard', 'value', 'quality')),
+    'image': lambda r: 'point %d from server %d to server %d, move %d, heard time %d: value %d, %s' % (
+        r['point'], r['source'], r['destination'], r['move'], r['heard'], r['value'], r['quality']),
     'client': lambda r: 'client %d: floor %d' % (r['client'], r['floor']),
     'entry': lambda r: command(r, ''),
     'completion': lambda r: command(r, ' point %d' % r['point']),
@@ -101,7 +102,8 @@ def due_lines(told_json):
     lines = [line for row in rows for line in placed(row)]
     state = told_json.get('state')
     if state:
-        lines += ['  ' + point(p) for p in state['points'] if not founded(p)] + ['  ' + SENTENCES['client'](c) for c in state['clients']] + ['  ' + SENTENCES['completion'](r) for r in state['records']]
+        lines += ['  ' + point(p) for p in state['points'] if not founded(p)]
+        lines += ['  ' + SENTENCES['client'](c) for c in state['clients']] + ['  ' + SENTENCES['completion'](r) for r in state['records']]
     return lines
 
 
@@ -164,8 +166,10 @@ def cuts():
         status, told_json, said = card(PLAN, saved('cut', log[:length]))
         end = max([at for at in whole if at <= length], default=0)
         torn = told_json.get('log', {}).get('torn', {'bytes': 0, 'hex': ''})
-        good = told_json['state']['length'] == end == told_json['log']['end'] and torn['bytes'] == length - end and bytes.fromhex(torn['hex']) == log[end:length] if length >= 8 else \
-            told_json['answer'] == 14 and 'refused with 14, bad log; in the log at 0: ' in said
+        if length >= 8:
+            good = told_json['state']['length'] == end == told_json['log']['end'] and torn['bytes'] == length - end and bytes.fromhex(torn['hex']) == log[end:length]
+        else:
+            good = told_json['answer'] == 14 and 'refused with 14, bad log; in the log at 0: ' in said
         if status != (length < 8) or not good or due_lines(told_json) != said_lines(said):
             wrong.append(length)
     told('%d cuts of a log: where it ends, what is torn' % (len(log) + 1), wrong)
@@ -368,8 +372,9 @@ def checkpoints():
              ('checkpoint', point_5, 'byte 1149, quality, is 2, and 0 to 1 is due', changed(good, point_5 + 1, b'\2') + tail),
              ('checkpoint', point_5 + 16, 'status, destination, moves and home of point 6 do not fit each other', changed(good, point_5 + 16, b'\1') + tail),
              ('checkpoint', 2092, 'byte 2096, floor, is 0, and 1 or more is due', changed(good, 2096, number(0)) + tail),
-             ('checkpoint', 2092 + 8, 'clients do not ascend here', changed(changed(changed(good[:2100] + good[2092:], 32, number(16)), 36, number(2108)), 2100, number(1)) + tail),
-             ('checkpoint', first, 'its call is under its client\'s floor', changed(good, 2096, number(9)) + tail), ('checkpoint', first, 'its client is not among the clients', changed(good, first, number(2)) + tail),
+             ('checkpoint', 2092 + 8, 'clients do not ascend here', changed(changed(good[:2100] + good[2092:], 32, number(16)), 36, number(2108)) + tail),
+             ('checkpoint', first, 'its call is under its client\'s floor', changed(good, 2096, number(9)) + tail),
+             ('checkpoint', first, 'its client is not among the clients', changed(good, first, number(2)) + tail),
              ('checkpoint', first + 20, 'its call is more than 15 above its client\'s floor', changed(good, first + 24, number(17)) + tail),
              ('checkpoint', first, 'its point is neither held nor given', changed(good, first + 19, b'\6') + tail),
              ('checkpoint', first, 'its value is outside its point\'s range', changed(good, first + 12, number(1001)) + tail),
@@ -389,7 +394,8 @@ def any_record(rng):
     p, client, call, move = rng.randrange(3), rng.randint(1, 3), rng.randint(1, 6), rng.randrange(3)
     kind = rng.choices(range(6), [40, 10, 20, 20, 10, 1])[0]
     if kind == 0:
-        return executed(rng.randrange(6), p, client, call, rng.choice([0, 0, 7, 2000]), rng.choice([0, 5, 1000, 1001, -101] if rng.randrange(9) == 0 else [0, 5]), rng.randint(1, call + (rng.randrange(9) == 0)), rng.randrange(5))
+        value, done = rng.choice([1000, 1001, -101] if rng.randrange(9) == 0 else [0, 5]), rng.randint(1, call + (rng.randrange(9) == 0))
+        return executed(rng.randrange(6), p, client, call, rng.choice([0, 0, 7, 2000]), value, done, rng.randrange(5))
     if kind == 1:
         return gone(client, rng.choice([0, 5, 0xFFFFFFFF]))
     if kind == 2:
@@ -544,11 +550,12 @@ def odd():
     os.chmod(secret, 0)
     os.mkfifo(os.path.join(WORK, 'fifo'))
     log = 'tests/logs/first/server0.log'
-    due = [(1, 'no server was founded on it', [saved('empty', b'')]), (2, 'is a folder', [WORK]), (2, 'No such file', [WORK + '/nothing']), (2, 'neither a file nor', [WORK + '/fifo']),
-           (2, 'neither a file nor', ['/dev/null']), (2, 'name a card', []), (2, 'one card at a time', [log, log]), (2, '--foo is no option', ['--foo', log]), (2, 'a value is missing', [log, '--plan']),
-           (2, 'no two hexadecimal digits', ['--hex', '01 0']), (2, '--tail goes with a checkpoint', ['--tail', log, log]), (2, 'No such file', ['--plan', WORK + '/nothing', log]),
-           (0, 'Exit status', ['--help']), (1, 'begins with 57 4C 47 31', [saved('words', b'a letter to the canal company')]), (1, 'there is no head', ['tests/logs/third/server0.checkpoint']),
-           (1, 'a request has 24 bytes', ['--hex', '01 01 05'])]
+    due = [(1, 'no server was founded on it', [saved('empty', b'')]), (2, 'is a folder', [WORK]), (2, 'No such file', [WORK + '/nothing']),
+           (2, 'neither a file nor', [WORK + '/fifo']), (2, 'neither a file nor', ['/dev/null']), (2, 'name a card', []), (2, 'one card at a time', [log, log]),
+           (2, '--foo is no option', ['--foo', log]), (2, 'a value is missing', [log, '--plan']), (2, 'no two hexadecimal digits', ['--hex', '01 0']),
+           (2, '--tail goes with a checkpoint', ['--tail', log, log]), (2, 'No such file', ['--plan', WORK + '/nothing', log]), (2, 'more than 32 bits', ['--plan=0,3000000000,0,0', log]),
+           (0, 'Exit status', ['--help']), (1, 'begins with 57 4C 47 31', [saved('words', b'a letter to the canal company')]),
+           (1, 'there is no head', ['tests/logs/third/server0.checkpoint']), (1, 'a request has 24 bytes', ['--hex', '01 01 05'])]
     if os.getuid():
         due.append((2, 'Permission denied', [secret]))
     wrong = []
@@ -566,10 +573,14 @@ def plans():
     log, good = 'tests/logs/second/server1.log', struct.pack('<3iI', -100, 1000, 0, 0) * 64
     bad = good[:16 * 9] + struct.pack('<3iI', 5, 7, 8, 0) + good[16 * 10:]
     home = good[:16 * 9 + 13] + b'\1' + good[16 * 9 + 14:]
-    due = [(0, 'recovered', good), (1, 'refused with 1, malformed; in the plan at 0: a plan has 1024 bytes, and this one has 1000', good[:1000]), (1, 'in the plan at 144: of point 9 the fallback is outside its own range', bad),
-           (1, 'in the plan at 144: byte 157, a zero, is 1, and 0 is due', home), (1, 'refused with 14, bad log; in the log at 8: the point\'s value is outside its range', struct.pack('<3iI', 0, 1000, 0, 0) * 64),
+    due = [(0, 'recovered', good), (1, 'refused with 1, malformed; in the plan at 0: a plan has 1024 bytes, and this one has 1000', good[:1000]),
+           (1, 'in the plan at 144: of point 9 the fallback is outside its own range', bad), (1, 'in the plan at 144: byte 157, a zero, is 1, and 0 is due', home),
+           (1, 'refused with 14, bad log; in the log at 8: the point\'s value is outside its range', struct.pack('<3iI', 0, 1000, 0, 0) * 64),
            (1, 'refused with 14, bad log; in the log at 8: point 5 is held here', struct.pack('<3iI', -100, 1000, 0, 1) * 64)]
-    wrong = [(words, run('--plan', saved('plan', plan), log)[1][-200:]) for status, words, plan in due if run('--plan', saved('plan', plan), log)[0] != status or words not in run('--plan', saved('plan', plan), log)[1]]
+    wrong = []
+    for status, words, plan in due:
+        have, said, _ = run('--plan', saved('plan', plan), log)
+        wrong += [(words, have, said[-200:])] if have != status or words not in said else []
     both = saved('both', open('tests/logs/third/server1.checkpoint', 'rb').read() + open('tests/logs/third/server1.log', 'rb').read())
     status, told_json, said = card('--plan=-100,1000,1,0', both)
     if status or told_json['plan_differs_at_point'] != 0 or 'they differ at point 0' not in said or 'plan_differs_at_point' in card(PLAN, both)[1]:
@@ -585,8 +596,8 @@ def large():
     good = saved('large', log)
     struct.pack_into('<i', log, 8 + 28 * (count - 1) + 20, 5000)
     noise = random.Random(SEED).randbytes(1 << 24)
-    due = [(0, 'whole records up to %d' % len(log), good), (1, 'in the log at %d: value 5000 is outside' % (len(log) - 28), saved('large-bad', log)), (1, 'no good superblock', saved('zeros', bytes(1 << 24))),
-           (1, 'no good superblock', saved('noise', b'\0' + noise))]
+    due = [(0, 'whole records up to %d' % len(log), good), (1, 'in the log at %d: value 5000 is outside' % (len(log) - 28), saved('large-bad', log)),
+           (1, 'no good superblock', saved('zeros', bytes(1 << 24))), (1, 'no good superblock', saved('noise', b'\0' + noise))]
     wrong, most = [], 0
     for status, words, path in due:
         for form in [], ['--json']:
