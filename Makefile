@@ -1,5 +1,5 @@
 # `make` alone, or make help: what there is.
-.PHONY: help run picture check edits test bench bench-peer lib install dist demo house clean
+.PHONY: help run picture check edits test bench bench-peer lib card install dist demo house clean
 
 help:
 	@tools/help.sh
@@ -20,9 +20,14 @@ demo: lib
 lib:
 	@tools/lib.sh --target "$(TARGET)"
 
-#: the library, its headers, pkg-config and CMake files below PREFIX=/path [DESTDIR=folder] [TARGET=aarch64]
+#: dist/mantelorris-card: prints what is on a card, an image or a packet, in words or as JSON, and never writes
+card: lib
+	@tools/card.sh dist/mantelorris-card
+
+#: the library, its headers, pkg-config and CMake files, and mantelorris-card below PREFIX=/path [DESTDIR=folder] [TARGET=aarch64: without the card reader]
 install:
 	@tools/lib.sh --target "$(TARGET)" install "$(PREFIX)" "$(DESTDIR)"
+	@case "$(TARGET)" in ''|x86-64) tools/card.sh "$(DESTDIR)$(PREFIX)/bin/mantelorris-card" ;; esac
 
 #: dist/mantelorris-VERSION.tar.gz: library, headers, guide, examples, manifest
 dist:

@@ -58,6 +58,10 @@ $(sed -nE 's/^    (cc examples\/host.c .* -Llib .*)$/\1/p' "$top/docs/GUIDE.md")
 # a maker's trial of it, with what is in the delivery and no kit
 PATH=/usr/local/bin:/usr/bin:/bin POWER_KILLS=12 tests/c/power.py --serve './host {card} {port} 400' --found './host --found {card}' >"$work/power" 2>&1 || { cat "$work/power"; exit 1; }
 rm host
+# the card reader, by the guide's line
+bash -c "$(sed -nE 's/^    (cc examples\/reader.* -Llib .*)$/\1/p' "$top/docs/GUIDE.md")"
+./mantelorris-card --hex '06 00 00 00 01 00 00 00 58 02 00 00' | grep -q 'client 1: lease end 600'
+rm mantelorris-card
 if command -v cmake >/dev/null; then
   printf 'cmake_minimum_required(VERSION 3.5)\nproject(user C)\nfind_package(mantelorris 1.0 REQUIRED)\nfind_package(mantelorris 2.0 QUIET)\nif(mantelorris_FOUND)\n  message(FATAL_ERROR "2.0")\nendif()\n' >"$work/CMakeLists.txt"
   printf 'add_executable(user %s/examples/host.c %s/examples/card.c)\ntarget_link_libraries(user mantelorris::mantelorris)\n' "$PWD" "$PWD" >>"$work/CMakeLists.txt"
@@ -67,4 +71,5 @@ fi
 cd "$top"
 make --no-print-directory install PREFIX=/usr DESTDIR="$work/root" >/dev/null
 [ -f "$work/root/usr/lib/libmantelorris.a" ] && [ -f "$work/root/usr/include/mantelorris.h" ]
+"$work/root/usr/bin/mantelorris-card" --help | grep -q 'never writes'
 echo "one archive from two folders: $(sha256sum <"$archive" | cut -d ' ' -f 1)"

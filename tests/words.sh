@@ -28,7 +28,7 @@ for tool in ar awk bash cat cc chmod cmp cp cut date df dirname env git grep hea
 done
 ln -s "$(python3 -c 'import sys; print(sys.executable)')" "$work/bin/python3"
 without() { PATH=$work/bin make --no-print-directory "$@"; }
-for target in check edits lib 'install PREFIX=/there' dist demo run 'picture SCHEDULE=tests/yard/move.in' bench test; do
+for target in check edits lib card 'install PREFIX=/there' dist demo run 'picture SCHEDULE=tests/yard/move.in' bench test; do
   due 1 'rt is not on the PATH: install the Rattle kit' without $target OUT="$work/x.svg"
 done
 sqlite=1

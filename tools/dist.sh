@@ -13,6 +13,7 @@ mkdir -p "$to/examples" "$to/tests/c"
 tools/lib.sh install / "$to" | sed '/^installed below/d'
 cp examples/*.c examples/*.h "$to/examples/"
 cp tests/c/power.py tests/c/power.c "$to/tests/c/"
+cp -r examples/reader "$to/examples/"
 cp CHANGELOG.md LICENSE SECURITY.md "$to/"
 tools/page.py "$to/guide.html" >/dev/null
 commit=$(tools/commit.sh)

@@ -107,6 +107,7 @@ in_c() {
   part earlier-logs tests/logs/run.sh; count $?
   part power-cuts tests/c/power.py; count $?
   grep -E '^(seed|[0-9]+ starts|line:)' "$logs/power-cuts" | sed 's/^/   /'
+  part card-reader tests/c/reader.py; count $?
   part plant tests/c/plant.py; count $?
   grep -E '^(seed|starts)' "$logs/plant" | sed 's/^/   /'
   part guide tests/c/guide.py; count $?

@@ -27,7 +27,7 @@ use Rattle.model.specs.Decisions.{find, isNone}
 use Rattle.model.specs.Operations.{short, unfit, lentRefusal, logEndOf}
 use Rattle.model.specs.Checkpoints.{noPlace, restored, checkpointFramed, checkpointState, placeInCheckpoint, checkpointBad, tailOf, inspectRefusal, inspectOf}
 use Rattle.model_laws.specs.Bytes.{Bytes}
-use Rattle.model_laws.proofs.Tests.{impossible}
+use Rattle.model_laws.proofs.Tests.{or-left, or-right, impossible}
 use Rattle.model_laws.proofs.Refused.{if-passed}
 use Rattle.model_invariants.specs.Sound.{Sound}
 use Rattle.model_invariants.proofs.Loaded.{loaded-sound}
@@ -41,14 +41,6 @@ use Rattle.server_memory.specs.Memory.{Fit}
 use Rattle.server_memory.proofs.Settled.{lent-fit}
 use Rattle.server_inspect.specs.Places.{latestFrom}
 use Rattle.server_inspect.specs.Inspected.{foreign, Logged}
-
-or-left : (a b : Bool) → (a || b) ≡ false → a ≡ false
-or-left true b e = e
-or-left false b e = refl
-
-or-right : (a b : Bool) → (a || b) ≡ false → b ≡ false
-or-right true b e = absurd (false≢true (sym e))
-or-right false b e = e
 
 -- ---- tests in code
 
