@@ -63,27 +63,37 @@ killed_on_both() { killed file card.c && killed sectors card_raw.c --sectors; }
 trial kills killed_on_both
 trial reference on_arm tests/reference/run.sh
 
-# programs
+# both NAME SOURCE: the program for Arm, and as NAME_x86 the one for x86-64; alike NAME WORDS..: they say the same
+both() {
+  on_arm cc $flags "$2" "$library" -o "$work/$1"
+  cc -std=gnu11 -O1 -Idist "$2" dist/libmantelorris.a -o "$work/$1_x86"
+}
+alike() {
+  local program
+  for program in "$1" "$1_x86"; do "$work/$program" "${@:2}" >"$work/$program.said" || echo "exit $?" >>"$work/$program.said"; done
+  cmp "$work/$1.said" "$work/$1_x86.said" || { cat "$work/$1.said"; echo "on Arm: $* says something else than on x86-64"; exit 1; }
+}
 for name in client helpers host; do
-  on_arm cc -std=c11 -O1 -Wall -Wextra -Werror -Iinclude tests/c/$name.c "$library" -o "$work/$name"
-  "$work/$name" >"$work/said" || { cat "$work/said"; echo "on Arm: tests/c/$name.c failed"; exit 1; }
-  echo "tests/c/$name.c: $(tail -n 1 "$work/said")"
+  both $name tests/c/$name.c
+  alike $name
+  tail -n 1 "$work/$name.said" | grep -q '^[0-9]* passed, 0 failed$' || { cat "$work/$name.said"; exit 1; }
+  echo "tests/c/$name.c, as on x86-64: $(tail -n 1 "$work/$name.said")"
 done
 if command -v aarch64-linux-gnu-g++ >/dev/null; then
   aarch64-linux-gnu-g++ -static -std=c++11 -O1 -Wall -Wextra -Werror -Iinclude -x c++ tests/c/helpers.c -x none "$library" -o "$work/helpers.arm"
   "$work/helpers" >/dev/null
 fi
-on_arm cc $flags tests/logs/recover.c "$library" -o "$work/recover"
-for folder in tests/logs/*/; do "$work/recover" "$folder" | cmp - "$folder/results"; done
-on_arm cc $flags examples/lock.c "$library" -o "$work/lock"
-cc -std=gnu11 -O1 -Idist examples/lock.c dist/libmantelorris.a -o "$work/lock_x86"
+both lock examples/lock.c
 for seed in 1 2 3 4 5 6 7 8 9 10; do
-  for fence in '' unfenced; do
-    for program in lock lock_x86; do "$work/$program" 5 $seed $fence >"$work/$program.said" || echo "exit $?" >>"$work/$program.said"; done
-    cmp "$work/lock.said" "$work/lock_x86.said"
-  done
+  alike lock 5 $seed
+  alike lock 5 $seed unfenced
 done
-echo "examples/lock.c: 20 runs say what they say on x86-64; logs of earlier versions are recovered"
+both recover tests/logs/recover.c
+for folder in tests/logs/*/; do
+  alike recover "$folder"
+  cmp "$work/recover.said" "$folder/results"
+done
+echo "examples/lock.c: 20 runs as on x86-64; logs of earlier versions are recovered"
 on_arm tools/fence_picture.py --check
 on_arm tests/c/link.sh aarch64
 on_arm tests/c/guide.py >"$work/said" || { cat "$work/said"; exit 1; }

@@ -411,7 +411,8 @@ static void second(void) {
     if (below(3) == 0) save(&servers[1]);
     if (below(6) == 0) power_cut(&servers[below(2)]);
     if (below(8) == 0) {
-        int done = renew(&servers[below(2)], below(2 * 2100));
+        uint32_t survive = below(2 * 2100);
+        int done = renew(&servers[below(2)], survive);
         stored += done;
         not_stored += !done;
     }
