@@ -28,13 +28,13 @@ unfolding orderedPlace
 returns c =
     let read = c .before .before in
     let at = read .before .before in
-    sought-hit (at .loop .inv) noFloor (omega arith) (not-below (read .row .ensures) (c .if1 .taken))
+    sought-hit (at .loop .inv) noFloor (omega arith) (not-below (read .row .ensures) (omega (arith, c .if1 .taken)))
 
 loop-again : tie.Need-loop-again Inv-loop μ-loop
 loop-again c =
     let read = c .before .before in
     let at = read .before .before in
-    sought-next (at .loop .inv) noFloor (omega arith) (is-below (read .row .ensures) (c .if1 .left))
+    sought-next (at .loop .inv) noFloor (omega arith) (is-below (read .row .ensures) (omega (arith, c .if1 .left)))
 
 returns-2 : tie.Need-returns-2 Inv-loop μ-loop
 unfolding orderedPlace
