@@ -5,7 +5,7 @@
 --     read-ok, read-none     what the answer says: the image is well-formed, its head stands there, its tables lie in the slice and in
 --                      their limits; or it is malformed
 -- Assumes nothing.
-use Prim.Native.Nat.{ℕ, _+_, _*_, _≤_}
+use Prim.Native.Nat.{ℕ, _*_, _≤_}
 use mathlib.Core.Path.{_≡_, refl, sym, _∙_}
 use mathlib.Core.Bool.{Bool, true, false}
 use mathlib.Core.List.{List, [], _∷_}

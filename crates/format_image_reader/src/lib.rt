@@ -115,13 +115,9 @@ fn entry_step(s: &[u8], point: u8, floor: u32, width: usize, k: usize, left: usi
 // Each of so many records of the point from at, strictly ascending by client, then call; n floors ascend by client, so that
 // the floors are walked once beside the records.
 fn entries_ok(s: &[u8], n: usize, point: u8, width: usize, at: usize, entries: usize) -> bool
-    requires {
-        ⌜ (entryRow ≤ width) × (entriesStart n ≤ length (now s)) × (at + width * entries ≤ length (now s))
-            × (clientsAscend (floorsIn (now s) n) ≡ true) ⌝
-    }
-    ensures {
-        λ r. ⌜ r ≡ entriesOk point (floorsIn (now (s .entry)) n) width entries (drop at (now (s .entry))) ⌝
-    }
+    requires { ⌜ (entryRow ≤ width) × (entriesStart n ≤ length (now s)) × (at + width * entries ≤ length (now s))
+        × (clientsAscend (floorsIn (now s) n) ≡ true) ⌝ }
+    ensures { λ r. ⌜ r ≡ entriesOk point (floorsIn (now (s .entry)) n) width entries (drop at (now (s .entry))) ⌝ }
 {
     let mut i = 0;
     let mut j = 0;
@@ -200,9 +196,7 @@ pub fn image_read(s: &[u8]) -> ImageRead
 // The value of each of so many records from at.
 fn entries_in_range(s: &[u8], e: PlanEntry, width: usize, at: usize, entries: usize) -> bool
     requires { ⌜ (entryRow ≤ width) × (at + width * entries ≤ length (now s)) ⌝ }
-    ensures {
-        λ r. ⌜ r ≡ every (entryInRange e) (rows imageEntryOf width entries (drop at (now (s .entry)))) ⌝
-    }
+    ensures { λ r. ⌜ r ≡ every (entryInRange e) (rows imageEntryOf width entries (drop at (now (s .entry)))) ⌝ }
 {
     let mut i = 0;
     while i < entries {

@@ -136,10 +136,8 @@ pub fn entry_row_ok(s: &[u8], k: usize) -> bool
 // The id of the record from k is before that of the next.
 pub fn id_before(s: &[u8], k: usize, width: usize) -> bool
     requires { ⌜ (k + entryRow ≤ length (now s)) × (k + width + entryRow ≤ length (now s)) ⌝ }
-    ensures {
-        λ r. ⌜ r ≡ entryBefore (imageEntryOf (drop k (now (s .entry))))
-            (imageEntryOf (drop (k + width) (now (s .entry)))) ⌝
-    }
+    ensures { λ r. ⌜ r ≡ entryBefore (imageEntryOf (drop k (now (s .entry))))
+        (imageEntryOf (drop (k + width) (now (s .entry)))) ⌝ }
 {
     let entry = entry_from(s, k);
     let next = entry_from(s, k + width);

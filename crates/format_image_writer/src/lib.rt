@@ -103,10 +103,8 @@ pub fn write_head(out: &mut [u8], h: ImageHead)
 // n floors, from a table of rows of the same layout.
 pub fn write_floors(out: &mut [u8], table: &[u8], n: usize)
     requires { ⌜ (entriesStart n ≤ length (now out)) × (floorRow * n ≤ length (now table)) ⌝ }
-    ensures {
-        λ r. ⌜ now (out .exit) ≡ written (now (out .entry)) leastImage
-            (bytesOf floorBytes (rows floorOfBytes floorRow n (now (table .entry)))) ⌝
-    }
+    ensures { λ r. ⌜ now (out .exit) ≡ written (now (out .entry)) leastImage
+        (bytesOf floorBytes (rows floorOfBytes floorRow n (now (table .entry)))) ⌝ }
 {
     let mut i = 0;
     while i < n {

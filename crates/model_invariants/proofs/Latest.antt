@@ -230,7 +230,8 @@ module _ (start : State) (first : Place) (x c : ℕ) where
       where
         go : (b : Bool) → ltb (indexOf (isEntryId x c) (i .entries)) (length (i .entries)) ≡ b
             → List·Memᴰ r (keep (isOnOther (i .point)) (st .records)) ⊎ List·Memᴰ r (map (takenRecord (i .point) (st .size + recordSize (took i))) (i .entries))
-            → Found start first (es ++ (entryFor st (took i) ∷ [])) r (pick b (placeAt inImage (entriesAt es i + entryWidth (imageHead i) * indexOf (isEntryId x c) (i .entries)) (entryWidth (imageHead i))) p)
+            → Found start first (es ++ (entryFor st (took i) ∷ [])) r
+            (pick b (placeAt inImage (entriesAt es i + entryWidth (imageHead i) * indexOf (isEntryId x c) (i .entries)) (entryWidth (imageHead i))) p)
         go true q (inl old) = absurd (took-other i h (index-has (isEntryId x c) (i .entries) (ltb-true _ _ q)) r old k l)
         go true q (inr new) = took-here i a r (taken-from _ _ (i .entries) r new) k l .1
         go false q (inl old) = found-more start first es (entryFor st (took i)) r p (S r (keep-member _ _ old) k l)

@@ -57,11 +57,11 @@ openPackets = tt
 
 -- Images: rows, whole ones
 unfoldable pub openImageRows : Opens
-unfolding floorOfBytes floorBytes imageEntryOf imageEntryBytes floorOf inWindow clientsAscend idBefore idsAscend floorOk imageEntryOk
+unfolding floorOfBytes floorBytes imageEntryOf imageEntryBytes floorOf inWindow clientsAscend idBefore idsAscend floorOk imageEntryOk entryWidth
 openImageRows = tt
 
 unfoldable pub openImages : Opens
-unfolding openImageRows entryWidth imageHead imageHeadOf imageAt imageFramed imageParts imageHeadOk entryRowOk imageTablesOk imageOk parseImage entryInRange imageInRange imageLength imageHeadBytes imageBytes
+unfolding openImageRows imageHead imageHeadOf imageAt imageFramed imageParts imageHeadOk entryRowOk imageTablesOk imageOk parseImage entryInRange imageInRange imageLength imageHeadBytes imageBytes
 openImages = tt
 
 -- Logs: records, a log

@@ -15,7 +15,7 @@ use lib.ListN.{length}
 use Rattle.model.specs.declared.PlanEntry.{PlanEntry}
 use Rattle.model.specs.Choice.{pick}
 use Rattle.model.specs.Limits.{lastServer, headSize}
-use Rattle.model.specs.Images.{imageLength}
+use Rattle.model.specs.Images.{imageLength, entryWidth}
 use Rattle.model.specs.Logs.{LogRecord, Entry, recordSize}
 use Rattle.model.specs.States.{State}
 use Rattle.model.specs.Apply.{apply, founded, replay, replayFrom}
@@ -31,7 +31,7 @@ use Rattle.proof_records.proofs.Places.{place-all, place-rises, abstrac
 use Rattle.proof_records.proofs.Replays.{chain-alike}
 
 size-like : {r : LogRecord} {a : S.LogRecord} → RecordLike r a → recordSize r ≡ sizeOf a
-unfolding recordSize sizeOf imageLength
+unfolding recordSize sizeOf imageLength entryWidth
 size-like (Likeness.executed v x) = refl
 size-like (Likeness.gone n) = refl
 size-like (Likeness.gave g) = refl

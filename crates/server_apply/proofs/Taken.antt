@@ -19,9 +19,9 @@ use Rattle.model.specs.declared.Point.{Point}
 use Rattle.model.specs.declared.Floor.{Floor}
 use Rattle.model.specs.declared.Completion.{Completion}
 use Rattle.model.specs.Numbers.{word}
-use Rattle.model.specs.Limits.{clientCount, recordCount, leastImage, floorRow, entryRow}
+use Rattle.model.specs.Limits.{clientCount, recordCount, leastImage, floorRow}
 use Rattle.model.specs.Tables.{keep, rows}
-use Rattle.model.specs.Images.{Image, imageAt, floorOfBytes, imageEntryOf}
+use Rattle.model.specs.Images.{Image, imageAt, floorOfBytes, imageEntryOf, entryWidth, entriesStart, lengthBy}
 use Rattle.model.specs.States.{State, load}
 use Rattle.model.specs.Apply.{raise, mergeFloors, staysOverFloors, isOnOther, tookPoint, takenRecord, applyTook}
 use Rattle.model.specs.Operations.{stored}
@@ -56,10 +56,10 @@ unfolding mergeFloors
 merge-fits [] fs a b = b
 merge-fits (g ∷ gs) fs a b = merge-fits gs (raise (g .client) (g .floor) fs) (a .1) (raise-fits g fs (a .0) b)
 
-entries-fit : (n : ℕ) (s : List ℕ) → Bytes s → All ImageEntryFits (rows imageEntryOf entryRow n s)
+entries-fit : (w n : ℕ) (s : List ℕ) → Bytes s → All ImageEntryFits (rows imageEntryOf w n s)
 unfolding rows
-entries-fit zero s b = tt
-entries-fit (suc n) s b = (entry-fit s b, entries-fit n (drop entryRow s) (bytes-drop entryRow s b))
+entries-fit w zero s b = tt
+entries-fit w (suc n) s b = (entry-fit s b, entries-fit w n (drop w s) (bytes-drop w s b))
 
 taken-fit : (p end : ℕ) (es : List ImageEntry) → p < 256 → end < word * word → All ImageEntryFits es → All CompletionFits (map (takenRecord p end) es)
 unfolding takenRecord
@@ -120,8 +120,8 @@ module _ {s : List ℕ} (w : Canonical s) (image : List ℕ) (b : Bytes image) (
       (rows-fit floorCodec (h .floors) (drop leastImage image) (bytes-drop leastImage image b) (everyRow-true floorRow (h .floors) (drop leastImage image)))
       (w .fits .floors)
 
-  pub taken-merge : leastImage + floorRow * h .floors + entryRow * h .entries ≤ length image
-      → Canonical s × (leastImage + floorRow * h .floors ≤ length image) × (length (mergeFloors (rows floorOfBytes floorRow (h .floors) (drop leastImage image)) (load s .floors)) ≤ clientCount)
+  pub taken-merge : lengthBy h ≤ length image
+      → Canonical s × (entriesStart (h .floors) ≤ length image) × (length (mergeFloors (rows floorOfBytes floorRow (h .floors) (drop leastImage image)) (load s .floors)) ≤ clientCount)
   unfolding applyTook imageAt
   taken-merge l = (w, omega arith, floors)
 
@@ -140,8 +140,8 @@ module _ {s : List ℕ} (w : Canonical s) (image : List ℕ) (b : Bytes image) (
     both = rw (ap (λ (x : State). x .records) (tables-composed h end image (load s))) records
 
     -- the image's records added
-    pub taken-add : leastImage + floorRow * h .floors + entryRow * h .entries ≤ length image
-        → Canonical s3 × (leastImage + floorRow * h .floors + entryRow * h .entries ≤ length image) × (length (load s3 .records) + length (brought (load s3) h end image) ≤ recordCount)
+    pub taken-add : lengthBy h ≤ length image
+        → Canonical s3 × (lengthBy h ≤ length image) × (length (load s3 .records) + length (brought (load s3) h end image) ≤ recordCount)
     taken-add l = (stage-canonical t, l, rw (stage-load t) (omega (arith, both, length-append (three .records) (brought three h end image))))
 
     pub taken-done : {s4 : List ℕ} → Widths h end → s4 ≡ stored s3 (withRecords (load s3 .records ++ brought (load s3) h end image) (load s3))
@@ -149,8 +149,8 @@ module _ {s : List ℕ} (w : Canonical s) (image : List ℕ) (b : Bytes image) (
     taken-done {s4} f e =
         let fit : All CompletionFits (brought three h end image) =
         all-keep CompletionFits (staysOverFloors (three .floors)) (map (takenRecord (h .point) end) (imageAt h image .entries))
-        (taken-fit (h .point) end (imageAt h image .entries) (f .point) (f .size) (unfold imageAt in entries-fit (h .entries) (drop (leastImage + floorRow * h .floors) image)
-        (bytes-drop (leastImage + floorRow * h .floors) image b))) in
+        (taken-fit (h .point) end (imageAt h image .entries) (f .point) (f .size) (unfold imageAt in entries-fit (entryWidth h) (h .entries) (drop (entriesStart (h .floors)) image)
+        (bytes-drop (entriesStart (h .floors)) image b))) in
         stage-next t (addedBy h end image) e
         (fits-records three (t .fits) (three .records ++ brought three h end image) (all-append CompletionFits (three .records) (brought three h end image) (t .fits .records) fit) both)
         (unfold withRecords in omega (arith, length-append (three .records) (brought three h end image))) .is
@@ -206,7 +206,7 @@ records-fit h end image st b hp he a =
     let new : List Completion = map (takenRecord (h .point) end) (i .entries) in
     all-keep CompletionFits (staysOverFloors (mergeFloors (i .floors) (st .floors))) (old ++ new)
     (all-append CompletionFits old new (all-keep CompletionFits (isOnOther (h .point)) (st .records) a)
-    (taken-fit (h .point) end (i .entries) hp he (entries-fit (h .entries) (drop (leastImage + floorRow * h .floors) image) (bytes-drop (leastImage + floorRow * h .floors) image b))))
+    (taken-fit (h .point) end (i .entries) hp he (entries-fit (entryWidth h) (h .entries) (drop (entriesStart (h .floors)) image) (bytes-drop (entriesStart (h .floors)) image b))))
 
 module _ {s : List ℕ} (w : Canonical s) (image : List ℕ) (b : Bytes image) (h : ImageHead) (end : ℕ)
     (floors : length (applyTook (imageAt h image) end (load s) .floors) ≤ clientCount) (records : length (applyTook (imageAt h image) end (load s) .records) ≤ recordCount) (f : Widths h end) where

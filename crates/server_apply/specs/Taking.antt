@@ -5,12 +5,11 @@ use mathlib.Core.List.{List, []}
 use lib.ListN.{length}
 use Rattle.model.specs.declared.ImageHead.{ImageHead}
 use Rattle.model.specs.Limits.{lastPoint, clientCount, recordCount}
-use Rattle.model.specs.Images.{imageAt}
+use Rattle.model.specs.Images.{imageAt, lengthBy}
 use Rattle.model.specs.States.{State, load}
 use Rattle.model.specs.Apply.{tookPoint, applyTook}
 use Rattle.model_laws.specs.Layout.{withHeard, withSize, withPoint, withFloors, withRecords}
 use Rattle.state_rows.specs.Canonical.{Canonical}
-use Rattle.state_records.specs.Rules.{lengthBy}
 
 -- the tables have room for what it leaves
 abbrev pub RoomFor : List ℕ → List ℕ → ImageHead → ℕ → Type 0

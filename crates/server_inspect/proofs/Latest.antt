@@ -20,16 +20,16 @@ use Rattle.model.specs.declared.ImageHead.{ImageHead}
 use Rattle.model.specs.Choice.{pick, orElse}
 use Rattle.model.specs.Numbers.{word}
 use Rattle.model.specs.Refusals.{unknown}
-use Rattle.model.specs.Limits.{headSize, executedSize, leastImage, floorRow, entryRow}
+use Rattle.model.specs.Limits.{headSize, executedSize}
 use Rattle.model.specs.Tables.{indexOf}
-use Rattle.model.specs.Images.{floorOfBytes, imageEntryOf, imageHeadOf, imageAt, imageOk}
+use Rattle.model.specs.Images.{imageEntryOf, entryWidth, entriesStart, imageHead, imageHeadOf, imageAt, imageOk}
 use Rattle.model.specs.Logs.{LogRecord, executed, spans, recordAt, recordSize}
-use Rattle.model.specs.Checkpoints.{inImage, placeAt, noPlace, fronts, isEntryId, latestOf, latestIn}
+use Rattle.model.specs.Checkpoints.{inImage, placeAt, noPlace, fronts, placeAmong, isEntryId, latestOf, latestIn}
 use Rattle.model_laws.specs.Bytes.{Bytes, part}
 use Rattle.model_laws.specs.Fits.{IsRecord}
 use Rattle.model_laws.proofs.Numbers.{bytes-drop}
 use Rattle.model_laws.proofs.Logs.{record-is}
-use Rattle.model_laws.proofs.Tables.{length-rows}
+use Rattle.model_laws.proofs.Images.{head-same}
 use Rattle.model_laws.proofs.Ends.{joinEnd}
 use Rattle.format_log_reader.specs.declared.Span.{Span}
 use Rattle.format_log_reader.specs.declared.Record.{Record}
@@ -45,20 +45,19 @@ use Rattle.server_inspect.proofs.Rows.{among}
 
 -- ---- an image
 
-pub image-place : (s : List ℕ) (from x c : ℕ) (found : Place) {h : ImageHead} {i : ℕ} {r : Place} → h ≡ imageHeadOf s
-    → i ≡ indexOf (isRowId x c) (fronts entryRow (h .entries) (drop (leastImage + floorRow * h .floors) s))
-    → r ≡ pick (ltb i (h .entries)) (placeAt inImage (from + (leastImage + floorRow * h .floors) + entryRow * i) entryRow) found
+pub image-place : (s : List ℕ) (from x c : ℕ) (found : Place) {h : ImageHead} {w at i : ℕ} {r : Place} → h ≡ imageHeadOf s → w ≡ entryWidth h → at ≡ entriesStart (h .floors)
+    → i ≡ indexOf (isRowId x c) (fronts w (h .entries) (drop at s))
+    → r ≡ pick (ltb i (h .entries)) (placeAt inImage (from + at + w * i) w) found
     → r ≡ placeInImage x c from (imageIn s) found
-unfolding placeInImage imageIn imageAt isRowId isEntryId imageEntryOf
-image-place s from x c found {h} {i} {r} e p q =
+unfolding placeInImage imageIn imageAt imageHead isRowId isEntryId imageEntryOf
+image-place s from x c found {h} {w} {at} {i} {r} e u v p q =
     let d : ImageHead = imageHeadOf s in
-    let at : ℕ = leastImage + floorRow * d .floors in
-    let k : from + at ≡ from + leastImage + floorRow * length (imageIn s .floors) = omega (arith, length-rows floorOfBytes floorRow (d .floors) (drop leastImage s)) in
-    let a : i ≡ indexOf (isRowId x c) (fronts entryRow (d .entries) (drop at s)) = rw e at p in
-    let b : r ≡ pick (ltb i (d .entries)) (placeAt inImage (from + at + entryRow * i) entryRow) found = rw e at q in
+    let t = isEntryId x c in
+    let a : i ≡ indexOf (isRowId x c) (fronts (entryWidth d) (d .entries) (drop (entriesStart (d .floors)) s)) = rw (u, v, e) at p in
+    let b : r ≡ pick (ltb i (d .entries)) (placeAt inImage (from + entriesStart (d .floors) + entryWidth d * i) (entryWidth d)) found = rw (u, v, e) at q in
     b
-    ∙ ap (λ (m : ℕ). pick (ltb i (d .entries)) (placeAt inImage (m + entryRow * i) entryRow) found) k
-    ∙ among imageEntryOf (isEntryId x c) inImage (from + leastImage + floorRow * length (imageIn s .floors)) entryRow (d .entries) (drop at s) found a
+    ∙ among imageEntryOf t inImage (from + entriesStart (d .floors)) (entryWidth d) (d .entries) (drop (entriesStart (d .floors)) s) found a
+    ∙ ap (λ (y : ImageHead). placeAmong inImage (from + entriesStart (y .floors)) (entryWidth y) t (imageAt d s .entries) found) (sym (head-same d s))
 
 -- ---- one record
 

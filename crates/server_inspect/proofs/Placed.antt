@@ -18,9 +18,9 @@ use borrow.Author.Tests.{eqb-true, leb-true, ltb-true}
 use Rattle.model.specs.declared.Place.{Place}
 use Rattle.model.specs.Choice.{pick, orElse, isPassed}
 use Rattle.model.specs.Refusals.{unknown, noRefusal}
-use Rattle.model.specs.Limits.{headSize, takeHead, leastImage, floorRow, entryRow}
+use Rattle.model.specs.Limits.{headSize, takeHead}
 use Rattle.model.specs.Tables.{indexOf}
-use Rattle.model.specs.Images.{imageLength}
+use Rattle.model.specs.Images.{entryWidth, entriesStart, imageHead, imageLength}
 use Rattle.model.specs.Logs.{LogRecord, executed, gone, gave, took, released, spans, off, cut, recordAt, recordSize, endsOf}
 use Rattle.model.specs.Logs.{Extent as LogExtent}
 use Rattle.model.specs.Checkpoints.{inImage, inCheckpoint, noPlace, placeAmong, isEntryId, latestOf, latestIn}
@@ -74,7 +74,7 @@ module _ (checkpoint tail : List ℕ) where
             choose (Inside checkpoint tail) (eqb (r .command .client) x && eqb (r .command .call) c)
             (λ (t : (eqb (r .command .client) x && eqb (r .command .call) c) ≡ true). record { order = omega arith; within = omega (arith, size (executed r) q) }) (λ t. o)
         go (some (took i)) q =
-            placed-among (isEntryId x c) (i .entries) inImage (at + takeHead + leastImage + floorRow * length (i .floors)) entryRow found (omega (arith, size (took i) q)) o
+            placed-among (isEntryId x c) (i .entries) inImage (at + takeHead + entriesStart (length (i .floors))) (entryWidth (imageHead i)) found (omega (arith, size (took i) q)) o
         go (some (gone r)) q = o
         go (some (gave r)) q = o
         go (some (released r)) q = o

@@ -3,9 +3,6 @@ use format_log_reader::Record;
 use model::Executed;
 use model::Place;
 use model::constants;
-use model::constants::ENTRY_ROW;
-use model::constants::FLOOR_ROW;
-use model::constants::LEAST_IMAGE;
 ghost use mathlib.Core.Path.{_≡_};
 ghost use mathlib.Core.Bool.{true};
 ghost use Prim.Native.Nat.{_+_, _*_, _≤_, _<_};
@@ -95,9 +92,10 @@ fn place_in_image(image: &[u8], from: usize, client: u32, call: u32, found: Plac
 {
     let h = format_image_rows::head_from(image);
     let n = h.entries as usize;
-    let at = LEAST_IMAGE + FLOOR_ROW * (h.floors as usize);
-    let i = index_of(image, at, ENTRY_ROW, n, client, call);
-    place_of(constants::IN_IMAGE, from + at, ENTRY_ROW, n, i, found)
+    let width = format_image_rows::entry_width(h);
+    let at = format_image_rows::entries_start(h.floors);
+    let i = index_of(image, at, width, n, client, call);
+    place_of(constants::IN_IMAGE, from + at, width, n, i, found)
 }
 
 // The whole record of n bytes at a place of the log has the id, or `found` holds it.

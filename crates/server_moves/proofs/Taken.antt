@@ -5,7 +5,7 @@
 --     take-sized, take-room, take-bounds, take-settled     the record appended and applied
 -- Assumes nothing.
 use Prim.Native.Nat.{ℕ, _+_, _*_, _≤_, _<_}
-use mathlib.Core.Path.{_≡_, refl, sym, _∙_}
+use mathlib.Core.Path.{_≡_, refl, sym, ap, _∙_}
 use mathlib.Core.Bool.{true, _&&_}
 use mathlib.Core.List.{List, []}
 use mathlib.Core.Option.{some}
@@ -17,7 +17,7 @@ use Rattle.model.specs.Choice.{append, unlessRefused}
 use Rattle.model.specs.Numbers.{word}
 use Rattle.model.specs.Limits.{clientCount, recordCount, takeHead}
 use Rattle.model.specs.Tables.{written, every}
-use Rattle.model.specs.Images.{Image, imageHeadOf, imageAt, imageLength, parseImage, imageTablesOk, floorOk, clientsAscend, imageEntryOk, idsAscend}
+use Rattle.model.specs.Images.{Image, lengthBy, imageHeadOf, imageAt, imageLength, parseImage, imageTablesOk, floorOk, clientsAscend, imageEntryOk, idsAscend}
 use Rattle.model.specs.Logs.{took, recordBytes, recordSize}
 use Rattle.model.specs.States.{load}
 use Rattle.model.specs.Apply.{applyRecord, applyTook}
@@ -26,7 +26,7 @@ use Rattle.model.specs.Operations.{answerOf, after, settle, stored, lentRefusal
 use Rattle.model.specs.Refusals.{malformed, noRefusal}
 use Rattle.model_laws.specs.Bytes.{Bytes}
 use Rattle.model_laws.proofs.Tests.{and-left, and-right}
-use Rattle.model_laws.proofs.Images.{tested, placed}
+use Rattle.model_laws.proofs.Images.{tested, placed, head-same}
 use Rattle.model_invariants.specs.Sound.{Sound, GoodImage}
 use Rattle.model_invariants.specs.History.{byTake}
 use Rattle.model_laws.proofs.Refused.{unless-passed}
@@ -38,7 +38,7 @@ use Rattle.state_rows.proofs.Chains.{canonical-sound}
 use Rattle.server_memory.specs.Memory.{Fit}
 use Rattle.format_image_reader.specs.declared.ImageRead.the-variants.{Malformed, Head}
 use Rattle.format_image_reader.specs.Answers.{readOf}
-use Rattle.format_image_reader.proofs.Whole.{read-ok, read-none, floor-count, entry-count}
+use Rattle.format_image_reader.proofs.Whole.{read-ok, read-none}
 use Rattle.server_moves.specs.Taking.{Taking}
 
 module _ (s log b : List ℕ) where
@@ -103,7 +103,7 @@ module _ (s log b : List ℕ) where
     module _ (T : Taking s log b h) where
       pub take-sized : imageLength brought ≡ length b
       unfolding imageLength
-      take-sized = omega (arith, floor-count h b, entry-count h b, T .size)
+      take-sized = ap lengthBy (head-same h b) ∙ sym (T .size)
 
       module _ (e : decideTake (load s) (freeIn s log) brought ≡ append (took brought)) where
         pub take-room : load s .size + takeHead + length b ≤ length log

@@ -12,11 +12,11 @@ use lib.ListN.{length, drop}
 use lib.Dec.{eqb}
 use borrow.Author.Tests.{le-ltb}
 use Rattle.model.specs.declared.ImageHead.{ImageHead}
-use Rattle.model.specs.Limits.{lastPoint, clientCount, recordCount, takeHead, leastImage, floorRow, entryRow}
+use Rattle.model.specs.Limits.{lastPoint, clientCount, recordCount, takeHead, leastImage, floorRow}
 use Rattle.model.specs.Numbers.{word}
 use Rattle.model.specs.Tables.{rows, every}
 use Rattle.model.specs.Plan.{entryAt}
-use Rattle.model.specs.Images.{Image, imageAt, imageHeadOf, imageInRange, imageLength, imageTablesOk, floorOfBytes, floorOk, clientsAscend, imageEntryOk, idsAscend}
+use Rattle.model.specs.Images.{Image, lengthBy, imageAt, imageHeadOf, imageInRange, imageLength, imageTablesOk, floorOfBytes, floorOk, clientsAscend, imageEntryOk, idsAscend}
 use Rattle.model.specs.Logs.{took}
 use Rattle.model.specs.States.{State, load, pointAt}
 use Rattle.model.specs.Apply.{mergeFloors, applyTook, applyRecord}
@@ -48,7 +48,7 @@ module _ (st : State) (h : ImageHead) (image : List ℕ) where
 -- ---- a well-formed image
 
 module _ (s : List ℕ) (h : ImageHead) (w : Imaged s h) where
-  pub imaged-size : leastImage + floorRow * h .floors + entryRow * h .entries ≤ length s
+  pub imaged-size : lengthBy h ≤ length s
   imaged-size = ok-size s (w .ok) (w .head)
 
   pub imaged-ascend : clientsAscend (rows floorOfBytes floorRow (h .floors) (drop leastImage s)) ≡ true

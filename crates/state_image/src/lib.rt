@@ -105,10 +105,8 @@ fn head_for(s: &[u8], point: u8, entries: u32) -> ImageHead
 // Stores the image of the point at the front of out, and answers its length.
 pub fn write_image(out: &mut [u8], s: &[u8], point: u8) -> usize
     requires { ⌜ (Sound (now s)) × (point ≤ lastPoint) × (greatestImage ≤ length (now out)) ⌝ }
-    ensures {
-        λ r. ⌜ (now (out .exit) ≡ written (now (out .entry)) 0 (imageBytes (imageFor (load (now (s .entry))) point)))
-            × (r ≡ imageLength (imageFor (load (now (s .entry))) point)) ⌝
-    }
+    ensures { λ r. ⌜ (now (out .exit) ≡ written (now (out .entry)) 0 (imageBytes (imageFor (load (now (s .entry))) point)))
+        × (r ≡ imageLength (imageFor (load (now (s .entry))) point)) ⌝ }
 {
     let floors = state_rows::clients_in(s);
     format_image_writer::write_floors(out, &s[FLOORS_START..], floors as usize);

@@ -10,7 +10,6 @@ use Rattle.model.specs.declared.Floor.{Floor}
 use Rattle.model.specs.declared.ImageHead.{ImageHead}
 use Rattle.model.specs.declared.Completion.{Completion}
 use Rattle.model.specs.Choice.{pick}
-use Rattle.model.specs.Limits.{leastImage, floorRow, entryRow}
 use Rattle.model.specs.Tables.{bytesOf, keep, indexOf, written}
 use Rattle.model.specs.Images.{imageAt}
 use Rattle.model.specs.States.{State, load, recordsStart, recordRow, completionBytes}
@@ -42,10 +41,6 @@ keptBy rule st = keep (staysBy rule (st .floors)) (st .records)
 -- the completion records that an image brings, those under a floor of the state apart; `end` is the end of the take's log record
 abbrev pub brought : State → ImageHead → ℕ → List ℕ → List Completion
 brought st h end image = keep (staysOverFloors (st .floors)) (map (takenRecord (h .point) end) (imageAt h image .entries))
-
--- the length of an image with the head h
-abbrev pub lengthBy : ImageHead → ℕ
-lengthBy h = leastImage + floorRow * h .floors + entryRow * h .entries
 
 -- ---- what a change of the table's bytes s leaves: t, and a number of rows
 

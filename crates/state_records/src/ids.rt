@@ -3,20 +3,16 @@
 use crate::Found;
 use model::ImageEntry;
 use model::ImageHead;
-use model::constants::ENTRY_ROW;
-use model::constants::FLOOR_ROW;
-use model::constants::LEAST_IMAGE;
 ghost use mathlib.Core.Path.{_≡_};
 ghost use Prim.Native.Nat.{_+_, _*_, _≤_};
 ghost use lib.ListN.{length, drop};
 ghost use Rattle.model.specs.Limits.{entryRow};
 ghost use Rattle.model.specs.Tables.{rows, every};
-ghost use Rattle.model.specs.Images.{imageEntryOf, imageAt};
+ghost use Rattle.model.specs.Images.{imageEntryOf, imageAt, lengthBy};
 ghost use Rattle.model.specs.States.{load};
 ghost use Rattle.model.specs.Decisions.{freeFor};
 ghost use Rattle.model_invariants.specs.Sound.{Distinct};
 ghost use Rattle.state_rows.specs.Canonical.{Canonical};
-ghost use Rattle.state_records.specs.Rules.{lengthBy};
 ghost use Rattle.model.specs.Decisions.{find, isNone};
 
 // No completion record has the id.
@@ -43,15 +39,18 @@ fn is_free(s: &[u8], point: u8, e: ImageEntry) -> bool
     }
 }
 
-// Each of m records of an image from at.
-fn entries_free(s: &[u8], image: &[u8], point: u8, at: usize, m: usize) -> bool
-    requires { ⌜ Canonical (now s) × Distinct (load (now s) .records) × (at + entryRow * m ≤ length (now image)) ⌝ }
-    ensures { λ r. ⌜ r ≡ every (freeFor point (load (now (s .entry)) .records)) (rows imageEntryOf entryRow m (drop at (now (image .entry)))) ⌝ }
+// Each of so many records of an image from at.
+fn entries_free(s: &[u8], image: &[u8], point: u8, width: usize, at: usize, entries: usize) -> bool
+    requires { ⌜ Canonical (now s) × Distinct (load (now s) .records) × (entryRow ≤ width)
+        × (at + width * entries ≤ length (now image)) ⌝ }
+    ensures { λ r. ⌜ r ≡ every (freeFor point (load (now (s .entry)) .records))
+        (rows imageEntryOf width entries (drop at (now (image .entry)))) ⌝ }
 {
     let mut i = 0;
-    while i < m {
-        let e = format_image_rows::entry_from(image, at + ENTRY_ROW * i);
-        if !is_free(s, point, e) {
+    while i < entries {
+        let k = format_image_rows::entry_at(at, width, i);
+        let entry = format_image_rows::entry_from(image, k);
+        if !is_free(s, point, entry) {
             return false;
         }
         i += 1;
@@ -64,7 +63,7 @@ pub fn ids_free(s: &[u8], image: &[u8], h: ImageHead) -> bool
     requires { ⌜ Canonical (now s) × Distinct (load (now s) .records) × (lengthBy h ≤ length (now image)) ⌝ }
     ensures { λ r. ⌜ r ≡ every (freeFor (h .point) (load (now (s .entry)) .records)) (imageAt h (now (image .entry)) .entries) ⌝ }
 {
-    let m = h.entries as usize;
-    let at = LEAST_IMAGE + FLOOR_ROW * (h.floors as usize);
-    entries_free(s, image, h.point, at, m)
+    let width = format_image_rows::entry_width(h);
+    let at = format_image_rows::entries_start(h.floors);
+    entries_free(s, image, h.point, width, at, h.entries as usize)
 }

@@ -8,10 +8,7 @@ use model::Command;
 use model::Completion;
 use model::ImageEntry;
 use model::ImageHead;
-use model::constants::ENTRY_ROW;
-use model::constants::FLOOR_ROW;
 use model::constants::FLOORS_START;
-use model::constants::LEAST_IMAGE;
 use model::constants::RECORD_ROW;
 use model::constants::RECORDS_START;
 use model::constants::WORD;
@@ -23,6 +20,7 @@ ghost use mathlib.Core.List.{[], _∷_, _++_};
 ghost use lib.ListN.{length, drop};
 ghost use Rattle.model.specs.Limits.{clientCount, recordCount};
 ghost use Rattle.model.specs.Tables.{rows, every, keep};
+ghost use Rattle.model.specs.Images.{lengthBy};
 ghost use Rattle.model.specs.States.{load, stateEnd, clientsIn, recordsStart, recordRow, isId, completionOf};
 ghost use Rattle.model.specs.Apply.{staysOver, staysOverFloors, takenRecord};
 ghost use Rattle.model.specs.Decisions.{find};
@@ -30,7 +28,7 @@ ghost use Rattle.model.specs.Operations.{stored};
 ghost use Rattle.model_laws.specs.Layout.{withRecords};
 ghost use Rattle.model_laws.specs.Sought.{Sought};
 ghost use Rattle.state_rows.specs.Canonical.{Canonical};
-ghost use Rattle.state_records.specs.Rules.{foundOf, staysBy, front, keptBy, brought, lengthBy, PutKept, CompactedBy, PutEntries};
+ghost use Rattle.state_records.specs.Rules.{foundOf, staysBy, front, keptBy, brought, PutKept, CompactedBy, PutEntries};
 
 // What a search finds.
 pub enum Found {
@@ -235,13 +233,15 @@ fn put_entries(s: &mut [u8], n: usize, image: &[u8], h: ImageHead, end: u64) -> 
     requires { ⌜ Canonical (now s) × (lengthBy h ≤ length (now image)) × (n + length (brought (load (now s)) h end (now image)) ≤ recordCount) ⌝ }
     ensures { λ j. ⌜ PutEntries h end (now (image .entry)) n (now (s .entry)) (now (s .exit)) j ⌝ }
 {
-    let m = h.entries as usize;
-    let at = LEAST_IMAGE + FLOOR_ROW * (h.floors as usize);
+    let entries = h.entries as usize;
+    let width = format_image_rows::entry_width(h);
+    let at = format_image_rows::entries_start(h.floors);
     let mut i = 0;
     let mut j = n;
-    while i < m {
-        let e = format_image_rows::entry_from(image, at + ENTRY_ROW * i);
-        let r = taken_record(h.point, end, e);
+    while i < entries {
+        let k = format_image_rows::entry_at(at, width, i);
+        let entry = format_image_rows::entry_from(image, k);
+        let r = taken_record(h.point, end, entry);
         let stay = over_floors(s, r);
         j = put_kept(s, stay, j, r);
         i += 1;

@@ -11,7 +11,8 @@ use Rattle.format_image_reader.proofs.entry_step.Tie as tie
 returns : tie.Need-returns
 returns c =
     let start = c .before .before .before .before .before .args in
-    entry-last (start .s .now) (start .k) _ _ _ (start .width) (c .before .before .entry-from .ensures) (c .before .before .before .entry-row-ok .ensures) (c .before .entry-fields-ok .ensures) (c .if1 .taken)
+    entry-last (start .s .now) (start .k) _ _ _ (start .width) (c .before .before .entry-from .ensures) (c .before .before .before .entry-row-ok .ensures)
+    (c .before .entry-fields-ok .ensures) (c .if1 .taken)
 
 id-before-requires : tie.Need-id-before-requires
 id-before-requires c κs =

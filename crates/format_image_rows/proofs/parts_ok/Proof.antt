@@ -30,8 +30,16 @@ returns c =
     let c1 = c2 .before in
     let start = c1 .before in
     let wide = start .before .before in
-    rw (c .read-u326 .ensures, c5 .read-u325 .ensures, c4 .read-u324 .ensures, c3 .read-u323 .ensures, c2 .read-u322 .ensures, c1 .read-u32 .ensures, start .entries-start .ensures,
-    wide .entry-width .ensures)
+    rw (
+      c .read-u326 .ensures,
+      c5 .read-u325 .ensures,
+      c4 .read-u324 .ensures,
+      c3 .read-u323 .ensures,
+      c2 .read-u322 .ensures,
+      c1 .read-u32 .ensures,
+      start .entries-start .ensures,
+      wide .entry-width .ensures,
+    )
 
 pub parts-ok-spec : {M : Type 1} → statement M
 parts-ok-spec =

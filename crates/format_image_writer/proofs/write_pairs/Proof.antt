@@ -30,8 +30,16 @@ returns c =
     let c2 = c3 .before .before .before .before in
     let c1 = c2 .before .before .before .before in
     let wide = c1 .before .before .before in
-    rw (c6 .write-u326 .ensures, c5 .write-u325 .ensures, c4 .write-u324 .ensures, c3 .write-u323 .ensures, c2 .write-u322 .ensures, c1 .write-u32 .ensures, wide .entry-width .ensures,
-    wide .before .entries-start .ensures)
+    rw (
+      c6 .write-u326 .ensures,
+      c5 .write-u325 .ensures,
+      c4 .write-u324 .ensures,
+      c3 .write-u323 .ensures,
+      c2 .write-u322 .ensures,
+      c1 .write-u32 .ensures,
+      wide .entry-width .ensures,
+      wide .before .entries-start .ensures,
+    )
     (simp written-sets)
 
 pub write-pairs-spec : {M : Type 1} → statement M

@@ -1,35 +1,58 @@
 -- `state_records::put_entries` meets its contract.
 -- Assumes nothing.
-use Prim.Native.Nat.{_-_}
+use Prim.Native.Nat.{_+_, _-_, _*_, _≤_}
+use native.Mathlib.Omega.{arith}
+use lib.ListN.{length}
 use borrow.Author.Needs.{needs}
+use Rattle.model.specs.Limits.{entryRow}
+use Rattle.model_laws.proofs.Tables.{row-in}
+use Rattle.model_laws.proofs.Images.{entries-within}
 use Rattle.model.specs.Apply.{takenRecord}
 use Rattle.state_records.proofs.Loops.{Adding, adding-start, adding-stays, adding-room, adding-next, adding-end}
 use Rattle.state_records.proofs.put_entries.Statement.{statement}
 use Rattle.state_records.proofs.put_entries.Tie as tie
 
 abbrev Inv-loop : tie.InvT-loop
-Inv-loop s₀ n image h end m at i₀ j₀ s i j = Adding (takenRecord (h .point) end) image at s₀ n m s i j
+Inv-loop s₀ n image h end entries width at i₀ j₀ s i j = Adding (takenRecord (h .point) end) image width at s₀ n entries s i j
 
 abbrev μ-loop : tie.MeasureT-loop
-μ-loop s₀ n image h end m at i₀ j₀ s i j = m - i
+μ-loop s₀ n image h end entries width at i₀ j₀ s i j = entries - i
 
 loop-holds : tie.Need-loop-holds Inv-loop μ-loop
 loop-holds c =
-    let start = c .before .before .before .before in
-    adding-start (start .args .h) (start .args .end) (start .pre .0) (start .pre .2)
+    let start = c .before .before .before .before .before in
+    rw (c .before .entry-width .ensures, c .entries-start .ensures) (adding-start (start .args .h) (start .args .end) (start .pre .0) (start .pre .2))
+
+-- the row of index i lies in the image
+row-there : (c : tie.In-loop Inv-loop μ-loop) → let at = c .before .before in
+    at .entries-start .result + at .before .entry-width .result * c .before .loop .i + entryRow ≤ length (at .before .before .before .before .before .args .image .now)
+row-there c =
+    let at = c .before .before in
+    let wide = at .before in
+    let start = wide .before .before .before .before in
+    let within = entries-within (start .args .h) (start .pre .1) (wide .entry-width .ensures) (at .entries-start .ensures) in
+    omega (arith, within .0, within .1, row-in (wide .entry-width .result) (c .before .loop .i) (start .args .h .entries) (c .loop-test .taken))
+
+entry-at-requires : tie.Need-entry-at-requires Inv-loop μ-loop
+entry-at-requires c κs = omega (arith, row-there c)
+
+entry-from-requires : tie.Need-entry-from-requires Inv-loop μ-loop
+entry-from-requires c κs = omega (arith, c .entry-at .ensures, row-there (c .before))
 
 over-floors-requires : tie.Need-over-floors-requires Inv-loop μ-loop
-over-floors-requires c κs = adding-stays (c .before .before .before .before .loop .inv)
+over-floors-requires c κs = adding-stays (c .before .before .before .before .before .loop .inv)
 
 put-kept-requires : tie.Need-put-kept-requires Inv-loop μ-loop
 put-kept-requires c κs =
     let asked = c .before in
     let made = asked .before .before in
     let read = made .before in
-    adding-room (read .before .before .loop .inv) (read .before .loop-test .taken) (read .entry-from .ensures) (made .taken-record .ensures) (asked .over-floors .ensures)
+    let place = read .before in
+    adding-room (place .before .before .loop .inv) (place .before .loop-test .taken) (rw (place .entry-at .ensures) at (read .entry-from .ensures))
+    (made .taken-record .ensures) (asked .over-floors .ensures)
 
 abbrev known-at : tie.After-over-floors Inv-loop μ-loop → tie.After-struct-known Inv-loop μ-loop
-known-at c = c .before .before .before .before .before .before .before
+known-at c = c .before .before .before .before .before .before .before .before .before
 
 add-i : tie.Need-add-i Inv-loop μ-loop
 add-i c = let known = known-at (c .before .before .before .before) .struct-known .given in search (needs, known)
@@ -40,7 +63,9 @@ loop-again c =
     let asked = put .before .before in
     let made = asked .before .before in
     let read = made .before in
-    adding-next (read .before .before .loop .inv) (read .before .loop-test .taken) (read .entry-from .ensures) (made .taken-record .ensures) (asked .over-floors .ensures) (put .put-kept .ensures .0)
+    let place = read .before in
+    adding-next (place .before .before .loop .inv) (place .before .loop-test .taken) (rw (place .entry-at .ensures) at (read .entry-from .ensures))
+    (made .taken-record .ensures) (asked .over-floors .ensures) (put .put-kept .ensures .0)
     (put .put-kept .ensures .1)
 
 same-length : tie.Need-same-length Inv-loop μ-loop
@@ -48,10 +73,9 @@ same-length c = c .before .loop .inv .kept .same
 
 returns : tie.Need-returns Inv-loop μ-loop
 returns c =
-    let at-loop = c .before in
-    let start = at-loop .before .before .before .before .before in
-    let start = start .args in
-    adding-end (start .h) (start .end) (at-loop .loop .inv) (c .loop-test .left)
+    let at = c .before .before in
+    let start = at .before .before .before .before .before .args in
+    adding-end (start .h) (start .end) (rw (at .before .entry-width .ensures, at .entries-start .ensures) at (c .before .loop .inv)) (c .loop-test .left)
 
 pub put-entries-spec : {M : Type 1} → statement M
 put-entries-spec =
@@ -60,13 +84,11 @@ put-entries-spec =
     Inv-loop
     μ-loop
     (λ c. search needs)
-    (λ c. search needs)
-    (λ c. search needs)
-    (λ c. search needs)
-    loop-holds
-    (λ c. search needs)
-    (λ c. search needs)
     (λ c κs. search needs)
+    (λ c κs. search needs)
+    loop-holds
+    entry-at-requires
+    entry-from-requires
     (λ c κs. search needs)
     over-floors-requires
     put-kept-requires
