@@ -1,13 +1,14 @@
 /* The lease manager of a plant, over the line of line.h. There is one, and what it knows must outlive it: it keeps it in a file.
  *
  *     leases --found FILE             once, when the plant is commissioned: no number was given out yet. Refuses a file that is there
- *     leases FILE PORT CABINET..      serves on 127.0.0.1:PORT until it is killed, at any moment; the cabinets' ports in the order of their numbers
+ *     leases FILE PORT CABINET..      serves on 127.0.0.1:PORT until it is killed, at any moment; the cabinets' ports in the order of their numbers, 0 for one that is lost for good
  *     leases FILE                     prints what the file has, and ends
  *
  *   1. What a call has changed is on the disk before its packet leaves: two copies, each with a sequence number and a sum, written in turn.
  *   2. A desk names itself by a number that it drew at its start. The name is stored with the client number that it got, so an open that is repeated gets the same
  *      grant again, over a restart too. (A repeat so late that the lease has ended and every cabinet knows it takes a lease that nobody uses, and that ends.)
- *   3. When a lease has ended, its notice goes to every cabinet, once a second, until the cabinet has answered that its card has it; then the name is forgotten.
+ *   3. When a lease has ended, its notice goes to every cabinet, once a second, until the cabinet has answered that its card has it; then the name is forgotten. A lost cabinet
+ *      never answers: waited for, it would fill the table with names, and no desk would get a lease any more.
  *   4. Its time goes on from the stored one by seconds that it has run: it cannot fall, nor jump ahead. While it is down, no lease ends. */
 #define _GNU_SOURCE
 #include "line.h"
@@ -36,6 +37,7 @@ _Static_assert(sizeof book == 16 + 264 + 16 * NAMES, "no bytes between the field
 
 static int file = -1, line = -1, cabinets;
 static address cabinet[MANTELORRIS_SERVERS];
+static uint32_t lost; /* a bit for each cabinet that is */
 static uint32_t began_at;
 static long began;
 
@@ -175,7 +177,14 @@ static void send_notices(void) {
     store();
     for (int i = 0; i < NAMES; i++)
         for (int c = 0; c < cabinets && book.names[i].client && notices[i].kind == MANTELORRIS_KIND_NOTICE; c++)
-            if (!(book.names[i].told >> c & 1)) line_send(line, &cabinet[c], notices[i].packet, notices[i].length);
+            if (!((book.names[i].told | lost) >> c & 1)) line_send(line, &cabinet[c], notices[i].packet, notices[i].length);
+}
+
+/* all cabinets have the notice, but those that are lost */
+static void forget(struct named *row) {
+    if (row->told == 0 || (row->told | lost) + 1 != 1u << cabinets) return;
+    *row = (struct named){0};
+    store();
 }
 
 /* a cabinet has the notice; one that is forgotten with the power is sent again, and answered again */
@@ -184,9 +193,7 @@ static void saved(uint32_t server, uint32_t client) {
         struct named *row = &book.names[i];
         if (row->client != client || client == 0 || server >= (uint32_t)cabinets) continue;
         row->told |= 1u << server;
-        if (row->told + 1 != 1u << cabinets) continue;
-        *row = (struct named){0};
-        store();
+        forget(row);
     }
 }
 
@@ -203,6 +210,7 @@ static void serve(void) {
     size_t n;
     began_at = book.manager.time;
     began = milliseconds();
+    for (int i = 0; i < NAMES; i++) forget(&book.names[i]); /* those that waited for a cabinet that is lost now */
     for (;;) {
         line_wait(line, 100);
         for (int i = 0; i < TURN && (n = line_receive(line, message, &from)); i++) take_message(message, n, &from);
@@ -225,7 +233,10 @@ int main(int argc, char **argv) {
     }
     take_file(argv[1]);
     cabinets = argc - 3;
-    for (int i = 0; i < cabinets; i++) cabinet[i] = line_address(argv[3 + i]);
+    for (int i = 0; i < cabinets; i++) {
+        cabinet[i] = line_address(argv[3 + i]);
+        lost |= (uint32_t)(cabinet[i].sin_port == 0) << i;
+    }
     line = line_open(argv[2]);
     serve();
 }

@@ -6,6 +6,7 @@
   - a full table of clients at a cabinet: it asks the lease manager for their notices
   - a plant over a poor line, every party killed again and again, desks among them: each step is carried out once, each name has at most one lease, each client number one desk, and in the
     end every cabinet has answered every notice
+  - a cabinet is lost for good: the lease manager is told so, and goes on without its answers
   - a desk is lost with a command on its way, at a cabinet that does not know it: its successor begins behind the fence, and the command, which comes late, is not carried out
   - programs with a planted fault fail these: a grant that leaves before the file has it, a repeated open that takes a lease, answers before the card has the log, a client started by each grant,
     a successor without the fence, one that does not look at the cabinet's heard time
@@ -85,9 +86,9 @@ def said(words):
     return done.returncode, done.stdout + done.stderr
 
 
-def asked(line, port, message, good):
+def asked(line, port, message, good, patience=PATIENCE):
     """sends a message again and again, and gives the answer that is meant; None if there is none"""
-    until = time.time() + PATIENCE
+    until = time.time() + patience
     while time.time() < until:
         line.sendto(message, ('127.0.0.1', int(port)))
         line.settimeout(0.05)
@@ -292,6 +293,27 @@ def late_command(pair, leases, pair_desk, name):
     return '' if 'fence %d' % client in text and refusals <= {3, 4} and 4 in refusals else 'answers to the late command: %s' % refusals
 
 
+def lost_cabinet(pair, leases, name, other):
+    """one of two cabinets answers nothing any more: desks get leases all the same, more than the manager has names for; what went wrong, or ''"""
+    book, line, (port, at, nowhere) = os.path.join(WORK, name + '.book'), socket.socket(socket.AF_INET, socket.SOCK_DGRAM), ports(3)
+    cards, wrong = founded(pair, name), ''
+    subprocess.run([leases, '--found', book], check=True)
+    manager = start([leases, book, port, at, nowhere])
+    start([pair, cards[0], '0', at, port, nowhere])
+    for number in range(1, 8):
+        if number == 5:  # the cabinet is known as lost from here on; the names before wait for it
+            time.sleep(2.5)
+            kill(manager)
+            start([leases, book, port, at, other or nowhere])
+        granted = asked(line, port, struct.pack('<B3xQI', OPEN, number, 1), lambda a: len(a) == 24 and a[0] == LEASE and a[1] == 0 and struct.unpack_from('<Q', a, 4)[0] == number, 8)
+        wrong = wrong or ('' if granted else 'name %d gets no lease' % number)
+        if wrong:
+            break
+    for p in list(running):
+        kill(p)
+    return wrong
+
+
 # ---- the plant
 
 class Desk:
@@ -348,11 +370,12 @@ def disturbed(parties, desk, rng, seconds, pair, cards):
                 under_way[seen.index('given') != cards.index(p.path)] += 1
             p.start(40)
             lives[p] = time.time() + rng.uniform(0.05, 1.2 if p.is_card else 2.5) # a manager's clock goes on by whole seconds that it has run
-        # every other desk is killed wherever it is, before the fence too; the others once they have worked
-        if desk.process is None or desk.process.poll() is not None or time.time() > desk_ends and not (works and desk.waits()):
+        if works and desk.waits():
+            desk_ends = time.time() + rng.uniform(0.5, 2.5)
+        if desk.process is None or desk.process.poll() is not None or time.time() > desk_ends:
             wrong = (desk.process and desk.end()) or wrong
             desk.start(100000, 4)
-            desk_ends, works = time.time() + rng.uniform(0.3, 2.5), rng.randrange(2)
+            desk_ends, works = time.time() + rng.uniform(0.3, 2.5), rng.randrange(2)  # every other one is killed wherever it is, before the fence too; the rest once they have worked
     return wrong or desk.end(), under_way
 
 
@@ -434,6 +457,9 @@ def main():
     told('a point moves %d times, its taker killed inside a write %d times' % tuple(counts), wrong)
     told('a full table of clients', full_table(programs['pair'], build('leases_1', SOURCES['leases'], ['-USPAN', '-DSPAN=1']), hook, rng))
     told("a lost desk's command comes when its successor is at work: the fence", late_command(programs['pair'], programs['leases'], programs['pair_desk'], 'late'))
+    few = changed('leases', 'few', 'NAMES = 64', 'NAMES = 4')
+    told('a cabinet is lost for good, and desks get leases', lost_cabinet(programs['pair'], few, 'lost', '0'))
+    planted('a lost cabinet is waited for', lost_cabinet(programs['pair'], few, 'waited', ''))
     wrong, seen, under_way = plant(programs, hook, rng, SECONDS, 'plant')
     print(seen)
     told('a plant under kills', wrong or (min(under_way) == 0 and 'no kill while the point was on its way'))
