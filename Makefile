@@ -24,9 +24,9 @@ lib:
 install:
 	@tools/lib.sh --target "$(TARGET)" install "$(PREFIX)" "$(DESTDIR)"
 
-#: dist/mantelorris-VERSION.tar.gz: library, headers, guide, examples, manifest
+#: dist/mantelorris-VERSION.tar.gz: library, headers, guide, examples, manifest; TARGET=aarch64: in dist/aarch64/, for 64-bit Arm
 dist:
-	@tools/dist.sh
+	@tools/dist.sh $(TARGET)
 
 #: the proofs of what is changed since it was proved; not the verdict
 check:
