@@ -40,10 +40,10 @@ library=dist/aarch64/libmantelorris.a
 trial() {
   local name=$1
   shift
-  ("$@" >"$work/$name.said" 2>&1; echo $? >"$work/$name.status") &
+  (if "$@" >"$work/$name.said" 2>&1; then echo ended; else echo failed; fi >"$work/$name.status") &
 }
 ended() {
-  [ "$(cat "$work/$1.status")" = 0 ] || { cat "$work/$1.said"; echo "on Arm: $1 failed"; exit 1; }
+  [ "$(cat "$work/$1.status")" = ended ] || { cat "$work/$1.said"; echo "on Arm: $1 failed"; exit 1; }
   echo "$1: $(tail -n 1 "$work/$1.said")"
 }
 
