@@ -29,9 +29,9 @@ install:
 	@tools/lib.sh --target "$(TARGET)" install "$(PREFIX)" "$(DESTDIR)"
 	@case "$(TARGET)" in ''|x86-64) tools/card.sh "$(DESTDIR)$(PREFIX)/bin/mantelorris-card" ;; esac
 
-#: dist/mantelorris-VERSION.tar.gz: library, headers, guide, examples, manifest
+#: dist/mantelorris-VERSION.tar.gz: library, headers, guide, examples, manifest; TARGET=aarch64: in dist/aarch64/, for 64-bit Arm
 dist:
-	@tools/dist.sh
+	@tools/dist.sh $(TARGET)
 
 #: the proofs of what is changed since it was proved; not the verdict
 check:

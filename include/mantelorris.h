@@ -238,9 +238,9 @@ struct mantelorris_log_end_reply {
 MANTELORRIS_HAS_SIZE(struct mantelorris_log_end_reply, 16);
 MANTELORRIS_HAS_OFFSET(struct mantelorris_log_end_reply, end, 8);
 
-/* MANTELORRIS_GIVES stands before a call that gives a struct of more than 16 bytes. The library gets the place for it as its first argument. So does C on x86-64: there these are the library's own
- * functions. C on Arm gives the place in another register: there each is an inline function over the library's, which C has as name_at; to the linker the library's function is name, and the
- * inline one, where a compiler does not put it into its caller, name_inline. */
+/* MANTELORRIS_GIVES stands before a call that gives a struct of more than 16 bytes. The library gets the place for it as its first argument. So does C on
+ * x86-64: there these are the library's own functions. C on Arm gives the place in another register: there each is an inline function over the library's,
+ * which C has as name_at; to the linker the library's function is name, and the inline one, where a compiler does not put it into its caller, name_inline. */
 #if defined(__aarch64__)
 #define MANTELORRIS_GIVES static inline
 #define MANTELORRIS_PLACED(reply, name, arguments, ...) \

@@ -95,10 +95,12 @@ MANTELORRIS_PLACED(struct mantelorris_chamber_start_reply, mantelorris_chamber_s
                    (&given, packet, length, upper, lower, level1, level2, level3),
                    const uint8_t *packet, size_t length, uint32_t upper, uint32_t lower, uint32_t level1, uint32_t level2, uint32_t level3)
 
-/* The library reads a controller that it is given by value from the caller's stack, where C on x86-64 puts it. C on Arm would give its address; on the stack it puts, in words of 8 bytes, what comes
- * after the eight arguments that have a register. So each of these has the place, seven words in registers (0 where it needs fewer), and then the controller's 35 words. */
+/* The library reads a controller that it is given by value from the caller's stack, where C on x86-64 puts it. C on Arm would give its address; on the
+ * stack it puts, in words of 8 bytes, what comes after the eight arguments that have a register. So each of these has the place, seven words in registers,
+ * 0 where it needs fewer, and then the controller's 35 words. */
 #define MANTELORRIS_SEVEN(W, i) W((i)), W((i) + 1), W((i) + 2), W((i) + 3), W((i) + 4), W((i) + 5), W((i) + 6)
-#define MANTELORRIS_WORDS(W) MANTELORRIS_SEVEN(W, 0), MANTELORRIS_SEVEN(W, 7), MANTELORRIS_SEVEN(W, 14), MANTELORRIS_SEVEN(W, 21), MANTELORRIS_SEVEN(W, 28)
+#define MANTELORRIS_WORDS(W) \
+    MANTELORRIS_SEVEN(W, 0), MANTELORRIS_SEVEN(W, 7), MANTELORRIS_SEVEN(W, 14), MANTELORRIS_SEVEN(W, 21), MANTELORRIS_SEVEN(W, 28)
 #define MANTELORRIS_WORD_TYPE(i) uint64_t
 #define MANTELORRIS_WORD(i) words[i]
 #define MANTELORRIS_WITH_CHAMBER(reply, name, first, second, third, ...) \
