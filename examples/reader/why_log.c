@@ -134,7 +134,7 @@ static void why_record(struct fault *fault, struct slice log, struct step step) 
     case KIND_GONE: why_gone(fault, record); break;
     case KIND_GIVE: why_give(fault, record); break;
     case KIND_TAKE: why_taken(fault, (struct slice){record + 8, step.end - step.at - 8}, step.at); break;
-    default: why_release(fault, record);
+    case KIND_RELEASE: why_release(fault, record); break;
     }
 }
 

@@ -156,7 +156,10 @@ def without_plan():
         same = [p for p in given['points'] if p['point'] in named] == [p for p in none[1]['state']['points'] if p['point'] in named]
         if none[0] or not same or any(given[k] != none[1]['state'][k] for k in ('server', 'heard', 'length', 'clients', 'records')):
             wrong.append(words)
-    told('without a plan the same state', wrong)
+    for record, due in (short(3, 5, 1, 0, 1), 'point 5: given to server 1, value 0, invalid, move 1'), (take(5, 0, 2), 'point 5: held, value 7, valid, move 2, taken by move 2'):
+        status, _, said = card(saved('first', HEAD + record))
+        wrong += [said] if status or '  %s\n' % due not in said else []
+    told('without a plan the same state; a point that was at home here, one that was not', wrong)
 
 
 def cuts():
@@ -183,6 +186,10 @@ def turned(data, bits):
     for i in range(len(data)):
         for bit in range(8) if bits == 8 else [rng.randrange(8)]:
             yield data[:i] + bytes([data[i] ^ 1 << bit]) + data[i + 1:]
+
+
+def tried_files(*paths):
+    return json.loads(subprocess.run([TRIAL, *paths], capture_output=True, check=True, env=dict(os.environ, ASAN_OPTIONS='detect_leaks=0')).stdout)
 
 
 def tried(cards, *form):
@@ -443,12 +450,12 @@ def guide():
 RAW = '''#include "card.h"
 #include <stdio.h>
 static size_t load(const char *path, uint8_t *bytes, size_t space) { FILE *f = fopen(path, "rb"); size_t n = f ? fread(bytes, 1, space, f) : 0; if (f) fclose(f); return n; }
-int main(int count, char **words) { /* CARD CHECKPOINT LOG: all but the last record is stored, and the rest appended */
+int main(int count, char **words) { /* CARD CHECKPOINT LOG: stored with the log's head, and the rest appended */
     static uint8_t checkpoint[MANTELORRIS_CHECKPOINT_SIZE], log[1 << 16];
     struct card card = {0};
-    size_t base = load(words[2], checkpoint, sizeof checkpoint), length = load(words[3], log, sizeof log);
     card_open(&card, words[1], 1);
-    card_read(&card, checkpoint, log, 0);
+    card_read(&card, checkpoint, log, sizeof log);
+    size_t base = load(words[2], checkpoint, sizeof checkpoint), length = load(words[3], log, sizeof log);
     card_store(&card, checkpoint, base, log, MANTELORRIS_LOG_HEAD);
     card_append(&card, log, MANTELORRIS_LOG_HEAD, length);
     return count != 4;
@@ -475,10 +482,20 @@ def raw_cards():
     data[4096 * newest + 20] ^= 1
     status, older, _ = card(PLAN, saved('older', data))
     wrong += [older] if older['superblocks'][newest]['good'] or status or older['state']['length'] != 8 else []
+    if tried_files(os.path.join(WORK, 'older'), path)['state']['length'] != 8:
+        wrong.append('a log that has grown while it was read')
     data[4096 * (1 - newest) + 16] ^= 1
     status, none, said = card(PLAN, saved('none', data))
     wrong += [none] if status != 1 or none['answer'] != 14 or 'no good superblock' not in said else []
-    told('raw cards of all versions; the older superblock; none', wrong)
+    # two checkpoints later the slot is in force again, with other bytes: superblocks of before, and slots of now
+    now = os.path.join(WORK, 'now')
+    shutil.copy(path, now)
+    for _ in range(2):
+        subprocess.run([maker, now, 'tests/logs/third/server0.checkpoint', 'tests/logs/third/server0.log'], check=True)
+    mixed = saved('mixed', open(path, 'rb').read()[:8192] + open(now, 'rb').read()[8192:])
+    if tried_files(mixed, now).get('state') != card(now)[1]['state']:
+        wrong.append('a card of two moments')
+    told('raw cards of all versions; the older superblock; none; one that was read while a host went on', wrong)
 
 
 # ---- beside a host
