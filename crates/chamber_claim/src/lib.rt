@@ -1,5 +1,5 @@
-// The lock chamber controller's types: plain data, no logic. What they mean stands in specs/, with the theorem: at no place in the order are both
-// gates away from 0.
+// The lock chamber controller's types: plain data, no logic. What they mean stands in specs/, with the theorem: at no
+// place in the order are both gates away from 0.
 use model::Client;
 use model::Received;
 use model::Sent;

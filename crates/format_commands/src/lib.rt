@@ -66,69 +66,69 @@ pub fn plan_ok(s: &[u8]) -> bool
 
 // ---- the rule of each op
 
-// a - b, or 0 where b is the greater.
-fn minus(a: u64, b: u64) -> u64
-    ensures { λ x. ⌜ x ≡ a - b ⌝ }
+// whole - part, or 0 where part is the greater.
+fn minus(whole: u64, part: u64) -> u64
+    ensures { λ x. ⌜ x ≡ whole - part ⌝ }
 {
-    if b <= a { a - b } else { 0 }
+    if part <= whole { whole - part } else { 0 }
 }
 
-// Outcome n, value v, quality q.
-fn result_of(n: u8, v: u32, q: u8) -> CommandResult
-    ensures { λ x. ⌜ x ≡ result n v q ⌝ }
+// Outcome, value and quality.
+fn result_of(outcome: u8, v: u32, quality: u8) -> CommandResult
+    ensures { λ x. ⌜ x ≡ result outcome v quality ⌝ }
 {
     CommandResult {
-        outcome: n,
+        outcome,
         value: v,
-        quality: q,
+        quality,
     }
 }
 
-// Outcome n, no change.
-fn unchanged(n: u8, r: Reading) -> CommandResult
-    ensures { λ x. ⌜ x ≡ same n r ⌝ }
+// An outcome, and no change.
+fn unchanged(outcome: u8, reading: Reading) -> CommandResult
+    ensures { λ x. ⌜ x ≡ same outcome reading ⌝ }
 {
     CommandResult {
-        outcome: n,
-        value: r.value,
-        quality: r.quality,
+        outcome,
+        value: reading.value,
+        quality: reading.quality,
     }
 }
 
-// v + a is in range.
-fn sum_in_range(e: PlanEntry, v: u32, a: u32) -> bool
-    ensures { λ x. ⌜ x ≡ sumInRange e v a ⌝ }
+// v + argument is in range.
+fn sum_in_range(e: PlanEntry, v: u32, argument: u32) -> bool
+    ensures { λ x. ⌜ x ≡ sumInRange e v argument ⌝ }
 {
     let low = e.low as u64;
     let high = e.high as u64;
-    let sum = v as u64 + a as u64;
+    let sum = v as u64 + argument as u64;
     (low + constants::HALF_U64 <= sum) & (sum <= high + constants::HALF_U64)
 }
 
-// v + a, where it is in range.
-fn sum(e: PlanEntry, v: u32, a: u32) -> u32
-    requires { ⌜ sumInRange e v a ≡ true ⌝ }
-    ensures { λ x. ⌜ x ≡ v + a - half ⌝ }
+// v + argument, where it is in range.
+fn sum(e: PlanEntry, v: u32, argument: u32) -> u32
+    requires { ⌜ sumInRange e v argument ≡ true ⌝ }
+    ensures { λ x. ⌜ x ≡ v + argument - half ⌝ }
 {
-    (v as u64 + a as u64 - constants::HALF_U64) as u32
+    (v as u64 + argument as u64 - constants::HALF_U64) as u32
 }
 
-fn set_rule(e: PlanEntry, a: u32, r: Reading) -> CommandResult
-    ensures { λ x. ⌜ x ≡ setRule e a r ⌝ }
+fn set_rule(e: PlanEntry, argument: u32, reading: Reading) -> CommandResult
+    ensures { λ x. ⌜ x ≡ setRule e argument reading ⌝ }
 {
-    if format_numbers::in_range(e, a) {
-        result_of(constants::CARRIED_OUT, a, constants::VALID)
+    if format_numbers::in_range(e, argument) {
+        result_of(constants::CARRIED_OUT, argument, constants::VALID)
     } else {
-        unchanged(constants::OUT_OF_RANGE, r)
+        unchanged(constants::OUT_OF_RANGE, reading)
     }
 }
 
-// The end of the range that v + a is past.
-fn end_past(e: PlanEntry, v: u32, a: u32) -> u32
-    ensures { λ x. ⌜ x ≡ endPast e v a ⌝ }
+// The end of the range that v + argument is past.
+fn end_past(e: PlanEntry, v: u32, argument: u32) -> u32
+    ensures { λ x. ⌜ x ≡ endPast e v argument ⌝ }
 {
     let low = e.low as u64;
-    let sum = v as u64 + a as u64;
+    let sum = v as u64 + argument as u64;
     if low + constants::HALF_U64 <= sum {
         e.high
     } else {
@@ -136,39 +136,40 @@ fn end_past(e: PlanEntry, v: u32, a: u32) -> u32
     }
 }
 
-// v + a, where it is in range; else the end that it is past, outcome 4.
-fn step_valid(e: PlanEntry, a: u32, r: Reading) -> CommandResult
-    ensures { λ x. ⌜ x ≡ pick (sumInRange e (r .value) a) (result carriedOut (r .value + a - half) (r .quality))
-        (pastEnd second e a r) ⌝ }
+// v + argument, where it is in range; else the end that it is past, outcome 4.
+fn step_valid(e: PlanEntry, argument: u32, reading: Reading) -> CommandResult
+    ensures { λ x. ⌜ x ≡ pick (sumInRange e (reading .value) argument)
+        (result carriedOut (reading .value + argument - half) (reading .quality))
+        (pastEnd second e argument reading) ⌝ }
 {
-    let v = r.value;
-    let q = r.quality;
-    if sum_in_range(e, v, a) {
-        result_of(constants::CARRIED_OUT, sum(e, v, a), q)
+    let v = reading.value;
+    let quality = reading.quality;
+    if sum_in_range(e, v, argument) {
+        result_of(constants::CARRIED_OUT, sum(e, v, argument), quality)
     } else {
-        result_of(constants::STOPPED, end_past(e, v, a), q)
+        result_of(constants::STOPPED, end_past(e, v, argument), quality)
     }
 }
 
 // What a step of a valid value gives is found before the quality is looked at: a choice, and no jump that a processor
 // guesses.
-fn step_rule(e: PlanEntry, a: u32, r: Reading) -> CommandResult
-    ensures { λ x. ⌜ x ≡ stepRule second e a r ⌝ }
+fn step_rule(e: PlanEntry, argument: u32, reading: Reading) -> CommandResult
+    ensures { λ x. ⌜ x ≡ stepRule second e argument reading ⌝ }
 {
-    let next = step_valid(e, a, r);
-    let q = r.quality;
-    if q == constants::INVALID {
-        unchanged(constants::ON_INVALID, r)
+    let next = step_valid(e, argument, reading);
+    let quality = reading.quality;
+    if quality == constants::INVALID {
+        unchanged(constants::ON_INVALID, reading)
     } else {
         next
     }
 }
 
-fn report_rule(e: PlanEntry, a: u32, r: Reading) -> CommandResult
-    ensures { λ x. ⌜ x ≡ reportRule e a r ⌝ }
+fn report_rule(e: PlanEntry, argument: u32, reading: Reading) -> CommandResult
+    ensures { λ x. ⌜ x ≡ reportRule e argument reading ⌝ }
 {
-    if format_numbers::in_range(e, a) {
-        result_of(constants::CARRIED_OUT, a, constants::VALID)
+    if format_numbers::in_range(e, argument) {
+        result_of(constants::CARRIED_OUT, argument, constants::VALID)
     } else {
         result_of(constants::FELL_BACK, e.fallback, constants::INVALID)
     }
@@ -181,22 +182,22 @@ fn fault_rule(e: PlanEntry) -> CommandResult
 }
 
 // 1 of an odd number, 0 of an even one.
-fn last_bit(n: u64) -> u64
-    ensures { λ x. ⌜ x ≡ n % 2 ⌝ }
+fn last_bit(value: u64) -> u64
+    ensures { λ x. ⌜ x ≡ value % 2 ⌝ }
 {
-    n & 1
+    value & 1
 }
 
-// low + m / 1000, the quotient to the nearest, an exact half to the even one. What is left of m is found by a product,
-// without a second division.
-fn part_value(low: u32, m: u64) -> u64
-    ensures { λ x. ⌜ x ≡ low + nearest m wholePart ⌝ }
+// low + parts / 1000, the quotient to the nearest, an exact half to the even one. What is left of parts is found by a
+// product, without a second division.
+fn part_value(low: u32, parts: u64) -> u64
+    ensures { λ x. ⌜ x ≡ low + nearest parts wholePart ⌝ }
 {
     let from = low as u64;
-    let q = m / constants::WHOLE_PART_U64;
-    let rest = m - constants::WHOLE_PART_U64 * q;
-    let down = from + q;
-    let odd = last_bit(q);
+    let quotient = parts / constants::WHOLE_PART_U64;
+    let rest = parts - constants::WHOLE_PART_U64 * quotient;
+    let down = from + quotient;
+    let odd = last_bit(quotient);
     if constants::WHOLE_PART_U64 < 2 * rest + odd {
         down + 1
     } else {
@@ -204,46 +205,46 @@ fn part_value(low: u32, m: u64) -> u64
     }
 }
 
-fn part_rule(e: PlanEntry, a: u32) -> CommandResult
-    requires { ⌜ argumentOk partOp a ≡ true ⌝ }
-    ensures { λ x. ⌜ x ≡ partRule second e a ⌝ }
+fn part_rule(e: PlanEntry, argument: u32) -> CommandResult
+    requires { ⌜ argumentOk partOp argument ≡ true ⌝ }
+    ensures { λ x. ⌜ x ≡ partRule second e argument ⌝ }
 {
     let span = minus(e.high as u64, e.low as u64);
-    let parts = minus(a as u64, constants::HALF_U64);
-    let v = part_value(e.low, span * parts);
-    result_of(constants::CARRIED_OUT, v as u32, constants::VALID)
+    let parts = minus(argument as u64, constants::HALF_U64);
+    let value = part_value(e.low, span * parts);
+    result_of(constants::CARRIED_OUT, value as u32, constants::VALID)
 }
 
 // A command's result: outcome, and value and quality after it. An argument outside its op's range changes nothing,
 // outcome 1; set, step and report take any.
-pub fn checked_rule(e: PlanEntry, op: u8, argument: u32, r: Reading) -> CommandResult
-    ensures { λ x. ⌜ x ≡ checkedRule e op argument r ⌝ }
+pub fn checked_rule(e: PlanEntry, op: u8, argument: u32, reading: Reading) -> CommandResult
+    ensures { λ x. ⌜ x ≡ checkedRule e op argument reading ⌝ }
 {
     match op {
         constants::READ_OP => {
             if format_numbers::argument_ok(constants::READ_OP, argument) {
-                unchanged(constants::CARRIED_OUT, r)
+                unchanged(constants::CARRIED_OUT, reading)
             } else {
-                unchanged(constants::OUT_OF_RANGE, r)
+                unchanged(constants::OUT_OF_RANGE, reading)
             }
         }
-        constants::SET_OP => set_rule(e, argument, r),
-        constants::STEP_OP => step_rule(e, argument, r),
-        constants::REPORT_OP => report_rule(e, argument, r),
+        constants::SET_OP => set_rule(e, argument, reading),
+        constants::STEP_OP => step_rule(e, argument, reading),
+        constants::REPORT_OP => report_rule(e, argument, reading),
         constants::FAULT_OP => {
             if format_numbers::argument_ok(constants::FAULT_OP, argument) {
                 fault_rule(e)
             } else {
-                unchanged(constants::OUT_OF_RANGE, r)
+                unchanged(constants::OUT_OF_RANGE, reading)
             }
         }
         constants::PART_OP => {
             if format_numbers::argument_ok(constants::PART_OP, argument) {
                 part_rule(e, argument)
             } else {
-                unchanged(constants::OUT_OF_RANGE, r)
+                unchanged(constants::OUT_OF_RANGE, reading)
             }
         }
-        6..=255 => unchanged(constants::OUT_OF_RANGE, r),
+        6..=255 => unchanged(constants::OUT_OF_RANGE, reading),
     }
 }

@@ -26,117 +26,118 @@ pub fn request_ok(q: Request) -> bool
     command & (id & done)
 }
 
-pub fn result_ok(r: ResultPacket) -> bool
-    ensures { λ b. ⌜ b ≡ resultOk r ⌝ }
+pub fn result_ok(packet: ResultPacket) -> bool
+    ensures { λ b. ⌜ b ≡ resultOk packet ⌝ }
 {
-    let outcome = format_numbers::outcome_ok(r.result.outcome, r.result.quality);
-    let id = format_numbers::id_ok(r.client, r.call);
-    (r.point <= constants::LAST_POINT) & (outcome & id)
+    let outcome = format_numbers::outcome_ok(packet.result.outcome, packet.result.quality);
+    let id = format_numbers::id_ok(packet.client, packet.call);
+    (packet.point <= constants::LAST_POINT) & (outcome & id)
 }
 
-pub fn refusal_ok(r: RefusalPacket) -> bool
-    ensures { λ b. ⌜ b ≡ refusalOk r ⌝ }
+pub fn refusal_ok(packet: RefusalPacket) -> bool
+    ensures { λ b. ⌜ b ≡ refusalOk packet ⌝ }
 {
-    let id = format_numbers::id_ok(r.client, r.call);
-    (constants::FIRST_DENIED <= r.refusal)
-        & ((r.refusal <= constants::LAST_DENIED) & ((r.point <= constants::LAST_POINT) & id))
+    let id = format_numbers::id_ok(packet.client, packet.call);
+    (constants::FIRST_DENIED <= packet.refusal)
+        & ((packet.refusal <= constants::LAST_DENIED)
+            & ((packet.point <= constants::LAST_POINT) & id))
 }
 
-pub fn receipt_ok(r: Receipt) -> bool
-    ensures { λ b. ⌜ b ≡ receiptOk r ⌝ }
+pub fn receipt_ok(receipt: Receipt) -> bool
+    ensures { λ b. ⌜ b ≡ receiptOk receipt ⌝ }
 {
-    (r.point <= constants::LAST_POINT) & (r.server <= constants::LAST_SERVER)
+    (receipt.point <= constants::LAST_POINT) & (receipt.server <= constants::LAST_SERVER)
 }
 
-pub fn notice_ok(n: Notice) -> bool
-    ensures { λ b. ⌜ b ≡ noticeOk n ⌝ }
+pub fn notice_ok(notice: Notice) -> bool
+    ensures { λ b. ⌜ b ≡ noticeOk notice ⌝ }
 {
-    1 <= n.client
+    1 <= notice.client
 }
 
-pub fn grant_ok(g: Grant) -> bool
-    ensures { λ b. ⌜ b ≡ grantOk g ⌝ }
+pub fn grant_ok(grant: Grant) -> bool
+    ensures { λ b. ⌜ b ≡ grantOk grant ⌝ }
 {
-    1 <= g.client
+    1 <= grant.client
 }
 
 // ---- at their places
 
-pub fn request_at(p: &[u8]) -> Request
-    requires { ⌜ requestSize ≤ length (now p) ⌝ }
-    ensures { λ r. ⌜ r ≡ requestAt (now (p .entry)) ⌝ }
+pub fn request_at(packet: &[u8]) -> Request
+    requires { ⌜ requestSize ≤ length (now packet) ⌝ }
+    ensures { λ r. ⌜ r ≡ requestAt (now (packet .entry)) ⌝ }
 {
     let command = Command {
-        client: format_numbers::read_u32(p, constants::REQUEST_CLIENT),
-        call: format_numbers::read_u32(p, constants::REQUEST_CALL),
-        op: p[constants::REQUEST_OP],
-        point: p[constants::REQUEST_POINT],
-        argument: format_numbers::read_signed(p, constants::REQUEST_ARGUMENT),
+        client: format_numbers::read_u32(packet, constants::REQUEST_CLIENT),
+        call: format_numbers::read_u32(packet, constants::REQUEST_CALL),
+        op: packet[constants::REQUEST_OP],
+        point: packet[constants::REQUEST_POINT],
+        argument: format_numbers::read_signed(packet, constants::REQUEST_ARGUMENT),
     };
     Request {
         command,
-        done: format_numbers::read_u32(p, constants::REQUEST_DONE),
-        lease: format_numbers::read_u32(p, constants::REQUEST_LEASE),
+        done: format_numbers::read_u32(packet, constants::REQUEST_DONE),
+        lease: format_numbers::read_u32(packet, constants::REQUEST_LEASE),
     }
 }
 
-pub fn result_at(p: &[u8]) -> ResultPacket
-    requires { ⌜ resultSize ≤ length (now p) ⌝ }
-    ensures { λ r. ⌜ r ≡ resultAt (now (p .entry)) ⌝ }
+pub fn result_at(packet: &[u8]) -> ResultPacket
+    requires { ⌜ resultSize ≤ length (now packet) ⌝ }
+    ensures { λ r. ⌜ r ≡ resultAt (now (packet .entry)) ⌝ }
 {
     let result = CommandResult {
-        outcome: p[constants::RESULT_OUTCOME],
-        value: format_numbers::read_signed(p, constants::RESULT_VALUE),
-        quality: p[constants::RESULT_QUALITY],
+        outcome: packet[constants::RESULT_OUTCOME],
+        value: format_numbers::read_signed(packet, constants::RESULT_VALUE),
+        quality: packet[constants::RESULT_QUALITY],
     };
     ResultPacket {
-        client: format_numbers::read_u32(p, constants::RESULT_CLIENT),
-        call: format_numbers::read_u32(p, constants::RESULT_CALL),
-        point: p[constants::RESULT_POINT],
+        client: format_numbers::read_u32(packet, constants::RESULT_CLIENT),
+        call: format_numbers::read_u32(packet, constants::RESULT_CALL),
+        point: packet[constants::RESULT_POINT],
         result,
     }
 }
 
-pub fn refusal_at(p: &[u8]) -> RefusalPacket
-    requires { ⌜ refusalSize ≤ length (now p) ⌝ }
-    ensures { λ r. ⌜ r ≡ refusalAt (now (p .entry)) ⌝ }
+pub fn refusal_at(packet: &[u8]) -> RefusalPacket
+    requires { ⌜ refusalSize ≤ length (now packet) ⌝ }
+    ensures { λ r. ⌜ r ≡ refusalAt (now (packet .entry)) ⌝ }
 {
     RefusalPacket {
-        refusal: p[constants::REFUSAL_NUMBER],
-        point: p[constants::REFUSAL_POINT],
-        client: format_numbers::read_u32(p, constants::REFUSAL_CLIENT),
-        call: format_numbers::read_u32(p, constants::REFUSAL_CALL),
+        refusal: packet[constants::REFUSAL_NUMBER],
+        point: packet[constants::REFUSAL_POINT],
+        client: format_numbers::read_u32(packet, constants::REFUSAL_CLIENT),
+        call: format_numbers::read_u32(packet, constants::REFUSAL_CALL),
     }
 }
 
-pub fn receipt_at(p: &[u8]) -> Receipt
-    requires { ⌜ receiptSize ≤ length (now p) ⌝ }
-    ensures { λ r. ⌜ r ≡ receiptAt (now (p .entry)) ⌝ }
+pub fn receipt_at(packet: &[u8]) -> Receipt
+    requires { ⌜ receiptSize ≤ length (now packet) ⌝ }
+    ensures { λ r. ⌜ r ≡ receiptAt (now (packet .entry)) ⌝ }
 {
     Receipt {
-        point: p[constants::RECEIPT_POINT],
-        server: p[constants::RECEIPT_SERVER],
-        moveNumber: format_numbers::read_u32(p, constants::RECEIPT_MOVE),
+        point: packet[constants::RECEIPT_POINT],
+        server: packet[constants::RECEIPT_SERVER],
+        moveNumber: format_numbers::read_u32(packet, constants::RECEIPT_MOVE),
     }
 }
 
 // Log record 2 has the same fields.
-pub fn notice_at(p: &[u8]) -> Notice
-    requires { ⌜ noticeSize ≤ length (now p) ⌝ }
-    ensures { λ r. ⌜ r ≡ noticeAt (now (p .entry)) ⌝ }
+pub fn notice_at(packet: &[u8]) -> Notice
+    requires { ⌜ noticeSize ≤ length (now packet) ⌝ }
+    ensures { λ r. ⌜ r ≡ noticeAt (now (packet .entry)) ⌝ }
 {
     Notice {
-        client: format_numbers::read_u32(p, constants::NOTICE_CLIENT),
-        time: format_numbers::read_u32(p, constants::NOTICE_TIME),
+        client: format_numbers::read_u32(packet, constants::NOTICE_CLIENT),
+        time: format_numbers::read_u32(packet, constants::NOTICE_TIME),
     }
 }
 
-pub fn grant_at(p: &[u8]) -> Grant
-    requires { ⌜ grantSize ≤ length (now p) ⌝ }
-    ensures { λ r. ⌜ r ≡ grantAt (now (p .entry)) ⌝ }
+pub fn grant_at(packet: &[u8]) -> Grant
+    requires { ⌜ grantSize ≤ length (now packet) ⌝ }
+    ensures { λ r. ⌜ r ≡ grantAt (now (packet .entry)) ⌝ }
 {
     Grant {
-        client: format_numbers::read_u32(p, constants::GRANT_CLIENT),
-        lease: format_numbers::read_u32(p, constants::GRANT_LEASE),
+        client: format_numbers::read_u32(packet, constants::GRANT_CLIENT),
+        lease: format_numbers::read_u32(packet, constants::GRANT_LEASE),
     }
 }

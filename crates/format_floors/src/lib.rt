@@ -1,4 +1,5 @@
-// A row of a table of floors, client and floor in 8 bytes, at its place in a slice: read, stored and tested. Images and a server's state have such a table.
+// A row of a table of floors, client and floor in 8 bytes, at its place in a slice: read, stored and tested. Images and
+// a server's state have such a table.
 use model::Floor;
 use model::constants;
 ghost use mathlib.Core.Path.{_≡_};
@@ -41,11 +42,12 @@ pub fn floor_ok(s: &[u8], k: usize) -> bool
 // The client of the floor from k is below that of the next.
 pub fn client_before(s: &[u8], k: usize) -> bool
     requires { ⌜ k + 2 * floorRow ≤ length (now s) ⌝ }
-    ensures { λ r. ⌜ r ≡ ltb (floorOfBytes (drop k (now (s .entry))) .client) (floorOfBytes (drop (k + floorRow) (now (s .entry))) .client) ⌝ }
+    ensures { λ r. ⌜ r ≡ ltb (floorOfBytes (drop k (now (s .entry))) .client)
+        (floorOfBytes (drop (k + floorRow) (now (s .entry))) .client) ⌝ }
 {
     let f = floor_from(s, k);
-    let g = floor_from(s, k + constants::FLOOR_ROW);
-    f.client < g.client
+    let row = floor_from(s, k + constants::FLOOR_ROW);
+    f.client < row.client
 }
 
 // The call is from floor to floor + 15, and the client has a floor.

@@ -1,5 +1,5 @@
-// The reader of moving images: the test of every rule but the one on values, which needs the plan; that one; rows by number.
-// An image inside a take record is read from its place: the log's part from there is passed.
+// The reader of moving images: the test of every rule but the one on values, which needs the plan; that one; rows by
+// number. An image inside a take record is read from its place: the log's part from there is passed.
 use model::ImageEntry;
 use model::ImageHead;
 use model::PlanEntry;
@@ -53,15 +53,15 @@ fn floors_ok(s: &[u8], n: usize) -> bool
     true
 }
 
-// How many of n floors have a client below x, where the first `below` have.
-fn next_floor(s: &[u8], n: usize, x: u32, below: usize) -> usize
-    requires { ⌜ (entriesStart n ≤ length (now s)) × (below ≤ leading x (floorsIn (now s) n)) ⌝ }
-    ensures { λ r. ⌜ r ≡ leading x (floorsIn (now (s .entry)) n) ⌝ }
+// How many of n floors have a client below this one, where the first `below` have.
+fn next_floor(s: &[u8], n: usize, client: u32, below: usize) -> usize
+    requires { ⌜ (entriesStart n ≤ length (now s)) × (below ≤ leading client (floorsIn (now s) n)) ⌝ }
+    ensures { λ r. ⌜ r ≡ leading client (floorsIn (now (s .entry)) n) ⌝ }
 {
     let mut j = below;
     while j < n {
         let f = format_floors::floor_from(s, LEAST_IMAGE + FLOOR_ROW * j);
-        if x <= f.client {
+        if client <= f.client {
             return j;
         }
         j += 1;
@@ -69,16 +69,17 @@ fn next_floor(s: &[u8], n: usize, x: u32, below: usize) -> usize
     j
 }
 
-// The floor of the client x, where the floor of index j is its own; else 0.
-fn floor_here(s: &[u8], n: usize, x: u32, j: usize) -> u32
+// The floor of the client, where the floor of index j is its own; else 0.
+fn floor_here(s: &[u8], n: usize, client: u32, j: usize) -> u32
     requires { ⌜ entriesStart n ≤ length (now s) ⌝ }
-    ensures { λ r. ⌜ r ≡ floorFirst x (rows floorOfBytes floorRow (n - j) (drop (leastImage + floorRow * j) (now (s .entry)))) ⌝ }
+    ensures { λ r. ⌜ r ≡ floorFirst client (rows floorOfBytes floorRow (n - j)
+        (drop (leastImage + floorRow * j) (now (s .entry)))) ⌝ }
 {
     if n <= j {
         return 0;
     }
     let f = format_floors::floor_from(s, LEAST_IMAGE + FLOOR_ROW * j);
-    if f.client == x {
+    if f.client == client {
         return f.floor;
     }
     0
@@ -112,8 +113,8 @@ fn entry_step(s: &[u8], point: u8, floor: u32, width: usize, k: usize, left: usi
     next & (zero & fields)
 }
 
-// Each of so many records of the point from at, strictly ascending by client, then call; n floors ascend by client, so that
-// the floors are walked once beside the records.
+// Each of so many records of the point from at, strictly ascending by client, then call; n floors ascend by client, so
+// that the floors are walked once beside the records.
 fn entries_ok(s: &[u8], n: usize, point: u8, width: usize, at: usize, entries: usize) -> bool
     requires { ⌜ (entryRow ≤ width) × (entriesStart n ≤ length (now s)) × (at + width * entries ≤ length (now s))
         × (clientsAscend (floorsIn (now s) n) ≡ true) ⌝ }

@@ -1,5 +1,5 @@
-// Completion records and head of a moving image at their places in a slice, and the tests of one record, of two neighbours and of the head. Its floors are
-// read and tested by `format_floors`.
+// Completion records and head of a moving image at their places in a slice, and the tests of one record, of two
+// neighbours and of the head. Its floors are read and tested by `format_floors`.
 use model::CommandResult;
 use model::ImageEntry;
 use model::ImageHead;

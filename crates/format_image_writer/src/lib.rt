@@ -1,4 +1,5 @@
-// The writer of moving images: head, floors and completion records, each at its place. Bytes past what is written are kept.
+// The writer of moving images: head, floors and completion records, each at its place. Bytes past what is written are
+// kept.
 use model::ImageEntry;
 use model::ImageHead;
 use model::constants;

@@ -60,13 +60,17 @@ fn executed_at(s: &[u8]) -> Executed
     }
 }
 
-fn executed_ok(x: Executed) -> bool
-    ensures { λ r. ⌜ r ≡ executedOk x ⌝ }
+fn executed_ok(executed: Executed) -> bool
+    ensures { λ r. ⌜ r ≡ executedOk executed ⌝ }
 {
-    let command = format_numbers::command_ok(x.command.op, x.command.point, x.command.argument);
-    let outcome = format_numbers::outcome_ok(x.result.outcome, x.result.quality);
-    let id = format_numbers::id_ok(x.command.client, x.command.call);
-    let done = format_numbers::done_ok(x.done, x.command.call);
+    let command = format_numbers::command_ok(
+        executed.command.op,
+        executed.command.point,
+        executed.command.argument,
+    );
+    let outcome = format_numbers::outcome_ok(executed.result.outcome, executed.result.quality);
+    let id = format_numbers::id_ok(executed.command.client, executed.command.call);
+    let done = format_numbers::done_ok(executed.done, executed.command.call);
     command & (outcome & (id & done))
 }
 
@@ -97,10 +101,10 @@ fn release_at(s: &[u8]) -> Release
     }
 }
 
-fn release_ok(x: Release) -> bool
-    ensures { λ r. ⌜ r ≡ releaseOk x ⌝ }
+fn release_ok(release: Release) -> bool
+    ensures { λ r. ⌜ r ≡ releaseOk release ⌝ }
 {
-    x.point <= constants::LAST_POINT
+    release.point <= constants::LAST_POINT
 }
 
 // What was found, if its zero bytes and fields are as they should be.
@@ -114,10 +118,10 @@ fn executed_from(s: &[u8]) -> Record
     requires { ⌜ executedSize ≤ length (now s) ⌝ }
     ensures { λ r. ⌜ r ≡ executedFrom (now (s .entry)) ⌝ }
 {
-    let x = executed_at(s);
+    let executed = executed_at(s);
     checked(
-        format_numbers::zeros3_at(s, constants::EXECUTED_ZEROS) & executed_ok(x),
-        Record::Executed(x),
+        format_numbers::zeros3_at(s, constants::EXECUTED_ZEROS) & executed_ok(executed),
+        Record::Executed(executed),
     )
 }
 
@@ -125,10 +129,10 @@ fn gone_from(s: &[u8]) -> Record
     requires { ⌜ goneSize ≤ length (now s) ⌝ }
     ensures { λ r. ⌜ r ≡ goneFrom (now (s .entry)) ⌝ }
 {
-    let x = format_fields::notice_at(s);
+    let notice = format_fields::notice_at(s);
     checked(
-        format_numbers::zeros3_at(s, constants::NOTICE_ZEROS) & format_fields::notice_ok(x),
-        Record::Gone(x),
+        format_numbers::zeros3_at(s, constants::NOTICE_ZEROS) & format_fields::notice_ok(notice),
+        Record::Gone(notice),
     )
 }
 
@@ -136,10 +140,10 @@ fn give_from(s: &[u8]) -> Record
     requires { ⌜ giveSize ≤ length (now s) ⌝ }
     ensures { λ r. ⌜ r ≡ giveFrom (now (s .entry)) ⌝ }
 {
-    let x = give_at(s);
+    let g = give_at(s);
     checked(
-        format_numbers::zero_at(s, constants::GIVE_ZERO) & give_ok(x),
-        Record::Gave(x),
+        format_numbers::zero_at(s, constants::GIVE_ZERO) & give_ok(g),
+        Record::Gave(g),
     )
 }
 
@@ -163,12 +167,12 @@ fn release_from(s: &[u8]) -> Record
     requires { ⌜ releaseSize ≤ length (now s) ⌝ }
     ensures { λ r. ⌜ r ≡ releaseFrom (now (s .entry)) ⌝ }
 {
-    let x = release_at(s);
-    let ok = release_ok(x);
+    let release = release_at(s);
+    let ok = release_ok(release);
     checked(
         format_numbers::zero_at(s, constants::RELEASE_ZERO)
             & (format_numbers::zero_at(s, constants::RELEASE_SECOND_ZERO) & ok),
-        Record::Released(x),
+        Record::Released(release),
     )
 }
 

@@ -28,10 +28,10 @@ ghost use Rattle.model.specs.Packets.{idOk, doneOk, commandOk, outcomeOk};
 // ---- numbers
 
 // The number of 4 bytes, the lowest first.
-fn join(a: u8, b: u8, c: u8, d: u8) -> u32
-    ensures { λ r. ⌜ r ≡ join32 a b c d ⌝ }
+fn join(b0: u8, b1: u8, b2: u8, b3: u8) -> u32
+    ensures { λ r. ⌜ r ≡ join32 b0 b1 b2 b3 ⌝ }
 {
-    a as u32 + 256 * (b as u32) + 65536 * (c as u32) + 16777216 * (d as u32)
+    b0 as u32 + 256 * (b1 as u32) + 65536 * (b2 as u32) + 16777216 * (b3 as u32)
 }
 
 // The number of two numbers of 32 bits, the lower first.
@@ -58,14 +58,14 @@ pub fn read_u64(s: &[u8], at: usize) -> u64
 }
 
 // Stores 4 bytes from at.
-pub fn write_4(s: &mut [u8], at: usize, a: u8, b: u8, c: u8, d: u8)
+pub fn write_4(s: &mut [u8], at: usize, b0: u8, b1: u8, b2: u8, b3: u8)
     requires { ⌜ at + 4 ≤ length (now s) ⌝ }
-    ensures { λ r. ⌜ now (s .exit) ≡ written (now (s .entry)) at (quad a b c d) ⌝ }
+    ensures { λ r. ⌜ now (s .exit) ≡ written (now (s .entry)) at (quad b0 b1 b2 b3) ⌝ }
 {
-    s[at] = a;
-    s[at + 1] = b;
-    s[at + 2] = c;
-    s[at + 3] = d;
+    s[at] = b0;
+    s[at + 1] = b1;
+    s[at + 2] = b2;
+    s[at + 3] = b3;
 }
 
 // Stores a magic at the front.
@@ -92,20 +92,20 @@ pub fn write_u32(s: &mut [u8], at: usize, v: u32)
     );
 }
 
-// Stores v in the 8 bytes from at.
-pub fn write_u64(s: &mut [u8], at: usize, v: u64)
+// Stores a value in the 8 bytes from at.
+pub fn write_u64(s: &mut [u8], at: usize, value: u64)
     requires { ⌜ at + 8 ≤ length (now s) ⌝ }
-    ensures { λ r. ⌜ now (s .exit) ≡ written (now (s .entry)) at (le64 v) ⌝ }
+    ensures { λ r. ⌜ now (s .exit) ≡ written (now (s .entry)) at (le64 value) ⌝ }
 {
-    write_u32(s, at, (v % WORD) as u32);
-    write_u32(s, at + 4, (v / WORD) as u32);
+    write_u32(s, at, (value % WORD) as u32);
+    write_u32(s, at + 4, (value / WORD) as u32);
 }
 
-// Two's complement to x + 2^31, and back.
-pub fn flipped(x: u32) -> u32
-    ensures { λ r. ⌜ r ≡ flip x ⌝ }
+// Two's complement to v + 2^31, and back.
+pub fn flipped(v: u32) -> u32
+    ensures { λ r. ⌜ r ≡ flip v ⌝ }
 {
-    if x < HALF { x + HALF } else { x - HALF }
+    if v < HALF { v + HALF } else { v - HALF }
 }
 
 // The signed number in the 4 bytes from at.
@@ -140,12 +140,12 @@ pub fn zeros3_at(s: &[u8], at: usize) -> bool
     (s[at] == 0) & ((s[at + 1] == 0) & (s[at + 2] == 0))
 }
 
-// The first four bytes are those of m.
-pub fn starts_with(s: &[u8], m: [u8; 4]) -> bool
+// The first four bytes are those of magic.
+pub fn starts_with(s: &[u8], magic: [u8; 4]) -> bool
     requires { ⌜ 4 ≤ length (now s) ⌝ }
-    ensures { λ r. ⌜ r ≡ startsWith (now (s .entry)) m ⌝ }
+    ensures { λ r. ⌜ r ≡ startsWith (now (s .entry)) magic ⌝ }
 {
-    (s[0] == m[0]) & ((s[1] == m[1]) & ((s[2] == m[2]) & (s[3] == m[3])))
+    (s[0] == magic[0]) & ((s[1] == magic[1]) & ((s[2] == magic[2]) & (s[3] == magic[3])))
 }
 
 // All bytes of src, from the front of out.
@@ -169,45 +169,45 @@ pub fn copy_part(out: &mut [u8], to: usize, src: &[u8], from: usize, n: usize)
 }
 
 // The greater of two numbers.
-pub fn greater(a: u32, b: u32) -> u32
-    ensures { λ r. ⌜ r ≡ max a b ⌝ }
+pub fn greater(v: u32, other: u32) -> u32
+    ensures { λ r. ⌜ r ≡ max v other ⌝ }
 {
-    if a < b {
-        return b;
+    if v < other {
+        return other;
     }
-    a
+    v
 }
 
 // ---- fields in their ranges
 
 // An argument in a range.
-fn in_arguments(r: ArgumentRange, a: u32) -> bool
-    ensures { λ b. ⌜ b ≡ inArguments r a ⌝ }
+fn in_arguments(range: ArgumentRange, argument: u32) -> bool
+    ensures { λ b. ⌜ b ≡ inArguments range argument ⌝ }
 {
-    (r.least <= a) & (a <= r.greatest)
+    (range.least <= argument) & (argument <= range.greatest)
 }
 
 // The argument lies in its op's range; an op past the last has none. With a literal index the table stays in memory;
 // with another it is copied to the stack first.
-pub fn argument_ok(op: u8, a: u32) -> bool
-    ensures { λ r. ⌜ r ≡ argumentOk op a ⌝ }
+pub fn argument_ok(op: u8, argument: u32) -> bool
+    ensures { λ r. ⌜ r ≡ argumentOk op argument ⌝ }
 {
     match op {
-        READ_OP => in_arguments(ARGUMENT_RANGES[0], a),
-        SET_OP => in_arguments(ARGUMENT_RANGES[1], a),
-        STEP_OP => in_arguments(ARGUMENT_RANGES[2], a),
-        REPORT_OP => in_arguments(ARGUMENT_RANGES[3], a),
-        FAULT_OP => in_arguments(ARGUMENT_RANGES[4], a),
-        PART_OP => in_arguments(ARGUMENT_RANGES[5], a),
+        READ_OP => in_arguments(ARGUMENT_RANGES[0], argument),
+        SET_OP => in_arguments(ARGUMENT_RANGES[1], argument),
+        STEP_OP => in_arguments(ARGUMENT_RANGES[2], argument),
+        REPORT_OP => in_arguments(ARGUMENT_RANGES[3], argument),
+        FAULT_OP => in_arguments(ARGUMENT_RANGES[4], argument),
+        PART_OP => in_arguments(ARGUMENT_RANGES[5], argument),
         6..=255 => false,
     }
 }
 
 // Op with its argument, and point.
-pub fn command_ok(op: u8, point: u8, a: u32) -> bool
-    ensures { λ r. ⌜ r ≡ commandOk op point a ⌝ }
+pub fn command_ok(op: u8, point: u8, v: u32) -> bool
+    ensures { λ r. ⌜ r ≡ commandOk op point v ⌝ }
 {
-    let argument = argument_ok(op, a);
+    let argument = argument_ok(op, v);
     argument & (point <= LAST_POINT)
 }
 
@@ -232,8 +232,8 @@ pub fn outcome_ok(outcome: u8, quality: u8) -> bool
 }
 
 // A value in a point's range.
-pub fn in_range(e: PlanEntry, a: u32) -> bool
-    ensures { λ r. ⌜ r ≡ inRange e a ⌝ }
+pub fn in_range(e: PlanEntry, v: u32) -> bool
+    ensures { λ r. ⌜ r ≡ inRange e v ⌝ }
 {
-    (e.low <= a) & (a <= e.high)
+    (e.low <= v) & (v <= e.high)
 }

@@ -13,95 +13,101 @@ fn checked(ok: bool, found: Packet) -> Packet
     if ok { found } else { Packet::Malformed }
 }
 
-fn parse_request(p: &[u8]) -> Packet
-    ensures { λ r. ⌜ r ≡ parseRequest (now (p .entry)) ⌝ }
+fn parse_request(packet: &[u8]) -> Packet
+    ensures { λ r. ⌜ r ≡ parseRequest (now (packet .entry)) ⌝ }
 {
-    if p.len() != constants::PACKET_LENGTHS[1] {
+    if packet.len() != constants::PACKET_LENGTHS[1] {
         return Packet::Malformed;
     }
-    let q = format_fields::request_at(p);
+    let q = format_fields::request_at(packet);
     checked(
-        format_numbers::zero_at(p, constants::REQUEST_ZERO) & format_fields::request_ok(q),
+        format_numbers::zero_at(packet, constants::REQUEST_ZERO) & format_fields::request_ok(q),
         Packet::Requested(q),
     )
 }
 
-pub fn parse_result(p: &[u8]) -> Packet
-    ensures { λ r. ⌜ r ≡ parseResult (now (p .entry)) ⌝ }
+pub fn parse_result(packet: &[u8]) -> Packet
+    ensures { λ r. ⌜ r ≡ parseResult (now (packet .entry)) ⌝ }
 {
-    if p.len() != constants::PACKET_LENGTHS[2] {
+    if packet.len() != constants::PACKET_LENGTHS[2] {
         return Packet::Malformed;
     }
-    let q = format_fields::result_at(p);
-    checked(format_fields::result_ok(q), Packet::Resulted(q))
-}
-
-pub fn parse_refusal(p: &[u8]) -> Packet
-    ensures { λ r. ⌜ r ≡ parseRefusal (now (p .entry)) ⌝ }
-{
-    if p.len() != constants::PACKET_LENGTHS[3] {
-        return Packet::Malformed;
-    }
-    let q = format_fields::refusal_at(p);
+    let completed = format_fields::result_at(packet);
     checked(
-        format_numbers::zero_at(p, constants::REFUSAL_ZERO) & format_fields::refusal_ok(q),
-        Packet::Refused(q),
+        format_fields::result_ok(completed),
+        Packet::Resulted(completed),
     )
 }
 
-fn parse_receipt(p: &[u8]) -> Packet
-    ensures { λ r. ⌜ r ≡ parseReceipt (now (p .entry)) ⌝ }
+pub fn parse_refusal(packet: &[u8]) -> Packet
+    ensures { λ r. ⌜ r ≡ parseRefusal (now (packet .entry)) ⌝ }
 {
-    if p.len() != constants::PACKET_LENGTHS[4] {
+    if packet.len() != constants::PACKET_LENGTHS[3] {
         return Packet::Malformed;
     }
-    let q = format_fields::receipt_at(p);
+    let denied = format_fields::refusal_at(packet);
     checked(
-        format_numbers::zero_at(p, constants::RECEIPT_ZERO) & format_fields::receipt_ok(q),
-        Packet::Receipted(q),
+        format_numbers::zero_at(packet, constants::REFUSAL_ZERO)
+            & format_fields::refusal_ok(denied),
+        Packet::Refused(denied),
     )
 }
 
-fn parse_notice(p: &[u8]) -> Packet
-    ensures { λ r. ⌜ r ≡ parseNotice (now (p .entry)) ⌝ }
+fn parse_receipt(packet: &[u8]) -> Packet
+    ensures { λ r. ⌜ r ≡ parseReceipt (now (packet .entry)) ⌝ }
 {
-    if p.len() != constants::PACKET_LENGTHS[5] {
+    if packet.len() != constants::PACKET_LENGTHS[4] {
         return Packet::Malformed;
     }
-    let q = format_fields::notice_at(p);
+    let receipt = format_fields::receipt_at(packet);
     checked(
-        format_numbers::zeros3_at(p, constants::NOTICE_ZEROS) & format_fields::notice_ok(q),
-        Packet::Noticed(q),
+        format_numbers::zero_at(packet, constants::RECEIPT_ZERO)
+            & format_fields::receipt_ok(receipt),
+        Packet::Receipted(receipt),
     )
 }
 
-pub fn parse_grant(p: &[u8]) -> Packet
-    ensures { λ r. ⌜ r ≡ parseGrant (now (p .entry)) ⌝ }
+fn parse_notice(packet: &[u8]) -> Packet
+    ensures { λ r. ⌜ r ≡ parseNotice (now (packet .entry)) ⌝ }
 {
-    if p.len() != constants::PACKET_LENGTHS[6] {
+    if packet.len() != constants::PACKET_LENGTHS[5] {
         return Packet::Malformed;
     }
-    let q = format_fields::grant_at(p);
+    let notice = format_fields::notice_at(packet);
     checked(
-        format_numbers::zeros3_at(p, constants::GRANT_ZEROS) & format_fields::grant_ok(q),
-        Packet::Granted(q),
+        format_numbers::zeros3_at(packet, constants::NOTICE_ZEROS)
+            & format_fields::notice_ok(notice),
+        Packet::Noticed(notice),
+    )
+}
+
+pub fn parse_grant(packet: &[u8]) -> Packet
+    ensures { λ r. ⌜ r ≡ parseGrant (now (packet .entry)) ⌝ }
+{
+    if packet.len() != constants::PACKET_LENGTHS[6] {
+        return Packet::Malformed;
+    }
+    let grant = format_fields::grant_at(packet);
+    checked(
+        format_numbers::zeros3_at(packet, constants::GRANT_ZEROS) & format_fields::grant_ok(grant),
+        Packet::Granted(grant),
     )
 }
 
 // The first byte is the kind.
-pub fn parse_packet(p: &[u8]) -> Packet
-    ensures { λ r. ⌜ r ≡ parsePacket (now (p .entry)) ⌝ }
+pub fn parse_packet(packet: &[u8]) -> Packet
+    ensures { λ r. ⌜ r ≡ parsePacket (now (packet .entry)) ⌝ }
 {
-    if p.len() == 0 {
+    if packet.len() == 0 {
         return Packet::Malformed;
     }
-    match p[0] {
-        constants::REQUEST_KIND => parse_request(p),
-        constants::RESULT_KIND => parse_result(p),
-        constants::REFUSAL_KIND => parse_refusal(p),
-        constants::RECEIPT_KIND => parse_receipt(p),
-        constants::NOTICE_KIND => parse_notice(p),
-        constants::GRANT_KIND => parse_grant(p),
+    match packet[0] {
+        constants::REQUEST_KIND => parse_request(packet),
+        constants::RESULT_KIND => parse_result(packet),
+        constants::REFUSAL_KIND => parse_refusal(packet),
+        constants::RECEIPT_KIND => parse_receipt(packet),
+        constants::NOTICE_KIND => parse_notice(packet),
+        constants::GRANT_KIND => parse_grant(packet),
         0 | 7..=255 => Packet::Malformed,
     }
 }

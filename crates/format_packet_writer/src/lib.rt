@@ -34,57 +34,71 @@ fn write_request(out: &mut [u8], q: Request)
     format_numbers::write_signed(out, constants::REQUEST_ARGUMENT, q.command.argument);
 }
 
-pub fn write_result(out: &mut [u8], q: ResultPacket)
+pub fn write_result(out: &mut [u8], packet: ResultPacket)
     requires { ⌜ resultSize ≤ length (now out) ⌝ }
-    ensures { λ r. ⌜ now (out .exit) ≡ written (now (out .entry)) 0 (resultBytes q) ⌝ }
+    ensures { λ r. ⌜ now (out .exit) ≡ written (now (out .entry)) 0 (resultBytes packet) ⌝ }
 {
     format_numbers::write_4(
         out,
         0,
         constants::RESULT_KIND,
-        q.result.outcome,
-        q.point,
-        q.result.quality,
+        packet.result.outcome,
+        packet.point,
+        packet.result.quality,
     );
-    format_numbers::write_u32(out, constants::RESULT_CLIENT, q.client);
-    format_numbers::write_u32(out, constants::RESULT_CALL, q.call);
-    format_numbers::write_signed(out, constants::RESULT_VALUE, q.result.value);
+    format_numbers::write_u32(out, constants::RESULT_CLIENT, packet.client);
+    format_numbers::write_u32(out, constants::RESULT_CALL, packet.call);
+    format_numbers::write_signed(out, constants::RESULT_VALUE, packet.result.value);
 }
 
-pub fn write_refusal(out: &mut [u8], q: RefusalPacket)
+pub fn write_refusal(out: &mut [u8], packet: RefusalPacket)
     requires { ⌜ refusalSize ≤ length (now out) ⌝ }
-    ensures { λ r. ⌜ now (out .exit) ≡ written (now (out .entry)) 0 (refusalBytes q) ⌝ }
+    ensures { λ r. ⌜ now (out .exit) ≡ written (now (out .entry)) 0 (refusalBytes packet) ⌝ }
 {
-    format_numbers::write_4(out, 0, constants::REFUSAL_KIND, q.refusal, q.point, 0);
-    format_numbers::write_u32(out, constants::REFUSAL_CLIENT, q.client);
-    format_numbers::write_u32(out, constants::REFUSAL_CALL, q.call);
+    format_numbers::write_4(
+        out,
+        0,
+        constants::REFUSAL_KIND,
+        packet.refusal,
+        packet.point,
+        0,
+    );
+    format_numbers::write_u32(out, constants::REFUSAL_CLIENT, packet.client);
+    format_numbers::write_u32(out, constants::REFUSAL_CALL, packet.call);
 }
 
-pub fn write_receipt(out: &mut [u8], q: Receipt)
+pub fn write_receipt(out: &mut [u8], receipt: Receipt)
     requires { ⌜ receiptSize ≤ length (now out) ⌝ }
-    ensures { λ r. ⌜ now (out .exit) ≡ written (now (out .entry)) 0 (receiptBytes q) ⌝ }
+    ensures { λ r. ⌜ now (out .exit) ≡ written (now (out .entry)) 0 (receiptBytes receipt) ⌝ }
 {
-    format_numbers::write_4(out, 0, constants::RECEIPT_KIND, q.point, q.server, 0);
-    format_numbers::write_u32(out, constants::RECEIPT_MOVE, q.moveNumber);
+    format_numbers::write_4(
+        out,
+        0,
+        constants::RECEIPT_KIND,
+        receipt.point,
+        receipt.server,
+        0,
+    );
+    format_numbers::write_u32(out, constants::RECEIPT_MOVE, receipt.moveNumber);
 }
 
 // Kind 5; log record 2 is the same with its own kind.
-pub fn write_notice(out: &mut [u8], kind: u8, q: Notice)
+pub fn write_notice(out: &mut [u8], kind: u8, notice: Notice)
     requires { ⌜ noticeSize ≤ length (now out) ⌝ }
-    ensures { λ r. ⌜ now (out .exit) ≡ written (now (out .entry)) 0 (noticeBytes kind q) ⌝ }
+    ensures { λ r. ⌜ now (out .exit) ≡ written (now (out .entry)) 0 (noticeBytes kind notice) ⌝ }
 {
     format_numbers::write_4(out, 0, kind, 0, 0, 0);
-    format_numbers::write_u32(out, constants::NOTICE_CLIENT, q.client);
-    format_numbers::write_u32(out, constants::NOTICE_TIME, q.time);
+    format_numbers::write_u32(out, constants::NOTICE_CLIENT, notice.client);
+    format_numbers::write_u32(out, constants::NOTICE_TIME, notice.time);
 }
 
-fn write_grant(out: &mut [u8], q: Grant)
+fn write_grant(out: &mut [u8], grant: Grant)
     requires { ⌜ grantSize ≤ length (now out) ⌝ }
-    ensures { λ r. ⌜ now (out .exit) ≡ written (now (out .entry)) 0 (grantBytes q) ⌝ }
+    ensures { λ r. ⌜ now (out .exit) ≡ written (now (out .entry)) 0 (grantBytes grant) ⌝ }
 {
     format_numbers::write_4(out, 0, constants::GRANT_KIND, 0, 0, 0);
-    format_numbers::write_u32(out, constants::GRANT_CLIENT, q.client);
-    format_numbers::write_u32(out, constants::GRANT_LEASE, q.lease);
+    format_numbers::write_u32(out, constants::GRANT_CLIENT, grant.client);
+    format_numbers::write_u32(out, constants::GRANT_LEASE, grant.lease);
 }
 
 // ---- by value, for the client and the lease manager
@@ -92,23 +106,23 @@ fn write_grant(out: &mut [u8], q: Grant)
 pub fn request_packet(q: Request) -> [u8; constants::REQUEST_SIZE]
     ensures { λ r. ⌜ r ≡ requestBytes q ⌝ }
 {
-    let mut p = [0u8; constants::REQUEST_SIZE];
-    write_request(&mut p, q);
-    p
+    let mut packet = [0u8; constants::REQUEST_SIZE];
+    write_request(&mut packet, q);
+    packet
 }
 
-pub fn notice_packet(q: Notice) -> [u8; constants::NOTICE_SIZE]
-    ensures { λ r. ⌜ r ≡ noticeBytes noticeKind q ⌝ }
+pub fn notice_packet(notice: Notice) -> [u8; constants::NOTICE_SIZE]
+    ensures { λ r. ⌜ r ≡ noticeBytes noticeKind notice ⌝ }
 {
-    let mut p = [0u8; constants::NOTICE_SIZE];
-    write_notice(&mut p, constants::NOTICE_KIND, q);
-    p
+    let mut packet = [0u8; constants::NOTICE_SIZE];
+    write_notice(&mut packet, constants::NOTICE_KIND, notice);
+    packet
 }
 
-pub fn grant_packet(q: Grant) -> [u8; constants::GRANT_SIZE]
-    ensures { λ r. ⌜ r ≡ grantBytes q ⌝ }
+pub fn grant_packet(grant: Grant) -> [u8; constants::GRANT_SIZE]
+    ensures { λ r. ⌜ r ≡ grantBytes grant ⌝ }
 {
-    let mut p = [0u8; constants::GRANT_SIZE];
-    write_grant(&mut p, q);
-    p
+    let mut packet = [0u8; constants::GRANT_SIZE];
+    write_grant(&mut packet, grant);
+    packet
 }

@@ -1,6 +1,7 @@
-// The program `inspector`: a card on standard input, its completion records on standard output. The card is a checkpoint and right behind it its
-// tail, as examples/card.c has them. A line has client, call, and the bytes that hold the record in the checkpoint or in the tail. A card of 65,536
-// bytes or more is not read whole, and answered with a line on standard error.
+// The program `inspector`: a card on standard input, its completion records on standard output. The card is a
+// checkpoint and right behind it its tail, as examples/card.c has them. A line has client, call, and the bytes that
+// hold the record in the checkpoint or in the tail. A card of 65,536 bytes or more is not read whole, and answered with
+// a line on standard error.
 use model::Answer;
 use model::constants;
 use state_rows::state;
@@ -93,12 +94,12 @@ fn inspect(card: &[u8]) {
     let checkpoint = &card[..end];
     let tail = &card[end..];
     let mut s = state_buffer();
-    let a: Answer = server_recover::recover_checkpoint::recover_checkpoint(
+    let answer: Answer = server_recover::recover_checkpoint::recover_checkpoint(
         &mut s,
         checkpoint,
         tail,
     );
-    if a.refusal != constants::NO_REFUSAL {
+    if answer.refusal != constants::NO_REFUSAL {
         io::write_all(2, b"inspector: no checkpoint with its tail\n");
         return;
     }

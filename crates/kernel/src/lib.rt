@@ -22,10 +22,10 @@ pub extern "C" fn mantelorris_version() -> u32
     VERSION
 }
 
-fn word_of(a: Answer) -> u64
-    ensures { λ r. ⌜ r ≡ wordOf a ⌝ }
+fn word_of(answer: Answer) -> u64
+    ensures { λ r. ⌜ r ≡ wordOf answer ⌝ }
 {
-    a.refusal as u64 + constants::WORD * (a.wrote as u64)
+    answer.refusal as u64 + constants::WORD * (answer.wrote as u64)
 }
 
 // Founds a server: its first state, and the head of its log.

@@ -1,7 +1,7 @@
-// Every number of docs/REFERENCE.md and docs/STATE.md that the code names, each once; derived ones are computed. The definitions name
-// them in the same words and order: specs/Limits.antt, specs/Refusals.antt, specs/States.antt. A size, a count or a field's place in its layout
-// is a usize, a field's value has its field's type. A place is computed from the field before it, a size from the last field; the first field
-// of a layout stands at its start.
+// Every number of docs/REFERENCE.md and docs/STATE.md that the code names, each once; derived ones are computed. The
+// definitions name them in the same words and order: specs/Limits.antt, specs/Refusals.antt, specs/States.antt. A size,
+// a count or a field's place in its layout is a usize, a field's value has its field's type. A place is computed from
+// the field before it, a size from the last field; the first field of a layout stands at its start.
 
 use crate::ArgumentRange;
 
@@ -70,7 +70,8 @@ pub const ARGUMENT_RANGES: [ArgumentRange; 6] = [
     },
 ];
 
-// ---- outcomes: carried out; the value would be out of range; the value is invalid; the fallback was put; a step stopped at the range's end
+// ---- outcomes: carried out; the value would be out of range; the value is invalid; the fallback was put; a step
+// stopped at the range's end
 
 pub const CARRIED_OUT: u8 = 0;
 
@@ -246,7 +247,8 @@ pub const PLAN_ROW: usize = PLAN_ZEROS + ZEROS_SIZE;
 
 pub const PLAN_SIZE: usize = PLAN_ROW * POINT_COUNT;
 
-// ---- the log: its magic, the fields and bytes of its head, its records' kinds, fields and bytes; a take has 8 and its image
+// ---- the log: its magic, the fields and bytes of its head, its records' kinds, fields and bytes; a take has 8 and its
+// image
 
 pub const LOG_MAGIC: [u8; 4] = *b"WLG1";
 
@@ -317,7 +319,8 @@ pub const RELEASE_MOVE: usize = RELEASE_SECOND_ZERO + 1;
 
 pub const RELEASE_SIZE: usize = RELEASE_MOVE + NUMBER_SIZE;
 
-// ---- images: the magic, the fields before the parts, the part of the point, the rows of the two tables, the least and the greatest length
+// ---- images: the magic, the fields before the parts, the part of the point, the rows of the two tables, the least and
+// the greatest length
 
 pub const IMAGE_MAGIC: [u8; 4] = *b"MVI1";
 
@@ -377,7 +380,8 @@ pub const LEAST_IMAGE: usize = PARTS_START + POINT_PART;
 
 pub const GREATEST_IMAGE: usize = LEAST_IMAGE + FLOOR_ROW * CLIENT_COUNT + ENTRY_ROW * RECORD_COUNT;
 
-// ---- a server's state: the buffer, the magic, the head's fields, those of a point's and of a completion record's row, the places of the tables
+// ---- a server's state: the buffer, the magic, the head's fields, those of a point's and of a completion record's row,
+// the places of the tables
 
 pub const STATE_SIZE: usize = 32768;
 
@@ -447,7 +451,8 @@ pub const RECORDS_START: usize = FLOORS_START + FLOOR_ROW * CLIENT_COUNT;
 
 pub const STATE_END: usize = RECORDS_START + RECORD_ROW * RECORD_COUNT;
 
-// ---- the checkpoint: the buffer, the magic, the head's fields and pairs, its rows (the fronts of the state's, without ends), the places of its parts
+// ---- the checkpoint: the buffer, the magic, the head's fields and pairs, its rows (the fronts of the state's, without
+// ends), the places of its parts
 
 pub const CHECKPOINT_SIZE: usize = 32768;
 

@@ -149,8 +149,8 @@ pub struct ImageHead {
 
 // ---- a server's state (paper: cabinet), rows of the lent buffer
 
-// A point at a server. `status`: 0 absent, 1 held, 2 given, 3 released. `takenMove` is the latest taken move number (0: never
-// taken); `giveEnd` and `takeEnd` are the log ends of the latest give and take (0: none).
+// A point at a server. `status`: 0 absent, 1 held, 2 given, 3 released. `takenMove` is the latest taken move number (0:
+// never taken); `giveEnd` and `takeEnd` are the log ends of the latest give and take (0: none).
 pub struct Point {
     pub status: u8,
     pub quality: u8,
@@ -175,15 +175,17 @@ pub struct Answer {
     pub wrote: u32,
 }
 
-// The answer of the first walk over a log: the refusal's number, 0 for none, and the end of the last whole record (0 where refused).
+// The answer of the first walk over a log: the refusal's number, 0 for none, and the end of the last whole record (0
+// where refused).
 #[repr(C)]
 pub struct LogEnd {
     pub refusal: u32,
     pub end: u64,
 }
 
-// Where the bytes of a completion record lie: the refusal's number, 0 for none; what holds them, 1 a log record, 2 an entry of an image in the
-// log, 3 an entry of the checkpoint; from start to end of the tail (1, 2) or of the checkpoint (3). All 0 but the number where refused.
+// Where the bytes of a completion record lie: the refusal's number, 0 for none; what holds them, 1 a log record, 2 an
+// entry of an image in the log, 3 an entry of the checkpoint; from start to end of the tail (1, 2) or of the checkpoint
+// (3). All 0 but the number where refused.
 #[repr(C)]
 pub struct Place {
     pub refusal: u32,

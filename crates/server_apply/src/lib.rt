@@ -21,11 +21,11 @@ ghost use Rattle.server_apply.specs.Room.{Room};
 
 // ---- executed
 
-fn completion(x: Executed, end: u64) -> Completion
-    ensures { λ r. ⌜ r ≡ completion x end ⌝ }
+fn completion(executed: Executed, end: u64) -> Completion
+    ensures { λ r. ⌜ r ≡ completion executed end ⌝ }
 {
-    let command = x.command;
-    let result = x.result;
+    let command = executed.command;
+    let result = executed.result;
     Completion {
         command,
         result,
@@ -44,30 +44,30 @@ fn executed_point(executed: Executed, x: Point) -> Point
 }
 
 // The point's value and quality, a completion record, the client's floor; its records under the floor go.
-pub fn apply_executed(s: &mut [u8], x: Executed, end: u64)
-    requires { ⌜ Canonical (now s) × (x .command .point ≤ lastPoint) × Room x (load (now s)) ⌝ }
-    ensures { λ r. ⌜ now (s .exit) ≡ stored (now (s .entry)) (applyExecuted x end (load (now (s .entry)))) ⌝ }
+pub fn apply_executed(s: &mut [u8], executed: Executed, end: u64)
+    requires { ⌜ Canonical (now s) × (executed .command .point ≤ lastPoint) × Room executed (load (now s)) ⌝ }
+    ensures { λ r. ⌜ now (s .exit) ≡ stored (now (s .entry)) (applyExecuted executed end (load (now (s .entry)))) ⌝ }
 {
-    let q = state::point_at(s, x.command.point);
-    let old = state_clients::floor_in(s, x.command.client);
-    state_clients::raise(s, x.command.client, x.done);
-    let floor = format_numbers::greater(old, x.done);
-    state_records::keep_over(s, x.command.client, old, floor);
-    state_records::append(s, completion(x, end));
-    state::set_point(s, x.command.point, executed_point(x, q));
+    let x = state::point_at(s, executed.command.point);
+    let old = state_clients::floor_in(s, executed.command.client);
+    state_clients::raise(s, executed.command.client, executed.done);
+    let floor = format_numbers::greater(old, executed.done);
+    state_records::keep_over(s, executed.command.client, old, floor);
+    state_records::append(s, completion(executed, end));
+    state::set_point(s, executed.command.point, executed_point(executed, x));
     state::set_size(s, end);
 }
 
 // ---- gone
 
 // The client and its records go, heard time rises to the notice's time.
-pub fn apply_gone(s: &mut [u8], n: Notice, end: u64)
+pub fn apply_gone(s: &mut [u8], notice: Notice, end: u64)
     requires { ⌜ Canonical (now s) ⌝ }
-    ensures { λ r. ⌜ now (s .exit) ≡ stored (now (s .entry)) (applyGone n end (load (now (s .entry)))) ⌝ }
+    ensures { λ r. ⌜ now (s .exit) ≡ stored (now (s .entry)) (applyGone notice end (load (now (s .entry)))) ⌝ }
 {
-    let heard = format_numbers::greater(state::heard_of(s), n.time);
-    state_clients::remove(s, n.client);
-    state_records::keep_records(s, Rule::OfOther(n.client));
+    let heard = format_numbers::greater(state::heard_of(s), notice.time);
+    state_clients::remove(s, notice.client);
+    state_records::keep_records(s, Rule::OfOther(notice.client));
     state::set_heard(s, heard);
     state::set_size(s, end);
 }
@@ -108,12 +108,12 @@ fn released_point(x: Point) -> Point
 }
 
 // The point's records go, its move number stays.
-pub fn apply_released(s: &mut [u8], r: Release, end: u64)
-    requires { ⌜ Canonical (now s) × (r .point ≤ lastPoint) ⌝ }
-    ensures { λ x. ⌜ now (s .exit) ≡ stored (now (s .entry)) (applyReleased r end (load (now (s .entry)))) ⌝ }
+pub fn apply_released(s: &mut [u8], release: Release, end: u64)
+    requires { ⌜ Canonical (now s) × (release .point ≤ lastPoint) ⌝ }
+    ensures { λ x. ⌜ now (s .exit) ≡ stored (now (s .entry)) (applyReleased release end (load (now (s .entry)))) ⌝ }
 {
-    let x = state::point_at(s, r.point);
-    state_records::keep_records(s, Rule::OnOther(r.point));
-    state::set_point(s, r.point, released_point(x));
+    let x = state::point_at(s, release.point);
+    state_records::keep_records(s, Rule::OnOther(release.point));
+    state::set_point(s, release.point, released_point(x));
     state::set_size(s, end);
 }

@@ -1,4 +1,5 @@
-// Checkpoint: what a server knows, without places of its log, and the head of the tail that follows; the state then starts from them.
+// Checkpoint: what a server knows, without places of its log, and the head of the tail that follows; the state then
+// starts from them.
 use model::Answer;
 use model::constants;
 use state_rows::state;
@@ -18,9 +19,9 @@ fn checkpoint_refusal(s: &[u8], log: &[u8], checkpoints: usize, tails: usize) ->
     if tails < constants::HEAD_SIZE {
         return constants::TOO_SHORT;
     }
-    let n = server_memory::lent_refusal(s, log, checkpoints, constants::CHECKPOINT_SIZE);
-    if n != 0 {
-        return n;
+    let refusal = server_memory::lent_refusal(s, log, checkpoints, constants::CHECKPOINT_SIZE);
+    if refusal != 0 {
+        return refusal;
     }
     let mark = state::mark_of(s);
     let size = state::size_of(s);
@@ -34,20 +35,21 @@ fn checkpoint_done(s: &mut [u8], checkpoint: &mut [u8], tail: &mut [u8]) -> Answ
         ≡ checkpointTaken (now (s .entry)) g (now (checkpoint .entry)) (now (tail .entry))) ⌝ }
 {
     let server = state::server_of(s);
-    let n = state_checkpoint::write_checkpoint(checkpoint, s);
+    let number = state_checkpoint::write_checkpoint(checkpoint, s);
     state_restore::restore(s, checkpoint);
     format_log_writer::write_head(tail, server);
-    server_decide::made(n)
+    server_decide::made(number)
 }
 
 // 2; 19; 7; else the checkpoint, the tail's head, and the state that starts from both. The log is only measured.
 pub fn checkpoint(state: &mut [u8], log: &[u8], checkpoint: &mut [u8], tail: &mut [u8]) -> Answer
-    ensures { λ r. ⌜ afterCheckpoint r (now (state .exit)) (now (log .entry)) (now (checkpoint .exit)) (now (tail .exit))
-        ≡ checkpointOf (now (state .entry)) (now (log .entry)) (now (checkpoint .entry)) (now (tail .entry)) ⌝ }
+    ensures { λ r. ⌜ afterCheckpoint r (now (state .exit)) (now (log .entry)) (now (checkpoint .exit))
+        (now (tail .exit)) ≡ checkpointOf (now (state .entry)) (now (log .entry)) (now (checkpoint .entry))
+        (now (tail .entry)) ⌝ }
 {
-    let n = checkpoint_refusal(state, log, checkpoint.len(), tail.len());
-    if n != 0 {
-        return server_decide::refused(n);
+    let refusal = checkpoint_refusal(state, log, checkpoint.len(), tail.len());
+    if refusal != 0 {
+        return server_decide::refused(refusal);
     }
     checkpoint_done(state, checkpoint, tail)
 }

@@ -178,13 +178,13 @@ pub fn request_refusal(x: Point, over: bool, floor: u32, call: u32) -> u32
 }
 
 // An id that is held: 6 with another op, point or argument; 7 not synced.
-pub fn held_refusal(mark: u64, q: Request, x: Completion) -> u32
-    ensures { λ r. ⌜ r ≡ heldRefusal mark q x ⌝ }
+pub fn held_refusal(mark: u64, q: Request, completion: Completion) -> u32
+    ensures { λ r. ⌜ r ≡ heldRefusal mark q completion ⌝ }
 {
-    if !same_command(x, q) {
+    if !same_command(completion, q) {
         return OTHER_COMMAND;
     }
-    if !is_synced(mark, x.end) {
+    if !is_synced(mark, completion.end) {
         return NOT_SYNCED;
     }
     NO_REFUSAL
@@ -206,20 +206,20 @@ pub fn new_refusal(floor: u32, clients: usize, free: usize) -> u32
 // ---- fetch, sync, notice
 
 // 7 not synced.
-pub fn fetch_refusal(mark: u64, x: Completion) -> u32
-    ensures { λ r. ⌜ r ≡ fetchRefusal mark x ⌝ }
+pub fn fetch_refusal(mark: u64, completion: Completion) -> u32
+    ensures { λ r. ⌜ r ≡ fetchRefusal mark completion ⌝ }
 {
-    if !is_synced(mark, x.end) {
+    if !is_synced(mark, completion.end) {
         return NOT_SYNCED;
     }
     NO_REFUSAL
 }
 
 // 10 below the present mark or above the log's length.
-pub fn sync_refusal(present: u64, size: u64, m: u64) -> u32
-    ensures { λ r. ⌜ r ≡ syncRefusal present size m ⌝ }
+pub fn sync_refusal(present: u64, size: u64, mark: u64) -> u32
+    ensures { λ r. ⌜ r ≡ syncRefusal present size mark ⌝ }
 {
-    if (m < present) | (size < m) {
+    if (mark < present) | (size < mark) {
         return BAD_MARK;
     }
     NO_REFUSAL
@@ -286,13 +286,13 @@ pub fn receipt_refusal(x: Point, mark: u64) -> u32
 }
 
 // 3 the point is not given, or no longer; 12 a receipt of an earlier move; 9.
-pub fn release_refusal(x: Point, free: usize, m: u32) -> u32
-    ensures { λ r. ⌜ r ≡ releaseRefusal x free m ⌝ }
+pub fn release_refusal(x: Point, free: usize, moved: u32) -> u32
+    ensures { λ r. ⌜ r ≡ releaseRefusal x free moved ⌝ }
 {
     if !is_given(x) {
         return NOT_HELD;
     }
-    if m < x.moveNumber {
+    if moved < x.moveNumber {
         return OLD_MOVE;
     }
     if free < RELEASE_SIZE {
@@ -348,21 +348,18 @@ pub fn take_refusal(
 // ---- answers
 
 // A refusal's number, and no packet.
-pub fn refused(n: u32) -> Answer
-    ensures { λ r. ⌜ r ≡ answerOf n 0 ⌝ }
+pub fn refused(refusal: u32) -> Answer
+    ensures { λ r. ⌜ r ≡ answerOf refusal 0 ⌝ }
 {
-    Answer {
-        refusal: n,
-        wrote: 0,
-    }
+    Answer { refusal, wrote: 0 }
 }
 
-// Not refused, and n bytes written.
-pub fn made(n: u32) -> Answer
-    ensures { λ r. ⌜ r ≡ answerOf 0 n ⌝ }
+// Not refused, and so many bytes written.
+pub fn made(length: u32) -> Answer
+    ensures { λ r. ⌜ r ≡ answerOf 0 length ⌝ }
 {
     Answer {
         refusal: NO_REFUSAL,
-        wrote: n,
+        wrote: length,
     }
 }

@@ -26,33 +26,33 @@ ghost use Rattle.model.specs.Operations.{after, stored, foundOf};
 // ---- the parts of a founded state
 
 // The head: no client, no completion record, heard time 0, length and mark 8.
-fn put_head(s: &mut [u8], n: u8)
+fn put_head(s: &mut [u8], server: u8)
     requires { ⌜ stateHead ≤ length (now s) ⌝ }
-    ensures { λ r. ⌜ now (s .exit) ≡ written (now (s .entry)) 0 (stateHeadBytes (founded [] n)) ⌝ }
+    ensures { λ r. ⌜ now (s .exit) ≡ written (now (s .entry)) 0 (stateHeadBytes (founded [] server)) ⌝ }
 {
     format_numbers::write_magic(s, constants::STATE_MAGIC);
-    format_numbers::write_4(s, constants::STATE_SERVER, n, 0, 0, 0);
+    format_numbers::write_4(s, constants::STATE_SERVER, server, 0, 0, 0);
     state_rows::clear(s, constants::STATE_HEARD, constants::STATE_LENGTH);
     state_rows::put_size(s, constants::HEAD_SIZE_U64);
     state_rows::put_mark(s, constants::HEAD_SIZE_U64);
 }
 
 // A point at its home is held, elsewhere absent.
-fn first_status(home: u8, n: u8) -> u8
-    ensures { λ r. ⌜ r ≡ pick (eqb home n) held absent ⌝ }
+fn first_status(home: u8, server: u8) -> u8
+    ensures { λ r. ⌜ r ≡ pick (eqb home server) held absent ⌝ }
 {
-    if home == n {
+    if home == server {
         constants::HELD
     } else {
         constants::ABSENT
     }
 }
 
-fn founded_point(e: PlanEntry, n: u8) -> Point
-    ensures { λ r. ⌜ r ≡ foundedPoint n e ⌝ }
+fn founded_point(e: PlanEntry, server: u8) -> Point
+    ensures { λ r. ⌜ r ≡ foundedPoint server e ⌝ }
 {
     Point {
-        status: first_status(e.home, n),
+        status: first_status(e.home, server),
         quality: constants::INVALID,
         destination: 0,
         value: e.fallback,
@@ -64,25 +64,25 @@ fn founded_point(e: PlanEntry, n: u8) -> Point
 }
 
 // The point of index i, by its entry of the plan.
-fn put_founded(s: &mut [u8], plan: &[u8], n: u8, i: usize)
+fn put_founded(s: &mut [u8], plan: &[u8], server: u8, i: usize)
     requires { ⌜ (stateEnd ≤ length (now s)) × (planSize ≤ length (now plan)) × (i < pointCount) ⌝ }
     ensures { λ r. ⌜ now (s .exit)
         ≡ written (now (s .entry)) (pointsStart + pointRow * i)
-        (pointBytes (foundedPoint n (planEntryOf (drop (planRow * i) (now (plan .entry)))))) ⌝ }
+        (pointBytes (foundedPoint server (planEntryOf (drop (planRow * i) (now (plan .entry)))))) ⌝ }
 {
     let e = format_commands::plan_entry(plan, constants::PLAN_ROW * i);
-    state_rows::put_point(s, POINTS_START + POINT_ROW * i, founded_point(e, n));
+    state_rows::put_point(s, POINTS_START + POINT_ROW * i, founded_point(e, server));
 }
 
-fn put_points(s: &mut [u8], plan: &[u8], n: u8)
+fn put_points(s: &mut [u8], plan: &[u8], server: u8)
     requires { ⌜ (stateEnd ≤ length (now s)) × (planSize ≤ length (now plan)) ⌝ }
     ensures { λ r. ⌜ now (s .exit)
         ≡ written (now (s .entry)) pointsStart
-        (bytesOf pointBytes (map (foundedPoint n) (planOf (now (plan .entry))))) ⌝ }
+        (bytesOf pointBytes (map (foundedPoint server) (planOf (now (plan .entry))))) ⌝ }
 {
     let mut i = 0;
     while i < POINT_COUNT {
-        put_founded(s, plan, n, i);
+        put_founded(s, plan, server, i);
         i += 1;
     }
 }
@@ -98,13 +98,13 @@ fn put_plan(s: &mut [u8], plan: &[u8])
 }
 
 // The state that founding leaves.
-pub fn found_state(s: &mut [u8], plan: &[u8], n: u8)
+pub fn found_state(s: &mut [u8], plan: &[u8], server: u8)
     requires { ⌜ (stateEnd ≤ length (now s)) × (planOk (now plan) ≡ true) ⌝ }
-    ensures { λ r. ⌜ now (s .exit) ≡ stored (now (s .entry)) (founded (planOf (now (plan .entry))) n) ⌝ }
+    ensures { λ r. ⌜ now (s .exit) ≡ stored (now (s .entry)) (founded (planOf (now (plan .entry))) server) ⌝ }
 {
-    put_head(s, n);
+    put_head(s, server);
     put_plan(s, plan);
-    put_points(s, plan, n);
+    put_points(s, plan, server);
     state_rows::clear(s, FLOORS_START, RECORDS_START);
 }
 
@@ -120,8 +120,8 @@ pub fn found(state: &mut [u8], log: &mut [u8], plan: &[u8], server: u32) -> Answ
     if refusal != 0 {
         return server_decide::refused(refusal);
     }
-    let n = server as u8;
-    found_state(state, plan, n);
-    format_log_writer::write_head(log, n);
+    let number = server as u8;
+    found_state(state, plan, number);
+    format_log_writer::write_head(log, number);
     server_decide::made(0)
 }

@@ -16,11 +16,11 @@ ghost use Rattle.model.specs.Checkpoints.{noPlace, checkpointState, checkpointF
 ghost use Rattle.server_inspect.specs.Inspected.{foreign, Logged};
 
 // No place: a refusal's number.
-fn no_place(n: u32) -> Place
-    ensures { λ r. ⌜ r ≡ noPlace n ⌝ }
+fn no_place(refusal: u32) -> Place
+    ensures { λ r. ⌜ r ≡ noPlace refusal ⌝ }
 {
     Place {
-        refusal: n,
+        refusal,
         source: 0,
         start: 0,
         end: 0,
@@ -80,9 +80,9 @@ fn place_logged(state: &[u8], checkpoint: &[u8], log: &[u8], client: u32, call: 
     let walked = format_log_ends::log_end(log);
     let bad = checkpoint_bad(checkpoint, log);
     let lacks = ids::is_missing(state, client, call);
-    let n = server_decide::inspect_refusal(bad, walked.refusal != NO_REFUSAL, lacks);
-    if n != NO_REFUSAL {
-        return no_place(n);
+    let refusal = server_decide::inspect_refusal(bad, walked.refusal != NO_REFUSAL, lacks);
+    if refusal != NO_REFUSAL {
+        return no_place(refusal);
     }
     let first = place_in_checkpoint(checkpoint, client, call);
     records::latest_in(log, walked.end as usize, client, call, first)
@@ -95,9 +95,9 @@ fn place_logged(state: &[u8], checkpoint: &[u8], log: &[u8], client: u32, call: 
 pub fn place(state: &[u8], checkpoint: &[u8], tail: &[u8], client: u32, call: u32) -> Place
     ensures { λ r. ⌜ r ≡ inspectOf (now (state .entry)) (now (checkpoint .entry)) (now (tail .entry)) client call ⌝ }
 {
-    let n = server_memory::lent_refusal(state, tail, 0, 0);
-    if n != NO_REFUSAL {
-        return no_place(n);
+    let refusal = server_memory::lent_refusal(state, tail, 0, 0);
+    if refusal != NO_REFUSAL {
+        return no_place(refusal);
     }
     let size = state::size_of(state) as usize;
     place_logged(state, checkpoint, &tail[..size], client, call)

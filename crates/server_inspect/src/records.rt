@@ -41,9 +41,9 @@ fn is_row_id(s: &[u8], k: usize, client: u32, call: u32) -> bool
     requires { ⌜ k + 8 ≤ length (now s) ⌝ }
     ensures { λ r. ⌜ r ≡ isRowId client call (drop k (now (s .entry))) ⌝ }
 {
-    let x = format_numbers::read_u32(s, k);
+    let owner = format_numbers::read_u32(s, k);
     let c = format_numbers::read_u32(s, k + constants::ENTRY_CALL);
-    (x == client) & (c == call)
+    (owner == client) & (c == call)
 }
 
 // The index of the first of n rows of width bytes from at that has the id, n where none has.
@@ -75,11 +75,11 @@ pub fn place_of(source: u32, at: usize, width: usize, n: usize, i: usize, found:
 // ---- one record
 
 // An executed record from at has the id, or `found` holds it.
-fn place_executed(x: Executed, at: usize, client: u32, call: u32, found: Place) -> Place
+fn place_executed(execution: Executed, at: usize, client: u32, call: u32, found: Place) -> Place
     requires { ⌜ at + executedSize < word * word ⌝ }
-    ensures { λ r. ⌜ r ≡ latestOf client call at (some (executed x)) found ⌝ }
+    ensures { λ r. ⌜ r ≡ latestOf client call at (some (executed execution)) found ⌝ }
 {
-    if (x.command.client == client) & (x.command.call == call) {
+    if (execution.command.client == client) & (execution.command.call == call) {
         return place_at(constants::IN_RECORD, at, constants::EXECUTED_SIZE);
     }
     found
@@ -106,21 +106,22 @@ fn latest_of(log: &[u8], at: usize, n: usize, client: u32, call: u32, found: Pla
     let said = format_log_reader::record_at(log, at, n);
     match said {
         Record::Broken => found,
-        Record::Executed(x) => place_executed(x, at, client, call, found),
-        Record::Gone(x) => found,
-        Record::Gave(x) => found,
-        Record::Took(p) => {
-            let from = p.from;
-            let to = from + p.len;
+        Record::Executed(executed) => place_executed(executed, at, client, call, found),
+        Record::Gone(notice) => found,
+        Record::Gave(g) => found,
+        Record::Took(span) => {
+            let from = span.from;
+            let to = from + span.len;
             place_in_image(&log[from..to], from, client, call, found)
         }
-        Record::Released(x) => found,
+        Record::Released(release) => found,
     }
 }
 
 // ---- all records
 
-// The records of the log from its head's end to the end of the last whole one: the latest that holds the id, or `first` does.
+// The records of the log from its head's end to the end of the last whole one: the latest that holds the id, or `first`
+// does.
 pub fn latest_in(log: &[u8], end: usize, client: u32, call: u32, first: Place) -> Place
     requires { ⌜ endFrom (now log) headSize ≡ endAt end ⌝ }
     ensures { λ r. ⌜ r ≡ latestFrom client call (now (log .entry)) headSize first ⌝ }

@@ -7,14 +7,14 @@ ghost use Rattle.model.specs.Checkpoints.{inspectOf, shownOf};
 ghost use Rattle.server_inspect.specs.Inspected.{Inside, partOf, pointsInto};
 
 // The part of one of two slices at a place.
-fn part_at<'a>(checkpoint: &'a [u8], tail: &'a [u8], p: Place) -> &'a [u8]
-    requires { ⌜ Inside (now checkpoint) (now tail) p ⌝ }
-    ensures { λ r. ⌜ now r ≡ partOf p (now (checkpoint .entry)) (now (tail .entry)) ⌝ }
-    ensures { λ r. ⌜ pointsInto p (ptr (checkpoint .entry)) (ptr (tail .entry)) (ptr r) ⌝ }
+fn part_at<'a>(checkpoint: &'a [u8], tail: &'a [u8], place: Place) -> &'a [u8]
+    requires { ⌜ Inside (now checkpoint) (now tail) place ⌝ }
+    ensures { λ r. ⌜ now r ≡ partOf place (now (checkpoint .entry)) (now (tail .entry)) ⌝ }
+    ensures { λ r. ⌜ pointsInto place (ptr (checkpoint .entry)) (ptr (tail .entry)) (ptr r) ⌝ }
 {
-    let start = p.start;
-    let end = p.end;
-    if p.source == constants::IN_CHECKPOINT {
+    let start = place.start;
+    let end = place.end;
+    if place.source == constants::IN_CHECKPOINT {
         return &checkpoint[start..end];
     }
     &tail[start..end]
@@ -33,6 +33,6 @@ pub fn shown<'a>(
         (inspectOf (now (state .entry)) (now (checkpoint .entry)) (now (tail .entry)) client call)
         (ptr (checkpoint .entry)) (ptr (tail .entry)) (ptr r) ⌝ }
 {
-    let p = crate::place::place(state, checkpoint, tail, client, call);
-    part_at(checkpoint, tail, p)
+    let found = crate::place::place(state, checkpoint, tail, client, call);
+    part_at(checkpoint, tail, found)
 }

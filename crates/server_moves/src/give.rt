@@ -21,9 +21,9 @@ ghost use Rattle.server_moves.specs.Numbers.{giveFor, giveNumber};
 fn give_number(s: &[u8], log: &[u8], point: u32, destination: u32) -> u32
     ensures { λ r. ⌜ r ≡ giveNumber (now (s .entry)) (now (log .entry)) point destination ⌝ }
 {
-    let n = server_memory::lent_refusal(s, log, 0, 0);
-    if n != 0 {
-        return n;
+    let refusal = server_memory::lent_refusal(s, log, 0, 0);
+    if refusal != 0 {
+        return refusal;
     }
     if server_decide::places_bad(point, destination) {
         return constants::MALFORMED;
@@ -59,9 +59,9 @@ pub fn give(s: &mut [u8], log: &mut [u8], point: u32, destination: u32) -> Answe
     ensures { λ r. ⌜ after r (now (s .exit)) (now (log .exit)) []
         ≡ giveOf (now (s .entry)) (now (log .entry)) point destination ⌝ }
 {
-    let n = give_number(s, log, point, destination);
-    if n != 0 {
-        return server_decide::refused(n);
+    let refusal = give_number(s, log, point, destination);
+    if refusal != 0 {
+        return server_decide::refused(refusal);
     }
     give_done(s, log, point as u8, destination as u8)
 }

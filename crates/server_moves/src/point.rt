@@ -7,9 +7,9 @@ ghost use Rattle.server_moves.specs.Numbers.{placeNumber};
 pub fn place_number(s: &[u8], log: &[u8], n: usize, need: usize, point: u32) -> u32
     ensures { λ r. ⌜ r ≡ placeNumber (now (s .entry)) (now (log .entry)) n need point ⌝ }
 {
-    let m = server_memory::lent_refusal(s, log, n, need);
-    if m != 0 {
-        return m;
+    let refusal = server_memory::lent_refusal(s, log, n, need);
+    if refusal != 0 {
+        return refusal;
     }
     if constants::LAST_POINT_U32 < point {
         return constants::MALFORMED;

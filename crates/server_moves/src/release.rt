@@ -29,43 +29,43 @@ fn release_done(s: &mut [u8], log: &mut [u8], point: u8) -> Answer
 {
     let size = state::size_of(s);
     let x = state::point_at(s, point);
-    let q = Release {
+    let release = Release {
         point,
         moveNumber: x.moveNumber,
     };
-    format_log_writer::append_release(log, size as usize, q);
-    server_apply::apply_released(s, q, size + constants::RELEASE_SIZE_U64);
+    format_log_writer::append_release(log, size as usize, release);
+    server_apply::apply_released(s, release, size + constants::RELEASE_SIZE_U64);
     server_decide::made(0)
 }
 
 // By a receipt: 3 the point is not given, or no longer; 12 a receipt of an earlier move; 9; else the point is released.
-fn release_by(s: &mut [u8], log: &mut [u8], q: Receipt) -> Answer
-    requires { ⌜ Canonical (now s) × (load (now s) .size ≤ length (now log)) × (q .point ≤ lastPoint) ⌝ }
+fn release_by(s: &mut [u8], log: &mut [u8], receipt: Receipt) -> Answer
+    requires { ⌜ Canonical (now s) × (load (now s) .size ≤ length (now log)) × (receipt .point ≤ lastPoint) ⌝ }
     ensures { λ r. ⌜ after r (now (s .exit)) (now (log .exit)) []
-        ≡ settledBy (λ st free. decideRelease st free (q .point) (q .moveNumber)) (now (s .entry))
+        ≡ settledBy (λ st free. decideRelease st free (receipt .point) (receipt .moveNumber)) (now (s .entry))
         (now (log .entry)) [] ⌝ }
 {
-    let x = state::point_at(s, q.point);
+    let x = state::point_at(s, receipt.point);
     let free = server_memory::free_in(s, log);
-    let n = server_decide::release_refusal(x, free, q.moveNumber);
-    if n != 0 {
-        return server_decide::refused(n);
+    let refusal = server_decide::release_refusal(x, free, receipt.moveNumber);
+    if refusal != 0 {
+        return server_decide::refused(refusal);
     }
-    release_done(s, log, q.point)
+    release_done(s, log, receipt.point)
 }
 
 // By a packet: 1 not a receipt.
-fn release_on(s: &mut [u8], log: &mut [u8], p: Packet) -> Answer
-    requires { ⌜ Canonical (now s) × (load (now s) .size ≤ length (now log)) × Placed p ⌝ }
+fn release_on(s: &mut [u8], log: &mut [u8], packet: Packet) -> Answer
+    requires { ⌜ Canonical (now s) × (load (now s) .size ≤ length (now log)) × Placed packet ⌝ }
     ensures { λ r. ⌜ after r (now (s .exit)) (now (log .exit)) []
-        ≡ settledBy (λ st free. onRelease st free p) (now (s .entry)) (now (log .entry)) [] ⌝ }
+        ≡ settledBy (λ st free. onRelease st free packet) (now (s .entry)) (now (log .entry)) [] ⌝ }
 {
-    match p {
+    match packet {
         Packet::Malformed => server_decide::refused(constants::MALFORMED),
         Packet::Requested(_) => server_decide::refused(constants::MALFORMED),
         Packet::Resulted(_) => server_decide::refused(constants::MALFORMED),
         Packet::Refused(_) => server_decide::refused(constants::MALFORMED),
-        Packet::Receipted(q) => release_by(s, log, q),
+        Packet::Receipted(receipt) => release_by(s, log, receipt),
         Packet::Noticed(_) => server_decide::refused(constants::MALFORMED),
         Packet::Granted(_) => server_decide::refused(constants::MALFORMED),
     }
@@ -76,10 +76,10 @@ pub fn release(s: &mut [u8], log: &mut [u8], packet: &[u8]) -> Answer
     ensures { λ r. ⌜ after r (now (s .exit)) (now (log .exit)) []
         ≡ releaseOf (now (s .entry)) (now (log .entry)) (now (packet .entry)) ⌝ }
 {
-    let n = server_memory::lent_refusal(s, log, 0, 0);
-    if n != 0 {
-        return server_decide::refused(n);
+    let refusal = server_memory::lent_refusal(s, log, 0, 0);
+    if refusal != 0 {
+        return server_decide::refused(refusal);
     }
-    let p = format_packet_reader::parse_packet(packet);
-    release_on(s, log, p)
+    let parsed = format_packet_reader::parse_packet(packet);
+    release_on(s, log, parsed)
 }

@@ -79,9 +79,9 @@ fn take_by(s: &mut [u8], log: &mut [u8], image: &[u8], h: ImageHead) -> Answer
         ≡ settledBy (λ st free. decideTake st free (imageAt h (now (image .entry)))) (now (s .entry)) (now (log .entry))
         [] ⌝ }
 {
-    let n = take_number(s, log, image, h);
-    if n != 0 {
-        return server_decide::refused(n);
+    let refusal = take_number(s, log, image, h);
+    if refusal != 0 {
+        return server_decide::refused(refusal);
     }
     take_done(s, log, image, h)
 }
@@ -91,12 +91,12 @@ pub fn take(s: &mut [u8], log: &mut [u8], image: &[u8]) -> Answer
     ensures { λ r. ⌜ after r (now (s .exit)) (now (log .exit)) []
         ≡ takeOf (now (s .entry)) (now (log .entry)) (now (image .entry)) ⌝ }
 {
-    let n = server_memory::lent_refusal(s, log, 0, 0);
-    if n != 0 {
-        return server_decide::refused(n);
+    let refusal = server_memory::lent_refusal(s, log, 0, 0);
+    if refusal != 0 {
+        return server_decide::refused(refusal);
     }
-    let f = format_image_reader::image_read(image);
-    match f {
+    let read = format_image_reader::image_read(image);
+    match read {
         ImageRead::Malformed => server_decide::refused(constants::MALFORMED),
         ImageRead::Head(h) => take_by(s, log, image, h),
     }

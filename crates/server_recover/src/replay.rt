@@ -35,11 +35,11 @@ fn replay_record(s: &mut [u8], log: &[u8], at: usize, n: usize) -> bool
     let end = (at + n) as u64;
     match found {
         Record::Broken => false,
-        Record::Executed(x) => server_replay::executed::replay_executed(s, x, end),
-        Record::Gone(x) => server_replay::gone::replay_gone(s, x, end),
-        Record::Gave(x) => server_replay::gave::replay_gave(s, x, end),
-        Record::Took(p) => replay_image(s, log, p.from, p.from + p.len, end),
-        Record::Released(x) => server_replay::released::replay_released(s, x, end),
+        Record::Executed(executed) => server_replay::executed::replay_executed(s, executed, end),
+        Record::Gone(notice) => server_replay::gone::replay_gone(s, notice, end),
+        Record::Gave(g) => server_replay::gave::replay_gave(s, g, end),
+        Record::Took(span) => replay_image(s, log, span.from, span.from + span.len, end),
+        Record::Released(release) => server_replay::released::replay_released(s, release, end),
     }
 }
 

@@ -16,10 +16,10 @@ fn gave_follows(s: &[u8], g: Give) -> bool
     requires { ⌜ Canonical (now s) × (g .point ≤ lastPoint) × (g .destination ≤ lastServer) ⌝ }
     ensures { λ r. ⌜ r ≡ follows (load (now (s .entry))) (gave g) ⌝ }
 {
-    let q = state::point_at(s, g.point);
+    let x = state::point_at(s, g.point);
     let server = state::server_of(s);
-    let n = server_decide::give_refusal(q, server, GIVE_SIZE, g.destination as u32);
-    (n == NO_REFUSAL) & (g.moveNumber as u64 == q.moveNumber as u64 + 1)
+    let refusal = server_decide::give_refusal(x, server, GIVE_SIZE, g.destination as u32);
+    (refusal == NO_REFUSAL) & (g.moveNumber as u64 == x.moveNumber as u64 + 1)
 }
 
 pub fn replay_gave(s: &mut [u8], g: Give, end: u64) -> bool

@@ -12,22 +12,22 @@ ghost use Rattle.model.specs.Decisions.{follows};
 ghost use Rattle.state_rows.specs.Canonical.{Canonical};
 ghost use Rattle.server_replay.specs.Standing.{Ready, ReplayedBy};
 
-fn released_follows(s: &[u8], x: Release) -> bool
-    requires { ⌜ Canonical (now s) × (x .point ≤ lastPoint) ⌝ }
-    ensures { λ r. ⌜ r ≡ follows (load (now (s .entry))) (released x) ⌝ }
+fn released_follows(s: &[u8], release: Release) -> bool
+    requires { ⌜ Canonical (now s) × (release .point ≤ lastPoint) ⌝ }
+    ensures { λ r. ⌜ r ≡ follows (load (now (s .entry))) (released release) ⌝ }
 {
-    let q = state::point_at(s, x.point);
-    let n = server_decide::release_refusal(q, RELEASE_SIZE, x.moveNumber);
-    (n == NO_REFUSAL) & (x.moveNumber == q.moveNumber)
+    let x = state::point_at(s, release.point);
+    let refusal = server_decide::release_refusal(x, RELEASE_SIZE, release.moveNumber);
+    (refusal == NO_REFUSAL) & (release.moveNumber == x.moveNumber)
 }
 
-pub fn replay_released(s: &mut [u8], x: Release, end: u64) -> bool
-    requires { ⌜ Ready (now s) (released x) end ⌝ }
-    ensures { λ r. ⌜ ReplayedBy (released x) end (now (s .entry)) (now (s .exit)) r ⌝ }
+pub fn replay_released(s: &mut [u8], release: Release, end: u64) -> bool
+    requires { ⌜ Ready (now s) (released release) end ⌝ }
+    ensures { λ r. ⌜ ReplayedBy (released release) end (now (s .entry)) (now (s .exit)) r ⌝ }
 {
-    if !released_follows(s, x) {
+    if !released_follows(s, release) {
         return false;
     }
-    server_apply::apply_released(s, x, end);
+    server_apply::apply_released(s, release, end);
     true
 }

@@ -21,14 +21,14 @@ fn took_follows(s: &[u8], image: &[u8], h: ImageHead) -> bool
     requires { ⌜ Standing (now s) × (h .point ≤ lastPoint) × Imaged (now image) h ⌝ }
     ensures { λ r. ⌜ r ≡ follows (load (now (s .entry))) (took (imageAt h (now (image .entry)))) ⌝ }
 {
-    let q = state::point_at(s, h.point);
+    let x = state::point_at(s, h.point);
     let e = state::entry_at(s, h.point);
     let server = state::server_of(s);
     let ranged = format_image_reader::values_in_range(image, h, e);
     let unheld = ids::ids_free(s, image, h);
     let merged = state_clients::merged_count(s, image, h.floors as usize);
-    let n = server_decide::take_refusal(
-        q,
+    let refusal = server_decide::take_refusal(
+        x,
         server,
         h.destination,
         h.moveNumber,
@@ -38,7 +38,7 @@ fn took_follows(s: &[u8], image: &[u8], h: ImageHead) -> bool
         0,
         0,
     );
-    n == NO_REFUSAL
+    refusal == NO_REFUSAL
 }
 
 // ---- the record

@@ -16,20 +16,20 @@ ghost use Rattle.state_rows.specs.Canonical.{Canonical};
 ghost use Rattle.server_memory.specs.Memory.{settledBy};
 
 // 17 client not known; 9; else the client is gone.
-fn noticed(s: &mut [u8], log: &mut [u8], n: Notice) -> Answer
+fn noticed(s: &mut [u8], log: &mut [u8], notice: Notice) -> Answer
     requires { ⌜ Canonical (now s) × (load (now s) .size ≤ length (now log)) ⌝ }
     ensures { λ r. ⌜ after r (now (s .exit)) (now (log .exit)) []
-        ≡ settledBy (λ st free. decideNotice st free n) (now (s .entry)) (now (log .entry)) [] ⌝ }
+        ≡ settledBy (λ st free. decideNotice st free notice) (now (s .entry)) (now (log .entry)) [] ⌝ }
 {
-    let floor = state_clients::floor_in(s, n.client);
+    let floor = state_clients::floor_in(s, notice.client);
     let free = server_memory::free_in(s, log);
-    let m = server_decide::notice_refusal(floor, free);
-    if m != 0 {
-        return server_decide::refused(m);
+    let refusal = server_decide::notice_refusal(floor, free);
+    if refusal != 0 {
+        return server_decide::refused(refusal);
     }
     let size = state::size_of(s);
-    format_log_writer::append_gone(log, size as usize, n);
-    server_apply::apply_gone(s, n, size + constants::GONE_SIZE_U64);
+    format_log_writer::append_gone(log, size as usize, notice);
+    server_apply::apply_gone(s, notice, size + constants::GONE_SIZE_U64);
     server_decide::made(0)
 }
 
@@ -38,13 +38,13 @@ pub fn notice(s: &mut [u8], log: &mut [u8], packet: &[u8]) -> Answer
     ensures { λ r. ⌜ after r (now (s .exit)) (now (log .exit)) []
         ≡ noticeOf (now (s .entry)) (now (log .entry)) (now (packet .entry)) ⌝ }
 {
-    let k = server_memory::lent_refusal(s, log, 0, 0);
-    if k != 0 {
-        return server_decide::refused(k);
+    let refusal = server_memory::lent_refusal(s, log, 0, 0);
+    if refusal != 0 {
+        return server_decide::refused(refusal);
     }
-    let p = format_packet_reader::parse_packet(packet);
-    let Packet::Noticed(n) = p else {
+    let parsed = format_packet_reader::parse_packet(packet);
+    let Packet::Noticed(told) = parsed else {
         return server_decide::refused(constants::MALFORMED);
     };
-    noticed(s, log, n)
+    noticed(s, log, told)
 }

@@ -13,24 +13,24 @@ ghost use Rattle.model.specs.Decisions.{resultOfRecord};
 ghost use Rattle.model.specs.Operations.{answerOf};
 
 // The result packet of a completion record.
-fn result_of(x: Completion) -> ResultPacket
-    ensures { λ r. ⌜ r ≡ resultOfRecord x ⌝ }
+fn result_of(completion: Completion) -> ResultPacket
+    ensures { λ r. ⌜ r ≡ resultOfRecord completion ⌝ }
 {
-    let result = x.result;
+    let result = completion.result;
     ResultPacket {
-        client: x.command.client,
-        call: x.command.call,
-        point: x.command.point,
+        client: completion.command.client,
+        call: completion.command.call,
+        point: completion.command.point,
         result,
     }
 }
 
 // A held result: its packet, written to the output.
-pub fn reply(out: &mut [u8], x: Completion) -> Answer
+pub fn reply(out: &mut [u8], completion: Completion) -> Answer
     requires { ⌜ resultSize ≤ length (now out) ⌝ }
     ensures { λ r. ⌜ (r ≡ answerOf 0 resultSize)
-        × (now (out .exit) ≡ written (now (out .entry)) 0 (resultBytes (resultOfRecord x))) ⌝ }
+        × (now (out .exit) ≡ written (now (out .entry)) 0 (resultBytes (resultOfRecord completion))) ⌝ }
 {
-    format_packet_writer::write_result(out, result_of(x));
+    format_packet_writer::write_result(out, result_of(completion));
     server_decide::made(constants::RESULT_SIZE_U32)
 }

@@ -41,16 +41,16 @@ pub enum Decision {
 // ---- deciding
 
 // An id that is held: 6 with another op, point or argument; 7 not synced; else its result.
-fn held_decision(s: &[u8], q: Request, x: Completion) -> Decision
+fn held_decision(s: &[u8], q: Request, completion: Completion) -> Decision
     requires { ⌜ stateEnd ≤ length (now s) ⌝ }
-    ensures { λ r. ⌜ decided r ≡ onHeld (load (now (s .entry))) q x ⌝ }
+    ensures { λ r. ⌜ decided r ≡ onHeld (load (now (s .entry))) q completion ⌝ }
 {
     let mark = state::mark_of(s);
-    let n = server_decide::held_refusal(mark, q, x);
-    if n != 0 {
-        return Decision::Refuse(n);
+    let refusal = server_decide::held_refusal(mark, q, completion);
+    if refusal != 0 {
+        return Decision::Refuse(refusal);
     }
-    Decision::Reply(x)
+    Decision::Reply(completion)
 }
 
 // The record of the command's execution.
@@ -60,7 +60,7 @@ fn executed_for(s: &[u8], q: Request) -> Executed
 {
     let e = state::entry_at(s, q.command.point);
     let x = state::point_at(s, q.command.point);
-    let r = format_commands::checked_rule(
+    let outcome = format_commands::checked_rule(
         e,
         q.command.op,
         q.command.argument,
@@ -73,7 +73,7 @@ fn executed_for(s: &[u8], q: Request) -> Executed
     Executed {
         command,
         done: q.done,
-        result: r,
+        result: outcome,
     }
 }
 
@@ -85,12 +85,12 @@ fn new_decision(s: &[u8], floor: u32, free: usize, q: Request) -> Decision
     ensures { λ r. ⌜ decided r ≡ onNew today (load (now (s .entry))) free q ⌝ }
 {
     let clients = state::clients_of(s);
-    let n = server_decide::new_refusal(floor, clients, free);
-    if n != 0 {
-        return Decision::Refuse(n);
+    let refusal = server_decide::new_refusal(floor, clients, free);
+    if refusal != 0 {
+        return Decision::Refuse(refusal);
     }
-    let x = executed_for(s, q);
-    Decision::Execute(x)
+    let executed = executed_for(s, q);
+    Decision::Execute(executed)
 }
 
 // 3 the point is elsewhere; 4 the lease is over; 5 below the floor; then by whether the id is held.
@@ -101,12 +101,12 @@ fn request_decision(s: &[u8], free: usize, q: Request) -> Decision
     let x = state::point_at(s, q.command.point);
     let heard = state::heard_of(s);
     let floor = state_clients::floor_in(s, q.command.client);
-    let n = server_decide::request_refusal(x, q.lease <= heard, floor, q.command.call);
-    if n != 0 {
-        return Decision::Refuse(n);
+    let refusal = server_decide::request_refusal(x, q.lease <= heard, floor, q.command.call);
+    if refusal != 0 {
+        return Decision::Refuse(refusal);
     }
-    let f = state_records::find(s, q.command.client, q.command.call);
-    match f {
+    let found = state_records::find(s, q.command.client, q.command.call);
+    match found {
         Found::Nothing => new_decision(s, floor, free, q),
         Found::At(r) => held_decision(s, q, r),
     }
@@ -115,33 +115,33 @@ fn request_decision(s: &[u8], free: usize, q: Request) -> Decision
 // ---- carrying it out
 
 // Writes the refusal packet.
-fn deny(out: &mut [u8], n: u32, q: Request) -> Answer
-    requires { ⌜ (n ≤ lastDenied) × (refusalSize ≤ length (now out)) ⌝ }
-    ensures { λ r. ⌜ (r ≡ answerOf n refusalSize)
-        × (now (out .exit) ≡ written (now (out .entry)) 0 (refusalBytes (refusalFor n q))) ⌝ }
+fn deny(out: &mut [u8], refusal: u32, q: Request) -> Answer
+    requires { ⌜ (refusal ≤ lastDenied) × (refusalSize ≤ length (now out)) ⌝ }
+    ensures { λ r. ⌜ (r ≡ answerOf refusal refusalSize)
+        × (now (out .exit) ≡ written (now (out .entry)) 0 (refusalBytes (refusalFor refusal q))) ⌝ }
 {
-    let p = RefusalPacket {
-        refusal: n as u8,
+    let packet = RefusalPacket {
+        refusal: refusal as u8,
         point: q.command.point,
         client: q.command.client,
         call: q.command.call,
     };
-    format_packet_writer::write_refusal(out, p);
+    format_packet_writer::write_refusal(out, packet);
     Answer {
-        refusal: n,
+        refusal,
         wrote: constants::REFUSAL_SIZE_U32,
     }
 }
 
 // Logs and applies the record.
-fn execute(s: &mut [u8], log: &mut [u8], x: Executed) -> Answer
-    requires { ⌜ Canonical (now s) × (x .command .point ≤ lastPoint) × Room x (load (now s))
+fn execute(s: &mut [u8], log: &mut [u8], executed: Executed) -> Answer
+    requires { ⌜ Canonical (now s) × (executed .command .point ≤ lastPoint) × Room executed (load (now s))
         × (load (now s) .size + executedSize ≤ length (now log)) ⌝ }
-    ensures { λ r. ⌜ Executes x (now (s .entry)) (now (log .entry)) r (now (s .exit)) (now (log .exit)) ⌝ }
+    ensures { λ r. ⌜ Executes executed (now (s .entry)) (now (log .entry)) r (now (s .exit)) (now (log .exit)) ⌝ }
 {
     let size = state::size_of(s);
-    format_log_writer::append_executed(log, size as usize, x);
-    server_apply::apply_executed(s, x, size + constants::EXECUTED_SIZE_U64);
+    format_log_writer::append_executed(log, size as usize, executed);
+    server_apply::apply_executed(s, executed, size + constants::EXECUTED_SIZE_U64);
     server_decide::made(0)
 }
 
@@ -152,11 +152,11 @@ fn requested(s: &mut [u8], log: &mut [u8], q: Request, out: &mut [u8]) -> Answer
         ≡ settledBy (requestedBy q) (now (s .entry)) (now (log .entry)) (now (out .entry)) ⌝ }
 {
     let free = server_memory::free_in(s, log);
-    let d = request_decision(s, free, q);
-    match d {
-        Decision::Refuse(n) => deny(out, n, q),
-        Decision::Reply(x) => crate::reply::reply(out, x),
-        Decision::Execute(x) => execute(s, log, x),
+    let decision = request_decision(s, free, q);
+    match decision {
+        Decision::Refuse(refusal) => deny(out, refusal, q),
+        Decision::Reply(completion) => crate::reply::reply(out, completion),
+        Decision::Execute(executed) => execute(s, log, executed),
     }
 }
 
@@ -166,12 +166,12 @@ pub fn request(s: &mut [u8], log: &mut [u8], packet: &[u8], out: &mut [u8]) -> A
     ensures { λ r. ⌜ after r (now (s .exit)) (now (log .exit)) (now (out .exit))
         ≡ requestOf today (now (s .entry)) (now (log .entry)) (now (packet .entry)) (now (out .entry)) ⌝ }
 {
-    let k = server_memory::lent_refusal(s, log, out.len(), constants::RESULT_SIZE);
-    if k != 0 {
-        return server_decide::refused(k);
+    let refusal = server_memory::lent_refusal(s, log, out.len(), constants::RESULT_SIZE);
+    if refusal != 0 {
+        return server_decide::refused(refusal);
     }
-    let p = format_packet_reader::parse_packet(packet);
-    let Packet::Requested(q) = p else {
+    let parsed = format_packet_reader::parse_packet(packet);
+    let Packet::Requested(q) = parsed else {
         return server_decide::refused(constants::MALFORMED);
     };
     requested(s, log, q, out)

@@ -7,10 +7,10 @@ ghost use Rattle.model.specs.Operations.{wordOf};
 ghost use Rattle.simulator.specs.Run.{simulateOf};
 ghost use Rattle.simulator_c.specs.Interface.{returned, inC};
 
-fn word_of(a: Answer) -> u64
-    ensures { λ r. ⌜ r ≡ wordOf a ⌝ }
+fn word_of(answer: Answer) -> u64
+    ensures { λ r. ⌜ r ≡ wordOf answer ⌝ }
 {
-    a.refusal as u64 + constants::WORD * (a.wrote as u64)
+    answer.refusal as u64 + constants::WORD * (answer.wrote as u64)
 }
 
 // 2 where the output is too short for the answers, and it is kept; 2,700 bytes always suffice.

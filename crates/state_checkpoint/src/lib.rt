@@ -1,5 +1,5 @@
-// A server's checkpoint, written from its state: the head with the pairs, then the four parts. Plan and clients are the state's bytes; a
-// row of a point or of a completion record is the front of the state's row.
+// A server's checkpoint, written from its state: the head with the pairs, then the four parts. Plan and clients are the
+// state's bytes; a row of a point or of a completion record is the front of the state's row.
 use model::constants;
 use model::constants::CHECKPOINT_MAGIC;
 use model::constants::CHECKPOINT_POINT;
@@ -29,7 +29,8 @@ ghost use Rattle.model_laws.specs.Fits.{Sound};
 // The first width bytes of each of n rows, one behind the other.
 fn copy_fronts(out: &mut [u8], table: &[u8], width: usize, stride: usize, n: usize)
     requires { ⌜ (width ≤ stride) × (width * n ≤ length (now out)) × (stride * n ≤ length (now table)) ⌝ }
-    ensures { λ r. ⌜ now (out .exit) ≡ written (now (out .entry)) 0 (bytesOf (take width) (fronts stride n (now (table .entry)))) ⌝ }
+    ensures { λ r. ⌜ now (out .exit) ≡ written (now (out .entry)) 0
+        (bytesOf (take width) (fronts stride n (now (table .entry)))) ⌝ }
 {
     let mut i = 0;
     while i < n {
@@ -43,7 +44,8 @@ fn copy_fronts(out: &mut [u8], table: &[u8], width: usize, stride: usize, n: usi
 // Server and heard time behind the magic.
 fn write_frame(checkpoint: &mut [u8], server: u8, heard: u32)
     requires { ⌜ checkpointHead ≤ length (now checkpoint) ⌝ }
-    ensures { λ r. ⌜ now (checkpoint .exit) ≡ written (now (checkpoint .entry)) 0 (checkpointMagic ++ (quad server 0 0 0 ++ le32 heard)) ⌝ }
+    ensures { λ r. ⌜ now (checkpoint .exit) ≡ written (now (checkpoint .entry)) 0
+        (checkpointMagic ++ (quad server 0 0 0 ++ le32 heard)) ⌝ }
 {
     format_numbers::write_magic(checkpoint, CHECKPOINT_MAGIC);
     format_numbers::write_4(checkpoint, constants::CHECKPOINT_SERVER, server, 0, 0, 0);
@@ -62,7 +64,8 @@ fn write_pair(checkpoint: &mut [u8], at: usize, offset: u32, size: u32)
 // The pairs, for n clients and k completion records.
 fn write_pairs(checkpoint: &mut [u8], n: usize, k: usize)
     requires { ⌜ (checkpointHead ≤ length (now checkpoint)) × (n ≤ clientCount) × (k ≤ recordCount) ⌝ }
-    ensures { λ r. ⌜ now (checkpoint .exit) ≡ written (now (checkpoint .entry)) checkpointPairs (pairsBytes checkpointRecord n k) ⌝ }
+    ensures { λ r. ⌜ now (checkpoint .exit) ≡ written (now (checkpoint .entry)) checkpointPairs
+        (pairsBytes checkpointRecord n k) ⌝ }
 {
     write_pair(
         checkpoint,
@@ -94,14 +97,16 @@ fn write_pairs(checkpoint: &mut [u8], n: usize, k: usize)
 
 fn write_plan(checkpoint: &mut [u8], s: &[u8])
     requires { ⌜ (Sound (now s)) × (checkpointSize ≤ length (now checkpoint)) ⌝ }
-    ensures { λ r. ⌜ now (checkpoint .exit) ≡ written (now (checkpoint .entry)) planPart (planBytes (load (now (s .entry)) .plan)) ⌝ }
+    ensures { λ r. ⌜ now (checkpoint .exit) ≡ written (now (checkpoint .entry)) planPart
+        (planBytes (load (now (s .entry)) .plan)) ⌝ }
 {
     format_numbers::copy_part(checkpoint, PLAN_PART, s, constants::PLAN_START, PLAN_SIZE);
 }
 
 fn write_points(checkpoint: &mut [u8], s: &[u8])
     requires { ⌜ (Sound (now s)) × (checkpointSize ≤ length (now checkpoint)) ⌝ }
-    ensures { λ r. ⌜ now (checkpoint .exit) ≡ written (now (checkpoint .entry)) pointsPart (bytesOf pointFront (load (now (s .entry)) .points)) ⌝ }
+    ensures { λ r. ⌜ now (checkpoint .exit) ≡ written (now (checkpoint .entry)) pointsPart
+        (bytesOf pointFront (load (now (s .entry)) .points)) ⌝ }
 {
     copy_fronts(
         &mut checkpoint[POINTS_PART..],
@@ -114,7 +119,8 @@ fn write_points(checkpoint: &mut [u8], s: &[u8])
 
 fn write_clients(checkpoint: &mut [u8], s: &[u8])
     requires { ⌜ (Sound (now s)) × (checkpointSize ≤ length (now checkpoint)) ⌝ }
-    ensures { λ r. ⌜ now (checkpoint .exit) ≡ written (now (checkpoint .entry)) clientsPart (bytesOf floorBytes (load (now (s .entry)) .floors)) ⌝ }
+    ensures { λ r. ⌜ now (checkpoint .exit) ≡ written (now (checkpoint .entry)) clientsPart
+        (bytesOf floorBytes (load (now (s .entry)) .floors)) ⌝ }
 {
     let n = state_rows::clients_in(s) as usize;
     format_numbers::copy_part(
@@ -129,7 +135,8 @@ fn write_clients(checkpoint: &mut [u8], s: &[u8])
 // The completion records, behind the clients.
 fn write_records(checkpoint: &mut [u8], s: &[u8], from: usize)
     requires { ⌜ (Sound (now s)) × (from ≤ recordsPart clientCount) × (checkpointSize ≤ length (now checkpoint)) ⌝ }
-    ensures { λ r. ⌜ now (checkpoint .exit) ≡ written (now (checkpoint .entry)) from (bytesOf (recordFront checkpointRecord) (load (now (s .entry)) .records)) ⌝ }
+    ensures { λ r. ⌜ now (checkpoint .exit) ≡ written (now (checkpoint .entry)) from
+        (bytesOf (recordFront checkpointRecord) (load (now (s .entry)) .records)) ⌝ }
 {
     let k = state_rows::records_in(s) as usize;
     copy_fronts(
@@ -146,7 +153,8 @@ fn write_records(checkpoint: &mut [u8], s: &[u8], from: usize)
 // Stores the checkpoint of the state at the front of the slice, and answers its length.
 pub fn write_checkpoint(checkpoint: &mut [u8], s: &[u8]) -> u32
     requires { ⌜ (Sound (now s)) × (checkpointSize ≤ length (now checkpoint)) ⌝ }
-    ensures { λ r. ⌜ (now (checkpoint .exit) ≡ written (now (checkpoint .entry)) 0 (checkpointBytes (load (now (s .entry))))) × (r ≡ length (checkpointBytes (load (now (s .entry))))) ⌝ }
+    ensures { λ r. ⌜ (now (checkpoint .exit) ≡ written (now (checkpoint .entry)) 0
+        (checkpointBytes (load (now (s .entry))))) × (r ≡ length (checkpointBytes (load (now (s .entry))))) ⌝ }
 {
     let n = state_rows::clients_in(s) as usize;
     let k = state_rows::records_in(s) as usize;

@@ -1,5 +1,5 @@
-// A table of floors (rows of client and floor, 8 bytes) at a place of a slice: the place of a client in it, its floor, and the slot of
-// one of its calls.
+// A table of floors (rows of client and floor, 8 bytes) at a place of a slice: the place of a client in it, its floor,
+// and the slot of one of its calls.
 use model::constants;
 use model::constants::FLOOR_ROW;
 ghost use mathlib.Core.Path.{_≡_};
@@ -10,15 +10,15 @@ ghost use Rattle.model.specs.Tables.{rows};
 ghost use Rattle.model.specs.Images.{floorOfBytes, floorOf};
 ghost use Rattle.state_clients.specs.Places.{placeOf, slotOf, noFloor};
 
-// The index of the client x among n floors from at, n where it is not there.
-pub fn client_place(s: &[u8], at: usize, n: usize, x: u32) -> usize
+// The index of the client among n floors from at, n where it is not there.
+pub fn client_place(s: &[u8], at: usize, n: usize, client: u32) -> usize
     requires { ⌜ at + floorRow * n ≤ length (now s) ⌝ }
-    ensures { λ r. ⌜ r ≡ placeOf x (rows floorOfBytes floorRow n (drop at (now (s .entry)))) ⌝ }
+    ensures { λ r. ⌜ r ≡ placeOf client (rows floorOfBytes floorRow n (drop at (now (s .entry)))) ⌝ }
 {
     let mut i = 0;
     while i < n {
         let f = format_floors::floor_from(s, at + FLOOR_ROW * i);
-        if f.client == x {
+        if f.client == client {
             return i;
         }
         i += 1;
@@ -38,12 +38,12 @@ pub fn floor_at(s: &[u8], at: usize, n: usize, i: usize) -> u32
     f.floor
 }
 
-// The floor of the client x among n floors from at, 0 where it has none.
-pub fn floor_of(s: &[u8], at: usize, n: usize, x: u32) -> u32
+// The floor of the client among n floors from at, 0 where it has none.
+pub fn floor_of(s: &[u8], at: usize, n: usize, client: u32) -> u32
     requires { ⌜ at + floorRow * n ≤ length (now s) ⌝ }
-    ensures { λ r. ⌜ r ≡ floorOf x (rows floorOfBytes floorRow n (drop at (now (s .entry)))) ⌝ }
+    ensures { λ r. ⌜ r ≡ floorOf client (rows floorOfBytes floorRow n (drop at (now (s .entry)))) ⌝ }
 {
-    let i = client_place(s, at, n, x);
+    let i = client_place(s, at, n, client);
     floor_at(s, at, n, i)
 }
 

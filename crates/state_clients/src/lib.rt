@@ -1,5 +1,5 @@
-// The clients' table of a server's state, changed in place: a client's floor raised, a client removed, an image's floors merged; and how
-// many clients there would be after merging.
+// The clients' table of a server's state, changed in place: a client's floor raised, a client removed, an image's
+// floors merged; and how many clients there would be after merging.
 pub mod floors;
 pub mod rows;
 
@@ -24,16 +24,16 @@ ghost use Rattle.state_clients.specs.Ordered.{orderedPlace, isAt, isKnow
 
 // ---- where a client stands
 
-// The index of the first client that is not below x, the number of clients where there is none.
-fn place(s: &[u8], x: u32) -> usize
+// The index of the first client that is not below this one, the number of clients where there is none.
+fn place(s: &[u8], client: u32) -> usize
     requires { ⌜ Canonical (now s) ⌝ }
-    ensures { λ r. ⌜ r ≡ orderedPlace x (load (now (s .entry)) .floors) ⌝ }
+    ensures { λ r. ⌜ r ≡ orderedPlace client (load (now (s .entry)) .floors) ⌝ }
 {
     let n = state::clients_of(s);
     let mut i = 0;
     while i < n {
         let f = rows::row(s, i);
-        if x <= f.client {
+        if client <= f.client {
             return i;
         }
         i += 1;
@@ -41,34 +41,35 @@ fn place(s: &[u8], x: u32) -> usize
     i
 }
 
-// The client of index i is x.
-fn is_at(s: &[u8], i: usize, x: u32) -> bool
+// The client of index i is this one.
+fn is_at(s: &[u8], i: usize, client: u32) -> bool
     requires { ⌜ Canonical (now s) ⌝ }
-    ensures { λ r. ⌜ r ≡ isAt x i (load (now (s .entry)) .floors) ⌝ }
+    ensures { λ r. ⌜ r ≡ isAt client i (load (now (s .entry)) .floors) ⌝ }
 {
     let n = state::clients_of(s);
     if n <= i {
         return false;
     }
     let f = rows::row(s, i);
-    f.client == x
+    f.client == client
 }
 
-// The client x is known.
-pub fn is_known(s: &[u8], x: u32) -> bool
+// The client is known.
+pub fn is_known(s: &[u8], client: u32) -> bool
     requires { ⌜ Canonical (now s) ⌝ }
-    ensures { λ r. ⌜ r ≡ isKnown x (load (now (s .entry)) .floors) ⌝ }
+    ensures { λ r. ⌜ r ≡ isKnown client (load (now (s .entry)) .floors) ⌝ }
 {
-    let i = place(s, x);
-    is_at(s, i, x)
+    let i = place(s, client);
+    is_at(s, i, client)
 }
 
 // ---- a floor raised, a client entered
 
-// Raises the floor of the client x, which has index i.
-fn raise_at(s: &mut [u8], i: usize, x: u32, floor: u32)
+// Raises the floor of the client, which has index i.
+fn raise_at(s: &mut [u8], i: usize, client: u32, floor: u32)
     requires { ⌜ Canonical (now s) × (i < length (load (now s) .floors)) ⌝ }
-    ensures { λ r. ⌜ now (s .exit) ≡ stored (now (s .entry)) (withFloors (raisedAt i x floor (load (now (s .entry)) .floors)) (load (now (s .entry)))) ⌝ }
+    ensures { λ r. ⌜ now (s .exit) ≡ stored (now (s .entry))
+        (withFloors (raisedAt i client floor (load (now (s .entry)) .floors)) (load (now (s .entry)))) ⌝ }
 {
     let f = rows::row(s, i);
     let high = format_numbers::greater(f.floor, floor);
@@ -76,7 +77,7 @@ fn raise_at(s: &mut [u8], i: usize, x: u32, floor: u32)
         s,
         i,
         Floor {
-            client: x,
+            client,
             floor: high,
         },
     );
@@ -85,7 +86,8 @@ fn raise_at(s: &mut [u8], i: usize, x: u32, floor: u32)
 // Of n + 1 rows, those from i on move up by one, the last but one first.
 fn move_up(s: &mut [u8], i: usize, n: usize)
     requires { ⌜ Canonical (now s) × (length (load (now s) .floors) ≡ suc n) × (i ≤ n) ⌝ }
-    ensures { λ r. ⌜ now (s .exit) ≡ stored (now (s .entry)) (withFloors (movedUp i n (load (now (s .entry)) .floors)) (load (now (s .entry)))) ⌝ }
+    ensures { λ r. ⌜ now (s .exit) ≡ stored (now (s .entry))
+        (withFloors (movedUp i n (load (now (s .entry)) .floors)) (load (now (s .entry)))) ⌝ }
 {
     let mut j = n;
     while i < j {
@@ -97,8 +99,10 @@ fn move_up(s: &mut [u8], i: usize, n: usize)
 
 // Enters the row f at index i: the rows from i on move up by one.
 fn insert(s: &mut [u8], i: usize, f: Floor)
-    requires { ⌜ Canonical (now s) × (i ≤ length (load (now s) .floors)) × (length (load (now s) .floors) < clientCount) ⌝ }
-    ensures { λ r. ⌜ now (s .exit) ≡ stored (now (s .entry)) (withFloors (inserted i f (load (now (s .entry)) .floors)) (load (now (s .entry)))) ⌝ }
+    requires { ⌜ Canonical (now s) × (i ≤ length (load (now s) .floors))
+        × (length (load (now s) .floors) < clientCount) ⌝ }
+    ensures { λ r. ⌜ now (s .exit) ≡ stored (now (s .entry))
+        (withFloors (inserted i f (load (now (s .entry)) .floors)) (load (now (s .entry)))) ⌝ }
 {
     let n = state::clients_of(s);
     rows::add_row(s, f);
@@ -109,7 +113,8 @@ fn insert(s: &mut [u8], i: usize, f: Floor)
 // Raises the floor of a client to the greater of the two, or enters the client with it.
 pub fn raise(s: &mut [u8], client: u32, floor: u32)
     requires { ⌜ Canonical (now s) × (length (raise client floor (load (now s) .floors)) ≤ clientCount) ⌝ }
-    ensures { λ r. ⌜ now (s .exit) ≡ stored (now (s .entry)) (withFloors (raise client floor (load (now (s .entry)) .floors)) (load (now (s .entry)))) ⌝ }
+    ensures { λ r. ⌜ now (s .exit) ≡ stored (now (s .entry))
+        (withFloors (raise client floor (load (now (s .entry)) .floors)) (load (now (s .entry)))) ⌝ }
 {
     let i = place(s, client);
     if is_at(s, i, client) {
@@ -128,10 +133,10 @@ pub fn raise(s: &mut [u8], client: u32, floor: u32)
 
 // ---- a client removed
 
-// Moves the rows of all clients but x to the front, in their order; how many they are.
-fn pack(s: &mut [u8], x: u32) -> usize
+// Moves the rows of all clients but one to the front, in their order; how many they are.
+fn pack(s: &mut [u8], client: u32) -> usize
     requires { ⌜ Canonical (now s) ⌝ }
-    ensures { λ r. ⌜ PackedBut x (now (s .entry)) (now (s .exit)) r ⌝ }
+    ensures { λ r. ⌜ PackedBut client (now (s .entry)) (now (s .exit)) r ⌝ }
 {
     let n = state::clients_of(s);
     let mut i = 0;
@@ -139,7 +144,7 @@ fn pack(s: &mut [u8], x: u32) -> usize
     while i < n {
         let f = rows::row(s, i);
         i += 1;
-        if f.client != x {
+        if f.client != client {
             rows::set_row(s, j, f);
             j += 1;
         }
@@ -150,7 +155,8 @@ fn pack(s: &mut [u8], x: u32) -> usize
 // The first k rows stay, the others are cleared.
 fn cut(s: &mut [u8], k: usize)
     requires { ⌜ Canonical (now s) × (k ≤ length (load (now s) .floors)) ⌝ }
-    ensures { λ r. ⌜ now (s .exit) ≡ stored (now (s .entry)) (withFloors (take k (load (now (s .entry)) .floors)) (load (now (s .entry)))) ⌝ }
+    ensures { λ r. ⌜ now (s .exit) ≡ stored (now (s .entry))
+        (withFloors (take k (load (now (s .entry)) .floors)) (load (now (s .entry)))) ⌝ }
 {
     let mut n = state::clients_of(s);
     while k < n {
@@ -162,7 +168,8 @@ fn cut(s: &mut [u8], k: usize)
 // Removes a client.
 pub fn remove(s: &mut [u8], client: u32)
     requires { ⌜ Canonical (now s) ⌝ }
-    ensures { λ r. ⌜ now (s .exit) ≡ stored (now (s .entry)) (withFloors (keep (isNotClient client) (load (now (s .entry)) .floors)) (load (now (s .entry)))) ⌝ }
+    ensures { λ r. ⌜ now (s .exit) ≡ stored (now (s .entry))
+        (withFloors (keep (isNotClient client) (load (now (s .entry)) .floors)) (load (now (s .entry)))) ⌝ }
 {
     let k = pack(s, client);
     cut(s, k);
@@ -172,8 +179,10 @@ pub fn remove(s: &mut [u8], client: u32)
 
 // Merges the n floors of an image, by the greater.
 pub fn merge(s: &mut [u8], image: &[u8], n: usize)
-    requires { ⌜ Canonical (now s) × (leastImage + floorRow * n ≤ length (now image)) × (length (mergedBy (now image) n (now s)) ≤ clientCount) ⌝ }
-    ensures { λ r. ⌜ now (s .exit) ≡ stored (now (s .entry)) (withFloors (mergedBy (now (image .entry)) n (now (s .entry))) (load (now (s .entry)))) ⌝ }
+    requires { ⌜ Canonical (now s) × (leastImage + floorRow * n ≤ length (now image))
+        × (length (mergedBy (now image) n (now s)) ≤ clientCount) ⌝ }
+    ensures { λ r. ⌜ now (s .exit) ≡ stored (now (s .entry))
+        (withFloors (mergedBy (now (image .entry)) n (now (s .entry))) (load (now (s .entry)))) ⌝ }
 {
     let mut i = 0;
     while i < n {
@@ -185,7 +194,8 @@ pub fn merge(s: &mut [u8], image: &[u8], n: usize)
 
 // How many clients there would be after merging the n floors of an image.
 pub fn merged_count(s: &[u8], image: &[u8], n: usize) -> usize
-    requires { ⌜ Canonical (now s) × (leastImage + floorRow * n ≤ length (now image)) × (clientsAscend (rows floorOfBytes floorRow n (drop leastImage (now image))) ≡ true) ⌝ }
+    requires { ⌜ Canonical (now s) × (leastImage + floorRow * n ≤ length (now image))
+        × (clientsAscend (rows floorOfBytes floorRow n (drop leastImage (now image))) ≡ true) ⌝ }
     ensures { λ r. ⌜ r ≡ length (mergedBy (now (image .entry)) n (now (s .entry))) ⌝ }
 {
     let mut count = state::clients_of(s);
@@ -202,11 +212,11 @@ pub fn merged_count(s: &[u8], image: &[u8], n: usize) -> usize
 
 // ---- a client's floor
 
-// The floor of the client x, 0 where it is not known.
-pub fn floor_in(s: &[u8], x: u32) -> u32
+// The floor of the client, 0 where it is not known.
+pub fn floor_in(s: &[u8], client: u32) -> u32
     requires { ⌜ Canonical (now s) ⌝ }
-    ensures { λ r. ⌜ r ≡ floorOf x (load (now (s .entry)) .floors) ⌝ }
+    ensures { λ r. ⌜ r ≡ floorOf client (load (now (s .entry)) .floors) ⌝ }
 {
     let n = state::clients_of(s);
-    floors::floor_of(s, FLOORS_START, n, x)
+    floors::floor_of(s, FLOORS_START, n, client)
 }

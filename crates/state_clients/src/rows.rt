@@ -1,5 +1,5 @@
-// The rows of the clients' table in a server's state, by their index: one read, one replaced, one added behind the last, the last taken
-// away. What each leaves is again the bytes of a state.
+// The rows of the clients' table in a server's state, by their index: one read, one replaced, one added behind the
+// last, the last taken away. What each leaves is again the bytes of a state.
 use model::Floor;
 use model::constants::FLOOR_ROW;
 use model::constants::FLOORS_START;
@@ -25,7 +25,8 @@ pub fn row(s: &[u8], i: usize) -> Floor
 // Replaces the row of index i.
 pub fn set_row(s: &mut [u8], i: usize, f: Floor)
     requires { ⌜ Canonical (now s) × (i < length (load (now s) .floors)) ⌝ }
-    ensures { λ r. ⌜ now (s .exit) ≡ stored (now (s .entry)) (withFloors (set (load (now (s .entry)) .floors) i f) (load (now (s .entry)))) ⌝ }
+    ensures { λ r. ⌜ now (s .exit) ≡ stored (now (s .entry))
+        (withFloors (set (load (now (s .entry)) .floors) i f) (load (now (s .entry)))) ⌝ }
 {
     format_floors::put_floor(s, FLOORS_START + FLOOR_ROW * i, f);
 }
@@ -33,17 +34,19 @@ pub fn set_row(s: &mut [u8], i: usize, f: Floor)
 // Adds a row behind the last.
 pub fn add_row(s: &mut [u8], f: Floor)
     requires { ⌜ Canonical (now s) × (length (load (now s) .floors) < clientCount) ⌝ }
-    ensures { λ r. ⌜ now (s .exit) ≡ stored (now (s .entry)) (withFloors (load (now (s .entry)) .floors ++ (f ∷ [])) (load (now (s .entry)))) ⌝ }
+    ensures { λ r. ⌜ now (s .exit) ≡ stored (now (s .entry))
+        (withFloors (load (now (s .entry)) .floors ++ (f ∷ [])) (load (now (s .entry)))) ⌝ }
 {
-    let n = state_rows::clients_in(s);
-    format_floors::put_floor(s, FLOORS_START + FLOOR_ROW * (n as usize), f);
-    state_rows::put_clients(s, n + 1);
+    let number = state_rows::clients_in(s);
+    format_floors::put_floor(s, FLOORS_START + FLOOR_ROW * (number as usize), f);
+    state_rows::put_clients(s, number + 1);
 }
 
 // Takes the last row away: the first n stay.
 pub fn drop_row(s: &mut [u8], n: usize)
     requires { ⌜ Canonical (now s) × (length (load (now s) .floors) ≡ suc n) ⌝ }
-    ensures { λ r. ⌜ now (s .exit) ≡ stored (now (s .entry)) (withFloors (take n (load (now (s .entry)) .floors)) (load (now (s .entry)))) ⌝ }
+    ensures { λ r. ⌜ now (s .exit) ≡ stored (now (s .entry))
+        (withFloors (take n (load (now (s .entry)) .floors)) (load (now (s .entry)))) ⌝ }
 {
     format_floors::put_floor(
         s,

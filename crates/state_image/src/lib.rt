@@ -1,6 +1,6 @@
 // The image of a point, written from a server's tables.
-// Each completion record on the point has its own slot (see `floors`), and the order of slots is that of the image: so the records are
-// put at their slots and then written slot by slot.
+// Each completion record on the point has its own slot (see `floors`), and the order of slots is that of the image: so
+// the records are put at their slots and then written slot by slot.
 use model::ImageEntry;
 use model::ImageHead;
 use model::constants;
@@ -105,7 +105,8 @@ fn head_for(s: &[u8], point: u8, entries: u32) -> ImageHead
 // Stores the image of the point at the front of out, and answers its length.
 pub fn write_image(out: &mut [u8], s: &[u8], point: u8) -> usize
     requires { ⌜ (Sound (now s)) × (point ≤ lastPoint) × (greatestImage ≤ length (now out)) ⌝ }
-    ensures { λ r. ⌜ (now (out .exit) ≡ written (now (out .entry)) 0 (imageBytes (imageFor (load (now (s .entry))) point)))
+    ensures { λ r. ⌜ (now (out .exit) ≡ written (now (out .entry)) 0
+        (imageBytes (imageFor (load (now (s .entry))) point)))
         × (r ≡ imageLength (imageFor (load (now (s .entry))) point)) ⌝ }
 {
     let floors = state_rows::clients_in(s);

@@ -1,5 +1,5 @@
-// Ids against the completion records of a state: one that none of them has; those of an image, none of which is held for
-// another point.
+// Ids against the completion records of a state: one that none of them has; those of an image, none of which is held
+// for another point.
 use crate::Found;
 use model::ImageEntry;
 use model::ImageHead;
@@ -28,11 +28,11 @@ pub fn is_missing(s: &[u8], client: u32, call: u32) -> bool
 }
 
 // An id is held for no other point.
-fn is_free(s: &[u8], point: u8, e: ImageEntry) -> bool
+fn is_free(s: &[u8], point: u8, entry: ImageEntry) -> bool
     requires { ⌜ Canonical (now s) × Distinct (load (now s) .records) ⌝ }
-    ensures { λ r. ⌜ r ≡ freeFor point (load (now (s .entry)) .records) e ⌝ }
+    ensures { λ r. ⌜ r ≡ freeFor point (load (now (s .entry)) .records) entry ⌝ }
 {
-    let found = crate::find(s, e.client, e.call);
+    let found = crate::find(s, entry.client, entry.call);
     match found {
         Found::Nothing => true,
         Found::At(r) => r.command.point == point,
@@ -61,7 +61,8 @@ fn entries_free(s: &[u8], image: &[u8], point: u8, width: usize, at: usize, entr
 // Each id of an image with the head h.
 pub fn ids_free(s: &[u8], image: &[u8], h: ImageHead) -> bool
     requires { ⌜ Canonical (now s) × Distinct (load (now s) .records) × (lengthBy h ≤ length (now image)) ⌝ }
-    ensures { λ r. ⌜ r ≡ every (freeFor (h .point) (load (now (s .entry)) .records)) (imageAt h (now (image .entry)) .entries) ⌝ }
+    ensures { λ r. ⌜ r ≡ every (freeFor (h .point) (load (now (s .entry)) .records))
+        (imageAt h (now (image .entry)) .entries) ⌝ }
 {
     let width = format_image_rows::entry_width(h);
     let at = format_image_rows::entries_start(h.floors);

@@ -1,5 +1,5 @@
-// The completion records' table of a server's state, in order of arrival: a record found by its id, records added, and those kept that a
-// rule lets stay. What a change leaves is the bytes of the changed state.
+// The completion records' table of a server's state, in order of arrival: a record found by its id, records added, and
+// those kept that a rule lets stay. What a change leaves is the bytes of the changed state.
 use state_clients::floors;
 
 pub mod ids;
@@ -61,26 +61,29 @@ fn is_id(s: &[u8], k: usize, client: u32, call: u32) -> bool
 // None of the four records from k has the id.
 fn is_past(s: &[u8], k: usize, client: u32, call: u32) -> bool
     requires { ⌜ k + 4 * recordRow ≤ length (now s) ⌝ }
-    ensures { λ r. ⌜ r ≡ every (λ x. not (isId client call x)) (rows completionOf recordRow 4 (drop k (now (s .entry)))) ⌝ }
+    ensures { λ r. ⌜ r ≡ every (λ x. not (isId client call x))
+        (rows completionOf recordRow 4 (drop k (now (s .entry)))) ⌝ }
 {
-    let a = is_id(s, k, client, call);
-    let b = is_id(s, k + RECORD_ROW, client, call);
-    let c = is_id(s, k + 2 * RECORD_ROW, client, call);
-    let d = is_id(s, k + 3 * RECORD_ROW, client, call);
-    !(a | (b | (c | d)))
+    let first = is_id(s, k, client, call);
+    let second = is_id(s, k + RECORD_ROW, client, call);
+    let third = is_id(s, k + 2 * RECORD_ROW, client, call);
+    let fourth = is_id(s, k + 3 * RECORD_ROW, client, call);
+    !(first | (second | (third | fourth)))
 }
 
-// An index before which none of the n records has the id. Rows are tested eight at a time, so that the loop turns once for eight.
+// An index before which none of the n records has the id. Rows are tested eight at a time, so that the loop turns once
+// for eight.
 fn pass(s: &[u8], n: usize, client: u32, call: u32) -> usize
     requires { ⌜ Canonical (now s) × (n ≡ length (load (now s) .records)) ⌝ }
-    ensures { λ i. ⌜ Sought (isId client call) (rows completionOf recordRow n (drop recordsStart (now (s .entry)))) i ⌝ }
+    ensures { λ i. ⌜ Sought (isId client call) (rows completionOf recordRow n
+        (drop recordsStart (now (s .entry)))) i ⌝ }
 {
     let mut i = 0;
     while i + 8 <= n {
         let k = RECORDS_START + RECORD_ROW * i;
-        let a = is_past(s, k, client, call);
-        let b = is_past(s, k + 4 * RECORD_ROW, client, call);
-        if !(a & b) {
+        let first = is_past(s, k, client, call);
+        let second = is_past(s, k + 4 * RECORD_ROW, client, call);
+        if !(first & second) {
             return i;
         }
         i += 8;
@@ -121,8 +124,8 @@ fn stays(s: &[u8], rule: Rule, r: Completion) -> bool
     ensures { λ b. ⌜ b ≡ staysBy rule (load (now (s .entry)) .floors) r ⌝ }
 {
     match rule {
-        Rule::OverFloor(x, floor) => (r.command.client != x) | (floor <= r.command.call),
-        Rule::OfOther(x) => r.command.client != x,
+        Rule::OverFloor(client, floor) => (r.command.client != client) | (floor <= r.command.call),
+        Rule::OfOther(client) => r.command.client != client,
         Rule::OnOther(p) => r.command.point != p,
         Rule::Beside(p) => {
             let over = over_floors(s, r);
@@ -179,22 +182,25 @@ fn compact(s: &mut [u8], rule: Rule, n: usize) -> usize
 // The records that stay by a rule.
 pub fn keep_records(s: &mut [u8], rule: Rule)
     requires { ⌜ Canonical (now s) ⌝ }
-    ensures { λ r. ⌜ now (s .exit) ≡ stored (now (s .entry)) (withRecords (keptBy rule (load (now (s .entry)))) (load (now (s .entry)))) ⌝ }
+    ensures { λ r. ⌜ now (s .exit) ≡ stored (now (s .entry))
+        (withRecords (keptBy rule (load (now (s .entry)))) (load (now (s .entry)))) ⌝ }
 {
     let n = state::records_of(s);
     let j = compact(s, rule, n);
     state_rows::put_records(s, j as u32);
 }
 
-// Of a client the records from a floor on. `old` is a floor that they are all over: where the floor is not above it, none goes.
-pub fn keep_over(s: &mut [u8], x: u32, old: u32, floor: u32)
-    requires { ⌜ Canonical (now s) × (every (staysOver x old) (load (now s) .records) ≡ true) ⌝ }
-    ensures { λ r. ⌜ now (s .exit) ≡ stored (now (s .entry)) (withRecords (keep (staysOver x floor) (load (now (s .entry)) .records)) (load (now (s .entry)))) ⌝ }
+// Of a client the records from a floor on. `old` is a floor that they are all over: where the floor is not above it,
+// none goes.
+pub fn keep_over(s: &mut [u8], client: u32, old: u32, floor: u32)
+    requires { ⌜ Canonical (now s) × (every (staysOver client old) (load (now s) .records) ≡ true) ⌝ }
+    ensures { λ r. ⌜ now (s .exit) ≡ stored (now (s .entry))
+        (withRecords (keep (staysOver client floor) (load (now (s .entry)) .records)) (load (now (s .entry)))) ⌝ }
 {
     if floor <= old {
         return;
     }
-    keep_records(s, Rule::OverFloor(x, floor));
+    keep_records(s, Rule::OverFloor(client, floor));
 }
 
 // ---- records added
@@ -202,7 +208,8 @@ pub fn keep_over(s: &mut [u8], x: u32, old: u32, floor: u32)
 // A record behind the others.
 pub fn append(s: &mut [u8], r: Completion)
     requires { ⌜ Canonical (now s) × (length (load (now s) .records) < recordCount) ⌝ }
-    ensures { λ x. ⌜ now (s .exit) ≡ stored (now (s .entry)) (withRecords (load (now (s .entry)) .records ++ (r ∷ [])) (load (now (s .entry)))) ⌝ }
+    ensures { λ x. ⌜ now (s .exit) ≡ stored (now (s .entry))
+        (withRecords (load (now (s .entry)) .records ++ (r ∷ [])) (load (now (s .entry)))) ⌝ }
 {
     let n = state::records_of(s);
     state_rows::put_completion(s, RECORDS_START + RECORD_ROW * n, r);
@@ -210,17 +217,17 @@ pub fn append(s: &mut [u8], r: Completion)
 }
 
 // An image's completion record as one of its point, brought by a log record that ends at `end`.
-fn taken_record(point: u8, end: u64, e: ImageEntry) -> Completion
-    ensures { λ r. ⌜ r ≡ takenRecord point end e ⌝ }
+fn taken_record(point: u8, end: u64, entry: ImageEntry) -> Completion
+    ensures { λ r. ⌜ r ≡ takenRecord point end entry ⌝ }
 {
     let command = Command {
-        client: e.client,
-        call: e.call,
-        op: e.op,
+        client: entry.client,
+        call: entry.call,
+        op: entry.op,
         point: point,
-        argument: e.argument,
+        argument: entry.argument,
     };
-    let result = e.result;
+    let result = entry.result;
     Completion {
         command,
         result,
@@ -230,7 +237,8 @@ fn taken_record(point: u8, end: u64, e: ImageEntry) -> Completion
 
 // Stores the records of an image that stay over the state's floors behind n rows; the number of rows then.
 fn put_entries(s: &mut [u8], n: usize, image: &[u8], h: ImageHead, end: u64) -> usize
-    requires { ⌜ Canonical (now s) × (lengthBy h ≤ length (now image)) × (n + length (brought (load (now s)) h end (now image)) ≤ recordCount) ⌝ }
+    requires { ⌜ Canonical (now s) × (lengthBy h ≤ length (now image))
+        × (n + length (brought (load (now s)) h end (now image)) ≤ recordCount) ⌝ }
     ensures { λ j. ⌜ PutEntries h end (now (image .entry)) n (now (s .entry)) (now (s .exit)) j ⌝ }
 {
     let entries = h.entries as usize;
@@ -249,11 +257,14 @@ fn put_entries(s: &mut [u8], n: usize, image: &[u8], h: ImageHead, end: u64) -> 
     j
 }
 
-// The records of an image that stay over the state's floors, behind the others. Those under a floor are never stored: with them there
-// could be more than 512 until they go.
+// The records of an image that stay over the state's floors, behind the others. Those under a floor are never stored:
+// with them there could be more than 512 until they go.
 pub fn append_image(s: &mut [u8], image: &[u8], h: ImageHead, end: u64)
-    requires { ⌜ Canonical (now s) × (lengthBy h ≤ length (now image)) × (length (load (now s) .records) + length (brought (load (now s)) h end (now image)) ≤ recordCount) ⌝ }
-    ensures { λ r. ⌜ now (s .exit) ≡ stored (now (s .entry)) (withRecords (load (now (s .entry)) .records ++ brought (load (now (s .entry))) h end (now (image .entry))) (load (now (s .entry)))) ⌝ }
+    requires { ⌜ Canonical (now s) × (lengthBy h ≤ length (now image))
+        × (length (load (now s) .records) + length (brought (load (now s)) h end (now image)) ≤ recordCount) ⌝ }
+    ensures { λ r. ⌜ now (s .exit) ≡ stored (now (s .entry))
+        (withRecords (load (now (s .entry)) .records ++ brought (load (now (s .entry))) h end (now (image .entry)))
+        (load (now (s .entry)))) ⌝ }
 {
     let n = state::records_of(s);
     let j = put_entries(s, n, image, h, end);

@@ -1,4 +1,5 @@
-// A server's state from its checkpoint: the bytes of the state that the checkpoint keeps, with every place of the log at 8.
+// A server's state from its checkpoint: the bytes of the state that the checkpoint keeps, with every place of the log
+// at 8.
 use model::constants;
 use model::constants::CHECKPOINT_POINT;
 use model::constants::CHECKPOINT_RECORD;
@@ -53,13 +54,13 @@ fn table_pairs(s: &[u8], width: usize) -> bool
     let third = format_numbers::read_u32(s, constants::CHECKPOINT_RECORDS_PAIR) as usize;
     let records = format_numbers::read_u32(s, constants::CHECKPOINT_RECORDS_LENGTH) as usize;
     let n = clients / FLOOR_ROW;
-    let m = records / width;
+    let count = records / width;
     let start = CLIENTS_PART + FLOOR_ROW * n;
     (clients == FLOOR_ROW * n)
         & ((third == start)
-            & ((records == width * m)
+            & ((records == width * count)
                 & ((n <= constants::CLIENT_COUNT)
-                    & ((m <= constants::RECORD_COUNT) & (start + width * m <= s.len())))))
+                    & ((count <= constants::RECORD_COUNT) & (start + width * count <= s.len())))))
 }
 
 // The pairs: first those with one value for all checkpoints.
@@ -124,10 +125,13 @@ fn put_point(s: &mut [u8], to: usize, checkpoint: &[u8], from: usize)
     format_numbers::write_u64(s, to + constants::POINT_TAKE_END, take);
 }
 
-// The completion record in the width bytes from one place, in the 28 bytes from another: zeros up to its front's end, and its end.
+// The completion record in the width bytes from one place, in the 28 bytes from another: zeros up to its front's end,
+// and its end.
 fn put_record(s: &mut [u8], to: usize, checkpoint: &[u8], from: usize, width: usize)
-    requires { ⌜ (to + recordRow ≤ length (now s)) × (from + width ≤ length (now checkpoint)) × (width ≤ checkpointRecord) ⌝ }
-    ensures { λ r. ⌜ now (s .exit) ≡ written (now (s .entry)) to (recordWhole width (drop from (now (checkpoint .entry)))) ⌝ }
+    requires { ⌜ (to + recordRow ≤ length (now s)) × (from + width ≤ length (now checkpoint))
+        × (width ≤ checkpointRecord) ⌝ }
+    ensures { λ r. ⌜ now (s .exit) ≡ written (now (s .entry)) to
+        (recordWhole width (drop from (now (checkpoint .entry)))) ⌝ }
 {
     format_numbers::copy_part(s, to, checkpoint, from, width);
     state_rows::clear(s, to + width, to + constants::RECORD_END);
@@ -137,9 +141,10 @@ fn put_record(s: &mut [u8], to: usize, checkpoint: &[u8], from: usize, width: us
 // ---- the parts of a state
 
 // The head: server and heard time as they are, the counts, length and mark 8.
-fn put_head(s: &mut [u8], checkpoint: &[u8], n: usize, m: usize)
-    requires { ⌜ (stateHead ≤ length (now s)) × (checkpointHead ≤ length (now checkpoint)) × (n ≤ clientCount) × (m ≤ recordCount) ⌝ }
-    ensures { λ r. ⌜ now (s .exit) ≡ written (now (s .entry)) 0 (headRestored n m (now (checkpoint .entry))) ⌝ }
+fn put_head(s: &mut [u8], checkpoint: &[u8], n: usize, count: usize)
+    requires { ⌜ (stateHead ≤ length (now s)) × (checkpointHead ≤ length (now checkpoint)) × (n ≤ clientCount)
+        × (count ≤ recordCount) ⌝ }
+    ensures { λ r. ⌜ now (s .exit) ≡ written (now (s .entry)) 0 (headRestored n count (now (checkpoint .entry))) ⌝ }
 {
     format_numbers::write_magic(s, constants::STATE_MAGIC);
     format_numbers::copy_part(
@@ -150,7 +155,7 @@ fn put_head(s: &mut [u8], checkpoint: &[u8], n: usize, m: usize)
         constants::CHECKPOINT_SHARED,
     );
     state_rows::put_clients(s, n as u32);
-    state_rows::put_records(s, m as u32);
+    state_rows::put_records(s, count as u32);
     format_numbers::write_4(s, constants::STATE_FILL, 0, 0, 0, 0);
     state_rows::put_size(s, HEAD_SIZE_U64);
     state_rows::put_mark(s, HEAD_SIZE_U64);
@@ -158,7 +163,8 @@ fn put_head(s: &mut [u8], checkpoint: &[u8], n: usize, m: usize)
 
 fn put_points(s: &mut [u8], checkpoint: &[u8])
     requires { ⌜ (stateEnd ≤ length (now s)) × (clientsPart ≤ length (now checkpoint)) ⌝ }
-    ensures { λ r. ⌜ now (s .exit) ≡ written (now (s .entry)) pointsStart (bytesOf pointWhole (fronts checkpointPoint pointCount (drop pointsPart (now (checkpoint .entry))))) ⌝ }
+    ensures { λ r. ⌜ now (s .exit) ≡ written (now (s .entry)) pointsStart
+        (bytesOf pointWhole (fronts checkpointPoint pointCount (drop pointsPart (now (checkpoint .entry))))) ⌝ }
 {
     let mut i = 0;
     while i < POINT_COUNT {
@@ -175,22 +181,25 @@ fn put_points(s: &mut [u8], checkpoint: &[u8])
 // The clients as they are, and zeros in the rows past them.
 fn put_clients(s: &mut [u8], checkpoint: &[u8], n: usize)
     requires { ⌜ (stateEnd ≤ length (now s)) × (recordsPart n ≤ length (now checkpoint)) × (n ≤ clientCount) ⌝ }
-    ensures { λ r. ⌜ now (s .exit) ≡ written (now (s .entry)) floorsStart (padded (take floorRow) floorRow clientCount (fronts floorRow n (drop clientsPart (now (checkpoint .entry))))) ⌝ }
+    ensures { λ r. ⌜ now (s .exit) ≡ written (now (s .entry)) floorsStart
+        (padded (take floorRow) floorRow clientCount (fronts floorRow n
+        (drop clientsPart (now (checkpoint .entry))))) ⌝ }
 {
     format_numbers::copy_part(s, FLOORS_START, checkpoint, CLIENTS_PART, FLOOR_ROW * n);
     state_rows::clear(s, FLOORS_START + FLOOR_ROW * n, RECORDS_START);
 }
 
-// m completion records of width bytes, from a place of the checkpoint. What lies behind the last of them is left as it is.
-fn put_records(s: &mut [u8], checkpoint: &[u8], from: usize, width: usize, m: usize)
-    requires { ⌜ (stateEnd ≤ length (now s)) × (from + width * m ≤ length (now checkpoint)) × (m ≤ recordCount)
+// count completion records of width bytes, from a place of the checkpoint. What lies behind the last of them is left as
+// it is.
+fn put_records(s: &mut [u8], checkpoint: &[u8], from: usize, width: usize, count: usize)
+    requires { ⌜ (stateEnd ≤ length (now s)) × (from + width * count ≤ length (now checkpoint)) × (count ≤ recordCount)
         × (width ≤ checkpointRecord) ⌝ }
     ensures { λ r. ⌜ now (s .exit)
         ≡ written (now (s .entry)) recordsStart
-        (bytesOf (recordWhole width) (fronts width m (drop from (now (checkpoint .entry))))) ⌝ }
+        (bytesOf (recordWhole width) (fronts width count (drop from (now (checkpoint .entry))))) ⌝ }
 {
     let mut i = 0;
-    while i < m {
+    while i < count {
         put_record(
             s,
             RECORDS_START + RECORD_ROW * i,
@@ -210,8 +219,8 @@ pub fn restore(work: &mut [u8], checkpoint: &[u8])
     ensures { λ r. ⌜ now (work .exit) ≡ written (now (work .entry)) 0 (restoredBytes (now (checkpoint .entry))) ⌝ }
 {
     let n = clients_of(checkpoint);
-    let m = records_of(checkpoint, CHECKPOINT_RECORD);
-    put_head(work, checkpoint, n, m);
+    let count = records_of(checkpoint, CHECKPOINT_RECORD);
+    put_head(work, checkpoint, n, count);
     format_numbers::copy_part(
         work,
         constants::PLAN_START,
@@ -226,7 +235,7 @@ pub fn restore(work: &mut [u8], checkpoint: &[u8])
         checkpoint,
         CLIENTS_PART + FLOOR_ROW * n,
         CHECKPOINT_RECORD,
-        m,
+        count,
     );
 }
 

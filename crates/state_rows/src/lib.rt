@@ -1,5 +1,6 @@
-// A server's state in its buffer: the counts of its head, and the rows of its tables, each at its place. The plan's entries are read by
-// `format_commands`, the clients' rows by `format_floors`. The module `state` reads and stores the parts of a state.
+// A server's state in its buffer: the counts of its head, and the rows of its tables, each at its place. The plan's
+// entries are read by `format_commands`, the clients' rows by `format_floors`. The module `state` reads and stores the
+// parts of a state.
 pub mod state;
 
 use model::Command;
@@ -47,18 +48,18 @@ pub fn put_records(s: &mut [u8], v: u32)
     format_numbers::write_u32(s, constants::STATE_RECORDS, v);
 }
 
-pub fn put_size(s: &mut [u8], v: u64)
+pub fn put_size(s: &mut [u8], size: u64)
     requires { ⌜ stateHead ≤ length (now s) ⌝ }
-    ensures { λ r. ⌜ now (s .exit) ≡ written (now (s .entry)) lengthPlace (le64 v) ⌝ }
+    ensures { λ r. ⌜ now (s .exit) ≡ written (now (s .entry)) lengthPlace (le64 size) ⌝ }
 {
-    format_numbers::write_u64(s, constants::STATE_LENGTH, v);
+    format_numbers::write_u64(s, constants::STATE_LENGTH, size);
 }
 
-pub fn put_mark(s: &mut [u8], v: u64)
+pub fn put_mark(s: &mut [u8], mark: u64)
     requires { ⌜ stateHead ≤ length (now s) ⌝ }
-    ensures { λ r. ⌜ now (s .exit) ≡ written (now (s .entry)) markPlace (le64 v) ⌝ }
+    ensures { λ r. ⌜ now (s .exit) ≡ written (now (s .entry)) markPlace (le64 mark) ⌝ }
 {
-    format_numbers::write_u64(s, constants::STATE_MARK, v);
+    format_numbers::write_u64(s, constants::STATE_MARK, mark);
 }
 
 // ---- rows, from a place

@@ -1,5 +1,6 @@
-// A server's state in its buffer: each part read, and each part stored. A buffer that a change is made in is canonical: it is the bytes
-// of its state. What a change leaves is the bytes of the changed state, so that a chain of changes is its last state.
+// A server's state in its buffer: each part read, and each part stored. A buffer that a change is made in is canonical:
+// it is the bytes of its state. What a change leaves is the bytes of the changed state, so that a chain of changes is
+// its last state.
 use model::PlanEntry;
 use model::Point;
 use model::constants;
@@ -70,18 +71,18 @@ pub fn set_heard(s: &mut [u8], v: u32)
     format_numbers::write_u32(s, constants::STATE_HEARD, v);
 }
 
-pub fn set_size(s: &mut [u8], v: u64)
+pub fn set_size(s: &mut [u8], size: u64)
     requires { ⌜ Canonical (now s) ⌝ }
-    ensures { λ r. ⌜ now (s .exit) ≡ stored (now (s .entry)) (withSize v (load (now (s .entry)))) ⌝ }
+    ensures { λ r. ⌜ now (s .exit) ≡ stored (now (s .entry)) (withSize size (load (now (s .entry)))) ⌝ }
 {
-    crate::put_size(s, v);
+    crate::put_size(s, size);
 }
 
-pub fn set_mark(s: &mut [u8], v: u64)
+pub fn set_mark(s: &mut [u8], mark: u64)
     requires { ⌜ Canonical (now s) ⌝ }
-    ensures { λ r. ⌜ now (s .exit) ≡ stored (now (s .entry)) (withMark v (load (now (s .entry)))) ⌝ }
+    ensures { λ r. ⌜ now (s .exit) ≡ stored (now (s .entry)) (withMark mark (load (now (s .entry)))) ⌝ }
 {
-    crate::put_mark(s, v);
+    crate::put_mark(s, mark);
 }
 
 // ---- points and the plan

@@ -106,18 +106,18 @@ fn held_ok(x: Point) -> bool
     (x.moveNumber == x.takenMove) & none
 }
 
-// Number is the one after n.
-fn is_next(number: u32, n: u32) -> bool
-    ensures { λ r. ⌜ r ≡ eqb number (suc n) ⌝ }
+// Number is the one after the last.
+fn is_next(number: u32, last: u32) -> bool
+    ensures { λ r. ⌜ r ≡ eqb number (suc last) ⌝ }
 {
-    number as u64 == n as u64 + 1
+    number as u64 == last as u64 + 1
 }
 
-// The record that ends at e before the one that ends at f, or both before this log.
-fn in_order(e: u64, f: u64) -> bool
-    ensures { λ r. ⌜ r ≡ endsInOrder e f ⌝ }
+// The record that ends at end before the one that ends at next, or both before this log.
+fn in_order(end: u64, next: u64) -> bool
+    ensures { λ r. ⌜ r ≡ endsInOrder end next ⌝ }
 {
-    (e < f) | ((e == constants::HEAD_SIZE_U64) & (f == constants::HEAD_SIZE_U64))
+    (end < next) | ((end == constants::HEAD_SIZE_U64) & (next == constants::HEAD_SIZE_U64))
 }
 
 // Given or released: to another server, by the move and the log record after those of being held.
@@ -237,8 +237,8 @@ fn row_ok(s: &[u8], j: usize, k: usize, server: u8, size: u64) -> bool
     point_ok(server, size, e, x)
 }
 
-// The 64 entries of the plan from plan, and the 64 points from at against them: one pass over both tables. A row's tests leave at the
-// first group that fails; all joined without an exit they take longer.
+// The 64 entries of the plan from plan, and the 64 points from at against them: one pass over both tables. A row's
+// tests leave at the first group that fails; all joined without an exit they take longer.
 pub fn points_ok(s: &[u8], plan: usize, at: usize, server: u8, size: u64) -> bool
     requires { ⌜ (plan + planSize ≤ length (now s)) × (at + pointRow * pointCount ≤ length (now s)) ⌝ }
     ensures { λ r. ⌜ r ≡ rowsOk server size (drop plan (now (s .entry))) (drop at (now (s .entry))) ⌝ }

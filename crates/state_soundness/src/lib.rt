@@ -1,5 +1,5 @@
-// The soundness test of a server's state buffer: a call on a buffer that fails it answers 19. One pass over each table; that no id
-// stands twice is tested by the slots of the completion records.
+// The soundness test of a server's state buffer: a call on a buffer that fails it answers 19. One pass over each table;
+// that no id stands twice is tested by the slots of the completion records.
 use model::Completion;
 use model::constants;
 use model::constants::FLOOR_ROW;
@@ -36,18 +36,19 @@ fn fields_ok(size: u64, r: Completion) -> bool
     command & (outcome & (id & end))
 }
 
-// The place of the client x among n ascending clients. A hint that is right saves the search.
-fn place_by(s: &[u8], n: usize, x: u32, hint: usize) -> usize
-    requires { ⌜ (floorsStart + floorRow * n ≤ length (now s)) × (clientsAscend (rows floorOfBytes floorRow n (drop floorsStart (now s))) ≡ true) ⌝ }
-    ensures { λ r. ⌜ r ≡ placeOf x (rows floorOfBytes floorRow n (drop floorsStart (now (s .entry)))) ⌝ }
+// The place of the client among n ascending clients. A hint that is right saves the search.
+fn place_by(s: &[u8], n: usize, client: u32, hint: usize) -> usize
+    requires { ⌜ (floorsStart + floorRow * n ≤ length (now s))
+        × (clientsAscend (rows floorOfBytes floorRow n (drop floorsStart (now s))) ≡ true) ⌝ }
+    ensures { λ r. ⌜ r ≡ placeOf client (rows floorOfBytes floorRow n (drop floorsStart (now (s .entry)))) ⌝ }
 {
     if hint < n {
         let f = format_floors::floor_from(s, FLOORS_START + FLOOR_ROW * hint);
-        if f.client == x {
+        if f.client == client {
             return hint;
         }
     }
-    floors::client_place(s, FLOORS_START, n, x)
+    floors::client_place(s, FLOORS_START, n, client)
 }
 
 // The fields, the value in its point's range, the point held or given.
@@ -85,11 +86,12 @@ fn record_slot(s: &[u8], n: usize, size: u64, hint: usize, k: usize) -> usize
 
 // ---- all completion records
 
-// Hints for the search of a client: its place stands at its number modulo 256, unless a later client took the entry. A wrong hint
-// costs the search, and changes no answer.
+// Hints for the search of a client: its place stands at its number modulo 256, unless a later client took the entry. A
+// wrong hint costs the search, and changes no answer.
 fn hints_of(s: &[u8], n: usize) -> [u8; 256]
     requires { ⌜ (floorsStart + floorRow * n ≤ length (now s)) × (n ≤ clientCount) ⌝ }
-    ensures { λ r. ⌜ r ≡ hintsFrom 0 (replicate 256 0) (rows floorOfBytes floorRow n (drop floorsStart (now (s .entry)))) ⌝ }
+    ensures { λ r. ⌜ r ≡ hintsFrom 0 (replicate 256 0) (rows floorOfBytes floorRow n
+        (drop floorsStart (now (s .entry)))) ⌝ }
 {
     let mut hints = [0u8; 256];
     let mut i = 0;
@@ -110,16 +112,16 @@ fn end_in(s: &[u8], k: usize) -> u64
     format_numbers::read_u64(s, k + constants::RECORD_END)
 }
 
-// Each of m records passes its test, in order of arrival, and no id stands twice: each has a slot of its own.
-fn records_ok(s: &[u8], n: usize, m: usize, size: u64) -> bool
-    requires { ⌜ RecordsPlaced (now s) n m size ⌝ }
+// Each of count records passes its test, in order of arrival, and no id stands twice: each has a slot of its own.
+fn records_ok(s: &[u8], n: usize, count: usize, size: u64) -> bool
+    requires { ⌜ RecordsPlaced (now s) n count size ⌝ }
     ensures { λ r. ⌜ r ≡ recordsOk (load (now (s .entry))) ⌝ }
 {
     let hints = hints_of(s, n);
     let mut marks = [0u8; RECORD_COUNT];
     let mut last = constants::HEAD_SIZE_U64;
     let mut i = 0;
-    while i < m {
+    while i < count {
         let k = RECORDS_START + RECORD_ROW * i;
         let end = end_in(s, k);
         if end < last {
@@ -161,7 +163,7 @@ fn tables_ok(s: &[u8]) -> bool
     let server = state::server_of(s);
     let size = state::size_of(s);
     let n = state_rows::clients_in(s) as usize;
-    let m = state_rows::records_in(s) as usize;
+    let count = state_rows::records_in(s) as usize;
     if !state_sound_rows::points_ok(s, PLAN_START, POINTS_START, server, size) {
         return false;
     }
@@ -171,7 +173,7 @@ fn tables_ok(s: &[u8]) -> bool
     if !state_sound_rows::clients_ascend(s, FLOORS_START, n) {
         return false;
     }
-    records_ok(s, n, m, size)
+    records_ok(s, n, count, size)
 }
 
 // The buffer is sound.

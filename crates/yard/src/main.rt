@@ -40,8 +40,8 @@ fn answer(text: &[u8]) {
         return;
     }
     let mut out = page();
-    let a: Answer = simulator::simulate(text, &mut out);
-    let n = io::count(a.wrote as isize, &out);
+    let reply: Answer = simulator::simulate(text, &mut out);
+    let n = io::count(reply.wrote as isize, &out);
     io::write_all(1, &out[..n]);
 }
 

@@ -16,17 +16,17 @@ sum-requires c κs = sym (c .before .sum-in-range .ensures) ∙ c .if1 .taken
 returns : tie.Need-returns
 returns c =
     let start = c .before .before .before .before .args in
-    let q = start .r .quality in
+    let q = start .reading .quality in
     let e : c .result-of .result ≡ result carriedOut (c .before .sum .result) q = c .result-of .ensures in
-    let v : c .before .sum .result ≡ start .r .value + start .a - half = c .before .sum .ensures in
+    let v : c .before .sum .result ≡ start .reading .value + start .argument - half = c .before .sum .ensures in
     yes-call _ (c .before .before .before .sum-in-range .ensures) (c .before .before .if1 .taken) (e ∙ ap (λ (n : ℕ). result carriedOut n q) v)
 
 returns-2 : tie.Need-returns-2
 returns-2 c =
     let start = c .before .before .before .before .args in
-    let q = start .r .quality in
+    let q = start .reading .quality in
     let e : c .result-of2 .result ≡ result stopped (c .before .end-past .result) q = c .result-of2 .ensures in
-    let v : c .before .end-past .result ≡ endPast (start .e) (start .r .value) (start .a) = c .before .end-past .ensures in
+    let v : c .before .end-past .result ≡ endPast (start .e) (start .reading .value) (start .argument) = c .before .end-past .ensures in
     no-call _ (c .before .before .before .sum-in-range .ensures) (c .before .before .if1 .left) (e ∙ ap (λ (n : ℕ). result stopped n q) v)
 
 pub step-valid-spec : {M : Type 1} → statement M

@@ -10,7 +10,7 @@ returns : tie.Need-returns
 unfolding recordBytes
 returns c =
     let start = c .before .before .before .before .before .args in
-    rw (c .before .before .write-executed .ensures) (tail-back (start .at) (start .log .now) (executedBytes (start .x)))
+    rw (c .before .before .write-executed .ensures) (tail-back (start .at) (start .log .now) (executedBytes (start .execution)))
 
 pub append-executed-spec : {M : Type 1} → statement M
 append-executed-spec =

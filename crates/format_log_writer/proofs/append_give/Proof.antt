@@ -10,7 +10,7 @@ returns : tie.Need-returns
 unfolding recordBytes
 returns c =
     let start = c .before .before .before .before .before .args in
-    rw (c .before .before .write-give .ensures) (tail-back (start .at) (start .log .now) (giveBytes (start .x)))
+    rw (c .before .before .write-give .ensures) (tail-back (start .at) (start .log .now) (giveBytes (start .g)))
 
 pub append-give-spec : {M : Type 1} → statement M
 append-give-spec =

@@ -12,7 +12,7 @@ returns : tie.Need-returns
 unfolding recordBytes
 returns c =
     let start = c .before .before .before .before .before .args in
-    rw (c .before .before .write-notice .ensures) (tail-back (start .at) (start .log .now) (noticeBytes goneKind (start .x)))
+    rw (c .before .before .write-notice .ensures) (tail-back (start .at) (start .log .now) (noticeBytes goneKind (start .notice)))
 
 pub append-gone-spec : {M : Type 1} → statement M
 append-gone-spec =

@@ -10,7 +10,7 @@ returns : tie.Need-returns
 unfolding recordBytes
 returns c =
     let start = c .before .before .before .before .before .args in
-    rw (c .before .before .write-release .ensures) (tail-back (start .at) (start .log .now) (releaseBytes (start .x)))
+    rw (c .before .before .write-release .ensures) (tail-back (start .at) (start .log .now) (releaseBytes (start .release)))
 
 pub append-release-spec : {M : Type 1} → statement M
 append-release-spec =

@@ -9,7 +9,7 @@ use Rattle.format_log_writer.proofs.append_take_head.Tie as tie
 returns : tie.Need-returns
 returns c =
     let start = c .before .before .before .before .before .args in
-    rw (c .before .before .write-take-front .ensures) (tail-back (start .at) (start .log .now) (takeFront (start .n)))
+    rw (c .before .before .write-take-front .ensures) (tail-back (start .at) (start .log .now) (takeFront (start .size)))
 
 pub append-take-head-spec : {M : Type 1} → statement M
 append-take-head-spec =

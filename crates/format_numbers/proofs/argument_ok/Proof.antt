@@ -32,7 +32,7 @@ unfolding argumentOk argumentRange
 returns-6 c = rw (c .before .before .match .keys6) (c .in-arguments6 .ensures)
 
 returns-7 : tie.Need-returns-7
-returns-7 c = no-arguments (c .before .args .op) (c .before .args .a) (omega arith)
+returns-7 c = no-arguments (c .before .args .op) (c .before .args .argument) (omega arith)
 
 pub argument-ok-spec : {M : Type 1} → statement M
 argument-ok-spec =

@@ -13,7 +13,7 @@ unfolding le64
 returns c =
     let start = c .before .before .before .before .before .before .before .before .before .args in
     rw (c .before .before .write-u322 .ensures, c .before .before .before .before .before .before .write-u32 .ensures)
-    (sym (written-append (start .s .now) (start .at) (le32 (start .v % word)) (le32 (start .v / word))))
+    (sym (written-append (start .s .now) (start .at) (le32 (start .value % word)) (le32 (start .value / word))))
 
 pub write-u64-spec : {M : Type 1} → statement M
 write-u64-spec =

@@ -10,7 +10,7 @@ use Rattle.format_packet_reader.proofs.parse_packet.Tie as tie
 
 returns : tie.Need-returns
 unfolding parsePacket
-returns c = rw (← past (c .before .before .args .p .now) 0 (omega arith))
+returns c = rw (← past (c .before .before .args .packet .now) 0 (omega arith))
 
 returns-2 : tie.Need-returns-2
 unfolding parsePacket

@@ -12,7 +12,7 @@ use Rattle.server_apply.proofs.apply_executed.Statement.{statement}
 use Rattle.server_apply.proofs.apply_executed.Tie as tie
 
 -- the fields of the record in their widths
-widths : (start : tie.Start) → Widths (start .args .x) (start .args .end)
+widths : (start : tie.Start) → Widths (start .args .executed) (start .args .end)
 widths start =
     record {
       op = omega (arith, start .good .1 .0 .1, start .fits);
@@ -41,31 +41,33 @@ keep-of c = c .before .before .before .before .before
 abbrev append-of : tie.After-set-point → tie.After-append
 append-of c = c .before .before .before .before .before
 
-first : (c : tie.After-raise) → let start = start-of c in Stage (start .args .s .now) (c .raise .last .0) (raised (start .pre .0) (start .args .x) (start .args .end) (widths start) (start .pre .2))
-first c = let start = start-of c in executed-floor (start .pre .0) (start .args .x) (start .args .end) (widths start) (start .pre .2) (c .raise .ensures)
+first : (c : tie.After-raise) → let start = start-of c in Stage (start .args .s .now) (c .raise .last .0)
+    (raised (start .pre .0) (start .args .executed) (start .args .end) (widths start) (start .pre .2))
+first c = let start = start-of c in executed-floor (start .pre .0) (start .args .executed) (start .args .end) (widths start) (start .pre .2) (c .raise .ensures)
 
 second : (c : tie.After-keep-over) → let start = start-of (raise-of c) in Stage (start .args .s .now) (c .keep-over .last .0)
-    (kept (start .pre .0) (start .args .x) (start .args .end) (widths start) (start .pre .2))
+    (kept (start .pre .0) (start .args .executed) (start .args .end) (widths start) (start .pre .2))
 second c =
     let raise = raise-of c in
     let start = start-of raise in
-    executed-kept (start .pre .0) (start .args .x) (start .args .end) (widths start) (start .pre .2) (first raise) (raise .before .before .floor-in .ensures) (c .before .before .greater .ensures)
+    executed-kept (start .pre .0) (start .args .executed) (start .args .end) (widths start) (start .pre .2) (first raise) (raise .before .before .floor-in .ensures)
+    (c .before .before .greater .ensures)
     (c .keep-over .ensures)
 
 third : (c : tie.After-append) → let start = start-of (raise-of (keep-of c)) in Stage (start .args .s .now) (c .append .last .0)
-    (added (start .pre .0) (start .args .x) (start .args .end) (widths start) (start .pre .2))
+    (added (start .pre .0) (start .args .executed) (start .args .end) (widths start) (start .pre .2))
 third c =
     let keep = keep-of c in
     let start = start-of (raise-of keep) in
-    executed-added (start .pre .0) (start .args .x) (start .args .end) (widths start) (start .pre .2) (second keep) (c .before .completion .ensures) (c .append .ensures)
+    executed-added (start .pre .0) (start .args .executed) (start .args .end) (widths start) (start .pre .2) (second keep) (c .before .completion .ensures) (c .append .ensures)
 
 fourth : (c : tie.After-set-point) → let start = start-of (raise-of (keep-of (append-of c))) in Stage (start .args .s .now) (c .set-point .last .0)
-    (pointed (start .pre .0) (start .args .x) (start .args .end) (widths start) (start .pre .2))
+    (pointed (start .pre .0) (start .args .executed) (start .args .end) (widths start) (start .pre .2))
 fourth c =
     let append = append-of c in
     let raise = raise-of (keep-of append) in
     let start = start-of raise in
-    executed-stage (start .pre .0) (start .args .x) (start .args .end) (widths start) (start .pre .2) (third append) (raise .before .before .before .before .point-at .ensures)
+    executed-stage (start .pre .0) (start .args .executed) (start .args .end) (widths start) (start .pre .2) (third append) (raise .before .before .before .before .point-at .ensures)
     (c .before .executed-point .ensures) (c .set-point .ensures)
 
 -- ---- the needs
@@ -74,13 +76,13 @@ keep-over-requires : tie.Need-keep-over-requires
 keep-over-requires c κs =
     let raise = c .before .before .before .before in
     let start = start-of raise in
-    (stage-canonical (first raise), executed-over (start .pre .0) (start .args .x) (start .args .end) (widths start) (start .pre .2) (first raise) (raise .before .before .floor-in .ensures))
+    (stage-canonical (first raise), executed-over (start .pre .0) (start .args .executed) (start .args .end) (widths start) (start .pre .2) (first raise) (raise .before .before .floor-in .ensures))
 
 append-requires : tie.Need-append-requires
 append-requires c κs =
     let keep = c .before .before .before .before in
     let start = start-of (raise-of keep) in
-    (stage-canonical (second keep), executed-room (start .pre .0) (start .args .x) (start .args .end) (widths start) (start .pre .2) (second keep))
+    (stage-canonical (second keep), executed-room (start .pre .0) (start .args .executed) (start .args .end) (widths start) (start .pre .2) (second keep))
 
 set-point-requires : tie.Need-set-point-requires
 set-point-requires c κs = let append = c .before .before .before .before in (stage-canonical (third append), start-of (raise-of (keep-of append)) .pre .1)
@@ -93,7 +95,7 @@ returns c =
     let size = c .before .before in
     let put = size .before .before .before .before in
     let start = start-of (raise-of (keep-of (append-of put))) in
-    executed-done (start .pre .0) (start .args .x) (start .args .end) (widths start) (start .pre .2) (fourth put) (size .set-size .ensures)
+    executed-done (start .pre .0) (start .args .executed) (start .args .end) (widths start) (start .pre .2) (fourth put) (size .set-size .ensures)
 
 same-length : tie.Need-same-length
 same-length c = ap length (returns c) ∙ length-stored _ _

@@ -26,14 +26,14 @@ keep-records-requires : tie.Need-keep-records-requires
 keep-records-requires c κs =
     let removed = c .before .before .before in
     let start = start-of removed in
-    stage-canonical (gone-client (start .pre) (start .args .n) (removed .remove .ensures))
+    stage-canonical (gone-client (start .pre) (start .args .notice) (removed .remove .ensures))
 
 set-heard-requires : tie.Need-set-heard-requires
 set-heard-requires c κs =
     let keep = c .before .before .before in
     let removed = removed-at keep in
     let start = start-of removed in
-    stage-canonical (gone-records (start .pre) (start .args .n) (gone-client (start .pre) (start .args .n) (removed .remove .ensures)) (keep .keep-records .ensures))
+    stage-canonical (gone-records (start .pre) (start .args .notice) (gone-client (start .pre) (start .args .notice) (removed .remove .ensures)) (keep .keep-records .ensures))
 
 set-size-requires : tie.Need-set-size-requires
 set-size-requires c κs =
@@ -43,8 +43,8 @@ set-size-requires c κs =
     let later = removed .before .before in
     let old = later .before in
     let start = start-of removed in
-    stage-canonical (gone-heard (start .pre) (start .args .n) (gone-records (start .pre) (start .args .n) (gone-client (start .pre) (start .args .n) (removed .remove .ensures))
-    (keep .keep-records .ensures)) (omega arith) (later .greater .ensures ∙ ap (λ (h : ℕ). max h (start .args .n .time)) (old .heard-of .ensures)) (put .set-heard .ensures))
+    stage-canonical (gone-heard (start .pre) (start .args .notice) (gone-records (start .pre) (start .args .notice) (gone-client (start .pre) (start .args .notice) (removed .remove .ensures))
+    (keep .keep-records .ensures)) (omega arith) (later .greater .ensures ∙ ap (λ (h : ℕ). max h (start .args .notice .time)) (old .heard-of .ensures)) (put .set-heard .ensures))
 
 returns : tie.Need-returns
 returns c =
@@ -55,9 +55,9 @@ returns c =
     let later = removed .before .before in
     let old = later .before in
     let start = start-of removed in
-    gone-done (start .pre) (start .args .n) (start .args .end) (omega arith) (gone-heard (start .pre) (start .args .n)
-    (gone-records (start .pre) (start .args .n) (gone-client (start .pre) (start .args .n) (removed .remove .ensures)) (keep .keep-records .ensures)) (omega arith)
-    (later .greater .ensures ∙ ap (λ (h : ℕ). max h (start .args .n .time)) (old .heard-of .ensures)) (put .set-heard .ensures)) (size .set-size .ensures)
+    gone-done (start .pre) (start .args .notice) (start .args .end) (omega arith) (gone-heard (start .pre) (start .args .notice)
+    (gone-records (start .pre) (start .args .notice) (gone-client (start .pre) (start .args .notice) (removed .remove .ensures)) (keep .keep-records .ensures)) (omega arith)
+    (later .greater .ensures ∙ ap (λ (h : ℕ). max h (start .args .notice .time)) (old .heard-of .ensures)) (put .set-heard .ensures)) (size .set-size .ensures)
 
 pub apply-gone-spec : {M : Type 1} → statement M
 apply-gone-spec =

@@ -20,8 +20,8 @@ returns c =
     let a = start .args in
     found-refused (a .state .now) (a .log .now) (a .plan .now) (a .server) (at-plan-ok .plan-ok .ensures) (at-found-refusal .found-refusal .ensures) (c .before .if1 .taken) (c .refused .ensures)
 
-cast-n : tie.Need-cast-n
-cast-n c =
+cast-number : tie.Need-cast-number
+cast-number c =
     let at-found-refusal = c .before in
     let at-plan-ok = at-found-refusal .before in
     let start = at-plan-ok .before .before .before .before in
@@ -77,7 +77,7 @@ found-spec =
     found-refusal-requires
     (λ c κs. search needs)
     returns
-    cast-n
+    cast-number
     found-state-requires
     write-head-requires
     (λ c κs. search needs)

@@ -34,7 +34,7 @@ returns c =
     let at-shared-slice-known = known-at at-put-head in
     let start = start-of at-shared-slice-known in
     rw (at-clear .clear .ensures, at-put-points .put-points .ensures, at-put-plan .put-plan .ensures, at-put-head .put-head .ensures)
-    (founded-runs (start .args .s .now) (start .args .plan .now) (start .args .n) (λ i. at-shared-slice-known .shared-slice-known .given i .fits) (start .pre .1))
+    (founded-runs (start .args .s .now) (start .args .plan .now) (start .args .server) (λ i. at-shared-slice-known .shared-slice-known .given i .fits) (start .pre .1))
 
 pub found-state-spec : {M : Type 1} → statement M
 found-state-spec =

@@ -14,7 +14,7 @@ returns c =
     let magic = server .before .before .before .before in
     let start = magic .before .before .before .args in
     rw (mark .put-mark .ensures, size .put-size .ensures, zeros .clear .ensures, server .write-4 .ensures, magic .write-magic .ensures)
-    (head-runs (start .s .now) (start .n))
+    (head-runs (start .s .now) (start .server))
 
 pub put-head-spec : {M : Type 1} → statement M
 put-head-spec =

@@ -9,7 +9,7 @@ floor-of-requires : tie.Need-floor-of-requires
 floor-of-requires c κs = let start = c .before .before in floors-within (start .args .s .now) (start .pre) (c .clients-of .ensures)
 
 returns : tie.Need-returns
-returns c = let start = c .before .before .before in floor-own (start .args .s .now) (start .args .x) (c .before .clients-of .ensures) (c .floor-of .ensures)
+returns c = let start = c .before .before .before in floor-own (start .args .s .now) (start .args .client) (c .before .clients-of .ensures) (c .floor-of .ensures)
 
 pub floor-in-spec : {M : Type 1} → statement M
 floor-in-spec = tie.close (tie.spec (λ c κs. search needs) floor-of-requires returns)

@@ -18,19 +18,19 @@ abbrev μ-loop : tie.MeasureT-loop
 loop-holds : tie.Need-loop-holds Inv-loop μ-loop
 loop-holds c =
     let start = c .before .before .before in
-    packing-start (start .pre) (isNotClient (start .args .x))
+    packing-start (start .pre) (isNotClient (start .args .client))
 
 row-requires : tie.Need-row-requires Inv-loop μ-loop
 row-requires c κs =
     let at = c .before .before in
     let start = at .before .before .before .before in
-    packing-read (start .pre) (isNotClient (start .args .x)) (at .loop .inv) (omega arith)
+    packing-read (start .pre) (isNotClient (start .args .client)) (at .loop .inv) (omega arith)
 
 set-row-requires : tie.Need-set-row-requires Inv-loop μ-loop
 set-row-requires c κs =
     let at = c .before .before .before .before .before .before in
     let start = at .before .before .before .before in
-    packing-write (start .pre) (isNotClient (start .args .x)) (at .loop .inv) (omega arith)
+    packing-write (start .pre) (isNotClient (start .args .client)) (at .loop .inv) (omega arith)
 
 loop-again : tie.Need-loop-again Inv-loop μ-loop
 loop-again c =
@@ -39,14 +39,14 @@ loop-again c =
     let read = branch .before .before in
     let at = read .before .before .before in
     let start = at .before .before .before .before in
-    packing-keep (start .pre) (isNotClient (start .args .x)) (at .loop .inv) (omega arith) (read .row .ensures) (stays-other _ _ (branch .if1 .taken)) (put .set-row .ensures)
+    packing-keep (start .pre) (isNotClient (start .args .client)) (at .loop .inv) (omega arith) (read .row .ensures) (stays-other _ _ (branch .if1 .taken)) (put .set-row .ensures)
 
 loop-again-2 : tie.Need-loop-again-2 Inv-loop μ-loop
 loop-again-2 c =
     let read = c .before .before in
     let at = read .before .before .before in
     let start = at .before .before .before .before in
-    packing-drop (start .pre) (isNotClient (start .args .x)) (at .loop .inv) (omega arith) (read .row .ensures) (goes-same _ _ (c .if1 .left))
+    packing-drop (start .pre) (isNotClient (start .args .client)) (at .loop .inv) (omega arith) (read .row .ensures) (goes-same _ _ (c .if1 .left))
 
 same-length : tie.Need-same-length Inv-loop μ-loop
 same-length c =
@@ -58,7 +58,7 @@ returns : tie.Need-returns Inv-loop μ-loop
 returns c =
     let at = c .before in
     let start = at .before .before .before .before in
-    packing-end (start .pre) (isNotClient (start .args .x)) (at .loop .inv) (omega arith)
+    packing-end (start .pre) (isNotClient (start .args .client)) (at .loop .inv) (omega arith)
 
 pub pack-spec : {M : Type 1} → statement M
 pack-spec =

@@ -7,7 +7,7 @@ use Rattle.state_records.proofs.keep_over.Statement.{statement}
 use Rattle.state_records.proofs.keep_over.Tie as tie
 
 returns : tie.Need-returns
-returns c = let start = c .before .before in over-kept (start .pre .0) (start .args .x) (start .pre .1) (c .if1 .taken)
+returns c = let start = c .before .before in over-kept (start .pre .0) (start .args .client) (start .pre .1) (c .if1 .taken)
 
 returns-2 : tie.Need-returns-2
 unfolding staysBy

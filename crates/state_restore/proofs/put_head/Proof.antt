@@ -16,7 +16,7 @@ returns c =
     let c1 = c2 .before .before .before .before in
     let start = c1 .before .before .before .before in
     rw (c7 .put-mark .ensures, c6 .put-size .ensures, c5 .write-4 .ensures, c4 .put-records .ensures, c3 .put-clients .ensures, c2 .copy-part .ensures, c1 .write-magic .ensures)
-    (head-runs (start .args .s .now) (start .args .checkpoint .now) (start .args .n) (start .args .m) (start .pre .1))
+    (head-runs (start .args .s .now) (start .args .checkpoint .now) (start .args .n) (start .args .count) (start .pre .1))
 
 pub put-head-spec : {M : Type 1} → statement M
 put-head-spec =

@@ -29,19 +29,19 @@ mul-put-record-2 : tie.Need-mul-put-record-2 Inv-loop μ-loop
 mul-put-record-2 c =
     let at = c .before .before in
     let start = start-of at in
-    omega (arith, start .pre .1, row-in (start .args .width) (at .loop .i) (start .args .m) (c .before .loop-test .taken))
+    omega (arith, start .pre .1, row-in (start .args .width) (at .loop .i) (start .args .count) (c .before .loop-test .taken))
 
 add-put-record-2 : tie.Need-add-put-record-2 Inv-loop μ-loop
 add-put-record-2 c =
     let at = c .before .before in
     let start = start-of at in
-    omega (arith, start .pre .1, row-in (start .args .width) (at .loop .i) (start .args .m) (c .before .loop-test .taken))
+    omega (arith, start .pre .1, row-in (start .args .width) (at .loop .i) (start .args .count) (c .before .loop-test .taken))
 
 put-record-requires : tie.Need-put-record-requires Inv-loop μ-loop
 put-record-requires c κs =
     let at = c .before .before in
     let start = start-of at in
-    (search needs, omega (arith, start .pre .1, row-in (start .args .width) (at .loop .i) (start .args .m) (c .before .loop-test .taken)), start .pre .3)
+    (search needs, omega (arith, start .pre .1, row-in (start .args .width) (at .loop .i) (start .args .count) (c .before .loop-test .taken)), start .pre .3)
 
 loop-again : tie.Need-loop-again Inv-loop μ-loop
 loop-again c =
@@ -50,7 +50,7 @@ loop-again c =
     let at = test .before in
     let start = start-of at in
     filled-next (recordWhole (start .args .width)) (start .args .width) recordRow (record-whole-width (start .args .width) (start .pre .3)) (at .loop .inv) (test .loop-test .taken)
-    (omega (arith, start .pre .1, row-in (start .args .width) (at .loop .i) (start .args .m) (test .loop-test .taken))) (row .put-record .ensures)
+    (omega (arith, start .pre .1, row-in (start .args .width) (at .loop .i) (start .args .count) (test .loop-test .taken))) (row .put-record .ensures)
 
 same-length : tie.Need-same-length Inv-loop μ-loop
 same-length c = c .before .loop .inv .same

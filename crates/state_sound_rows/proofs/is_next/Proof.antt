@@ -8,7 +8,7 @@ use Rattle.state_sound_rows.proofs.is_next.Statement.{statement}
 use Rattle.state_sound_rows.proofs.is_next.Tie as tie
 
 returns : tie.Need-returns
-returns c = ap (eqb (c .args .number)) (add-one (c .args .n))
+returns c = ap (eqb (c .args .number)) (add-one (c .args .last))
 
 pub is-next-spec : {M : Type 1} → statement M
 is-next-spec = tie.close (tie.spec (λ c. search needs) returns)

@@ -11,7 +11,7 @@ returns c =
     let at-floor-from = c .before .before in
     let at-if1 = at-floor-from .before in
     let start = at-if1 .before .before in
-    place-at (start .args .s .now) floorsStart (start .args .n) (start .args .hint) (start .args .x) (start .pre .1) (at-if1 .if1 .taken) (at-floor-from .floor-from .ensures) (c .if2 .taken)
+    place-at (start .args .s .now) floorsStart (start .args .n) (start .args .hint) (start .args .client) (start .pre .1) (at-if1 .if1 .taken) (at-floor-from .floor-from .ensures) (c .if2 .taken)
 
 pub place-by-spec : {M : Type 1} → statement M
 place-by-spec =

@@ -18,7 +18,7 @@ returns c =
     let a = start .args in
     by-refused (a .s .now) (a .log .now) [] _ (at-release-refusal .release-refusal .ensures ∙ rw (at-free-in .free-in .ensures, at-point-at .point-at .ensures)) (at-if1 .if1 .taken)
     (c .refused .ensures)
-    ∙ sym (release-chain (a .s .now) (a .log .now) (a .q .point) (a .q .moveNumber))
+    ∙ sym (release-chain (a .s .now) (a .log .now) (a .receipt .point) (a .receipt .moveNumber))
 
 release-done-requires : tie.Need-release-done-requires
 release-done-requires c κs =
@@ -30,7 +30,7 @@ release-done-requires c κs =
     let a = start .args in (
       start .pre .0,
       start .pre .2,
-      release-room (a .s .now) (a .log .now) (a .q .point) (a .q .moveNumber)
+      release-room (a .s .now) (a .log .now) (a .receipt .point) (a .receipt .moveNumber)
           (at-release-refusal .release-refusal .ensures ∙ rw (at-free-in .free-in .ensures, at-point-at .point-at .ensures)) (at-if1 .if1 .left) (start .pre .1),
     )
 
@@ -45,7 +45,7 @@ returns-2 c =
     let a = start .args in
     by-passed (a .s .now) (a .log .now) [] _ (at-release-refusal .release-refusal .ensures ∙ rw (at-free-in .free-in .ensures, at-point-at .point-at .ensures)) (at-if1 .if1 .left)
     (at-release-done .release-done .ensures)
-    ∙ sym (release-chain (a .s .now) (a .log .now) (a .q .point) (a .q .moveNumber))
+    ∙ sym (release-chain (a .s .now) (a .log .now) (a .receipt .point) (a .receipt .moveNumber))
 
 pub release-by-spec : {M : Type 1} → statement M
 release-by-spec =

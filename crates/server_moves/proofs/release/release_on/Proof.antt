@@ -13,7 +13,7 @@ release-by-requires : tie.Need-release-by-requires
 release-by-requires c κs =
     let at-p = c .before .before .before in
     let start = at-p .before .before .before .before in
-    (start .pre .0, start .pre .1, subst Placed (at-p .p .given .1) (start .pre .2))
+    (start .pre .0, start .pre .1, subst Placed (at-p .packet .given .1) (start .pre .2))
 
 returns : tie.Need-returns
 unfolding onRelease orMalformed asReceipt settle
@@ -36,7 +36,7 @@ unfolding onRelease orMalformed asReceipt
 returns-5 c =
     let at-release-by = c .before .before .before .before in
     let at-p = at-release-by .before .before .before .before in
-    rw (at-p .p .given .1) (at-release-by .release-by .ensures)
+    rw (at-p .packet .given .1) (at-release-by .release-by .ensures)
 
 returns-6 : tie.Need-returns-6
 unfolding onRelease orMalformed asReceipt settle

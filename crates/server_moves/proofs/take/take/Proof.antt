@@ -30,7 +30,7 @@ take-by-requires c κs =
     let a = start .args in
     taking (a .s .now) (a .log .now) (a .image .now) _ (passed-fit _ _ _ _ (at-lent-refusal .lent-refusal .ensures) (at-if1 .if1 .left)) (λ i. at-slice-known .slice-known .given i .fits)
     (λ i. at-shared-slice-known .shared-slice-known .given i .fits)
-    (sym (at-f .f .given .1) ∙ at-image-read .image-read .ensures)
+    (sym (at-f .read .given .1) ∙ at-image-read .image-read .ensures)
 
 returns-2 : tie.Need-returns-2
 returns-2 c =
@@ -55,7 +55,7 @@ returns-3 c =
     let a = start .args in
     by-passed (a .s .now) (a .log .now) [] _ (at-lent-refusal .lent-refusal .ensures) (at-if1 .if1 .left)
     (at-take-by .take-by .ensures ∙ sym (ap (settle (a .s .now) (a .log .now) []) (take-read (a .s .now) (a .log .now)
-    (a .image .now) _ (sym (at-f .f .given .1) ∙ at-image-read .image-read .ensures))))
+    (a .image .now) _ (sym (at-f .read .given .1) ∙ at-image-read .image-read .ensures))))
     ∙ sym (take-is (a .s .now) (a .log .now) (a .image .now))
 
 pub take-spec : {M : Type 1} → statement M

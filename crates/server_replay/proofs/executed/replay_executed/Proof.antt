@@ -11,7 +11,7 @@ use Rattle.server_replay.proofs.executed.replay_executed.Statement.{sta
 use Rattle.server_replay.proofs.executed.replay_executed.Tie as tie
 
 executed-follows-requires : tie.Need-executed-follows-requires
-executed-follows-requires c κs = (c .before .before .pre .standing .canonical, executed-place (c .before .before .args .x) (c .before .before .pre .good))
+executed-follows-requires c κs = (c .before .before .pre .standing .canonical, executed-place (c .before .before .args .execution) (c .before .before .pre .good))
 
 returns : tie.Need-returns
 returns c = replayed-no _ _ _ (c .before .executed-follows .ensures) (c .if1 .taken)
@@ -20,8 +20,9 @@ apply-executed-requires : tie.Need-apply-executed-requires
 apply-executed-requires c κs =
     let start = c .before .before .before .before .before in (
       start .pre .standing .canonical,
-      executed-place (start .args .x) (start .pre .good),
-      executed-room (start .args .s .now) (start .args .x) (start .args .end) (start .pre) (omega arith) (sym (not-false _ (c .before .if1 .left)) ∙ c .before .before .executed-follows .ensures),
+      executed-place (start .args .execution) (start .pre .good),
+      executed-room (start .args .s .now) (start .args .execution) (start .args .end) (start .pre) (omega arith)
+          (sym (not-false _ (c .before .if1 .left)) ∙ c .before .before .executed-follows .ensures),
     )
 
 returns-2 : tie.Need-returns-2

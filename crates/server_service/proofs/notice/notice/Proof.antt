@@ -48,7 +48,7 @@ returns-3 c =
     let start = at-lent-refusal .before .before .before .before .before .before in
     let start = start .args in
     by-passed (start .s .now) (start .log .now) [] _ (at-lent-refusal .lent-refusal .ensures) (at-if1 .if1 .left)
-    (notice-one (start .s .now) (start .log .now) (start .packet .now) _ (at-parse-packet .parse-packet .ensures) (at-p .p .given .1) (at-noticed .noticed .ensures))
+    (notice-one (start .s .now) (start .log .now) (start .packet .now) _ (at-parse-packet .parse-packet .ensures) (at-p .parsed .given .1) (at-noticed .noticed .ensures))
     ∙ sym (notice-is (start .s .now) (start .log .now) (start .packet .now))
 
 pub notice-spec : {M : Type 1} → statement M

@@ -20,7 +20,7 @@ returns c =
     let at-floor-in = at-free-in .before .before .before in
     let start = at-floor-in .before .before .before .before in
     let start = start .args in
-    notice-by (start .s .now) (start .log .now) (start .n)
+    notice-by (start .s .now) (start .log .now) (start .notice)
     (by-refused (start .s .now) (start .log .now) [] _ (at-notice-refusal .notice-refusal .ensures ∙ rw (at-floor-in .floor-in .ensures, at-free-in .free-in .ensures)) (at-if1 .if1 .taken)
     (c .refused .ensures))
 
@@ -46,9 +46,9 @@ returns-2 c =
     let at-floor-in = at-free-in .before .before .before in
     let start = at-floor-in .before .before .before .before in
     let start = start .args in
-    notice-by (start .s .now) (start .log .now) (start .n)
+    notice-by (start .s .now) (start .log .now) (start .notice)
     (by-passed (start .s .now) (start .log .now) [] _ (at-notice-refusal .notice-refusal .ensures ∙ rw (at-floor-in .floor-in .ensures, at-free-in .free-in .ensures)) (at-if1 .if1 .left)
-    (appended (start .s .now) (start .log .now) [] (gone (start .n)) (at-apply-gone .apply-gone .ensures ∙ rw (at-size-of .size-of .ensures))
+    (appended (start .s .now) (start .log .now) [] (gone (start .notice)) (at-apply-gone .apply-gone .ensures ∙ rw (at-size-of .size-of .ensures))
     (at-append-gone .append-gone .ensures ∙ rw (at-size-of .size-of .ensures)) (c .made .ensures)))
 
 pub noticed-spec : {M : Type 1} → statement M

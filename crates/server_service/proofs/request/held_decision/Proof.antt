@@ -16,8 +16,8 @@ returns c =
     let at-mark-of = at-held-refusal .before in
     let begin = at-mark-of .before .before in
     let start = begin .args in
-    refused-by _ (at-held-refusal .held-refusal .ensures ∙ ap (λ (mark : ℕ). heldRefusal mark (start .q) (start .x)) (at-mark-of .mark-of .ensures))
-    (held-decided (load (start .s .now)) (start .q) (start .x)) (c .if1 .taken) refl
+    refused-by _ (at-held-refusal .held-refusal .ensures ∙ ap (λ (mark : ℕ). heldRefusal mark (start .q) (start .completion)) (at-mark-of .mark-of .ensures))
+    (held-decided (load (start .s .now)) (start .q) (start .completion)) (c .if1 .taken) refl
 
 returns-2 : tie.Need-returns-2
 unfolding decided
@@ -26,8 +26,8 @@ returns-2 c =
     let at-mark-of = at-held-refusal .before in
     let begin = at-mark-of .before .before in
     let start = begin .args in
-    passed-by _ (at-held-refusal .held-refusal .ensures ∙ ap (λ (mark : ℕ). heldRefusal mark (start .q) (start .x)) (at-mark-of .mark-of .ensures))
-    (held-decided (load (start .s .now)) (start .q) (start .x)) (c .if1 .left) refl
+    passed-by _ (at-held-refusal .held-refusal .ensures ∙ ap (λ (mark : ℕ). heldRefusal mark (start .q) (start .completion)) (at-mark-of .mark-of .ensures))
+    (held-decided (load (start .s .now)) (start .q) (start .completion)) (c .if1 .left) refl
 
 pub held-decision-spec : {M : Type 1} → statement M
 held-decision-spec = tie.close (tie.spec (λ c κs. search needs) (λ c κs. search needs) returns returns-2)

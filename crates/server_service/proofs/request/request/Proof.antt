@@ -39,7 +39,7 @@ requested-requires c κs =
     let start = at-shared-slice-known .before .before .before in (
       passed-fit _ _ _ _ (at-lent-refusal .lent-refusal .ensures) (at-if1 .if1 .left),
       parsed-request (start .args .packet .now) _ (λ i. at-shared-slice-known .shared-slice-known .given i .fits)
-          (sym (at-parse-packet .parse-packet .ensures) ∙ at-p .p .given .1),
+          (sym (at-parse-packet .parse-packet .ensures) ∙ at-p .parsed .given .1),
     )
 
 returns-3 : tie.Need-returns-3
@@ -52,7 +52,7 @@ returns-3 c =
     let begin = at-lent-refusal .before .before .before .before .before .before .before in
     let start = begin .args in
     by-passed (start .s .now) (start .log .now) (start .out .now) _ (at-lent-refusal .lent-refusal .ensures) (at-if1 .if1 .left)
-    (request-one (start .s .now) (start .log .now) (start .out .now) (start .packet .now) _ (at-parse-packet .parse-packet .ensures) (at-p .p .given .1) (at-requested .requested .ensures))
+    (request-one (start .s .now) (start .log .now) (start .out .now) (start .packet .now) _ (at-parse-packet .parse-packet .ensures) (at-p .parsed .given .1) (at-requested .requested .ensures))
     ∙ sym (request-is (start .s .now) (start .log .now) (start .out .now) (start .packet .now))
 
 pub request-spec : {M : Type 1} → statement M

@@ -49,7 +49,7 @@ returns-3 c =
     let start = begin .args in
     passed-by _ (at-request-refusal .request-refusal .ensures ∙ rw (at-point-at .point-at .ensures, at-heard-of .heard-of .ensures, at-floor-in .floor-in .ensures))
     (request-decided (load (start .s .now)) (start .q) (start .free)) (at-if1 .if1 .left)
-    (on-at (load (start .s .now)) (start .free) (start .q) (at-find .find .ensures) _ (at-f .f .given .1) (c .held-decision .ensures))
+    (on-at (load (start .s .now)) (start .free) (start .q) (at-find .find .ensures) _ (at-f .found .given .1) (c .held-decision .ensures))
 
 pub request-decision-spec : {M : Type 1} → statement M
 request-decision-spec =

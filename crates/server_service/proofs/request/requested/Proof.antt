@@ -29,7 +29,7 @@ deny-requires c κs =
     let at-d = c .before .before in
     let at-request-decision = at-d .before .before in
     let start = at-request-decision .before .before .before .before .before .before .before .before in
-    (request-number (load (start .args .s .now)) _ (start .args .q) (at-request-decision .request-decision .ensures) _ (at-d .d .given .1), omega (arith, start .pre .0 .room))
+    (request-number (load (start .args .s .now)) _ (start .args .q) (at-request-decision .request-decision .ensures) _ (at-d .decision .given .1), omega (arith, start .pre .0 .room))
 
 execute-requires : tie.Need-execute-requires
 unfolding freeIn
@@ -41,7 +41,7 @@ execute-requires c κs =
     let start = at-slice-known .before in
     let st = load (start .args .s .now) in
     let decision = at-request-decision .request-decision .ensures in
-    let told = at-d3 .d3 .given .1 in
+    let told = at-d3 .decision3 .given .1 in
     let sound = loaded-sound (start .args .s .now) (λ i. at-slice-known .slice-known .given i .fits) (start .pre .0 .sound) in
     let space : st .size + executedSize ≤ length (start .args .log .now) = omega (arith, start .pre .0 .logged, at-free-in .free-in .ensures, request-space st _ (start .args .q) decision _ told) in (
       canonical-sound _ (λ i. at-slice-known .slice-known .given i .fits) (start .pre .0 .sound),
@@ -58,7 +58,7 @@ returns c =
     let at-free-in = at-request-decision .before .before in
     let begin = at-free-in .before .before .before .before .before .before in
     let start = begin .args in
-    denied (start .s .now) (start .log .now) (start .out .now) (start .q) (at-request-decision .request-decision .ensures ∙ rw (at-free-in .free-in .ensures)) _ (at-d .d .given .1)
+    denied (start .s .now) (start .log .now) (start .out .now) (start .q) (at-request-decision .request-decision .ensures ∙ rw (at-free-in .free-in .ensures)) _ (at-d .decision .given .1)
     (at-deny .deny .ensures .0) (at-deny .deny .ensures .1)
 
 returns-2 : tie.Need-returns-2
@@ -69,7 +69,7 @@ returns-2 c =
     let at-free-in = at-request-decision .before .before in
     let begin = at-free-in .before .before .before .before .before .before in
     let start = begin .args in
-    answered (start .s .now) (start .log .now) (start .out .now) (start .q) (at-request-decision .request-decision .ensures ∙ rw (at-free-in .free-in .ensures)) _ (at-d2 .d2 .given .1)
+    answered (start .s .now) (start .log .now) (start .out .now) (start .q) (at-request-decision .request-decision .ensures ∙ rw (at-free-in .free-in .ensures)) _ (at-d2 .decision2 .given .1)
     (at-reply .reply .ensures .0) (at-reply .reply .ensures .1)
 
 returns-3 : tie.Need-returns-3
@@ -80,7 +80,7 @@ returns-3 c =
     let at-free-in = at-request-decision .before .before in
     let begin = at-free-in .before .before .before .before .before .before in
     let start = begin .args in
-    executes (start .s .now) (start .log .now) (start .out .now) (start .q) (at-request-decision .request-decision .ensures ∙ rw (at-free-in .free-in .ensures)) _ (at-d3 .d3 .given .1)
+    executes (start .s .now) (start .log .now) (start .out .now) (start .q) (at-request-decision .request-decision .ensures ∙ rw (at-free-in .free-in .ensures)) _ (at-d3 .decision3 .given .1)
     (at-execute .execute .ensures .0) (at-execute .execute .ensures .1) (at-execute .execute .ensures .2)
 
 pub requested-spec : {M : Type 1} → statement M

@@ -12,7 +12,7 @@ use Rattle.state_clients.proofs.floors.floor_of.Tie as tie
 returns : tie.Need-returns
 returns c =
     let a = c .before .before .before .args in
-    floor-found (a .x) (rows floorOfBytes floorRow (a .n) (drop (a .at) (a .s .now))) (c .before .client-place .ensures) (c .floor-at .ensures)
+    floor-found (a .client) (rows floorOfBytes floorRow (a .n) (drop (a .at) (a .s .now))) (c .before .client-place .ensures) (c .floor-at .ensures)
 
 pub floor-of-spec : {M : Type 1} → statement M
 floor-of-spec = tie.close (tie.spec (λ c κs. search needs) (λ c κs. search needs) returns)

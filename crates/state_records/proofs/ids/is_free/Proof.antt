@@ -9,14 +9,14 @@ returns : tie.Need-returns
 returns c =
     let at-find = c .before .before in
     let start = at-find .before .before in
-    free-nothing (start .args .point) (start .args .e) _ (start .pre .1) (at-find .find .ensures) (c .enum-told .given .1)
+    free-nothing (start .args .point) (start .args .entry) _ (start .pre .1) (at-find .find .ensures) (c .enum-told .given .1)
 
 returns-2 : tie.Need-returns-2
 returns-2 c =
     let told = c .before .before in
     let sought = told .before .before in
     let start = sought .before .before in
-    free-at (start .args .point) (start .args .e) _ (start .pre .1) (sought .find .ensures) (told .found .given .1)
+    free-at (start .args .point) (start .args .entry) _ (start .pre .1) (sought .find .ensures) (told .found .given .1)
 
 pub is-free-spec : {M : Type 1} → statement M
 is-free-spec = tie.close (tie.spec (λ c κs. search needs) (λ c. search needs) (λ c. search needs) returns returns-2)

@@ -10,7 +10,7 @@ returns : tie.Need-returns
 returns c =
     let at-put-mark = c .before .before in
     let start = at-put-mark .before .before .before in
-    at-put-mark .put-mark .ensures ∙ mark-put (start .args .s .now) (start .pre) (start .args .v)
+    at-put-mark .put-mark .ensures ∙ mark-put (start .args .s .now) (start .pre) (start .args .mark)
 
 pub set-mark-spec : {M : Type 1} → statement M
 set-mark-spec = tie.close (tie.spec (λ c κs. search needs) (λ c. search needs) returns)

@@ -10,7 +10,7 @@ returns : tie.Need-returns
 returns c =
     let at-put-size = c .before .before in
     let start = at-put-size .before .before .before in
-    at-put-size .put-size .ensures ∙ size-put (start .args .s .now) (start .pre) (start .args .v)
+    at-put-size .put-size .ensures ∙ size-put (start .args .s .now) (start .pre) (start .args .size)
 
 pub set-size-spec : {M : Type 1} → statement M
 set-size-spec = tie.close (tie.spec (λ c κs. search needs) (λ c. search needs) returns)
