@@ -23,6 +23,7 @@ size_t plain_ends(const unsigned char *log, size_t length)
         size_t size;
         switch (log[at]) {
         case 1: size = 28; break;
+        case 6: size = 32; break;
         case 2: size = 12; break;
         case 3:
         case 5: size = 8; break;
@@ -30,7 +31,7 @@ size_t plain_ends(const unsigned char *log, size_t length)
             uint32_t image;
             if (length - at < 8) return at;
             memcpy(&image, log + at + 4, 4);
-            if (image < 48 || image > 10544) return 0;
+            if (image < 48 || image > 12592) return 0;
             size = 8 + (size_t)image;
             break;
         }

@@ -12,12 +12,15 @@
 enum {
     SECTOR = 512,
     COPY = 4096, /* superblocks begin at 0 and here, and behind them the slots */
-    CHECKPOINT_AREA = 25 * SECTOR,
-    LOG_AREA = 1 << 22,
+    CHECKPOINT_AREA = 29 * SECTOR,
+    LOG_AREA = (1 << 22) - 4 * SECTOR,
     SLOT = CHECKPOINT_AREA + LOG_AREA,
     CARD_SIZE = 2 * COPY + 2 * SLOT,
     /* a superblock, two sectors: sequence number, slot, the lengths of checkpoint and log, the log's bytes behind its last whole sector, checksum */
-    SEQUENCE = 0, IN_FORCE = 8, CHECKPOINT = 12, LOG = 16, LAST = 20, CHECK = LAST + SECTOR, SUPER = 2 * SECTOR
+    SEQUENCE = 0, IN_FORCE = 8, CHECKPOINT = 12, LOG = 16, LAST = 20, CHECK = LAST + SECTOR, SUPER = 2 * SECTOR,
+    /* the slots are numbered 2 and 3. A card from before 1.6 has them as 0 and 1, at the same places, with four sectors less for the checkpoint, which was shorter
+     * then, and four more for the log: it is read so, and what is stored next goes to slot 2 or 3 */
+    FIRST_SLOTS = 2, LESS = 4 * SECTOR
 };
 
 _Static_assert(CHECKPOINT_AREA >= MANTELORRIS_CHECKPOINT_LONGEST && CHECK + 4 <= SUPER && SUPER <= COPY, "areas");
@@ -77,8 +80,8 @@ static uint32_t checksum(const uint8_t *bytes, size_t count) {
 }
 
 static int good(const uint8_t super[SUPER]) {
-    return checksum(super, CHECK) == mantelorris_number_at(super, CHECK) && mantelorris_number_at(super, IN_FORCE) < 2 &&
-           mantelorris_number_at(super, CHECKPOINT) <= CHECKPOINT_AREA && mantelorris_number_at(super, LOG) <= LOG_AREA;
+    return checksum(super, CHECK) == mantelorris_number_at(super, CHECK) && mantelorris_number_at(super, IN_FORCE) < 2 * FIRST_SLOTS &&
+           mantelorris_number_at(super, CHECKPOINT) <= CHECKPOINT_AREA && mantelorris_number_at(super, LOG) <= LOG_AREA + LESS;
 }
 
 /* of two good copies the later one counts */
@@ -113,7 +116,11 @@ static void write_super(struct card *card, const uint8_t *log, size_t length) {
 /* ---- start */
 
 static size_t slot_at(const struct card *card) {
-    return 2 * COPY + card->slot * (size_t)SLOT;
+    return 2 * COPY + card->slot % 2 * (size_t)SLOT;
+}
+
+static size_t log_at(const struct card *card) {
+    return slot_at(card) + CHECKPOINT_AREA - (card->slot < FIRST_SLOTS ? LESS : 0);
 }
 
 static void check_size(const struct card *card) {
@@ -146,7 +153,7 @@ static size_t read_slot(struct card *card, const uint8_t super[SUPER], uint8_t *
     card->base = mantelorris_number_at(super, CHECKPOINT);
     if (length > log_space) stop("card: its log is longer than the space for it");
     read_at(card->file, checkpoint, card->base, slot_at(card));
-    read_at(card->file, log, length - last, slot_at(card) + CHECKPOINT_AREA);
+    read_at(card->file, log, length - last, log_at(card));
     memcpy(log + length - last, super + LAST, last);
     return length;
 }
@@ -168,18 +175,18 @@ size_t card_read(struct card *card, uint8_t checkpoint[MANTELORRIS_CHECKPOINT_SI
 void card_append(struct card *card, const uint8_t *log, size_t start, size_t end) {
     size_t from = start - start % SECTOR;
     if (end > LOG_AREA) stop("card: full");
-    write_sectors(card->file, log + from, end - from, slot_at(card) + CHECKPOINT_AREA + from);
+    write_sectors(card->file, log + from, end - from, log_at(card) + from);
     sync_card(card);
     write_super(card, log, end);
 }
 
 /* into the slot that is not in force, which one superblock then puts in force */
 void card_store(struct card *card, const uint8_t *checkpoint, size_t base, const uint8_t *log, size_t length) {
-    card->slot ^= 1;
+    card->slot = FIRST_SLOTS + (card->slot + 1) % 2;
     card->base = base;
     if (length > LOG_AREA) stop("card: full");
     write_sectors(card->file, checkpoint, base, slot_at(card));
-    write_sectors(card->file, log, length, slot_at(card) + CHECKPOINT_AREA);
+    write_sectors(card->file, log, length, log_at(card));
     sync_card(card);
     write_super(card, log, length);
 }

@@ -31,7 +31,7 @@ kill "$relay"
 wait "$relay" || true
 cat "$work/desk.out" "$work/line"
 card=$("$work/host" "$work/card")
-echo "host: killed with SIGKILL $starts times; the log's limit is $limit bytes, so the card has $(wc -c <"$work/card") where the whole log would have $((8 + 28 * (commands + 1))) and more: $card"
+echo "host: killed with SIGKILL $starts times; the log's limit is $limit bytes, so the card has $(wc -c <"$work/card") where the whole log would have $((8 + 32 * (commands + 1))) and more: $card"
 echo
 echo "a plant: a point moves between two cabinets, a lease manager keeps its file, each is killed again and again"
 examples/plant.sh

@@ -130,6 +130,10 @@ int main(int argc, char **argv) {
         fprintf(stderr, "usage: desk PORT [COMMANDS]\n");
         return 2;
     }
+    if (mantelorris_version() != MANTELORRIS_VERSION) {
+        fprintf(stderr, "desk: the library is of another version than its headers\n");
+        return 2;
+    }
     unsigned long total = argc == 3 ? strtoul(argv[2], NULL, 10) : 300, begun = 0;
     if (total > MOST) fail("too many commands");
     struct sockaddr_in to = {.sin_family = AF_INET, .sin_port = htons((uint16_t)atoi(argv[1])), .sin_addr.s_addr = htonl(INADDR_LOOPBACK)};

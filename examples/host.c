@@ -31,7 +31,7 @@
 enum {
     WAITING = 256, /* packets in one turn at most */
     GATE = 5,
-    LOG_SPACE = 1 << 22,
+    LOG_SPACE = (1 << 22) - 2048, /* what card_raw.c has room for */
     LIMIT = 1 << 20,                                      /* a longer log becomes a checkpoint */
     MOST = LOG_SPACE - WAITING * MANTELORRIS_LOG_EXECUTED /* a greater limit leaves no room for a turn */
 };
@@ -270,6 +270,10 @@ int main(int argc, char **argv) {
     if (argc > 3) limit = (size_t)strtoul(argv[3], NULL, 10);
     if (argc < 2 || argc > 4 || (argv[1][0] == '-' && !founds) || limit < MANTELORRIS_LOG_HEAD || limit > MOST) {
         fprintf(stderr, "usage: host --found CARD, or host CARD [PORT [LIMIT]], LIMIT from %d to %d\n", MANTELORRIS_LOG_HEAD, MOST);
+        return 2;
+    }
+    if (mantelorris_version() != MANTELORRIS_VERSION) {
+        fprintf(stderr, "host: the library is of another version than its headers\n");
         return 2;
     }
     make_plan();

@@ -219,6 +219,10 @@ static void serve(void) {
 }
 
 int main(int argc, char **argv) {
+    if (mantelorris_version() != MANTELORRIS_VERSION) {
+        fprintf(stderr, "leases: the library is of another version than its headers\n");
+        return 2;
+    }
     if (argc == 3 && strcmp(argv[1], "--found") == 0) {
         found(argv[2]);
         return 0;

@@ -1,5 +1,5 @@
 /* The line of a plant with several cabinets, a lease manager and desks: UDP on 127.0.0.1, and the messages that go over it beside the library's packets (first byte 1
- * to 6). Each may be lost, late or repeated, and whoever sent one sends it again until the answer has come, so each is made such that a repeat does no harm.
+ * to 7). Each may be lost, late or repeated, and whoever sent one sends it again until the answer has come, so each is made such that a repeat does no harm.
  *
  *     OPEN    desk to lease manager      0 0 0, name (8), seconds           a lease for the desk of this name, drawn at random at each of its starts
  *     RENEW   desk to lease manager      0 0 0, name (8), seconds           a later end

@@ -339,6 +339,10 @@ int main(int argc, char **argv) {
         fprintf(stderr, "usage: lock [CYCLES [SEED [unfenced]]]\n");
         return 2;
     }
+    if (mantelorris_version() != MANTELORRIS_VERSION) {
+        fprintf(stderr, "lock: the library is of another version than its headers\n");
+        return 2;
+    }
     make_plan(plan);
     must(mantelorris_number(mantelorris_found(state, sizeof state, space, sizeof space, plan, sizeof plan, 0)));
     manager = mantelorris_leases();

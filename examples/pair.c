@@ -269,6 +269,10 @@ static void serve(const char *port) {
 }
 
 int main(int argc, char **argv) {
+    if (mantelorris_version() != MANTELORRIS_VERSION) {
+        fprintf(stderr, "pair: the library is of another version than its headers\n");
+        return 2;
+    }
     make_plan(plan);
     if (argc == 4 && strcmp(argv[1], "--found") == 0) {
         server = (uint32_t)atoi(argv[3]);

@@ -272,6 +272,10 @@ int main(int argc, char **argv) {
         fprintf(stderr, "usage: pair_desk LEASES CABINET0 CABINET1 [STEPS [MOVE_EVERY [LOST..]]]\n");
         return 2;
     }
+    if (mantelorris_version() != MANTELORRIS_VERSION) {
+        fprintf(stderr, "pair_desk: the library is of another version than its headers\n");
+        return 2;
+    }
     unsigned long total = argc > 4 ? strtoul(argv[4], NULL, 10) : 200;
     every = argc > 5 ? (uint32_t)atoi(argv[5]) : 10;
     for (int i = 6; i < argc; i++) lost[losts++] = (uint32_t)strtoul(argv[i], NULL, 10);

@@ -7,7 +7,7 @@
  *     log     the whole space for the log; the first mantelorris_length(state) bytes of it are the log, calls append behind them, and no
  *             call changes a byte of the log once written
  *     plan    MANTELORRIS_PLAN_SIZE bytes, the same for all servers and at each recovery
- *     out     at least 16 bytes (request, fetch), 8 (receipt), 10,544 (image); bytes past what is written are kept
+ *     out     at least 20 bytes (request, fetch), 8 (receipt), 12,592 (image); bytes past what is written are kept
  *     checkpoint, tail   of checkpoint: at least MANTELORRIS_CHECKPOINT_SIZE and MANTELORRIS_LOG_HEAD bytes; bytes past what is written are kept
  *
  * Answer. mantelorris_number(answer) is 0 or the refusal's number, mantelorris_written(answer) the number of bytes written to out, 0 where
@@ -15,8 +15,11 @@
  *
  * Request. Number 0 and nothing written: the command is executed, and its record stands in the log. There is no packet to send yet: send a
  * result once its record is synced. The client repeats its request for that, or the host calls fetch after the sync and sends what it
- * gives. Number 0 and 16 bytes: the result packet; send it. A number from 3 to 9: 12 bytes, the refusal packet; send it. No number says that
+ * gives. Number 0 and 20 bytes: the result packet; send it. A number from 3 to 9: 12 bytes, the refusal packet; send it. No number says that
  * the command was not executed: it may have been, by an earlier packet or at another server.
+ *
+ * Time. A result has the time of its execution: the heard time of the server that carried the command out, as it was then. It goes with the result
+ * wherever that goes, and a repeat has the same one. Since 1.6; a record, image or checkpoint from before has none, and its results have time 0.
  *
  * Sync. Write the log's bytes from mantelorris_mark(state) to mantelorris_length(state) to the card; when the card has them for certain, call
  * sync with the length up to which it has them. Results, images and receipts are given for what is synced, and for nothing else (7). One
@@ -79,23 +82,24 @@ extern "C" {
 #endif
 
 /* The version of this header and, by mantelorris_version(), of the library: major * 65,536 + minor. The major number changes with a layout that
- * an older program would misread (packets, images, log, state); the minor one with what is added. */
+ * an older program would misread (packets, images, log, state); the minor one with what is added. Compare the two at start and do not serve where they
+ * differ: a struct that a call gives may be longer in one than in the other. */
 #define MANTELORRIS_VERSION_MAJOR 1
-#define MANTELORRIS_VERSION_MINOR 5
+#define MANTELORRIS_VERSION_MINOR 6
 #define MANTELORRIS_VERSION ((uint32_t)MANTELORRIS_VERSION_MAJOR << 16 | MANTELORRIS_VERSION_MINOR)
 
 /* least lengths of slices; a plan has exactly its length */
 #define MANTELORRIS_STATE_SIZE 32768
 #define MANTELORRIS_PLAN_SIZE 1024
-#define MANTELORRIS_REPLY_SIZE 16 /* out of request and fetch */
+#define MANTELORRIS_REPLY_SIZE 20 /* out of request and fetch */
 #define MANTELORRIS_RECEIPT_SIZE 8
-#define MANTELORRIS_IMAGE_SIZE 10544
+#define MANTELORRIS_IMAGE_SIZE 12592
 #define MANTELORRIS_CHECKPOINT_SIZE 32768
-#define MANTELORRIS_CHECKPOINT_LONGEST 12588 /* what a checkpoint has at most */
+#define MANTELORRIS_CHECKPOINT_LONGEST 14636 /* what a checkpoint has at most */
 
-/* log space: the head, and a record of each kind; a take has its image behind the 8 bytes */
+/* log space: the head, and a record of each kind that is written; a take has its image behind the 8 bytes */
 #define MANTELORRIS_LOG_HEAD 8
-#define MANTELORRIS_LOG_EXECUTED 28
+#define MANTELORRIS_LOG_EXECUTED 32
 #define MANTELORRIS_LOG_GONE 12
 #define MANTELORRIS_LOG_GIVE 8
 #define MANTELORRIS_LOG_TAKE 8
@@ -131,12 +135,13 @@ enum mantelorris_status { MANTELORRIS_ABSENT = 0, MANTELORRIS_HELD = 1, MANTELOR
 
 /* the first byte of a packet; an image's is 4D hexadecimal */
 enum mantelorris_kind {
-    MANTELORRIS_KIND_REQUEST = 1, /* 24 bytes, from a client */
-    MANTELORRIS_KIND_RESULT = 2,  /* 16 bytes, from a server */
-    MANTELORRIS_KIND_REFUSAL = 3, /* 12 bytes, from a server */
-    MANTELORRIS_KIND_RECEIPT = 4, /* 8 bytes, from a server that took a point */
-    MANTELORRIS_KIND_NOTICE = 5,  /* 12 bytes, from the lease manager: a lease has ended */
-    MANTELORRIS_KIND_GRANT = 6    /* 12 bytes, from the lease manager: a lease runs */
+    MANTELORRIS_KIND_REQUEST = 1,      /* 24 bytes, from a client */
+    MANTELORRIS_KIND_FIRST_RESULT = 2, /* 16 bytes, from a server before 1.6: a result without a time. Read, and not made any more */
+    MANTELORRIS_KIND_REFUSAL = 3,      /* 12 bytes, from a server */
+    MANTELORRIS_KIND_RECEIPT = 4,      /* 8 bytes, from a server that took a point */
+    MANTELORRIS_KIND_NOTICE = 5,       /* 12 bytes, from the lease manager: a lease has ended */
+    MANTELORRIS_KIND_GRANT = 6,        /* 12 bytes, from the lease manager: a lease runs */
+    MANTELORRIS_KIND_RESULT = 7        /* 20 bytes, from a server: a result with its time of execution */
 };
 
 /* Refusals, by number, each with its line here and the answer of mantelorris_refusal_name. No refusal says that a command was not carried out. */
@@ -258,7 +263,8 @@ MANTELORRIS_HAS_OFFSET(struct mantelorris_log_end_reply, end, 8);
 /* the end of a log's last whole record; the log slice is exactly what was kept */
 struct mantelorris_log_end_reply mantelorris_log_end(const uint8_t *log, size_t log_length);
 
-/* what holds a completion record's bytes: a log record (28 bytes, kind 1), an entry of an image in a log record (20), an entry of the checkpoint (20) */
+/* what holds a completion record's bytes: a log record (32 bytes, kind 6), an entry of an image in a log record (24), an entry of the checkpoint (24). One
+ * from before 1.6 has no time: 28 bytes (kind 1), 20, 20 */
 enum mantelorris_source { MANTELORRIS_IN_RECORD = 1, MANTELORRIS_IN_IMAGE = 2, MANTELORRIS_IN_CHECKPOINT = 3 };
 
 /* number is MANTELORRIS_OK or the refusal's number; source and the bytes from start to end of the tail (1, 2) or of the checkpoint (3) are 0 where refused */
@@ -420,14 +426,14 @@ static inline int mantelorris_is_log(const uint8_t *bytes, size_t length) {
     return mantelorris_begins(bytes, length, 0x31474C57);
 }
 
-/* 57 4C 47 32 */
+/* 57 4C 47 33, or 32 before 1.6 */
 static inline int mantelorris_is_checkpoint(const uint8_t *bytes, size_t length) {
-    return mantelorris_begins(bytes, length, 0x32474C57);
+    return mantelorris_begins(bytes, length, 0x33474C57) || mantelorris_begins(bytes, length, 0x32474C57);
 }
 
-/* 4D 56 49 31 */
+/* 4D 56 49 32, or 31 before 1.6 */
 static inline int mantelorris_is_image(const uint8_t *bytes, size_t length) {
-    return mantelorris_begins(bytes, length, 0x3149564D);
+    return mantelorris_begins(bytes, length, 0x3249564D) || mantelorris_begins(bytes, length, 0x3149564D);
 }
 
 #define MANTELORRIS_CHECKPOINT_HEAD 44
@@ -436,11 +442,11 @@ static inline int mantelorris_is_image(const uint8_t *bytes, size_t length) {
  * head is damaged */
 static inline size_t mantelorris_checkpoint_length(const uint8_t *bytes, size_t length) {
     if (length < MANTELORRIS_CHECKPOINT_HEAD || !mantelorris_is_checkpoint(bytes, length)) return 0;
-    uint32_t clients = mantelorris_number_at(bytes, 32), records = mantelorris_number_at(bytes, 40);
+    uint32_t clients = mantelorris_number_at(bytes, 32), records = mantelorris_number_at(bytes, 40), row = bytes[3] == 0x33 ? 24 : 20;
     if (mantelorris_number_at(bytes, 12) != MANTELORRIS_CHECKPOINT_HEAD || mantelorris_number_at(bytes, 16) != 1024) return 0;
     if (mantelorris_number_at(bytes, 20) != 1068 || mantelorris_number_at(bytes, 24) != 1024) return 0;
     if (mantelorris_number_at(bytes, 28) != 2092 || clients % 8 || clients > 8 * 32) return 0;
-    if (mantelorris_number_at(bytes, 36) != 2092 + clients || records % 20 || records > 20 * 512) return 0;
+    if (mantelorris_number_at(bytes, 36) != 2092 + clients || records % row || records > row * 512) return 0;
     return 2092 + (size_t)clients + records;
 }
 
@@ -476,6 +482,11 @@ static inline uint32_t mantelorris_packet_call(const uint8_t *packet) {
 
 static inline uint32_t mantelorris_packet_time(const uint8_t *packet) {
     return mantelorris_number_at(packet, 8);
+}
+
+/* of a result packet its time of execution, 0 where it has none */
+static inline uint32_t mantelorris_result_time(const uint8_t *packet) {
+    return packet[0] == MANTELORRIS_KIND_RESULT ? mantelorris_number_at(packet, 16) : 0;
 }
 
 /* ---- names, to print; of what this version does not have: "unknown op" and so on */

@@ -157,7 +157,7 @@ MANTELORRIS_HAS_SIZE(struct mantelorris_chamber_start_reply, 280);
 MANTELORRIS_HAS_OFFSET(struct mantelorris_chamber_start_reply, number, 276);
 MANTELORRIS_HAS_SIZE(struct mantelorris_chamber_send_reply, 312);
 MANTELORRIS_HAS_OFFSET(struct mantelorris_chamber_send_reply, reply, 276);
-MANTELORRIS_HAS_SIZE(struct mantelorris_chamber_receive_reply, 300);
+MANTELORRIS_HAS_SIZE(struct mantelorris_chamber_receive_reply, 304);
 MANTELORRIS_HAS_OFFSET(struct mantelorris_chamber_receive_reply, reply, 276);
 
 #ifdef __cplusplus

@@ -49,7 +49,8 @@ struct mantelorris_send_reply {
     uint8_t packet[24];
 };
 
-/* kind: 2 a result, 3 a refusal (its number in refusal), 6 a grant (its end in lease), 0 where refused; what a kind lacks is 0 */
+/* kind: 7 a result, of either packet (time 0 where it has none), 3 a refusal (its number in refusal), 6 a grant (its end in lease), 0 where refused; what a
+ * kind lacks is 0. time: the heard time of the server that carried the command out, as it was then */
 struct mantelorris_receive_reply {
     uint32_t number;
     uint32_t kind;
@@ -60,6 +61,7 @@ struct mantelorris_receive_reply {
     uint8_t outcome;
     uint8_t quality;
     uint8_t refusal;
+    uint32_t time;
 };
 
 MANTELORRIS_GIVES
@@ -111,10 +113,11 @@ MANTELORRIS_HAS_SIZE(struct mantelorris_start_reply, 208);
 MANTELORRIS_HAS_OFFSET(struct mantelorris_start_reply, number, 204);
 MANTELORRIS_HAS_SIZE(struct mantelorris_send_reply, 36);
 MANTELORRIS_HAS_OFFSET(struct mantelorris_send_reply, packet, 12);
-MANTELORRIS_HAS_SIZE(struct mantelorris_receive_reply, 24);
+MANTELORRIS_HAS_SIZE(struct mantelorris_receive_reply, 28);
 MANTELORRIS_HAS_OFFSET(struct mantelorris_receive_reply, value, 12);
 MANTELORRIS_HAS_OFFSET(struct mantelorris_receive_reply, lease, 16);
 MANTELORRIS_HAS_OFFSET(struct mantelorris_receive_reply, refusal, 23);
+MANTELORRIS_HAS_OFFSET(struct mantelorris_receive_reply, time, 24);
 MANTELORRIS_HAS_SIZE(struct mantelorris_lease, 8);
 MANTELORRIS_HAS_OFFSET(struct mantelorris_lease, lease, 4);
 MANTELORRIS_HAS_SIZE(struct mantelorris_lease_manager, 264);

@@ -40,7 +40,7 @@ LEAVES = {
     'format_log_ends': 'head_server size_at',
     'format_log_reader': 'record_at',
     'state_checkpoint': 'write_checkpoint',
-    'state_restore': 'clients_of records_of restore restore_sound',
+    'state_restore': 'clients_of record_width records_of restore restore_sound',
     'server_memory': 'free_in',
     'server_service': 'reply',
     'server_recover': 'replay_log rebuild_on settle',

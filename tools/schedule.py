@@ -9,7 +9,7 @@ from fractions import Fraction
 
 MOST_LINES = 60
 LOW, HIGH, FALLBACK = -100, 1000, 0
-HEAD, EXECUTED, MOVE, TAKE, IMAGE, FLOOR, ENTRY = 8, 28, 8, 8, 48, 8, 20  # bytes: log head, records, an image and its rows
+HEAD, EXECUTED, MOVE, TAKE, IMAGE, FLOOR, ENTRY = 8, 32, 8, 8, 48, 8, 24  # bytes: log head, records, an image and its rows
 OPS = ['read', 'set', 'step', 'report', 'fault', 'part']
 OUTCOMES = ['', ', out of range', ', no step', ', fallback', ', stopped']
 

@@ -2,13 +2,19 @@
 //! bytes.
 
 use second::bytes::get_u32;
-use second::image::{write_image, Floor, ImageHead, Moved, IMAGE_MAX};
-use second::packet::{Grant, Notice, Packet, Receipt, RefusalPacket, Reply, Request};
+use second::image::{
+    moved_len, write_image_as, Floor, ImageHead, Moved, IMAGE_MAGIC_UNTIMED, IMAGE_MAX,
+};
+use second::packet::{
+    write_packet, write_result_untimed, Grant, Notice, Packet, Receipt, RefusalPacket, Reply,
+    Request,
+};
 use second::plan::{Entry, Plan};
+use second::program::Form;
 use second::random::Random;
 use second::record::{
-    write_executed, write_give, write_gone, write_release, write_take_head, Executed, Give, Gone,
-    Release,
+    write_executed, write_executed_untimed, write_give, write_gone, write_release, write_take_head,
+    Executed, Give, Gone, Release,
 };
 use second::rule::{Op, ARGUMENTS};
 
@@ -65,19 +71,21 @@ fn request(random: &mut Random, point: u8, client: u32) -> Request {
     }
 }
 
+/// Of a kind 1 to 7; a result of kind 2 has time 0.
 pub fn packet_of_kind(random: &mut Random, kind: u32) -> Packet {
     let point = random.below(64) as u8;
     let client = at_least_1(random);
     let call = at_least_1(random);
     match kind {
         1 => Packet::Request(request(random, point, client)),
-        2 => Packet::Result(Reply {
+        2 | 7 => Packet::Result(Reply {
             outcome: random.below(5) as u8,
             point,
             quality: random.below(2) as u8,
             client,
             call,
             value: signed(random),
+            time: if kind == 2 { 0 } else { number(random) },
         }),
         3 => Packet::Refusal(RefusalPacket {
             number: 3 + random.below(7) as u8,
@@ -101,6 +109,14 @@ pub fn packet_of_kind(random: &mut Random, kind: u32) -> Packet {
     }
 }
 
+/// The bytes of a packet that was made of this kind.
+pub fn packet_bytes(packet: &Packet, kind: u32) -> Vec<u8> {
+    match packet {
+        Packet::Result(p) if kind == 2 => write_result_untimed(p).to_vec(),
+        _ => write_packet(packet),
+    }
+}
+
 /// A byte, often at a limit of some field.
 pub fn byte(random: &mut Random) -> u8 {
     const LIMITS: [u8; 16] = [0, 1, 2, 3, 4, 5, 6, 7, 9, 10, 15, 16, 63, 64, 128, 255];
@@ -116,7 +132,7 @@ pub fn string(random: &mut Random, longest: u32, bytes: &mut Vec<u8>) {
     bytes.clear();
     bytes.extend((0..length).map(|_| byte(random)));
     if length > 0 && random.chance(70) {
-        bytes[0] = random.below(8) as u8;
+        bytes[0] = random.below(9) as u8;
     }
 }
 
@@ -231,6 +247,7 @@ pub fn moved(random: &mut Random, client: u32, call: u32, range: (i32, i32)) -> 
         op,
         outcome: random.below(5) as u8,
         quality: random.below(2) as u8,
+        time: number(random),
     }
 }
 
@@ -244,7 +261,15 @@ pub fn within(random: &mut Random, (low, high): (i32, i32)) -> i32 {
     }
 }
 
-/// A well-formed image with values of the range.
+/// The form of an image, or of bytes that were one.
+pub fn form_of(image: &[u8]) -> Form {
+    match image.starts_with(&IMAGE_MAGIC_UNTIMED) {
+        true => Form::Untimed,
+        false => Form::Timed,
+    }
+}
+
+/// A well-formed image of either form with values of the range.
 pub fn image(random: &mut Random, tables: Tables, range: (i32, i32)) -> Vec<u8> {
     let floors = floors(random, tables);
     let mut records = Vec::new();
@@ -269,7 +294,9 @@ pub fn image(random: &mut Random, tables: Tables, range: (i32, i32)) -> Vec<u8> 
         quality: random.below(2) as u8,
     };
     let mut bytes = vec![0; IMAGE_MAX];
-    let length = write_image(&head, floors.into_iter(), records.into_iter(), &mut bytes);
+    let form = *random.pick(&[Form::Untimed, Form::Timed]);
+    let (floors, records) = (floors.into_iter(), records.into_iter());
+    let length = write_image_as(form, &head, floors, records, &mut bytes);
     bytes.truncate(length);
     bytes
 }
@@ -280,7 +307,7 @@ pub fn disorder(random: &mut Random, bytes: &mut [u8]) {
     let floors_len = get_u32(bytes, 28) as usize;
     let (start, row, end) = match random.below(2) {
         0 => (48, 8, 48 + floors_len),
-        _ => (48 + floors_len, 20, bytes.len()),
+        _ => (48 + floors_len, moved_len(form_of(bytes)), bytes.len()),
     };
     let rows = ((end - start) / row) as u32;
     if rows < 2 {
@@ -309,14 +336,16 @@ fn executed(random: &mut Random, point: u8) -> Executed {
         argument,
         value: signed(random),
         quality: random.below(2) as u8,
+        time: number(random),
     }
 }
 
-/// A well-formed record of a kind 1 to 5.
+/// A well-formed record of a kind 1 to 6.
 pub fn record(random: &mut Random, kind: u32) -> Vec<u8> {
     let point = random.below(64) as u8;
     match kind {
-        1 => write_executed(&executed(random, point)).to_vec(),
+        1 => write_executed_untimed(&executed(random, point)).to_vec(),
+        6 => write_executed(&executed(random, point)).to_vec(),
         2 => write_gone(&Gone {
             client: at_least_1(random),
             time: number(random),

@@ -75,7 +75,7 @@ pub fn receive(client: &mut Client, packet: &[u8]) -> ReceiveReply {
 }
 
 /// The second program names neither call nor point of a refusal, nor the point
-/// of a result: these are the packet's.
+/// of a result: these are the packet's. A result of either form has kind 7.
 #[inline]
 pub fn received(packet: &[u8], answer: Result<Received, Refusal>) -> ReceiveReply {
     let (call, point) = match parse_packet(packet) {
@@ -85,13 +85,14 @@ pub fn received(packet: &[u8], answer: Result<Received, Refusal>) -> ReceiveRepl
     };
     let none = ReceiveReply::default();
     match answer {
-        Ok(Received::Result { call, effect }) => ReceiveReply {
-            kind: 2,
+        Ok(Received::Result { call, effect, time }) => ReceiveReply {
+            kind: 7,
             call,
             value: effect.value,
             point,
             outcome: effect.outcome,
             quality: effect.quality,
+            time,
             ..none
         },
         Ok(Received::Refusal(refusal)) => ReceiveReply {

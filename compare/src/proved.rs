@@ -50,6 +50,8 @@ pub struct ReceiveReply {
     pub outcome: u8,
     pub quality: u8,
     pub refusal: u8,
+    /// Of a result: its time of execution.
+    pub time: u32,
 }
 
 #[repr(C)]

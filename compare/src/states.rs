@@ -13,8 +13,10 @@ pub const PLAN_AT: usize = 40;
 pub const POINTS_AT: usize = 1064;
 pub const CLIENTS_AT: usize = 3112;
 pub const RECORDS_AT: usize = 3368;
+/// Length of a completion record.
+pub const RECORD_LEN: usize = 32;
 /// Where 512 completion records end.
-pub const STATE_END: usize = 17_704;
+pub const STATE_END: usize = 19_752;
 
 /// The log that a server's recorded length is of.
 pub const LOG_LEN: usize = 4096;
@@ -33,13 +35,13 @@ pub fn buffer(server: &Server) -> Vec<u8> {
 
 /// Where its last completion record ends.
 pub fn end(server: &Server) -> usize {
-    RECORDS_AT + 28 * server.records.len()
+    RECORDS_AT + RECORD_LEN * server.records.len()
 }
 
 /// The same up to there; what lies behind stays.
 pub fn put_buffer(server: &Server, b: &mut [u8]) {
     b[..RECORDS_AT].fill(0);
-    b[..4].copy_from_slice(&[0x57, 0x53, 0x54, 0x31]);
+    b[..4].copy_from_slice(&[0x57, 0x53, 0x54, 0x32]);
     b[4] = server.cabinet;
     put_u32(b, 8, server.heard);
     put_u32(b, 12, server.clients.len() as u32);
@@ -55,7 +57,7 @@ pub fn put_buffer(server: &Server, b: &mut [u8]) {
         put_u32(b, CLIENTS_AT + 8 * i + 4, f.floor);
     }
     for (i, r) in server.records.iter().enumerate() {
-        put_record(&mut b[RECORDS_AT + 28 * i..][..28], r);
+        put_record(&mut b[RECORDS_AT + RECORD_LEN * i..][..RECORD_LEN], r);
     }
 }
 
@@ -94,7 +96,8 @@ fn put_record(b: &mut [u8], r: &Completion) {
     b[17] = r.outcome;
     b[18] = r.quality;
     b[19] = r.point;
-    put_u64(b, 20, r.end);
+    put_u32(b, 20, r.time);
+    put_u64(b, 24, r.end);
 }
 
 // ---- servers that a call suits
@@ -280,6 +283,7 @@ fn completion(
         point,
         outcome: m.outcome,
         quality: m.quality,
+        time: m.time,
         end: place(random, BEFORE_THIS_LOG, server.length),
     }
 }

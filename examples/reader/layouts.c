@@ -10,7 +10,8 @@
 
 static const struct field executed[] = {{"client", 4, FROM_ONE, "client %"}, {"call", 8, FROM_ONE, ", call %: "}, {"op", 1, OP, "%"},
     {"point", 2, POINT, " point %"}, {"argument", 16, ARGUMENT, ""}, {"outcome", 3, OUTCOME, ": %"}, {"value", 20, SIGNED, ", value %"},
-    {"quality", 24, QUALITY, ", %"}, {"done", 12, DONE, "; done %"}, {"", 25, ZERO, ""}, {"", 26, ZERO, ""}, {"", 27, ZERO, ""}, END};
+    {"quality", 24, QUALITY, ", %"}, {"time", 28, ANY, ", time %"}, {"done", 12, DONE, "; done %"}, {"", 25, ZERO, ""}, {"", 26, ZERO, ""},
+    {"", 27, ZERO, ""}, END};
 static const struct field gone[] = {{"client", 4, FROM_ONE, "client %: its lease has ended"}, {"time", 8, ANY, ", time %"}, ZEROS_1_TO_3, END};
 static const struct field give[] = {{"point", 1, POINT, "point % is given"}, {"destination", 2, SERVER, " to server %"},
     {"move", 4, ANY, ", move %"}, {"", 3, ZERO, ""}, END};
@@ -18,8 +19,9 @@ static const struct field take[] = {{"image_length", 4, IMAGE_LENGTH, "an image 
 static const struct field release[] = {{"point", 1, POINT, "point % is released"}, {"move", 4, ANY, ", move %"}, {"", 2, ZERO, ""},
     {"", 3, ZERO, ""}, END};
 
-const struct layout record_layouts[] = {{KIND_EXECUTED, "executed", 28, executed}, {KIND_GONE, "gone", 12, gone},
-    {KIND_GIVE, "give", 8, give}, {KIND_TAKE, "take", 8, take}, {KIND_RELEASE, "release", 8, release}, {0, NULL, 0, NULL}};
+const struct layout record_layouts[] = {{KIND_FIRST_EXECUTED, "executed", 28, executed}, {KIND_GONE, "gone", 12, gone},
+    {KIND_GIVE, "give", 8, give}, {KIND_TAKE, "take", 8, take}, {KIND_RELEASE, "release", 8, release},
+    {KIND_EXECUTED, "executed", MANTELORRIS_LOG_EXECUTED, executed}, {0, NULL, 0, NULL}};
 
 /* ---- packets */
 
@@ -28,18 +30,19 @@ static const struct field request[] = {{"client", 4, FROM_ONE, "client %"}, {"ca
     {"", 3, ZERO, ""}, END};
 static const struct field result[] = {{"client", 4, FROM_ONE, "client %"}, {"call", 8, FROM_ONE, ", call %"},
     {"point", 2, POINT, " on point %"}, {"outcome", 1, OUTCOME, ": %"}, {"value", 12, SIGNED, ", value %"}, {"quality", 3, QUALITY, ", %"},
-    END};
+    {"time", 16, ANY, ", time %"}, END};
 static const struct field refusal[] = {{"client", 4, FROM_ONE, "client %"}, {"call", 8, FROM_ONE, ", call %"},
     {"point", 2, POINT, " on point %"}, {"refusal", 1, REFUSAL, ": %"}, {"", 3, ZERO, ""}, END};
 static const struct field receipt[] = {{"point", 1, POINT, "point % was taken"}, {"server", 2, SERVER, " by server %"},
     {"move", 4, ANY, ", move %"}, {"", 3, ZERO, ""}, END};
 static const struct field grant[] = {{"client", 4, FROM_ONE, "client %"}, {"lease_end", 8, ANY, ": lease end %"}, ZEROS_1_TO_3, END};
 
-const struct layout packet_layouts[] = {{MANTELORRIS_KIND_REQUEST, "request", 24, request}, {MANTELORRIS_KIND_RESULT, "result", 16, result},
+const struct layout packet_layouts[] = {{MANTELORRIS_KIND_REQUEST, "request", 24, request}, {MANTELORRIS_KIND_FIRST_RESULT, "result", 16, result},
     {MANTELORRIS_KIND_REFUSAL, "refusal", 12, refusal}, {MANTELORRIS_KIND_RECEIPT, "receipt", 8, receipt},
-    {MANTELORRIS_KIND_NOTICE, "notice", 12, gone}, {MANTELORRIS_KIND_GRANT, "grant", 12, grant}, {0, NULL, 0, NULL}};
+    {MANTELORRIS_KIND_NOTICE, "notice", 12, gone}, {MANTELORRIS_KIND_GRANT, "grant", 12, grant},
+    {MANTELORRIS_KIND_RESULT, "result", 20, result}, {0, NULL, 0, NULL}};
 
-/* ---- heads and rows */
+/* ---- heads and rows; a row of 20 bytes is one from before 1.6, without a time */
 
 static const struct field head[] = {{"server", 4, SERVER, "server %"}, {"heard", 8, ANY, ", heard time %"}, {"", 5, ZERO, ""},
     {"", 6, ZERO, ""}, {"", 7, ZERO, ""}, END};
@@ -51,19 +54,20 @@ static const struct field point_fields[] = {{"status", 0, STATUS, "%"}, {"destin
 static const struct field client_fields[] = {{"client", 0, FROM_ONE, "client %"}, {"floor", 4, FROM_ONE, ": floor %"}, END};
 static const struct field completion[] = {{"client", 0, FROM_ONE, "client %"}, {"call", 4, FROM_ONE, ", call %: "}, {"op", 16, OP, "%"},
     {"point", 19, POINT, " point %"}, {"argument", 8, ARGUMENT, ""}, {"outcome", 17, OUTCOME, ": %"}, {"value", 12, SIGNED, ", value %"},
-    {"quality", 18, QUALITY, ", %"}, END};
+    {"quality", 18, QUALITY, ", %"}, {"time", 20, ANY, ", time %"}, END};
 static const struct field image_fields[] = {{"point", 4, POINT, "point %"}, {"source", 6, SERVER, " from server %"},
     {"destination", 5, SERVER, " to server %"}, {"move", 8, ANY, ", move %"}, {"heard", 12, ANY, ", heard time %"},
     {"value", 40, SIGNED, ": value %"}, {"quality", 44, QUALITY, ", %"}, {"", 7, ZERO, ""}, {"", 45, ZERO, ""}, {"", 46, ZERO, ""},
     {"", 47, ZERO, ""}, END};
 static const struct field entry[] = {{"client", 0, FROM_ONE, "client %"}, {"call", 4, FROM_ONE, ", call %: "}, {"op", 16, OP, "%"},
     {"argument", 8, ARGUMENT, ""}, {"outcome", 17, OUTCOME, ": %"}, {"value", 12, SIGNED, ", value %"}, {"quality", 18, QUALITY, ", %"},
-    {"", 19, ZERO, ""}, END};
+    {"time", 20, ANY, ", time %"}, {"", 19, ZERO, ""}, END};
 
 const struct layout log_head = {0, "head", MANTELORRIS_LOG_HEAD, head}, checkpoint_head = {0, "head", 12, head},
     plan_row = {0, "plan", MANTELORRIS_PLAN_ROW, plan_fields}, point_row = {0, "point", 16, point_fields},
-    client_row = {0, "client", 8, client_fields}, completion_row = {0, "completion", 20, completion},
-    image_head = {0, "image", MANTELORRIS_IMAGE_LEAST, image_fields}, image_entry = {0, "entry", 20, entry};
+    client_row = {0, "client", 8, client_fields}, completion_row = {0, "completion", 24, completion},
+    first_completion_row = {0, "completion", 20, completion}, image_head = {0, "image", MANTELORRIS_IMAGE_LEAST, image_fields},
+    image_entry = {0, "entry", 24, entry}, first_image_entry = {0, "entry", 20, entry};
 
 /* ---- fields */
 
@@ -184,23 +188,25 @@ static int pair_is(const uint8_t *bytes, size_t at, size_t offset, size_t length
 }
 
 struct parts image_parts(struct slice image) {
-    struct parts p = {0, MANTELORRIS_IMAGE_LEAST, 0, 0, 0};
+    struct parts p = {0, MANTELORRIS_IMAGE_LEAST, 0, 0, 0, &image_entry};
     if (image.length < MANTELORRIS_IMAGE_LEAST) return p;
+    if (image.bytes[3] == FIRST_IMAGE) p.entry = &first_image_entry;
     size_t rows = mantelorris_number_at(image.bytes, 28), entries = mantelorris_number_at(image.bytes, 36);
     p.rows = rows / 8;
     p.entries_at = p.rows_at + rows;
-    p.entries = entries / 20;
+    p.entries = entries / p.entry->length;
     p.good = pair_is(image.bytes, 16, 40, 8) && pair_is(image.bytes, 24, p.rows_at, 8 * p.rows) && p.rows <= 32 &&
-             pair_is(image.bytes, 32, p.entries_at, 20 * p.entries) && p.entries_at + entries == image.length;
+             pair_is(image.bytes, 32, p.entries_at, p.entry->length * p.entries) && p.entries_at + entries == image.length;
     return p;
 }
 
 struct parts checkpoint_parts(struct slice checkpoint) {
     size_t length = mantelorris_checkpoint_length(checkpoint.bytes, checkpoint.length);
-    struct parts p = {length && length <= checkpoint.length, CLIENTS_AT, 0, 0, 0};
+    struct parts p = {length && length <= checkpoint.length, CLIENTS_AT, 0, 0, 0, &completion_row};
     if (!length) return p;
+    if (checkpoint.bytes[3] == FIRST_CHECKPOINT) p.entry = &first_completion_row;
     p.rows = mantelorris_number_at(checkpoint.bytes, 32) / 8;
     p.entries_at = CLIENTS_AT + 8 * p.rows;
-    p.entries = mantelorris_number_at(checkpoint.bytes, 40) / 20;
+    p.entries = mantelorris_number_at(checkpoint.bytes, 40) / p.entry->length;
     return p;
 }

@@ -215,7 +215,7 @@ void show_image(struct slice image, size_t at) {
     begin_row("image", &image_head, image.bytes, (int64_t)at, -1);
     if (parts.good) {
         show_rows("clients", &client_row, image.bytes, parts.rows_at, parts.rows, (int64_t)at);
-        show_rows("records", &image_entry, image.bytes, parts.entries_at, parts.entries, (int64_t)at);
+        show_rows("records", parts.entry, image.bytes, parts.entries_at, parts.entries, (int64_t)at);
     }
     close_object();
 }
@@ -272,7 +272,7 @@ void show_checkpoint(struct slice checkpoint) {
     if (!parts.good) return;
     show_points(checkpoint.bytes + POINTS_AT, 16, checkpoint.bytes + PLAN_AT, POINTS_AT);
     show_rows("clients", &client_row, checkpoint.bytes, CLIENTS_AT, parts.rows, 0);
-    show_rows("records", &completion_row, checkpoint.bytes, parts.entries_at, parts.entries, 0);
+    show_rows("records", parts.entry, checkpoint.bytes, parts.entries_at, parts.entries, 0);
 }
 
 static void show_completions(const uint8_t *state, size_t count) {

@@ -6,9 +6,10 @@
 enum {
     SECTOR = 512,
     COPY = 4096,
-    CHECKPOINT_AREA = 25 * SECTOR,
-    LOG_AREA = 1 << 22,
+    CHECKPOINT_AREA = 29 * SECTOR,
+    LOG_AREA = (1 << 22) - 4 * SECTOR,
     SLOT = CHECKPOINT_AREA + LOG_AREA,
+    FIRST_SLOTS = 2, LESS = 4 * SECTOR, /* slots 0 and 1 are those of a card from before 1.6 */
     SEQUENCE = 0, IN_FORCE = 8, CHECKPOINT = 12, LOG = 16, LAST = 20, CHECK = LAST + SECTOR,
     TRIES = 100
 };
@@ -25,8 +26,8 @@ static uint32_t checksum(const uint8_t *bytes, size_t count) {
 }
 
 static int good(const uint8_t *super) {
-    return checksum(super, CHECK) == mantelorris_number_at(super, CHECK) && mantelorris_number_at(super, IN_FORCE) < 2 &&
-           mantelorris_number_at(super, CHECKPOINT) <= CHECKPOINT_AREA && mantelorris_number_at(super, LOG) <= LOG_AREA;
+    return checksum(super, CHECK) == mantelorris_number_at(super, CHECK) && mantelorris_number_at(super, IN_FORCE) < 2 * FIRST_SLOTS &&
+           mantelorris_number_at(super, CHECKPOINT) <= CHECKPOINT_AREA && mantelorris_number_at(super, LOG) <= LOG_AREA + LESS;
 }
 
 static int that_counts(const struct raw *raw) {
@@ -54,8 +55,8 @@ static struct raw read_raw(struct slice card) {
     if (raw.counts < 0) return raw;
     const uint8_t *super = card.bytes + raw.counts * COPY;
     raw.slot = mantelorris_number_at(super, IN_FORCE);
-    raw.checkpoint_at = 2 * COPY + raw.slot * (size_t)SLOT;
-    raw.log_at = raw.checkpoint_at + CHECKPOINT_AREA;
+    raw.checkpoint_at = 2 * COPY + raw.slot % 2 * (size_t)SLOT;
+    raw.log_at = raw.checkpoint_at + CHECKPOINT_AREA - (raw.slot < FIRST_SLOTS ? LESS : 0);
     raw.checkpoint = (struct slice){card.bytes + raw.checkpoint_at, mantelorris_number_at(super, CHECKPOINT)};
     raw.log = log_of(card.bytes + raw.log_at, super);
     return raw;

@@ -41,7 +41,8 @@ struct range {
     uint32_t low, high;
 };
 
-extern const struct layout log_head, checkpoint_head, plan_row, point_row, client_row, completion_row, image_head, image_entry;
+extern const struct layout log_head, checkpoint_head, plan_row, point_row, client_row, completion_row, first_completion_row, image_head, image_entry,
+    first_image_entry;
 extern const struct layout packet_layouts[], record_layouts[]; /* the last one has no name */
 
 const struct layout *layout_of(const struct layout *layouts, uint8_t kind);
@@ -53,7 +54,7 @@ struct range field_range(const struct layout *layout, const struct field *field,
 uint32_t row_value(const struct layout *layout, const char *name, const uint8_t *row);
 const struct field *bad_field(const struct layout *layout, const uint8_t *row); /* the first that is out of its range, or NULL */
 
-enum { KIND_EXECUTED = 1, KIND_GONE, KIND_GIVE, KIND_TAKE, KIND_RELEASE };
+enum { KIND_FIRST_EXECUTED = 1, KIND_GONE, KIND_GIVE, KIND_TAKE, KIND_RELEASE, KIND_EXECUTED };
 enum ending { WHOLE, TORN, BAD_KIND, BAD_LENGTH };
 
 /* the record that begins at a place of a log; end: where it ends, or would end if it were whole, as far as that is known */
@@ -66,16 +67,20 @@ struct step {
 struct step step_at(struct slice log, size_t at);
 struct step last_step(struct slice log, size_t at); /* from `at` on: the first that is not whole; TORN, at the log's end, where all are */
 
-/* the parts of an image or of a checkpoint, by its pairs; good: they stand as the layout says, and end with or within the slice */
+/* the parts of an image or of a checkpoint, by its pairs; good: they stand as the layout says, and end with or within the slice; entry: of its records */
 struct parts {
     int good;
     size_t rows_at, rows, entries_at, entries;
+    const struct layout *entry;
 };
+
+/* the fourth byte of an image and of a checkpoint from before 1.6, and what such an image has at most */
+enum { FIRST_IMAGE = 0x31, FIRST_CHECKPOINT = 0x32, FIRST_IMAGE_SIZE = 10544 };
 
 /* places in a checkpoint, and in a state */
 enum {
     PLAN_AT = MANTELORRIS_CHECKPOINT_HEAD, POINTS_AT = PLAN_AT + MANTELORRIS_PLAN_SIZE, CLIENTS_AT = POINTS_AT + 16 * MANTELORRIS_POINTS,
-    STATE_CLIENTS = 12, STATE_RECORDS = 16, STATE_PLAN = 40, STATE_CLIENTS_AT = 3112, STATE_RECORDS_AT = 3368, STATE_RECORD = 28
+    STATE_CLIENTS = 12, STATE_RECORDS = 16, STATE_PLAN = 40, STATE_CLIENTS_AT = 3112, STATE_RECORDS_AT = 3368, STATE_RECORD = 32
 };
 
 struct parts image_parts(struct slice image);

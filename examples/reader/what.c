@@ -72,5 +72,5 @@ uint32_t show_bytes(struct slice bytes, const char *path, const char *tail, cons
     if (bytes.length == 0) return show_log_card(bytes, "empty", "an empty card, %zu bytes: no server was founded on it\n", plan);
     if (bytes.length <= LONGEST_PACKET && layout_of(packet_layouts, bytes.bytes[0])) return show_packet_file(bytes);
     if (bytes.length >= RAW_SIZE) return show_raw_card(bytes, path, plan);
-    return show_log_card(bytes, "not known", "%zu bytes that are no checkpoint (57 4C 47 32), no image (4D 56 49 31) and no packet\n", plan);
+    return show_log_card(bytes, "not known", "%zu bytes that are no checkpoint (57 4C 47 33 or 32), no image (4D 56 49 32 or 31) and no packet\n", plan);
 }

@@ -94,11 +94,12 @@ static int outside(const uint8_t *plan, uint32_t point, int32_t value) {
 }
 
 static int entry_off(struct fault *fault, struct slice image, struct parts parts, size_t i, const uint8_t *plan, size_t at) {
-    const uint8_t *row = image.bytes + parts.entries_at + 20 * i;
+    const struct layout *entry = parts.entry;
+    const uint8_t *row = image.bytes + parts.entries_at + entry->length * i;
     const char *misfit = against_floors(id_at(row), image.bytes + parts.rows_at, parts.rows);
-    if (bad_field(&image_entry, row))
-        because_field(fault, &image_entry, row, at);
-    else if (i > 0 && !below(id_at(row - 20), id_at(row)))
+    if (bad_field(entry, row))
+        because_field(fault, entry, row, at);
+    else if (i > 0 && !below(id_at(row - entry->length), id_at(row)))
         because_at(fault, at, "records do not ascend by client and call here");
     else if (misfit)
         because_at(fault, at, misfit);
@@ -108,10 +109,11 @@ static int entry_off(struct fault *fault, struct slice image, struct parts parts
 }
 
 static int image_head_off(struct fault *fault, struct slice image, size_t at, const uint8_t *plan) {
-    if (image.length < MANTELORRIS_IMAGE_LEAST || image.length > MANTELORRIS_IMAGE_SIZE)
-        because(fault, "an image has from 48 to 10,544 bytes, and here are %zu", image.length);
+    size_t most = image.length > 3 && image.bytes[3] == FIRST_IMAGE ? FIRST_IMAGE_SIZE : MANTELORRIS_IMAGE_SIZE;
+    if (image.length < MANTELORRIS_IMAGE_LEAST || image.length > most)
+        because(fault, "an image has from 48 to 12,592 bytes, one from before 1.6 at most 10,544, and here are %zu", image.length);
     else if (!mantelorris_is_image(image.bytes, image.length))
-        because_at(fault, at, "an image begins with 4D 56 49 31");
+        because_at(fault, at, "an image begins with 4D 56 49 32, or 31");
     else if (bad_field(&image_head, image.bytes))
         because_field(fault, &image_head, image.bytes, at);
     else if (!image_parts(image).good)
@@ -130,7 +132,7 @@ void why_image(struct fault *fault, struct slice image, size_t at, const uint8_t
     for (size_t i = 0; i < parts.rows; i++)
         if (client_row_off(fault, image.bytes + parts.rows_at, i, at + parts.rows_at + 8 * i)) return;
     for (size_t i = 0; i < parts.entries; i++)
-        if (entry_off(fault, image, parts, i, plan, at + parts.entries_at + 20 * i)) return;
+        if (entry_off(fault, image, parts, i, plan, at + parts.entries_at + parts.entry->length * i)) return;
 }
 
 /* ---- checkpoints: the library is asked with fewer rows, and the first row that it refuses is the place */
@@ -152,12 +154,12 @@ static int front_taken(struct slice checkpoint, uint32_t points, size_t clients,
     struct parts parts = checkpoint_parts(checkpoint);
     const uint8_t head[MANTELORRIS_LOG_HEAD] = {0x57, 0x4C, 0x47, 0x31, checkpoint.bytes[4]};
     memcpy(trial, checkpoint.bytes, CLIENTS_AT + 8 * clients);
-    memcpy(trial + CLIENTS_AT + 8 * clients, checkpoint.bytes + parts.entries_at, 20 * records);
+    memcpy(trial + CLIENTS_AT + 8 * clients, checkpoint.bytes + parts.entries_at, parts.entry->length * records);
     mantelorris_put_number(trial, 32, (uint32_t)(8 * clients));
     mantelorris_put_number(trial, 36, (uint32_t)(CLIENTS_AT + 8 * clients));
-    mantelorris_put_number(trial, 40, (uint32_t)(20 * records));
+    mantelorris_put_number(trial, 40, (uint32_t)(parts.entry->length * records));
     for (uint32_t p = points; p < MANTELORRIS_POINTS; p++) found_row(trial, p);
-    size_t length = CLIENTS_AT + 8 * clients + 20 * records;
+    size_t length = CLIENTS_AT + 8 * clients + parts.entry->length * records;
     return !mantelorris_number(mantelorris_recover_checkpoint(state, sizeof state, trial, length, head, sizeof head));
 }
 
@@ -183,10 +185,10 @@ static const char *completion_misfit(struct slice checkpoint, struct parts parts
 }
 
 static void why_completion(struct fault *fault, struct slice checkpoint, struct parts parts, size_t i) {
-    size_t at = parts.entries_at + 20 * i;
+    size_t at = parts.entries_at + parts.entry->length * i;
     const uint8_t *row = checkpoint.bytes + at;
-    if (bad_field(&completion_row, row))
-        because_field(fault, &completion_row, row, at);
+    if (bad_field(parts.entry, row))
+        because_field(fault, parts.entry, row, at);
     else
         because_at(fault, at, completion_misfit(checkpoint, parts, row));
 }

@@ -130,6 +130,7 @@ static void why_record(struct fault *fault, struct slice log, struct step step) 
     }
     mantelorris_put_number(state, 8, 0);
     switch (step.layout->kind) {
+    case KIND_FIRST_EXECUTED:
     case KIND_EXECUTED: why_executed(fault, record); break;
     case KIND_GONE: why_gone(fault, record); break;
     case KIND_GIVE: why_give(fault, record); break;

@@ -132,7 +132,7 @@ impl Chamber {
     pub fn receive(&mut self, packet: &[u8]) -> Result<Received, Refusal> {
         let open = parse_result(packet).and_then(|r| self.client.open_call(r.call));
         let received = self.client.receive(packet)?;
-        if let (Some(command), Received::Result { call, effect }) = (open, received) {
+        if let (Some(command), Received::Result { call, effect, .. }) = (open, received) {
             self.note(&command, call, &effect);
         }
         Ok(received)

@@ -62,6 +62,9 @@ pub enum Violation {
     Lost { client: u32, call: u32 },
     /// No order of this point's commands suits.
     NoOrder { point: u8 },
+    /// A result has another time than the command's surviving execution; the world that made
+    /// both tells this, not the checker.
+    Time { client: u32, call: u32 },
     /// Recovery refuses what the crashes of this cabinet kept.
     NotRecovered { cabinet: usize },
     /// The search was given up.

@@ -48,6 +48,8 @@ pub enum Received {
     Result {
         call: u32,
         effect: Effect,
+        /// Time of execution, 0 if the packet has none.
+        time: u32,
     },
     Refusal(u8),
     Grant(u32),
@@ -133,6 +135,7 @@ impl Client {
                 value: reply.value,
                 quality: reply.quality,
             },
+            time: reply.time,
         })
     }
 

@@ -2,15 +2,19 @@
 //! checker only. A fault stands around the calls of a sound server, never in them.
 //! Those of request 2 (paper 02) stand around a controller, its successor's start,
 //! the other desks and the office; some of request 5 stand around what a host keeps.
+//! Those of request 6 change times alone.
 
 use crate::answer::Answer;
-use crate::packet::{parse_request, WINDOW};
+use crate::bytes::put_u32;
+use crate::packet::{parse_request, RESULT_LEN, RESULT_UNTIMED_LEN, WINDOW};
 use crate::plan::Entry;
+use crate::program::{Form, Program};
 use crate::record::{
-    parse_executed, parse_record, write_executed, Executed, Parsed, Record, EXECUTED_LEN, HEAD_LEN,
+    executed_len, parse_executed, parse_record, write_executed, write_executed_untimed, Executed,
+    Parsed, Record, HEAD_LEN,
 };
 use crate::rule::{apply_by, Op, PartRule, Rules, INVALID, STOPPED};
-use crate::server::Server;
+use crate::server::{Completion, Server};
 use std::ops::{Deref, DerefMut};
 
 mod checkpoint;
@@ -50,27 +54,26 @@ impl Faulty {
         }
     }
 
-    pub fn request(&mut self, len: usize, log: &mut [u8], packet: &[u8], out: &mut [u8]) -> Answer {
-        self.request_by(Rules::TODAY, len, log, packet, out)
-    }
-
-    /// Request as a program of the given rules answers it.
+    /// Request as the given program answers it.
     pub fn request_by(
         &mut self,
-        rules: Rules,
+        program: Program,
         len: usize,
         log: &mut [u8],
         packet: &[u8],
         out: &mut [u8],
     ) -> Answer {
         let server = &mut self.server;
-        let mut request = |s: &mut Server| s.request_by(rules, len, log, packet, out);
+        let mut request = |s: &mut Server| s.request_by(program, len, log, packet, out);
         match self.fault {
             Some(Fault::ReplyBeforeSync) => with_mark_at_end(server, request),
             Some(Fault::LeaseEndNotTested) => {
-                let heard = std::mem::take(&mut server.heard);
+                let packet = with_longest_lease(packet);
+                server.request_by(program, len, log, &packet, out)
+            }
+            Some(Fault::TimeOfReply) => {
                 let answer = request(server);
-                server.heard = heard;
+                tell_time(server.heard, answer, out);
                 answer
             }
             Some(Fault::FloorNotTested) => {
@@ -79,26 +82,33 @@ impl Faulty {
             }
             fault => {
                 let answer = request(server);
-                if let Some(change) = wrong_rule(fault, rules) {
-                    change_executed(server, log, answer, change);
+                if let Some(change) = wrong_rule(fault, program.rules) {
+                    change_executed(program.form, server, log, answer, change);
                 }
                 answer
             }
         }
     }
 
-    pub fn fetch(
+    /// Fetch as a program that writes the given form answers it.
+    pub fn fetch_as(
         &mut self,
+        form: Form,
         len: usize,
         log: &[u8],
-        client: u32,
-        call: u32,
+        id: (u32, u32),
         out: &mut [u8],
     ) -> Answer {
-        let mut fetch = |s: &mut Server| s.fetch(len, log, client, call, out);
+        let server = &mut self.server;
+        let mut fetch = |s: &mut Server| s.fetch_as(form, len, log, id, out);
         match self.fault {
-            Some(Fault::ReplyBeforeSync) => with_mark_at_end(&mut self.server, fetch),
-            _ => fetch(&mut self.server),
+            Some(Fault::ReplyBeforeSync) => with_mark_at_end(server, fetch),
+            Some(Fault::TimeOfReply) => {
+                let answer = fetch(server);
+                tell_time(server.heard, answer, out);
+                answer
+            }
+            _ => fetch(server),
         }
     }
 
@@ -111,29 +121,51 @@ impl Faulty {
         answer
     }
 
-    /// Take as a program of the given rules answers it.
-    pub fn take_by(&mut self, rules: Rules, len: usize, log: &mut [u8], image: &[u8]) -> Answer {
+    /// Take as the given program answers it.
+    pub fn take_by(
+        &mut self,
+        program: Program,
+        len: usize,
+        log: &mut [u8],
+        image: &[u8],
+    ) -> Answer {
         let heard = self.server.heard;
-        let answer = self.server.take_by(rules, len, log, image);
-        if self.fault == Some(Fault::TakeWithoutHeard) {
-            self.server.heard = heard;
+        let answer = self.server.take_by(program, len, log, image);
+        match self.fault {
+            Some(Fault::TakeWithoutHeard) => self.server.heard = heard,
+            Some(Fault::TimeOfTake) if answer == Answer::DONE => {
+                let (taken, heard) = (self.server.length, self.server.heard);
+                let taken = |r: &&mut Completion| r.end == taken;
+                let records = self.server.records.iter_mut().filter(taken);
+                records.for_each(|r| r.time = heard);
+            }
+            _ => {}
         }
         answer
     }
 
-    pub fn image(&self, len: usize, log: &[u8], point: u32, out: &mut [u8]) -> Answer {
+    /// Image as a program that writes the given form answers it.
+    pub fn image_as(
+        &self,
+        form: Form,
+        len: usize,
+        log: &[u8],
+        point: u32,
+        out: &mut [u8],
+    ) -> Answer {
         let mut view = self.server.clone();
         match self.fault {
             Some(Fault::ImageBeforeSync) => view.mark = view.length,
             Some(Fault::ImageWithoutHeard) => view.heard = 0,
             Some(Fault::ImageWithoutRecords) => view.records.clear(),
+            Some(Fault::ImageWithoutTimes) => drop_times(&mut view),
             Some(Fault::ImageWithoutFloors) => {
                 view.records.retain(|r| u32::from(r.point) == point);
                 lower_floors(&mut view);
             }
             _ => {}
         }
-        view.image(len, log, point, out)
+        view.image_as(form, len, log, point, out)
     }
 
     /// Recover by a program of the given rules, which make no difference without
@@ -148,6 +180,9 @@ impl Faulty {
                 recover_with(server, len, log, plan, |server, record, end| {
                     follow_worked_out(rules, server, record, end)
                 })
+            }
+            Some(Fault::RecoverWorksTimesOut) => {
+                recover_with(server, len, log, plan, follow_timed_now)
             }
             Some(Fault::RecoverToFounding) => {
                 let answer = server.recover(len, log, plan);
@@ -196,6 +231,7 @@ fn half_up(record: &mut Executed, entry: &Entry) {
 /// Changes what a request left that executed a command: its record in the log,
 /// its completion record and the point.
 fn change_executed(
+    form: Form,
     server: &mut Server,
     log: &mut [u8],
     answer: Answer,
@@ -205,16 +241,39 @@ fn change_executed(
         return;
     }
     let end = server.length as usize;
-    let bytes = &mut log[end - EXECUTED_LEN..end];
+    let bytes = &mut log[end - executed_len(form)..end];
     let mut record = parse_executed(bytes).expect("the record of the request");
     let entry = server.plan.entry(record.point);
     change(&mut record, entry);
-    bytes.copy_from_slice(&write_executed(&record));
+    match form {
+        Form::Untimed => bytes.copy_from_slice(&write_executed_untimed(&record)),
+        Form::Timed => bytes.copy_from_slice(&write_executed(&record)),
+    }
     let point = &mut server.points[usize::from(record.point)];
     (point.value, point.quality) = (record.value, record.quality);
     if let Some(r) = server.records.last_mut() {
         (r.value, r.quality) = (record.value, record.quality);
     }
+}
+
+/// A request whose lease end passes at every heard time but the last.
+fn with_longest_lease(packet: &[u8]) -> Vec<u8> {
+    let mut packet = packet.to_vec();
+    if parse_request(&packet).is_some() {
+        put_u32(&mut packet, 16, u32::MAX);
+    }
+    packet
+}
+
+/// Puts another time in the result that a call wrote.
+fn tell_time(time: u32, answer: Answer, out: &mut [u8]) {
+    if answer == Answer::wrote(RESULT_LEN) {
+        put_u32(out, RESULT_UNTIMED_LEN, time);
+    }
+}
+
+fn drop_times(view: &mut Server) {
+    view.records.iter_mut().for_each(|r| r.time = 0);
 }
 
 /// A call that finds the whole log synced.
@@ -273,6 +332,15 @@ fn follow_without_floor(server: &mut Server, record: Record, end: u64) -> Option
         _ => (0, 0),
     };
     without_floor(server, id, |s| s.follow(&record, end))
+}
+
+/// An executed record without its time gets the heard time of the replay; one with its
+/// time has that already.
+fn follow_timed_now(server: &mut Server, mut record: Record, end: u64) -> Option<()> {
+    if let Record::Executed(r) = &mut record {
+        r.time = server.heard;
+    }
+    server.follow(&record, end)
 }
 
 fn follow_worked_out(

@@ -1,17 +1,22 @@
-//! Paper 01, "Moving a point": the moving image, read and written.
+//! Paper 01, "Moving a point": the moving image, read and written. Since request 6 of
+//! paper 02 its entries have times; images without them are still read.
 
 use crate::bytes::{all_zero, get_i32, get_pair, get_u32, put_i32, put_pairs, put_u32};
 use crate::packet::{cabinet_ok, point_ok, WINDOW};
 use crate::plan::Plan;
+use crate::program::Form;
 use crate::rule::{Op, OUTCOME_MAX};
 use std::cmp::Ordering;
 
-pub const IMAGE_MAGIC: [u8; 4] = [0x4D, 0x56, 0x49, 0x31];
+pub const IMAGE_MAGIC: [u8; 4] = [0x4D, 0x56, 0x49, 0x32];
+pub const IMAGE_MAGIC_UNTIMED: [u8; 4] = [0x4D, 0x56, 0x49, 0x31];
 pub const IMAGE_MIN: usize = 48;
-pub const IMAGE_MAX: usize = 10_544;
+pub const IMAGE_MAX: usize = 12_592;
+pub const IMAGE_MAX_UNTIMED: usize = 10_544;
 pub const CLIENTS_MAX: usize = 32;
 pub const FLOOR_LEN: usize = 8;
-pub const MOVED_LEN: usize = 20;
+pub const MOVED_LEN: usize = 24;
+pub const MOVED_UNTIMED_LEN: usize = 20;
 
 const PAIRS_AT: usize = 16;
 const POINT_AT: usize = 40;
@@ -45,11 +50,43 @@ pub struct Moved {
     pub op: Op,
     pub outcome: u8,
     pub quality: u8,
+    /// Heard time at execution, 0 if it was read from an untimed form.
+    pub time: u32,
+}
+
+/// Length of the longest image.
+pub fn image_max(form: Form) -> usize {
+    match form {
+        Form::Untimed => IMAGE_MAX_UNTIMED,
+        Form::Timed => IMAGE_MAX,
+    }
+}
+
+/// Length of an image's entry, and of a checkpoint's.
+pub fn moved_len(form: Form) -> usize {
+    match form {
+        Form::Untimed => MOVED_UNTIMED_LEN,
+        Form::Timed => MOVED_LEN,
+    }
+}
+
+fn magic(form: Form) -> [u8; 4] {
+    match form {
+        Form::Untimed => IMAGE_MAGIC_UNTIMED,
+        Form::Timed => IMAGE_MAGIC,
+    }
+}
+
+/// The form of an image, by what it opens with.
+fn image_form(bytes: &[u8]) -> Option<Form> {
+    let mut forms = [Form::Untimed, Form::Timed].into_iter();
+    forms.find(|&form| bytes.starts_with(&magic(form)))
 }
 
 /// A well-formed image; floors and records stay in their place.
 #[derive(Clone, Copy, PartialEq, Eq, Debug)]
 pub struct Image<'a> {
+    pub form: Form,
     pub head: ImageHead,
     floors: &'a [u8],
     records: &'a [u8],
@@ -61,7 +98,9 @@ impl<'a> Image<'a> {
     }
 
     pub fn records(&self) -> impl Iterator<Item = Moved> + 'a {
-        self.records.chunks_exact(MOVED_LEN).filter_map(read_moved)
+        let form = self.form;
+        let rows = self.records.chunks_exact(moved_len(form));
+        rows.filter_map(move |row| read_moved(form, row))
     }
 
     pub fn has_record(&self, client: u32, call: u32) -> bool {
@@ -72,7 +111,7 @@ impl<'a> Image<'a> {
     pub fn record_at(&self, client: u32, call: u32) -> Option<usize> {
         let records_at = FLOORS_AT + self.floors.len();
         let index = self.record_index(client, call)?;
-        Some(records_at + index * MOVED_LEN)
+        Some(records_at + index * moved_len(self.form))
     }
 
     /// The place of an id among the records, which are sorted by id.
@@ -80,7 +119,7 @@ impl<'a> Image<'a> {
         let (mut from, mut to) = (0, self.record_count());
         while from < to {
             let middle = (from + to) / 2;
-            let at = middle * MOVED_LEN;
+            let at = middle * moved_len(self.form);
             let id = (get_u32(self.records, at), get_u32(self.records, at + 4));
             match id.cmp(&(client, call)) {
                 Ordering::Equal => return Some(middle),
@@ -102,7 +141,7 @@ impl<'a> Image<'a> {
     }
 
     pub fn record_count(&self) -> usize {
-        self.records.len() / MOVED_LEN
+        self.records.len() / moved_len(self.form)
     }
 }
 
@@ -113,9 +152,9 @@ pub(crate) fn read_floor(b: &[u8]) -> Floor {
     }
 }
 
-/// Tests the op alone, and leaves the last byte out; `moved_ok` tests the other fields but
+/// Tests the op alone, and leaves byte 19 out; `moved_ok` tests the other fields but
 /// the value.
-pub(crate) fn read_moved(b: &[u8]) -> Option<Moved> {
+pub(crate) fn read_moved(form: Form, b: &[u8]) -> Option<Moved> {
     Some(Moved {
         client: get_u32(b, 0),
         call: get_u32(b, 4),
@@ -124,6 +163,10 @@ pub(crate) fn read_moved(b: &[u8]) -> Option<Moved> {
         op: Op::from_byte(b[16])?,
         outcome: b[17],
         quality: b[18],
+        time: match form {
+            Form::Untimed => 0,
+            Form::Timed => get_u32(b, MOVED_UNTIMED_LEN),
+        },
     })
 }
 
@@ -134,10 +177,12 @@ pub fn parse_image<'a>(bytes: &'a [u8], plan: &Plan) -> Option<Image<'a>> {
 
 /// The image, or nothing if it is malformed under every plan: values may be any.
 pub(crate) fn parse_layout(bytes: &[u8]) -> Option<Image<'_>> {
+    let form = image_form(bytes)?;
     let head = parse_image_head(bytes)?;
-    let (floors, records) = split_parts(bytes)?;
-    let ok = floors_ok(floors) && records_ok(records, floors);
+    let (floors, records) = split_parts(form, bytes)?;
+    let ok = floors_ok(floors) && records_ok(form, records, floors);
     ok.then_some(Image {
+        form,
         head,
         floors,
         records,
@@ -145,7 +190,7 @@ pub(crate) fn parse_layout(bytes: &[u8]) -> Option<Image<'_>> {
 }
 
 fn parse_image_head(b: &[u8]) -> Option<ImageHead> {
-    if b.len() < IMAGE_MIN || b[..4] != IMAGE_MAGIC {
+    if b.len() < IMAGE_MIN {
         return None;
     }
     let head = ImageHead {
@@ -167,8 +212,8 @@ fn parse_image_head(b: &[u8]) -> Option<ImageHead> {
 }
 
 /// The floors and the records, if the pairs are (40, 8), (48, 8n) and
-/// (48 + 8n, 20k) and the parts end where the slice does.
-fn split_parts(b: &[u8]) -> Option<(&[u8], &[u8])> {
+/// (48 + 8n, 20k or 24k) and the parts end where the slice does.
+fn split_parts(form: Form, b: &[u8]) -> Option<(&[u8], &[u8])> {
     let pair = |i: usize| get_pair(b, PAIRS_AT + 8 * i);
     let floors_len = pair(1).1;
     if floors_len % FLOOR_LEN != 0 || floors_len > CLIENTS_MAX * FLOOR_LEN {
@@ -179,7 +224,7 @@ fn split_parts(b: &[u8]) -> Option<(&[u8], &[u8])> {
     let ok = pair(0) == (POINT_AT, POINT_LEN)
         && pair(1).0 == FLOORS_AT
         && pair(2) == (records_at, records_len)
-        && records_len % MOVED_LEN == 0;
+        && records_len % moved_len(form) == 0;
     ok.then(|| b[FLOORS_AT..].split_at(floors_len))
 }
 
@@ -194,11 +239,11 @@ fn floors_ok(floors: &[u8]) -> bool {
 }
 
 /// Ids strictly ascending, fields in range, each client among the floors.
-fn records_ok(records: &[u8], floors: &[u8]) -> bool {
+fn records_ok(form: Form, records: &[u8], floors: &[u8]) -> bool {
     let mut floors = floors.chunks_exact(FLOOR_LEN).map(read_floor).peekable();
     let mut last = (0, 0);
-    records.chunks_exact(MOVED_LEN).all(|b| {
-        let Some(r) = read_moved(b) else {
+    records.chunks_exact(moved_len(form)).all(|b| {
+        let Some(r) = read_moved(form, b) else {
             return false;
         };
         while floors.next_if(|f| f.client < r.client).is_some() {}
@@ -225,6 +270,17 @@ pub fn write_image(
     records: impl Iterator<Item = Moved>,
     out: &mut [u8],
 ) -> usize {
+    write_image_as(Form::Timed, head, floors, records, out)
+}
+
+/// The same in the given form.
+pub fn write_image_as(
+    form: Form,
+    head: &ImageHead,
+    floors: impl Iterator<Item = Floor>,
+    records: impl Iterator<Item = Moved>,
+    out: &mut [u8],
+) -> usize {
     let mut at = FLOORS_AT;
     for f in floors {
         write_floor(&f, &mut out[at..at + FLOOR_LEN]);
@@ -232,9 +288,10 @@ pub fn write_image(
     }
     let records_at = at;
     for r in records {
-        write_moved(&r, 0, &mut out[at..at + MOVED_LEN]);
-        at += MOVED_LEN;
+        write_moved(form, &r, 0, &mut out[at..at + moved_len(form)]);
+        at += moved_len(form);
     }
+    out[..4].copy_from_slice(&magic(form));
     write_image_head(head, &mut out[..FLOORS_AT]);
     let parts = [
         (POINT_AT, POINT_LEN),
@@ -245,8 +302,8 @@ pub fn write_image(
     at
 }
 
+/// All but what opens the image, and the pairs.
 fn write_image_head(head: &ImageHead, b: &mut [u8]) {
-    b[..4].copy_from_slice(&IMAGE_MAGIC);
     b[4] = head.point;
     b[5] = head.destination;
     b[6] = head.source;
@@ -263,8 +320,8 @@ pub(crate) fn write_floor(f: &Floor, b: &mut [u8]) {
     put_u32(b, 4, f.floor);
 }
 
-/// The row's last byte is 0 in an image.
-pub(crate) fn write_moved(r: &Moved, last: u8, b: &mut [u8]) {
+/// Byte 19 of the row is 0 in an image and the point in a checkpoint.
+pub(crate) fn write_moved(form: Form, r: &Moved, last: u8, b: &mut [u8]) {
     put_u32(b, 0, r.client);
     put_u32(b, 4, r.call);
     put_i32(b, 8, r.argument);
@@ -273,4 +330,7 @@ pub(crate) fn write_moved(r: &Moved, last: u8, b: &mut [u8]) {
     b[17] = r.outcome;
     b[18] = r.quality;
     b[19] = last;
+    if form == Form::Timed {
+        put_u32(b, MOVED_UNTIMED_LEN, r.time);
+    }
 }

@@ -16,6 +16,7 @@ pub mod leases;
 pub mod lock;
 pub mod packet;
 pub mod plan;
+pub mod program;
 pub mod random;
 pub mod record;
 pub mod rule;

@@ -1,32 +1,38 @@
-//! Paper 01, "Packets": the six kinds, read and written.
+//! Paper 01, "Packets": the six kinds, read and written. Request 6 of paper 02 adds
+//! the seventh, a result with its time; kind 2 is still read.
 
 use crate::bytes::{all_zero, get_i32, get_u32, put_i32, put_u32};
 use crate::plan::{CABINETS, POINTS};
+use crate::program::Form;
 use crate::rule::{Op, OUTCOME_MAX};
 
 pub const REQUEST: u8 = 1;
-pub const RESULT: u8 = 2;
+/// A result without its time.
+pub const RESULT_UNTIMED: u8 = 2;
 pub const REFUSAL: u8 = 3;
 pub const RECEIPT: u8 = 4;
 pub const NOTICE: u8 = 5;
 pub const GRANT: u8 = 6;
+pub const RESULT: u8 = 7;
 
 pub const REQUEST_LEN: usize = 24;
-pub const RESULT_LEN: usize = 16;
+pub const RESULT_UNTIMED_LEN: usize = 16;
 pub const REFUSAL_LEN: usize = 12;
 pub const RECEIPT_LEN: usize = 8;
 pub const NOTICE_LEN: usize = 12;
 pub const GRANT_LEN: usize = 12;
+pub const RESULT_LEN: usize = 20;
 
 /// Packet lengths by kind; no packet has kind 0.
-pub const LENGTHS: [usize; 7] = [
+pub const LENGTHS: [usize; 8] = [
     0,
     REQUEST_LEN,
-    RESULT_LEN,
+    RESULT_UNTIMED_LEN,
     REFUSAL_LEN,
     RECEIPT_LEN,
     NOTICE_LEN,
     GRANT_LEN,
+    RESULT_LEN,
 ];
 
 /// Calls from done to done + 15 may be named in one request.
@@ -51,6 +57,8 @@ pub struct Reply {
     pub client: u32,
     pub call: u32,
     pub value: i32,
+    /// Time of execution, 0 if it was read from an untimed form.
+    pub time: u32,
 }
 
 #[derive(Clone, Copy, PartialEq, Eq, Debug)]
@@ -140,8 +148,18 @@ pub fn write_request(p: &Request) -> [u8; REQUEST_LEN] {
     b
 }
 
+/// Length of a result packet.
+pub fn result_len(form: Form) -> usize {
+    match form {
+        Form::Untimed => RESULT_UNTIMED_LEN,
+        Form::Timed => RESULT_LEN,
+    }
+}
+
+/// A result of either form.
 pub fn parse_result(b: &[u8]) -> Option<Reply> {
-    if !shaped(b, RESULT) {
+    let timed = shaped(b, RESULT);
+    if !timed && !shaped(b, RESULT_UNTIMED) {
         return None;
     }
     let reply = Reply {
@@ -151,6 +169,10 @@ pub fn parse_result(b: &[u8]) -> Option<Reply> {
         client: get_u32(b, 4),
         call: get_u32(b, 8),
         value: get_i32(b, 12),
+        time: match timed {
+            true => get_u32(b, RESULT_UNTIMED_LEN),
+            false => 0,
+        },
     };
     let ok = reply.outcome <= OUTCOME_MAX
         && point_ok(reply.point)
@@ -162,7 +184,16 @@ pub fn parse_result(b: &[u8]) -> Option<Reply> {
 
 pub fn write_result(p: &Reply) -> [u8; RESULT_LEN] {
     let mut b = [0; RESULT_LEN];
+    b[..RESULT_UNTIMED_LEN].copy_from_slice(&write_result_untimed(p));
     b[0] = RESULT;
+    put_u32(&mut b, RESULT_UNTIMED_LEN, p.time);
+    b
+}
+
+/// As a program before request 6 writes it.
+pub fn write_result_untimed(p: &Reply) -> [u8; RESULT_UNTIMED_LEN] {
+    let mut b = [0; RESULT_UNTIMED_LEN];
+    b[0] = RESULT_UNTIMED;
     b[1] = p.outcome;
     b[2] = p.point;
     b[3] = p.quality;
@@ -262,7 +293,7 @@ pub fn write_grant(p: &Grant) -> [u8; GRANT_LEN] {
 pub fn parse_packet(b: &[u8]) -> Option<Packet> {
     match *b.first()? {
         REQUEST => parse_request(b).map(Packet::Request),
-        RESULT => parse_result(b).map(Packet::Result),
+        RESULT_UNTIMED | RESULT => parse_result(b).map(Packet::Result),
         REFUSAL => parse_refusal(b).map(Packet::Refusal),
         RECEIPT => parse_receipt(b).map(Packet::Receipt),
         NOTICE => parse_notice(b).map(Packet::Notice),
@@ -271,6 +302,7 @@ pub fn parse_packet(b: &[u8]) -> Option<Packet> {
     }
 }
 
+/// A result with its time.
 pub fn write_packet(packet: &Packet) -> Vec<u8> {
     match packet {
         Packet::Request(p) => write_request(p).to_vec(),

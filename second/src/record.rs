@@ -1,26 +1,31 @@
 //! Paper 01, "Log": the head and the five kinds of records, read and written.
-//! Request 3 of paper 02: the walk that finds the ends of a log's records.
+//! Request 3 of paper 02: the walk that finds the ends of a log's records. Request 6
+//! adds the sixth kind, an executed record with its time; kind 1 is still read.
 
 use crate::answer::Refusal;
 use crate::bytes::{all_zero, get_i32, get_u32, put_i32, put_u32};
 use crate::image::{IMAGE_MAX, IMAGE_MIN};
 use crate::packet::{cabinet_ok, point_ok, window_ok};
+use crate::program::Form;
 use crate::rule::{Op, OUTCOME_MAX};
 
 pub const LOG_MAGIC: [u8; 4] = [0x57, 0x4C, 0x47, 0x31];
 pub const HEAD_LEN: usize = 8;
 
-pub const EXECUTED: u8 = 1;
+/// An executed record without its time.
+pub const EXECUTED_UNTIMED: u8 = 1;
 pub const GONE: u8 = 2;
 pub const GIVE: u8 = 3;
 pub const TAKE: u8 = 4;
 pub const RELEASE: u8 = 5;
+pub const EXECUTED: u8 = 6;
 
-pub const EXECUTED_LEN: usize = 28;
+pub const EXECUTED_UNTIMED_LEN: usize = 28;
 pub const GONE_LEN: usize = 12;
 pub const GIVE_LEN: usize = 8;
 pub const TAKE_HEAD_LEN: usize = 8;
 pub const RELEASE_LEN: usize = 8;
+pub const EXECUTED_LEN: usize = 32;
 
 #[derive(Clone, Copy, PartialEq, Eq, Debug)]
 pub struct Executed {
@@ -33,6 +38,8 @@ pub struct Executed {
     pub argument: i32,
     pub value: i32,
     pub quality: u8,
+    /// Heard time at execution, 0 if it was read from an untimed form.
+    pub time: u32,
 }
 
 #[derive(Clone, Copy, PartialEq, Eq, Debug)]
@@ -127,12 +134,13 @@ fn record_end(log: &[u8], at: usize) -> Result<Option<usize>, Refusal> {
         return Ok(None);
     };
     let len = match kind {
-        EXECUTED => EXECUTED_LEN,
+        EXECUTED_UNTIMED => EXECUTED_UNTIMED_LEN,
         GONE => GONE_LEN,
         GIVE => GIVE_LEN,
         TAKE if rest.len() < TAKE_HEAD_LEN => return Ok(None),
         TAKE => take_len(rest).ok_or(Refusal::BadLog)?,
         RELEASE => RELEASE_LEN,
+        EXECUTED => EXECUTED_LEN,
         _ => return Err(Refusal::BadLog),
     };
     Ok((len <= rest.len()).then_some(at + len))
@@ -149,7 +157,8 @@ pub fn parse_record(log: &[u8], at: usize) -> Parsed<'_> {
     }
 }
 
-/// Length of a take record whose first eight bytes are there.
+/// Length of a take record whose first eight bytes are there. The form of its image is not
+/// looked at here.
 fn take_len(b: &[u8]) -> Option<usize> {
     let image_len = get_u32(b, 4) as usize;
     (IMAGE_MIN..=IMAGE_MAX)
@@ -160,7 +169,7 @@ fn take_len(b: &[u8]) -> Option<usize> {
 /// The record that fills the slice.
 pub(crate) fn parse_whole(b: &[u8]) -> Option<Record<'_>> {
     match *b.first()? {
-        EXECUTED => parse_executed(b).map(Record::Executed),
+        EXECUTED_UNTIMED | EXECUTED => parse_executed(b).map(Record::Executed),
         GONE => parse_gone(b).map(Record::Gone),
         GIVE => parse_give(b).map(Record::Give),
         TAKE => parse_take(b).map(Record::Take),
@@ -172,8 +181,18 @@ fn shaped(b: &[u8], kind: u8, len: usize) -> bool {
     b.len() == len && b[0] == kind
 }
 
+/// Length of an executed record.
+pub fn executed_len(form: Form) -> usize {
+    match form {
+        Form::Untimed => EXECUTED_UNTIMED_LEN,
+        Form::Timed => EXECUTED_LEN,
+    }
+}
+
+/// An executed record of either form.
 pub fn parse_executed(b: &[u8]) -> Option<Executed> {
-    if !shaped(b, EXECUTED, EXECUTED_LEN) {
+    let timed = shaped(b, EXECUTED, EXECUTED_LEN);
+    if !timed && !shaped(b, EXECUTED_UNTIMED, EXECUTED_UNTIMED_LEN) {
         return None;
     }
     let record = Executed {
@@ -186,6 +205,10 @@ pub fn parse_executed(b: &[u8]) -> Option<Executed> {
         argument: get_i32(b, 16),
         value: get_i32(b, 20),
         quality: b[24],
+        time: match timed {
+            true => get_u32(b, EXECUTED_UNTIMED_LEN),
+            false => 0,
+        },
     };
     let ok = point_ok(record.point)
         && record.outcome <= OUTCOME_MAX
@@ -193,13 +216,22 @@ pub fn parse_executed(b: &[u8]) -> Option<Executed> {
         && window_ok(record.done, record.call)
         && record.op.accepts(record.argument)
         && record.quality <= 1
-        && all_zero(&b[25..EXECUTED_LEN]);
+        && all_zero(&b[25..EXECUTED_UNTIMED_LEN]);
     ok.then_some(record)
 }
 
 pub fn write_executed(r: &Executed) -> [u8; EXECUTED_LEN] {
     let mut b = [0; EXECUTED_LEN];
+    b[..EXECUTED_UNTIMED_LEN].copy_from_slice(&write_executed_untimed(r));
     b[0] = EXECUTED;
+    put_u32(&mut b, EXECUTED_UNTIMED_LEN, r.time);
+    b
+}
+
+/// As a program before request 6 writes it.
+pub fn write_executed_untimed(r: &Executed) -> [u8; EXECUTED_UNTIMED_LEN] {
+    let mut b = [0; EXECUTED_UNTIMED_LEN];
+    b[0] = EXECUTED_UNTIMED;
     b[1] = r.op as u8;
     b[2] = r.point;
     b[3] = r.outcome;
@@ -289,6 +321,7 @@ pub fn write_release(r: &Release) -> [u8; RELEASE_LEN] {
     b
 }
 
+/// An executed record with its time; the image of a take as it is.
 pub fn write_record(record: &Record) -> Vec<u8> {
     match record {
         Record::Executed(r) => write_executed(r).to_vec(),

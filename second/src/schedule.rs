@@ -14,12 +14,14 @@ mod generate;
 mod lock;
 mod moves;
 mod renewal;
+mod times;
 
 pub use checkpoints::generate_checkpoints;
 pub use generate::{generate, ISSUES_MAX};
 pub use lock::{generate_lock, LockSchedule};
-pub(crate) use renewal::rules_in_step;
+pub(crate) use renewal::program_in_step;
 pub use renewal::{generate_renewed, Places, Renewed};
+pub use times::generate_timed;
 
 /// A cabinet or a desk.
 #[derive(Clone, Copy, PartialEq, Eq, Debug)]

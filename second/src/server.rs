@@ -78,6 +78,9 @@ pub struct Completion {
     pub point: u8,
     pub outcome: u8,
     pub quality: u8,
+    /// Heard time of the server that executed it, at execution; 0 if it came from an
+    /// untimed form.
+    pub time: u32,
     /// End of the executed or take record that brought it.
     pub end: u64,
 }
@@ -93,6 +96,7 @@ impl Completion {
             point: r.point,
             outcome: r.outcome,
             quality: r.quality,
+            time: r.time,
             end,
         }
     }
@@ -107,6 +111,7 @@ impl Completion {
             point,
             outcome: r.outcome,
             quality: r.quality,
+            time: r.time,
             end,
         }
     }
@@ -120,6 +125,7 @@ impl Completion {
             op: self.op,
             outcome: self.outcome,
             quality: self.quality,
+            time: self.time,
         }
     }
 
@@ -131,6 +137,7 @@ impl Completion {
             client: self.client,
             call: self.call,
             value: self.value,
+            time: self.time,
         }
     }
 }

@@ -9,10 +9,10 @@ use crate::chamber::LockPoints;
 use crate::checker::{check_marked, Command, Violation};
 use crate::faults::Fault;
 use crate::leases::LeaseManager;
-use crate::packet::{GRANT, REFUSAL, RESULT};
+use crate::packet::{GRANT, REFUSAL, RESULT, RESULT_UNTIMED};
 use crate::plan::{write_plan, PLAN_LEN};
-use crate::rule::Rules;
-use crate::schedule::{rules_in_step, Call, Flaw, Places, Renewed, Schedule, Step};
+use crate::program::Program;
+use crate::schedule::{program_in_step, Call, Flaw, Places, Renewed, Schedule, Step};
 
 mod account;
 mod at_clients;
@@ -27,6 +27,7 @@ mod inspect;
 mod lock;
 mod shadow;
 mod storing;
+mod times;
 
 pub use counts::{Counts, Storing};
 pub use lock::{minimise_lock, run_lock, LockRun};
@@ -39,14 +40,16 @@ use desk::Desk;
 const FILL: u8 = 0xA5;
 /// Index of images among the kinds.
 const IMAGE: u8 = 0;
-const DESK_PACKETS: &[u8] = &[RESULT, REFUSAL, GRANT];
+const DESK_PACKETS: &[u8] = &[RESULT_UNTIMED, RESULT, REFUSAL, GRANT];
 
-/// A request that executed a command: the rules that it was executed by and
-/// the log's length after it, bytes that checkpoints replaced counted in.
+/// A request that executed a command: the program that did, the time that it keeps
+/// of the execution, and the log's length after it, bytes that checkpoints replaced
+/// counted in.
 struct Execution {
     command: usize,
     cabinet: usize,
-    rules: Rules,
+    program: Program,
+    time: u32,
     end: u64,
     place: u32,
     survives: bool,
@@ -97,6 +100,7 @@ fn run_world(mut world: World) -> Run {
     }
     world.count_left_crashed();
     world.count_replaced();
+    world.count_results();
     Run {
         result: world.check(),
         shadow: world.difference.map_or(Ok(()), Err),
@@ -145,7 +149,7 @@ pub struct World<'a> {
     clock: u32,
     /// All packets and images made, and their places by kind.
     pool: Vec<Vec<u8>>,
-    kinds: [Vec<usize>; 7],
+    kinds: [Vec<usize>; 8],
     commands: Vec<Command>,
     executions: Vec<Execution>,
     /// Place in the schedule.
@@ -203,7 +207,8 @@ impl<'a> World<'a> {
             return Err(Violation::NotRecovered { cabinet });
         }
         let (commands, marks) = (self.commands(), self.marks());
-        check_marked(&self.schedule.plan, &commands, &marks, &self.finals())
+        check_marked(&self.schedule.plan, &commands, &marks, &self.finals())?;
+        self.check_times()
     }
 
     pub fn step(&mut self, step: &Step) {
@@ -266,9 +271,9 @@ impl<'a> World<'a> {
         }
     }
 
-    /// The rules of a server's program in the present step.
-    fn rules(&self, cabinet: usize) -> Rules {
-        rules_in_step(self.renewals, cabinet, self.place as usize - 1)
+    /// A server's program in the present step.
+    fn program(&self, cabinet: usize) -> Program {
+        program_in_step(self.renewals, cabinet, self.place as usize - 1)
     }
 
     fn note(&mut self, text: impl FnOnce() -> String) {

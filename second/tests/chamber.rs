@@ -5,6 +5,7 @@ use second::chamber::{Chamber, LatestRead, LOWER, UPPER};
 use second::client::Received;
 use second::packet::{
     parse_request, write_grant, write_refusal, write_result, Grant, RefusalPacket, Reply, Request,
+    RESULT_LEN,
 };
 use second::rule::Op;
 
@@ -29,7 +30,7 @@ fn chamber() -> Chamber {
     Chamber::start(&grant(100), POINTS).expect("a grant and five points")
 }
 
-fn reply(request: &Request, value: i32, quality: u8) -> [u8; 16] {
+fn reply(request: &Request, value: i32, quality: u8) -> [u8; RESULT_LEN] {
     write_result(&Reply {
         outcome: 0,
         point: request.point,
@@ -37,6 +38,7 @@ fn reply(request: &Request, value: i32, quality: u8) -> [u8; 16] {
         client: request.client,
         call: request.call,
         value,
+        time: 3,
     })
 }
 

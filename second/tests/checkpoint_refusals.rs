@@ -37,7 +37,7 @@ fn refusals_of_a_checkpoint() {
     rig.execute(&set(1, 1, 5, 40));
     let (state, log, to, tail) = (32_768, 100, 32_768, 8);
     assert_eq!(asked(&mut rig, [state, log, to, tail]), 7);
-    rig.sync(0, 35);
+    rig.sync(0, 39);
     assert_eq!(asked(&mut rig, [state, log, to, tail]), 7);
     rig.sync_all();
     for short in [
@@ -51,13 +51,13 @@ fn refusals_of_a_checkpoint() {
         assert_eq!(asked(&mut rig, short), 2);
         assert_eq!(asked(&mut Rig::unsound(), short), 2);
     }
-    assert_eq!(asked(&mut rig, [state, 35, to, tail]), 19);
+    assert_eq!(asked(&mut rig, [state, 39, to, tail]), 19);
     assert_eq!(asked(&mut Rig::unsound(), [state, log, to, tail]), 19);
     // 19 comes before 7.
     let mut unsynced = Rig::new(0, 100);
     unsynced.execute(&set(1, 1, 5, 40));
-    assert_eq!(asked(&mut unsynced, [state, 35, to, tail]), 19);
-    assert_eq!(asked(&mut rig, [state, 36, to, tail]), 0);
+    assert_eq!(asked(&mut unsynced, [state, 39, to, tail]), 19);
+    assert_eq!(asked(&mut rig, [state, 40, to, tail]), 0);
 }
 
 /// From 8, which is before the log, to its length; a take before its give, or both before
@@ -70,7 +70,7 @@ fn ends_of_a_sound_state() {
         &image(&head(40, 0, 1, 1), &[floor(1, 1)], &[moved(1, 1)]),
     );
     rig.give(0, 40, 1);
-    let (taken, given) = (92, 100);
+    let (taken, given) = (96, 104);
     assert_eq!(rig.server.length, given);
     let sound = |take_end: u64, give_end: u64, record_end: u64| {
         let mut server = rig.server.clone();
@@ -168,7 +168,8 @@ fn records_that_cannot_follow_a_checkpoint() {
         release_bytes(6, 1),
         take_bytes(&image(&head(7, 0, 1, 1), &[], &[])),
         vec![0],
-        vec![6; 30],
+        vec![6; 32],
+        vec![7; 30],
         take_bytes(&[0; 47]),
     ];
     for record in bad {
@@ -192,7 +193,7 @@ fn tails_of_random_schedules() {
             }
             for _ in 0..20 {
                 let records = match tail.len() {
-                    8 => vec![random.below(7) as u8],
+                    8 => vec![random.below(8) as u8],
                     _ => damage(&mut random, &tail[8..]),
                 };
                 let whole = recover(&[&whole[..8 + replaced], &records].concat(), &server.plan);

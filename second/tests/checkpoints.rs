@@ -8,7 +8,7 @@ use checkpointing::*;
 use common::*;
 use second::bytes::put_u32;
 use second::checkpoint::{parse_checkpoint, CHECKPOINT_LEN, CHECKPOINT_MAX};
-use second::packet::write_request;
+use second::packet::{write_request, RESULT_LEN};
 use second::rule::Op;
 use second::server::{Hold, Taken};
 
@@ -23,11 +23,11 @@ fn plan_row(home: u8) -> [u8; 16] {
 
 /// Head and pairs for cabinet 0 with 3 clients and 3 records, heard time 300.
 const HEAD: [u8; 44] = [
-    0x57, 0x4C, 0x47, 0x32, 0, 0, 0, 0, 0x2C, 1, 0, 0, //
+    0x57, 0x4C, 0x47, 0x33, 0, 0, 0, 0, 0x2C, 1, 0, 0, //
     44, 0, 0, 0, 0, 4, 0, 0, //
     0x2C, 4, 0, 0, 0, 4, 0, 0, //
     0x2C, 8, 0, 0, 24, 0, 0, 0, //
-    0x44, 8, 0, 0, 60, 0, 0, 0,
+    0x44, 8, 0, 0, 72, 0, 0, 0,
 ];
 
 #[rustfmt::skip]
@@ -40,10 +40,10 @@ const CLIENTS: [u8; 24] = [
 /// In order of arrival: a set of point 5 to 40, a step of point 5 by -153 that stops
 /// at its low end, the entry that came with point 40.
 #[rustfmt::skip]
-const RECORDS: [u8; 60] = [
-    3, 0, 0, 0, 1, 0, 0, 0, 40, 0, 0, 0, 40, 0, 0, 0, 1, 0, 0, 5,
-    0xFF, 0xFF, 0xFF, 0xFF, 7, 0, 0, 0, 0x67, 0xFF, 0xFF, 0xFF, 0x9C, 0xFF, 0xFF, 0xFF, 2, 4, 0, 5,
-    1, 0, 0, 0, 2, 0, 0, 0, 7, 0, 0, 0, 7, 0, 0, 0, 1, 0, 0, 40,
+const RECORDS: [u8; 72] = [
+    3, 0, 0, 0, 1, 0, 0, 0, 40, 0, 0, 0, 40, 0, 0, 0, 1, 0, 0, 5, 0, 0, 0, 0,
+    0xFF, 0xFF, 0xFF, 0xFF, 7, 0, 0, 0, 0x67, 0xFF, 0xFF, 0xFF, 0x9C, 0xFF, 0xFF, 0xFF, 2, 4, 0, 5, 0, 0, 0, 0,
+    1, 0, 0, 0, 2, 0, 0, 0, 7, 0, 0, 0, 7, 0, 0, 0, 1, 0, 0, 40, 60, 0, 0, 0,
 ];
 
 fn by_hand() -> Vec<u8> {
@@ -119,11 +119,11 @@ fn the_longest() {
     let mut rig = Rig::new(0, 20_000);
     take_longest(&mut rig, &head(40, 0, 1, 1));
     let (bytes, _) = sync_and_checkpoint(&mut rig);
-    assert_eq!((bytes.len(), CHECKPOINT_MAX), (12_588, 12_588));
+    assert_eq!((bytes.len(), CHECKPOINT_MAX), (14_636, 14_636));
     assert!(recover_both(&bytes, rig.whole_log()).as_ref() == Some(&rig.server));
     // One record more is off the layout.
-    let mut more = [&bytes[..], &bytes[12_568..]].concat();
-    put_u32(&mut more, 40, 513 * 20);
+    let mut more = [&bytes[..], &bytes[14_612..]].concat();
+    put_u32(&mut more, 40, 513 * 24);
     assert!(parse_checkpoint(&more).is_none());
     let mut behind = bytes.clone();
     behind.resize(CHECKPOINT_LEN, FILL);
@@ -141,10 +141,13 @@ fn results_and_refusals_after_a_checkpoint() {
     rig.execute(&set(2, 1, 5, 41));
     rig.sync_all();
     rig.notice(0, &notice(2, 999));
-    let before = rig.request(0, 16, &set_done(1, 3, 3, 5, 40));
+    let before = rig.request(0, RESULT_LEN, &set_done(1, 3, 3, 5, 40));
     sync_and_checkpoint(&mut rig);
-    assert_eq!(rig.request(0, 16, &set_done(1, 3, 3, 5, 40)), before);
-    assert_eq!(rig.fetch(0, 16, 1, 3), before);
+    assert_eq!(
+        rig.request(0, RESULT_LEN, &set_done(1, 3, 3, 5, 40)),
+        before
+    );
+    assert_eq!(rig.fetch(0, RESULT_LEN, 1, 3), before);
     rig.request(5, 12, &set(1, 2, 5, 40));
     rig.request(6, 12, &set_done(1, 3, 3, 5, 42));
     let mut late = request(Op::Read, 5, 2, 1, 0);
@@ -154,8 +157,8 @@ fn results_and_refusals_after_a_checkpoint() {
     rig.execute(&set(1, 4, 5, 43));
     rig.request(7, 12, &set(1, 4, 5, 43));
     rig.sync(10, 7);
-    rig.sync(0, 36);
-    rig.request(0, 16, &set(1, 4, 5, 43));
+    rig.sync(0, 40);
+    rig.request(0, RESULT_LEN, &set(1, 4, 5, 43));
 }
 
 /// A give, a take and a release before checkpoints, with image, receipt and take after.
@@ -165,14 +168,14 @@ fn moves_across_checkpoints() {
     giver.execute(&set(1, 1, 5, 40));
     giver.give(0, 5, 1);
     giver.sync_all();
-    let before = giver.image(0, 76, 5);
+    let before = giver.image(0, 80, 5);
     sync_and_checkpoint(&mut giver);
-    assert_eq!(giver.image(0, 76, 5), before);
+    assert_eq!(giver.image(0, 80, 5), before);
     taker.take(0, &before);
     taker.receipt(7, 0, 5);
     sync_and_checkpoint(&mut taker);
     taker.take(12, &before);
-    taker.fetch(0, 16, 1, 1);
+    taker.fetch(0, RESULT_LEN, 1, 1);
     let receipt = taker.receipt(0, 8, 5);
     giver.release(0, &receipt);
     sync_and_checkpoint(&mut giver);
@@ -181,7 +184,7 @@ fn moves_across_checkpoints() {
     // Back again.
     taker.give(0, 5, 0);
     sync_and_checkpoint(&mut taker);
-    let back = taker.image(0, 76, 5);
+    let back = taker.image(0, 80, 5);
     giver.take(0, &back);
     giver.take(12, &back);
     assert_eq!(giver.server.point(5).move_number, 2);

@@ -7,7 +7,10 @@ mod common;
 use checkpointing::*;
 use common::*;
 use second::bytes::put_u32;
-use second::checkpoint::{parse_checkpoint, write_checkpoint, CHECKPOINT_LEN};
+use second::checkpoint::{
+    parse_checkpoint, write_checkpoint_as, CHECKPOINT_LEN, CHECKPOINT_MAGIC_UNTIMED,
+};
+use second::program::Form;
 use second::random::Random;
 
 /// How many checkpoints are read, and how many refused.
@@ -33,7 +36,11 @@ fn assert_refused_or_sound(bytes: &[u8], tail: &[u8]) -> bool {
     };
     assert!(state.sound() && (state.length, state.mark) == (8, 8));
     let mut again = vec![FILL; CHECKPOINT_LEN];
-    let len = write_checkpoint(&state, &mut again);
+    let form = match bytes.starts_with(&CHECKPOINT_MAGIC_UNTIMED) {
+        true => Form::Untimed,
+        false => Form::Timed,
+    };
+    let len = write_checkpoint_as(form, &state, &mut again);
     assert_eq!(again[..len], bytes[..len]);
     let same_server = tail.get(4) == Some(&state.cabinet);
     let recovered = recover_both(bytes, &tail[..8]);

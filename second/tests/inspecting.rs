@@ -63,17 +63,17 @@ fn executed_records_and_image_entries() {
         &image(&head(40, 0, 1, 1), &[floor(1, 1), floor(3, 4)], &records),
     );
     rig.execute(&set(3, 5, 40, 41));
-    assert_eq!(at(&rig, &[], 1, 1), (1, 8, 36));
+    assert_eq!(at(&rig, &[], 1, 1), (1, 8, 40));
     // The take's eight bytes, the image's head and point, two floors.
-    let entries = 36 + 8 + 48 + 16;
-    assert_eq!(at(&rig, &[], 1, 2), (2, entries, entries + 20));
-    assert_eq!(at(&rig, &[], 3, 4), (2, entries + 20, entries + 40));
-    assert_eq!(at(&rig, &[], 3, 5), (1, entries + 40, entries + 68));
+    let entries = 40 + 8 + 48 + 16;
+    assert_eq!(at(&rig, &[], 1, 2), (2, entries, entries + 24));
+    assert_eq!(at(&rig, &[], 3, 4), (2, entries + 24, entries + 48));
+    assert_eq!(at(&rig, &[], 3, 5), (1, entries + 48, entries + 80));
     let found = (rig.server).inspect(STATE_LEN, &[], &rig.log, 3, 4);
     let shown = found.expect("an entry").shown(&[], &rig.log);
     assert_eq!(
         shown,
-        [3, 0, 0, 0, 4, 0, 0, 0, 7, 0, 0, 0, 7, 0, 0, 0, 1, 0, 0, 0]
+        [3, 0, 0, 0, 4, 0, 0, 0, 7, 0, 0, 0, 7, 0, 0, 0, 1, 0, 0, 0, 60, 0, 0, 0]
     );
     for id in [(1, 3), (3, 3), (2, 1), (0, 0), (u32::MAX, u32::MAX)] {
         assert_eq!(number(&rig.server, &[], &rig.log, id), 17);
@@ -85,13 +85,13 @@ fn checkpoint_entries() {
     let before = [set(1, 1, 5, 40), set(9, 1, 6, 41)];
     let (mut rig, bytes) = executed_around(&before, set(1, 2, 5, 42));
     // Behind two clients.
-    assert_eq!(at(&rig, &bytes, 1, 1), (3, 2108, 2128));
-    assert_eq!(at(&rig, &bytes, 9, 1), (3, 2128, 2148));
-    assert_eq!(at(&rig, &bytes, 1, 2), (1, 8, 36));
+    assert_eq!(at(&rig, &bytes, 1, 1), (3, 2108, 2132));
+    assert_eq!(at(&rig, &bytes, 9, 1), (3, 2132, 2156));
+    assert_eq!(at(&rig, &bytes, 1, 2), (1, 8, 40));
     let place = (rig.server).inspect(STATE_LEN, &bytes, &rig.log, 9, 1);
     let place = place.expect("an entry");
     assert_eq!(place.source, Source::Checkpoint);
-    assert_eq!(place.shown(&bytes, &rig.log), &bytes[2128..2148]);
+    assert_eq!(place.shown(&bytes, &rig.log), &bytes[2132..2156]);
     // The state holds it, and neither slice does.
     assert_eq!(number(&rig.server, &[], &rig.log, (1, 1)), 17);
     // The state has dropped it, and the checkpoint has it still.
@@ -103,20 +103,20 @@ fn checkpoint_entries() {
 #[test]
 fn the_latest_of_several() {
     let (mut rig, bytes) = given_away();
-    assert_eq!(at(&rig, &bytes, 1, 1), (3, 2100, 2120));
+    assert_eq!(at(&rig, &bytes, 1, 1), (3, 2100, 2124));
     let back = |number| image(&head(5, 0, 1, number), &[floor(1, 1)], &[moved(1, 1)]);
     rig.take(0, &back(2));
-    assert_eq!(at(&rig, &bytes, 1, 1), (2, 72, 92));
+    assert_eq!(at(&rig, &bytes, 1, 1), (2, 72, 96));
     rig.give(0, 5, 1);
     rig.take(0, &back(4));
-    assert_eq!(rig.server.length, 184);
-    assert_eq!(at(&rig, &bytes, 1, 1), (2, 164, 184));
+    assert_eq!(rig.server.length, 192);
+    assert_eq!(at(&rig, &bytes, 1, 1), (2, 168, 192));
     // Bytes past the recorded length are no log.
     let length = rig.server.length as usize;
-    rig.log[length..length + 28].copy_from_slice(&executed_bytes(1, 1, 1, 5, 40));
-    assert_eq!(at(&rig, &bytes, 1, 1), (2, 164, 184));
+    rig.log[length..length + 32].copy_from_slice(&executed_bytes(1, 1, 1, 5, 40));
+    assert_eq!(at(&rig, &bytes, 1, 1), (2, 168, 192));
     rig.log[length..].fill(0);
-    assert_eq!(at(&rig, &bytes, 1, 1), (2, 164, 184));
+    assert_eq!(at(&rig, &bytes, 1, 1), (2, 168, 192));
 }
 
 /// A record of a good kind and length that does not read holds nothing, so the one before
@@ -136,23 +136,23 @@ fn records_that_do_not_read() {
         let found = (rig.server).inspect(STATE_LEN, &bytes, &log, id.0, id.1);
         found.map(places)
     };
-    let entry = 36 + 8 + 48 + 8;
-    assert_eq!(shown(&|_| {}, (1, 3)), Ok((1, 8, 36)));
-    assert_eq!(shown(&|_| {}, (3, 1)), Ok((2, entry, entry + 20)));
+    let entry = 40 + 8 + 48 + 8;
+    assert_eq!(shown(&|_| {}, (1, 3)), Ok((1, 8, 40)));
+    assert_eq!(shown(&|_| {}, (3, 1)), Ok((2, entry, entry + 24)));
     // The record of call 3 made one of call 1: the tail before the checkpoint.
-    assert_eq!(shown(&|log| log[16] = 1, (1, 1)), Ok((1, 8, 36)));
+    assert_eq!(shown(&|log| log[16] = 1, (1, 1)), Ok((1, 8, 40)));
     assert_eq!(shown(&|log| log[16] = 1, (1, 3)), Err(Refusal::Unknown));
     // Op, point, outcome, quality, a zero byte.
     for (place, byte) in [(9, 6), (10, 64), (11, 5), (32, 2), (35, 1)] {
         let bad = |log: &mut [u8]| (log[16], log[place]) = (1, byte);
-        assert_eq!(shown(&bad, (1, 1)), Ok((3, 2100, 2120)));
+        assert_eq!(shown(&bad, (1, 1)), Ok((3, 2100, 2124)));
         assert_eq!(shown(&bad, (1, 3)), Err(Refusal::Unknown));
     }
     // A zero byte of the take; magic, destination and pairs of its image; its entry.
-    for place in [37, 44, 49, 51, 60, entry + 19] {
+    for place in [41, 48, 53, 55, 64, entry + 19] {
         let bad = |log: &mut [u8]| log[place] = 99;
         assert_eq!(shown(&bad, (3, 1)), Err(Refusal::Unknown));
-        assert_eq!(shown(&bad, (1, 3)), Ok((1, 8, 36)));
+        assert_eq!(shown(&bad, (1, 3)), Ok((1, 8, 40)));
     }
 }
 
@@ -164,21 +164,21 @@ fn images_with_values_out_of_range() {
     let records = [moved(1, 1), moved(1, 2)];
     rig.take(0, &image(&head(5, 0, 1, 2), &[floor(1, 1)], &records));
     let (value, entry) = (8 + 8 + 40, 8 + 8 + 48 + 8);
-    for place in [value, entry + 12, entry + 32] {
+    for place in [value, entry + 12, entry + 36] {
         for (value, in_range) in [(-101, false), (-100, true), (1000, true), (1001, false)] {
             put_i32(&mut rig.log, place, value);
             for checkpoint in [&bytes[..], &[]] {
-                assert_eq!(at(&rig, checkpoint, 1, 1), (2, entry, entry + 20));
-                assert_eq!(at(&rig, checkpoint, 1, 2), (2, entry + 20, entry + 40));
+                assert_eq!(at(&rig, checkpoint, 1, 1), (2, entry, entry + 24));
+                assert_eq!(at(&rig, checkpoint, 1, 2), (2, entry + 24, entry + 48));
             }
             let recovered = recover_both(&bytes, rig.whole_log());
             assert_eq!(recovered.is_some(), in_range);
         }
         // Another field off beside the last of these values.
-        rig.log[entry + 39] = 1;
-        assert_eq!(at(&rig, &bytes, 1, 1), (3, 2100, 2120));
+        rig.log[entry + 43] = 1;
+        assert_eq!(at(&rig, &bytes, 1, 1), (3, 2100, 2124));
         assert_eq!(number(&rig.server, &bytes, &rig.log, (1, 2)), 17);
-        rig.log[entry + 39] = 0;
+        rig.log[entry + 43] = 0;
         put_i32(&mut rig.log, place, 7);
     }
 }
@@ -199,21 +199,21 @@ fn refusals_in_their_order() {
     for id in [(1, 1), (1, 2), (7, 7)] {
         assert_eq!(number(&unsound, &bytes, log, id), 19);
         assert_eq!(number(&unsound, &bad, &bad, id), 19);
-        assert_eq!(number(server, &bytes, &log[..35], id), 19);
+        assert_eq!(number(server, &bytes, &log[..39], id), 19);
         assert_eq!(number(server, &bad, &[], id), 19);
         assert_eq!(number(server, &bad, log, id), 14);
         assert_eq!(number(server, &bytes[..bytes.len() - 1], log, id), 14);
         assert_eq!(number(server, &[0x57], log, id), 14);
         assert_eq!(number(server, &bytes, &bad, id), 14);
         assert_eq!(number(server, &[], &bad, id), 14);
-        for (place, byte) in [(0, 0), (4, 1), (4, 16), (5, 1), (8, 0), (8, 6)] {
+        for (place, byte) in [(0, 0), (4, 1), (4, 16), (5, 1), (8, 0), (8, 7)] {
             let mut tail = log.to_vec();
             tail[place] = byte;
             assert_eq!(number(server, &bytes, &tail, id), 14);
         }
         let seven = if id == (7, 7) { 17 } else { 0 };
         assert_eq!(number(server, &bytes, log, id), seven);
-        assert_eq!(number(server, &bytes, &log[..36], id), seven);
+        assert_eq!(number(server, &bytes, &log[..40], id), seven);
     }
 }
 

@@ -6,10 +6,10 @@ mod logs;
 
 use common::*;
 use logs::recover;
-use second::packet::{write_request, REQUEST_LEN};
+use second::packet::{write_request, REQUEST_LEN, RESULT_LEN};
 use second::plan::Entry;
+use second::program::Program;
 use second::random::Random;
-use second::record::{parse_executed, EXECUTED_LEN, HEAD_LEN};
 use second::rule::{apply, apply_by, Op, Rules};
 use second::sequential::SequentialSpec;
 use second::server::Server;
@@ -231,20 +231,20 @@ fn part_packet(call: u32, argument: i32) -> [u8; REQUEST_LEN] {
 /// Part 5 by each program in turn, at one cabinet.
 fn rig_of_all_programs() -> Rig {
     let mut rig = Rig::new(0, 2000);
-    for (call, rules) in (1..).zip(Rules::ALL) {
-        rig.execute_by(rules, &part_packet(call, 5));
+    for (call, program) in (1..).zip(Program::ALL) {
+        rig.execute_by(program, &part_packet(call, 5));
     }
     rig
 }
 
-/// The results of the three calls of `rig_of_all_programs`; a repeat gives the
+/// The results of the four calls of `rig_of_all_programs`; a repeat gives the
 /// same and executes nothing.
 fn assert_results(rig: &mut Rig) {
     rig.sync_all();
-    for (call, value) in (1..).zip([-95, -95, -94]) {
+    for (call, value) in (1..).zip([-95, -95, -94, -94]) {
         assert_eq!(rig.result(call), effect(0, value, 0));
-        let bytes = rig.request(0, 16, &part_packet(call, 5));
-        assert_eq!(bytes[12..], i32::to_le_bytes(value));
+        let bytes = rig.request(0, RESULT_LEN, &part_packet(call, 5));
+        assert_eq!(bytes[12..16], i32::to_le_bytes(value));
     }
 }
 
@@ -257,11 +257,11 @@ fn each_rule_at_a_cabinet() {
     assert_eq!(rig.server.point(POINT).value, -94);
     assert_results(&mut rig);
     // Request is by today's rules.
-    rig.execute(&part_packet(4, 995));
+    rig.execute(&part_packet(5, 995));
     assert_eq!(rig.last_record().value, 994); // 1094.5
-    rig.execute_by(Rules::BETWEEN, &part_packet(5, 999));
+    rig.execute_by(Program::SECOND, &part_packet(6, 999));
     assert_eq!(rig.last_record().value, 998); // 1098.9
-    rig.execute(&part_packet(6, 999));
+    rig.execute(&part_packet(7, 999));
     assert_eq!(rig.last_record().value, 999);
 }
 
@@ -285,7 +285,7 @@ fn old_log_recovers() {
     ];
     let log = [&head[..], &record].concat();
     let mut rig = Rig::new(0, 2000);
-    rig.execute_by(Rules::OLD, &part_packet(1, 5));
+    rig.execute_by(Program::FIRST, &part_packet(1, 5));
     assert_eq!(rig.whole_log(), log);
     rig.server = recover(&log, &plan()).expect("a state");
     assert_eq!(rig.server.point(POINT).value, -95);
@@ -298,7 +298,7 @@ fn old_log_recovers() {
 /// Results of all programs move with the point, to a cabinet of any program.
 #[test]
 fn results_of_all_programs_move() {
-    rig_of_all_programs().move_to_each_program(u32::from(POINT), 3, |taker| {
+    rig_of_all_programs().move_to_each_program(u32::from(POINT), 4, |taker| {
         assert_eq!(taker.server.point(POINT).value, -94);
         assert_results(taker);
     });
@@ -314,9 +314,9 @@ fn logs_of_any_mixture() {
         let mut rig = Rig::new(0, 2000);
         let marks: Vec<Rules> = (1..=30)
             .map(|call| {
-                let rules = *random.pick(&Rules::ALL);
-                rig.execute_by(rules, &random_packet(&mut random, call));
-                rules
+                let program = *random.pick(&Program::ALL);
+                rig.execute_by(program, &random_packet(&mut random, call));
+                program.rules
             })
             .collect();
         rig.sync_all();
@@ -341,10 +341,9 @@ fn random_packet(random: &mut Random, call: u32) -> [u8; REQUEST_LEN] {
 /// Whether the book, with these marks, gives what each record says.
 fn explained(log: &[u8], marks: &[Rules]) -> bool {
     let mut book = SequentialSpec::new(plan());
-    let records = log[HEAD_LEN..].chunks(EXECUTED_LEN);
+    let records = executed_records(log);
     assert_eq!(records.len(), marks.len());
-    records.zip(marks).all(|(bytes, &rules)| {
-        let r = parse_executed(bytes).expect("a record");
+    records.iter().zip(marks).all(|(r, &rules)| {
         let found = book.run_by(rules, r.op, r.point, r.argument);
         found == effect(r.outcome, r.value, r.quality)
     })
@@ -352,8 +351,8 @@ fn explained(log: &[u8], marks: &[Rules]) -> bool {
 
 fn assert_explained(server: &Server, log: &[u8], marks: &[Rules]) {
     assert!(explained(log, marks));
-    let last = parse_executed(&log[log.len() - EXECUTED_LEN..]).expect("a record");
-    assert_eq!(server.point(POINT).value, last.value);
+    let last = executed_records(log).last().map(|r| r.value);
+    assert_eq!(Some(server.point(POINT).value), last);
 }
 
 // The yard.

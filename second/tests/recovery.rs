@@ -7,6 +7,7 @@ use common::*;
 use logs::*;
 use second::answer::Refusal;
 use second::bytes::{get_i32, get_u32};
+use second::packet::RESULT_LEN;
 use second::plan::Plan;
 use second::record::whole_end;
 use second::schedule::generate;
@@ -86,6 +87,7 @@ struct ModelRecord {
     outcome: u8,
     value: i32,
     quality: u8,
+    time: u32,
 }
 
 #[derive(Debug, PartialEq)]
@@ -130,7 +132,7 @@ impl Model {
 
     fn apply(&mut self, kind: u8, b: &[u8]) {
         match kind {
-            1 => self.executed(b),
+            1 | 6 => self.executed(b),
             2 => {
                 let client = get_u32(b, 4);
                 self.floors.remove(&client);
@@ -161,6 +163,7 @@ impl Model {
             outcome: b[3],
             value: get_i32(b, 20),
             quality: b[24],
+            time: if b[0] == 6 { get_u32(b, 28) } else { 0 },
         };
         let point = &mut self.points[usize::from(b[2])];
         point.value = record.value;
@@ -185,7 +188,8 @@ impl Model {
             *floor = get_u32(f, 4).max(*floor);
         }
         let (at, len) = (get_u32(b, 32) as usize, get_u32(b, 36) as usize);
-        for r in b[at..at + len].chunks(20) {
+        let timed = b[3] == 0x32;
+        for r in b[at..at + len].chunks(if timed { 24 } else { 20 }) {
             self.records.push(ModelRecord {
                 id: (get_u32(r, 0), get_u32(r, 4)),
                 point: b[4],
@@ -194,6 +198,7 @@ impl Model {
                 outcome: r[17],
                 value: get_i32(r, 12),
                 quality: r[18],
+                time: if timed { get_u32(r, 20) } else { 0 },
             });
         }
         self.drop_under_floors();
@@ -222,6 +227,7 @@ fn model_of(server: &Server) -> Model {
         outcome: r.outcome,
         value: r.value,
         quality: r.quality,
+        time: r.time,
     });
     Model {
         points: points.collect(),
@@ -265,5 +271,5 @@ fn recovered_records_are_synced() {
     let log = rig.log[..kept].to_vec();
     let answer = rig.server.recover(STATE_LEN, &log, &plan_bytes());
     assert_eq!(answer.number, 0);
-    rig.request(0, 16, &set(1, 1, 5, 40));
+    rig.request(0, RESULT_LEN, &set(1, 1, 5, 40));
 }

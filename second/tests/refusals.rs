@@ -10,7 +10,7 @@ use logs::*;
 use second::answer::{Answer, Refusal};
 use second::bytes::put_u32;
 use second::client::{Client, Received};
-use second::image::{Floor, ImageHead, Moved, IMAGE_MAX};
+use second::image::{Floor, ImageHead, Moved, IMAGE_MAX, MOVED_LEN};
 use second::leases::LeaseManager;
 use second::packet::*;
 use second::plan::{write_plan, PLAN_LEN};
@@ -110,7 +110,7 @@ fn request_refusals() {
     let mut rig = Rig::new(0, 2000);
     rig.expect(2, 0, |s, log, out| s.request(SHORT, log, &good, out));
     rig.expect(2, 0, |s, log, out| {
-        s.request(STATE_LEN, log, &good, &mut out[..15])
+        s.request(STATE_LEN, log, &good, &mut out[..19])
     });
     rig.expect(19, 0, |s, log, out| {
         s.request(STATE_LEN, &mut log[..7], &good, out)
@@ -155,7 +155,7 @@ fn request_refusals() {
     assert_eq!(rig.request(7, 12, &again), refused(7, 5, 1, 3));
     rig.sync_all();
     let state = rig.server.clone();
-    let result = rig.request(0, 16, &again);
+    let result = rig.request(0, RESULT_LEN, &again);
     assert_eq!(rig.server, state);
     let expected = Reply {
         outcome: 0,
@@ -164,15 +164,16 @@ fn request_refusals() {
         client: 1,
         call: 3,
         value: 40,
+        time: rig.server.heard,
     };
     assert_eq!(parse_result(&result), Some(expected));
 
     rig.fill_clients(32);
     assert_eq!(rig.request(8, 12, &read(7, 1, 5)), refused(8, 5, 7, 1));
-    rig.leave(27);
+    rig.leave(31);
     let next = set_done(1, 4, 3, 5, 41);
     assert_eq!(rig.request(9, 12, &next), refused(9, 5, 1, 4));
-    rig.leave(28);
+    rig.leave(32);
     rig.execute(&next);
 }
 
@@ -215,7 +216,7 @@ fn request_order() {
     let mut rig = Rig::unsound();
     rig.expect(2, 0, |s, log, out| s.request(SHORT, log, &bad, out));
     rig.expect(2, 0, |s, log, out| {
-        s.request(STATE_LEN, log, &bad, &mut out[..15])
+        s.request(STATE_LEN, log, &bad, &mut out[..19])
     });
     rig.request(19, 0, &bad);
     // 1 before 3.
@@ -247,7 +248,7 @@ fn request_order() {
     rig.request(9, 12, &set_done(1, 4, 3, 5, 41));
     // A result needs no space.
     rig.sync_all();
-    rig.request(0, 16, &set_done(1, 3, 3, 5, 40));
+    rig.request(0, RESULT_LEN, &set_done(1, 3, 3, 5, 40));
     // 8 before 9; 4 before 8.
     let mut rig = Rig::new(0, 2000);
     rig.fill_clients(32);
@@ -280,7 +281,7 @@ fn request_for_a_point_given_away() {
     rig.sync_all();
     // The record is still held: not for requests, but for fetch.
     rig.request(3, 12, &set(1, 1, 5, 40));
-    rig.fetch(0, 16, 1, 1);
+    rig.fetch(0, RESULT_LEN, 1, 1);
     rig.request(6, 12, &set(1, 1, 6, 40));
     rig.release(0, &receipt(5, 1, 1));
     rig.fetch(17, 0, 1, 1);
@@ -296,10 +297,10 @@ fn fetch() {
     rig.execute(&set(1, 1, 5, 40));
     rig.expect(2, 0, |s, log, out| s.fetch(SHORT, log, 1, 1, out));
     rig.expect(2, 0, |s, log, out| {
-        s.fetch(STATE_LEN, log, 1, 1, &mut out[..15])
+        s.fetch(STATE_LEN, log, 1, 1, &mut out[..19])
     });
     rig.expect(19, 0, |s, log, out| {
-        s.fetch(STATE_LEN, &log[..35], 1, 1, out)
+        s.fetch(STATE_LEN, &log[..39], 1, 1, out)
     });
     Rig::unsound().fetch(19, 0, 1, 1);
     for (client, call) in [(2, 1), (1, 2), (0, 0), (u32::MAX, u32::MAX)] {
@@ -307,12 +308,12 @@ fn fetch() {
     }
     rig.fetch(7, 0, 1, 1);
     rig.sync_all();
-    let packet = rig.fetch(0, 16, 1, 1);
-    assert_eq!(packet, rig.request(0, 16, &set(1, 1, 5, 40)));
+    let packet = rig.fetch(0, RESULT_LEN, 1, 1);
+    assert_eq!(packet, rig.request(0, RESULT_LEN, &set(1, 1, 5, 40)));
     // 2 before 19 before 17.
     let mut rig = Rig::unsound();
     rig.expect(2, 0, |s, log, out| {
-        s.fetch(STATE_LEN, log, 1, 1, &mut out[..15])
+        s.fetch(STATE_LEN, log, 1, 1, &mut out[..19])
     });
     rig.fetch(19, 0, 7, 7);
 }
@@ -324,16 +325,16 @@ fn sync() {
     let mut rig = Rig::new(0, 500);
     rig.execute(&set(1, 1, 5, 40));
     rig.expect(2, 0, |s, log, _| s.sync(SHORT, log, 8));
-    rig.expect(19, 0, |s, log, _| s.sync(STATE_LEN, &log[..35], 8));
+    rig.expect(19, 0, |s, log, _| s.sync(STATE_LEN, &log[..39], 8));
     Rig::unsound().sync(19, 8);
-    for mark in [0, 7, 37, 500, u64::MAX] {
+    for mark in [0, 7, 41, 500, u64::MAX] {
         rig.sync(10, mark);
     }
-    for mark in [8, 8, 20, 36, 36] {
+    for mark in [8, 8, 20, 40, 40] {
         rig.sync(0, mark);
         assert_eq!(rig.server.mark, mark);
     }
-    rig.sync(10, 35);
+    rig.sync(10, 39);
     // 2 before 19 before 10.
     let mut rig = Rig::unsound();
     rig.expect(2, 0, |s, log, _| s.sync(SHORT, log, 0));
@@ -349,7 +350,7 @@ fn notice_refusals() {
     let good = notice(1, 70);
     rig.expect(2, 0, |s, log, _| s.notice(SHORT, log, &good));
     rig.expect(19, 0, |s, log, _| {
-        s.notice(STATE_LEN, &mut log[..35], &good)
+        s.notice(STATE_LEN, &mut log[..39], &good)
     });
     Rig::unsound().notice(19, &good);
     for bad in bad_notices() {
@@ -371,7 +372,7 @@ fn notice_refusals() {
     assert!(rig.server.clients.is_empty() && rig.server.records.is_empty());
     rig.notice(17, &good);
     // An earlier time does not lower the heard time.
-    rig.leave(40);
+    rig.leave(44);
     let late = Request {
         lease_end: 71,
         ..request(Op::Read, 5, 1, 1, 0)
@@ -448,7 +449,7 @@ fn image_refusals() {
     rig.expect(2, 0, |s, log, out| {
         s.image(STATE_LEN, log, 5, &mut out[..IMAGE_MAX - 1])
     });
-    rig.expect(19, 0, |s, log, out| s.image(STATE_LEN, &log[..43], 5, out));
+    rig.expect(19, 0, |s, log, out| s.image(STATE_LEN, &log[..47], 5, out));
     Rig::unsound().image(19, 0, 5);
     rig.image(1, 0, 64);
     rig.image(3, 0, 6);
@@ -461,7 +462,7 @@ fn image_refusals() {
     });
     other.image(19, 0, 64);
     rig.sync_all();
-    let bytes = rig.image(0, 76, 5);
+    let bytes = rig.image(0, 80, 5);
     let expected = image(
         &ImageHead {
             value: 40,
@@ -472,6 +473,7 @@ fn image_refusals() {
         &[Moved {
             argument: 40,
             value: 40,
+            time: 0,
             ..moved(1, 1)
         }],
     );
@@ -563,9 +565,13 @@ fn bad_images() -> Vec<Vec<u8>> {
     });
     with(&|b| b.push(0));
     with(&|b| b.extend([0; 20]));
+    with(&|b| b.extend([0; MOVED_LEN]));
     for at in 0..4 {
         with(&|b| b[at] ^= 1);
     }
+    // The other form's opening, and none.
+    with(&|b| b[3] = 0x31);
+    with(&|b| b[3] = 0x30);
     with(&|b| b[4] = 64);
     with(&|b| b[5] = 16);
     with(&|b| b[6] = 16);
@@ -589,12 +595,12 @@ fn bad_images() -> Vec<Vec<u8>> {
     // A floor above the records' calls, or more than 15 under them.
     with(&|b| put_u32(b, 60, 6));
     with(&|b| put_u32(b, 60, 4));
-    // Records, of 20 bytes from 64: client not among the floors, calls out of
+    // Records, of 24 bytes from 64: client not among the floors, calls out of
     // the window, op, argument, value, outcome, quality, zero.
     with(&|b| put_u32(b, 64, 2));
     with(&|b| put_u32(b, 68, 0));
-    with(&|b| put_u32(b, 88, 17));
-    with(&|b| put_u32(b, 88, 1));
+    with(&|b| put_u32(b, 92, 17));
+    with(&|b| put_u32(b, 92, 1));
     with(&|b| put_u32(b, 68, 16));
     with(&|b| put_u32(b, 76, 1001));
     with(&|b| put_u32(b, 76, -101i32 as u32));
@@ -689,7 +695,7 @@ fn release_refusals() {
     let good = receipt(5, 1, 1);
     rig.expect(2, 0, |s, log, _| s.release(SHORT, log, &good));
     rig.expect(19, 0, |s, log, _| {
-        s.release(STATE_LEN, &mut log[..43], &good)
+        s.release(STATE_LEN, &mut log[..47], &good)
     });
     Rig::unsound().release(19, &good);
     for (at, byte) in [(0, 3), (0, 5), (1, 64), (2, 16), (3, 1)] {
@@ -715,11 +721,11 @@ fn release_refusals() {
     // Another cabinet's receipt of a later move releases too.
     rig.release(0, &receipt(5, 9, 7));
     let point = rig.server.point(5);
-    let (destination, end) = (1, 44);
+    let (destination, end) = (1, 48);
     assert_eq!(point.hold, Hold::Released { destination, end });
     assert_eq!(point.move_number, 1);
     assert!(rig.server.records.is_empty());
-    assert_eq!(rig.log[44..52], [5, 5, 0, 0, 1, 0, 0, 0]);
+    assert_eq!(rig.log[48..56], [5, 5, 0, 0, 1, 0, 0, 0]);
     rig.release(3, &receipt(5, 9, 7));
 }
 
@@ -781,16 +787,19 @@ fn recover_heads_and_ends() {
         &[4, 9, 9, 9, 9, 9, 9],
         &[4, 9, 9, 9, 48, 0, 0, 0],
         &[4, 0, 0, 0, 0x30, 0x29, 0, 0, 1],
+        &[4, 0, 0, 0, 0x30, 0x31, 0, 0, 1],
         &[5, 200],
+        &[6],
+        &[6, 99, 99],
     ] {
         assert_eq!(with(tail), 0);
     }
     for tail in [
         &[0u8][..],
-        &[6],
+        &[7],
         &[255, 1, 2],
         &[4, 0, 0, 0, 47, 0, 0, 0],
-        &[4, 0, 0, 0, 0x31, 0x29, 0, 0],
+        &[4, 0, 0, 0, 0x31, 0x31, 0, 0],
         &[4, 0, 0, 0, 0, 0, 0, 0x80],
     ] {
         assert_eq!(with(tail), 14);
@@ -863,7 +872,8 @@ fn recover_records_that_cannot_follow() {
 /// Whole records with one field out of its range, or a zero not zero.
 #[test]
 fn recover_broken_layouts() {
-    let bytes = executed_bytes(1, 20, 20, 5, 40);
+    let forms = [executed_bytes, executed_untimed_bytes];
+    let forms = forms.map(|form| form(1, 20, 20, 5, 40));
     let cases: &[(usize, u8)] = &[
         (1, 6),
         (1, 0),
@@ -879,7 +889,9 @@ fn recover_broken_layouts() {
         (26, 1),
         (27, 1),
     ];
-    assert_broken(&[], &bytes, cases);
+    for bytes in forms {
+        assert_broken(&[], &bytes, cases);
+    }
     let first = [executed_bytes(1, 1, 1, 5, 40)];
     assert_broken(
         &first,
@@ -923,11 +935,12 @@ fn recover_keeps_written_results() {
     assert_eq!(answer, Answer::DONE);
     let point = server.point(5);
     assert_eq!((point.value, point.quality), (77, 1));
-    let mut output = [0; 16];
+    let mut output = [0; RESULT_LEN];
     let answer = server.fetch(STATE_LEN, &log, 1, 1, &mut output);
-    assert_eq!(answer, Answer::wrote(16));
+    assert_eq!(answer, Answer::wrote(RESULT_LEN));
     let reply = parse_result(&output).expect("a result");
     assert_eq!((reply.outcome, reply.value, reply.quality), (2, 77, 1));
+    assert_eq!((server.heard, reply.time), (0, 60));
 }
 
 // Desk.
@@ -948,6 +961,7 @@ fn reply(client: u32, call: u32, point: u8) -> Vec<u8> {
         client,
         call,
         value: 9,
+        time: 70,
     })
     .to_vec()
 }

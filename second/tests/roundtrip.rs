@@ -4,9 +4,12 @@
 mod common;
 
 use common::*;
-use second::image::{parse_image, write_image, Floor, ImageHead, Moved, IMAGE_MAX};
+use second::image::{
+    parse_image, write_image_as, Floor, ImageHead, Moved, IMAGE_MAX, IMAGE_MAX_UNTIMED,
+};
 use second::packet::*;
 use second::plan::{parse_plan, write_plan, Entry, Plan};
+use second::program::Form;
 use second::random::Random;
 use second::record::*;
 use second::rule::{Op, ARGUMENTS};
@@ -64,6 +67,7 @@ fn random_packet(random: &mut Random) -> Packet {
             client,
             call,
             value: number(random) as i32,
+            time: number(random),
         }),
         2 => Packet::Refusal(RefusalPacket {
             number: 3 + random.below(7) as u8,
@@ -87,6 +91,17 @@ fn random_packet(random: &mut Random) -> Packet {
     }
 }
 
+/// In the form that a packet of this kind has.
+fn write_again(packet: &Packet, kind: u8) -> Vec<u8> {
+    match (packet, kind) {
+        (Packet::Result(reply), RESULT_UNTIMED) => {
+            assert_eq!(reply.time, 0);
+            write_result_untimed(reply).to_vec()
+        }
+        _ => write_packet(packet),
+    }
+}
+
 #[test]
 fn packets() {
     let mut random = Random::new(1);
@@ -99,7 +114,7 @@ fn packets() {
         let bytes = damage(&mut random, &bytes);
         match parse_packet(&bytes) {
             Some(packet) => {
-                assert_eq!(write_packet(&packet), bytes);
+                assert_eq!(write_again(&packet, bytes[0]), bytes);
                 read += 1;
             }
             None => refused += 1,
@@ -112,14 +127,14 @@ fn packets() {
 fn packet_bytes_at_random() {
     let mut random = Random::new(2);
     for _ in 0..ROUNDS {
-        let kind = random.below(8) as usize;
+        let kind = random.below(9) as usize;
         let len = *LENGTHS.get(kind).unwrap_or(&9);
         let mut bytes: Vec<u8> = (0..len).map(|_| random.below(3) as u8).collect();
         if let Some(first) = bytes.first_mut() {
             *first = kind as u8;
         }
         if let Some(packet) = parse_packet(&bytes) {
-            assert_eq!(write_packet(&packet), bytes);
+            assert_eq!(write_again(&packet, bytes[0]), bytes);
         }
     }
 }
@@ -149,12 +164,32 @@ fn layouts_byte_by_byte() {
         argument: -1,
         value: -2,
         quality: 1,
+        time: 0x0403_0201,
     };
     let bytes = [
-        1, 1, 63, 3, 1, 0, 0, 0, 2, 0, 0, 0, 1, 0, 0, 0, 255, 255, 255, 255, 254, 255, 255, 255, 1,
-        0, 0, 0,
+        6, 1, 63, 3, 1, 0, 0, 0, 2, 0, 0, 0, 1, 0, 0, 0, 255, 255, 255, 255, 254, 255, 255, 255, 1,
+        0, 0, 0, 1, 2, 3, 4,
     ];
     assert_eq!(write_executed(&executed), bytes);
+    let mut untimed = bytes[..28].to_vec();
+    untimed[0] = 1;
+    assert_eq!(write_executed_untimed(&executed)[..], untimed);
+    let result = Reply {
+        outcome: 3,
+        point: 63,
+        quality: 1,
+        client: 1,
+        call: 2,
+        value: -2,
+        time: 0x0403_0201,
+    };
+    let bytes = [
+        7, 3, 63, 1, 1, 0, 0, 0, 2, 0, 0, 0, 254, 255, 255, 255, 1, 2, 3, 4,
+    ];
+    assert_eq!(write_result(&result), bytes);
+    let mut untimed = bytes[..16].to_vec();
+    untimed[0] = 2;
+    assert_eq!(write_result_untimed(&result)[..], untimed);
     let head = ImageHead {
         heard: 9,
         value: -2,
@@ -162,11 +197,15 @@ fn layouts_byte_by_byte() {
     };
     let bytes = image(&head, &[floor(3, 4)], &[moved(3, 5)]);
     let expected = [
-        0x4D, 0x56, 0x49, 0x31, 40, 2, 1, 0, 7, 0, 0, 0, 9, 0, 0, 0, 40, 0, 0, 0, 8, 0, 0, 0, 48,
-        0, 0, 0, 8, 0, 0, 0, 56, 0, 0, 0, 20, 0, 0, 0, 254, 255, 255, 255, 1, 0, 0, 0, 3, 0, 0, 0,
-        4, 0, 0, 0, 3, 0, 0, 0, 5, 0, 0, 0, 7, 0, 0, 0, 7, 0, 0, 0, 1, 0, 0, 0,
+        0x4D, 0x56, 0x49, 0x32, 40, 2, 1, 0, 7, 0, 0, 0, 9, 0, 0, 0, 40, 0, 0, 0, 8, 0, 0, 0, 48,
+        0, 0, 0, 8, 0, 0, 0, 56, 0, 0, 0, 24, 0, 0, 0, 254, 255, 255, 255, 1, 0, 0, 0, 3, 0, 0, 0,
+        4, 0, 0, 0, 3, 0, 0, 0, 5, 0, 0, 0, 7, 0, 0, 0, 7, 0, 0, 0, 1, 0, 0, 0, 60, 0, 0, 0,
     ];
     assert_eq!(bytes, expected);
+    let bytes = image_as(Form::Untimed, &head, &[floor(3, 4)], &[moved(3, 5)]);
+    let mut untimed = expected[..76].to_vec();
+    (untimed[3], untimed[36]) = (0x31, 20);
+    assert_eq!(bytes, untimed);
 }
 
 fn random_plan(random: &mut Random) -> Plan {
@@ -202,14 +241,16 @@ fn plans() {
 }
 
 struct Parts {
+    form: Form,
     head: ImageHead,
     floors: Vec<Floor>,
     records: Vec<Moved>,
 }
 
 impl Parts {
+    /// In the form that is kept: without times if it is untimed.
     fn bytes(&self) -> Vec<u8> {
-        image(&self.head, &self.floors, &self.records)
+        image_as(self.form, &self.head, &self.floors, &self.records)
     }
 }
 
@@ -229,7 +270,9 @@ fn random_image(random: &mut Random, plan: &Plan) -> Parts {
     let mut clients: Vec<u32> = (0..random.below(6)).map(|_| at_least_1(random)).collect();
     clients.sort_unstable();
     clients.dedup();
+    let form = *random.pick(&[Form::Untimed, Form::Timed]);
     let mut parts = Parts {
+        form,
         head,
         floors: Vec::new(),
         records: Vec::new(),
@@ -248,6 +291,7 @@ fn random_image(random: &mut Random, plan: &Plan) -> Parts {
                     op,
                     outcome: random.below(5) as u8,
                     quality: random.below(2) as u8,
+                    time: form.time(number(random)),
                 });
             }
         }
@@ -264,14 +308,15 @@ fn images() {
         let parts = random_image(&mut random, &plan);
         let bytes = parts.bytes();
         let image = parse_image(&bytes, &plan).expect("a well-formed image");
-        assert_eq!(image.head, parts.head);
+        assert_eq!((image.form, image.head), (parts.form, parts.head));
         assert!(image.floors().eq(parts.floors.iter().copied()));
         assert!(image.records().eq(parts.records.iter().copied()));
         let bytes = damage(&mut random, &bytes);
         match parse_image(&bytes, &plan) {
             Some(image) => {
                 let mut again = vec![0; IMAGE_MAX];
-                let len = write_image(&image.head, image.floors(), image.records(), &mut again);
+                let (floors, records) = (image.floors(), image.records());
+                let len = write_image_as(image.form, &image.head, floors, records, &mut again);
                 assert_eq!(again[..len], bytes);
                 read += 1;
             }
@@ -281,13 +326,21 @@ fn images() {
     assert!(read > ROUNDS / 20 && refused > ROUNDS / 20);
 }
 
-/// 32 clients of 16 records: 10,544 bytes; it is taken and given on whole.
+/// 32 clients of 16 records: 12,592 bytes, or 10,544 without times; it is taken and given
+/// on whole, with times in any case.
 #[test]
 fn longest_image() {
-    let (floors, records) = longest_parts();
-    let bytes = image(&head(40, 0, 1, 1), &floors, &records);
-    assert_eq!(bytes.len(), IMAGE_MAX);
-    let mut rig = Rig::new(0, 8 + 8 + IMAGE_MAX + 8);
+    for (form, longest) in [(Form::Untimed, IMAGE_MAX_UNTIMED), (Form::Timed, IMAGE_MAX)] {
+        longest_image_as(form, longest);
+    }
+}
+
+fn longest_image_as(form: Form, longest: usize) {
+    let (floors, mut records) = longest_parts();
+    let bytes = image_as(form, &head(40, 0, 1, 1), &floors, &records);
+    records.iter_mut().for_each(|r| r.time = form.time(r.time));
+    assert_eq!(bytes.len(), longest);
+    let mut rig = Rig::new(0, 8 + 8 + longest + 8);
     rig.take(0, &bytes);
     assert_eq!(rig.server.records.len(), 512);
     rig.give(0, 40, 1);
@@ -305,7 +358,7 @@ fn longest_image() {
 /// The parser of the record's own kind agrees with the one of a place.
 fn parse_by_kind(b: &[u8]) -> Option<Record<'_>> {
     match *b.first()? {
-        EXECUTED => parse_executed(b).map(Record::Executed),
+        EXECUTED_UNTIMED | EXECUTED => parse_executed(b).map(Record::Executed),
         GONE => parse_gone(b).map(Record::Gone),
         GIVE => parse_give(b).map(Record::Give),
         TAKE => parse_take(b).map(Record::Take),
@@ -321,7 +374,7 @@ fn random_record(random: &mut Random) -> Vec<u8> {
         0 => {
             let (done, call) = window(random);
             let (op, argument) = op_argument(random);
-            write_record(&Record::Executed(Executed {
+            let record = Executed {
                 op,
                 point,
                 outcome: random.below(5) as u8,
@@ -331,7 +384,12 @@ fn random_record(random: &mut Random) -> Vec<u8> {
                 argument,
                 value: number(random) as i32,
                 quality: random.below(2) as u8,
-            }))
+                time: number(random),
+            };
+            match random.chance(50) {
+                true => write_executed(&record).to_vec(),
+                false => write_executed_untimed(&record).to_vec(),
+            }
         }
         1 => write_record(&Record::Gone(Gone {
             client,
@@ -353,6 +411,17 @@ fn random_record(random: &mut Random) -> Vec<u8> {
     }
 }
 
+/// In the form that a record of this kind has.
+fn record_again(record: &Record, kind: u8) -> Vec<u8> {
+    match (record, kind) {
+        (Record::Executed(r), EXECUTED_UNTIMED) => {
+            assert_eq!(r.time, 0);
+            write_executed_untimed(r).to_vec()
+        }
+        _ => write_record(record),
+    }
+}
+
 #[test]
 fn records() {
     let mut random = Random::new(5);
@@ -364,7 +433,7 @@ fn records() {
         match parse_record(&log, before) {
             Parsed::Whole(record, end) => {
                 assert_eq!(end, before + bytes.len());
-                assert_eq!(write_record(&record), bytes);
+                assert_eq!(record_again(&record, bytes[0]), bytes);
                 assert_eq!(parse_by_kind(&bytes), Some(record));
             }
             other => panic!("{other:?}"),
@@ -375,7 +444,7 @@ fn records() {
         let bytes = damage(&mut random, &bytes);
         match parse_record(&bytes, 0) {
             Parsed::Whole(record, end) => {
-                assert_eq!(write_record(&record), bytes[..end]);
+                assert_eq!(record_again(&record, bytes[0]), bytes[..end]);
                 assert_eq!(parse_by_kind(&bytes[..end]), Some(record));
                 whole += 1;
             }

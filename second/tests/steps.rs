@@ -8,11 +8,12 @@ use common::*;
 use logs::recover;
 use second::answer::{Answer, Refusal};
 use second::client::{Client, Received};
-use second::image::{parse_image, Moved};
+use second::image::{parse_image, Moved, MOVED_LEN};
 use second::packet::{
-    parse_result, write_grant, write_request, write_result, Grant, Reply, REQUEST_LEN,
+    parse_result, write_grant, write_request, write_result, Grant, Reply, REQUEST_LEN, RESULT_LEN,
 };
 use second::plan::Entry;
+use second::program::{Form, Program};
 use second::record::{parse_executed, write_executed, Executed, EXECUTED_LEN, HEAD_LEN};
 use second::rule::{apply, apply_by, Op, Rules};
 use second::sequential::SequentialSpec;
@@ -152,11 +153,11 @@ fn step(client: u32, call: u32, argument: i32) -> [u8; REQUEST_LEN] {
     write_request(&request(Op::Step, POINT, client, call, argument))
 }
 
-/// Set 990, then step 20, by a program of the given rules.
-fn rig_after_step(rules: Rules) -> Rig {
+/// Set 990, then step 20, by the given program.
+fn rig_after_step(program: Program) -> Rig {
     let mut rig = Rig::new(0, 2000);
     for packet in [set(1, 1, POINT, 990), step(1, 2, 20)] {
-        rig.execute_by(rules, &packet);
+        rig.execute_by(program, &packet);
     }
     rig
 }
@@ -170,7 +171,7 @@ fn value_and_quality(server: &Server) -> (i32, u8) {
 /// repeat changes nothing.
 #[test]
 fn outcome_4_in_state_log_and_result() {
-    let mut rig = rig_after_step(Rules::TODAY);
+    let mut rig = rig_after_step(Program::TODAY);
     assert_eq!(value_and_quality(&rig.server), (1000, 0));
     let record = rig.last_record();
     assert_eq!((record.op, record.outcome), (Op::Step, 4));
@@ -178,8 +179,8 @@ fn outcome_4_in_state_log_and_result() {
     rig.sync_all();
     for _ in 0..2 {
         assert_eq!(rig.result(2), effect(4, 1000, 0));
-        let bytes = rig.request(0, 16, &step(1, 2, 20));
-        assert_eq!(bytes[..4], [2, 4, POINT, 0]);
+        let bytes = rig.request(0, RESULT_LEN, &step(1, 2, 20));
+        assert_eq!(bytes[..4], [7, 4, POINT, 0]);
     }
     let kept = rig.server.length as usize;
     let log = rig.log[..kept].to_vec();
@@ -196,7 +197,7 @@ fn outcome_4_in_state_log_and_result() {
 /// Request is request_by with today's rules.
 #[test]
 fn request_is_by_todays_rules() {
-    let by = rig_after_step(Rules::TODAY);
+    let by = rig_after_step(Program::TODAY);
     let mut rig = Rig::new(0, 2000);
     rig.execute(&set(1, 1, POINT, 990));
     rig.execute(&step(1, 2, 20));
@@ -205,7 +206,7 @@ fn request_is_by_todays_rules() {
 
 #[test]
 fn old_rule_at_a_cabinet() {
-    let mut rig = rig_after_step(Rules::OLD);
+    let mut rig = rig_after_step(Program::FIRST);
     assert_eq!(value_and_quality(&rig.server), (990, 0));
     assert_eq!(rig.last_record().outcome, 1);
     rig.sync_all();
@@ -224,6 +225,7 @@ fn outcomes_of_result_packets() {
             client: 1,
             call: 2,
             value: 1000,
+            time: 7,
         };
         let expected = (outcome <= 4).then_some(reply);
         assert_eq!(parse_result(&write_result(&reply)), expected);
@@ -248,6 +250,7 @@ fn outcomes_at_a_desk() {
             client: 1,
             call: 1,
             value: 1000,
+            time: 7,
         })
     };
     assert_eq!(desk.receive(&packet(5)), Err(Refusal::Malformed));
@@ -255,6 +258,7 @@ fn outcomes_at_a_desk() {
     let received = Received::Result {
         call: 1,
         effect: effect(4, 1000, 0),
+        time: 7,
     };
     assert_eq!(desk.receive(&packet(4)), Ok(received));
     assert_eq!(desk.first, 2);
@@ -265,7 +269,7 @@ fn outcomes_of_executed_records() {
     for outcome in 0..=255 {
         let record = Executed {
             outcome,
-            ..rig_after_step(Rules::TODAY).last_record()
+            ..rig_after_step(Program::TODAY).last_record()
         };
         let bytes = write_executed(&record);
         let expected = (outcome <= 4).then_some(record);
@@ -284,9 +288,13 @@ fn stopped(client: u32, call: u32, outcome: u8) -> Moved {
 }
 
 fn image_with(outcome: u8) -> Vec<u8> {
+    image_with_as(Form::Timed, outcome)
+}
+
+fn image_with_as(form: Form, outcome: u8) -> Vec<u8> {
     let floors = [floor(1, 1)];
     let records = [moved(1, 1), stopped(1, 2, outcome)];
-    image(&head(40, 0, 1, 1), &floors, &records)
+    image_as(form, &head(40, 0, 1, 1), &floors, &records)
 }
 
 #[test]
@@ -306,7 +314,7 @@ fn outcomes_of_image_entries() {
 #[test]
 fn outcomes_of_a_sound_state() {
     for (outcome, number) in [(4, 0), (5, 19), (255, 19)] {
-        let mut rig = rig_after_step(Rules::TODAY);
+        let mut rig = rig_after_step(Program::TODAY);
         rig.server.records[1].outcome = outcome;
         assert_eq!(rig.server.sound(), number == 0);
         let mark = rig.server.length;
@@ -317,7 +325,7 @@ fn outcomes_of_a_sound_state() {
 /// Outcome 5 in a whole record or in a taken image breaks a log's layout.
 #[test]
 fn outcomes_of_a_kept_log() {
-    let rig = rig_after_step(Rules::TODAY);
+    let rig = rig_after_step(Program::TODAY);
     let whole = rig.whole_log();
     assert!(recover(whole, &plan()).is_some());
     let outcome_at = HEAD_LEN + EXECUTED_LEN + 3;
@@ -334,7 +342,7 @@ fn outcomes_of_a_kept_log() {
         Some(rig.server.records)
     );
     // The take record's head, the image up to its entries, the first entry.
-    let outcome_at = HEAD_LEN + 8 + 56 + 20 + 17;
+    let outcome_at = HEAD_LEN + 8 + 56 + MOVED_LEN + 17;
     assert_eq!(log[outcome_at], 4);
     log[outcome_at] = 5;
     assert!(recover(&log, &plan()).is_none());
@@ -343,17 +351,17 @@ fn outcomes_of_a_kept_log() {
 /// The outcome moves with the point.
 #[test]
 fn outcome_4_moves_with_the_point() {
-    let mut giver = rig_after_step(Rules::TODAY);
+    let mut giver = rig_after_step(Program::TODAY);
     giver.give(0, u32::from(POINT), 1);
     giver.sync_all();
-    let image = giver.image(0, 48 + 8 + 2 * 20, u32::from(POINT));
-    assert_eq!(image[48 + 8 + 20 + 17], 4);
+    let image = giver.image(0, 48 + 8 + 2 * MOVED_LEN, u32::from(POINT));
+    assert_eq!(image[48 + 8 + MOVED_LEN + 17], 4);
     let mut taker = Rig::new(1, 2000);
     taker.take(0, &image);
     taker.sync_all();
     assert_eq!(taker.result(2), effect(4, 1000, 0));
-    let bytes = taker.request(0, 16, &step(1, 2, 20));
-    assert_eq!(bytes[..4], [2, 4, POINT, 0]);
+    let bytes = taker.request(0, RESULT_LEN, &step(1, 2, 20));
+    assert_eq!(bytes[..4], [7, 4, POINT, 0]);
     let log = taker.whole_log();
     assert_eq!(recover(log, &plan()), Some(taker.server));
 }
@@ -363,9 +371,10 @@ fn outcome_4_moves_with_the_point() {
 #[test]
 fn old_program_refuses_an_image_with_outcome_4() {
     let mut rig = Rig::new(0, 500);
+    let image_with = |outcome| image_with_as(Form::Untimed, outcome);
     let take = |rig: &mut Rig, number, image: &[u8]| {
         rig.expect(number, 0, |s, log, _| {
-            s.take_by(Rules::OLD, STATE_LEN, log, image)
+            s.take_by(Program::FIRST, STATE_LEN, log, image)
         });
     };
     take(&mut rig, 1, &image_with(4));
@@ -408,7 +417,7 @@ fn recovered_rig() -> Rig {
 #[test]
 fn old_log_recovers() {
     let mut rig = recovered_rig();
-    let old = rig_after_step(Rules::OLD);
+    let old = rig_after_step(Program::FIRST);
     let length = old.server.length as usize;
     assert_eq!(old.log[..length], old_log());
     let expected = Server {
@@ -418,8 +427,8 @@ fn old_log_recovers() {
     assert_eq!(rig.server, expected);
     assert_eq!(value_and_quality(&rig.server), (990, 0));
     assert_eq!(rig.result(2), effect(1, 990, 0));
-    let bytes = rig.request(0, 16, &step(1, 2, 20));
-    assert_eq!(bytes[..4], [2, 1, POINT, 0]);
+    let bytes = rig.request(0, RESULT_LEN, &step(1, 2, 20));
+    assert_eq!(bytes[..4], [7, 1, POINT, 0]);
     rig.execute(&step(1, 3, 20));
     rig.sync_all();
     assert_eq!(rig.result(3), effect(4, 1000, 0));

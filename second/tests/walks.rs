@@ -9,6 +9,7 @@ use logs::*;
 use second::answer::{Answer, Refusal};
 use second::bytes::put_u32;
 use second::plan::{write_plan, Plan};
+use second::program::Form;
 use second::random::Random;
 use second::record::{parse_record, whole_end, write_take_head, Parsed};
 use second::server::{Server, STATE_LEN};
@@ -81,11 +82,12 @@ fn random_bytes(random: &mut Random, len: usize) -> Vec<u8> {
 
 /// A record of which only the kind and the image length are good for certain.
 fn record_at_random(random: &mut Random) -> Vec<u8> {
-    let kind = 1 + random.below(5) as u8;
+    let kind = 1 + random.below(6) as u8;
     let some = 48 + random.below(400) as usize;
-    let image_len = *random.pick(&[48, some, some, some, 10_544]);
+    let image_len = *random.pick(&[48, some, some, some, 12_592]);
     let len = match kind {
         1 => 28,
+        6 => 32,
         2 => 12,
         4 => 8 + image_len,
         _ => 8,
@@ -136,8 +138,8 @@ fn long_log() {
         .map(|call| executed_bytes(1, call, call, 5, 40))
         .collect();
     let log = log_of(&records);
-    assert_both(&log, Ok(8 + 28 * 100_000));
-    assert_both(&log[..log.len() - 1], Ok(8 + 28 * 99_999));
+    assert_both(&log, Ok(8 + 32 * 100_000));
+    assert_both(&log[..log.len() - 1], Ok(8 + 32 * 99_999));
 }
 
 // Heads, kinds and image lengths.
@@ -167,7 +169,7 @@ fn heads() {
 fn kinds() {
     let first = executed_bytes(1, 1, 1, 5, 40);
     for kind in 0..=255 {
-        let ok = (1..=5).contains(&kind);
+        let ok = (1..=6).contains(&kind);
         for before in [log_of(&[]), log_of(std::slice::from_ref(&first))] {
             let answer = if ok { Ok(before.len()) } else { BAD };
             for tail in [&[][..], &[0], &[kind; 6]] {
@@ -188,8 +190,8 @@ fn kinds() {
 fn image_lengths() {
     let before = log_of(&[executed_bytes(1, 1, 1, 5, 40)]);
     let kept = Ok(before.len());
-    let good = [48, 49, 10_543, 10_544];
-    let bad = [0, 1, 47, 10_545, 1 << 16 | 48, 1 << 24 | 48, u32::MAX];
+    let good = [48, 49, 10_544, 10_545, 12_591, 12_592];
+    let bad = [0, 1, 47, 12_593, 1 << 16 | 48, 1 << 24 | 48, u32::MAX];
     for len in good.into_iter().chain(bad) {
         let head = write_take_head(len as usize);
         for there in 1..8 {
@@ -215,9 +217,12 @@ fn image_lengths() {
 fn shortest_and_longest_image() {
     let (floors, records) = longest_parts();
     let head = head(40, 0, 1, 1);
-    let images = [image(&head, &[], &[]), image(&head, &floors, &records)];
-    assert_eq!(images.each_ref().map(Vec::len), [48, 10_544]);
-    for image in images {
+    let forms = [Form::Untimed, Form::Timed];
+    let shortest = forms.map(|form| image_as(form, &head, &[], &[]));
+    let longest = forms.map(|form| image_as(form, &head, &floors, &records));
+    assert_eq!(shortest.each_ref().map(Vec::len), [48, 48]);
+    assert_eq!(longest.each_ref().map(Vec::len), [10_544, 12_592]);
+    for image in shortest.into_iter().chain(longest) {
         let log = log_of(&[take_bytes(&image), give_bytes(40, 1, 2)]);
         assert_both(&log, Ok(log.len()));
         assert_both(&log[..log.len() - 1], Ok(log.len() - 8));
@@ -238,6 +243,9 @@ fn bad_contents() -> Vec<Vec<u8>> {
     vec![
         changed(executed_bytes(1, 4, 4, 5, 40), 1, 6),
         changed(executed_bytes(1, 4, 4, 5, 40), 27, 1),
+        changed(executed_untimed_bytes(1, 4, 4, 5, 40), 1, 6),
+        changed(executed_untimed_bytes(1, 4, 4, 5, 40), 27, 1),
+        executed_untimed_bytes(1, 3, 3, 5, 40),
         executed_bytes(1, 4, 4, 5, 1001),
         executed_bytes(1, 3, 3, 5, 40),
         executed_bytes(1, 2, 2, 5, 40),
@@ -266,11 +274,11 @@ fn bad_content_before_good_and_bad_kinds() {
         assert_answers(&log, Ok(log.len()), BAD);
         assert_answers(&log[..log.len() - 1], Ok(log.len() - last.len()), BAD);
         // The last record's kind or image length is bad too.
-        for kind in [0, 6, 255] {
+        for kind in [0, 7, 255] {
             assert_both(&[&log[..], &[kind]].concat(), BAD);
             assert_both(&[&log[..], &[kind; 40]].concat(), BAD);
         }
-        for image_len in [47, 10_545] {
+        for image_len in [47, 12_593] {
             assert_both(&[&log[..], &write_take_head(image_len)].concat(), BAD);
         }
         // Dropped if incomplete.

@@ -45,8 +45,18 @@ static void show_checkpoint(struct server *s) {
     show("checkpoint of server 1, head and pairs", checkpoint, 44);
     show("its row of point 5", checkpoint + 1068 + 16 * GATE, 16);
     show("its client", checkpoint + 2092, 8);
-    show("its completion record, the last of its bytes", checkpoint + n - 20, 20);
+    show("its completion record, the last of its bytes", checkpoint + n - 24, 24);
     show("head of its tail", tail, sizeof tail);
+}
+
+/* a client whose lease ends at second 50 has executed a read there, so that the server hears of that second */
+static void hear_of_50(struct server *s, struct mantelorris_lease_manager *manager) {
+    struct mantelorris_lease_reply grant = mantelorris_open(manager, 0, 50);
+    struct mantelorris_client other = mantelorris_start(grant.packet, grant.length).client;
+    struct mantelorris_send_reply read = mantelorris_issue(&other, MANTELORRIS_READ, GATE + 1, 0);
+    due(mantelorris_request(OF(s), read.packet, read.length, out, sizeof out), 0);
+    grant = mantelorris_query(manager, other.client, 50);
+    due(mantelorris_notice(OF(s), grant.packet, grant.length), 0);
 }
 
 int main(void) {
@@ -58,6 +68,8 @@ int main(void) {
     struct mantelorris_lease_reply grant = mantelorris_open(&manager, 0, 600);
     show("grant, client 1 to second 600", grant.packet, grant.length);
     struct mantelorris_client desk = mantelorris_start(grant.packet, grant.length).client;
+    hear_of_50(a, &manager);
+    size_t at = mantelorris_length(a->state);
     struct mantelorris_send_reply set = mantelorris_issue(&desk, MANTELORRIS_SET, GATE, -40);
     show("request, set point 5 to -40, call 1", set.packet, set.length);
     due(mantelorris_request(OF(a), set.packet, set.length, out, sizeof out), 0);
@@ -65,7 +77,7 @@ int main(void) {
     show("refusal, 7", out, n);
     sync_log(a);
     n = due(mantelorris_request(OF(a), set.packet, set.length, out, sizeof out), 0);
-    show("result, outcome 0, value -40", out, n);
+    show("result, outcome 0, value -40, time 50", out, n);
     due(mantelorris_give(OF(a), GATE, 1), 0);
     sync_log(a);
     n = due(mantelorris_image(OF(a), GATE, out, sizeof out), 0);
@@ -79,10 +91,10 @@ int main(void) {
     show("notice, client 1, time 700", notice.packet, notice.length);
     due(mantelorris_notice(OF(a), notice.packet, notice.length), 0);
     show("log head, server 0", a->log, 8);
-    show("executed", a->log + 8, 28);
-    show("give, to server 1", a->log + 36, 8);
-    show("release", a->log + 44, 8);
-    show("gone", a->log + 52, 12);
+    show("executed, time 50", a->log + at, 32);
+    show("give, to server 1", a->log + at + 32, 8);
+    show("release", a->log + at + 40, 8);
+    show("gone", a->log + at + 48, 12);
     show("take at server 1, before its image", b->log + 8, 8);
     show_checkpoint(b);
     return 0;

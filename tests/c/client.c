@@ -25,15 +25,16 @@ static uint32_t at(const uint8_t *p) {
     return p[0] | (uint32_t)p[1] << 8 | (uint32_t)p[2] << 16 | (uint32_t)p[3] << 24;
 }
 
-/* packets 2, 3 and 6 */
-static void result(uint8_t *p, uint8_t outcome, uint8_t point, uint8_t quality, uint32_t client, uint32_t call, int32_t value) {
-    p[0] = 2;
+/* packets 7, 3 and 6; packet 2 is packet 7 without its last four bytes */
+static void result(uint8_t *p, uint8_t outcome, uint8_t point, uint8_t quality, uint32_t client, uint32_t call, int32_t value, uint32_t time) {
+    p[0] = 7;
     p[1] = outcome;
     p[2] = point;
     p[3] = quality;
     word(p + 4, client);
     word(p + 8, call);
     word(p + 12, (uint32_t)value);
+    word(p + 16, time);
 }
 
 static void refusal(uint8_t *p, uint8_t number, uint8_t point, uint32_t client, uint32_t call) {
@@ -121,14 +122,22 @@ static void clients(void) {
     expect("receive: its call", got.call, 1);
     request("resend 1: a refusal closes nothing", mantelorris_resend(&d, 1), 1, 5, 9, 1, 1, 100, -40);
     before = d;
-    result(p, 0, 6, 0, 9, 1, -40);
-    expect("receive: another point", mantelorris_receive(&d, p, 16).number, 17);
-    result(p, 0, 5, 0, 8, 1, -40);
-    expect("receive: another client", mantelorris_receive(&d, p, 16).number, 17);
-    result(p, 0, 5, 0, 9, 17, -40);
-    expect("receive: not open", mantelorris_receive(&d, p, 16).number, 17);
-    result(p, 5, 5, 0, 9, 1, -40);
-    expect("receive: outcome 5", mantelorris_receive(&d, p, 16).number, 1);
+    result(p, 0, 6, 0, 9, 1, -40, 70);
+    expect("receive: another point", mantelorris_receive(&d, p, 20).number, 17);
+    result(p, 0, 5, 0, 8, 1, -40, 70);
+    expect("receive: another client", mantelorris_receive(&d, p, 20).number, 17);
+    result(p, 0, 5, 0, 9, 17, -40, 70);
+    expect("receive: not open", mantelorris_receive(&d, p, 20).number, 17);
+    result(p, 5, 5, 0, 9, 1, -40, 70);
+    expect("receive: outcome 5", mantelorris_receive(&d, p, 20).number, 1);
+    result(p, 0, 5, 0, 9, 1, -40, 70);
+    for (size_t length = 0; length <= 24; length++)
+        if (length != 20) expect("receive: packet 7 of another length", mantelorris_receive(&d, p, length).number, 1);
+    p[0] = 2;
+    for (size_t length = 0; length <= 24; length++)
+        if (length != 16) expect("receive: packet 2 of another length", mantelorris_receive(&d, p, length).number, 1);
+    p[0] = 8;
+    expect("receive: packet 8", mantelorris_receive(&d, p, 20).number, 1);
     grant(p, 9, 99);
     expect("receive: an earlier end", mantelorris_receive(&d, p, 12).number, 17);
     expect("receive: no packet", mantelorris_receive(&d, NULL, 0).number, 1);
@@ -138,21 +147,28 @@ static void clients(void) {
     expect("receive: a later end", got.number, 0);
     expect("receive: its kind", got.kind, 6);
     expect("receive: its end", got.lease, 250);
-    result(p, 1, 7, 1, 9, 3, -2147483647 - 1);
-    got = mantelorris_receive(&d, p, 16);
+    expect("receive: no time", got.time, 0);
+    result(p, 1, 7, 1, 9, 3, -2147483647 - 1, 4294967295u);
+    got = mantelorris_receive(&d, p, 20);
     expect("receive: a result", got.number, 0);
-    expect("receive: its kind", got.kind, 2);
+    expect("receive: its kind", got.kind, 7);
+    expect("receive: its time", got.time, 4294967295u);
     expect("receive: its call", got.call, 3);
     expect("receive: its outcome", got.outcome, 1);
     expect("receive: its quality", got.quality, 1);
     expect("receive: its value", got.value, -2147483647 - 1);
-    expect("receive: the same again", mantelorris_receive(&d, p, 16).number, 17);
+    expect("receive: the same again", mantelorris_receive(&d, p, 20).number, 17);
     send_refused("issue: 1 is still open", mantelorris_issue(&d, 1, 5, 0), 15);
-    result(p, 0, 5, 0, 9, 1, -40);
-    expect("receive: 1", mantelorris_receive(&d, p, 16).number, 0);
+    result(p, 0, 5, 0, 9, 1, -40, 70);
+    p[0] = 2;
+    got = mantelorris_receive(&d, p, 16);
+    expect("receive: 1, without a time", got.number, 0);
+    expect("receive: 1, its kind", got.kind, 7);
+    expect("receive: 1, its value", got.value, -40);
+    expect("receive: 1, its time", got.time, 0);
     request("issue 17: done is 2, with today's lease end", mantelorris_issue(&d, 4, 63, 0), 4, 63, 9, 17, 2, 250, 0);
-    result(p, 0, 7, 0, 9, 2, 1);
-    expect("receive: 2", mantelorris_receive(&d, p, 16).number, 0);
+    result(p, 0, 7, 0, 9, 2, 1, 0);
+    expect("receive: 2", mantelorris_receive(&d, p, 20).number, 0);
     request("resend 4: done is 4", mantelorris_resend(&d, 4), 2, 7, 9, 4, 4, 250, 2147483647);
 
     /* the last number */

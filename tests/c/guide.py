@@ -97,7 +97,7 @@ def memory():
     path = os.path.join(WORK, 'memory.c')
     open(path, 'w').write('#include "mantelorris_chamber.h"\n' + '\n'.join(lines) + '\nint main(void) { return 0; }\n')
     count('%d sizes of slices and structs' % len(rows), ran(built(path, 'memory'))[0] or len(rows) != len(names))
-    wrong = [row for row in table('log space | commands') if (int(row[0]) - 8) // 28 != int(row[1])]
+    wrong = [row for row in table('log space | commands') if (int(row[0]) - 8) // 32 != int(row[1])]
     count('how many commands a log holds', wrong)
     reserve = number(GUIDE, r'with ([\d,]+) bytes left you can still give away')
     header = open(DIST + '/mantelorris.h', encoding='utf-8').read()

@@ -122,10 +122,16 @@ static void synced(void) {
     expect("mark", mantelorris_mark(state), mantelorris_log_end(space, mantelorris_length(state)).end);
 }
 
-static void fetched(struct mantelorris_client *client, uint32_t call) {
+/* the result is received, and has this time of execution */
+static void fetched(struct mantelorris_client *client, uint32_t call, uint32_t time) {
     uint8_t out[MANTELORRIS_REPLY_SIZE];
     uint64_t a = mantelorris_fetch(state, sizeof state, space, SPACE, client->client, call, out, sizeof out);
-    expect("receive", mantelorris_receive(client, out, mantelorris_written(a)).number, 0);
+    struct mantelorris_receive_reply r = mantelorris_receive(client, out, mantelorris_written(a));
+    expect("receive", r.number, 0);
+    expect("receive: its time", r.time, time);
+    expect("a result's time", mantelorris_result_time(out), time);
+    out[0] = MANTELORRIS_KIND_FIRST_RESULT;
+    expect("a result without a time", mantelorris_result_time(out), 0);
 }
 
 static void taken_by(uint32_t server, size_t length, uint32_t want) {
@@ -136,7 +142,7 @@ static void taken_by(uint32_t server, size_t length, uint32_t want) {
 static void heard_and_moved(void) {
     struct mantelorris_lease_manager manager = mantelorris_leases();
     struct mantelorris_lease_reply grant = mantelorris_open(&manager, 0, 600), notice;
-    struct mantelorris_client first = mantelorris_start(grant.packet, grant.length).client, second;
+    struct mantelorris_client first = mantelorris_start(grant.packet, grant.length).client, second, third;
     expect("found", founded(1), 0);
     expect("the plan", (uint64_t)memcmp(mantelorris_plan(state), plan, sizeof plan), 0);
     known(0, first.client, 0);
@@ -149,7 +155,7 @@ static void heard_and_moved(void) {
     second = mantelorris_start(grant.packet, grant.length).client;
     request(&second, MANTELORRIS_READ, 0, 0);
     synced();
-    fetched(&second, 1);
+    fetched(&second, 1, 0);
     request(&second, MANTELORRIS_READ, 0, 0);
     known(2, first.client, 1);
     known(2, second.client, 2); /* its first call is finished at the desk */
@@ -163,6 +169,11 @@ static void heard_and_moved(void) {
     known(1, second.client, 2);
     request(&second, MANTELORRIS_READ, 0, MANTELORRIS_LEASE_ENDED); /* its lease ends at the heard time */
     expect("heard: the second's end", mantelorris_heard(state), second.lease);
+    grant = mantelorris_open(&manager, 651, 600);
+    third = mantelorris_start(grant.packet, grant.length).client;
+    request(&third, MANTELORRIS_READ, 0, 0);
+    synced();
+    fetched(&third, 1, mantelorris_heard(state));
 
     expect("destination, held", mantelorris_destination(state, POINT), 0);
     expect("give", mantelorris_give(state, sizeof state, space, SPACE, POINT, 9), 0);

@@ -271,6 +271,7 @@ struct desk {
     uint32_t first, next; /* calls from first to next - 1 may be open */
     uint32_t results;
     int32_t last;    /* the value of the latest result */
+    uint32_t time;   /* and its time of execution */
     uint8_t old[24]; /* a copy of its latest request */
 };
 
@@ -318,13 +319,14 @@ static void send_again(struct desk *d) {
 static void on_client(struct desk *d, const uint8_t *packet, size_t length) {
     struct mantelorris_receive_reply r = mantelorris_receive(&d->client, packet, length);
     expect_one("receive", r.number, BIT(0) | BIT(17));
-    if (r.kind == 2) {
+    if (r.kind == MANTELORRIS_KIND_RESULT) {
         d->results++;
         d->last = r.value;
+        d->time = r.time;
         expect("result: outcome and quality", r.outcome | r.quality, 0);
         if (r.value >= 0 && r.value <= 2 * STEPS) counted[r.value]++;
     }
-    if (r.kind == 3 && r.refusal == MANTELORRIS_NOT_HELD) d->server = (int)below(2);
+    if (r.kind == MANTELORRIS_KIND_REFUSAL && r.refusal == MANTELORRIS_NOT_HELD) d->server = (int)below(2);
 }
 
 /* ---- the line */
@@ -347,8 +349,19 @@ static void put_on_line(int to, const uint8_t *bytes, size_t length) {
 }
 
 /* one of four is lost, one of four arrives twice */
+/* however often a server tells a result, and whichever does, it has one time of execution */
+static void one_time(const uint8_t *result) {
+    static uint64_t times[4][256]; /* by client and call: the time + 1 */
+    uint32_t client = mantelorris_packet_client(result), call = mantelorris_packet_call(result);
+    if (client >= 4 || call >= 256) return;
+    uint64_t *at = &times[client][call], time = mantelorris_result_time(result) + UINT64_C(1);
+    if (*at) expect("a result told again: its time", time, *at);
+    *at = time;
+}
+
 static void post(int to, const uint8_t *bytes, size_t length) {
     uint32_t luck = below(4);
+    if (bytes[0] == MANTELORRIS_KIND_RESULT) one_time(bytes);
     if (luck == 0) return;
     put_on_line(to, bytes, length);
     if (luck == 1) put_on_line(to, bytes, length);
@@ -425,6 +438,19 @@ static void first_command(void) {
     expect("set 0: its result", results(), 1);
 }
 
+/* Somebody looks in at server 0 for a second: then it has heard of that second, and what is executed there from then on has its time. */
+static void visit(void) {
+    struct server *s = &servers[0];
+    uint8_t out[MANTELORRIS_REPLY_SIZE];
+    struct mantelorris_lease_reply lease = mantelorris_open(&manager, now, 1);
+    struct mantelorris_client visitor = mantelorris_start(lease.packet, lease.length).client;
+    struct mantelorris_send_reply r = mantelorris_issue(&visitor, MANTELORRIS_READ, POINT + 1, 0);
+    expect("visitor: request", mantelorris_request(s->state, sizeof s->state, s->log, sizeof s->log, r.packet, r.length, out, sizeof out), 0);
+    lease = mantelorris_query(&manager, visitor.client, now + 1);
+    expect("visitor: notice", mantelorris_notice(s->state, sizeof s->state, s->log, sizeof s->log, lease.packet, lease.length), 0);
+    expect("visitor: heard", mantelorris_heard(s->state), now + 1);
+}
+
 /* Each client adds 1 a hundred times, and the point moves meanwhile. A result is the number of steps so far, so each comes once. */
 static void steps_and_move(void) {
     enum { BEFORE, MOVING, MOVED } move = BEFORE;
@@ -434,6 +460,7 @@ static void steps_and_move(void) {
             if (desks[x].left > 0 && issued(&desks[x], 2, 1)) desks[x].left--;
             if (now % 100 == 0) renewed(&desks[x]);
         }
+        if (move == BEFORE && i % 4 == 0) visit();
         if (move == BEFORE && results() > STEPS / 2) {
             begin_move();
             move = MOVING;
@@ -479,6 +506,7 @@ static void last_read(void) {
     for (int i = 0; i < 1000 && results() == before; i++) second();
     expect("read: its result", results(), before + 1);
     expect("read: the value", (uint64_t)desks[0].last, 2 * STEPS);
+    expect("read: its time", desks[0].time, mantelorris_heard(servers[1].state));
 }
 
 /* Another program takes over without a power cut: it recovers from the log up to its recorded length, all of which the card has. */
@@ -598,9 +626,9 @@ static void twin_servers(void) {
     twins_request(1, 2, MANTELORRIS_STEP, POINT, 2);
 }
 
-/* ---- inspect: which bytes hold a completion record */
+/* ---- inspect: which bytes hold a completion record; the time of execution is the last of them */
 
-static void inspected(const char *what, struct server *s, uint32_t client, uint32_t call, uint32_t source, size_t length) {
+static void inspected(const char *what, struct server *s, uint32_t client, uint32_t call, uint32_t source, size_t length, uint32_t time) {
     struct slot *slot = in_force(&s->card);
     const uint8_t *checkpoint = slot->replaced ? slot->checkpoint : NULL;
     struct mantelorris_place at = mantelorris_inspect(s->state, sizeof s->state, checkpoint, slot->replaced, s->log, sizeof s->log, client, call);
@@ -614,24 +642,27 @@ static void inspected(const char *what, struct server *s, uint32_t client, uint3
     size_t id = source == MANTELORRIS_IN_RECORD ? 4 : 0;
     expect(what, get32(shown + id), client);
     expect(what, get32(shown + id + 4), call);
+    expect(what, get32(shown + length - 4), time);
 }
 
 /* while point 7 goes to the taker and back */
 static void inspections(void) {
-    inspected("inspect: the whole log", &twins[0], 2, 1, MANTELORRIS_IN_RECORD, MANTELORRIS_LOG_EXECUTED);
-    inspected("inspect: a checkpoint", &twins[1], 2, 1, MANTELORRIS_IN_CHECKPOINT, 20);
+    inspected("inspect: the whole log", &twins[0], 2, 1, MANTELORRIS_IN_RECORD, MANTELORRIS_LOG_EXECUTED, 0);
+    inspected("inspect: a checkpoint", &twins[1], 2, 1, MANTELORRIS_IN_CHECKPOINT, 24, 0);
     twins_give();
-    inspected("inspect: an image in the log", &taker, 2, 1, MANTELORRIS_IN_IMAGE, 20);
+    inspected("inspect: an image in the log", &taker, 2, 1, MANTELORRIS_IN_IMAGE, 24, 0);
     expect("inspect: a checkpoint of the taker", (uint64_t)renew(&taker, LOG_SPACE), 1);
-    inspected("inspect: an image's entry in a checkpoint", &taker, 2, 1, MANTELORRIS_IN_CHECKPOINT, 20);
+    inspected("inspect: an image's entry in a checkpoint", &taker, 2, 1, MANTELORRIS_IN_CHECKPOINT, 24, 0);
     twins_take();
-    inspected("inspect: an image behind a record", &twins[0], 2, 1, MANTELORRIS_IN_IMAGE, 20);
-    inspected("inspect: an image behind a checkpoint", &twins[1], 2, 1, MANTELORRIS_IN_IMAGE, 20);
+    inspected("inspect: an image behind a record", &twins[0], 2, 1, MANTELORRIS_IN_IMAGE, 24, 0);
+    inspected("inspect: an image behind a checkpoint", &twins[1], 2, 1, MANTELORRIS_IN_IMAGE, 24, 0);
     expect("twins: a checkpoint of a point taken", (uint64_t)renew(&twins[1], LOG_SPACE), 1);
     twins_restart("twins: recovered, a point taken in the checkpoint");
     twins_request(1, 3, MANTELORRIS_STEP, POINT, 2);
-    inspected("inspect: a record behind a checkpoint, not synced", &twins[1], 1, 3, MANTELORRIS_IN_RECORD, MANTELORRIS_LOG_EXECUTED);
+    inspected("inspect: a record behind a checkpoint, not synced", &twins[1], 1, 3, MANTELORRIS_IN_RECORD, MANTELORRIS_LOG_EXECUTED, 50);
     twins_restart("twins: recovered at last");
+    expect("twins: a checkpoint at last", (uint64_t)renew(&twins[1], LOG_SPACE), 1);
+    inspected("inspect: a time in a checkpoint", &twins[1], 1, 3, MANTELORRIS_IN_CHECKPOINT, 24, 50);
 }
 
 /* ---- refusals: each leaves all lent memory as it was */
@@ -759,12 +790,12 @@ static void refusals(void) {
     not_founded();
     found(s, 0); /* in a world of its own, where no other server has number 0 */
     kept = *s;
-    refused("request: no packet", mantelorris_request(s->state, n, s->log, m, NULL, 0, out, 16), MANTELORRIS_MALFORMED);
-    refused("request: output", mantelorris_request(s->state, n, s->log, m, desks[0].old, 24, out, 15), MANTELORRIS_TOO_SHORT);
-    refused("request: log", mantelorris_request(s->state, n, s->log, 7, desks[0].old, 24, out, 16), MANTELORRIS_NOT_SOUND);
-    refused("request: log full", mantelorris_request(s->state, n, s->log, 8 + 27, desks[0].old, 24, out, 16),
+    refused("request: no packet", mantelorris_request(s->state, n, s->log, m, NULL, 0, out, 20), MANTELORRIS_MALFORMED);
+    refused("request: output", mantelorris_request(s->state, n, s->log, m, desks[0].old, 24, out, 19), MANTELORRIS_TOO_SHORT);
+    refused("request: log", mantelorris_request(s->state, n, s->log, 7, desks[0].old, 24, out, 20), MANTELORRIS_NOT_SOUND);
+    refused("request: log full", mantelorris_request(s->state, n, s->log, 8 + 31, desks[0].old, 24, out, 20),
             (uint64_t)12 << 32 | MANTELORRIS_LOG_FULL);
-    refused("fetch: none held", mantelorris_fetch(s->state, n, s->log, m, 1, 1, out, 16), MANTELORRIS_UNKNOWN);
+    refused("fetch: none held", mantelorris_fetch(s->state, n, s->log, m, 1, 1, out, 20), MANTELORRIS_UNKNOWN);
     refused("sync: under the mark", mantelorris_sync(s->state, n, s->log, m, 7), MANTELORRIS_BAD_MARK);
     refused("sync: over the length", mantelorris_sync(s->state, n, s->log, m, 9), MANTELORRIS_BAD_MARK);
     refused("notice: a request", mantelorris_notice(s->state, n, s->log, m, desks[0].old, 24), MANTELORRIS_MALFORMED);

@@ -238,7 +238,7 @@ def full_table(pair, leases, hook, rng):
     def result(client):
         def good(answer):
             refusals.append(answer[1] if answer[0] == 3 else 0)
-            return answer[0] == 2 and struct.unpack_from('<I', answer, 4)[0] == client
+            return answer[0] == 7 and struct.unpack_from('<I', answer, 4)[0] == client
         return good
 
     for p in parties:

@@ -31,8 +31,8 @@ ARCHIVE, HEADERS = ('lib/libmantelorris.a', 'include') if UNPACKED and not NAMED
 FLAGS = ['-std=gnu11', '-O1', '-Wall', '-Wextra', '-Werror', '-I' + HEADERS, '-Iexamples']
 WORK = os.path.realpath(tempfile.mkdtemp(prefix='mantelorris-power-'))
 atexit.register(shutil.rmtree, WORK, True)
-LIMIT = 400  # bytes of log, for hosts that make checkpoints
-LARGEST = 12588 + LIMIT + 256 * 28  # a checkpoint, and a log that was just under the limit before a turn of 256 commands
+LIMIT = 460  # bytes of log, for hosts that make checkpoints
+LARGEST = 14636 + LIMIT + 256 * 32  # a checkpoint, and a log that was just under the limit before a turn of 256 commands
 GATE = 5
 SECTOR = 512
 PLACES = {'w': 'in a write', 's': 'between write and sync', 'a': 'after a sync'}
@@ -238,7 +238,7 @@ def read_gate(port, seconds=20):
                 packet = line.recv(64)
             except OSError:
                 continue
-            if len(packet) == 16 and packet[0] == 2:
+            if len(packet) == 20 and packet[0] == 7:
                 return struct.unpack_from('<i', packet, 12)[0]
     return None
 
@@ -306,7 +306,7 @@ def reported(wrong, seen, places):
 
 def parts(card):
     """a card's checkpoint, empty if there is none, and its log"""
-    if card[:4] != b'WLG2':
+    if card[:4] != b'WLG3':
         return b'', card
     length = sum(struct.unpack_from('<II', card, 36))
     return card[:length], card[length:]
@@ -317,10 +317,10 @@ def whole_records(checkpoint, log):
     value = struct.unpack_from('<i', checkpoint, 1068 + 16 * GATE + 4)[0] if checkpoint else 0
     at, ends = 8, [(8, value)]
     while at < len(log):
-        size = {1: 28, 2: 12, 3: 8, 5: 8}.get(log[at], len(log))
+        size = {6: 32, 2: 12, 3: 8, 5: 8}.get(log[at], len(log))
         if at + size > len(log):
             break
-        if log[at] == 1:
+        if log[at] == 6:
             value = struct.unpack_from('<i', log, at + 20)[0]
         at += size
         ends.append((at, value))
@@ -331,7 +331,7 @@ def ran(starter, name, card):
     """a start from a card of these bytes, beside the rest of a checkpoint that was not stored, and the card after it"""
     path = os.path.join(WORK, name)
     open(path, 'wb').write(card)
-    open(path + '.new', 'wb').write(b'WLG2')
+    open(path + '.new', 'wb').write(b'WLG3')
     done = subprocess.run([starter, path, '0'], capture_output=True, text=True)
     return done, open(path, 'rb').read() + (b'.new was left' if os.path.exists(path + '.new') else b'')
 
@@ -386,7 +386,7 @@ def damaged_checkpoints(card):
     cards += [(*with_byte(card, at, 0xFF), 'log: bad log: the card is damaged, or it is no log') for at in range(4)]
     cards += [(*with_byte(card, n + at, 9), 'tail: bad log: the card is damaged behind its checkpoint') for at in (0, 5, 8)]
     cards += [(*with_byte(card, n + 4, 1), 'recover: bad log: whole records'), (*with_byte(card, n + 9, 9), 'recover: bad log: whole records up to byte %d,' % len(log))]
-    cards += [('cut at %d' % k, card[:k], 'checkpoint: bad log: the card is damaged, or its end is missing') for k in [*range(4, 48), *range(48, n, 97), *range(n - 20, n + 8)]]
+    cards += [('cut at %d' % k, card[:k], 'checkpoint: bad log: the card is damaged, or its end is missing') for k in [*range(4, 48), *range(48, n, 97), *range(n - 24, n + 8)]]
     return cards
 
 
@@ -407,7 +407,7 @@ def looked_at(host, cards):
     os.chmod(WORK, 0o711)
     for what, card, status, want in cards:
         folder = tempfile.mkdtemp(dir=WORK)
-        for name, text in (('card', card), ('card.new', b'WLG2')):
+        for name, text in (('card', card), ('card.new', b'WLG3')):
             if text is not None:
                 open(os.path.join(folder, name), 'wb').write(text)
                 os.chmod(os.path.join(folder, name), 0o444)
@@ -485,7 +485,7 @@ def foundings(host, starter, raw, log, card):
         count("nor, on raw sectors, on a file's card: " + done.stderr.strip(), done.returncode == 1 and open(empty, 'rb').read() == text)
     open(empty, 'wb').write(log)
     done = subprocess.run([starter, empty, '0', '8'], capture_output=True, text=True)
-    count('a log over the limit becomes a checkpoint at the start', 'checkpoint' in done.stdout and open(empty, 'rb').read()[:4] == b'WLG2')
+    count('a log over the limit becomes a checkpoint at the start', 'checkpoint' in done.stdout and open(empty, 'rb').read()[:4] == b'WLG3')
 
 
 def beside(name, host, kind, port, programs):
@@ -602,7 +602,7 @@ FAULTS = {
 AIMS = {'cut_in_place': 'S', 'sync_tried_again': 'S', 'raw_sync_tried_again': 'S', 'read_through_a_cache': 'sS', 'failed_rename_ignored': 'N'}
 SLOT, SLOT_READ = '    mantelorris_put_number(super, IN_FORCE, card->slot);\n', '    card->slot = mantelorris_number_at(super, IN_FORCE);\n'
 WORD = '    uint8_t word[SECTOR] = {(uint8_t)card->slot};\n    write_sectors(card->file, word, SECTOR, SUPER);\n    sync_card(card);\n'
-WORD_READ = '    uint8_t word[SECTOR];\n    read_at(card->file, word, SECTOR, SUPER);\n    card->slot = word[0] & 1;\n'
+WORD_READ = '    uint8_t word[SECTOR];\n    read_at(card->file, word, SECTOR, SUPER);\n    card->slot = 2 | (word[0] & 1);\n'
 THROUGH = '    sync_card(card);\n    if (posix_fadvise(card->file, 0, 0, POSIX_FADV_DONTNEED)) stop("card: its cache cannot be emptied");\n'
 SUPER, READ_SLOT = '    write_sectors(card->file, super, SUPER, card->sequence % 2 ? COPY : 0);\n', 'static size_t read_slot('
 LENGTH = '    size_t length = mantelorris_number_at(super, LOG),'
@@ -611,12 +611,12 @@ LENGTH_GREATER = '    size_t length = greater(card, mantelorris_number_at(super,
 LENGTH_WORDS = """    uint8_t words[SECTOR] = {0};
     mantelorris_put_number(words, 0, (uint32_t)length);
     mantelorris_put_number(words, 4, ~(uint32_t)length);
-    write_sectors(card->file, words, SECTOR, SUPER + (2 * card->slot + card->sequence % 2) * SECTOR);
+    write_sectors(card->file, words, SECTOR, SUPER + (2 * (card->slot % 2) + card->sequence % 2) * SECTOR);
 """
 GREATER = """static size_t greater(const struct card *card, uint32_t slot) {
     uint8_t words[2 * SECTOR];
     size_t most = 0;
-    read_at(card->file, words, sizeof words, SUPER + 2 * slot * SECTOR);
+    read_at(card->file, words, sizeof words, SUPER + 2 * (slot % 2) * SECTOR);
     for (int i = 0; i < 2; i++) {
         uint32_t length = mantelorris_number_at(words, (size_t)(i * SECTOR));
         if (mantelorris_number_at(words, (size_t)(i * SECTOR + 4)) == ~length && length > most) most = length;

@@ -58,7 +58,7 @@ def argument(r):
 
 
 def result(r):
-    return ': %s, value %d, %s' % (r['outcome'], r['value'], r['quality'])
+    return ': %s, value %d, %s' % (r['outcome'], r['value'], r['quality']) + (', time %d' % r['time'] if 'time' in r else '')
 
 
 def command(r, point):
@@ -127,7 +127,7 @@ def stored():
 
 def held(state, server):
     for r in state['records']:
-        yield '%d %d %d %d %d %d' % (server, r['client'], r['call'], OUTCOMES.index(r['outcome']), r['value'], r['quality'] == 'invalid')
+        yield '%d %d %d %d %d %d' % (server, r['client'], r['call'], OUTCOMES.index(r['outcome']), r['value'], r['quality'] == 'invalid') + (' %d' % r['time'] if r['time'] else '')
     for p in state['points']:
         if p['point'] in (5, 6) and p['status'] == 'held':
             yield 'point %d at %d: value %d, quality %d' % (p['point'], server, p['value'], p['quality'] == 'invalid')
@@ -163,7 +163,8 @@ def without_plan():
 
 
 def cuts():
-    log, wrong = open('tests/logs/second/server1.log', 'rb').read(), []
+    """of a log of 1.3 that has gone on with 1.6"""
+    log, wrong = open('tests/logs/second/server1.log', 'rb').read() + executed(1, 5, 2, 1, 40, 40) + gone(2, 70) + executed(2, 5, 1, 15, 3, 43, time=70), []
     whole = [r['at'] for r in card(PLAN, saved('log', log))[1]['log']['records']] + [len(log)]
     for length in range(len(log) + 1):
         status, told_json, said = card(PLAN, saved('cut', log[:length]))
@@ -231,8 +232,8 @@ def judged(answer, shortest, told_json):
 def damaged():
     read = lambda path: open(path, 'rb').read()
     logs = {name: read('tests/logs/second/%s.log' % name) for name in ('server0', 'server1')}
-    both = read('tests/logs/third/server1.checkpoint') + read('tests/logs/third/server1.log')
-    for what, data, bits in [(name, log, 8) for name, log in logs.items()] + [('checkpoint and tail', both, 1)]:
+    both = [('checkpoint and tail, %s' % folder, read('tests/logs/%s/server1.checkpoint' % folder) + read('tests/logs/%s/server1.log' % folder), 1) for folder in ('third', 'fourth')]
+    for what, data, bits in [(name, log, 8) for name, log in logs.items()] + both:
         cards = list(turned(data, bits))
         answers = list(asked(cards))
         found, refused = [judged(*a) for a in answers], sum(a[0] == 14 for a in answers)
@@ -260,26 +261,28 @@ def examples():
 def packet_good(p):
     """by the table in docs/FORMATS.md"""
     number = lambda at: struct.unpack_from('<I', p, at)[0]
-    if not 1 <= p[0] <= 6 or len(p) != (24, 16, 12, 8, 12, 12)[p[0] - 1]:
+    if not 1 <= p[0] <= 7 or len(p) != (24, 16, 12, 8, 12, 12, 20)[p[0] - 1]:
         return False
     if p[0] == 4:
         return p[1] <= 63 and p[2] <= 15 and p[3] == 0
-    if number(4) == 0 or (p[0] >= 5 and any(p[1:4])):
+    if number(4) == 0 or (p[0] in (5, 6) and any(p[1:4])):
         return False
-    if p[0] >= 5:
+    if p[0] in (5, 6):
         return True
     if p[2] > 63 or number(8) == 0:
         return False
     if p[0] == 1:
         limit = {0: 0, 4: 0, 5: 1000}.get(p[1], 1 << 32)
         return p[1] <= 5 and p[3] == 0 and 1 <= number(12) <= number(8) <= number(12) + 15 and number(20) <= limit
-    return p[1] <= 4 and p[3] <= 1 if p[0] == 2 else 3 <= p[1] <= 9 and p[3] == 0
+    return 3 <= p[1] <= 9 and p[3] == 0 if p[0] == 3 else p[1] <= 4 and p[3] <= 1
 
 
 def packets():
     known = {name: data for name, data in examples() if name in ('grant', 'request', 'refusal', 'result', 'receipt', 'notice')}
     wrong = [name for name, data in known.items() if run('--hex', data.hex(' '))[0] or run('--hex', data.hex(':'))[0] or '  %s ' % name not in run(saved('packet', data))[1]]
-    cards = [t for data in known.values() for t in turned(data, 8)] + [data[:n] for data in known.values() for n in range(1, len(data))]
+    first = b'\2' + known['result'][1:16]  # of a server before 1.6
+    wrong += [name for data, name in ((first, ', valid\n'), (known['result'], ', valid, time 50\n')) if name not in run('--hex', data.hex())[1]]
+    cards = [t for data in (first, *known.values()) for t in turned(data, 8)] + [data[:n] for data in known.values() for n in range(1, len(data))]
     for data, (_, _, told_json) in zip(cards, asked(cards)):
         if told_json['what'] == 'packet' and (told_json['answer'] != (0 if packet_good(data) else 1) or (told_json['answer'] and not told_json['refused']['why'])):
             wrong.append(data.hex())
@@ -289,7 +292,7 @@ def packets():
 def images():
     image = dict(examples())['image']
     status, told_json, said = card('--hex', image.hex())
-    wrong = [said] if status or told_json['image']['point'] != 5 or told_json['image']['records'][0]['value'] != -40 or 'well-formed' not in said else []
+    wrong = [said] if status or told_json['image']['point'] != 5 or told_json['image']['records'][0]['value'] != -40 or told_json['image']['records'][0]['time'] != 50 or 'well-formed' not in said else []
     longer = open('tests/logs/second/server1.log', 'rb').read()[16:16 + struct.unpack_from('<I', open('tests/logs/second/server1.log', 'rb').read(), 12)[0]]
     cards = [t for data in (image, longer) for t in turned(data, 8)] + [longer[:n] for n in range(4, len(longer))]
     refused = 0
@@ -302,8 +305,13 @@ def images():
 
 # ---- records that cannot follow
 
-def executed(op, p, client, call, argument, value, done=1, outcome=0):
-    return struct.pack('<4B3I2i4B', 1, op, p, outcome, client, call, done, argument, value, 0, 0, 0, 0)
+def executed(op, p, client, call, argument, value, done=1, outcome=0, time=0):
+    return struct.pack('<4B3I2i4BI', 6, op, p, outcome, client, call, done, argument, value, 0, 0, 0, 0, time)
+
+
+def first_form(record):
+    """an executed record as before 1.6: another kind, no time"""
+    return b'\1' + record[1:28]
 
 
 def short(kind, *rest):
@@ -314,10 +322,11 @@ def gone(client, time):
     return struct.pack('<4B2I', 2, 0, 0, 0, client, time)
 
 
-def image(p, to, move, clients=(), records=()):
+def image(p, to, move, clients=(), records=(), time=b'\7\0\0\0'):
+    """time: of each record; none: an image as before 1.6"""
     rows = b''.join(struct.pack('<2I', *c) for c in clients)
-    entries = b''.join(struct.pack('<2I2i4B', client, call, 0, 0, 1, 0, 0, 0) for client, call in records)
-    return b'MVI1' + struct.pack('<4B2I6Ii4B', p, to, 3, 0, move, 0, 40, 8, 48, len(rows), 48 + len(rows), len(entries), 7, 0, 0, 0, 0) + rows + entries
+    entries = b''.join(struct.pack('<2I2i4B', client, call, 0, 0, 1, 0, 0, 0) + time for client, call in records)
+    return (b'MVI2' if time else b'MVI1') + struct.pack('<4B2I6Ii4B', p, to, 3, 0, move, 0, 40, 8, 48, len(rows), 48 + len(rows), len(entries), 7, 0, 0, 0, 0) + rows + entries
 
 
 def take(*of):
@@ -350,12 +359,14 @@ CANNOT = [
 
 
 def cannot_follow():
-    cards, wrong = [HEAD + b''.join(records) + gone(1, 1) for _, records in CANNOT], []
-    for (why, records), (answer, shortest, told_json) in zip(CANNOT, asked(cards)):
+    """each in both forms"""
+    both = CANNOT + [(why, [first_form(r) if r[0] == 6 else r for r in records]) for why, records in CANNOT]
+    cards, wrong = [HEAD + b''.join(records) + gone(1, 1) for _, records in both], []
+    for (why, records), (answer, shortest, told_json) in zip(both, asked(cards)):
         refused = told_json.get('refused', {})
         if answer != 14 or refused.get('why') != why or refused['at'] != 8 + sum(map(len, records[:-1])) or judged(answer, shortest, told_json):
             wrong.append((why, answer, refused))
-    told('%d records that cannot follow, each with its reason' % len(CANNOT), wrong)
+    told('%d records that cannot follow, each with its reason' % len(both), wrong)
 
 
 def changed(data, at, new):
@@ -366,13 +377,13 @@ def number(value):
     return struct.pack('<I', value)
 
 
-def checkpoints():
-    """server 1 has point 5, client 1 with floor 1, and nine completion records from 2100 on"""
-    good, tail = (open('tests/logs/third/server1.' + kind, 'rb').read() for kind in ('checkpoint', 'log'))
-    first, point_5 = 2100, 1068 + 16 * 5
+def checkpoints(folder, row, again):
+    """server 1 has point 5, client 1 with floor 1, and nine completion records of so many bytes from 2100 on; again: the record of call 13 in its tail"""
+    good, tail = (open('tests/logs/%s/server1.%s' % (folder, kind), 'rb').read() for kind in ('checkpoint', 'log'))
+    first, point_5, whole = 2100, 1068 + 16 * 5, 2100 + 9 * row
     cases = [('checkpoint', 0, 'byte 4, server, is 16, and 0 to 15 is due', changed(good, 4, b'\x10') + tail),
              ('checkpoint', 12, 'the four pairs of offset and length, bytes 12 to 43, are off their layout', changed(good, 20, number(1069)) + tail),
-             ('checkpoint', 0, 'its end is missing: it has 2280 bytes, and 2279 are here', good[:-1]), ('checkpoint', 0, 'the head is cut off: 43 of its 44 bytes are here', good[:43]),
+             ('checkpoint', 0, 'its end is missing: it has %d bytes, and %d are here' % (whole, whole - 1), good[:-1]), ('checkpoint', 0, 'the head is cut off: 43 of its 44 bytes are here', good[:43]),
              ('checkpoint', 44 + 32, 'a fallback outside its own range in the plan', changed(good, 44 + 32 + 8, number(1001)) + tail),
              ('checkpoint', 44 + 32, 'byte 88, home, is 16, and 0 to 15 is due', changed(good, 44 + 32 + 12, number(16)) + tail),
              ('checkpoint', point_5, 'the value of point 5 is outside its range', changed(good, point_5 + 4, number(1001)) + tail),
@@ -382,18 +393,23 @@ def checkpoints():
              ('checkpoint', 2092 + 8, 'clients do not ascend here', changed(changed(good[:2100] + good[2092:], 32, number(16)), 36, number(2108)) + tail),
              ('checkpoint', first, 'its call is under its client\'s floor', changed(good, 2096, number(9)) + tail),
              ('checkpoint', first, 'its client is not among the clients', changed(good, first, number(2)) + tail),
-             ('checkpoint', first + 20, 'its call is more than 15 above its client\'s floor', changed(good, first + 24, number(17)) + tail),
+             ('checkpoint', first + row, 'its call is more than 15 above its client\'s floor', changed(good, first + row + 4, number(17)) + tail),
              ('checkpoint', first, 'its point is neither held nor given', changed(good, first + 19, b'\6') + tail),
              ('checkpoint', first, 'its value is outside its point\'s range', changed(good, first + 12, number(1001)) + tail),
-             ('checkpoint', first + 40, 'its client and call stand before already', changed(good, first + 40, good[first:first + 20]) + tail),
+             ('checkpoint', first + 2 * row, 'its client and call stand before already', changed(good, first + 2 * row, good[first:first + row]) + tail),
              ('tail', 4, 'it is of server 0, and the checkpoint of server 1', good + changed(tail, 4, b'\0')), ('tail', 0, 'the head is cut off: 7 of its 8 bytes are here', good + tail[:7]),
-             ('tail', 36, 'client 1, call 13 stands already', good + tail[:36] + tail[8:36])]
+             ('tail', again.stop, 'client 1, call 13 stands already', good + tail[:again.stop] + tail[again])]
     wrong = []
     for (part, at, why, _), (answer, shortest, told_json) in zip(cases, asked([c[3] for c in cases])):
         refused = told_json.get('refused', {})
         if answer != 14 or [refused.get(k) for k in ('part', 'at', 'why')] != [part, at, why] or judged(answer, shortest, told_json):
             wrong.append((why, answer, refused))
-    told('%d checkpoints and tails that are off, each with its place and reason' % len(cases), wrong)
+    told('%s: %d checkpoints and tails that are off, each with its place and reason' % (folder, len(cases)), wrong)
+
+
+def checkpoints_of_both():
+    checkpoints('third', 20, slice(8, 36))
+    checkpoints('fourth', 24, slice(52, 84))
 
 
 def any_record(rng):
@@ -402,14 +418,16 @@ def any_record(rng):
     kind = rng.choices(range(6), [40, 10, 20, 20, 10, 1])[0]
     if kind == 0:
         value, done = rng.choice([1000, 1001, -101] if rng.randrange(9) == 0 else [0, 5]), rng.randint(1, call + (rng.randrange(9) == 0))
-        return executed(rng.randrange(6), p, client, call, rng.choice([0, 0, 7, 2000]), value, done, rng.randrange(5))
+        record = executed(rng.randrange(6), p, client, call, rng.choice([0, 0, 7, 2000]), value, done, rng.randrange(5), rng.choice([0, 5, 0xFFFFFFFF]))
+        return record if rng.randrange(3) else first_form(record)
     if kind == 1:
         return gone(client, rng.choice([0, 5, 0xFFFFFFFF]))
     if kind == 2:
         return short(3, p, rng.choice([1, 1, 2, 0]), 0, move)
     if kind == 3:
         clients = sorted({rng.randint(1, 40): rng.randint(1, 3) for _ in range(rng.choice([0, 1, 3, 32]))}.items())
-        return take(p, rng.choice([0, 0, 0, 1]), move, clients, [(c, f + rng.choice([0, 1, 16] if rng.randrange(9) == 0 else [0])) for c, f in clients[:2]])
+        return take(p, rng.choice([0, 0, 0, 1]), move, clients, [(c, f + rng.choice([0, 1, 16] if rng.randrange(9) == 0 else [0])) for c, f in clients[:2]],
+                    rng.choice([b'', b'\5\0\0\0']))
     return short(5, p, 0, 0, move) if kind == 4 else rng.randbytes(rng.randint(1, 30))
 
 
@@ -434,12 +452,12 @@ def made_up():
 def guide():
     """the cards of the worked example in docs/GUIDE.md, as its section on the reader shows them"""
     text = open('docs/GUIDE.md', encoding='utf-8').read()
-    rest = lambda what: bytes.fromhex(re.search(r'card from byte 64, %s: ([0-9A-F ]+)' % what, text)[1])
+    rest = lambda what: bytes.fromhex(re.search(r'card from byte 72, %s: ([0-9A-F ]+)' % what, text)[1])
     synced = HEAD + executed(1, 5, 2, 1, 100, 100) + executed(2, 5, 1, 1, 20, 120)
     section = text[text.index('## A card in your hand'):]
     shown = [[line[4:] for line in block.split('\n')] for block in re.findall(r'(?:^    .*\n)+', section, flags=re.M)]
     said = [run(saved('card', synced + rest(what)))[1].split('\n') for what in ('torn', 'not cut, with the give')]
-    said.append(run(saved('card', synced[:56] + struct.pack('<i', 1048696) + synced[60:]), '--plan=-1000000,1000000,0,0')[1].split('\n'))
+    said.append(run(saved('card', synced[:60] + struct.pack('<i', 1048696) + synced[64:]), '--plan=-1000000,1000000,0,0')[1].split('\n'))
     lines = [[line for line in block[:-1] if not line.startswith(('cc ', 'mantelorris-card '))] for block in shown]
     wrong = [line for block, card_said in zip([b for b in lines if b], said) for line in block if line not in card_said]
     told('what docs/GUIDE.md shows of %d cards' % len(said), wrong or len([b for b in lines if b]) != len(said))
@@ -463,8 +481,29 @@ int main(int count, char **words) { /* CARD CHECKPOINT LOG: stored with the log'
 '''
 
 
+def raw_makers():
+    """of today's cards, and of those from before 1.6"""
+    today, slots = open('examples/card_raw.c', encoding='utf-8').read(), '    card->slot = FIRST_SLOTS + (card->slot + 1) % 2;\n'
+    before = saved('card_raw_before.c', today.replace(slots, '    card->slot ^= 1;\n').encode())
+    sources = [saved('raw.c', RAW.encode()), 'examples/card_raw.c'], [os.path.join(WORK, 'raw.c'), before]
+    return [built('maker%d' % i, files, ['-D_POSIX_C_SOURCE=200809L']) for i, files in enumerate(sources)], today.count(slots)
+
+
+def raw_before(maker, before):
+    """a card from before 1.6 is read, a checkpoint goes to it, and it is read again"""
+    path, wrong = os.path.join(WORK, 'raw-before'), []
+    words = ['tests/logs/third/server1.checkpoint', 'tests/logs/third/server1.log']
+    plain = card(PLAN, words[0], '--tail', words[1])[1]['state']
+    for program, slot in (before, 1), (before, 0), (maker, 3), (maker, 2):
+        subprocess.run([program, path, *words], check=True)
+        status, raw, _ = card(PLAN, path)
+        wrong += [(slot, status, raw.get('slot'))] if status or raw['slot'] != slot or raw['state'] != plain else []
+    return wrong
+
+
 def raw_cards():
-    maker, wrong = built('maker', [saved('raw.c', RAW.encode()), 'examples/card_raw.c'], ['-D_POSIX_C_SOURCE=200809L']), []
+    (maker, before), wrong = raw_makers()[0], [] if raw_makers()[1] == 1 else ['card_raw.c has no such line']
+    wrong += raw_before(maker, before)
     for words, folder, server in stored():
         log = words[-1] if 'both' not in words[0] else None
         if log is None:
@@ -495,7 +534,7 @@ def raw_cards():
     mixed = saved('mixed', open(path, 'rb').read()[:8192] + open(now, 'rb').read()[8192:])
     if tried_files(mixed, now).get('state') != card(now)[1]['state']:
         wrong.append('a card of two moments')
-    told('raw cards of all versions; the older superblock; none; one that was read while a host went on', wrong)
+    told('raw cards of all versions, and as before 1.6; the older superblock; none; one that was read while a host went on', wrong)
 
 
 # ---- beside a host
@@ -517,7 +556,7 @@ class Desk(threading.Thread):
         except OSError:  # not up yet, or lost
             time.sleep(0.01)
             return False
-        return reply[0] == 2 and struct.unpack_from('<I', reply, 8)[0] == call
+        return reply[0] == 7 and struct.unpack_from('<I', reply, 8)[0] == call
 
     def run(self):
         while self.going:
@@ -608,12 +647,12 @@ def plans():
 # ---- 16 MB
 
 def large():
-    count = (1 << 24) // 28
+    count = (1 << 24) // 32
     log = bytearray(HEAD + b''.join(executed(1, i % 64, i % 8 + 1, i // 8 + 1, i % 1000, i % 1000, i // 8 + 1) for i in range(count)))
     good = saved('large', log)
-    struct.pack_into('<i', log, 8 + 28 * (count - 1) + 20, 5000)
+    struct.pack_into('<i', log, 8 + 32 * (count - 1) + 20, 5000)
     noise = random.Random(SEED).randbytes(1 << 24)
-    due = [(0, 'whole records up to %d' % len(log), good), (1, 'in the log at %d: value 5000 is outside' % (len(log) - 28), saved('large-bad', log)),
+    due = [(0, 'whole records up to %d' % len(log), good), (1, 'in the log at %d: value 5000 is outside' % (len(log) - 32), saved('large-bad', log)),
            (1, 'no good superblock', saved('zeros', bytes(1 << 24))), (1, 'no good superblock', saved('noise', b'\0' + noise))]
     wrong, most = [], 0
     for status, words, path in due:
@@ -682,7 +721,7 @@ def main():
     print('seed %d' % SEED)
     READER = built('mantelorris-card', UNITS)
     TRIAL = built('trial', [u for u in UNITS if not u.endswith('/main.c')] + ['tests/c/reader.c'], ['-g', '-fsanitize=address,undefined', '-fno-sanitize-recover=all'])
-    for part in stored_cards, without_plan, cuts, damaged, exit_statuses, packets, images, cannot_follow, checkpoints, made_up, guide, raw_cards, beside_a_host, odd, plans, large, never_written:
+    for part in stored_cards, without_plan, cuts, damaged, exit_statuses, packets, images, cannot_follow, checkpoints_of_both, made_up, guide, raw_cards, beside_a_host, odd, plans, large, never_written:
         part()
     shutil.rmtree(WORK)
     print('%d passed, %d failed' % (passed, failed))

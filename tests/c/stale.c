@@ -1,4 +1,4 @@
-/* The worked example of docs/GUIDE.md: a card that is not cut after recover. A record of 28 bytes was torn after 20, an 8-byte record is written over its start, and the
+/* The worked example of docs/GUIDE.md: a card that is not cut after recover. A record of 32 bytes was torn after 20, an 8-byte record is written over its start, and the
  * stale 12 bytes behind it read as a record of their own: a client is forgotten, and its step is carried out twice. With the card cut it is carried out once.
  * Prints the card's bytes and what comes of them; fails where either way ends otherwise. */
 #include "mantelorris.h"
@@ -62,21 +62,21 @@ static void step_twice(int cut) {
     due("client 1 steps 20", request(1, 1, MANTELORRIS_STEP, 20), 0);
     sync_log();
     due("client 1 steps 20 once more", request(1, 2, MANTELORRIS_STEP, 20), 0);
-    write_card((size_t)mantelorris_length(state) - 8); /* torn: 20 of its 28 bytes */
-    show("card from byte 64, torn", 64);
+    write_card((size_t)mantelorris_length(state) - 12); /* torn: 20 of its 32 bytes */
+    show("card from byte 72, torn", 72);
     power_cut();
-    due("length after recover", mantelorris_length(state), 64);
-    if (cut) card_length = 64;
+    due("length after recover", mantelorris_length(state), 72);
+    if (cut) card_length = 72;
     due("point 7 goes to server 1", mantelorris_give(state, sizeof state, log_space, LOG, 7, 1), 0);
     sync_log();
-    show(cut ? "card from byte 64, cut, with the give" : "card from byte 64, not cut, with the give", 64);
+    show(cut ? "card from byte 72, cut, with the give" : "card from byte 72, not cut, with the give", 72);
     power_cut();
     uint64_t length = mantelorris_length(state);
     uint64_t again = request(1, 1, MANTELORRIS_STEP, 20); /* a late repeat of the first step */
     printf("length after the second recover %llu; a repeat of the first step: %s; the gate at %d\n", (unsigned long long)length,
            mantelorris_written(again) ? "answered from the log" : "carried out a second time", mantelorris_value(state, GATE));
-    due("length", length, cut ? 72 : 84);
-    due("packet", mantelorris_written(again), cut ? 16 : 0);
+    due("length", length, cut ? 80 : 92);
+    due("packet", mantelorris_written(again), cut ? 20 : 0);
     due("gate", (uint64_t)mantelorris_value(state, GATE), cut ? 120 : 140);
 }
 

@@ -40,19 +40,30 @@ static inline void sync(struct server *s) {
     must(mantelorris_sync(SLICES(s), mantelorris_length(s->state)) == 0, "sync");
 }
 
+/* the notice of a client that the server knows: its lease has ended at this second */
+static inline void hear(struct server *s, uint32_t client, uint32_t second) {
+    uint8_t notice[12] = {MANTELORRIS_KIND_NOTICE};
+    mantelorris_put_number(notice, 4, client);
+    mantelorris_put_number(notice, 8, second);
+    must(mantelorris_notice(SLICES(s), notice, sizeof notice) == 0, "notice");
+    sync(s);
+}
+
 static inline void save(const char *path, const uint8_t *bytes, size_t length) {
     FILE *f = fopen(path, "wb");
     must(f != NULL && fwrite(bytes, 1, length, f) == length && fclose(f) == 0, path);
 }
 
-/* a line for each completion record that a server holds: server, client, call, outcome, value, quality */
+/* a line for each completion record that a server holds: server, client, call, outcome, value, quality, and the time of execution where it is not 0 */
 static inline void results(FILE *out, struct server *servers) {
     uint8_t r[MANTELORRIS_REPLY_SIZE];
     for (int i = 0; i < 2; i++)
         for (uint32_t call = 1; call <= 16; call++) {
             struct server *s = &servers[i];
             if (mantelorris_number(mantelorris_fetch(SLICES(s), 1, call, r, sizeof r)) != 0) continue;
-            fprintf(out, "%d %u %u %u %d %u\n", i, 1u, call, r[1], (int32_t)mantelorris_number_at(r, 12), r[3]);
+            fprintf(out, "%d %u %u %u %d %u", i, 1u, call, r[1], (int32_t)mantelorris_number_at(r, 12), r[3]);
+            if (mantelorris_result_time(r)) fprintf(out, " %u", mantelorris_result_time(r));
+            fprintf(out, "\n");
         }
     for (uint32_t p = 5; p <= 6; p++)
         for (int i = 0; i < 2; i++)

@@ -3,13 +3,14 @@
  * Run once with the library of a version that is about to change, it keeps what that version wrote; recover.c reads it with every later one.
  * Point 5 steps past both ends of its range, by small and by the greatest arguments, moves from server 0 to server 1, and steps past an end there;
  * point 6 is reported out of range and stepped while invalid. Both are put at parts whose product is no multiple of 1000, point 5 before its move and
- * after it. Server 0 makes its checkpoint before the move, server 1 after it, before its last commands. No result is acknowledged, so that every
- * completion record stays. */
+ * after it. Server 0 makes its checkpoint before the move, server 1 after it, before its last commands. Each has heard of a second before some of its
+ * commands, by the notice of a client that has read a point there. No result is acknowledged, so that every completion record stays. */
 #include "plant.h"
 #include <string.h>
 
 static struct server servers[2];
 static struct mantelorris_client desk;
+static struct mantelorris_lease_manager manager;
 
 /* one command, executed and synced */
 static void command(int at, uint32_t op, uint32_t point, int32_t argument) {
@@ -17,6 +18,16 @@ static void command(int at, uint32_t op, uint32_t point, int32_t argument) {
     must(q.number == 0, "issue");
     must(ask(&servers[at], q.packet, q.length) == 0, "request");
     sync(&servers[at]);
+}
+
+/* a client reads the point, and its lease ends at this second */
+static void visit(int at, uint32_t point, uint32_t second) {
+    struct mantelorris_lease_reply grant = mantelorris_open(&manager, manager.time, second - manager.time);
+    struct mantelorris_client other = mantelorris_start(grant.packet, grant.length).client;
+    struct mantelorris_send_reply q = mantelorris_issue(&other, MANTELORRIS_READ, point, 0);
+    must(q.number == 0 && ask(&servers[at], q.packet, q.length) == 0, "a visitor's read");
+    must(mantelorris_query(&manager, other.client, second).kind == MANTELORRIS_KIND_NOTICE, "its lease has ended");
+    hear(&servers[at], other.client, second);
 }
 
 static void move_point(uint32_t point) {
@@ -53,25 +64,28 @@ int main(int count, char **words) {
     must(count == 2, "usage: write FOLDER");
     plan_of(plan);
     for (int i = 0; i < 2; i++) must(mantelorris_found(SLICES(&servers[i]), plan, sizeof plan, (uint32_t)i) == 0, "found");
-    struct mantelorris_lease_manager manager = mantelorris_leases();
+    manager = mantelorris_leases();
     struct mantelorris_lease_reply grant = mantelorris_open(&manager, 0, 600);
     desk = mantelorris_start(grant.packet, grant.length).client;
 
     command(0, MANTELORRIS_SET, 5, 1000);
     command(0, MANTELORRIS_STEP, 5, 1);
     command(0, MANTELORRIS_STEP, 5, -1);
+    visit(0, 6, 60);
     command(0, MANTELORRIS_SET, 5, -100);
     command(0, MANTELORRIS_STEP, 5, -1);
     command(0, MANTELORRIS_STEP, 5, INT32_MIN);
     command(0, MANTELORRIS_STEP, 5, INT32_MAX);
     command(0, MANTELORRIS_REPORT, 6, 2000);
     command(0, MANTELORRIS_STEP, 6, 1);
+    visit(0, 6, 75);
     command(0, MANTELORRIS_PART, 6, 5);
     command(0, MANTELORRIS_PART, 5, 7);
     check(words[1], 0);
     move_point(5);
     command(1, MANTELORRIS_PART, 5, 5);
     check(words[1], 1);
+    visit(1, 5, 90);
     command(1, MANTELORRIS_STEP, 5, 600);
     command(1, MANTELORRIS_STEP, 5, 600);
 

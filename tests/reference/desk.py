@@ -30,9 +30,9 @@ def notice(client, at):
 
 def read_packet(b):
     """a result or a refusal packet as a tuple, None for anything else"""
-    if len(b) == 16 and b[0] == 2:
-        _, outcome, point, quality, client, call, value = struct.unpack('<BBBBIIi', b)
-        return ('result', client, call, point, (outcome, value, quality)) if outcome <= 4 and quality <= 1 and point <= 63 and client and call else None
+    if (len(b), b[:1]) in ((20, b'\7'), (16, b'\2')):  # one of a server before 1.6 has no time: 0
+        _, outcome, point, quality, client, call, value, at = struct.unpack('<BBBBIIiI', b if b[0] == 7 else b + bytes(4))
+        return ('result', client, call, point, (outcome, value, quality, at)) if outcome <= 4 and quality <= 1 and point <= 63 and client and call else None
     if len(b) == 12 and b[0] == 3:
         _, number, point, zero, client, call = struct.unpack('<BBBBII', b)
         return ('refusal', client, call, point, number) if 3 <= number <= 9 and point <= 63 and not zero and client and call else None
@@ -173,16 +173,18 @@ class Host:
 # ---- what the card says (FORMATS; The log): the log read and replayed
 
 def read_log(log):
-    """records of a log; the executed ones as tuples"""
+    """the executed records of a log as tuples, each with the time that was heard before it"""
     assert log[:4] == bytes.fromhex('574C4731') and log[4] <= 15 and log[5:8] == bytes(3)
-    at, out = 8, []
+    at, heard, out = 8, 0, []
     while at < len(log):
-        size = {1: 28, 2: 12, 3: 8, 5: 8}[log[at]]
+        size = {6: 32, 2: 12, 3: 8, 5: 8}[log[at]]
         if at + size > len(log):
             break
-        if log[at] == 1:
-            _, op, point, outcome, client, call, done, argument, value, quality = struct.unpack('<BBBBIIIiiB', log[at:at + 25])
-            out.append((client, call, op, point, argument, (outcome, value, quality)))
+        if log[at] == 6:
+            _, op, point, outcome, client, call, done, argument, value, quality, time = struct.unpack('<BBBBIIIiiB3xI', log[at:at + 32])
+            out.append((client, call, op, point, argument, (outcome, value, quality, time), heard))
+        if log[at] == 2:
+            heard = max(heard, struct.unpack_from('<I', log, at + 8)[0])
         at += size
     return out
 
@@ -198,7 +200,7 @@ def commands(line, leases):
             due = rule(op, a, at.get(point, (FALLBACK, 1)))
             result = client.settle().get(call)
             at[point] = due[1:]
-            count('op %d, argument %d' % (op, a), result, due)
+            count('op %d, argument %d' % (op, a), result, due + (0,))
     return client
 
 
@@ -212,8 +214,8 @@ def refusals(line, leases, client):
     other = bytearray(packet)
     other[2] = 10
     count('an id with another point', line.ask(bytes(other)), ('refusal', 6))
-    count('a repeat is answered, and again', [line.ask(packet) for _ in range(3)], [('result', (0, FALLBACK, 1))] * 3)
-    bad = [packet[:-1], packet + b'\0', b'\x07' + packet[1:], packet[:3] + b'\1' + packet[4:], request(6, 0, 9, 1, 1, 600, 0), request(READ, 64, 9, 1, 1, 600, 0),
+    count('a repeat is answered, and again', [line.ask(packet) for _ in range(3)], [('result', (0, FALLBACK, 1, 0))] * 3)
+    bad = [struct.pack('<BBBBIIiI', 7, 0, 9, 0, client.number, call, 0, 0), struct.pack('<BBBBIIi', 2, 0, 9, 0, client.number, call, 0), packet[:-1], packet + b'\0', b'\x07' + packet[1:], packet[:3] + b'\1' + packet[4:], request(6, 0, 9, 1, 1, 600, 0), request(READ, 64, 9, 1, 1, 600, 0),
            request(READ, 0, 0, 1, 1, 600, 0), request(READ, 0, 9, 17, 1, 600, 0), request(READ, 0, 9, 1, 2, 600, 0), request(PART, 0, 9, 1, 1, 600, 1001), request(FAULT, 0, 9, 1, 1, 600, 1)]
     count('malformed requests have no answer', [line.ask(b, 2) for b in bad], [None] * len(bad))
     late = client.packet(client.issue(STEP, 9, 1))
@@ -235,12 +237,14 @@ def places(line, leases):
     time.sleep(0.1)
     late = Client(line, *leases.open(1301, 600))
     late.issue(READ, 1, 0)
-    count('a notice frees one', (line.ask(late.packet(1)) or [None])[0], 'result')
+    packet = late.packet(1)
+    count('a notice frees one', line.ask(packet), ('result', (0, FALLBACK, 1, 1300)))
     for c in clients[1:]:
         line.send(leases.ended(c.number, 1301))
         time.sleep(0.005)
     time.sleep(0.1)
     line.heard(0.05)
+    count('a repeat has the time of its execution, whatever was heard since', line.ask(packet), ('result', (0, FALLBACK, 1, 1300)))
 
 
 def steps_under_kills(line, leases, host, rng):
@@ -264,13 +268,13 @@ def steps_under_kills(line, leases, host, rng):
 def card(path):
     """the card has each command once, and its results are those of the rules in the log's order"""
     ids, at, wrong = set(), {}, []
-    for client, call, op, point, argument, result in read_log(open(path, 'rb').read()):
+    for client, call, op, point, argument, result, heard in read_log(open(path, 'rb').read()):
         due = rule(op, argument, at.get(point, (FALLBACK, 1)))
-        at[point] = result[1:]
-        if result != due or (client, call) in ids:
+        at[point] = result[1:3]
+        if result != due + (heard,) or (client, call) in ids:
             wrong.append((client, call, result, due))
         ids.add((client, call))
-    count('the log: every id once, every result by its rule', wrong, [])
+    count('the log: every id once, every result by its rule, its time the one heard', wrong, [])
     count('the log: the gate at the sum of its steps', at[30], (60, 0))
 
 

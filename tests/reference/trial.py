@@ -30,10 +30,11 @@ def grant_bytes(client, end):
 
 def parse(p):
     """The packet as a dict, or None where it is malformed. Only what a desk may receive."""
-    if len(p) == 16 and p[0] == 2:
-        _, out, pt, q, cl, ca, v = struct.unpack('<BBBBIIi', p)
+    if (len(p) == 20 and p[0] == 7) or (len(p) == 16 and p[0] == 2):
+        _, out, pt, q, cl, ca, v = struct.unpack('<BBBBIIi', p[:16])
+        at = struct.unpack('<I', p[16:])[0] if p[0] == 7 else 0
         if out <= 4 and pt <= 63 and q <= 1 and cl and ca:
-            return dict(kind=2, outcome=out, point=pt, quality=q, client=cl, call=ca, value=v)
+            return dict(kind=7, outcome=out, point=pt, quality=q, client=cl, call=ca, value=v, time=at)
     elif len(p) == 12 and p[0] == 3:
         _, n, pt, z, cl, ca = struct.unpack('<BBBBII', p)
         if 3 <= n <= 9 and pt <= 63 and z == 0 and cl and ca:
@@ -138,7 +139,7 @@ class Client:
             return 0, p
         if p['call'] not in self.calls or self.calls[p['call']][1] != p['point']:
             return 17, None
-        if p['kind'] == 2:
+        if p['kind'] == 7:
             del self.calls[p['call']]
         return 0, p
 
@@ -193,7 +194,7 @@ class Desk:
         refusal, m = c.receive(m)
         if refusal:
             return
-        if m['kind'] == 2:
+        if m['kind'] == 7:
             self.tick += 1
             entry = self.log[c.number, m['call']]
             entry.update(done=self.tick, res=m, got=entry['got'] + 1)
@@ -225,8 +226,8 @@ class Desk:
             stop = time.time() + 0.05
             while time.time() < stop:
                 m = self.get(0.05)
-                if m and m['kind'] in (2, 3) and (m['client'], m['call']) == (client, call):
-                    seen.append((m['kind'], m.get('number', m.get('value'))))
+                if m and m['kind'] in (7, 3) and (m['client'], m['call']) == (client, call):
+                    seen.append((m['kind'], m.get('number', m.get('value')), m.get('time')))
                     if ok(m):
                         return seen
         raise AssertionError(('no such answer', seen))
@@ -247,7 +248,7 @@ def refused(number):
 def check_steps(desk, number, low, high):
     """each step of a client has one result; its values are low to high; a step completed before another was issued has the lower one"""
     steps = [e for (n, _), e in desk.log.items() if n == number and e['op'] == STEP]
-    assert all((e['got'], e['res']['outcome'], e['res']['quality'], e['res']['point']) == (1, 0, 0, 5) for e in steps)
+    assert all((e['got'], e['res']['outcome'], e['res']['quality'], e['res']['point'], e['res']['time']) == (1, 0, 0, 5, 0) for e in steps)
     assert sorted(e['res']['value'] for e in steps) == list(range(low, high + 1))
     for a in steps:
         for b in steps:
@@ -284,7 +285,7 @@ def late_repeats(desk, manager, a, b, cut, noticed):
     call = lambda n: [p for p in requests if struct.unpack('<I', p[8:12])[0] == n][-1]
     desk.ask(call(2), refused(5))
     value = desk.log[a.number, 101]['res']['value']
-    assert all(x[1] == value for x in desk.ask(call(101), lambda m: m['kind'] == 2) if x[0] == 2)
+    assert all(x[1:] == (value, 0) for x in desk.ask(call(101), lambda m: m['kind'] == 7) if x[0] == 7)
     assert manager.query(a.number, 1100)[1][0] == 6
     refusal, notice = manager.query(a.number, a.lease)
     assert refusal == 0 and notice[0] == 5 and manager.renew(a.number, a.lease, 600) == (17, None)
@@ -324,11 +325,11 @@ def trial(mode, seed, host, relay):
     try:
         a, b = steps(desk, manager, hook)
         # the head, each command once, one gone record
-        size = lambda commands: 8 + commands * 28 + 12
+        size = lambda commands: 8 + commands * 32 + 12
         late_repeats(desk, manager, a, b, cabinet.kill if due else lambda: None, lambda: os.path.getsize(cabinet.card) == size(151))
         desk.run(b, [(READ, 5, 0)], 1)
         m = desk.log[b.number, b.next - 1]['res']
-        assert (m['outcome'], m['quality'], m['value']) == (0, 0, 150), m
+        assert (m['outcome'], m['quality'], m['value'], m['time']) == (0, 0, 150, a.lease), m
         assert cabinet.kills == due, cabinet.kills
         assert os.path.getsize(cabinet.card) == size(152)
     finally:

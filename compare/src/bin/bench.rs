@@ -103,6 +103,7 @@ fn clients() {
         client,
         call,
         value,
+        time: 60,
     };
     let refusal = |call| RefusalPacket {
         number: 7,
@@ -357,6 +358,7 @@ fn read_result(call: u32, point: u32) -> Vec<u8> {
         client: 7,
         call,
         value: 0,
+        time: 60,
     };
     write_result(&reply).to_vec()
 }

@@ -6,11 +6,11 @@ use crate::desk::{address, drive, grant, refusal_class, resend_class, Calls, Sha
 use compare::tally::Tally;
 use compare::{chamber, inputs, other};
 use second::chamber::{is_opening, levels_beside, other_gate, Chamber, LatestRead, GATES};
-use second::packet::{parse_packet, write_packet, Packet};
+use second::packet::{parse_packet, Packet};
 use second::random::Random;
 use second::rule::Op;
 
-const CLASSES: [&str; 52] = [
+const CLASSES: [&str; 53] = [
     "start",
     "start: 1, packet",
     "start: 1, point over 63",
@@ -50,6 +50,7 @@ const CLASSES: [&str; 52] = [
     "resend: 17, closed",
     "resend: 17, call 0",
     "receive: a read",
+    "receive: a read, untimed",
     "receive: a set or part",
     "receive: a read with an outcome over 0",
     "receive: a refusal",
@@ -251,10 +252,11 @@ impl Pair {
             _ => random.below(64) as u8,
         };
         let kind = match random.below(20) {
-            0 => 1 + random.below(6),
+            0 => 1 + random.below(7),
             1..=2 => 3,
             3..=4 => 6,
-            _ => 2,
+            5..=8 => 2,
+            _ => 7,
         };
         let mut packet = inputs::packet_of_kind(random, kind);
         address(random, &mut packet, &to, call, point);
@@ -264,7 +266,7 @@ impl Pair {
                 p.outcome = 0;
             }
         }
-        *bytes = write_packet(&packet);
+        *bytes = inputs::packet_bytes(&packet, kind);
         match random.below(25) {
             0 | 1 => inputs::damage(random, bytes),
             2 => inputs::string(random, 30, bytes),
@@ -295,8 +297,9 @@ impl Pair {
         self.have = have.chamber;
         let have = have.reply;
         tally.meet(match (have.kind, parse_packet(bytes)) {
-            (2, _) => match before.client.open_call(have.call).map(|c| c.op) {
+            (7, _) => match before.client.open_call(have.call).map(|c| c.op) {
                 Some(Op::Read) if have.outcome > 0 => "receive: a read with an outcome over 0",
+                Some(Op::Read) if bytes[0] == 2 => "receive: a read, untimed",
                 Some(Op::Read) => "receive: a read",
                 _ => "receive: a set or part",
             },

@@ -6,10 +6,10 @@ use compare::inputs;
 use compare::tally::Tally;
 use compare::{other, proved};
 use second::client::Client;
-use second::packet::{parse_packet, write_packet};
+use second::packet::parse_packet;
 use second::random::Random;
 
-const CLASSES: [&str; 23] = [
+const CLASSES: [&str; 24] = [
     "start",
     "start: 1",
     "issue",
@@ -23,6 +23,7 @@ const CLASSES: [&str; 23] = [
     "resend: 17, closed",
     "resend: 17, call 0",
     "receive: a result",
+    "receive: an untimed result",
     "receive: a refusal",
     "receive: a later lease end",
     "receive: the same lease end",
@@ -137,14 +138,15 @@ impl Pair {
             _ => random.below(64) as u8,
         };
         let kind = match random.below(20) {
-            0 => 1 + random.below(6),
+            0 => 1 + random.below(7),
             1..=5 => 3,
             6..=9 => 6,
-            _ => 2,
+            10..=12 => 2,
+            _ => 7,
         };
         let mut packet = inputs::packet_of_kind(random, kind);
         address(random, &mut packet, &to, call, point);
-        *bytes = write_packet(&packet);
+        *bytes = inputs::packet_bytes(&packet, kind);
         match random.below(20) {
             0 | 1 => inputs::damage(random, bytes),
             2 => inputs::string(random, 30, bytes),
@@ -159,7 +161,8 @@ impl Pair {
         let want = other::receive(&mut self.want, bytes);
         assert_eq!(have, want, "receive {bytes:02x?} at {before:?}");
         tally.meet(match (have.kind, parse_packet(bytes)) {
-            (2, _) => "receive: a result",
+            (7, _) if bytes[0] == 2 => "receive: an untimed result",
+            (7, _) => "receive: a result",
             (3, _) => "receive: a refusal",
             (6, _) if have.lease > before.lease_end => "receive: a later lease end",
             (6, _) => "receive: the same lease end",

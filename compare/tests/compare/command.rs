@@ -7,8 +7,9 @@ use compare::kernel::Call;
 use compare::pair::{Outputs, Pair, MALFORMED};
 use compare::states;
 use compare::tally::{runs, seed, Tally};
+use second::answer::Answer;
 use second::bytes::{all_zero, get_i32};
-use second::packet::{write_request, Request};
+use second::packet::{write_request, Request, RESULT_LEN};
 use second::plan::{write_plan, Entry};
 use second::random::Random;
 use second::record::HEAD_LEN;
@@ -237,7 +238,7 @@ impl Case {
 fn rules() {
     let mut random = Random::new(seed());
     let mut tally = Tally::new("rules", &RULE_CLASSES);
-    let mut outputs = Outputs::new(16);
+    let mut outputs = Outputs::new(RESULT_LEN);
     let base = states::founded(&inputs::plan(&mut random), 3);
     let mut pair = Pair::of(base.clone(), 64);
     for _ in 0..runs() / 4 {
@@ -255,7 +256,7 @@ fn rules() {
         if !refused && random.chance(20) {
             pair.run(&Call::Sync(pair.server.length), &mut outputs);
             let answer = pair.run(&Call::Fetch(1, 1), &mut outputs);
-            assert_eq!((answer.number, answer.written), (0, 16), "{class}");
+            assert_eq!(answer, Answer::wrote(RESULT_LEN), "{class}");
         }
         tally.meet(class);
     }

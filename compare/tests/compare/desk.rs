@@ -5,7 +5,7 @@ use compare::inputs;
 use compare::tally::{runs, seed, Tally};
 use second::answer::Refusal;
 use second::client::Client;
-use second::packet::{write_grant, write_packet, Grant, Packet};
+use second::packet::{write_grant, Grant, Packet};
 use second::random::Random;
 
 /// The calls of a pair of desks, one of each program.
@@ -53,8 +53,9 @@ pub fn drive<P>(test: &'static str, classes: &'static [&'static str], of: Shares
 /// A grant, or in so many of 100 cases a damaged packet of any kind.
 pub fn grant(random: &mut Random, damaged: u32) -> Vec<u8> {
     if random.chance(damaged) {
-        let kind = 1 + random.below(6);
-        let mut packet = write_packet(&inputs::packet_of_kind(random, kind));
+        let kind = 1 + random.below(7);
+        let packet = inputs::packet_of_kind(random, kind);
+        let mut packet = inputs::packet_bytes(&packet, kind);
         inputs::damage(random, &mut packet);
         return packet;
     }

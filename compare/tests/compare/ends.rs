@@ -179,6 +179,7 @@ fn record(random: &mut Random, call: u32, end: u64) -> Completion {
         point: POINT,
         outcome: 0,
         quality: 0,
+        time: inputs::number(random),
         end,
     }
 }

@@ -8,21 +8,25 @@ use compare::pair::{Outputs, Pair, MALFORMED};
 use compare::states;
 use compare::tally::{runs, seed, Tally};
 use second::bytes::{all_zero, get_i32, get_u32};
-use second::image::{IMAGE_MAGIC, IMAGE_MAX};
+use second::image::{IMAGE_MAX, IMAGE_MAX_UNTIMED};
 use second::plan::{Entry, Plan};
 use second::random::Random;
 use second::server::Server;
 
-const CLASSES: [&str; 34] = [
+const CLASSES: [&str; 38] = [
     "taken",
     "image",
     "image: full",
     "image: no floors",
     "image: no records",
+    "untimed image",
+    "untimed image: full",
+    "untimed image: no floors",
+    "untimed image: no records",
     "point's value out of range",
     "a record's value out of range",
     "under 48 bytes",
-    "over 10,544 bytes",
+    "over 12,592 bytes",
     "first four bytes",
     "zero byte of the head",
     "point",
@@ -56,12 +60,13 @@ fn class(b: &[u8]) -> &'static str {
     match b.len() {
         0..=47 => return "under 48 bytes",
         48..=IMAGE_MAX => {}
-        _ => return "over 10,544 bytes",
+        _ => return "over 12,592 bytes",
     }
     let n = |at: usize| get_u32(b, at) as usize;
     let (floors, records) = (n(28), n(36));
+    let row = if b[3] == 0x31 { 20 } else { 24 };
     match b {
-        _ if b[..4] != IMAGE_MAGIC => "first four bytes",
+        _ if b[..3] != *b"MVI" || !matches!(b[3], 0x31 | 0x32) => "first four bytes",
         _ if b[7] != 0 => "zero byte of the head",
         _ if b[4] > 63 => "point",
         _ if b[5] > 15 => "destination",
@@ -72,15 +77,15 @@ fn class(b: &[u8]) -> &'static str {
         _ if n(24) != 48 => "floors: offset",
         _ if floors % 8 != 0 || floors > 256 => "floors: length",
         _ if n(32) != 48 + floors => "records: offset",
-        _ if records % 20 != 0 => "records: length",
+        _ if records % row != 0 => "records: length",
         _ if 48 + floors + records != b.len() => "end of the slice",
-        _ => tables_class(&b[48..48 + floors], &b[48 + floors..]),
+        _ => tables_class(&b[48..48 + floors], &b[48 + floors..], row),
     }
 }
 
-fn tables_class(floors: &[u8], records: &[u8]) -> &'static str {
+fn tables_class(floors: &[u8], records: &[u8], row: usize) -> &'static str {
     let floors: Vec<(u32, u32)> = pairs(floors, 8);
-    let ids: Vec<(u32, u32)> = pairs(records, 20);
+    let ids: Vec<(u32, u32)> = pairs(records, row);
     if floors.iter().any(|f| f.1 == 0) {
         return "floor 0";
     }
@@ -90,7 +95,7 @@ fn tables_class(floors: &[u8], records: &[u8]) -> &'static str {
     if floors.windows(2).any(|f| f[0].0 >= f[1].0) {
         return "clients not ascending";
     }
-    for r in records.chunks_exact(20) {
+    for r in records.chunks_exact(row) {
         if let Some(fault) = record_fault(r, &floors) {
             return fault;
         }
@@ -98,11 +103,15 @@ fn tables_class(floors: &[u8], records: &[u8]) -> &'static str {
     if ids.windows(2).any(|i| i[0] >= i[1]) {
         return "records not ascending";
     }
-    match (floors.len(), ids.len()) {
-        (32, 512) => "image: full",
-        (0, _) => "image: no floors",
-        (_, 0) => "image: no records",
-        _ => "image",
+    match (row, floors.len(), ids.len()) {
+        (24, 32, 512) => "image: full",
+        (24, 0, _) => "image: no floors",
+        (24, _, 0) => "image: no records",
+        (24, _, _) => "image",
+        (_, 32, 512) => "untimed image: full",
+        (_, 0, _) => "untimed image: no floors",
+        (_, _, 0) => "untimed image: no records",
+        _ => "untimed image",
     }
 }
 
@@ -133,7 +142,8 @@ fn record_fault(r: &[u8], floors: &[(u32, u32)]) -> Option<&'static str> {
 
 fn range_class(b: &[u8], range: (i32, i32), otherwise: &'static str) -> &'static str {
     let out = |value: i32| value < range.0 || value > range.1;
-    let mut records = b[48 + get_u32(b, 28) as usize..].chunks_exact(20);
+    let row = if b[3] == 0x31 { 20 } else { 24 };
+    let mut records = b[48 + get_u32(b, 28) as usize..].chunks_exact(row);
     match otherwise {
         _ if out(get_i32(b, 40)) => "point's value out of range",
         _ if records.any(|r| out(get_i32(r, 12))) => "a record's value out of range",
@@ -156,7 +166,10 @@ fn spoil(random: &mut Random, bytes: &mut Vec<u8>) {
         0..=3 => {}
         4 => inputs::disorder(random, bytes),
         5 => inputs::string(random, 200, bytes),
-        6 => bytes.resize(IMAGE_MAX + random.below(40) as usize, 0),
+        6 => {
+            let longest = *random.pick(&[IMAGE_MAX, IMAGE_MAX_UNTIMED]);
+            bytes.resize(longest + random.below(40) as usize, 0);
+        }
         7 | 8 => {
             let at = random.below(bytes.len().min(48) as u32) as usize;
             bytes[at] = inputs::byte(random);
@@ -187,7 +200,7 @@ fn images() {
     let mut random = Random::new(seed());
     let mut tally = Tally::new("images", &CLASSES);
     let mut outputs = Outputs::new(0);
-    let mut pair = Pair::of(states::founded(&inputs::plan(&mut random), 0), 12_000);
+    let mut pair = Pair::of(states::founded(&inputs::plan(&mut random), 0), 14_000);
     let (mut whole, mut bytes, mut range) = (Vec::new(), Vec::new(), (0, 0));
     for run in 0..runs() / 4 {
         if run % 8 == 0 {
@@ -206,10 +219,10 @@ fn images() {
         pair.set(taker(&whole, tested));
         let answer = pair.run(&Call::Take(bytes.clone()), &mut outputs);
         let mut class = class(&bytes);
-        if class.starts_with("image") {
+        if class.contains("image") {
             class = range_class(&bytes, tested, class);
         }
-        let well_formed = class.starts_with("image");
+        let well_formed = class.contains("image");
         assert_eq!(
             answer.number != MALFORMED,
             well_formed,

@@ -7,20 +7,22 @@
 mod checkpoints;
 mod logs;
 
+use compare::forms::{untimed_image, untimed_log};
 use compare::inputs::{self, Tables};
 use compare::kernel::Call;
 use compare::pair::{Lent, Outputs, Pair, FILL};
-use compare::states::{self, POINTS_AT, RECORDS_AT};
+use compare::states::{self, POINTS_AT, RECORDS_AT, RECORD_LEN};
 use compare::tally::{runs, seed, Tally};
 use second::answer::Answer;
 use second::bytes::{get_u32, put_u32};
 use second::client::Client;
-use second::image::IMAGE_MAX;
+use second::image::{moved_len, IMAGE_MAX};
 use second::leases::LeaseManager;
 use second::packet::{
     write_notice, write_receipt, write_request, Notice, Receipt, Request, RECEIPT_LEN, RESULT_LEN,
 };
 use second::plan::{write_plan, Entry, Plan};
+use second::program::Form;
 use second::random::Random;
 use second::rule::Op;
 use second::server::{Hold, Server, STATE_LEN};
@@ -29,7 +31,7 @@ const LOG_LEN: usize = 48_000;
 const OUT_LEN: usize = IMAGE_MAX + 8;
 
 /// A call and its number; a number that has several causes by its cause.
-const CLASSES: [&str; 84] = [
+const CLASSES: [&str; 86] = [
     "found: 0",
     "found: 1",
     "found: 2",
@@ -75,6 +77,7 @@ const CLASSES: [&str; 84] = [
     "image: 7",
     "image: 19",
     "take: 0",
+    "take: 0, untimed image",
     "take: 1",
     "take: 2",
     "take: 8",
@@ -99,6 +102,7 @@ const CLASSES: [&str; 84] = [
     "release: 19",
     "recover: 0",
     "recover: 0, without a crash",
+    "recover: 0, forms without times",
     "recover: 0, damaged log",
     "recover: 0, incomplete record",
     "recover: 0, every byte from mark to length",
@@ -138,6 +142,9 @@ fn class(call: &Call, answer: Answer, server: &Server) -> String {
     match (call, answer.number) {
         (Call::Request(_), 0) if answer.written == 0 => "request: executed".to_string(),
         (Call::Request(_), 0) => "request: result".to_string(),
+        (Call::Take(image), 0) if inputs::form_of(image) == Form::Untimed => {
+            "take: 0, untimed image".to_string()
+        }
         (Call::Take(image), 13) => match server.point(image[4]).hold {
             Hold::Held => "take: 13, point held".to_string(),
             _ => "take: 13, id of another point".to_string(),
@@ -515,6 +522,7 @@ impl World {
             0 => inputs::damage(&mut self.random, &mut image),
             1 => inputs::disorder(&mut self.random, &mut image),
             2 => put_u32(&mut image, 8, own.saturating_add(1)),
+            4 | 5 => image = untimed_image(&image),
             3 if self.random.chance(20) => {
                 put_u32(&mut image, 8, u32::MAX - self.random.below(2));
             }
@@ -640,6 +648,33 @@ impl World {
         }
     }
 
+    /// The log has some records, or all, as a program from before request 6 would have left
+    /// them; answers its length.
+    fn put_old_forms(&mut self, i: usize) -> usize {
+        let (log, share) = (self.log_of(i), *self.random.pick(&[50, 100]));
+        let old = untimed_log(&log, || self.random.chance(share));
+        let junk = inputs::byte(&mut self.random);
+        let pair = &mut self.pairs[i];
+        for log in [&mut pair.log, &mut pair.server_log] {
+            log.fill(junk);
+            log[..old.len()].copy_from_slice(&old);
+        }
+        old.len()
+    }
+
+    /// The server is renewed: it goes on from what the program before left.
+    fn renewed(&mut self, tally: &mut Tally) {
+        let i = self.any();
+        let before = self.pairs[i].server.clone();
+        let kept = self.put_old_forms(i);
+        let shorter = kept < self.pairs[i].length();
+        self.recover_at(i, kept, tally);
+        same_but_times(&before, &self.pairs[i].server);
+        if shorter {
+            tally.meet("recover: 0, forms without times");
+        }
+    }
+
     /// A buffer that no call leaves: every call on it is refused, and changes
     /// nothing.
     fn damaged_state(&mut self, tally: &mut Tally) {
@@ -673,6 +708,7 @@ impl World {
     fn step(&mut self, tally: &mut Tally) {
         match self.random.below(200) {
             187 | 188 => self.stir(tally),
+            189 => self.renewed(tally),
             180 => self.crash(tally),
             181..=184 => self.damaged_log(tally),
             185 => self.damaged_state(tally),
@@ -702,6 +738,17 @@ impl World {
     }
 }
 
+/// The second is as the first, places in the log aside; it has times or 0.
+fn same_but_times(first: &Server, second: &Server) {
+    let (mut first, second) = (first.rebased(), second.rebased());
+    assert_eq!(first.records.len(), second.records.len());
+    for (r, kept) in first.records.iter_mut().zip(&second.records) {
+        assert!(kept.time == 0 || kept.time == r.time, "{kept:?} of {r:?}");
+        r.time = kept.time;
+    }
+    assert!(first == second);
+}
+
 /// A byte that has one value in every sound buffer, a field past its limit, or
 /// what no run leaves: a move number that is not the status's, or records out of
 /// the order of arrival.
@@ -727,24 +774,26 @@ fn spoil(random: &mut Random, state: &mut [u8]) {
 /// records; the magic's first byte where there are none.
 fn late_first(state: &mut [u8]) {
     let count = get_u32(state, 16) as usize;
-    let row = |i: usize| RECORDS_AT + 28 * i;
-    let end = |i: usize| state[row(i) + 20..row(i) + 28].to_vec();
+    let row = |i: usize| RECORDS_AT + RECORD_LEN * i;
+    let end = |i: usize| state[row(i) + 24..row(i + 1)].to_vec();
     match (1..count).find(|&i| end(i - 1) != end(i)) {
-        Some(i) => state[row(i - 1)..row(i + 1)].rotate_left(28),
+        Some(i) => state[row(i - 1)..row(i + 1)].rotate_left(RECORD_LEN),
         None => state[0] ^= 1,
     }
 }
 
-/// The image's head and value, with one floor and one record.
+/// The image's head and value, with one floor and one record, in its form.
 fn one_record(image: &[u8], (client, call): (u32, u32), floor: u32) -> Vec<u8> {
     let mut bytes = image[..48].to_vec();
     put_u32(&mut bytes, 28, 8);
     put_u32(&mut bytes, 32, 56);
-    put_u32(&mut bytes, 36, 20);
+    let row = moved_len(inputs::form_of(image));
+    put_u32(&mut bytes, 36, row as u32);
     let value = get_u32(image, 40);
-    for word in [client, floor, client, call, 0, value, 0] {
+    for word in [client, floor, client, call, 0, value, 0, 60] {
         bytes.extend(word.to_le_bytes());
     }
+    bytes.truncate(56 + row);
     bytes
 }
 

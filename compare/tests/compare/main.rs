@@ -11,3 +11,4 @@ mod kernel;
 mod leases;
 mod packets;
 mod records;
+mod times;

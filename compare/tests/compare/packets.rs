@@ -12,22 +12,21 @@ use compare::{inputs::Tables, other};
 use second::bytes::{all_zero, get_i32, get_u32};
 use second::client::Client;
 use second::leases;
-use second::packet::{
-    write_grant, write_packet, write_request, Grant, Packet, Request, RESULT_LEN,
-};
+use second::packet::{write_grant, write_request, Grant, Packet, Request, RESULT_LEN};
 use second::random::Random;
 use second::server::Server;
 
-const CLASSES: [&str; 51] = [
+const CLASSES: [&str; 55] = [
     "request",
     "result",
+    "untimed result",
     "refusal",
     "receipt",
     "notice",
     "grant",
     "empty",
     "kind 0",
-    "kind over 6",
+    "kind over 7",
     "request: length",
     "request: zero byte",
     "request: op",
@@ -40,6 +39,7 @@ const CLASSES: [&str; 51] = [
     "request: argument of fault",
     "request: argument of part",
     "result: length",
+    "untimed result: length",
     "result: outcome",
     "result: point",
     "result: quality",
@@ -68,6 +68,8 @@ const CLASSES: [&str; 51] = [
     "receipt: released",
     "notice: gone",
     "result: received",
+    "untimed result: received",
+    "result: received, time above 0",
     "refusal: received",
     "grant: received",
 ];
@@ -84,8 +86,8 @@ fn class(b: &[u8]) -> &'static str {
         0 => "kind 0",
         1 if b.len() != 24 => "request: length",
         1 => request_class(b),
-        2 if b.len() != 16 => "result: length",
-        2 => result_class(b),
+        2 if b.len() != 16 => "untimed result: length",
+        2 => result_class(b, "untimed result"),
         3 if b.len() != 12 => "refusal: length",
         3 if b[3] != 0 => "refusal: zero byte",
         3 if b[1] < 3 => "refusal: number under 3",
@@ -107,7 +109,9 @@ fn class(b: &[u8]) -> &'static str {
         6 if !all_zero(&b[1..4]) => "grant: zero byte",
         6 if get_u32(b, 4) == 0 => "grant: client",
         6 => "grant",
-        _ => "kind over 6",
+        7 if b.len() != 20 => "result: length",
+        7 => result_class(b, "result"),
+        _ => "kind over 7",
     }
 }
 
@@ -129,14 +133,15 @@ fn request_class(b: &[u8]) -> &'static str {
     }
 }
 
-fn result_class(b: &[u8]) -> &'static str {
+/// Any time will do.
+fn result_class(b: &[u8], whole: &'static str) -> &'static str {
     match b {
         _ if b[1] > 4 => "result: outcome",
         _ if b[2] > 63 => "result: point",
         _ if b[3] > 1 => "result: quality",
         _ if get_u32(b, 4) == 0 => "result: client",
         _ if get_u32(b, 8) == 0 => "result: call",
-        _ => "result",
+        _ => whole,
     }
 }
 
@@ -267,13 +272,23 @@ impl Rig {
         let wanted = other::receive(&mut want, bytes);
         assert_eq!(received, wanted, "receive {bytes:02x?}");
         assert_eq!(have, other::client_fields(&want), "receive {bytes:02x?}");
-        let own = ["result", "refusal", "grant"].contains(&class);
+        let own = ["result", "untimed result", "refusal", "grant"].contains(&class);
         assert_eq!(wanted.number == MALFORMED, !own, "{class}: {bytes:02x?}");
         match wanted.kind {
-            2 => tally.meet("result: received"),
+            7 if class == "untimed result" => {
+                assert_eq!(wanted.time, 0, "{bytes:02x?}");
+                tally.meet("untimed result: received");
+            }
+            7 => {
+                assert_eq!(wanted.time, get_u32(bytes, 16), "{bytes:02x?}");
+                tally.meet("result: received");
+                if wanted.time > 0 {
+                    tally.meet("result: received, time above 0");
+                }
+            }
             3 => tally.meet("refusal: received"),
             6 => tally.meet("grant: received"),
-            _ => {}
+            _ => assert_eq!(wanted.time, 0, "{bytes:02x?}"),
         }
     }
 
@@ -296,11 +311,11 @@ fn parsed() {
         if run % 256 == 0 {
             rig.base = Rig::base(&mut rig.random);
         }
-        let kind = 1 + rig.random.below(6);
+        let kind = 1 + rig.random.below(7);
         let packet = inputs::packet_of_kind(&mut rig.random, kind);
         let server = server_for(&mut rig.random, &rig.base, &packet);
         let client = client_for(&mut rig.random, &packet);
-        let mut bytes = write_packet(&packet);
+        let mut bytes = inputs::packet_bytes(&packet, kind);
         spoil(&mut rig.random, &mut bytes);
         rig.pair.set(server);
         if rig.random.below(1000) == 0 {

@@ -8,9 +8,12 @@ use compare::states;
 use compare::tally::{runs, seed, Tally};
 use second::answer::Refusal;
 use second::bytes::{all_zero, get_i32, get_u32, put_i32, put_u32};
-use second::image::{parse_image, write_image, ImageHead, IMAGE_MAX, IMAGE_MIN};
-use second::packet::{write_notice, write_receipt, write_request, Notice, Receipt, Request};
+use second::image::{moved_len, parse_image, write_image_as, ImageHead, IMAGE_MAX, IMAGE_MIN};
+use second::packet::{
+    write_notice, write_receipt, write_request, Notice, Receipt, Request, RESULT_LEN,
+};
 use second::plan::{write_plan, Entry, Plan, POINTS};
+use second::program::Form;
 use second::random::Random;
 use second::record::{
     parse_record, write_executed, write_give, write_head, write_take_head, Executed, Give, Parsed,
@@ -24,13 +27,21 @@ const LOG_FULL: u32 = Refusal::LogFull as u32;
 const BAD_LOG: u32 = Refusal::BadLog as u32;
 const NOT_SOUND: u32 = Refusal::NotSound as u32;
 
-const KINDS: [&str; 5] = ["executed", "gone", "give", "take", "release"];
-const CANNOT: [&str; 5] = [
-    "executed: cannot follow",
+const KINDS: [&str; 6] = [
+    "untimed executed",
+    "gone",
+    "give",
+    "take",
+    "release",
+    "executed",
+];
+const CANNOT: [&str; 6] = [
+    "untimed executed: cannot follow",
     "gone: cannot follow",
     "give: cannot follow",
     "take: cannot follow",
     "release: cannot follow",
+    "executed: cannot follow",
 ];
 
 /// Any value is in range; points are at home at server 0.
@@ -43,8 +54,9 @@ static ANY: Plan = Plan {
     }; POINTS],
 };
 
-const CLASSES: [&str; 42] = [
+const CLASSES: [&str; 45] = [
     "executed",
+    "untimed executed",
     "gone",
     "give",
     "take",
@@ -52,8 +64,9 @@ const CLASSES: [&str; 42] = [
     "nothing there",
     "head incomplete",
     "kind 0",
-    "kind over 5",
+    "kind over 6",
     "executed: incomplete",
+    "untimed executed: incomplete",
     "gone: incomplete",
     "give: incomplete",
     "take: head incomplete",
@@ -75,12 +88,13 @@ const CLASSES: [&str; 42] = [
     "give: zero byte",
     "take: zero byte",
     "take: image length under 48",
-    "take: image length over 10,544",
+    "take: image length over 12,592",
     "take: image",
     "release: point",
     "release: zero byte",
     "state too short",
     "more after it",
+    "untimed executed: cannot follow",
     "executed: cannot follow",
     "gone: cannot follow",
     "give: cannot follow",
@@ -95,8 +109,8 @@ fn class(rest: &[u8]) -> &'static str {
     };
     match kind {
         0 => "kind 0",
-        1 if length < 28 => "executed: incomplete",
-        1 => executed_class(rest),
+        1 if length < 28 => "untimed executed: incomplete",
+        1 => executed_class(rest, "untimed executed"),
         2 if length < 12 => "gone: incomplete",
         2 if !all_zero(&rest[1..4]) => "gone: zero byte",
         2 if get_u32(rest, 4) == 0 => "gone: client",
@@ -112,7 +126,9 @@ fn class(rest: &[u8]) -> &'static str {
         5 if rest[1] > 63 => "release: point",
         5 if !all_zero(&rest[2..4]) => "release: zero byte",
         5 => "release",
-        _ => "kind over 5",
+        6 if length < 32 => "executed: incomplete",
+        6 => executed_class(rest, "executed"),
+        _ => "kind over 6",
     }
 }
 
@@ -120,13 +136,15 @@ fn class(rest: &[u8]) -> &'static str {
 fn size(record: &[u8]) -> usize {
     match record[0] {
         1 => 28,
+        6 => 32,
         2 => 12,
         4 => 8 + get_u32(record, 4) as usize,
         _ => 8,
     }
 }
 
-fn executed_class(b: &[u8]) -> &'static str {
+/// Any time will do.
+fn executed_class(b: &[u8], whole: &'static str) -> &'static str {
     let (call, done) = (u64::from(get_u32(b, 8)), u64::from(get_u32(b, 12)));
     let argument = get_i32(b, 16);
     match b[1] {
@@ -140,7 +158,7 @@ fn executed_class(b: &[u8]) -> &'static str {
         5 if !(0..=1000).contains(&argument) => "executed: argument",
         _ if b[24] > 1 => "executed: quality",
         _ if !all_zero(&b[25..28]) => "executed: zero byte",
-        _ => "executed",
+        _ => whole,
     }
 }
 
@@ -148,7 +166,7 @@ fn take_class(b: &[u8]) -> &'static str {
     let end = 8 + get_u32(b, 4) as usize;
     match end - 8 {
         0..=47 => "take: image length under 48",
-        10_545.. => "take: image length over 10,544",
+        12_593.. => "take: image length over 12,592",
         _ if end > b.len() => "take: incomplete",
         _ if !all_zero(&b[1..4]) => "take: zero byte",
         _ if parse_image(&b[8..end], &ANY).is_none() => "take: image",
@@ -196,7 +214,7 @@ impl Reader {
 
     fn fit_always(&self, random: &mut Random, record: &mut [u8]) {
         match record[0] {
-            1 => put_i32(record, 20, self.value(random, record[2])),
+            1 | 6 => put_i32(record, 20, self.value(random, record[2])),
             3 | 5 => {
                 let move_number = get_u32(record, 4).max(1);
                 put_u32(record, 4, move_number);
@@ -225,7 +243,8 @@ impl Reader {
         let point = record[8 + 4];
         let floors = get_u32(record, 8 + 28) as usize;
         put_i32(record, 8 + 40, self.value(random, point));
-        for at in (8 + 48 + floors..record.len()).step_by(20) {
+        let row = moved_len(inputs::form_of(&record[8..]));
+        for at in (8 + 48 + floors..record.len()).step_by(row) {
             put_i32(record, at + 12, self.value(random, point));
         }
     }
@@ -246,7 +265,9 @@ impl Reader {
             value: self.value(random, point),
             quality: random.below(2) as u8,
         };
-        let length = write_image(&head, [].into_iter(), [].into_iter(), &mut image);
+        let form = *random.pick(&[Form::Untimed, Form::Timed]);
+        let (floors, records) = ([].into_iter(), [].into_iter());
+        let length = write_image_as(form, &head, floors, records, &mut image);
         assert_eq!(length, IMAGE_MIN);
         log.extend(write_take_head(length));
         log.extend_from_slice(&image[..length]);
@@ -284,6 +305,7 @@ impl Reader {
                 argument: 0,
                 value: self.value(random, 3),
                 quality: 0,
+                time: inputs::number(random),
             })),
             Record::Give(r) => {
                 self.held(random, r.point, r.move_number.max(1) - 1, &mut log);
@@ -298,7 +320,7 @@ impl Reader {
 fn any_record(random: &mut Random) -> Vec<u8> {
     let kind = match random.below(20) {
         0 => 4,
-        n => [1, 1, 2, 3, 5][n as usize % 5],
+        n => [1, 6, 2, 3, 5][n as usize % 5],
     };
     inputs::record(random, kind)
 }
@@ -446,9 +468,12 @@ fn server_for(random: &mut Random, number: u8, record: &Record) -> Server {
 }
 
 /// A well-formed record that a server may write; at times a full image, one with a byte
-/// changed, or one to another server.
+/// changed, or one to another server. An image may have no times, an executed record has.
 fn to_append(random: &mut Random, reader: &Reader) -> Vec<u8> {
     let mut bytes = any_record(random);
+    if bytes[0] == 1 {
+        bytes = inputs::record(random, 6);
+    }
     if bytes[0] == 4 && random.below(50) == 0 {
         let image = inputs::image(random, Tables::Full, (-100, 1000));
         bytes = [&write_take_head(image.len())[..], &image].concat();
@@ -492,8 +517,8 @@ fn space(random: &mut Random, at: usize, size: usize) -> usize {
 fn appended() {
     let mut random = Random::new(seed());
     let mut tally = Tally::new("appended records", &APPENDED);
-    let mut outputs = Outputs::new(16);
-    let mut pair = Pair::of(states::founded(&ANY, 0), 12_000);
+    let mut outputs = Outputs::new(RESULT_LEN);
+    let mut pair = Pair::of(states::founded(&ANY, 0), 14_000);
     for _ in 0..runs() / 4 {
         let reader = Reader {
             number: random.below(16) as u8,
@@ -510,7 +535,7 @@ fn appended() {
         lent.log = space(&mut random, at, size);
         let answer = pair.call(&call, &lent, &mut outputs);
         if answer.number == 0 {
-            let same = bytes[0] == 1 || pair.log[at..at + size] == bytes[..];
+            let same = bytes[0] == 6 || pair.log[at..at + size] == bytes[..];
             assert!(same && pair.length() == at + size, "{call:02x?}");
         }
         tally.meet(match answer.number {

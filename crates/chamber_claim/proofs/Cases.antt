@@ -4,6 +4,7 @@
 -- Assumes nothing.
 use Prim.Native.Nat.{ℕ, _+_, _-_}
 use mathlib.Core.Path.{_≡_, refl}
+use mathlib.Core.Bool.{true}
 use mathlib.Core.List.{List, [], _∷_, _++_, map}
 use lib.ListN.{length, replicate}
 use Rattle.model.specs.declared.Sent.the-variants.{NotSent, Asked}
@@ -36,7 +37,8 @@ hears s value quality = elim (s .answer) [
         client = q .command .client;
         call = q .command .call;
         point = q .command .point;
-        result = record { outcome = carriedOut; value = value; quality = quality };
+        result = record { outcome = carriedOut; value = value; quality = quality; time = 500 };
+        timed = true;
       })) .chamber
 ]
 

@@ -162,11 +162,11 @@ requests-of : (k : Command) (o : Option Operation) → requests k o ≡ true →
 unfolding requests
 requests-of k none e = untrue e
 requests-of k (some (request v b)) e = let z = asks-for k (parsePacket b) e in (v, b, z .0, refl, z .1, z .2)
-requests-of k (some (fetch x c)) e = untrue e
+requests-of k (some (fetch v x c)) e = untrue e
 requests-of k (some (sync m)) e = untrue e
 requests-of k (some (notice b)) e = untrue e
 requests-of k (some (give p d)) e = untrue e
-requests-of k (some (image p)) e = untrue e
+requests-of k (some (image v p)) e = untrue e
 requests-of k (some (takeIn b)) e = untrue e
 requests-of k (some (receipt p)) e = untrue e
 requests-of k (some (release b)) e = untrue e

@@ -27,9 +27,9 @@ upperOpened = record { client = 1; call = 5; op = setOp; point = 10; argument = 
 abbrev pub lowerOpened : Command
 lowerOpened = record { client = 3; call = 5; op = setOp; point = 11; argument = half + 30 }
 
--- the whole state buffer, a log of up to 400 bytes, an output of 16
+-- the whole state buffer, a log of up to 500 bytes, an output of 20
 abbrev pub lentAll : Lent
-lentAll = record { state = stateSize; log = 400; spare = replicate 400 0; out = replicate resultSize 0 }
+lentAll = record { state = stateSize; log = 500; spare = replicate 500 0; out = replicate resultSize 0 }
 
 -- packet p is delivered to server 0; server 0 syncs
 abbrev pub asks : ℕ → LockEvent
@@ -57,52 +57,52 @@ handed =
     ∷ asks 4
     ∷ command 1 setOp 11 half
     ∷ asks 5
-    ∷ syncs 120
+    ∷ syncs 136
     ∷ asks 5
     ∷ hear 1 6
     ∷ command 1 readOp 11 half
     ∷ asks 7
-    ∷ syncs 148
+    ∷ syncs 168
     ∷ asks 7
     ∷ hear 1 8
     ∷ command 1 readOp 20 half
     ∷ asks 9
-    ∷ syncs 176
+    ∷ syncs 200
     ∷ asks 9
     ∷ hear 1 10
     ∷ command 1 readOp 21 half
     ∷ asks 11
-    ∷ syncs 204
+    ∷ syncs 232
     ∷ asks 11
     ∷ hear 1 12
     ∷ command 1 setOp 10 (half + 40)
     ∷ asks 13
-    ∷ syncs 232
+    ∷ syncs 264
     ∷ kernel (outside (query 1 200))
     ∷ kernel (call 0 (notice 14) lentAll)
-    ∷ syncs 244
+    ∷ syncs 276
     ∷ kernel (outside (open·lease 200 800))
     ∷ begin 15
     ∷ again 1 5
     ∷ asks 16
     ∷ command 3 setOp 10 half
     ∷ asks 18
-    ∷ syncs 272
+    ∷ syncs 308
     ∷ asks 18
     ∷ hear 3 19
     ∷ command 3 readOp 10 half
     ∷ asks 20
-    ∷ syncs 300
+    ∷ syncs 340
     ∷ asks 20
     ∷ hear 3 21
     ∷ command 3 readOp 21 half
     ∷ asks 22
-    ∷ syncs 328
+    ∷ syncs 372
     ∷ asks 22
     ∷ hear 3 23
     ∷ command 3 readOp 22 half
     ∷ asks 24
-    ∷ syncs 356
+    ∷ syncs 404
     ∷ asks 24
     ∷ hear 3 25
     ∷ command 3 setOp 11 (half + 30)

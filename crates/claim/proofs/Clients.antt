@@ -21,6 +21,7 @@ use Rattle.model.specs.declared.Command.{Command}
 use Rattle.model.specs.declared.Started.{Started}
 use Rattle.model.specs.declared.Started.the-variants.{NotStarted, Running}
 use Rattle.model.specs.Refusals.{noRefusal}
+use Rattle.model.specs.Versions.{Versions}
 use Rattle.model.specs.Packets.{parsePacket}
 use Rattle.model.specs.Clients.{startOf, issueOf, resendOf, receiveOf}
 use Rattle.model.specs.Operations.{After}
@@ -65,13 +66,13 @@ crash-clients c n (running k state log) w = refl
 crash-clients c n (storing k log next state tail) w = refl
 crash-clients c n (crashed k log mark) w = refl
 
-checkpoint-clients : (c : ℕ) (t : List ℕ) (l : Lent) (s : Server) (w : World) → checkpoints c t l s w .clients ≡ w .clients
+checkpoint-clients : (c : ℕ) (v : Versions) (t : List ℕ) (l : Lent) (s : Server) (w : World) → checkpoints c v t l s w .clients ≡ w .clients
 unfolding checkpoints withServer
-checkpoint-clients c t l nothing w = refl
-checkpoint-clients c t l (running k state log) w =
-    choose (λ (v : World). v .clients ≡ w .clients) (eqb (checkpointOf (lentState l state) (lentLog l log) (l .out) t .answer .refusal) noRefusal) (λ _. refl) (λ _. refl)
-checkpoint-clients c t l (storing k log next state tail) w = refl
-checkpoint-clients c t l (crashed k log mark) w = refl
+checkpoint-clients c v t l nothing w = refl
+checkpoint-clients c v t l (running k state log) w =
+    choose (λ (u : World). u .clients ≡ w .clients) (eqb (checkpointOf v (lentState l state) (lentLog l log) (l .out) t .answer .refusal) noRefusal) (λ _. refl) (λ _. refl)
+checkpoint-clients c v t l (storing k log next state tail) w = refl
+checkpoint-clients c v t l (crashed k log mark) w = refl
 
 store-clients : (c : ℕ) (s : Server) (w : World) → stores c s w .clients ≡ w .clients
 unfolding stores withServer
@@ -128,7 +129,7 @@ module _ (plan : List ℕ) (es : List Event) where
     step-becomes (call c o l) h = as-still (call c o l) (on-clients _ _ _ _)
     step-becomes (inquire c i l) h = as-still (inquire c i l) (calls-clients _ _ _ _ _)
     step-becomes (recover c state log plan) h = as-still (recover c state log plan) (found-clients _ _ _ _)
-    step-becomes (checkpoint c t l) h = as-still (checkpoint c t l) (checkpoint-clients _ _ _ _ _)
+    step-becomes (checkpoint c v t l) h = as-still (checkpoint c v t l) (checkpoint-clients _ _ _ _ _ _)
     step-becomes (store c) h = as-still (store c) (store-clients _ _ _)
     step-becomes (recover·tail c state k t) h = as-still (recover·tail c state k t) (found-clients _ _ _ _)
     step-becomes (crash c k) h = as-still (crash c k) (crash-clients _ _ _ _)

@@ -23,11 +23,11 @@ module _ (w : World) (c : ℕ) (l : Lent) where
 
   pub record Spelled : Type 0 where
     pub request : (v : Versions) (p : ℕ) → step w (call c (request v p) l) ≡ handing (packet w p) (λ s g b. requestOf v s g b (l .out))
-    pub fetch : (x n : ℕ) → step w (call c (fetch x n) l) ≡ alone (λ s g. fetchOf s g x n (l .out))
+    pub fetch : (v : Versions) (x n : ℕ) → step w (call c (fetch v x n) l) ≡ alone (λ s g. fetchOf v s g x n (l .out))
     pub sync : (m : ℕ) → step w (call c (sync m) l) ≡ alone (λ s g. syncOf s g m)
     pub notice : (p : ℕ) → step w (call c (notice p) l) ≡ handing (packet w p) noticeOf
     pub give : (p d : ℕ) → step w (call c (give p d) l) ≡ alone (λ s g. giveOf s g p d)
-    pub image : (p : ℕ) → step w (call c (image p) l) ≡ alone (λ s g. imageOf s g p (l .out))
+    pub image : (v : Versions) (p : ℕ) → step w (call c (image v p) l) ≡ alone (λ s g. imageOf v s g p (l .out))
     pub takeIn : (p : ℕ) → step w (call c (takeIn p) l) ≡ handing (packet w p) takeOf
     pub receipt : (p : ℕ) → step w (call c (receipt p) l) ≡ alone (λ s g. receiptOf s g p (l .out))
     pub release : (p : ℕ) → step w (call c (release p) l) ≡ handing (packet w p) releaseOf
@@ -45,11 +45,11 @@ module _ (w : World) (c : ℕ) (l : Lent) where
   spelled =
       record {
         request = λ v p. on-packet (request v) (λ s g b. requestOf v s g b (l .out)) (λ b. refl) (packet w p);
-        fetch = λ x n. refl;
+        fetch = λ v x n. refl;
         sync = λ m. refl;
         notice = λ p. on-packet notice noticeOf (λ b. refl) (packet w p);
         give = λ p d. refl;
-        image = λ p. refl;
+        image = λ v p. refl;
         takeIn = λ p. on-packet takeIn takeOf (λ b. refl) (packet w p);
         receipt = λ p. refl;
         release = λ p. on-packet release releaseOf (λ b. refl) (packet w p);

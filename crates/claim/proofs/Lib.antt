@@ -6,5 +6,7 @@ pub mod Moments
 pub mod Clients
 pub mod Stored
 pub mod Completed
+pub mod Packets
+pub mod Times
 pub mod Marks
 pub mod Events

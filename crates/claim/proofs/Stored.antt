@@ -12,6 +12,7 @@ use lib.ListN.{length, take, length-take}
 use borrow.Author.Tests.{eq-eqb}
 use Rattle.model.specs.Limits.{headSize}
 use Rattle.model.specs.Refusals.{noRefusal}
+use Rattle.model.specs.Versions.{Versions}
 use Rattle.model.specs.Checkpoints.{AfterCheckpoint, checkpointOf, recoverTailOf}
 use Rattle.model.specs.Sequential.{Marked}
 use Rattle.claim.specs.World.{World, Stored, Server, running, storing, crashed, storedOf, withServer, Lent, lentState, lentLog, Event, crash, recover·tail, checkpoints, stores, crashAt, after}
@@ -24,13 +25,13 @@ module _ (c : ℕ) (w : World) where
   same-server s = rw (eq-eqb c c refl)
 
   -- made, then stored: nothing is shorter than before
-  pub checkpoint-reach : (tail : List ℕ) (l : Lent) (k : Stored) (state log : List ℕ)
-      → checkpointOf (lentState l state) (lentLog l log) (l .out) tail .answer .refusal ≡ noRefusal → headSize ≤ length log
-      → headSize ≤ length (checkpointOf (lentState l state) (lentLog l log) (l .out) tail .tail)
-      → reachOf (stores c (checkpoints c tail l (running k state log) w .servers c) w .servers c) ≡ k .replaced + length log
+  pub checkpoint-reach : (v : Versions) (tail : List ℕ) (l : Lent) (k : Stored) (state log : List ℕ)
+      → checkpointOf v (lentState l state) (lentLog l log) (l .out) tail .answer .refusal ≡ noRefusal → headSize ≤ length log
+      → headSize ≤ length (checkpointOf v (lentState l state) (lentLog l log) (l .out) tail .tail)
+      → reachOf (stores c (checkpoints c v tail l (running k state log) w .servers c) w .servers c) ≡ k .replaced + length log
   unfolding checkpoints stores reachOf lengthOf storedOf
-  checkpoint-reach tail l k state log e h t =
-      let a : AfterCheckpoint = checkpointOf (lentState l state) (lentLog l log) (l .out) tail in
+  checkpoint-reach v tail l k state log e h t =
+      let a : AfterCheckpoint = checkpointOf v (lentState l state) (lentLog l log) (l .out) tail in
       rw (eq-eqb (a .answer .refusal) noRefusal e, same-server, same-server) (omega (arith, h, t, length-take headSize (a .tail)))
 
   pub storing-crash : (n : ℕ) (k next : Stored) (log state tail : List ℕ) → crashAt c n (storing k log next state tail) w .servers c ≡ crashed k (take n log) (length log)

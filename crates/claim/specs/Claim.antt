@@ -12,7 +12,7 @@ use Rattle.model.specs.declared.Request.{Request}
 use Rattle.model.specs.declared.ResultPacket.{ResultPacket}
 use Rattle.model.specs.declared.Point.{Point}
 use Rattle.model.specs.declared.Client.{Client}
-use Rattle.model.specs.declared.Packet.the-variants.{Requested}
+use Rattle.model.specs.declared.Packet.the-variants.{Requested, Resulted}
 use Rattle.model.specs.declared.Sent.the-variants.{Asked}
 use Rattle.model.specs.declared.Received.the-variants.{Completed}
 use Rattle.model.specs.Limits.{pointCount}
@@ -21,6 +21,7 @@ use Rattle.model.specs.Versions.{Versions}
 use Rattle.model.specs.Sequential.{Marked, markedBy, OrderEntry, parts, commands, EntryResult, one, readingMeant, resultMeant, opened, valuesAfter, Answers}
 use Rattle.model.specs.Packets.{parsePacket}
 use Rattle.model.specs.States.{State, load, pointAt}
+use Rattle.model.specs.Decisions.{timeFor}
 use Rattle.model.specs.Operations.{answerOf, requestOf, recoveredState}
 use Rattle.model.specs.Calls.{request}
 use Rattle.model.specs.Checkpoints.{recoveredTail}
@@ -92,12 +93,22 @@ pub record SurvivesAtBy (Executes : ℕ → ℕ → Marked → Type 0) (Cuts : �
   pub executes : Executes n server m
   pub kept : (j b : ℕ) → n < j → Cuts j server b → size (suc n) server ≤ b
 
+-- a packet made is this result: whoever asked for it, and whether or not it was received
+pub record TellsBy {S : Type 0} (w : WorldOf S) (r : ResultPacket) : Type 0 where
+  pub number : ℕ
+  pub bytes : List ℕ
+  pub made : packet w number ≡ some bytes
+  pub parsed : parsePacket bytes ≡ Resulted r
+
 -- what demand 3 reads of a run: the event that issues commands, that completes them with a result, that executes a command by a version so
--- that it survives; the state that each server counts with at the end; that Recover accepts what a crash kept
+-- that it survives, and the time that it notes; the results told; the state that each server counts with at the end; that Recover accepts what
+-- a crash kept
 pub record Account : Type 1 where
   pub Issues : ℕ → List Command → Type 0
   pub Completes : ℕ → List Command → EntryResult → Type 0
   pub SurvivesAt : ℕ → Marked → Type 0
+  pub Notes : ℕ → Marked → ℕ → Type 0
+  pub Tells : ResultPacket → Type 0
   pub final : ℕ → Option State
   pub Recovers : Type 0
 
@@ -136,6 +147,9 @@ module _ (plan : List ℕ) (seen : Account) where
     -- most: two by one version would put its entry before itself, two by different versions its id into two entries
     pub sequence : (m n : ℕ) (j k : Marked) (a b : OrderEntry) → seen .SurvivesAt m j → seen .SurvivesAt n k → m < n
         → j .command .point ≡ k .command .point → j ∈ parts a → k ∈ parts b → a ∈ order → b ∈ order → Before a b order
+    -- the book has no clock: every result told, at whatever server and however often, has the time that a surviving execution of its id noted. Of
+    -- such executions there is one, so a repeat tells the same time
+    pub times : (r : ResultPacket) → seen .Tells r → (n : ℕ) × (m : Marked) × (m .command .client ≡ r .client) × (m .command .call ≡ r .call) × seen .Notes n m (r .result .time)
     -- Recover accepts what a crash kept
     pub recovers : seen .Recovers
 
@@ -190,6 +204,13 @@ module _ (es : List Event) where
   abbrev pub SurvivesAt : ℕ → Marked → Type 0
   SurvivesAt = SurvivesAtBy Executes Crashes (λ n c. reachOf (after es n .servers c))
 
+  -- and notes this time: its server's heard time then, 0 where its program writes no times
+  abbrev pub Notes : ℕ → Marked → ℕ → Type 0
+  Notes n m t = (s : SurvivesAt n m) × (timeFor (s .executes .versions) (load (s .executes .state)) ≡ t)
+
+  abbrev pub Tells : ResultPacket → Type 0
+  Tells = TellsBy (run es)
+
 module _ (plan : List ℕ) (es : List Event) where
   -- the state that a server counts with at the end
   unfoldable pub finalState : ℕ → Option State
@@ -206,6 +227,8 @@ module _ (plan : List ℕ) (es : List Event) where
         Issues = Issues es;
         Completes = Completes es;
         SurvivesAt = SurvivesAt es;
+        Notes = Notes es;
+        Tells = Tells es;
         final = finalState;
         Recovers = Recovers;
       }

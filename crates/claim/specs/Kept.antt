@@ -21,8 +21,8 @@ kept =
     ∷ outside (start 0)
     ∷ outside (issue 1 1 5 (half + 40))
     ∷ call 0 (request today 1) 100
-    ∷ call 0 (sync 36) 100
-    ∷ crash 0 36
+    ∷ call 0 (sync 40) 100
+    ∷ crash 0 40
     ∷ []
 
 -- and recovers

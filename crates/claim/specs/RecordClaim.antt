@@ -7,15 +7,16 @@ use mathlib.Core.List.{List, []}
 use mathlib.Core.Option.{Option, none, some}
 use Rattle.model.specs.declared.Command.{Command}
 use Rattle.model.specs.declared.Request.{Request}
+use Rattle.model.specs.declared.ResultPacket.{ResultPacket}
 use Rattle.model.specs.declared.Packet.the-variants.{Requested}
 use Rattle.model.specs.Versions.{Versions}
 use Rattle.model.specs.Sequential.{Marked, markedBy, OrderEntry, EntryResult}
 use Rattle.model.specs.Packets.{parsePacket}
 use Rattle.model.specs.States.{State}
-use Rattle.model.specs.Decisions.{onRequest}
+use Rattle.model.specs.Decisions.{onRequest, timeFor}
 use Rattle.model.specs.Calls.{request}
 use Rattle.claim.specs.World.{packet}
-use Rattle.claim.specs.Claim.{IssuesBy, CompletesBy, SurvivesAtBy, Account, ExplainedBy}
+use Rattle.claim.specs.Claim.{IssuesBy, CompletesBy, SurvivesAtBy, TellsBy, Account, ExplainedBy}
 use Rattle.claim.specs.RecordWorld.{Event, call, crash, outside, Log, Server, nothing, running, crashed, callOf, recoveredFrom, run, after}
 use Rattle.claim.specs.RecordProvisos.{Provisos, At, lengthOf}
 
@@ -56,6 +57,13 @@ module _ (es : List Event) where
   abbrev pub SurvivesAt : ℕ → Marked → Type 0
   SurvivesAt = SurvivesAtBy Executes (λ n c b. At es n (crash c b)) (λ n c. lengthOf (after es n .servers c))
 
+  -- and notes this time
+  abbrev pub Notes : ℕ → Marked → ℕ → Type 0
+  Notes n m t = (s : SurvivesAt n m) × (timeFor (s .executes .versions) (s .executes .state) ≡ t)
+
+  abbrev pub Tells : ResultPacket → Type 0
+  Tells = TellsBy (run es)
+
 module _ (plan : List ℕ) (es : List Event) where
   -- the state that a server counts with at the end
   unfoldable pub finalState : ℕ → Option State
@@ -72,6 +80,8 @@ module _ (plan : List ℕ) (es : List Event) where
         Issues = Issues es;
         Completes = Completes es;
         SurvivesAt = SurvivesAt es;
+        Notes = Notes es;
+        Tells = Tells es;
         final = finalState;
         Recovers = Recovers;
       }

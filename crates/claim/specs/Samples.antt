@@ -21,17 +21,17 @@ lost =
     ∷ outside (issue 1 1 5 2147483688)
     ∷ call 0 (request today 1) 100
     ∷ call 0 (request today 1) 100
-    ∷ crash 0 35
+    ∷ crash 0 39
     ∷ recover 0 simulatorPlan
     ∷ call 0 (request today 1) 100
-    ∷ crash 0 36
+    ∷ crash 0 40
     ∷ recover 0 simulatorPlan
     ∷ call 0 (request today 1) 100
     ∷ outside (receive 1 3)
     ∷ outside (issue 1 2 5 2147483649)
-    ∷ call 0 (request today 4) 35
-    ∷ call 0 (request today 4) 63
-    ∷ call 0 (request today 4) 64
+    ∷ call 0 (request today 4) 39
+    ∷ call 0 (request today 4) 71
+    ∷ call 0 (request today 4) 72
     ∷ []
 
 -- point 5 moves from server 0 to server 1 with its record: a repeat there is told once the take is synced, and server 0 releases the point
@@ -44,12 +44,12 @@ moved =
     ∷ outside (issue 1 1 5 2147483688)
     ∷ call 0 (request today 1) 100
     ∷ call 0 (give 5 1) 100
-    ∷ call 0 (sync 44) 100
-    ∷ call 0 (image 5) 100
+    ∷ call 0 (sync 48) 100
+    ∷ call 0 (image today 5) 100
     ∷ call 1 (takeIn 2) 200
     ∷ call 1 (takeIn 2) 200
     ∷ call 1 (request today 1) 200
-    ∷ call 1 (sync 92) 200
+    ∷ call 1 (sync 96) 200
     ∷ call 1 (request today 1) 200
     ∷ call 1 (receipt 5) 200
     ∷ call 0 (release 5) 100

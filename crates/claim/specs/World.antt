@@ -13,6 +13,7 @@ use Rattle.model.specs.declared.StartAnswer.{StartAnswer}
 use Rattle.model.specs.declared.SendAnswer.{SendAnswer}
 use Rattle.model.specs.declared.LeaseAnswer.{LeaseAnswer}
 use Rattle.model.specs.Choice.{pick}
+use Rattle.model.specs.Versions.{Versions}
 use Rattle.model.specs.States.{load}
 use Rattle.model.specs.Operations.{After, answerOf, foundOf, recoverOf}
 use Rattle.model.specs.Checkpoints.{checkpointOf, recoverTailOf}
@@ -75,10 +76,10 @@ pub record Lent : Type 0 where
 -- the twenty-one calls, with their arguments, the storing of a checkpoint, and crashes
 pub data Event : Type 0 where
   found : ℕ → List ℕ → List ℕ → List ℕ → ℕ → Event  -- server, state and log buffers, plan, server number
-  call : ℕ → OperationOf ℕ → Lent → Event  -- server, one of nine operations; a request carries the versions of its program, any at any event and server
+  call : ℕ → OperationOf ℕ → Lent → Event  -- server, one of nine operations; request, fetch and image carry the versions of the program, any at any event and server
   inquire : ℕ → Inquiry → Lent → Event  -- server, inspect
   recover : ℕ → List ℕ → List ℕ → List ℕ → Event  -- server, state buffer, kept log, plan
-  checkpoint : ℕ → List ℕ → Lent → Event  -- server, buffer of the tail's head; the output is the checkpoint's buffer
+  checkpoint : ℕ → Versions → List ℕ → Lent → Event  -- server, the versions that its program writes by, buffer of the tail's head; the output is the checkpoint's buffer
   store : ℕ → Event  -- server: the host has stored its checkpoint with the tail's head
   recover·tail : ℕ → List ℕ → List ℕ → List ℕ → Event  -- server, state buffer, checkpoint, kept tail
   crash : ℕ → ℕ → Event  -- server, bytes kept
@@ -147,14 +148,14 @@ unfoldable pub foundAs : ℕ → Stored → After → World → World
 foundAs c k a w = pick (eqb (a .answer .refusal) noRefusal) (withServer c (running k (a .state) (take (load (a .state) .size) (a .log))) w) w
 
 -- a checkpoint made: it replaces the log's records, once it is stored. A refusal leaves the server as it was
-unfoldable pub checkpoints : ℕ → List ℕ → Lent → Server → World → World
-checkpoints c tail l nothing w = w
-checkpoints c tail l (running k state log) w =
-    let a = checkpointOf (lentState l state) (lentLog l log) (l .out) tail in
+unfoldable pub checkpoints : ℕ → Versions → List ℕ → Lent → Server → World → World
+checkpoints c v tail l nothing w = w
+checkpoints c v tail l (running k state log) w =
+    let a = checkpointOf v (lentState l state) (lentLog l log) (l .out) tail in
     let next : Stored = record { checkpoint = take (a .answer .wrote) (a .checkpoint); replaced = k .replaced + (length log - headSize) } in
     pick (eqb (a .answer .refusal) noRefusal) (withServer c (storing k log next (a .state ++ drop (l .state) state) (take headSize (a .tail))) w) w
-checkpoints c tail l (storing k log next state t) w = w
-checkpoints c tail l (crashed k kept mark) w = w
+checkpoints c v tail l (storing k log next state t) w = w
+checkpoints c v tail l (crashed k kept mark) w = w
 
 unfoldable pub stores : ℕ → Server → World → World
 stores c nothing w = w
@@ -213,7 +214,7 @@ step w (found c state log plan n) = foundAs c nothingStored (foundOf state log p
 step w (call c o l) = callsOn c l (handed (packet w) o) w
 step w (inquire c i l) = calls c l (λ s g. looked (inquired i s g (l .out)) s g (l .out)) (w .servers c) w
 step w (recover c state log plan) = foundAs c (storedOf (w .servers c)) (recoverOf state log plan) w
-step w (checkpoint c tail l) = checkpoints c tail l (w .servers c) w
+step w (checkpoint c v tail l) = checkpoints c v tail l (w .servers c) w
 step w (store c) = stores c (w .servers c) w
 step w (recover·tail c state k tail) = foundAs c (storedOf (w .servers c)) (recoverTailOf state k tail) w
 step w (crash c k) = crashAt c k (w .servers c) w

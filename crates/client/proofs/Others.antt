@@ -21,8 +21,8 @@ use Rattle.model.specs.declared.Packet.the-variants.{Malformed, Requested, Resu
 use Rattle.model.proofs.Packet.{the-type}
 use Rattle.model.specs.Refusals.{malformed}
 use Rattle.model.specs.Numbers.{byteAt, le32At}
-use Rattle.model.specs.Limits.{requestKind, resultKind, refusalKind, receiptKind, noticeKind, grantKind, refusalSize, grantSize}
-use Rattle.model.specs.Packets.{packetLength, resultAt, refusalAt, whole}
+use Rattle.model.specs.Limits.{requestKind, firstResultKind, resultKind, refusalKind, receiptKind, noticeKind, grantKind, refusalSize, grantSize}
+use Rattle.model.specs.Packets.{packetLength, resultKindOf, resultAt, refusalAt, whole}
 use Rattle.model.specs.Packets.{parseRequest, parseResult, parseRefusal, parseReceipt, parseNotice, parseGrant, parsePacket}
 use Rattle.model_laws.proofs.Tests.{choose}
 use Rattle.client.specs.Changes.{startFields, startedBy, startAnswer, packetCall, clientPacket, OfCall}
@@ -73,12 +73,13 @@ module _ (b : List ℕ) where
   unfolding startOf startWith parsePacket parseRequest parseResult parseRefusal parseReceipt parseNotice parseGrant packetLength
   start-other h =
       sym (choose NotTaken (eqb (byteAt b 0) requestKind) (λ k. whole-case NotTaken b requestKind _ _ refl (λ n. refl))
-      (λ k1. choose NotTaken (eqb (byteAt b 0) resultKind) (λ k. whole-case NotTaken b resultKind _ _ refl (λ n. refl))
+      (λ k1. choose NotTaken (eqb (byteAt b 0) firstResultKind) (λ k. whole-case NotTaken b _ _ _ refl (λ n. refl))
       (λ k2. choose NotTaken (eqb (byteAt b 0) refusalKind) (λ k. whole-case NotTaken b refusalKind _ _ refl (λ n. refl))
       (λ k3. choose NotTaken (eqb (byteAt b 0) receiptKind) (λ k. whole-case NotTaken b receiptKind _ _ refl (λ n. refl))
       (λ k4. choose NotTaken (eqb (byteAt b 0) noticeKind) (λ k. whole-case NotTaken b noticeKind _ _ refl (λ n. refl))
       (λ k5. choose NotTaken (eqb (byteAt b 0) grantKind)
-      (λ k. whole-case NotTaken b grantKind _ _ refl (λ n. absurd (h (eqb-true (byteAt b 0) grantKind k) n))) (λ k6. refl)))))))
+      (λ k. whole-case NotTaken b grantKind _ _ refl (λ n. absurd (h (eqb-true (byteAt b 0) grantKind k) n)))
+      (λ k6. choose NotTaken (eqb (byteAt b 0) resultKind) (λ k. whole-case NotTaken b _ _ _ refl (λ n. refl)) (λ k7. refl))))))))
 
   pub start-grant : byteAt b 0 ≡ grantKind → startWith (parseGrant b) ≡ startOf b
   unfolding startOf parsePacket
@@ -87,17 +88,18 @@ module _ (b : List ℕ) where
 -- ---- receive
 
 module _ (b : List ℕ) where
-  call-there : (kind : ℕ) → byteAt b 0 ≡ kind → kind ≤ refusalKind → refusalSize ≤ length b → packetCall b ≡ le32At b 8
+  call-there : refusalSize ≤ length b → packetCall b ≡ le32At b 8
   unfolding packetCall
-  call-there kind k u h = rw (le-ltb (length b) refusalSize h, k, le-ltb refusalKind kind u) refl
+  call-there h = rw (le-ltb (length b) refusalSize h) refl
 
   pub of-call : OfCall (packetCall b) (clientPacket b)
-  unfolding clientPacket parseResult parseRefusal parseGrant packetLength resultAt refusalAt
+  unfolding clientPacket parseResult parseRefusal parseGrant packetLength resultKindOf resultAt refusalAt
   of-call =
       let Is = OfCall (packetCall b) in
-      choose Is (eqb (byteAt b 0) resultKind) (λ k. whole-case Is b resultKind _ _ tt (λ n. call-there resultKind (eqb-true _ _ k) (omega arith) (omega arith)))
-      (λ k2. choose Is (eqb (byteAt b 0) refusalKind) (λ k. whole-case Is b refusalKind _ _ tt (λ n. call-there refusalKind (eqb-true _ _ k) (omega arith) (omega arith)))
-      (λ k3. choose Is (eqb (byteAt b 0) grantKind) (λ k. whole-case Is b grantKind _ _ tt (λ n. tt)) (λ k6. tt)))
+      choose Is (eqb (byteAt b 0) firstResultKind) (λ k. whole-case Is b firstResultKind _ _ tt (λ n. call-there (omega arith)))
+      (λ k2. choose Is (eqb (byteAt b 0) refusalKind) (λ k. whole-case Is b refusalKind _ _ tt (λ n. call-there (omega arith)))
+      (λ k3. choose Is (eqb (byteAt b 0) grantKind) (λ k. whole-case Is b grantKind _ _ tt (λ n. tt))
+      (λ k6. choose Is (eqb (byteAt b 0) resultKind) (λ k. whole-case Is b resultKind _ _ tt (λ n. call-there (omega arith))) (λ k7. tt))))
 
   module _ (d : Client) where
     abbrev NotReceived : Packet → Type 0
@@ -117,8 +119,9 @@ module _ (b : List ℕ) where
     unfolding receiveOf clientPacket parsePacket parseRequest parseReceipt parseNotice receiveWith
     receive-same =
         of-kind requestKind (λ k. rw k (whole-case NotReceived b requestKind _ _ refl (λ n. refl)))
-        (λ k1. of-kind resultKind (λ k. rw k refl)
+        (λ k1. of-kind firstResultKind (λ k. rw k refl)
         (λ k2. of-kind refusalKind (λ k. rw k refl)
         (λ k3. of-kind receiptKind (λ k. rw k (whole-case NotReceived b receiptKind _ _ refl (λ n. refl)))
         (λ k4. of-kind noticeKind (λ k. rw k (whole-case NotReceived b noticeKind _ _ refl (λ n. refl)))
-        (λ k5. of-kind grantKind (λ k. rw k refl) (λ k6. rw (k1, k2, k3, k4, k5, k6) refl))))))
+        (λ k5. of-kind grantKind (λ k. rw k refl)
+        (λ k6. of-kind resultKind (λ k. rw k refl) (λ k7. rw (k1, k2, k3, k4, k5, k6, k7) refl)))))))

@@ -2,6 +2,7 @@
 -- Assumes nothing.
 use Prim.Native.Nat.{ℕ}
 use mathlib.Core.Path.{_≡_}
+use mathlib.Core.Bool.{true, false}
 use mathlib.Core.List.{List}
 use lib.Dec.{eqb, ltb}
 use lib.ListN.{length, set, replicate}
@@ -18,7 +19,7 @@ use Rattle.model.specs.declared.ReceiveAnswer.{ReceiveAnswer}
 use Rattle.model.specs.Choice.{pick}
 use Rattle.model.specs.Numbers.{byteAt, le32At}
 use Rattle.model.specs.Refusals.{noRefusal}
-use Rattle.model.specs.Limits.{callWindow, resultKind, refusalKind, grantKind, refusalSize}
+use Rattle.model.specs.Limits.{callWindow, firstResultKind, refusalKind, grantKind, resultKind, refusalSize}
 use Rattle.model.specs.Packets.{parseResult, parseRefusal, parseGrant}
 use Rattle.model.specs.Clients.{noCall, placeOf, withCalls, startNumber}
 use Rattle.client.specs.declared.StartFields.{StartFields}
@@ -50,15 +51,17 @@ requestWith d k done =
       lease = d .lease;
     }
 
--- the number in bytes where a result and a refusal have their call, 0 in fewer bytes and in a later kind
+-- the number in bytes where a result and a refusal have their call, 0 in fewer bytes
 unfoldable pub packetCall : List ℕ → ℕ
-packetCall b = pick (ltb (length b) refusalSize) 0 (pick (ltb refusalKind (byteAt b 0)) 0 (le32At b 8))
+packetCall b = pick (ltb (length b) refusalSize) 0 (le32At b 8)
 
 -- the result, refusal or grant in bytes; any other packet is malformed to a client
 unfoldable pub clientPacket : List ℕ → Packet
 clientPacket b =
-    pick (eqb (byteAt b 0) resultKind) (parseResult b)
-    (pick (eqb (byteAt b 0) refusalKind) (parseRefusal b) (pick (eqb (byteAt b 0) grantKind) (parseGrant b) Malformed))
+    pick (eqb (byteAt b 0) firstResultKind) (parseResult false b)
+    (pick (eqb (byteAt b 0) refusalKind) (parseRefusal b)
+    (pick (eqb (byteAt b 0) grantKind) (parseGrant b)
+    (pick (eqb (byteAt b 0) resultKind) (parseResult true b) Malformed)))
 
 -- a packet that is of a call is of the call c
 abbrev pub OfCall : ℕ → Packet → Type 0

@@ -262,14 +262,11 @@ pub fn resend_answer(d: Client, opened: OpenCall, c: u32) -> Sent
 
 // ---- receive: opened is what stands at the place of c, which is the call of a packet that has one
 
-// The number where a result and a refusal have their call, 0 in a shorter packet and in one of a later kind.
+// The number where a result and a refusal have their call, 0 in a shorter packet.
 pub fn packet_call(packet: &[u8]) -> u32
     ensures { λ r. ⌜ r ≡ packetCall (now (packet .entry)) ⌝ }
 {
     if packet.len() < REFUSAL_SIZE {
-        return 0;
-    }
-    if constants::REFUSAL_KIND < packet[0] {
         return 0;
     }
     format_numbers::read_u32(packet, constants::RESULT_CALL)
@@ -283,10 +280,11 @@ fn client_packet(packet: &[u8]) -> Packet
         return Packet::Malformed;
     }
     match packet[0] {
-        constants::RESULT_KIND => format_packet_reader::parse_result(packet),
+        constants::FIRST_RESULT_KIND => format_packet_reader::parse_result(packet, false),
         constants::REFUSAL_KIND => format_packet_reader::parse_refusal(packet),
         constants::GRANT_KIND => format_packet_reader::parse_grant(packet),
-        0 | 1 | 4 | 5 | 7..=255 => Packet::Malformed,
+        constants::RESULT_KIND => format_packet_reader::parse_result(packet, true),
+        0 | 1 | 4 | 5 | 8..=255 => Packet::Malformed,
     }
 }
 

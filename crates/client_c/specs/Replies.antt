@@ -62,6 +62,7 @@ receiveReply a =
       outcome = b .result .outcome;
       quality = b .result .quality;
       refusal = b .refusal;
+      time = b .result .time;
     }
 
 -- i is the place of a packet's call

@@ -42,7 +42,8 @@ pub struct SendReply {
     pub packet: [u8; constants::REQUEST_SIZE],
 }
 
-// number: 0 or the refusal's. kind: 2 a result, 3 a refusal (its number in refusal), 6 a grant (its end in lease).
+// number: 0 or the refusal's. kind: 7 a result in either form, with its time; 3 a refusal, its number in refusal; 6 a
+// grant, its end in lease.
 #[repr(C)]
 pub struct ReceiveReply {
     pub number: u32,
@@ -54,6 +55,7 @@ pub struct ReceiveReply {
     pub outcome: u8,
     pub quality: u8,
     pub refusal: u8,
+    pub time: u32,
 }
 
 // number: 0 or the refusal's. kind: 6 a grant, 5 a notice. length: of it in packet. Both are 0 where refused.
@@ -126,6 +128,7 @@ fn empty_reply(number: u32) -> ReceiveReply
         outcome: 0,
         quality: 0,
         refusal: 0,
+        time: 0,
     }
 }
 
@@ -145,6 +148,7 @@ pub fn receive_reply(answer: Received) -> ReceiveReply
             reply.point = packet.point;
             reply.outcome = packet.result.outcome;
             reply.quality = packet.result.quality;
+            reply.time = packet.result.time;
             reply
         }
         Received::Denied(packet) => {

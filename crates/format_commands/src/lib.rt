@@ -73,7 +73,7 @@ fn minus(whole: u64, part: u64) -> u64
     if part <= whole { whole - part } else { 0 }
 }
 
-// Outcome, value and quality.
+// Outcome, value and quality; a rule knows no time.
 fn result_of(outcome: u8, v: u32, quality: u8) -> CommandResult
     ensures { λ x. ⌜ x ≡ result outcome v quality ⌝ }
 {
@@ -81,6 +81,7 @@ fn result_of(outcome: u8, v: u32, quality: u8) -> CommandResult
         outcome,
         value: v,
         quality,
+        time: 0,
     }
 }
 
@@ -92,6 +93,7 @@ fn unchanged(outcome: u8, reading: Reading) -> CommandResult
         outcome,
         value: reading.value,
         quality: reading.quality,
+        time: 0,
     }
 }
 

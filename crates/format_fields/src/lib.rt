@@ -1,4 +1,4 @@
-// The fields of the six packets: their places and ranges.
+// The fields of the packets: their places and ranges.
 use model::Command;
 use model::CommandResult;
 use model::Grant;
@@ -11,8 +11,8 @@ use model::constants;
 ghost use mathlib.Core.Path.{_≡_};
 ghost use Prim.Native.Nat.{_≤_};
 ghost use lib.ListN.{length};
-ghost use Rattle.model.specs.Limits.{requestSize, resultSize, refusalSize, receiptSize, noticeSize, grantSize};
-ghost use Rattle.model.specs.Packets.{requestAt, resultAt, refusalAt, receiptAt, noticeAt, grantAt};
+ghost use Rattle.model.specs.Limits.{requestSize, refusalSize, receiptSize, noticeSize, grantSize};
+ghost use Rattle.model.specs.Packets.{resultSizeOf, requestAt, resultAt, refusalAt, receiptAt, noticeAt, grantAt};
 ghost use Rattle.model.specs.Packets.{requestOk, resultOk, refusalOk, receiptOk, noticeOk, grantOk};
 
 // ---- in their ranges
@@ -81,20 +81,23 @@ pub fn request_at(packet: &[u8]) -> Request
     }
 }
 
-pub fn result_at(packet: &[u8]) -> ResultPacket
-    requires { ⌜ resultSize ≤ length (now packet) ⌝ }
-    ensures { λ r. ⌜ r ≡ resultAt (now (packet .entry)) ⌝ }
+// By its form: with a time, or without one.
+pub fn result_at(packet: &[u8], timed: bool) -> ResultPacket
+    requires { ⌜ resultSizeOf timed ≤ length (now packet) ⌝ }
+    ensures { λ r. ⌜ r ≡ resultAt timed (now (packet .entry)) ⌝ }
 {
     let result = CommandResult {
         outcome: packet[constants::RESULT_OUTCOME],
         value: format_numbers::read_signed(packet, constants::RESULT_VALUE),
         quality: packet[constants::RESULT_QUALITY],
+        time: format_numbers::time_at(packet, timed, constants::RESULT_TIME),
     };
     ResultPacket {
         client: format_numbers::read_u32(packet, constants::RESULT_CLIENT),
         call: format_numbers::read_u32(packet, constants::RESULT_CALL),
         point: packet[constants::RESULT_POINT],
         result,
+        timed,
     }
 }
 

@@ -64,13 +64,13 @@ module _ (s : List ℕ) (k left : ℕ) {u : Bool} where
   unfolding floorStep clientFollows rows
   floor-before z p q = rw (some-left left z, p, q, drop-drop)
 
-  module _ (p floor w : ℕ) {e : ImageEntry} {fields : Bool} (r : e ≡ imageEntryOf (drop k s)) (t : u ≡ entryRowOk (drop k s)) (f : fields ≡ entryFieldsOk p floor e) where
-    pub entry-last : left ≡ 0 → (u && fields) ≡ entryStep p floor w left (drop k s)
+  module _ (timed : Bool) (p floor w : ℕ) {e : ImageEntry} {fields : Bool} (r : e ≡ imageEntryOf timed (drop k s)) (t : u ≡ entryRowOk (drop k s)) (f : fields ≡ entryFieldsOk p floor e) where
+    pub entry-last : left ≡ 0 → (u && fields) ≡ entryStep timed p floor w left (drop k s)
     unfolding entryStep idFollows rows
     entry-last z = rw (z, t, f, r)
 
-    pub entry-before : (left ≡ 0 → ⊥) → {v : Bool} → v ≡ entryBefore (imageEntryOf (drop k s)) (imageEntryOf (drop (k + w) s))
-        → (v && (u && fields)) ≡ entryStep p floor w left (drop k s)
+    pub entry-before : (left ≡ 0 → ⊥) → {v : Bool} → v ≡ entryBefore (imageEntryOf timed (drop k s)) (imageEntryOf timed (drop (k + w) s))
+        → (v && (u && fields)) ≡ entryStep timed p floor w left (drop k s)
     unfolding entryStep idFollows rows
     entry-before z q = rw (some-left left z, t, f, r, q, drop-drop)
 
@@ -203,12 +203,12 @@ floor-found x (suc n) t a j e =
 
 -- ---- the walk over the records
 
-abbrev pub entryTest : ℕ → List Floor → List ℕ → Bool
-entryTest p fs t = entryRowOk t && imageEntryOk p fs (imageEntryOf t)
+abbrev pub entryTest : Bool → ℕ → List Floor → List ℕ → Bool
+entryTest timed p fs t = entryRowOk t && imageEntryOk p fs (imageEntryOf timed t)
 
-pub record Beside (p n w at m : ℕ) (s : List ℕ) (i j : ℕ) : Type 0 where
-  pub walk : Walk imageEntryOf idsAscend (entryTest p (floorsIn s n)) w at (entriesOk p (floorsIn s n) w m (drop at s)) s m i
-  pub cursor : i < m → j ≤ leading (imageEntryOf (drop (at + w * i) s) .client) (floorsIn s n)
+pub record Beside (timed : Bool) (p n w at m : ℕ) (s : List ℕ) (i j : ℕ) : Type 0 where
+  pub walk : Walk (imageEntryOf timed) idsAscend (entryTest timed p (floorsIn s n)) w at (entriesOk timed p (floorsIn s n) w m (drop at s)) s m i
+  pub cursor : i < m → j ≤ leading (imageEntryOf timed (drop (at + w * i) s) .client) (floorsIn s n)
 
 each-both : (t u : List ℕ → Bool) (w n : ℕ) (s : List ℕ) → everyRow (λ x. t x && u x) w n s ≡ (everyRow t w n s && everyRow u w n s)
 unfolding everyRow
@@ -221,21 +221,21 @@ each-both t u w (suc n) s = rw (each-both t u w n (drop w s)) (both (t s) (u s) 
     both true false false d = refl
     both false b c d = refl
 
-pub beside-start : (p n w at m : ℕ) (s : List ℕ) → Beside p n w at m s 0 0
+pub beside-start : (timed : Bool) (p n w at m : ℕ) (s : List ℕ) → Beside timed p n w at m s 0 0
 unfolding entriesOk
-beside-start p n w at m s =
+beside-start timed p n w at m s =
     let fs : List Floor = floorsIn s n in
-    let es : List ImageEntry = rows imageEntryOf w m (drop at s) in
-    let u : List ℕ → Bool = rowTest imageEntryOf (imageEntryOk p fs) in
+    let es : List ImageEntry = rows (imageEntryOf timed) w m (drop at s) in
+    let u : List ℕ → Bool = rowTest (imageEntryOf timed) (imageEntryOk p fs) in
     record {
       walk =
-          walk-start imageEntryOf idsAscend (entryTest p fs) w at (entriesOk p fs w m (drop at s)) s m
-          (rw (each-both entryRowOk u w m (drop at s), everyRow-rows imageEntryOf (imageEntryOk p fs) u (λ x. refl) w m (drop at s))
+          walk-start (imageEntryOf timed) idsAscend (entryTest timed p fs) w at (entriesOk timed p fs w m (drop at s)) s m
+          (rw (each-both entryRowOk u w m (drop at s), everyRow-rows (imageEntryOf timed) (imageEntryOk p fs) u (λ x. refl) w m (drop at s))
           (sym (and-assoc (everyRow entryRowOk w m (drop at s)) (every (imageEntryOk p fs) es) (idsAscend es))));
       cursor = λ h. omega arith;
     }
 
-pub beside-cursor : {p n w at m : ℕ} {s : List ℕ} {i j : ℕ} → Beside p n w at m s i j → i < m → {e : ImageEntry} → e ≡ imageEntryOf (drop (at + w * i) s)
+pub beside-cursor : {timed : Bool} {p n w at m : ℕ} {s : List ℕ} {i j : ℕ} → Beside timed p n w at m s i j → i < m → {e : ImageEntry} → e ≡ imageEntryOf timed (drop (at + w * i) s)
     → j ≤ leading (e .client) (floorsIn s n)
 beside-cursor o h r = rw r (o .cursor h)
 
@@ -248,41 +248,41 @@ before-up x c y d e = step (ltb x y) refl e
     step true p q = omega (arith, ltb-true x y p)
     step false p q = omega (arith, eqb-true x y (and-left (eqb x y) (ltb c d) q))
 
-follows-up : (e : ImageEntry) (w n : ℕ) (t : List ℕ) → 0 < n → idFollows e (rows imageEntryOf w n t) ≡ true → e .client ≤ imageEntryOf t .client
+follows-up : (timed : Bool) (e : ImageEntry) (w n : ℕ) (t : List ℕ) → 0 < n → idFollows e (rows (imageEntryOf timed) w n t) ≡ true → e .client ≤ imageEntryOf timed t .client
 unfolding idFollows rows entryBefore
-follows-up e w zero t h b = absurd (omega arith)
-follows-up e w (suc n) t h b = before-up (e .client) (e .call) (imageEntryOf t .client) (imageEntryOf t .call) b
+follows-up timed e w zero t h b = absurd (omega arith)
+follows-up timed e w (suc n) t h b = before-up (e .client) (e .call) (imageEntryOf timed t .client) (imageEntryOf timed t .call) b
 
 -- a step of the walk, with the floor that the cursor finds
-module _ {p n w at m : ℕ} {s : List ℕ} {i j : ℕ} (o : Beside p n w at m s i j) (a : clientsAscend (floorsIn s n) ≡ true)
+module _ {timed : Bool} {p n w at m : ℕ} {s : List ℕ} {i j : ℕ} (o : Beside timed p n w at m s i j) (a : clientsAscend (floorsIn s n) ≡ true)
     {e : ImageEntry} {k floor : ℕ} {u : Bool}
     (h : i < m)
-    (r : e ≡ imageEntryOf (drop (at + w * i) s))
+    (r : e ≡ imageEntryOf timed (drop (at + w * i) s))
     (c : k ≡ leading (e .client) (floorsIn s n))
     (g : floor ≡ floorFirst (e .client) (rows floorOfBytes floorRow (n - k) (drop (leastImage + floorRow * k) s)))
-    (q : u ≡ entryStep p floor w (m - (i + 1)) (drop (at + w * i) s)) where
+    (q : u ≡ entryStep timed p floor w (m - (i + 1)) (drop (at + w * i) s)) where
   found : floor ≡ floorOf (e .client) (floorsIn s n)
   found = g ∙ sym (rw drop-drop at (floor-found (e .client) n (drop leastImage s) a k c))
 
-  tested : u ≡ (idFollows (imageEntryOf (drop (at + w * i) s)) (rows imageEntryOf w (m - (i + 1)) (drop w (drop (at + w * i) s)))
-      && entryTest p (floorsIn s n) (drop (at + w * i) s))
+  tested : u ≡ (idFollows (imageEntryOf timed (drop (at + w * i) s)) (rows (imageEntryOf timed) w (m - (i + 1)) (drop w (drop (at + w * i) s)))
+      && entryTest timed p (floorsIn s n) (drop (at + w * i) s))
   unfolding entryStep entryFieldsOk imageEntryOk
   tested = q ∙ rw (found, r)
 
-  pub beside-false : not u ≡ true → false ≡ entriesOk p (floorsIn s n) w m (drop at s)
+  pub beside-false : not u ≡ true → false ≡ entriesOk timed p (floorsIn s n) w m (drop at s)
   beside-false z = walk-false (o .walk) ids-ordered h tested z
 
-  pub beside-next : not u ≡ false → Beside p n w at m s (i + 1) k
+  pub beside-next : not u ≡ false → Beside timed p n w at m s (i + 1) k
   beside-next z = record { walk = walk-next (o .walk) ids-ordered h tested z; cursor = onward }
     where
-      onward : i + 1 < m → k ≤ leading (imageEntryOf (drop (at + w * (i + 1)) s) .client) (floorsIn s n)
+      onward : i + 1 < m → k ≤ leading (imageEntryOf timed (drop (at + w * (i + 1)) s) .client) (floorsIn s n)
       onward l =
           let t : List ℕ = drop (at + w * i) s in
-          let b : idFollows (imageEntryOf t) (rows imageEntryOf w (m - (i + 1)) (drop w t)) ≡ true = and-left _ _ (sym tested ∙ not-false u z) in
+          let b : idFollows (imageEntryOf timed t) (rows (imageEntryOf timed) w (m - (i + 1)) (drop w t)) ≡ true = and-left _ _ (sym tested ∙ not-false u z) in
           let place : at + w * i + w ≡ at + w * (i + 1) = omega (arith, row-next w i) in
-          let up : imageEntryOf t .client ≤ imageEntryOf
-          (drop (at + w * (i + 1)) s) .client = rw (drop-drop, place) at (follows-up (imageEntryOf t) w (m - (i + 1)) (drop w t) (omega arith) b) in
-          rw c (leading-up (e .client) (imageEntryOf (drop (at + w * (i + 1)) s) .client) (floorsIn s n) (rw r up))
+          let up : imageEntryOf timed t .client ≤ imageEntryOf timed
+          (drop (at + w * (i + 1)) s) .client = rw (drop-drop, place) at (follows-up timed (imageEntryOf timed t) w (m - (i + 1)) (drop w t) (omega arith) b) in
+          rw c (leading-up (e .client) (imageEntryOf timed (drop (at + w * (i + 1)) s) .client) (floorsIn s n) (rw r up))
 
 -- ---- both tables
 
@@ -300,7 +300,7 @@ module _ (h : ImageHead) (s : List ℕ) {u : Bool} (p : u ≡ floorsOk (floorsIn
   fs = floorsIn s (h .floors)
 
   es : List ImageEntry
-  es = rows imageEntryOf (entryWidth h) (h .entries) (drop (entriesStart (h .floors)) s)
+  es = rows (imageEntryOf (h .timed)) (entryWidth h) (h .entries) (drop (entriesStart (h .floors)) s)
 
   zeros : Bool
   zeros = everyRow entryRowOk (entryWidth h) (h .entries) (drop (entriesStart (h .floors)) s)
@@ -316,6 +316,6 @@ module _ (h : ImageHead) (s : List ℕ) {u : Bool} (p : u ≡ floorsOk (floorsIn
   unfolding floorsOk fs
   tables-ascend e = and-right (every floorOk fs) (clientsAscend fs) (sym p ∙ e)
 
-  pub tables-last : u ≡ true → {v : Bool} → v ≡ entriesOk (h .point) (floorsIn s (h .floors)) (entryWidth h) (h .entries) (drop (entriesStart (h .floors)) s) → v ≡ rowsOk h s
+  pub tables-last : u ≡ true → {v : Bool} → v ≡ entriesOk (h .timed) (h .point) (floorsIn s (h .floors)) (entryWidth h) (h .entries) (drop (entriesStart (h .floors)) s) → v ≡ rowsOk h s
   unfolding rowsOk floorsOk imageTablesOk imageAt entriesOk zeros rest fs es
   tables-last e q = q ∙ tests-go zeros (every floorOk fs) (clientsAscend fs) rest (sym p ∙ e)

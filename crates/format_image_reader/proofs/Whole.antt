@@ -15,9 +15,10 @@ use lib.Dec.{leb}
 use borrow.Author.Tests.{leb-true, le-leb}
 use Rattle.model.specs.declared.ImageHead.{ImageHead}
 use Rattle.model.specs.Limits.{leastImage, greatestImage, clientCount, recordCount, lastPoint, lastServer, lastQuality, callWindow}
-use Rattle.model.specs.Images.{imageHeadOf, imageAt, imageFramed, imageHeadOk, imageParts, imageTablesOk, imageOk, parseImage, imageHead, lengthBy}
+use Rattle.model.specs.Numbers.{startsWith}
+use Rattle.model.specs.Images.{imageMagic, greatestOf, imageHeadOf, imageAt, imageFramed, imageHeadOk, imageParts, imageTablesOk, imageOk, parseImage, imageHead, lengthBy}
 use Rattle.model_laws.proofs.Tests.{joined-all, choose}
-use Rattle.model_laws.proofs.Images.{tested, placed, floor-count, entry-count, head-same}
+use Rattle.model_laws.proofs.Images.{tested, tested-most, placed, floor-count, entry-count, head-same}
 use Rattle.model_laws.proofs.Windows.{image-entries}
 use Rattle.format_image_reader.specs.declared.ImageRead.the-variants.{Malformed, Head}
 use Rattle.format_image_reader.specs.Answers.{bodyOk, readOf}
@@ -33,11 +34,11 @@ ok-least s p e = leb-true leastImage (length s) (tested s (sym p ∙ e) .least)
 pub ok-size : (s : List ℕ) {h : ImageHead} → imageOk s ≡ true → h ≡ imageHeadOf s → lengthBy h ≤ length s
 ok-size s {h} e p = parts-size h s refl (rw p (tested s e .parts))
 
-pub last-test : (s : List ℕ) {f b : Bool} {h : ImageHead} → leastImage ≤ length s → length s ≤ greatestImage → f ≡ imageFramed s → f ≡ true → h ≡ imageHeadOf s → b ≡ bodyOk h s
+pub last-test : (s : List ℕ) {f b : Bool} {h : ImageHead} → leastImage ≤ length s → length s ≤ greatestOf (startsWith s imageMagic) → f ≡ imageFramed s → f ≡ true → h ≡ imageHeadOf s → b ≡ bodyOk h s
     → b ≡ imageOk s
 unfolding imageOk bodyOk rowsOk
 last-test s l g p e q r =
-    go-test (le-leb leastImage (length s) l) (go-test (le-leb (length s) greatestImage g) (go p e (rw q at r)))
+    go-test (le-leb leastImage (length s) l) (go-test (le-leb (length s) (greatestOf (startsWith s imageMagic)) g) (go p e (rw q at r)))
 
 pub read-malformed : (s : List ℕ) {u : Bool} → u ≡ imageOk s → u ≡ false → Malformed ≡ readOf (parseImage s)
 unfolding parseImage readOf
@@ -77,7 +78,7 @@ is-read s h e p =
       ok = e;
       head = p;
       size = ok-size s e p;
-      most = leb-true (length s) greatestImage (t .most);
+      most = tested-most s t;
       floors = floors;
       entries = omega arith;
     }

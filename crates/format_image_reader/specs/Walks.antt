@@ -56,16 +56,16 @@ unfoldable pub entryFieldsOk : ℕ → ℕ → ImageEntry → Bool
 entryFieldsOk p k e =
     commandOk (e .op) p (e .argument) && (outcomeOk (e .result .outcome) (e .result .quality) && (idOk (e .client) (e .call) && inWindow k (e .call)))
 
--- the record in front of t, with so many of w bytes behind it
-unfoldable pub entryStep : ℕ → ℕ → ℕ → ℕ → List ℕ → Bool
-entryStep p k w left t =
-    idFollows (imageEntryOf t) (rows imageEntryOf w left (drop w t)) && (entryRowOk t && entryFieldsOk p k (imageEntryOf t))
+-- the record in front of t, in a form, with so many of w bytes behind it
+unfoldable pub entryStep : Bool → ℕ → ℕ → ℕ → ℕ → List ℕ → Bool
+entryStep timed p k w left t =
+    idFollows (imageEntryOf timed t) (rows (imageEntryOf timed) w left (drop w t)) && (entryRowOk t && entryFieldsOk p k (imageEntryOf timed t))
 
--- m records of the point p, of w bytes each, in front of t, among the floors fs
-unfoldable pub entriesOk : ℕ → List Floor → ℕ → ℕ → List ℕ → Bool
-entriesOk p fs w m t =
+-- m records of the point p in a form, of w bytes each, in front of t, among the floors fs
+unfoldable pub entriesOk : Bool → ℕ → List Floor → ℕ → ℕ → List ℕ → Bool
+entriesOk timed p fs w m t =
     everyRow entryRowOk w m t
-    && (every (imageEntryOk p fs) (rows imageEntryOf w m t) && idsAscend (rows imageEntryOf w m t))
+    && (every (imageEntryOk p fs) (rows (imageEntryOf timed) w m t) && idsAscend (rows (imageEntryOf timed) w m t))
 
 -- ---- both tables
 

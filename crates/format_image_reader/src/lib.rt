@@ -4,15 +4,14 @@ use model::ImageEntry;
 use model::ImageHead;
 use model::PlanEntry;
 use model::constants::FLOOR_ROW;
-use model::constants::GREATEST_IMAGE;
 use model::constants::LEAST_IMAGE;
 ghost use mathlib.Core.Path.{_≡_};
 ghost use Prim.Native.Nat.{_+_, _-_, _*_, _≤_};
 ghost use lib.ListN.{length, drop};
 ghost use mathlib.Core.Bool.{true};
 ghost use Rattle.model.specs.Tables.{rows, every};
-ghost use Rattle.model.specs.Limits.{leastImage, floorRow, entryRow};
-ghost use Rattle.model.specs.Images.{floorOfBytes, imageEntryOf, imageAt, entriesStart, lengthBy};
+ghost use Rattle.model.specs.Limits.{leastImage, floorRow};
+ghost use Rattle.model.specs.Images.{floorOfBytes, imageEntryOf, entryRowOf, imageAt, entriesStart, lengthBy};
 ghost use Rattle.model.specs.Images.{clientsAscend, imageOk, parseImage, entryInRange, imageInRange};
 ghost use Rattle.format_image_reader.specs.Answers.{bodyOk, readOf};
 ghost use Rattle.format_image_reader.specs.Walks.{floorsIn, floorStep, floorsOk, leading, floorFirst, entryFieldsOk, entryStep, entriesOk, rowsOk};
@@ -99,35 +98,53 @@ fn entry_fields_ok(point: u8, floor: u32, entry: ImageEntry) -> bool
 }
 
 // The record from k, before the left records behind it: its row, and the next id is greater.
-fn entry_step(s: &[u8], point: u8, floor: u32, width: usize, k: usize, left: usize) -> bool
-    requires { ⌜ (entryRow ≤ width) × (k + width * (left + 1) ≤ length (now s)) ⌝ }
-    ensures { λ r. ⌜ r ≡ entryStep point floor width left (drop k (now (s .entry))) ⌝ }
+fn entry_step(
+    s: &[u8],
+    point: u8,
+    floor: u32,
+    timed: bool,
+    width: usize,
+    k: usize,
+    left: usize,
+) -> bool
+    requires { ⌜ (entryRowOf timed ≤ width) × (k + width * (left + 1) ≤ length (now s)) ⌝ }
+    ensures { λ r. ⌜ r ≡ entryStep timed point floor width left (drop k (now (s .entry))) ⌝ }
 {
     let zero = format_image_rows::entry_row_ok(s, k);
-    let entry = format_image_rows::entry_from(s, k);
+    let entry = format_image_rows::entry_from(s, k, timed);
     let fields = entry_fields_ok(point, floor, entry);
     if left == 0 {
         return zero & fields;
     }
-    let next = format_image_rows::id_before(s, k, width);
+    let next = format_image_rows::id_before(s, k, width, timed);
     next & (zero & fields)
 }
 
 // Each of so many records of the point from at, strictly ascending by client, then call; n floors ascend by client, so
 // that the floors are walked once beside the records.
-fn entries_ok(s: &[u8], n: usize, point: u8, width: usize, at: usize, entries: usize) -> bool
-    requires { ⌜ (entryRow ≤ width) × (entriesStart n ≤ length (now s)) × (at + width * entries ≤ length (now s))
+fn entries_ok(
+    s: &[u8],
+    n: usize,
+    point: u8,
+    timed: bool,
+    width: usize,
+    at: usize,
+    entries: usize,
+) -> bool
+    requires { ⌜ (entryRowOf timed ≤ width) × (entriesStart n ≤ length (now s))
+        × (at + width * entries ≤ length (now s))
         × (clientsAscend (floorsIn (now s) n) ≡ true) ⌝ }
-    ensures { λ r. ⌜ r ≡ entriesOk point (floorsIn (now (s .entry)) n) width entries (drop at (now (s .entry))) ⌝ }
+    ensures { λ r. ⌜ r ≡ entriesOk timed point (floorsIn (now (s .entry)) n) width entries
+        (drop at (now (s .entry))) ⌝ }
 {
     let mut i = 0;
     let mut j = 0;
     while i < entries {
         let k = format_image_rows::entry_at(at, width, i);
-        let entry = format_image_rows::entry_from(s, k);
+        let entry = format_image_rows::entry_from(s, k, timed);
         j = next_floor(s, n, entry.client, j);
         let floor = floor_here(s, n, entry.client, j);
-        if !entry_step(s, point, floor, width, k, entries - (i + 1)) {
+        if !entry_step(s, point, floor, timed, width, k, entries - (i + 1)) {
             return false;
         }
         i += 1;
@@ -148,7 +165,7 @@ fn tables_ok(s: &[u8], h: ImageHead) -> bool
     }
     let width = format_image_rows::entry_width(h);
     let at = format_image_rows::entries_start(h.floors);
-    entries_ok(s, n, h.point, width, at, h.entries as usize)
+    entries_ok(s, n, h.point, h.timed, width, at, h.entries as usize)
 }
 
 // The head's fields, the parts, and the rows of both tables.
@@ -172,7 +189,8 @@ pub fn image_ok(s: &[u8]) -> bool
     if s.len() < LEAST_IMAGE {
         return false;
     }
-    if GREATEST_IMAGE < s.len() {
+    let timed = format_image_rows::timed_in(s);
+    if format_image_rows::greatest(timed) < s.len() {
         return false;
     }
     if !format_image_rows::framed(s) {
@@ -195,13 +213,22 @@ pub fn image_read(s: &[u8]) -> ImageRead
 // ---- values in the point's range
 
 // The value of each of so many records from at.
-fn entries_in_range(s: &[u8], e: PlanEntry, width: usize, at: usize, entries: usize) -> bool
-    requires { ⌜ (entryRow ≤ width) × (at + width * entries ≤ length (now s)) ⌝ }
-    ensures { λ r. ⌜ r ≡ every (entryInRange e) (rows imageEntryOf width entries (drop at (now (s .entry)))) ⌝ }
+fn entries_in_range(
+    s: &[u8],
+    e: PlanEntry,
+    timed: bool,
+    width: usize,
+    at: usize,
+    entries: usize,
+) -> bool
+    requires { ⌜ (entryRowOf timed ≤ width) × (at + width * entries ≤ length (now s)) ⌝ }
+    ensures { λ r. ⌜ r ≡ every (entryInRange e)
+        (rows (imageEntryOf timed) width entries (drop at (now (s .entry)))) ⌝ }
 {
     let mut i = 0;
     while i < entries {
-        if !format_image_rows::entry_in_range(s, e, format_image_rows::entry_at(at, width, i)) {
+        let k = format_image_rows::entry_at(at, width, i);
+        if !format_image_rows::entry_in_range(s, e, k, timed) {
             return false;
         }
         i += 1;
@@ -219,5 +246,5 @@ pub fn values_in_range(s: &[u8], h: ImageHead, e: PlanEntry) -> bool
     }
     let width = format_image_rows::entry_width(h);
     let at = format_image_rows::entries_start(h.floors);
-    entries_in_range(s, e, width, at, h.entries as usize)
+    entries_in_range(s, e, h.timed, width, at, h.entries as usize)
 }

@@ -1,30 +1,32 @@
 -- Runs of stores, one after the other, as one; and the whole image.
---     head-written, head-length     the bytes before the tables, in three parts; there are 48
+--     head-written            the bytes before the tables, in three parts
 --     rows-next               a row stored behind rows
 --     Copied, copied-..       a loop that stores rows
 --     image-written           head, floors and records stored one after the other are the image
 -- Assumes nothing.
 use Prim.Native.Nat.{ℕ, _+_, _*_, _≤_, _<_}
 use mathlib.Core.Path.{_≡_, refl, sym, ap, _∙_}
+use mathlib.Core.Bool.{true}
 use mathlib.Core.List.{List, [], _∷_, _++_}
 use native.Mathlib.Omega.{arith}
 use lib.ListN.{length, drop}
 use Rattle.model.specs.declared.ImageHead.{ImageHead}
 use Rattle.model.specs.Tables.{rows, bytesOf, written}
 use Rattle.model.specs.Limits.{imagePairs, partsStart, leastImage}
-use Rattle.model.specs.Images.{Image, entriesStart, imageHead, imageHeadBytes, imageBytes, floorBytes, imageEntryBytes}
+use Rattle.model.specs.Images.{Image, imageMagicOf, entryRowOf, entryWidth, entriesStart, imageHead, imageHeadBytes, imageBytes, floorBytes, imageEntryBytes}
 use Rattle.model_laws.specs.Codec.{Codec}
 use Rattle.model_laws.specs.Runs.{last, run, storedBy, bytesBy}
 use Rattle.model_laws.proofs.Written.{length-written, written-none, written-append, runs-stored}
 use Rattle.model_laws.proofs.Tables.{length-rows, rows-snoc, bytesOf-append, bytesOf-one, length-bytesOf}
-use Rattle.model_laws.proofs.Images.{floorCodec}
+use Rattle.model_laws.proofs.Images.{floorCodec, head-length}
 use Rattle.format_image_writer.specs.Heads.{frameBytes, pairBytes, pointBytes}
 
-pub head-written : (s : List ℕ) (h : ImageHead)
+pub head-written : (s : List ℕ) (h : ImageHead) → h .timed ≡ true
     → written (written (written s 0 (frameBytes h)) 16 (pairBytes h)) 40 (pointBytes (h .value) (h .quality)) ≡ written s 0 (imageHeadBytes h)
-unfolding frameBytes pairBytes pointBytes imageHeadBytes storedBy bytesBy
-head-written s h =
-    runs-stored s 0 (run (frameBytes h) imagePairs refl (run (pairBytes h) partsStart refl (last (pointBytes (h .value) (h .quality)))))
+unfolding frameBytes pairBytes pointBytes imageHeadBytes entryWidth entryRowOf imageMagicOf storedBy bytesBy
+head-written s h e =
+    rw e
+    (runs-stored s 0 (run (frameBytes h) imagePairs refl (run (pairBytes h) partsStart refl (last (pointBytes (h .value) (h .quality))))))
 
 -- ---- rows
 
@@ -61,12 +63,8 @@ module _ {A : Type 0} (C : Codec A) where
 
 -- ---- the whole
 
-pub head-length : (h : ImageHead) → length (imageHeadBytes h) ≡ leastImage
-unfolding imageHeadBytes
-head-length h = refl
-
 pub image-written : (s : List ℕ) (i : Image)
-    → written (written (written s 0 (imageHeadBytes (imageHead i))) leastImage (bytesOf floorBytes (i .floors))) (entriesStart (length (i .floors))) (bytesOf imageEntryBytes (i .entries))
+    → written (written (written s 0 (imageHeadBytes (imageHead i))) leastImage (bytesOf floorBytes (i .floors))) (entriesStart (length (i .floors))) (bytesOf (imageEntryBytes (i .timed)) (i .entries))
     ≡ written s 0 (imageBytes i)
 unfolding imageBytes
 image-written s i = rw (written-append s 0 (imageHeadBytes (imageHead i)), written-append, head-length (imageHead i), length-bytesOf floorCodec (i .floors))

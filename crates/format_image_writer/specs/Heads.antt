@@ -1,11 +1,11 @@
--- The three parts in which the bytes before an image's tables are written.
+-- The three parts in which the bytes before an image's tables are written, in the form with times.
 -- Assumes nothing.
 use Prim.Native.Nat.{ℕ, _*_}
 use mathlib.Core.List.{List, _++_}
 use Rattle.model.specs.declared.ImageHead.{ImageHead}
 use Rattle.model.specs.Numbers.{le32, signed32, quad}
-use Rattle.model.specs.Limits.{partsStart, pointPart, leastImage, floorRow}
-use Rattle.model.specs.Images.{imageMagic, entriesStart, entryWidth}
+use Rattle.model.specs.Limits.{partsStart, pointPart, leastImage, floorRow, entryRow}
+use Rattle.model.specs.Images.{imageMagic, entriesStart}
 
 -- the four bytes, point, destination, source, 0, move, heard time
 unfoldable pub frameBytes : ImageHead → List ℕ
@@ -15,7 +15,7 @@ frameBytes h = imageMagic ++ (quad (h .point) (h .destination) (h .source) 0 ++ 
 unfoldable pub pairBytes : ImageHead → List ℕ
 pairBytes h =
     le32 partsStart
-    ++ (le32 pointPart ++ (le32 leastImage ++ (le32 (floorRow * h .floors) ++ (le32 (entriesStart (h .floors)) ++ le32 (entryWidth h * h .entries)))))
+    ++ (le32 pointPart ++ (le32 leastImage ++ (le32 (floorRow * h .floors) ++ (le32 (entriesStart (h .floors)) ++ le32 (entryRow * h .entries)))))
 
 -- value, quality, three zeros
 unfoldable pub pointBytes : ℕ → ℕ → List ℕ

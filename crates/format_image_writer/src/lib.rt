@@ -8,6 +8,7 @@ use model::constants::IMAGE_MAGIC;
 use model::constants::LEAST_IMAGE;
 ghost use mathlib.Core.Path.{_≡_};
 ghost use Prim.Native.Nat.{_+_, _*_, _≤_};
+ghost use mathlib.Core.Bool.{true};
 ghost use lib.ListN.{length};
 ghost use Rattle.model.specs.Limits.{imagePairs, partsStart, leastImage, floorRow, entryRow, clientCount, recordCount};
 ghost use Rattle.model.specs.Tables.{rows, bytesOf, written};
@@ -16,10 +17,10 @@ ghost use Rattle.format_image_writer.specs.Heads.{frameBytes, pairBytes,
 
 // ---- rows, from a place
 
-// Stores a completion record in the 20 bytes from k.
+// Stores a completion record in the 24 bytes from k.
 pub fn put_entry(out: &mut [u8], k: usize, entry: ImageEntry)
     requires { ⌜ k + entryRow ≤ length (now out) ⌝ }
-    ensures { λ r. ⌜ now (out .exit) ≡ written (now (out .entry)) k (imageEntryBytes entry) ⌝ }
+    ensures { λ r. ⌜ now (out .exit) ≡ written (now (out .entry)) k (imageEntryBytes true entry) ⌝ }
 {
     format_numbers::write_u32(out, k, entry.client);
     format_numbers::write_u32(out, k + constants::ENTRY_CALL, entry.call);
@@ -33,6 +34,7 @@ pub fn put_entry(out: &mut [u8], k: usize, entry: ImageEntry)
         entry.result.quality,
         0,
     );
+    format_numbers::write_u32(out, k + constants::ENTRY_TIME, entry.result.time);
 }
 
 // ---- the head
@@ -60,7 +62,7 @@ fn write_pairs(out: &mut [u8], h: ImageHead)
     ensures { λ r. ⌜ now (out .exit) ≡ written (now (out .entry)) imagePairs (pairBytes h) ⌝ }
 {
     let records = format_image_rows::entries_start(h.floors) as u32;
-    let entries = (format_image_rows::entry_width(h) * (h.entries as usize)) as u32;
+    let entries = constants::ENTRY_ROW_U32 * h.entries;
     format_numbers::write_u32(out, constants::IMAGE_POINT_PAIR, constants::PARTS_START_U32);
     format_numbers::write_u32(
         out,
@@ -91,7 +93,8 @@ fn write_point(out: &mut [u8], value: u32, quality: u8)
 
 // All that stands before the tables.
 pub fn write_head(out: &mut [u8], h: ImageHead)
-    requires { ⌜ (leastImage ≤ length (now out)) × (h .floors ≤ clientCount) × (h .entries ≤ recordCount) ⌝ }
+    requires { ⌜ (leastImage ≤ length (now out)) × (h .floors ≤ clientCount) × (h .entries ≤ recordCount)
+        × (h .timed ≡ true) ⌝ }
     ensures { λ r. ⌜ now (out .exit) ≡ written (now (out .entry)) 0 (imageHeadBytes h) ⌝ }
 {
     write_frame(out, h);

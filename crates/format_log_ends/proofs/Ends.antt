@@ -16,8 +16,8 @@ use lib.ListN.{length, drop, length-drop}
 use lib.Seq.{getD-drop}
 use lib.Dec.{eqb, leb, ltb}
 use Rattle.model.specs.Numbers.{byteAt, le32At}
-use Rattle.model.specs.Limits.{leastImage, greatestImage, headSize, executedKind, goneKind, giveKind, takeKind, releaseKind}
-use Rattle.model.specs.Limits.{executedSize, goneSize, giveSize, takeHead, releaseSize}
+use Rattle.model.specs.Limits.{leastImage, greatestImage, headSize, firstExecutedKind, goneKind, giveKind, takeKind, releaseKind, executedKind}
+use Rattle.model.specs.Limits.{firstExecutedSize, goneSize, giveSize, takeHead, releaseSize, executedSize}
 use Rattle.model.specs.Logs.{Extent, off, spans, within, takeExtent, extentOf}
 use Rattle.model_laws.proofs.Tests.{choose, impossible}
 use Rattle.model_laws.proofs.Numbers.{le32-drop}
@@ -34,12 +34,13 @@ pub spans-whole : (s : List ℕ) (n : ℕ) → extentOf s ≡ spans n → n ≤ 
 unfolding extentOf
 spans-whole s n =
     let P : Extent → Type 0 = λ x. x ≡ spans n → n ≤ length s in
-    choose P (eqb (byteAt s 0) executedKind) (λ k e. let w = within-spans s executedSize n e in omega arith)
+    choose P (eqb (byteAt s 0) firstExecutedKind) (λ k e. let w = within-spans s firstExecutedSize n e in omega arith)
     (λ k1. choose P (eqb (byteAt s 0) goneKind) (λ k e. let w = within-spans s goneSize n e in omega arith)
     (λ k2. choose P (eqb (byteAt s 0) giveKind) (λ k e. let w = within-spans s giveSize n e in omega arith)
     (λ k3. choose P (eqb (byteAt s 0) takeKind) (λ k e. let w = take-spans s n e in omega arith)
     (λ k4. choose P (eqb (byteAt s 0) releaseKind) (λ k e. let w = within-spans s releaseSize n e in omega arith)
-    (λ k5 e. let z : _≡_ {A = ℕ} 0 1 = cc in absurd (omega arith))))))
+    (λ k5. choose P (eqb (byteAt s 0) executedKind) (λ k e. let w = within-spans s executedSize n e in omega arith)
+    (λ k6 e. let z : _≡_ {A = ℕ} 0 1 = cc in absurd (omega arith)))))))
 
 -- a take's image has the length that stands in its 4 bytes
 pub spans-take : (s : List ℕ) (n : ℕ) → extentOf s ≡ spans n → byteAt s 0 ≡ takeKind → n ≡ takeHead + le32At s 4
@@ -78,11 +79,11 @@ module _ (log : List ℕ) (at n : ℕ) (e : extentOf (drop at log) ≡ spans n) 
   abbrev kind : ℕ
   kind = byteAt (drop at log) 0
 
-  size-release : eqb kind executedKind ≡ false → eqb kind goneKind ≡ false → eqb kind giveKind ≡ false → eqb kind takeKind ≡ false → n ≡ releaseSize
+  size-last : eqb kind firstExecutedKind ≡ false → eqb kind goneKind ≡ false → eqb kind giveKind ≡ false → eqb kind takeKind ≡ false → eqb kind releaseKind ≡ false → n ≡ executedSize
   unfolding extentOf
-  size-release a b c d =
-      choose (λ x. x ≡ spans n → n ≡ releaseSize) (eqb kind releaseKind) (λ k f. within-spans (drop at log) releaseSize n f .0) (λ k f. impossible (cc))
-      (rw (a, b, c, d) at e)
+  size-last a b c d f =
+      choose (λ x. x ≡ spans n → n ≡ executedSize) (eqb kind executedKind) (λ k g. within-spans (drop at log) executedSize n g .0) (λ k g. impossible (cc))
+      (rw (a, b, c, d, f) at e)
 
   size-kinds : n ≡ sizeFrom log at
   unfolding extentOf sizeFrom
@@ -90,11 +91,12 @@ module _ (log : List ℕ) (at n : ℕ) (e : extentOf (drop at log) ≡ spans n) 
       let s : List ℕ = drop at log in
       let k : kind ≡ byteAt log at = getD-drop at log 0 0 ∙ ap (byteAt log) (add-zero at) in
       rw (← k, ← le32-drop at log 4)
-      (choose (λ m. n ≡ m) (eqb kind executedKind) (λ a. within-spans s executedSize n (rw a at e) .0)
+      (choose (λ m. n ≡ m) (eqb kind firstExecutedKind) (λ a. within-spans s firstExecutedSize n (rw a at e) .0)
       (λ a. choose (λ m. n ≡ m) (eqb kind goneKind) (λ b. within-spans s goneSize n (rw (a, b) at e) .0)
       (λ b. choose (λ m. n ≡ m) (eqb kind giveKind) (λ c. within-spans s giveSize n (rw (a, b, c) at e) .0)
       (λ c. choose (λ m. n ≡ m) (eqb kind takeKind) (λ d. take-spans s n (rw (a, b, c, d) at e) .0)
-      (λ d. size-release a b c d)))))
+      (λ d. choose (λ m. n ≡ m) (eqb kind releaseKind) (λ f. within-spans s releaseSize n (rw (a, b, c, d, f) at e) .0)
+      (λ f. size-last a b c d f))))))
 
 pub size-by : (log : List ℕ) (at : ℕ) → WholeAt log at → {r : ℕ} → r ≡ sizeFrom log at → extentFrom log at ≡ spans r
 size-by log at w q = w .whole ∙ ap spans (size-kinds log at (w .size) (from-spans log at (w .size) (w .whole)) ∙ sym q)

@@ -7,7 +7,7 @@ use lib.ListN.{length, drop}
 use lib.Dec.{eqb, leb}
 use Rattle.model.specs.Choice.{pick}
 use Rattle.model.specs.Numbers.{byteAt, le32At}
-use Rattle.model.specs.Limits.{executedKind, goneKind, giveKind, takeKind, executedSize, goneSize, giveSize, takeHead, releaseSize}
+use Rattle.model.specs.Limits.{firstExecutedKind, goneKind, giveKind, takeKind, releaseKind, firstExecutedSize, goneSize, giveSize, takeHead, releaseSize, executedSize}
 use Rattle.model.specs.Logs.{off, cut, spans, extentOf}
 use Rattle.model.specs.Logs.{Extent as LogExtent}
 use Rattle.format_log_ends.specs.declared.Extent.{Extent}
@@ -30,7 +30,8 @@ pub record WholeAt (log : List ℕ) (at : ℕ) : Type 0 where
 -- its size, by its kind, and a take's by its image's length
 unfoldable pub sizeFrom : List ℕ → ℕ → ℕ
 sizeFrom log at =
-    pick (eqb (byteAt log at) executedKind) executedSize
+    pick (eqb (byteAt log at) firstExecutedKind) firstExecutedSize
     (pick (eqb (byteAt log at) goneKind) goneSize
     (pick (eqb (byteAt log at) giveKind) giveSize
-    (pick (eqb (byteAt log at) takeKind) (takeHead + le32At log (at + 4)) releaseSize)))
+    (pick (eqb (byteAt log at) takeKind) (takeHead + le32At log (at + 4))
+    (pick (eqb (byteAt log at) releaseKind) releaseSize executedSize))))

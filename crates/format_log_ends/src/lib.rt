@@ -70,12 +70,13 @@ fn extent_of(s: &[u8]) -> Extent
     ensures { λ r. ⌜ extentMeans r ≡ extentOf (now (s .entry)) ⌝ }
 {
     match s[0] {
-        constants::EXECUTED_KIND => extent_within(s, constants::EXECUTED_SIZE),
+        constants::FIRST_EXECUTED_KIND => extent_within(s, constants::FIRST_EXECUTED_SIZE),
         constants::GONE_KIND => extent_within(s, constants::GONE_SIZE),
         constants::GIVE_KIND => extent_within(s, constants::GIVE_SIZE),
         constants::TAKE_KIND => take_extent(s),
         constants::RELEASE_KIND => extent_within(s, constants::RELEASE_SIZE),
-        0 | 6..=255 => Extent::Off,
+        constants::EXECUTED_KIND => extent_within(s, constants::EXECUTED_SIZE),
+        0 | 7..=255 => Extent::Off,
     }
 }
 
@@ -95,14 +96,15 @@ pub fn size_at(log: &[u8], at: usize) -> usize
     ensures { λ r. ⌜ extentFrom (now (log .entry)) at ≡ spans r ⌝ }
 {
     match log[at] {
-        constants::EXECUTED_KIND => constants::EXECUTED_SIZE,
+        constants::FIRST_EXECUTED_KIND => constants::FIRST_EXECUTED_SIZE,
         constants::GONE_KIND => constants::GONE_SIZE,
         constants::GIVE_KIND => constants::GIVE_SIZE,
         constants::TAKE_KIND => {
             constants::TAKE_HEAD
                 + format_numbers::read_u32(log, at + constants::TAKE_LENGTH) as usize
         }
-        _ => constants::RELEASE_SIZE,
+        constants::RELEASE_KIND => constants::RELEASE_SIZE,
+        _ => constants::EXECUTED_SIZE,
     }
 }
 

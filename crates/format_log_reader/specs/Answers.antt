@@ -2,14 +2,14 @@
 -- Assumes nothing.
 use Prim.Native.Nat.{ℕ, _+_, _-_}
 use mathlib.Core.Path.{_≡_}
-use mathlib.Core.Bool.{true, _&&_}
+use mathlib.Core.Bool.{Bool, true, false, _&&_}
 use mathlib.Core.List.{List}
 use mathlib.Core.Option.{Option, none, some}
 use lib.ListN.{take, drop}
 use lib.Dec.{eqb}
 use Rattle.model.specs.Choice.{pick}
 use Rattle.model.specs.Numbers.{byteAt, zeroAt, zeros3At}
-use Rattle.model.specs.Limits.{takeHead, executedKind, goneKind, giveKind, takeKind, releaseKind}
+use Rattle.model.specs.Limits.{takeHead, firstExecutedKind, goneKind, giveKind, takeKind, releaseKind, executedKind}
 use Rattle.model.specs.Packets.{noticeAt, noticeOk}
 use Rattle.model.specs.Images.{Image, imageHeadOf, imageAt, imageOk}
 use Rattle.model.specs.Logs.{LogRecord, executed, gone, gave, took, released, executedAt, executedOk, giveAt, giveOk, releaseAt, releaseOk, recordAt}
@@ -54,8 +54,8 @@ pub record Parsed (log : List ℕ) (at n : ℕ) (r : Record) : Type 0 where
   pub placed : recordPlaced log at n r
 
 -- what the readers answer of a record at the front of s, by kind
-unfoldable pub executedFrom : List ℕ → Record
-executedFrom s = pick (zeros3At s 25 && executedOk (executedAt s)) (Executed (executedAt s)) Broken
+unfoldable pub executedFrom : Bool → List ℕ → Record
+executedFrom timed s = pick (zeros3At s 25 && executedOk (executedAt timed s)) (Executed (executedAt timed s)) Broken
 
 unfoldable pub goneFrom : List ℕ → Record
 goneFrom s = pick (zeros3At s 1 && noticeOk (noticeAt s)) (Gone (noticeAt s)) Broken
@@ -73,7 +73,8 @@ releaseFrom s = pick (zeroAt s 2 && (zeroAt s 3 && releaseOk (releaseAt s))) (Re
 
 unfoldable pub recordFrom : List ℕ → ℕ → ℕ → Record
 recordFrom s at n =
-    pick (eqb (byteAt s 0) executedKind) (executedFrom s)
+    pick (eqb (byteAt s 0) firstExecutedKind) (executedFrom false s)
     (pick (eqb (byteAt s 0) goneKind) (goneFrom s)
     (pick (eqb (byteAt s 0) giveKind) (giveFrom s)
-    (pick (eqb (byteAt s 0) takeKind) (takeFrom s at n) (pick (eqb (byteAt s 0) releaseKind) (releaseFrom s) Broken))))
+    (pick (eqb (byteAt s 0) takeKind) (takeFrom s at n)
+    (pick (eqb (byteAt s 0) releaseKind) (releaseFrom s) (pick (eqb (byteAt s 0) executedKind) (executedFrom true s) Broken)))))

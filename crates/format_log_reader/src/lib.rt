@@ -11,9 +11,9 @@ ghost use Prim.Native.Nat.{_+_, _*_, _≤_, _<_};
 ghost use lib.ListN.{length};
 ghost use Rattle.model.specs.Choice.{pick};
 ghost use Rattle.model.specs.Numbers.{word};
-ghost use Rattle.model.specs.Limits.{executedSize, goneSize, giveSize, takeHead, releaseSize};
+ghost use Rattle.model.specs.Limits.{goneSize, giveSize, takeHead, releaseSize};
 ghost use Rattle.model.specs.Logs.{extentOf, spans};
-ghost use Rattle.model.specs.Logs.{executedAt, executedOk, giveAt, giveOk, releaseAt, releaseOk};
+ghost use Rattle.model.specs.Logs.{executedSizeOf, executedAt, executedOk, giveAt, giveOk, releaseAt, releaseOk};
 ghost use Rattle.format_log_reader.specs.declared.Record.the-variants.{Broken};
 ghost use Rattle.format_log_ends.specs.Answers.{extentFrom};
 ghost use Rattle.format_log_reader.specs.Answers.{Parsed};
@@ -37,9 +37,10 @@ pub enum Record {
 
 // ---- records, by kind
 
-fn executed_at(s: &[u8]) -> Executed
-    requires { ⌜ executedSize ≤ length (now s) ⌝ }
-    ensures { λ r. ⌜ r ≡ executedAt (now (s .entry)) ⌝ }
+// In its form with a time, or without.
+fn executed_at(s: &[u8], timed: bool) -> Executed
+    requires { ⌜ executedSizeOf timed ≤ length (now s) ⌝ }
+    ensures { λ r. ⌜ r ≡ executedAt timed (now (s .entry)) ⌝ }
 {
     let command = Command {
         client: format_numbers::read_u32(s, constants::EXECUTED_CLIENT),
@@ -52,11 +53,13 @@ fn executed_at(s: &[u8]) -> Executed
         outcome: s[constants::EXECUTED_OUTCOME],
         value: format_numbers::read_signed(s, constants::EXECUTED_VALUE),
         quality: s[constants::EXECUTED_QUALITY],
+        time: format_numbers::time_at(s, timed, constants::EXECUTED_TIME),
     };
     Executed {
         command,
         done: format_numbers::read_u32(s, constants::EXECUTED_DONE),
         result,
+        timed,
     }
 }
 
@@ -114,11 +117,11 @@ fn checked(ok: bool, found: Record) -> Record
     if ok { found } else { Record::Broken }
 }
 
-fn executed_from(s: &[u8]) -> Record
-    requires { ⌜ executedSize ≤ length (now s) ⌝ }
-    ensures { λ r. ⌜ r ≡ executedFrom (now (s .entry)) ⌝ }
+fn executed_from(s: &[u8], timed: bool) -> Record
+    requires { ⌜ executedSizeOf timed ≤ length (now s) ⌝ }
+    ensures { λ r. ⌜ r ≡ executedFrom timed (now (s .entry)) ⌝ }
 {
-    let executed = executed_at(s);
+    let executed = executed_at(s, timed);
     checked(
         format_numbers::zeros3_at(s, constants::EXECUTED_ZEROS) & executed_ok(executed),
         Record::Executed(executed),
@@ -182,12 +185,13 @@ fn record_from(s: &[u8], at: usize, n: usize) -> Record
     ensures { λ r. ⌜ r ≡ recordFrom (now (s .entry)) at n ⌝ }
 {
     match s[0] {
-        constants::EXECUTED_KIND => executed_from(s),
+        constants::FIRST_EXECUTED_KIND => executed_from(s, false),
         constants::GONE_KIND => gone_from(s),
         constants::GIVE_KIND => give_from(s),
         constants::TAKE_KIND => take_from(s, at, n),
         constants::RELEASE_KIND => release_from(s),
-        0 | 6..=255 => Record::Broken,
+        constants::EXECUTED_KIND => executed_from(s, true),
+        0 | 7..=255 => Record::Broken,
     }
 }
 

@@ -1,5 +1,5 @@
 -- Laws of the writers.
---     ok-most                       a well-formed image has at most 10,544 bytes
+--     ok-most                       a well-formed image has at most 12,592 bytes
 --     took-bytes, took-back         the bytes of a take record of a well-formed image; its image copied behind its 8 bytes
 -- Assumes nothing.
 use Prim.Native.Nat.{ℕ, _+_, _-_, _≤_}
@@ -9,7 +9,6 @@ use mathlib.Core.List.{List, _++_}
 use mathlib.Core.Option.{some}
 use borrow.Rule.Slice.PartMut.{putMid, midOf}
 use lib.ListN.{length}
-use borrow.Author.Tests.{leb-true}
 use Rattle.model.specs.Limits.{takeHead, greatestImage}
 use Rattle.model.specs.Tables.{written}
 use Rattle.model.specs.Images.{Image, imageHeadOf, imageAt, imageOk, parseImage, imageLength}
@@ -17,11 +16,11 @@ use Rattle.model.specs.Logs.{took, takeBytes, recordBytes}
 use Rattle.model_laws.specs.Bytes.{Bytes}
 use Rattle.model_laws.specs.Fits.{IsImage}
 use Rattle.model_laws.proofs.Written.{written-append, tail-back}
-use Rattle.model_laws.proofs.Images.{tested, image-is, image-length}
+use Rattle.model_laws.proofs.Images.{tested, tested-most, image-is, image-length}
 use Rattle.format_log_writer.specs.Fronts.{takeFront}
 
 pub ok-most : (b : List ℕ) → imageOk b ≡ true → length b ≤ greatestImage
-ok-most b ok = leb-true (length b) greatestImage (tested b ok .most)
+ok-most b ok = tested-most b (tested b ok)
 
 pub took-bytes : (b : List ℕ) → Bytes b → imageOk b ≡ true → recordBytes (took (imageAt (imageHeadOf b) b)) ≡ takeFront (length b) ++ b
 unfolding recordBytes takeBytes takeFront

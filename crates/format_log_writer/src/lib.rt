@@ -25,8 +25,9 @@ pub fn write_head(log: &mut [u8], server: u8)
     format_numbers::write_4(log, constants::HEAD_SERVER, server, 0, 0, 0);
 }
 
+// In the form with a time, the only one that is written.
 fn write_executed(out: &mut [u8], executed: Executed)
-    requires { ⌜ executedSize ≤ length (now out) ⌝ }
+    requires { ⌜ (executed .timed ≡ true) × (executedSize ≤ length (now out)) ⌝ }
     ensures { λ r. ⌜ now (out .exit) ≡ written (now (out .entry)) 0 (executedBytes executed) ⌝ }
 {
     format_numbers::write_4(
@@ -50,6 +51,7 @@ fn write_executed(out: &mut [u8], executed: Executed)
         0,
         0,
     );
+    format_numbers::write_u32(out, constants::EXECUTED_TIME, executed.result.time);
 }
 
 fn write_give(out: &mut [u8], g: Give)
@@ -80,7 +82,7 @@ fn write_take_front(out: &mut [u8], size: u32)
 // ---- appending: a record's writer is lent the log from its length on
 
 pub fn append_executed(log: &mut [u8], at: usize, execution: Executed)
-    requires { ⌜ at + executedSize ≤ length (now log) ⌝ }
+    requires { ⌜ (execution .timed ≡ true) × (at + executedSize ≤ length (now log)) ⌝ }
     ensures { λ r. ⌜ now (log .exit) ≡ written (now (log .entry)) at (recordBytes (executed execution)) ⌝ }
 {
     write_executed(&mut log[at..], execution);

@@ -16,6 +16,7 @@ use model::constants::SET_OP;
 use model::constants::STEP_OP;
 use model::constants::WORD;
 ghost use mathlib.Core.Path.{_≡_};
+ghost use mathlib.Core.Bool.{true};
 ghost use Prim.Native.Nat.{_+_, _*_, _≤_, _<_, max};
 ghost use lib.ListN.{length};
 ghost use Rattle.model.specs.Numbers.{join32, word, le32At, le32, le64At, le64, signedAt, signed32, flip, zeroAt, zeros3At, quad, startsWith, byteAt};
@@ -23,7 +24,7 @@ ghost use Rattle.model.specs.Tables.{written};
 ghost use Rattle.model.specs.Plan.{inRange};
 ghost use Rattle.model_laws.specs.Bytes.{part};
 ghost use Rattle.model.specs.Rules.{inArguments, argumentOk};
-ghost use Rattle.model.specs.Packets.{idOk, doneOk, commandOk, outcomeOk};
+ghost use Rattle.model.specs.Packets.{idOk, doneOk, commandOk, outcomeOk, timeAt};
 
 // ---- numbers
 
@@ -55,6 +56,14 @@ pub fn read_u64(s: &[u8], at: usize) -> u64
     ensures { λ r. ⌜ r ≡ le64At (now (s .entry)) at ⌝ }
 {
     join_words(read_u32(s, at), read_u32(s, at + 4))
+}
+
+// The time in the 4 bytes from at, in the form that has one; 0 in the other.
+pub fn time_at(s: &[u8], timed: bool, at: usize) -> u32
+    requires { ⌜ (timed ≡ true → at + 4 ≤ length (now s)) ⌝ }
+    ensures { λ r. ⌜ r ≡ timeAt timed (now (s .entry)) at ⌝ }
+{
+    if timed { read_u32(s, at) } else { 0 }
 }
 
 // Stores 4 bytes from at.

@@ -1,10 +1,10 @@
-// The parsers of the six packets: one of each kind, whose caller has read the kind, and one of any.
+// The parsers of the packets: one of each kind, whose caller has read the kind, and one of any.
 use model::Packet;
 use model::constants;
 ghost use mathlib.Core.Path.{_≡_};
 ghost use Rattle.model.specs.Choice.{pick};
 ghost use Rattle.model.specs.declared.Packet.the-variants.{Malformed};
-ghost use Rattle.model.specs.Packets.{parseRequest, parseResult, parseRefusal, parseReceipt, parseNotice, parseGrant, parsePacket};
+ghost use Rattle.model.specs.Packets.{packetLength, resultKindOf, parseRequest, parseResult, parseRefusal, parseReceipt, parseNotice, parseGrant, parsePacket};
 
 // What was found, if its zero bytes and fields are as they should be.
 fn checked(ok: bool, found: Packet) -> Packet
@@ -26,13 +26,25 @@ fn parse_request(packet: &[u8]) -> Packet
     )
 }
 
-pub fn parse_result(packet: &[u8]) -> Packet
-    ensures { λ r. ⌜ r ≡ parseResult (now (packet .entry)) ⌝ }
+// The length of a result by its form.
+fn result_length(timed: bool) -> usize
+    ensures { λ r. ⌜ r ≡ packetLength (resultKindOf timed) ⌝ }
 {
-    if packet.len() != constants::PACKET_LENGTHS[2] {
+    if timed {
+        constants::PACKET_LENGTHS[7]
+    } else {
+        constants::PACKET_LENGTHS[2]
+    }
+}
+
+// By its form: with a time, or without one.
+pub fn parse_result(packet: &[u8], timed: bool) -> Packet
+    ensures { λ r. ⌜ r ≡ parseResult timed (now (packet .entry)) ⌝ }
+{
+    if packet.len() != result_length(timed) {
         return Packet::Malformed;
     }
-    let completed = format_fields::result_at(packet);
+    let completed = format_fields::result_at(packet, timed);
     checked(
         format_fields::result_ok(completed),
         Packet::Resulted(completed),
@@ -103,11 +115,12 @@ pub fn parse_packet(packet: &[u8]) -> Packet
     }
     match packet[0] {
         constants::REQUEST_KIND => parse_request(packet),
-        constants::RESULT_KIND => parse_result(packet),
+        constants::FIRST_RESULT_KIND => parse_result(packet, false),
         constants::REFUSAL_KIND => parse_refusal(packet),
         constants::RECEIPT_KIND => parse_receipt(packet),
         constants::NOTICE_KIND => parse_notice(packet),
         constants::GRANT_KIND => parse_grant(packet),
-        0 | 7..=255 => Packet::Malformed,
+        constants::RESULT_KIND => parse_result(packet, true),
+        0 | 8..=255 => Packet::Malformed,
     }
 }

@@ -1,4 +1,4 @@
-// The six packets as they are written, into the front of a lent slice and by value. Bytes past a packet are kept.
+// The packets as they are written, into the front of a lent slice and by value. Bytes past a packet are kept.
 use model::Grant;
 use model::Notice;
 use model::Receipt;
@@ -7,6 +7,7 @@ use model::Request;
 use model::ResultPacket;
 use model::constants;
 ghost use mathlib.Core.Path.{_≡_};
+ghost use mathlib.Core.Bool.{true};
 ghost use Prim.Native.Nat.{_≤_};
 ghost use lib.ListN.{length};
 ghost use Rattle.model.specs.Tables.{written};
@@ -34,8 +35,9 @@ fn write_request(out: &mut [u8], q: Request)
     format_numbers::write_signed(out, constants::REQUEST_ARGUMENT, q.command.argument);
 }
 
+// In the form with a time, the only one that is written.
 pub fn write_result(out: &mut [u8], packet: ResultPacket)
-    requires { ⌜ resultSize ≤ length (now out) ⌝ }
+    requires { ⌜ (resultSize ≤ length (now out)) × (packet .timed ≡ true) ⌝ }
     ensures { λ r. ⌜ now (out .exit) ≡ written (now (out .entry)) 0 (resultBytes packet) ⌝ }
 {
     format_numbers::write_4(
@@ -49,6 +51,7 @@ pub fn write_result(out: &mut [u8], packet: ResultPacket)
     format_numbers::write_u32(out, constants::RESULT_CLIENT, packet.client);
     format_numbers::write_u32(out, constants::RESULT_CALL, packet.call);
     format_numbers::write_signed(out, constants::RESULT_VALUE, packet.result.value);
+    format_numbers::write_u32(out, constants::RESULT_TIME, packet.result.time);
 }
 
 pub fn write_refusal(out: &mut [u8], packet: RefusalPacket)

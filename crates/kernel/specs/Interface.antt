@@ -5,9 +5,9 @@ use mathlib.Core.List.{List}
 use Rattle.model.specs.Operations.{After, wordOf}
 use Rattle.model.specs.Checkpoints.{AfterCheckpoint}
 
--- the interface's version, major × 65,536 + minor: 1.5
+-- the interface's version, major × 65,536 + minor: 1.6
 abbrev pub version : ℕ
-version = 65541
+version = 65542
 
 pub record Returned : Type 0 where
   pub answer : ℕ

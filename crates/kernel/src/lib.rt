@@ -13,7 +13,7 @@ ghost use Rattle.model.specs.Checkpoints.{checkpointOf, recoverTailOf, inspectO
 ghost use Rattle.kernel.specs.Interface.{version, returned, inC, checkpointReturned, checkpointInC};
 
 // The interface's version, major * 65,536 + minor.
-const VERSION: u32 = 65541;
+const VERSION: u32 = 65542;
 
 #[no_mangle]
 pub extern "C" fn mantelorris_version() -> u32
@@ -66,7 +66,7 @@ pub extern "C" fn mantelorris_fetch(
     out: &mut [u8],
 ) -> u64
     ensures { λ r. ⌜ returned r (now (state .entry)) (now (log .entry)) (now (out .exit))
-        ≡ inC (fetchOf (now (state .entry)) (now (log .entry)) client call (now (out .entry))) ⌝ }
+        ≡ inC (fetchOf today (now (state .entry)) (now (log .entry)) client call (now (out .entry))) ⌝ }
 {
     word_of(server_service::fetch::fetch(state, log, client, call, out))
 }
@@ -107,7 +107,7 @@ pub extern "C" fn mantelorris_give(
 #[no_mangle]
 pub extern "C" fn mantelorris_image(state: &[u8], log: &[u8], point: u32, out: &mut [u8]) -> u64
     ensures { λ r. ⌜ returned r (now (state .entry)) (now (log .entry)) (now (out .exit))
-        ≡ inC (imageOf (now (state .entry)) (now (log .entry)) point (now (out .entry))) ⌝ }
+        ≡ inC (imageOf today (now (state .entry)) (now (log .entry)) point (now (out .entry))) ⌝ }
 {
     word_of(server_moves::image::image(state, log, point, out))
 }
@@ -171,7 +171,7 @@ pub extern "C" fn mantelorris_checkpoint(
 ) -> u64
     ensures { λ r. ⌜ checkpointReturned r (now (state .exit)) (now (log .entry))
         (now (checkpoint .exit)) (now (tail .exit))
-        ≡ checkpointInC (checkpointOf (now (state .entry)) (now (log .entry))
+        ≡ checkpointInC (checkpointOf today (now (state .entry)) (now (log .entry))
         (now (checkpoint .entry)) (now (tail .entry))) ⌝ }
 {
     word_of(server_checkpoint::checkpoint(state, log, checkpoint, tail))

@@ -1,7 +1,8 @@
 -- Checkpoint and tail. A checkpoint is a server's state without places of its log; the tail is the log that follows it.
---     0 57 4C 47 32    4 server number, three zeros    8 heard time
+--     0 57 4C 47 33    4 server number, three zeros    8 heard time
 --     12 four pairs of offset and length: plan, points, clients, completion records
---     44 plan, 64 × 16    1068 points, 64 × 16    2092 clients, 8 bytes each    then completion records, 20 bytes each, in the state's order
+--     44 plan, 64 × 16    1068 points, 64 × 16    2092 clients, 8 bytes each    then completion records, 24 bytes each, in the state's order
+-- In the first form it opens with 57 4C 47 32, and a completion record has 20 bytes: no time of execution.
 -- A row of a point or of a completion record is the front of the state's row; left out are the ends of log records, which close that row.
 -- Assumes nothing.
 use Prim.Native.Nat.{ℕ, _+_, _-_, _*_, _/_}
@@ -18,14 +19,15 @@ use Rattle.model.specs.declared.ImageEntry.{ImageEntry}
 use Rattle.model.specs.Choice.{pick, orElse, _if_else_, passed, isPassed}
 use Rattle.model.specs.Numbers.{le32At, le32, le64, quad, startsWith}
 use Rattle.model.specs.Refusals.{tooShort, notSynced, badLog, unknown, unsound, noRefusal}
-use Rattle.model.specs.Limits.{stateSize, headSize, planSize, pointCount, clientCount, recordCount, floorRow, executedSize, takeHead}
-use Rattle.model.specs.Limits.{checkpointSize, checkpointPairs, checkpointHead, checkpointPoint, checkpointRecord}
+use Rattle.model.specs.Limits.{stateSize, headSize, planSize, pointCount, clientCount, recordCount, floorRow, takeHead}
+use Rattle.model.specs.Limits.{checkpointSize, checkpointPairs, checkpointHead, checkpointPoint, firstCheckpointRecord, checkpointRecord}
 use Rattle.model.specs.Tables.{rows, bytesOf, indexOf, written}
 use Rattle.model.specs.Plan.{planBytes}
 use Rattle.model.specs.Images.{floorBytes, entryWidth, entriesStart, imageHead}
-use Rattle.model.specs.Logs.{LogRecord, executed, gone, gave, took, released, headBytes, headServer, recordAt, endsOf}
+use Rattle.model.specs.Logs.{LogRecord, executed, gone, gave, took, released, headBytes, headServer, executedSizeOf, recordAt, endsOf}
 use Rattle.model.specs.States.{State, given, stateMagic, recordRow, statusIn, takenMoveIn, pointBytes, completionBytes, padded, load, sound, isId}
-use Rattle.model.specs.Decisions.{find, isNone}
+use Rattle.model.specs.Versions.{Versions}
+use Rattle.model.specs.Decisions.{find, isNone, timedBy}
 use Rattle.model.specs.Operations.{After, answerOf, short, unfit, stored, leftUnless, settleRecovered, recoveredOn}
 
 -- ---- places of the log
@@ -71,8 +73,18 @@ rebased st = placed endBefore st
 
 -- ---- layout
 
+abbrev pub firstCheckpointMagic : List ℕ
+firstCheckpointMagic = quad 87 76 71 50
+
 abbrev pub checkpointMagic : List ℕ
-checkpointMagic = quad 87 76 71 50
+checkpointMagic = quad 87 76 71 51
+
+-- by form: the four bytes that open it, the bytes of a completion record
+unfoldable pub checkpointMagicOf : Bool → List ℕ
+checkpointMagicOf timed = pick timed checkpointMagic firstCheckpointMagic
+
+unfoldable pub checkpointRecordOf : Bool → ℕ
+checkpointRecordOf timed = pick timed checkpointRecord firstCheckpointRecord
 
 -- where the parts start; the records after n clients
 abbrev pub planPart : ℕ
@@ -103,20 +115,20 @@ pointFront x = take checkpointPoint (pointBytes x)
 unfoldable pub recordFront : ℕ → Completion → List ℕ
 recordFront w r = take w (completionBytes r)
 
-unfoldable pub checkpointBytes : State → List ℕ
-checkpointBytes st =
-    checkpointMagic
+unfoldable pub checkpointBytes : Bool → State → List ℕ
+checkpointBytes timed st =
+    checkpointMagicOf timed
     ++ (quad (st .server) 0 0 0
     ++ (le32 (st .heard)
-    ++ (pairsBytes checkpointRecord (length (st .floors)) (length (st .records))
+    ++ (pairsBytes (checkpointRecordOf timed) (length (st .floors)) (length (st .records))
     ++ (planBytes (st .plan)
-    ++ (bytesOf pointFront (st .points) ++ (bytesOf floorBytes (st .floors) ++ bytesOf (recordFront checkpointRecord) (st .records)))))))
+    ++ (bytesOf pointFront (st .points) ++ (bytesOf floorBytes (st .floors) ++ bytesOf (recordFront (checkpointRecordOf timed)) (st .records)))))))
 
 -- ---- reading: the bytes of the state that a checkpoint keeps, which then has to be sound by the state's own rule
 
--- the bytes of a completion record in the checkpoint s, by its form: there is one
+-- the bytes of a completion record in the checkpoint s, by its form
 unfoldable pub recordWidth : List ℕ → ℕ
-recordWidth s = checkpointRecord
+recordWidth s = checkpointRecordOf (startsWith s checkpointMagic)
 
 -- numbers of clients and of completion records, by the lengths of their parts
 abbrev pub clientsSizeIn : List ℕ → ℕ
@@ -163,11 +175,11 @@ restoredBytes s =
 unfoldable pub restored : List ℕ → List ℕ
 restored s = restoredBytes s ++ replicate (recordRow * (recordCount - recordsOf s)) 0
 
--- 57 4C 47 32, and the pairs: without gaps from byte 44, all within the slice. Bytes past the last part are not read
+-- 57 4C 47 33 or 32, and the pairs: without gaps from byte 44, all within the slice. Bytes past the last part are not read
 unfoldable pub checkpointFramed : List ℕ → Bool
 checkpointFramed s =
     leb checkpointHead (length s)
-    && (startsWith s checkpointMagic
+    && ((startsWith s checkpointMagic || startsWith s firstCheckpointMagic)
     && (eqb (le32At s checkpointPairs) planPart
     && (eqb (le32At s 16) planSize
     && (eqb (le32At s 20) pointsPart
@@ -201,16 +213,17 @@ checkpointRefusal state log checkpoints tails =
     else notSynced if ltb (load state .mark) (load state .size)
     else passed
 
-unfoldable pub checkpointOf : List ℕ → List ℕ → List ℕ → List ℕ → AfterCheckpoint
-checkpointOf state log checkpoint tail =
+-- by a program that writes by v
+unfoldable pub checkpointOf : Versions → List ℕ → List ℕ → List ℕ → List ℕ → AfterCheckpoint
+checkpointOf v state log checkpoint tail =
     let n = checkpointRefusal state log (length checkpoint) (length tail) in
     let st = load state in
     pick (isPassed n)
     (record {
-      answer = answerOf noRefusal (length (checkpointBytes st));
+      answer = answerOf noRefusal (length (checkpointBytes (timedBy v st) st));
       state = stored state (rebased st);
       log = log;
-      checkpoint = written checkpoint 0 (checkpointBytes st);
+      checkpoint = written checkpoint 0 (checkpointBytes (timedBy v st) st);
       tail = written tail 0 (headBytes (st .server));
     })
     (record { answer = answerOf n 0; state = state; log = log; checkpoint = checkpoint; tail = tail })
@@ -262,7 +275,7 @@ isEntryId x c e = eqb (e .client) x && eqb (e .call) c
 unfoldable pub latestOf : ℕ → ℕ → ℕ → Option LogRecord → Place → Place
 latestOf x c k none found = found
 latestOf x c k (some (executed r)) found =
-    pick (eqb (r .command .client) x && eqb (r .command .call) c) (placeAt inRecord k executedSize) found
+    pick (eqb (r .command .client) x && eqb (r .command .call) c) (placeAt inRecord k (executedSizeOf (r .timed))) found
 latestOf x c k (some (took i)) found =
     placeAmong inImage (k + takeHead + entriesStart (length (i .floors))) (entryWidth (imageHead i)) (isEntryId x c) (i .entries) found
 latestOf x c k (some (gone n)) found = found

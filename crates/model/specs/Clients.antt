@@ -176,7 +176,7 @@ pub record Brought : Type 0 where
   pub lease : ℕ
 
 abbrev pub noResult : CommandResult
-noResult = record { outcome = 0; value = half; quality = 0 }
+noResult = record { outcome = 0; value = half; quality = 0; time = 0 }
 
 unfoldable pub brought : Received → Brought
 brought (NotReceived n) = record { kind = 0; call = 0; point = 0; result = noResult; refusal = noRefusal; lease = 0 }

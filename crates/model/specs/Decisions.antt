@@ -19,14 +19,14 @@ use Rattle.model.specs.declared.Completion.{Completion}
 use Rattle.model.specs.declared.Packet.{Packet}
 use Rattle.model.specs.Choice.{pick, orElse, Decision, refuse, deny, reply, append, marks, _if_else_, passed, isPassed, unlessRefused}
 use Rattle.model.specs.Refusals.{malformed, notHeld, leaseOver, underFloor, otherCommand, notSynced, clientsFull, logFull, badMark, wrongDestination, oldMove, alreadyHeld, numbersOut, unknown}
-use Rattle.model.specs.Limits.{lastPoint, lastServer, last32, clientCount, executedSize, goneSize, giveSize, takeHead, releaseSize}
+use Rattle.model.specs.Limits.{lastPoint, lastServer, last32, clientCount, goneSize, giveSize, takeHead, releaseSize}
 use Rattle.model.specs.Tables.{every, keep}
 use Rattle.model.specs.Plan.{entryAt, inRange}
 use Rattle.model.specs.Versions.{Versions}
 use Rattle.model.specs.Rules.{ruleOf}
 use Rattle.model.specs.Packets.{resultBytes, refusalBytes, receiptBytes, asRequest, asReceipt, asNotice}
 use Rattle.model.specs.Images.{Image, imageInRange, imageBytes, imageLength, idBefore, floorOf, notKnown}
-use Rattle.model.specs.Logs.{LogRecord, executed, gone, gave, took, released}
+use Rattle.model.specs.Logs.{LogRecord, executed, gone, gave, took, released, executedSizeOf}
 use Rattle.model.specs.States.{State, pointAt, isHeld, isGiven, isSynced, isId}
 use Rattle.model.specs.Apply.{mergeFloors}
 
@@ -52,10 +52,15 @@ requestRefusal x over floor call =
     else underFloor if ltb call floor
     else passed
 
--- the result packet of a completion record
-unfoldable pub resultOfRecord : Completion → ResultPacket
-resultOfRecord r =
-    record { client = r .command .client; call = r .command .call; point = r .command .point; result = r .result }
+-- a program that writes no times has none to write: then packets, images and checkpoints have their first form. No time is lost by a program
+-- from before, whatever state it is run on
+unfoldable pub timedBy : Versions → State → Bool
+timedBy v st = v .timed || not (every (λ r. eqb (r .result .time) 0) (st .records))
+
+-- the result packet of a completion record, by form
+unfoldable pub resultOfRecord : Bool → Completion → ResultPacket
+resultOfRecord timed r =
+    record { client = r .command .client; call = r .command .call; point = r .command .point; result = r .result; timed = timed }
 
 unfoldable pub sameCommand : Completion → Request → Bool
 sameCommand r q =
@@ -70,8 +75,8 @@ heldRefusal mark q r =
     else notSynced if not (isSynced mark (r .end))
     else passed
 
-unfoldable pub onHeld : State → Request → Completion → Decided
-onHeld st q r = unlessRefused (heldRefusal (st .mark) q r) (reply (resultBytes (resultOfRecord r)))
+unfoldable pub onHeld : Versions → State → Request → Completion → Decided
+onHeld v st q r = unlessRefused (heldRefusal (st .mark) q r) (reply (resultBytes (resultOfRecord (timedBy v st) r)))
 
 -- what the command does to its point, by v's version of its op's rule
 unfoldable pub resultFor : Versions → State → Request → CommandResult
@@ -80,23 +85,32 @@ resultFor v st q =
     let x = pointAt st (c .point) in
     ruleOf (v .rule (c .op)) (entryAt (st .plan) (c .point)) (c .op) (c .argument) (record { value = x .value; quality = x .quality })
 
-unfoldable pub executedFor : Versions → State → Request → Executed
-executedFor v st q = record { command = q .command; done = q .done; result = resultFor v st q }
+-- the time of execution: the heard time, 0 of a program that writes none
+unfoldable pub timeFor : Versions → State → ℕ
+timeFor v st = pick (v .timed) (st .heard) 0
 
--- an id that is not held: 8 a new client without a place; 9 no space for the record; else the command is executed
-unfoldable pub newRefusal : ℕ → ℕ → ℕ → ℕ
-newRefusal floor clients free =
+unfoldable pub withTime : ℕ → CommandResult → CommandResult
+withTime t r = record { outcome = r .outcome; value = r .value; quality = r .quality; time = t }
+
+unfoldable pub executedFor : Versions → State → Request → Executed
+executedFor v st q =
+    record { command = q .command; done = q .done; result = withTime (timeFor v st) (resultFor v st q); timed = v .timed }
+
+-- an id that is not held: 8 a new client without a place; 9 no space for the record, of `need` bytes; else the command is executed
+unfoldable pub newRefusal : ℕ → ℕ → ℕ → ℕ → ℕ
+newRefusal floor clients free need =
     clientsFull if (notKnown floor && leb clientCount clients)
-    else logFull if ltb free executedSize
+    else logFull if ltb free need
     else passed
 
 unfoldable pub onNew : Versions → State → ℕ → Request → Decided
 onNew v st free q =
-    unlessRefused (newRefusal (floorOf (q .command .client) (st .floors)) (length (st .floors)) free) (append (executed (executedFor v st q)))
+    unlessRefused (newRefusal (floorOf (q .command .client) (st .floors)) (length (st .floors)) free (executedSizeOf (v .timed)))
+    (append (executed (executedFor v st q)))
 
 unfoldable pub onId : Versions → State → ℕ → Request → Option Completion → Decided
 onId v st free q none = onNew v st free q
-onId v st free q (some r) = onHeld st q r
+onId v st free q (some r) = onHeld v st q r
 
 unfoldable pub decideRequest : Versions → State → ℕ → Request → Decided
 decideRequest v st free q =
@@ -122,12 +136,12 @@ onRequest v st free p = orMalformed (asRequest p) (λ q. denying q (decideReques
 unfoldable pub fetchRefusal : ℕ → Completion → ℕ
 fetchRefusal mark r = notSynced if not (isSynced mark (r .end)) else passed
 
-unfoldable pub onFetched : State → Option Completion → Decided
-onFetched st none = refuse unknown
-onFetched st (some r) = unlessRefused (fetchRefusal (st .mark) r) (reply (resultBytes (resultOfRecord r)))
+unfoldable pub onFetched : Versions → State → Option Completion → Decided
+onFetched v st none = refuse unknown
+onFetched v st (some r) = unlessRefused (fetchRefusal (st .mark) r) (reply (resultBytes (resultOfRecord (timedBy v st) r)))
 
-unfoldable pub onFetch : State → ℕ → ℕ → Decided
-onFetch st x c = onFetched st (find x c (st .records))
+unfoldable pub onFetch : Versions → State → ℕ → ℕ → Decided
+onFetch v st x c = onFetched v st (find x c (st .records))
 
 -- ---- Sync, to a mark: 10 if it falls, or passes the log's length
 
@@ -189,8 +203,8 @@ sortEntries [] = []
 sortEntries (e ∷ es) = insertEntry e (sortEntries es)
 
 -- all clients of the giver; completion records of the point
-unfoldable pub imageFor : State → ℕ → Image
-imageFor st p =
+unfoldable pub imageFor : Versions → State → ℕ → Image
+imageFor v st p =
     let x = pointAt st p in
     record {
       point = p;
@@ -202,6 +216,7 @@ imageFor st p =
       quality = x .quality;
       floors = st .floors;
       entries = sortEntries (map entryOfRecord (keep (isOnPoint p) (st .records)));
+      timed = timedBy v st;
     }
 
 unfoldable pub imageRefusal : Point → ℕ → ℕ
@@ -210,9 +225,9 @@ imageRefusal x mark =
     else notSynced if not (isSynced mark (x .giveEnd))
     else passed
 
-unfoldable pub onImage : State → ℕ → Decided
-onImage st p =
-    unlessRefused (malformed if ltb lastPoint p else imageRefusal (pointAt st p) (st .mark)) (reply (imageBytes (imageFor st p)))
+unfoldable pub onImage : Versions → State → ℕ → Decided
+onImage v st p =
+    unlessRefused (malformed if ltb lastPoint p else imageRefusal (pointAt st p) (st .mark)) (reply (imageBytes (imageFor v st p)))
 
 -- ---- Take: 1 malformed, or a value out of range; 11 for another server; 12 no later move; 13 held here, or an id that is here for another
 -- point; 8 too many clients once the floors are merged; 9 no space
@@ -288,7 +303,7 @@ follows st (executed x) =
     let c = x .command in
     isPassed (requestRefusal (pointAt st (c .point)) false (floorOf (c .client) (st .floors)) (c .call))
     && (isNone (find (c .client) (c .call) (st .records))
-    && (isPassed (newRefusal (floorOf (c .client) (st .floors)) (length (st .floors)) executedSize)
+    && (isPassed (newRefusal (floorOf (c .client) (st .floors)) (length (st .floors)) (executedSizeOf (x .timed)) (executedSizeOf (x .timed)))
     && inRange (entryAt (st .plan) (c .point)) (x .result .value)))
 follows st (gone n) = isPassed (noticeRefusal (floorOf (n .client) (st .floors)) goneSize)
 follows st (gave g) =

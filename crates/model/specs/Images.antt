@@ -1,7 +1,8 @@
 -- The image of a point on its way to another server.
---     0 4D 56 49 31    4 point, destination, source, 0    8 move    12 heard time
+--     0 4D 56 49 32    4 point, destination, source, 0    8 move    12 heard time
 --     16 three pairs of offset and length: the point's part, the floors, the completion records
---     40 value, quality, three zeros    48 floors, 8 bytes each    then completion records, 20 bytes each
+--     40 value, quality, three zeros    48 floors, 8 bytes each    then completion records, 24 bytes each
+-- In the first form it opens with 4D 56 49 31, and a completion record has 20 bytes: no time of execution.
 -- Assumes nothing.
 use Prim.Native.Nat.{ℕ, _+_, _*_, _/_}
 use mathlib.Core.Bool.{Bool, true, _&&_, _||_}
@@ -17,8 +18,8 @@ use Rattle.model.specs.Choice.{pick}
 use Rattle.model.specs.Numbers.{byteAt, le32At, le32, signedAt, signed32, zeroAt, zeros3At, quad, startsWith}
 use Rattle.model.specs.Tables.{rows, everyRow, bytesOf, every}
 use Rattle.model.specs.Plan.{inRange}
-use Rattle.model.specs.Packets.{idOk, commandOk, outcomeOk}
-use Rattle.model.specs.Limits.{lastPoint, lastServer, lastQuality, lastInWindow, clientCount, greatestImage, leastImage, imagePairs, partsStart, pointPart, floorRow, entryRow}
+use Rattle.model.specs.Packets.{idOk, commandOk, outcomeOk, timeAt, timeBytes}
+use Rattle.model.specs.Limits.{lastPoint, lastServer, lastQuality, lastInWindow, clientCount, firstGreatestImage, greatestImage, leastImage, imagePairs, partsStart, pointPart, floorRow, firstEntryRow, entryRow}
 
 pub record Image : Type 0 where
   pub point : ℕ
@@ -30,10 +31,18 @@ pub record Image : Type 0 where
   pub quality : ℕ
   pub floors : List Floor
   pub entries : List ImageEntry
+  pub timed : Bool
 
 -- the four bytes that open an image
+abbrev pub firstImageMagic : List ℕ
+firstImageMagic = quad 77 86 73 49
+
 abbrev pub imageMagic : List ℕ
-imageMagic = quad 77 86 73 49
+imageMagic = quad 77 86 73 50
+
+-- by form
+unfoldable pub imageMagicOf : Bool → List ℕ
+imageMagicOf timed = pick timed imageMagic firstImageMagic
 
 -- ---- rows
 
@@ -43,21 +52,23 @@ floorOfBytes s = record { client = le32At s 0; floor = le32At s 4 }
 unfoldable pub floorBytes : Floor → List ℕ
 floorBytes f = le32 (f .client) ++ le32 (f .floor)
 
--- client, call, argument, value, op, outcome, quality, 0
-unfoldable pub imageEntryOf : List ℕ → ImageEntry
-imageEntryOf s =
+-- client, call, argument, value, op, outcome, quality, 0; then the time
+unfoldable pub imageEntryOf : Bool → List ℕ → ImageEntry
+imageEntryOf timed s =
     record {
       client = le32At s 0;
       call = le32At s 4;
       op = byteAt s 16;
       argument = signedAt s 8;
-      result = record { outcome = byteAt s 17; value = signedAt s 12; quality = byteAt s 18 };
+      result = record { outcome = byteAt s 17; value = signedAt s 12; quality = byteAt s 18; time = timeAt timed s 20 };
     }
 
-unfoldable pub imageEntryBytes : ImageEntry → List ℕ
-imageEntryBytes e =
+unfoldable pub imageEntryBytes : Bool → ImageEntry → List ℕ
+imageEntryBytes timed e =
     let r = e .result in
-    le32 (e .client) ++ (le32 (e .call) ++ (signed32 (e .argument) ++ (signed32 (r .value) ++ quad (e .op) (r .outcome) (r .quality) 0)))
+    le32 (e .client)
+    ++ (le32 (e .call)
+    ++ (signed32 (e .argument) ++ (signed32 (r .value) ++ (quad (e .op) (r .outcome) (r .quality) 0 ++ timeBytes timed (r .time)))))
 
 -- the floor of a client among floors, 0 where it has none (floors are ≥ 1)
 unfoldable pub floorOf : ℕ → List Floor → ℕ
@@ -97,9 +108,17 @@ imageEntryOk p fs e =
 
 -- ---- the head, and the places by it
 
--- bytes of a completion record in an image with this head
+-- bytes of a completion record, by form
+unfoldable pub entryRowOf : Bool → ℕ
+entryRowOf timed = pick timed entryRow firstEntryRow
+
+-- in an image with this head
 unfoldable pub entryWidth : ImageHead → ℕ
-entryWidth h = entryRow
+entryWidth h = entryRowOf (h .timed)
+
+-- the greatest length, by form: that of 32 floors and 512 completion records
+unfoldable pub greatestOf : Bool → ℕ
+greatestOf timed = pick timed greatestImage firstGreatestImage
 
 -- where the completion records start, behind n floors
 abbrev pub entriesStart : ℕ → ℕ
@@ -126,6 +145,7 @@ imageHead i =
       quality = i .quality;
       floors = length (i .floors);
       entries = length (i .entries);
+      timed = i .timed;
     }
 
 unfoldable pub imageLength : Image → ℕ
@@ -152,7 +172,8 @@ imageHeadOf s =
       value = signedAt s 40;
       quality = byteAt s 44;
       floors = floorsSizeIn s / floorRow;
-      entries = entriesSizeIn s / entryRow;
+      entries = entriesSizeIn s / entryRowOf (startsWith s imageMagic);
+      timed = startsWith s imageMagic;
     }
 
 -- the image of a head and its tables, read from the bytes behind it
@@ -167,14 +188,15 @@ imageAt h s =
       value = h .value;
       quality = h .quality;
       floors = rows floorOfBytes floorRow (h .floors) (drop leastImage s);
-      entries = rows imageEntryOf (entryWidth h) (h .entries) (drop (entriesStart (h .floors)) s);
+      entries = rows (imageEntryOf (h .timed)) (entryWidth h) (h .entries) (drop (entriesStart (h .floors)) s);
+      timed = h .timed;
     }
 
--- 4D 56 49 31, and the zero bytes
+-- 4D 56 49 32 or 31, and the zero bytes
 unfoldable pub imageFramed : List ℕ → Bool
-imageFramed s = startsWith s imageMagic && (zeroAt s 7 && zeros3At s 45)
+imageFramed s = (startsWith s imageMagic || startsWith s firstImageMagic) && (zeroAt s 7 && zeros3At s 45)
 
--- three parts without gaps from byte 40 to the slice's end: 8 bytes, 8 a floor, 20 a record
+-- three parts without gaps from byte 40 to the slice's end: 8 bytes, 8 a floor, and the records by their form
 unfoldable pub imageParts : ImageHead → List ℕ → Bool
 imageParts h s =
     eqb (le32At s imagePairs) partsStart
@@ -203,7 +225,7 @@ imageTablesOk i =
 unfoldable pub imageOk : List ℕ → Bool
 imageOk s =
     leb leastImage (length s)
-    && (leb (length s) greatestImage
+    && (leb (length s) (greatestOf (startsWith s imageMagic))
     && (imageFramed s
     && (imageHeadOk (imageHeadOf s)
     && (imageParts (imageHeadOf s) s
@@ -222,7 +244,7 @@ imageInRange e i = inRange e (i .value) && every (entryInRange e) (i .entries)
 
 unfoldable pub imageHeadBytes : ImageHead → List ℕ
 imageHeadBytes h =
-    imageMagic
+    imageMagicOf (h .timed)
     ++ (quad (h .point) (h .destination) (h .source) 0
     ++ (le32 (h .moveNumber)
     ++ (le32 (h .heard)
@@ -233,4 +255,4 @@ imageHeadBytes h =
     ++ (le32 (entriesStart (h .floors)) ++ (le32 (entryWidth h * h .entries) ++ (signed32 (h .value) ++ quad (h .quality) 0 0 0))))))))))
 
 unfoldable pub imageBytes : Image → List ℕ
-imageBytes i = imageHeadBytes (imageHead i) ++ (bytesOf floorBytes (i .floors) ++ bytesOf imageEntryBytes (i .entries))
+imageBytes i = imageHeadBytes (imageHead i) ++ (bytesOf floorBytes (i .floors) ++ bytesOf (imageEntryBytes (i .timed)) (i .entries))

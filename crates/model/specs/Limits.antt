@@ -98,13 +98,14 @@ leaseCount = 32
 abbrev pub longestSpan : ℕ
 longestSpan = 86400
 
--- ---- packets: kinds, and bytes by kind; a result and a receipt are also what an output must hold
+-- ---- packets: kinds, and bytes by kind; a result and a receipt are also what an output must hold. A result has a second form, with a time; so
+-- have executed records, images and checkpoints: `first..` names what the first form has
 
 abbrev pub requestKind : ℕ
 requestKind = 1
 
-abbrev pub resultKind : ℕ
-resultKind = 2
+abbrev pub firstResultKind : ℕ
+firstResultKind = 2
 
 abbrev pub refusalKind : ℕ
 refusalKind = 3
@@ -118,11 +119,17 @@ noticeKind = 5
 abbrev pub grantKind : ℕ
 grantKind = 6
 
+abbrev pub resultKind : ℕ
+resultKind = 7
+
 abbrev pub requestSize : ℕ
 requestSize = 24
 
+abbrev pub firstResultSize : ℕ
+firstResultSize = 16
+
 abbrev pub resultSize : ℕ
-resultSize = 16
+resultSize = 20
 
 abbrev pub refusalSize : ℕ
 refusalSize = 12
@@ -154,8 +161,8 @@ pairSize = 8
 abbrev pub headSize : ℕ
 headSize = 8
 
-abbrev pub executedKind : ℕ
-executedKind = 1
+abbrev pub firstExecutedKind : ℕ
+firstExecutedKind = 1
 
 abbrev pub goneKind : ℕ
 goneKind = 2
@@ -169,8 +176,14 @@ takeKind = 4
 abbrev pub releaseKind : ℕ
 releaseKind = 5
 
+abbrev pub executedKind : ℕ
+executedKind = 6
+
+abbrev pub firstExecutedSize : ℕ
+firstExecutedSize = 28
+
 abbrev pub executedSize : ℕ
-executedSize = 28
+executedSize = 32
 
 abbrev pub goneSize : ℕ
 goneSize = 12
@@ -198,11 +211,17 @@ pointPart = 8
 abbrev pub floorRow : ℕ
 floorRow = 8
 
+abbrev pub firstEntryRow : ℕ
+firstEntryRow = 20
+
 abbrev pub entryRow : ℕ
-entryRow = 20
+entryRow = 24
 
 abbrev pub leastImage : ℕ
 leastImage = partsStart + pointPart
+
+abbrev pub firstGreatestImage : ℕ
+firstGreatestImage = leastImage + floorRow * clientCount + firstEntryRow * recordCount
 
 abbrev pub greatestImage : ℕ
 greatestImage = leastImage + floorRow * clientCount + entryRow * recordCount
@@ -230,5 +249,8 @@ checkpointHead = checkpointPairs + pairSize * 4
 abbrev pub checkpointPoint : ℕ
 checkpointPoint = 16
 
+abbrev pub firstCheckpointRecord : ℕ
+firstCheckpointRecord = 20
+
 abbrev pub checkpointRecord : ℕ
-checkpointRecord = 20
+checkpointRecord = 24

@@ -12,11 +12,11 @@ use Rattle.model.specs.declared.Give.{Give}
 use Rattle.model.specs.declared.Release.{Release}
 use Rattle.model.specs.Choice.{pick}
 use Rattle.model.specs.Numbers.{byteAt, le32At, le32, signedAt, signed32, zeroAt, zeros3At, quad, startsWith}
-use Rattle.model.specs.Packets.{idOk, doneOk, commandOk, outcomeOk, noticeAt, noticeOk, noticeBytes}
+use Rattle.model.specs.Packets.{idOk, doneOk, commandOk, outcomeOk, timeAt, timeBytes, noticeAt, noticeOk, noticeBytes}
 use Rattle.model.specs.Images.{Image, parseImage, imageBytes, imageLength}
 use Rattle.model.specs.Limits.{lastPoint, lastServer, leastImage, greatestImage, headSize}
-use Rattle.model.specs.Limits.{executedKind, goneKind, giveKind, takeKind, releaseKind}
-use Rattle.model.specs.Limits.{executedSize, goneSize, giveSize, takeHead, releaseSize}
+use Rattle.model.specs.Limits.{firstExecutedKind, goneKind, giveKind, takeKind, releaseKind, executedKind}
+use Rattle.model.specs.Limits.{firstExecutedSize, executedSize, goneSize, giveSize, takeHead, releaseSize}
 
 -- ---- head: 57 4C 47 31, server number, three zeros
 
@@ -43,14 +43,21 @@ pub data LogRecord : Type 0 where
   took : Image → LogRecord
   released : Release → LogRecord
 
--- 1 executed: kind, op, point, outcome; client; call; done; argument; value; then the quality, padded with zeros
-unfoldable pub executedAt : List ℕ → Executed
-executedAt s =
+-- 1, 6 executed: kind, op, point, outcome; client; call; done; argument; value; then the quality, padded with zeros; in 6 the time
+unfoldable pub executedKindOf : Bool → ℕ
+executedKindOf timed = pick timed executedKind firstExecutedKind
+
+unfoldable pub executedSizeOf : Bool → ℕ
+executedSizeOf timed = pick timed executedSize firstExecutedSize
+
+unfoldable pub executedAt : Bool → List ℕ → Executed
+executedAt timed s =
     record {
       command =
           record { client = le32At s 4; call = le32At s 8; op = byteAt s 1; point = byteAt s 2; argument = signedAt s 16 };
       done = le32At s 12;
-      result = record { outcome = byteAt s 3; value = signedAt s 20; quality = byteAt s 24 };
+      result = record { outcome = byteAt s 3; value = signedAt s 20; quality = byteAt s 24; time = timeAt timed s 28 };
+      timed = timed;
     }
 
 unfoldable pub executedOk : Executed → Bool
@@ -63,9 +70,11 @@ unfoldable pub executedBytes : Executed → List ℕ
 executedBytes x =
     let c = x .command in
     let r = x .result in
-    quad executedKind (c .op) (c .point) (r .outcome)
+    quad (executedKindOf (x .timed)) (c .op) (c .point) (r .outcome)
     ++ (le32 (c .client)
-    ++ (le32 (c .call) ++ (le32 (x .done) ++ (signed32 (c .argument) ++ (signed32 (r .value) ++ quad (r .quality) 0 0 0)))))
+    ++ (le32 (c .call)
+    ++ (le32 (x .done)
+    ++ (signed32 (c .argument) ++ (signed32 (r .value) ++ (quad (r .quality) 0 0 0 ++ timeBytes (x .timed) (r .time)))))))
 
 -- 3 give: kind, point, destination, 0, move
 unfoldable pub giveAt : List ℕ → Give
@@ -102,7 +111,7 @@ recordBytes (took i) = takeBytes i
 recordBytes (released r) = releaseBytes r
 
 unfoldable pub recordSize : LogRecord → ℕ
-recordSize (executed x) = executedSize
+recordSize (executed x) = executedSizeOf (x .timed)
 recordSize (gone n) = goneSize
 recordSize (gave g) = giveSize
 recordSize (took i) = takeHead + imageLength i
@@ -128,25 +137,31 @@ takeExtent s =
 -- the extent of the record at the front of s, of at least one byte
 unfoldable pub extentOf : List ℕ → Extent
 extentOf s =
-    pick (eqb (byteAt s 0) executedKind) (within s executedSize)
+    pick (eqb (byteAt s 0) firstExecutedKind) (within s firstExecutedSize)
     (pick (eqb (byteAt s 0) goneKind) (within s goneSize)
     (pick (eqb (byteAt s 0) giveKind) (within s giveSize)
     (pick (eqb (byteAt s 0) takeKind) (takeExtent s)
-    (pick (eqb (byteAt s 0) releaseKind) (within s releaseSize) off))))
+    (pick (eqb (byteAt s 0) releaseKind) (within s releaseSize)
+    (pick (eqb (byteAt s 0) executedKind) (within s executedSize) off)))))
 
 -- a whole take record's image, read from its place
 unfoldable pub takeParsed : Option Image → Option LogRecord
 takeParsed none = none
 takeParsed (some i) = some (took i)
 
+-- a whole executed record, in one of its forms
+unfoldable pub executedParsed : Bool → List ℕ → Option LogRecord
+executedParsed timed s = pick (zeros3At s 25 && executedOk (executedAt timed s)) (some (executed (executedAt timed s))) none
+
 -- the whole record at the front of s, if it keeps its layout
 unfoldable pub recordAt : List ℕ → Option LogRecord
 recordAt s =
-    pick (eqb (byteAt s 0) executedKind) (pick (zeros3At s 25 && executedOk (executedAt s)) (some (executed (executedAt s))) none)
+    pick (eqb (byteAt s 0) firstExecutedKind) (executedParsed false s)
     (pick (eqb (byteAt s 0) goneKind) (pick (zeros3At s 1 && noticeOk (noticeAt s)) (some (gone (noticeAt s))) none)
     (pick (eqb (byteAt s 0) giveKind) (pick (zeroAt s 3 && giveOk (giveAt s)) (some (gave (giveAt s))) none)
     (pick (eqb (byteAt s 0) takeKind) (pick (zeros3At s 1) (takeParsed (parseImage (take (imageSizeIn s) (drop takeHead s)))) none)
-    (pick (eqb (byteAt s 0) releaseKind) (pick (zeroAt s 2 && (zeroAt s 3 && releaseOk (releaseAt s))) (some (released (releaseAt s))) none) none))))
+    (pick (eqb (byteAt s 0) releaseKind) (pick (zeroAt s 2 && (zeroAt s 3 && releaseOk (releaseAt s))) (some (released (releaseAt s))) none)
+    (pick (eqb (byteAt s 0) executedKind) (executedParsed true s) none)))))
 
 -- ---- the first walk: the ends of the records, by their kinds and lengths alone
 

@@ -14,16 +14,16 @@ use Rattle.model.specs.declared.LogEnd.{LogEnd}
 use Rattle.model.specs.Choice.{pick, refuse, deny, reply, append, marks, _if_else_, passed, isPassed, unlessRefused}
 use Rattle.model.specs.Numbers.{word}
 use Rattle.model.specs.Refusals.{malformed, tooShort, badLog, unsound, noRefusal}
-use Rattle.model.specs.Limits.{lastServer, stateSize, headSize, resultSize, receiptSize, greatestImage}
+use Rattle.model.specs.Limits.{lastServer, stateSize, headSize, receiptSize}
 use Rattle.model.specs.Tables.{written}
 use Rattle.model.specs.Versions.{Versions}
 use Rattle.model.specs.Plan.{planOk, planOf}
-use Rattle.model.specs.Packets.{parsePacket}
-use Rattle.model.specs.Images.{parseImage}
+use Rattle.model.specs.Packets.{parsePacket, resultSizeOf}
+use Rattle.model.specs.Images.{parseImage, greatestOf}
 use Rattle.model.specs.Logs.{Entry, headBytes, headServer, recordBytes, recordSize, endsOf, wholeEnd, entriesTo}
 use Rattle.model.specs.States.{State, load, stateBytes, sound}
 use Rattle.model.specs.Apply.{applyRecord, apply, founded, withMark}
-use Rattle.model.specs.Decisions.{Decided, onRequest, onFetch, onSync, onNotice, onGive, onImage, onTake, onReceipt, onRelease, follows}
+use Rattle.model.specs.Decisions.{Decided, timedBy, onRequest, onFetch, onSync, onNotice, onGive, onImage, onTake, onReceipt, onRelease, follows}
 
 -- what a call leaves: its answer and the lent slices
 pub record After : Type 0 where
@@ -97,13 +97,15 @@ foundOf state log plan n =
     leftUnless (foundRefusal (length state) (length log) (planOk plan) n) state log
     (after (answerOf noRefusal 0) (stored state (founded (planOf plan) n)) (written log 0 (headBytes n)) [])
 
--- by a program that executes by v
+-- by a program that executes and writes by v
 unfoldable pub requestOf : Versions → List ℕ → List ℕ → List ℕ → List ℕ → After
 requestOf v state log packet out =
-    settle state log out (lent state log out resultSize (onRequest v (load state) (freeIn state log) (parsePacket packet)))
+    settle state log out
+    (lent state log out (resultSizeOf (timedBy v (load state))) (onRequest v (load state) (freeIn state log) (parsePacket packet)))
 
-unfoldable pub fetchOf : List ℕ → List ℕ → ℕ → ℕ → List ℕ → After
-fetchOf state log client call out = settle state log out (lent state log out resultSize (onFetch (load state) client call))
+unfoldable pub fetchOf : Versions → List ℕ → List ℕ → ℕ → ℕ → List ℕ → After
+fetchOf v state log client call out =
+    settle state log out (lent state log out (resultSizeOf (timedBy v (load state))) (onFetch v (load state) client call))
 
 unfoldable pub syncOf : List ℕ → List ℕ → ℕ → After
 syncOf state log mark = settle state log [] (lent state log [] 0 (onSync (load state) mark))
@@ -116,8 +118,9 @@ unfoldable pub giveOf : List ℕ → List ℕ → ℕ → ℕ → After
 giveOf state log point destination =
     settle state log [] (lent state log [] 0 (onGive (load state) (freeIn state log) point destination))
 
-unfoldable pub imageOf : List ℕ → List ℕ → ℕ → List ℕ → After
-imageOf state log point out = settle state log out (lent state log out greatestImage (onImage (load state) point))
+unfoldable pub imageOf : Versions → List ℕ → List ℕ → ℕ → List ℕ → After
+imageOf v state log point out =
+    settle state log out (lent state log out (greatestOf (timedBy v (load state))) (onImage v (load state) point))
 
 unfoldable pub takeOf : List ℕ → List ℕ → List ℕ → After
 takeOf state log image =

@@ -1,8 +1,8 @@
--- The six packets: parse and write. The first byte is the kind. Malformed means another length or kind, a zero byte that is
+-- The packets: parse and write. The first byte is the kind; a result has two, without a time of execution and with one. Malformed means another length or kind, a zero byte that is
 -- not zero, or a field outside its range, the op's argument included.
 -- Assumes nothing.
 use Prim.Native.Nat.{ℕ, _+_}
-use mathlib.Core.Bool.{Bool, _&&_}
+use mathlib.Core.Bool.{Bool, true, false, _&&_}
 use mathlib.Core.Option.{Option, none, some}
 use mathlib.Core.List.{List, [], _∷_, _++_}
 use lib.ListN.{length, getD}
@@ -19,13 +19,13 @@ use Rattle.model.specs.Choice.{pick}
 use Rattle.model.specs.Numbers.{byteAt, le32At, le32, signedAt, signed32, zeroAt, zeros3At, quad}
 use Rattle.model.specs.Rules.{argumentOk}
 use Rattle.model.specs.Limits.{lastPoint, lastServer, lastOutcome, lastQuality, lastInWindow}
-use Rattle.model.specs.Limits.{requestKind, resultKind, refusalKind, receiptKind, noticeKind, grantKind}
-use Rattle.model.specs.Limits.{requestSize, resultSize, refusalSize, receiptSize, noticeSize, grantSize}
+use Rattle.model.specs.Limits.{requestKind, firstResultKind, refusalKind, receiptKind, noticeKind, grantKind, resultKind}
+use Rattle.model.specs.Limits.{requestSize, firstResultSize, refusalSize, receiptSize, noticeSize, grantSize, resultSize}
 use Rattle.model.specs.Refusals.{firstDenied, lastDenied}
 
 -- the lengths by kind; there is no kind 0
 abbrev pub packetLengths : List ℕ
-packetLengths = 0 ∷ requestSize ∷ resultSize ∷ refusalSize ∷ receiptSize ∷ noticeSize ∷ grantSize ∷ []
+packetLengths = 0 ∷ requestSize ∷ firstResultSize ∷ refusalSize ∷ receiptSize ∷ noticeSize ∷ grantSize ∷ resultSize ∷ []
 
 unfoldable pub packetLength : ℕ → ℕ
 packetLength kind = getD packetLengths kind 0
@@ -68,15 +68,30 @@ requestBytes q =
     quad requestKind (c .op) (c .point) 0
     ++ (le32 (c .client) ++ (le32 (c .call) ++ (le32 (q .done) ++ (le32 (q .lease) ++ signed32 (c .argument)))))
 
--- ---- 2 result: outcome, point, quality, client, call, value
+-- ---- 2, 7 result: outcome, point, quality, client, call, value; in 7 the time. Without one it is 0
 
-unfoldable pub resultAt : List ℕ → ResultPacket
-resultAt p =
+-- a time of 4 bytes at place k, in the form that has one
+unfoldable pub timeAt : Bool → List ℕ → ℕ → ℕ
+timeAt timed s k = pick timed (le32At s k) 0
+
+unfoldable pub timeBytes : Bool → ℕ → List ℕ
+timeBytes timed t = pick timed (le32 t) []
+
+-- kind and bytes by form
+unfoldable pub resultKindOf : Bool → ℕ
+resultKindOf timed = pick timed resultKind firstResultKind
+
+unfoldable pub resultSizeOf : Bool → ℕ
+resultSizeOf timed = pick timed resultSize firstResultSize
+
+unfoldable pub resultAt : Bool → List ℕ → ResultPacket
+resultAt timed p =
     record {
       client = le32At p 4;
       call = le32At p 8;
       point = byteAt p 2;
-      result = record { outcome = byteAt p 1; value = signedAt p 12; quality = byteAt p 3 };
+      result = record { outcome = byteAt p 1; value = signedAt p 12; quality = byteAt p 3; time = timeAt timed p 16 };
+      timed = timed;
     }
 
 unfoldable pub resultOk : ResultPacket → Bool
@@ -85,8 +100,8 @@ resultOk r =
 
 unfoldable pub resultBytes : ResultPacket → List ℕ
 resultBytes r =
-    quad resultKind (r .result .outcome) (r .point) (r .result .quality)
-    ++ (le32 (r .client) ++ (le32 (r .call) ++ signed32 (r .result .value)))
+    quad (resultKindOf (r .timed)) (r .result .outcome) (r .point) (r .result .quality)
+    ++ (le32 (r .client) ++ (le32 (r .call) ++ (signed32 (r .result .value) ++ timeBytes (r .timed) (r .result .time))))
 
 -- ---- 3 refusal: its number (3 to 9), point, 0, client, call
 
@@ -141,8 +156,8 @@ whole p kind ok found = pick (eqb (length p) (packetLength kind)) (pick ok found
 unfoldable pub parseRequest : List ℕ → Packet
 parseRequest p = whole p requestKind (zeroAt p 3 && requestOk (requestAt p)) (Requested (requestAt p))
 
-unfoldable pub parseResult : List ℕ → Packet
-parseResult p = whole p resultKind (resultOk (resultAt p)) (Resulted (resultAt p))
+unfoldable pub parseResult : Bool → List ℕ → Packet
+parseResult timed p = whole p (resultKindOf timed) (resultOk (resultAt timed p)) (Resulted (resultAt timed p))
 
 unfoldable pub parseRefusal : List ℕ → Packet
 parseRefusal p = whole p refusalKind (zeroAt p 3 && refusalOk (refusalAt p)) (Refused (refusalAt p))
@@ -159,11 +174,12 @@ parseGrant p = whole p grantKind (zeros3At p 1 && grantOk (grantAt p)) (Granted 
 unfoldable pub parsePacket : List ℕ → Packet
 parsePacket p =
     pick (eqb (byteAt p 0) requestKind) (parseRequest p)
-    (pick (eqb (byteAt p 0) resultKind) (parseResult p)
+    (pick (eqb (byteAt p 0) firstResultKind) (parseResult false p)
     (pick (eqb (byteAt p 0) refusalKind) (parseRefusal p)
     (pick (eqb (byteAt p 0) receiptKind) (parseReceipt p)
     (pick (eqb (byteAt p 0) noticeKind) (parseNotice p)
-    (pick (eqb (byteAt p 0) grantKind) (parseGrant p) Malformed)))))
+    (pick (eqb (byteAt p 0) grantKind) (parseGrant p)
+    (pick (eqb (byteAt p 0) resultKind) (parseResult true p) Malformed))))))
 
 -- the bytes of a packet
 unfoldable pub packetBytes : Packet → List ℕ
@@ -212,7 +228,7 @@ asGrant (Receipted r) = none
 asGrant (Noticed n) = none
 asGrant (Granted g) = some g
 
--- the packets that a client receives: kinds 2, 3 and 6
+-- the packets that a client receives: kinds 2 and 7, 3 and 6
 pub data ClientPacket : Type 0 where
   result : ResultPacket → ClientPacket
   refusal : RefusalPacket → ClientPacket

@@ -44,9 +44,9 @@ inArguments r a = leb (r .least) a && leb a (r .greatest)
 unfoldable pub argumentOk : ℕ → ℕ → Bool
 argumentOk op a = inArguments (argumentRange op) a
 
--- outcome n, value v, quality q
+-- outcome n, value v, quality q; a rule knows no clock: the server that executes writes the time in
 abbrev pub result : ℕ → ℕ → ℕ → CommandResult
-result n v q = record { outcome = n; value = v; quality = q }
+result n v q = record { outcome = n; value = v; quality = q; time = 0 }
 
 -- outcome n, no change
 abbrev pub same : ℕ → Reading → CommandResult

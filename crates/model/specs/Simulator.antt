@@ -197,7 +197,7 @@ ran y (receive k n) = known n y (receiveAt y n (packetAt y k))
 ran y (sync n) = known n y (called y n (syncOf (serverOf y n .state) (serverOf y n .log) (load (serverOf y n .state) .size)))
 ran y (cut n k) = known n y (cutServer y n k)
 ran y (give n p d) = known n y (called y n (giveOf (serverOf y n .state) (serverOf y n .log) p d))
-ran y (image n p) = known n y (called y n (imageOf (serverOf y n .state) (serverOf y n .log) p (room greatestImage)))
+ran y (image n p) = known n y (called y n (imageOf today (serverOf y n .state) (serverOf y n .log) p (room greatestImage)))
 ran y (receipt n p) = known n y (called y n (receiptOf (serverOf y n .state) (serverOf y n .log) p (room receiptSize)))
 
 unfoldable pub runLines : Simulator → List Line → List Reply

@@ -1,7 +1,7 @@
 -- A server's state (paper: cabinet state) and how it lies in the lent buffer. docs/STATE.md has the table and the rule.
---     0 57 53 54 31    4 server number, three zeros    8 heard time    12 clients    16 completion records    20 zeros (4)
+--     0 57 53 54 32    4 server number, three zeros    8 heard time    12 clients    16 completion records    20 zeros (4)
 --     24 log length (8)    32 sync mark (8)    40 plan, 64 × 16    1064 points, 64 × 32
---     3112 clients, 32 × 8, zero past their count    3368 completion records, at most 512 × 28, in order of arrival
+--     3112 clients, 32 × 8, zero past their count    3368 completion records, at most 512 × 32, in order of arrival
 -- The state ends with its last completion record: a sound state has one list of bytes, and what lies behind them is no part of it.
 -- Assumes nothing.
 use Prim.Native.Nat.{ℕ, suc, _+_, _-_, _*_}
@@ -66,7 +66,7 @@ isSynced mark end = leb end mark
 -- ---- layout
 
 abbrev pub stateMagic : List ℕ
-stateMagic = quad 87 83 84 49
+stateMagic = quad 87 83 84 50
 
 -- places in the head: the counts of clients and of completion records, the log's length, the sync mark
 abbrev pub clientsPlace : ℕ
@@ -133,12 +133,12 @@ pointBytes x =
     quad (x .status) (x .quality) (x .destination) 0
     ++ (signed32 (x .value) ++ (le32 (x .moveNumber) ++ (le32 (x .takenMove) ++ (le64 (x .giveEnd) ++ le64 (x .takeEnd)))))
 
--- client, call, argument, value, op, outcome, quality, point, end (8)
+-- client, call, argument, value, op, outcome, quality, point, time, end (8)
 unfoldable pub completionOf : List ℕ → Completion
 completionOf s =
     record {
       command = record { client = le32At s 0; call = le32At s 4; op = byteAt s 16; point = byteAt s 19; argument = signedAt s 8 };
-      result = record { outcome = byteAt s 17; value = signedAt s 12; quality = byteAt s 18 };
+      result = record { outcome = byteAt s 17; value = signedAt s 12; quality = byteAt s 18; time = le32At s 20 };
       end = le64At s checkpointRecord;
     }
 
@@ -148,7 +148,8 @@ completionBytes r =
     let a = r .result in
     le32 (c .client)
     ++ (le32 (c .call)
-    ++ (signed32 (c .argument) ++ (signed32 (a .value) ++ (quad (c .op) (a .outcome) (a .quality) (c .point) ++ le64 (r .end)))))
+    ++ (signed32 (c .argument)
+    ++ (signed32 (a .value) ++ (quad (c .op) (a .outcome) (a .quality) (c .point) ++ (le32 (a .time) ++ le64 (r .end))))))
 
 unfoldable pub clientsIn : List ℕ → ℕ
 clientsIn s = le32At s clientsPlace

@@ -131,11 +131,11 @@ pub const LEASE_COUNT: usize = 32;
 
 pub const LONGEST_SPAN: u32 = 86400;
 
-// ---- packets: kinds
+// ---- packets: kinds; a result has two: the first without a time of execution
 
 pub const REQUEST_KIND: u8 = 1;
 
-pub const RESULT_KIND: u8 = 2;
+pub const FIRST_RESULT_KIND: u8 = 2;
 
 pub const REFUSAL_KIND: u8 = 3;
 
@@ -144,6 +144,8 @@ pub const RECEIPT_KIND: u8 = 4;
 pub const NOTICE_KIND: u8 = 5;
 
 pub const GRANT_KIND: u8 = 6;
+
+pub const RESULT_KIND: u8 = 7;
 
 // ---- fields of the packets, and bytes by kind; the kind is the first byte
 
@@ -177,7 +179,11 @@ pub const RESULT_CALL: usize = RESULT_CLIENT + NUMBER_SIZE;
 
 pub const RESULT_VALUE: usize = RESULT_CALL + NUMBER_SIZE;
 
-pub const RESULT_SIZE: usize = RESULT_VALUE + NUMBER_SIZE;
+pub const RESULT_TIME: usize = RESULT_VALUE + NUMBER_SIZE;
+
+pub const FIRST_RESULT_SIZE: usize = RESULT_TIME;
+
+pub const RESULT_SIZE: usize = RESULT_TIME + NUMBER_SIZE;
 
 pub const REFUSAL_NUMBER: usize = 1;
 
@@ -218,14 +224,15 @@ pub const GRANT_LEASE: usize = GRANT_CLIENT + NUMBER_SIZE;
 pub const GRANT_SIZE: usize = GRANT_LEASE + NUMBER_SIZE;
 
 // By kind; there is no kind 0.
-pub const PACKET_LENGTHS: [usize; 7] = [
+pub const PACKET_LENGTHS: [usize; 8] = [
     0,
     REQUEST_SIZE,
-    RESULT_SIZE,
+    FIRST_RESULT_SIZE,
     REFUSAL_SIZE,
     RECEIPT_SIZE,
     NOTICE_SIZE,
     GRANT_SIZE,
+    RESULT_SIZE,
 ];
 
 // The refusals that make a packet.
@@ -258,7 +265,7 @@ pub const HEAD_ZEROS: usize = HEAD_SERVER + 1;
 
 pub const HEAD_SIZE: usize = HEAD_ZEROS + ZEROS_SIZE;
 
-pub const EXECUTED_KIND: u8 = 1;
+pub const FIRST_EXECUTED_KIND: u8 = 1;
 
 pub const GONE_KIND: u8 = 2;
 
@@ -267,6 +274,8 @@ pub const GIVE_KIND: u8 = 3;
 pub const TAKE_KIND: u8 = 4;
 
 pub const RELEASE_KIND: u8 = 5;
+
+pub const EXECUTED_KIND: u8 = 6;
 
 pub const EXECUTED_OP: usize = 1;
 
@@ -288,7 +297,11 @@ pub const EXECUTED_QUALITY: usize = EXECUTED_VALUE + NUMBER_SIZE;
 
 pub const EXECUTED_ZEROS: usize = EXECUTED_QUALITY + 1;
 
-pub const EXECUTED_SIZE: usize = EXECUTED_ZEROS + ZEROS_SIZE;
+pub const EXECUTED_TIME: usize = EXECUTED_ZEROS + ZEROS_SIZE;
+
+pub const FIRST_EXECUTED_SIZE: usize = EXECUTED_TIME;
+
+pub const EXECUTED_SIZE: usize = EXECUTED_TIME + NUMBER_SIZE;
 
 // Fields and bytes of a notice, which has its own kind here.
 pub const GONE_SIZE: usize = NOTICE_SIZE;
@@ -319,10 +332,12 @@ pub const RELEASE_MOVE: usize = RELEASE_SECOND_ZERO + 1;
 
 pub const RELEASE_SIZE: usize = RELEASE_MOVE + NUMBER_SIZE;
 
-// ---- images: the magic, the fields before the parts, the part of the point, the rows of the two tables, the least and
-// the greatest length
+// ---- images: the magics, the fields before the parts, the part of the point, the rows of the two tables, the least
+// and the greatest lengths
 
-pub const IMAGE_MAGIC: [u8; 4] = *b"MVI1";
+pub const FIRST_IMAGE_MAGIC: [u8; 4] = *b"MVI1";
+
+pub const IMAGE_MAGIC: [u8; 4] = *b"MVI2";
 
 pub const IMAGE_POINT: usize = NUMBER_SIZE;
 
@@ -374,9 +389,17 @@ pub const ENTRY_QUALITY: usize = ENTRY_OUTCOME + 1;
 
 pub const ENTRY_ZERO: usize = ENTRY_QUALITY + 1;
 
-pub const ENTRY_ROW: usize = ENTRY_ZERO + 1;
+pub const ENTRY_TIME: usize = ENTRY_ZERO + 1;
+
+pub const FIRST_ENTRY_ROW: usize = ENTRY_TIME;
+
+pub const ENTRY_ROW: usize = ENTRY_TIME + NUMBER_SIZE;
 
 pub const LEAST_IMAGE: usize = PARTS_START + POINT_PART;
+
+pub const FIRST_GREATEST_IMAGE: usize = LEAST_IMAGE
+    + FLOOR_ROW * CLIENT_COUNT
+    + FIRST_ENTRY_ROW * RECORD_COUNT;
 
 pub const GREATEST_IMAGE: usize = LEAST_IMAGE + FLOOR_ROW * CLIENT_COUNT + ENTRY_ROW * RECORD_COUNT;
 
@@ -385,7 +408,7 @@ pub const GREATEST_IMAGE: usize = LEAST_IMAGE + FLOOR_ROW * CLIENT_COUNT + ENTRY
 
 pub const STATE_SIZE: usize = 32768;
 
-pub const STATE_MAGIC: [u8; 4] = *b"WST1";
+pub const STATE_MAGIC: [u8; 4] = *b"WST2";
 
 pub const STATE_SERVER: usize = NUMBER_SIZE;
 
@@ -437,7 +460,9 @@ pub const RECORD_QUALITY: usize = RECORD_OUTCOME + 1;
 
 pub const RECORD_POINT: usize = RECORD_QUALITY + 1;
 
-pub const RECORD_END: usize = RECORD_POINT + 1;
+pub const RECORD_TIME: usize = RECORD_POINT + 1;
+
+pub const RECORD_END: usize = RECORD_TIME + NUMBER_SIZE;
 
 pub const RECORD_ROW: usize = RECORD_END + END_SIZE;
 
@@ -451,12 +476,14 @@ pub const RECORDS_START: usize = FLOORS_START + FLOOR_ROW * CLIENT_COUNT;
 
 pub const STATE_END: usize = RECORDS_START + RECORD_ROW * RECORD_COUNT;
 
-// ---- the checkpoint: the buffer, the magic, the head's fields and pairs, its rows (the fronts of the state's, without
-// ends), the places of its parts
+// ---- the checkpoint: the buffer, the magics, the head's fields and pairs, its rows (the fronts of the state's,
+// without ends), the places of its parts
 
 pub const CHECKPOINT_SIZE: usize = 32768;
 
-pub const CHECKPOINT_MAGIC: [u8; 4] = *b"WLG2";
+pub const FIRST_CHECKPOINT_MAGIC: [u8; 4] = *b"WLG2";
+
+pub const CHECKPOINT_MAGIC: [u8; 4] = *b"WLG3";
 
 pub const CHECKPOINT_SERVER: usize = NUMBER_SIZE;
 
@@ -484,6 +511,8 @@ pub const CHECKPOINT_RECORDS_LENGTH: usize = CHECKPOINT_RECORDS_PAIR + NUMBER_SI
 pub const CHECKPOINT_HEAD: usize = CHECKPOINT_RECORDS_PAIR + PAIR_SIZE;
 
 pub const CHECKPOINT_POINT: usize = POINT_GIVE_END;
+
+pub const FIRST_CHECKPOINT_RECORD: usize = RECORD_TIME;
 
 pub const CHECKPOINT_RECORD: usize = RECORD_END;
 

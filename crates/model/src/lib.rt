@@ -24,11 +24,13 @@ pub struct Reading {
     pub quality: u8,
 }
 
-// What a command answers: its outcome, and the point's value and quality after it.
+// What a command answers: its outcome, the point's value and quality after it, and the heard time of the server that
+// executed it. The time is 0 where it was read from a form without one.
 pub struct CommandResult {
     pub outcome: u8,
     pub value: u32,
     pub quality: u8,
+    pub time: u32,
 }
 
 // A command with its id: client and call.
@@ -49,12 +51,13 @@ pub struct Request {
     pub lease: u32,
 }
 
-// Packet 2.
+// Packet 7, or 2, which has no time.
 pub struct ResultPacket {
     pub client: u32,
     pub call: u32,
     pub point: u8,
     pub result: CommandResult,
+    pub timed: bool,
 }
 
 // Packet 3.
@@ -84,7 +87,7 @@ pub struct Grant {
     pub lease: u32,
 }
 
-// What a parser finds: one of the six kinds, or that the bytes are none.
+// What a parser finds: a request, a result in either form, or one of the other four; or that the bytes are none.
 pub enum Packet {
     Malformed,
     Requested(Request),
@@ -97,11 +100,12 @@ pub enum Packet {
 
 // ---- log records (gone is a Notice; a take is the image, read from its place in the log)
 
-// Log record 1.
+// Log record 6, or 1, which has no time.
 pub struct Executed {
     pub command: Command,
     pub done: u32,
     pub result: CommandResult,
+    pub timed: bool,
 }
 
 // Log record 3.
@@ -145,6 +149,7 @@ pub struct ImageHead {
     pub quality: u8,
     pub floors: u32,
     pub entries: u32,
+    pub timed: bool,
 }
 
 // ---- a server's state (paper: cabinet), rows of the lent buffer

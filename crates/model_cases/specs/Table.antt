@@ -1,6 +1,7 @@
 -- The paper's P cases, one table: range −100 to 1000, fallback 0.
 -- Assumes nothing.
 use Prim.Native.Nat.{ℕ, _+_, _-_}
+use mathlib.Core.Bool.{Bool, true, false}
 use mathlib.Core.List.{List, [], _∷_}
 use lib.ListN.{replicate}
 use lib.IntN.{ℤ, pos, negsuc}
@@ -15,6 +16,7 @@ use Rattle.model.specs.Versions.{today}
 use Rattle.model.specs.Rules.{ruleOf}
 use Rattle.model.specs.Sequential.{ReadingZ, ResultZ, readingZ, resultZ, entryZ, readingMeant, resultMeant, ruleZ}
 use Rattle.model.specs.Packets.{parsePacket, requestBytes}
+use Rattle.model.specs.Logs.{LogRecord, executed, gone, gave, took, released, executedSizeOf}
 use Rattle.model.specs.States.{State}
 use Rattle.model.specs.Apply.{founded}
 use Rattle.model.specs.Decisions.{Decided, onRequest}
@@ -51,6 +53,26 @@ refusalOf (reply b) = noRefusal
 refusalOf (append r) = noRefusal
 refusalOf (marks m) = noRefusal
 
+-- the time of execution in the record that the request makes, 0 where it makes none
+unfoldable pub timeIn : LogRecord → ℕ
+timeIn (executed x) = x .result .time
+timeIn (gone n) = 0
+timeIn (gave g) = 0
+timeIn (took i) = 0
+timeIn (released r) = 0
+
+unfoldable pub timeOf : Decided → ℕ
+timeOf (refuse n) = 0
+timeOf (deny n b) = 0
+timeOf (reply b) = 0
+timeOf (append r) = timeIn r
+timeOf (marks m) = 0
+
+-- asked of a program that writes times, or of one that writes none
+unfoldable pub noted : Bool → State → Request → ℕ
+noted timed st q =
+    timeOf (onRequest (record { rule = today .rule; timed = timed }) st (executedSizeOf timed) (parsePacket (requestBytes q)))
+
 unfoldable pub asked : State → Request → ℕ
 asked st q = refusalOf (onRequest today st executedSize (parsePacket (requestBytes q)))
 
@@ -61,6 +83,8 @@ pub data Case : Type 0 where
   lease : ℕ → ℕ → ℕ → Case
   -- call, done: the refusal
   window : ℕ → ℕ → ℕ → Case
+  -- whether the program writes times, heard time: the time of execution
+  time : Bool → ℕ → ℕ → Case
 
 -- what a case gives, and what it says. Of a command: the result over the integers and the kernel's; what its reading before and its result mean
 pub data Outcome : Type 0 where
@@ -71,46 +95,48 @@ unfoldable pub got : Case → Outcome
 got (command e op a n b r z k) = results (ruleZ (today .rule op) (entryZ e) op a b) (ruleOf (today .rule op) e op n r) (readingMeant r) (resultMeant k)
 got (lease end heard n) = number (asked (heardAt heard) (asking 1 1 end))
 got (window call done n) = number (asked (heardAt 0) (asking call done 1))
+got (time timed heard n) = number (noted timed (heardAt heard) (asking 1 1 (heard + 1)))
 
 unfoldable pub wanted : Case → Outcome
 wanted (command e op a n b r z k) = results z k b z
 wanted (lease end heard n) = number n
 wanted (window call done n) = number n
+wanted (time timed heard n) = number n
 
 -- a case of an argument, a value and a result that are not negative
 abbrev pub onUp : ℕ → ℕ → ℕ → ℕ → ℕ → ℕ → ℕ → Case
 onUp op a v q o w t =
     command entry op (pos a) (half + a) (readingZ (pos v) q) (record { value = half + v; quality = q }) (resultZ o (pos w) t)
-    (record { outcome = o; value = half + w; quality = t })
+    (record { outcome = o; value = half + w; quality = t; time = 0 })
 
 -- the same with a result of −1 − w, or with an argument of −1 − a
 abbrev pub toDown : ℕ → ℕ → ℕ → ℕ → ℕ → ℕ → ℕ → Case
 toDown op a v q o w t =
     command entry op (pos a) (half + a) (readingZ (pos v) q) (record { value = half + v; quality = q }) (resultZ o (negsuc w) t)
-    (record { outcome = o; value = half - 1 - w; quality = t })
+    (record { outcome = o; value = half - 1 - w; quality = t; time = 0 })
 
 abbrev pub byDown : ℕ → ℕ → ℕ → ℕ → ℕ → ℕ → ℕ → Case
 byDown op a v q o w t =
     command entry op (negsuc a) (half - 1 - a) (readingZ (pos v) q) (record { value = half + v; quality = q }) (resultZ o (pos w) t)
-    (record { outcome = o; value = half + w; quality = t })
+    (record { outcome = o; value = half + w; quality = t; time = 0 })
 
 -- a step of −1 − a at value v, valid, that stops at the low end, −100
 abbrev pub stepDown : ℕ → ℕ → Case
 stepDown a v =
     command entry stepOp (negsuc a) (half - 1 - a) (readingZ (pos v) valid) (record { value = half + v; quality = valid }) (resultZ stopped (negsuc 99) valid)
-    (record { outcome = stopped; value = half - 100; quality = valid })
+    (record { outcome = stopped; value = half - 100; quality = valid; time = 0 })
 
 -- a step of a at 7, valid, where the range is 7 to 7: outcome o
 abbrev pub stepNarrow : ℕ → ℕ → Case
 stepNarrow a o =
     command (record { low = half + 7; high = half + 7; fallback = half + 7; home = 0 }) stepOp (pos a) (half + a) (readingZ (pos 7) valid)
-    (record { value = half + 7; quality = valid }) (resultZ o (pos 7) valid) (record { outcome = o; value = half + 7; quality = valid })
+    (record { value = half + 7; quality = valid }) (resultZ o (pos 7) valid) (record { outcome = o; value = half + 7; quality = valid; time = 0 })
 
 -- part a where the range is low to high (in the kernel's numbers): value z, in the kernel's numbers k
 abbrev pub partIn : ℕ → ℕ → ℕ → ℤ → ℕ → Case
 partIn low high a z k =
     command (record { low = low; high = high; fallback = low; home = 0 }) partOp (pos a) (half + a) (readingZ (pos 0) invalid)
-    (record { value = half; quality = invalid }) (resultZ carriedOut z valid) (record { outcome = carriedOut; value = k; quality = valid })
+    (record { value = half; quality = invalid }) (resultZ carriedOut z valid) (record { outcome = carriedOut; value = k; quality = valid; time = 0 })
 
 -- the same where the range is the greatest, −2147483648 to 2147483647
 abbrev pub partWide : ℕ → ℤ → ℕ → Case
@@ -146,4 +172,6 @@ cases =
     ∷ lease 50 49 noRefusal  -- heard 49: passes
     ∷ window 16 1 noRefusal  -- call 16 done 1: passes
     ∷ window 17 1 malformed  -- call 17 done 1: 1
+    ∷ time true 49 49  -- executed where 49 was heard: time 49
+    ∷ time false 49 0  -- by a program that writes no times: 0
     ∷ []

@@ -34,14 +34,15 @@ walked s k b = record { records = s; end = some k; whole = b }
 abbrev pub refused : List ℕ → WalkCase
 refused s = record { records = s; end = none; whole = false }
 
--- client 1 commands 0 on point 0, by an op
-abbrev pub setting : ℕ → List ℕ
-setting op =
+-- client 1 commands 0 on point 0, in a form, by call and op
+abbrev pub setting : Bool → ℕ → ℕ → List ℕ
+setting timed call op =
     executedBytes (
     record {
-      command = record { client = 1; call = 1; op = op; point = 0; argument = half };
+      command = record { client = 1; call = call; op = op; point = 0; argument = half };
       done = 1;
-      result = record { outcome = carriedOut; value = half; quality = valid };
+      result = record { outcome = carriedOut; value = half; quality = valid; time = 5 };
+      timed = timed;
     })
 
 -- the first bytes of a take
@@ -54,15 +55,20 @@ giving = quad giveKind 0 1 0 ++ le32 1
 unfoldable pub walks : List WalkCase
 walks =
     walked [] 8 true  -- a head alone
-    ∷ walked (setting setOp ++ take 27 (setting setOp)) 36 true  -- an incomplete last record is dropped
-    ∷ walked (setting setOp ++ giving) 44 true  -- to the end of the last record
-    ∷ walked (setting 9 ++ giving) 44 false  -- bad in content: the first walk does not see it
-    ∷ refused (setting 9 ++ (6 ∷ []))  -- and behind it a bad kind
-    ∷ refused (setting setOp ++ (0 ∷ []))  -- kind 0
-    ∷ refused (6 ∷ [])  -- kind 6
+    ∷ walked (setting true 1 setOp ++ take 31 (setting true 2 setOp)) 40 true  -- an incomplete last record is dropped
+    ∷ walked (setting false 1 setOp ++ take 27 (setting false 2 setOp)) 36 true  -- in the first form too
+    ∷ walked (setting true 1 setOp ++ giving) 48 true  -- to the end of the last record
+    ∷ walked (setting false 1 setOp ++ (setting true 2 setOp ++ giving)) 76 true  -- a record of the first form, and one of the second behind it
+    ∷ walked (setting true 1 setOp ++ (setting false 2 setOp ++ giving)) 76 true  -- the other way round
+    ∷ walked (setting true 1 9 ++ giving) 48 false  -- bad in content: the first walk does not see it
+    ∷ walked (setting false 1 9 ++ giving) 44 false
+    ∷ refused (setting true 1 9 ++ (7 ∷ []))  -- and behind it a bad kind
+    ∷ refused (setting true 1 setOp ++ (0 ∷ []))  -- kind 0
+    ∷ walked (6 ∷ []) 8 true  -- kind 6, incomplete
+    ∷ refused (7 ∷ [])  -- kind 7
     ∷ walked (take 7 (taking 47)) 8 true  -- a take whose length is not all there
     ∷ refused (taking 47)  -- bad length, image not there
     ∷ walked (taking leastImage) 8 true  -- the least length, image not there
     ∷ walked (taking greatestImage) 8 true  -- the greatest
-    ∷ refused (taking 10545)
+    ∷ refused (taking 12593)
     ∷ []

@@ -3,12 +3,12 @@
 --     checkpoint-alike, inspect-alike
 -- Assumes nothing.
 use Prim.Native.Nat.{ℕ, _+_, _-_, _*_, _≤_, _<_}
-use mathlib.Core.Path.{_≡_, refl}
+use mathlib.Core.Path.{_≡_, refl, sym, ap, _∙_}
 use mathlib.Core.Bool.{Bool, true, false, _||_, not}
 use mathlib.Core.List.{List, []}
 use mathlib.Core.Option.{Option, none, some}
 use native.Mathlib.Omega.{arith}
-use lib.ListN.{length}
+use lib.ListN.{length, take, drop}
 use lib.Dec.{ltb}
 use borrow.Author.Tests.{eqb-true, ltb-false}
 use Rattle.model.specs.Choice.{refuse, deny, reply, append, marks, passed, isPassed, unlessRefused}
@@ -17,27 +17,31 @@ use Rattle.model.specs.Refusals
 use Rattle.model.specs.Limits.{stateSize, headSize, checkpointSize}
 use Rattle.model.specs.Plan.{planOk, planOf}
 use Rattle.model.specs.Logs.{recordSize, headBytes}
-use Rattle.model.specs.Tables.{written}
-use Rattle.model.specs.States.{State, load, sound}
+use Rattle.model.specs.Versions.{Versions}
+use Rattle.model.specs.Tables.{rows, written}
+use Rattle.model.specs.States.{State, recordRow, recordsStart, recordsIn, completionOf, load, sound}
 use Rattle.model.specs.Apply.{applyRecord, founded, withMark}
-use Rattle.model.specs.Decisions.{Decided}
+use Rattle.model.specs.Decisions.{Decided, timedBy}
 use Rattle.model.specs.Operations.{After, answerOf, after, short, unfit, freeIn, stored, settle, lentRefusal, lent, leftUnless, foundOf, recoverOf, recoveredState, settleRecovered}
 use Rattle.model.specs.Checkpoints.{rebased, checkpointRefusal, checkpointOf, tailOf, inspectRefusal, inspectOf}
 use Rattle.model_laws.specs.Bytes.{Bytes}
 use Rattle.model_laws.specs.Alike.{Alike}
 use Rattle.model_laws.proofs.Tests.{or-left}
 use Rattle.model_laws.proofs.Refused.{if-passed}
-use Rattle.model_laws.proofs.Alike.{load-alike, sound-alike, stored-alike}
+use Rattle.model_laws.proofs.Tables.{rows-take}
+use Rattle.model_laws.proofs.States.{completionCodec}
+use Rattle.model_laws.proofs.Alike.{count-alike, load-alike, sound-alike, stored-alike}
 use Rattle.model_invariants.specs.Sound.{Sound}
 use Rattle.model.specs.Calls.{Operation, decision, operated}
 use Rattle.model_invariants.specs.Calls.{appends, sets, Allowed, output, outputSize, decidedOn, LentBytes, Call, found, operate, recover, left, CallBytes, AlikeAfter, AlikeCheckpoint}
+use Rattle.model_invariants.proofs.Lists.{drop-take}
 use Rattle.model_invariants.proofs.Tests.{fits-of}
 use Rattle.model_invariants.proofs.Steps.{sound-mark}
 use Rattle.model_invariants.proofs.Kept.{founded-sound, decided-sound, decided-space}
 use Rattle.model_invariants.proofs.Crash.{recovered-bytes}
 use Rattle.model_invariants.proofs.Loaded.{plan-good, loaded-sound}
 use Rattle.model_invariants.proofs.Checkpoints.{rebased-sound64}
-use Rattle.model_invariants.proofs.Calls.{fit-parts, lent-number, found-number, recover-number, operated-is, decision-allowed}
+use Rattle.model_invariants.proofs.Calls.{fit-parts, lent-number, found-number, recover-number, operated-is, output-same, decision-allowed}
 
 module _ (s t : List ℕ) (a : Alike s t) where
   -- one sound state in both
@@ -71,6 +75,24 @@ module _ (s t : List ℕ) (a : Alike s t) where
       go none r l g = refused-both Refusals.badLog log []
       go (some st) r l g =
           record { answer = refl; state = stored-both (withMark (st .size) st) (recovered-bytes (planOf plan) log st (plan-good plan b g) c z r .marked) l; log = refl; out = refl }
+
+  -- the completion records of both, sound or not, and what an operation asks of its output by them
+  records-alike : load t .records ≡ load s .records
+  unfolding load
+  records-alike =
+      let n : ℕ = recordsIn s in
+      let part : take (recordRow * n) (drop recordsStart t) ≡ take (recordRow * n) (drop recordsStart s) =
+      sym (drop-take recordsStart (recordRow * n) t) ∙ ap (drop recordsStart) (a .front) ∙ drop-take recordsStart (recordRow * n) s in
+      ap (λ (k : ℕ). rows completionOf recordRow k (drop recordsStart t)) (count-alike s t a)
+      ∙ sym (rows-take completionCodec n (recordRow * n) (drop recordsStart t) (omega arith)) ∙ ap (rows completionOf recordRow n) part
+      ∙ rows-take completionCodec n (recordRow * n) (drop recordsStart s) (omega arith)
+
+  timed-alike : (v : Versions) → timedBy v (load t) ≡ timedBy v (load s)
+  unfolding timedBy
+  timed-alike v = rw records-alike
+
+  size-alike : (o : Operation) → outputSize (load t) o ≡ outputSize (load s) o
+  size-alike o = output-same (load t) (load s) timed-alike o
 
   module _ (b : Bytes s) (c : Bytes t) where
     -- 19 alike: where the state is not sound, its length is not asked
@@ -110,11 +132,11 @@ module _ (s t : List ℕ) (a : Alike s t) where
     operated-alike : (o : Operation) (log out : List ℕ) → length log < word * word → LentBytes o → AlikeAfter (operated o s log out) (operated o t log out)
     unfolding decidedOn lent unlessRefused
     operated-alike o log out z h =
-        rw (operated-is o s log out, operated-is o t log out, lent-alike log (length (output o out)) (outputSize o))
+        rw (operated-is o s log out, operated-is o t log out, size-alike o, lent-alike log (length (output o out)) (outputSize (load s) o))
         (lent-number
         (λ (n : ℕ).
         AlikeAfter (settle s log (output o out) (unlessRefused n (decision o (load s) (freeIn s log)))) (settle t log (output o out) (unlessRefused n (decision o (load t) (freeIn t log)))))
-        s log (length (output o out)) (outputSize o) (refused-both Refusals.tooShort log (output o out)) (refused-both Refusals.unsound log (output o out))
+        s log (length (output o out)) (outputSize (load s) o) (refused-both Refusals.tooShort log (output o out)) (refused-both Refusals.unsound log (output o out))
         (λ l e f.
         let same : load t ≡ load s = load-alike s t a b e in
         rw (same, free-alike log e) (settled-alike log (output o out) (decision o (load s) (freeIn s log)) l e f z (decision-allowed o s log h))))
@@ -145,13 +167,13 @@ module _ (s t : List ℕ) (a : Alike s t) where
         let d = if-passed Refusals.tooShort refl (ltb (length s) stateSize || (ltb cs checkpointSize || ltb ts headSize)) _ (eqb-true _ passed e) in
         (ltb-false _ _ (or-left (ltb (length s) stateSize) (ltb cs checkpointSize || ltb ts headSize) (d .0)), if-passed Refusals.unsound refl (unfit s log) _ (d .1) .0)
 
-    pub checkpoint-alike : (log checkpoint tail : List ℕ) → AlikeCheckpoint (checkpointOf s log checkpoint tail) (checkpointOf t log checkpoint tail)
+    pub checkpoint-alike : (v : Versions) (log checkpoint tail : List ℕ) → AlikeCheckpoint (checkpointOf v s log checkpoint tail) (checkpointOf v t log checkpoint tail)
     unfolding checkpointOf
-    checkpoint-alike log checkpoint tail = go (isPassed (checkpointRefusal s log (length checkpoint) (length tail))) refl (number-alike log (length checkpoint) (length tail))
+    checkpoint-alike v log checkpoint tail = go (isPassed (checkpointRefusal s log (length checkpoint) (length tail))) refl (number-alike log (length checkpoint) (length tail))
       where
         go : (x : Bool) → isPassed (checkpointRefusal s log (length checkpoint) (length tail)) ≡ x
             → checkpointRefusal t log (length checkpoint) (length tail) ≡ checkpointRefusal s log (length checkpoint) (length tail)
-            → AlikeCheckpoint (checkpointOf s log checkpoint tail) (checkpointOf t log checkpoint tail)
+            → AlikeCheckpoint (checkpointOf v s log checkpoint tail) (checkpointOf v t log checkpoint tail)
         go true e same =
             let d = checkpoint-fit log (length checkpoint) (length tail) e in
             let S : Sound (rebased (load s)) = rebased-sound64 (load s) (loaded-sound s b (fit-parts s log (d .1) .0)) in

@@ -28,18 +28,18 @@ use Rattle.model.specs.Refusals
 use Rattle.model.specs.Numbers.{word}
 use Rattle.model.specs.Limits.{lastServer, stateSize, headSize}
 use Rattle.model.specs.Plan.{planOk, planOf}
-use Rattle.model.specs.Packets.{parsePacket, asRequest, asReceipt, asNotice}
-use Rattle.model.specs.Images.{Image, parseImage}
+use Rattle.model.specs.Packets.{resultSizeOf, parsePacket, asRequest, asReceipt, asNotice}
+use Rattle.model.specs.Images.{Image, parseImage, greatestOf}
 use Rattle.model.specs.Tables.{written}
 use Rattle.model.specs.Logs.{LogRecord, recordSize, recordBytes, headBytes}
 use Rattle.model.specs.States.{State, load, sound, stateBytes}
 use Rattle.model.specs.Apply.{applyRecord, founded, withMark}
-use Rattle.model.specs.Decisions.{Decided, orMalformed, find, onHeld, onNew, onId, decideRequest, denying, onRequest, onFetched, onFetch, onSync, decideNotice, onNotice, onGive, onImage, decideTake, onTake, onReceipt, decideRelease, onRelease}
+use Rattle.model.specs.Decisions.{Decided, timedBy, orMalformed, find, onHeld, onNew, onId, decideRequest, denying, onRequest, onFetched, onFetch, onSync, decideNotice, onNotice, onGive, onImage, decideTake, onTake, onReceipt, decideRelease, onRelease}
 use Rattle.model.specs.Operations.{After, answerOf, after, short, unfit, freeIn, stored, settle, lentRefusal, lent, leftUnless, foundRefusal, foundOf, requestOf, fetchOf, syncOf, noticeOf, giveOf, imageOf, takeOf, receiptOf, releaseOf, recoverRefusal, recoverOf, settleRecovered, recoveredState}
 use Rattle.model.specs.Calls.{OperationOf, Operation, request, fetch, sync, notice, give, image, takeIn, receipt, release, handed, operated, decision}
 use Rattle.model_laws.specs.Bytes.{Bytes}
 use Rattle.model_invariants.specs.History.{GoodPlan, Decides, byGive}
-use Rattle.model_invariants.specs.Calls.{Only, refuses, denies, replies, appends, sets, Allowed, Named, LentBytes, outputSize, outputFor, output, HandedOver, decidedOn, Call, found, operate, recover, left, CallBytes}
+use Rattle.model_invariants.specs.Calls.{Only, refuses, denies, replies, appends, sets, Allowed, Named, LentBytes, outputSize, hasOutput, output, HandedOver, decidedOn, Call, found, operate, recover, left, CallBytes}
 use Rattle.model_laws.proofs.Tests.{choose, or-left, or-right}
 use Rattle.model_laws.proofs.Refused.{unless}
 use Rattle.model_laws.proofs.Written.{bytes-written}
@@ -117,18 +117,18 @@ only-release : (st : State) (free : ℕ) (p : Packet) → Only AnyRecord NoMark 
 unfolding onRelease decideRelease
 only-release st free p = only-kind (asReceipt p) (λ r. only-unless _ (appends (any _)))
 
-only-fetch : (st : State) (o : Option Completion) → Only NoRecord NoMark (onFetched st o)
+only-fetch : (v : Versions) (st : State) (o : Option Completion) → Only NoRecord NoMark (onFetched v st o)
 unfolding onFetched
-only-fetch st none = refuses
-only-fetch st (some r) = only-unless _ replies
+only-fetch v st none = refuses
+only-fetch v st (some r) = only-unless _ replies
 
-fetch-only : (st : State) (x c : ℕ) → Only NoRecord NoMark (onFetch st x c)
+fetch-only : (v : Versions) (st : State) (x c : ℕ) → Only NoRecord NoMark (onFetch v st x c)
 unfolding onFetch
-fetch-only st x c = only-fetch st (find x c (st .records))
+fetch-only v st x c = only-fetch v st (find x c (st .records))
 
-only-image : (st : State) (p : ℕ) → Only NoRecord NoMark (onImage st p)
+only-image : (v : Versions) (st : State) (p : ℕ) → Only NoRecord NoMark (onImage v st p)
 unfolding onImage
-only-image st p = only-unless _ replies
+only-image v st p = only-unless _ replies
 
 only-receipt : (st : State) (p : ℕ) → Only NoRecord NoMark (onReceipt st p)
 unfolding onReceipt
@@ -260,16 +260,29 @@ recover-elim P state log plan two one fourteen k =
 
 -- a call of an operation carries out what it decides
 pub operated-is : (o : Operation) (state log out : List ℕ) → operated o state log out ≡ settle state log (output o out) (decidedOn o state log out)
-unfolding operated decidedOn decision output outputFor outputSize requestOf fetchOf syncOf noticeOf giveOf imageOf takeOf receiptOf releaseOf
+unfolding operated decidedOn decision output hasOutput outputSize requestOf fetchOf syncOf noticeOf giveOf imageOf takeOf receiptOf releaseOf
 operated-is (request v packet) state log out = refl
-operated-is (fetch client call) state log out = refl
+operated-is (fetch v client call) state log out = refl
 operated-is (sync mark) state log out = refl
 operated-is (notice packet) state log out = refl
 operated-is (give point destination) state log out = refl
-operated-is (image point) state log out = refl
+operated-is (image v point) state log out = refl
 operated-is (takeIn img) state log out = refl
 operated-is (receipt point) state log out = refl
 operated-is (release packet) state log out = refl
+
+-- on two states that a program writes in one form, an operation asks one length of its output
+pub output-same : {P : Type 0} (a b : State) → ((v : Versions) → timedBy v a ≡ timedBy v b) → (o : OperationOf P) → outputSize a o ≡ outputSize b o
+unfolding outputSize
+output-same a b h (request v packet) = ap resultSizeOf (h v)
+output-same a b h (fetch v client call) = ap resultSizeOf (h v)
+output-same a b h (sync mark) = refl
+output-same a b h (notice packet) = refl
+output-same a b h (give point destination) = refl
+output-same a b h (image v point) = ap greatestOf (h v)
+output-same a b h (takeIn img) = refl
+output-same a b h (receipt point) = refl
+output-same a b h (release packet) = refl
 
 -- it appends what some operation decides, and sets a mark from the present one to the log's length
 pub decision-allowed : (o : Operation) (state log : List ℕ) → LentBytes o → Allowed state log (decision o (load state) (freeIn state log))
@@ -277,7 +290,7 @@ unfolding decision
 decision-allowed (request v packet) state log h =
     only-kept state log (onRequest v (load state) (freeIn state log) (parsePacket packet)) (only-request v (load state) (freeIn state log) (parsePacket packet))
     (λ r. on-request (load state) (freeIn state log) packet h r v)
-decision-allowed (fetch client call) state log h = quiet-kept state log (onFetch (load state) client call) (fetch-only (load state) client call)
+decision-allowed (fetch v client call) state log h = quiet-kept state log (onFetch v (load state) client call) (fetch-only v (load state) client call)
 decision-allowed (sync mark) state log h = sync-kept state log mark
 decision-allowed (notice packet) state log h =
     only-kept state log (onNotice (load state) (freeIn state log) (parsePacket packet)) (only-notice (load state) (freeIn state log) (parsePacket packet))
@@ -285,7 +298,7 @@ decision-allowed (notice packet) state log h =
 decision-allowed (give point destination) state log h =
     only-kept state log (onGive (load state) (freeIn state log) point destination) (only-give (load state) (freeIn state log) point destination)
     (λ (r : LogRecord) (e : onGive (load state) (freeIn state log) point destination ≡ append r). byGive point destination e)
-decision-allowed (image point) state log h = quiet-kept state log (onImage (load state) point) (only-image (load state) point)
+decision-allowed (image v point) state log h = quiet-kept state log (onImage v (load state) point) (only-image v (load state) point)
 decision-allowed (takeIn img) state log h =
     only-kept state log (onTake (load state) (freeIn state log) (parseImage img)) (only-take (load state) (freeIn state log) (parseImage img))
     (on-take (load state) (freeIn state log) img h)
@@ -306,11 +319,11 @@ no-mark (sets h) e = h
 pub sets-mark : (o : Operation) (st : State) (free m : ℕ) → decision o st free ≡ marks m → (k : ℕ) × (o ≡ sync k)
 unfolding decision
 sets-mark (request v packet) st free m e = absurd (no-mark (only-request v st free (parsePacket packet)) e)
-sets-mark (fetch client call) st free m e = absurd (no-mark (fetch-only st client call) e)
+sets-mark (fetch v client call) st free m e = absurd (no-mark (fetch-only v st client call) e)
 sets-mark (sync mark) st free m e = (mark, refl)
 sets-mark (notice packet) st free m e = absurd (no-mark (only-notice st free (parsePacket packet)) e)
 sets-mark (give point destination) st free m e = absurd (no-mark (only-give st free point destination) e)
-sets-mark (image point) st free m e = absurd (no-mark (only-image st point) e)
+sets-mark (image v point) st free m e = absurd (no-mark (only-image v st point) e)
 sets-mark (takeIn img) st free m e = absurd (no-mark (only-take st free (parseImage img)) e)
 sets-mark (receipt point) st free m e = absurd (no-mark (only-receipt st point) e)
 sets-mark (release packet) st free m e = absurd (no-mark (only-release st free (parsePacket packet)) e)
@@ -323,13 +336,15 @@ unlike e = omega arith
 
 module _ {P Q : Type 0} (f : P → Option Q) where
   -- no request: one that names no packet, and one that names p
-  plain-over : (o : OperationOf P) (x y : OperationOf Q) → ((B : Q → Type 0) → Named B x) → outputSize x ≡ outputSize o → ((v : Versions) (b : Q) → x ≡ request v b → ⊥)
+  plain-over : (o : OperationOf P) (x y : OperationOf Q) → ((B : Q → Type 0) → Named B x) → ((st : State) → outputSize st x ≡ outputSize st o) → hasOutput x ≡ hasOutput o
+      → ((v : Versions) (b : Q) → x ≡ request v b → ⊥)
       → some x ≡ some y → HandedOver f o y
-  plain-over o x y n e r q = let z : x ≡ y = cc in subst (HandedOver f o) z (record { named = λ B h. n B; size = e; requests = λ v b k. absurd (r v b k) })
+  plain-over o x y n e w r q = let z : x ≡ y = cc in subst (HandedOver f o) z (record { named = λ B h. n B; size = e; has = w; requests = λ v b k. absurd (r v b k) })
 
-  named-over : (p : P) (b : Q) → f p ≡ some b → {o : OperationOf P} {x : OperationOf Q} → outputSize x ≡ outputSize o → ((B : Q → Type 0) → B b → Named B x)
+  named-over : (p : P) (b : Q) → f p ≡ some b → {o : OperationOf P} {x : OperationOf Q} → ((st : State) → outputSize st x ≡ outputSize st o) → hasOutput x ≡ hasOutput o
+      → ((B : Q → Type 0) → B b → Named B x)
       → ((v : Versions) (c : Q) → x ≡ request v c → ⊥) → HandedOver f o x
-  named-over p b d e n r = record { named = λ B h. n B (h p b d); size = e; requests = λ v c k. absurd (r v c k) }
+  named-over p b d e w n r = record { named = λ B h. n B (h p b d); size = e; has = w; requests = λ v c k. absurd (r v c k) }
 
   -- what is handed over for p
   packet-over : (p : P) (o : OperationOf P) (k : Q → OperationOf Q) (y : OperationOf Q) → ((b : Q) → f p ≡ some b → HandedOver f o (k b))
@@ -341,18 +356,25 @@ module _ {P Q : Type 0} (f : P → Option Q) where
       go (some b) q e = let z : k b ≡ y = cc in subst (HandedOver f o) z (h b q)
 
   pub handed-over : (o : OperationOf P) (x : OperationOf Q) → handed f o ≡ some x → HandedOver f o x
-  unfolding handed outputSize
+  unfolding handed outputSize hasOutput
   handed-over (request v p) x e =
       packet-over p (request v p) (request v) x
-      (λ b d. record { named = λ B h. h p b d; size = refl; requests = λ w c z. let i : v ≡ w = cc in let j : b ≡ c = cc in (p, ap (λ (u : Versions). request u p) i, d ∙ ap some j) }) e
-  handed-over (fetch c n) x e = plain-over (fetch c n) (fetch c n) x (λ B. tt) refl (λ v b q. unlike (cc)) e
-  handed-over (sync m) x e = plain-over (sync m) (sync m) x (λ B. tt) refl (λ v b q. unlike (cc)) e
-  handed-over (notice p) x e = packet-over p (notice p) notice x (λ b d. named-over p b d refl (λ B h. h) (λ v c q. unlike (cc))) e
-  handed-over (give p d) x e = plain-over (give p d) (give p d) x (λ B. tt) refl (λ v b q. unlike (cc)) e
-  handed-over (image p) x e = plain-over (image p) (image p) x (λ B. tt) refl (λ v b q. unlike (cc)) e
-  handed-over (takeIn p) x e = packet-over p (takeIn p) takeIn x (λ b d. named-over p b d refl (λ B h. h) (λ v c q. unlike (cc))) e
-  handed-over (receipt p) x e = plain-over (receipt p) (receipt p) x (λ B. tt) refl (λ v b q. unlike (cc)) e
-  handed-over (release p) x e = packet-over p (release p) release x (λ b d. named-over p b d refl (λ B h. h) (λ v c q. unlike (cc))) e
+      (λ b d.
+      record {
+        named = λ B h. h p b d;
+        size = λ st. refl;
+        has = refl;
+        requests = λ w c z. let i : v ≡ w = cc in let j : b ≡ c = cc in (p, ap (λ (u : Versions). request u p) i, d ∙ ap some j);
+      })
+      e
+  handed-over (fetch v c n) x e = plain-over (fetch v c n) (fetch v c n) x (λ B. tt) (λ st. refl) refl (λ w b q. unlike (cc)) e
+  handed-over (sync m) x e = plain-over (sync m) (sync m) x (λ B. tt) (λ st. refl) refl (λ w b q. unlike (cc)) e
+  handed-over (notice p) x e = packet-over p (notice p) notice x (λ b d. named-over p b d (λ st. refl) refl (λ B h. h) (λ v c q. unlike (cc))) e
+  handed-over (give p d) x e = plain-over (give p d) (give p d) x (λ B. tt) (λ st. refl) refl (λ w b q. unlike (cc)) e
+  handed-over (image v p) x e = plain-over (image v p) (image v p) x (λ B. tt) (λ st. refl) refl (λ w b q. unlike (cc)) e
+  handed-over (takeIn p) x e = packet-over p (takeIn p) takeIn x (λ b d. named-over p b d (λ st. refl) refl (λ B h. h) (λ v c q. unlike (cc))) e
+  handed-over (receipt p) x e = plain-over (receipt p) (receipt p) x (λ B. tt) (λ st. refl) refl (λ w b q. unlike (cc)) e
+  handed-over (release p) x e = packet-over p (release p) release x (λ b d. named-over p b d (λ st. refl) refl (λ B h. h) (λ v c q. unlike (cc))) e
 
 -- ---- every call leaves a sound state
 
@@ -374,7 +396,7 @@ begun-sound (found plan n) state log out b c z h =
     (λ l k g p m e. stored-sound state (founded (planOf plan) n) (founded-sound (planOf plan) n g m) (omega arith))
 begun-sound (operate o) state log out b c z h =
     subst (SoundAfter state) (sym (operated-is o state log out))
-    (lent-elim (λ d. SoundAfter state (settle state log (output o out) d)) state log (output o out) (outputSize o)
+    (lent-elim (λ d. SoundAfter state (settle state log (output o out) d)) state log (output o out) (outputSize (load state) o)
     (decision o (load state) (freeIn state log)) (refused state Refusals.tooShort (λ e. omega arith)) (refused state Refusals.unsound (λ e. omega arith))
     (λ l s f e. settled state log (output o out) (decision o (load state) (freeIn state log)) b l s f z (decision-allowed o state log h)))
 begun-sound (recover plan) state log out b c z h =
@@ -427,7 +449,7 @@ call-bytes (found plan n) state log out b c z h =
     ))
 call-bytes (operate o) state log out b c z h =
     subst (λ (a : After). Bytes (a .state) × Bytes (a .log)) (sym (operated-is o state log out))
-    (lent-elim (λ d. Bytes (settle state log (output o out) d .state) × Bytes (settle state log (output o out) d .log)) state log (output o out) (outputSize o)
+    (lent-elim (λ d. Bytes (settle state log (output o out) d .state) × Bytes (settle state log (output o out) d .log)) state log (output o out) (outputSize (load state) o)
     (decision o (load state) (freeIn state log)) (b, c) (b, c)
     (λ l s f. settled-bytes state log (output o out) (decision o (load state) (freeIn state log)) b c s f z (decision-allowed o state log h)))
 call-bytes (recover plan) state log out b c z h =

@@ -2,7 +2,8 @@
 --     rebased-sound, rebased-sound64     a state without its places, by any bound of the log's length, and in 64 bits
 --     start-rebased                      one that a log starts from is the same without them
 --     restorable                         the ends of a sound state's points and completion records are those that a checkpoint tells
---     restored-back, framed-back, checkpoint-back     a checkpoint with any bytes behind it gives the state that it was made of, places aside
+--     restored-back, framed-back, checkpoint-back     a checkpoint with any bytes behind it, in a form that holds the times, gives the
+--                                        state that it was made of, places aside
 --     checkpoint-length, checkpoint-fits, checkpoint-bytes     its length, and that it is bytes
 -- Assumes nothing.
 use Prim.Native.Nat.{_-_, ℕ, _+_, _*_, _≤_, _<_}
@@ -22,11 +23,11 @@ use Rattle.model.specs.Choice.{pick}
 use Rattle.model.specs.Limits.{lastPoint, recordCount, headSize, checkpointSize, checkpointRecord}
 use Rattle.model.specs.Plan.{entryAt}
 use Rattle.model.specs.States.{State, pointAt, noPoint, endsInOrder, stateEnd, recordRow, stateBytes, load, sound, absent as absentStatus, held as heldStatus, given as givenStatus}
-use Rattle.model.specs.Checkpoints.{placedPoint, placedRecord, placed, endBefore, rebased, recordsPart, checkpointBytes, restoredBytes, checkpointFramed, checkpointState}
+use Rattle.model.specs.Checkpoints.{placedPoint, placedRecord, placed, endBefore, rebased, recordsPart, checkpointRecordOf, checkpointBytes, restoredBytes, checkpointFramed, checkpointState}
 use Rattle.model_laws.specs.Bytes.{Bytes, All}
 use Rattle.model_laws.proofs.States.{state-length, load-front, sound-front}
 use Rattle.model_laws.proofs.Fronts.{Told}
-use Rattle.model_laws.proofs.Checkpoints.{Restorable, restored-front, restored-blank, is-framed, front-framed, checkpoint-bytes-length, checkpoint-bytes-fit}
+use Rattle.model_laws.proofs.Checkpoints.{Restorable, Timely, restored-front, restored-blank, is-framed, front-framed, checkpoint-bytes-length, checkpoint-bytes-fit}
 use Rattle.model_invariants.specs.Sound.{GoodEnd, Standing, GoodPoint, GoodCompletion, Windowed, Keeps, Other, Distinct, Arrived, SoundBy, Sound}
 use Rattle.model_invariants.specs.History.{StartBy}
 use Rattle.model_invariants.proofs.Lists.{all-to, all-image, getD-all}
@@ -165,6 +166,7 @@ placed-completion plan r g =
       client-fits = g .client-fits;
       call-fits = g .call-fits;
       value = g .value;
+      time = g .time;
       past = omega arith;
       within = omega arith;
     }
@@ -335,12 +337,6 @@ module _ (st : State) (S : Sound st) where
         records = ends-before st S;
       }
 
-  pub restored-back : (rest : List ℕ) → restoredBytes (checkpointBytes st ++ rest) ≡ stateBytes (rebased st)
-  restored-back rest = restored-front st restorable rest
-
-  pub framed-back : (rest : List ℕ) → checkpointFramed (checkpointBytes st ++ rest) ≡ true
-  framed-back rest = is-framed (checkpointBytes st ++ rest) (front-framed st (fits-of st S) rest)
-
   abbrev past : List ℕ
   past = replicate (recordRow * (recordCount - length (st .records))) 0
 
@@ -353,16 +349,31 @@ module _ (st : State) (S : Sound st) where
       omega (arith, length-append (stateBytes (rebased st)) past, state-length (rebased st) (fits-of (rebased st) R), n, S .count, m) in
       (sound-front (rebased st) (fits-of (rebased st) R) past long (state-of (rebased st) R), load-front (rebased st) (fits-of (rebased st) R) past)
 
-  pub checkpoint-back : (rest : List ℕ) → checkpointState (checkpointBytes st ++ rest) ≡ some (rebased st)
-  unfolding checkpointState
-  checkpoint-back rest = rw (framed-back rest, restored-blank st restorable rest, rebased-bytes .0, rebased-bytes .1)
+rows-fit : (timed : Bool) (n : ℕ) → n ≤ recordCount → checkpointRecordOf timed * n ≤ checkpointRecord * recordCount
+unfolding checkpointRecordOf
+rows-fit true n l = omega arith
+rows-fit false n l = omega arith
+
+-- in either form
+module _ (timed : Bool) (st : State) (S : Sound st) where
+  pub framed-back : (rest : List ℕ) → checkpointFramed (checkpointBytes timed st ++ rest) ≡ true
+  framed-back rest = is-framed (checkpointBytes timed st ++ rest) (front-framed timed st (fits-of st S) rest)
 
   -- its length, and that it is bytes
-  pub checkpoint-length : length (checkpointBytes st) ≡ recordsPart (length (st .floors)) + checkpointRecord * length (st .records)
-  checkpoint-length = checkpoint-bytes-length st (fits-of st S)
+  pub checkpoint-length : length (checkpointBytes timed st) ≡ recordsPart (length (st .floors)) + checkpointRecordOf timed * length (st .records)
+  checkpoint-length = checkpoint-bytes-length timed st (fits-of st S)
 
-  pub checkpoint-fits : length (checkpointBytes st) ≤ checkpointSize
-  checkpoint-fits = omega (arith, checkpoint-length, S .clients, S .count)
+  pub checkpoint-fits : length (checkpointBytes timed st) ≤ checkpointSize
+  checkpoint-fits = omega (arith, checkpoint-length, S .clients, rows-fit timed (length (st .records)) (S .count))
 
-  pub checkpoint-bytes : Bytes (checkpointBytes st)
-  checkpoint-bytes = checkpoint-bytes-fit st (fits-of st S)
+  pub checkpoint-bytes : Bytes (checkpointBytes timed st)
+  checkpoint-bytes = checkpoint-bytes-fit timed st (fits-of st S)
+
+  -- in one that holds the times
+  module _ (T : Timely timed st) where
+    pub restored-back : (rest : List ℕ) → restoredBytes (checkpointBytes timed st ++ rest) ≡ stateBytes (rebased st)
+    restored-back rest = restored-front timed st (restorable st S) T rest
+
+    pub checkpoint-back : (rest : List ℕ) → checkpointState (checkpointBytes timed st ++ rest) ≡ some (rebased st)
+    unfolding checkpointState
+    checkpoint-back rest = rw (framed-back rest, restored-blank timed st (restorable st S) T rest, rebased-bytes st S .0, rebased-bytes st S .1)

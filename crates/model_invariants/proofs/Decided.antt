@@ -30,15 +30,15 @@ use Rattle.model.specs.declared.Request.{Request}
 use Rattle.model.specs.declared.Notice.{Notice}
 use Rattle.model.specs.Choice.{pick, reply, append, marks, _if_else_, passed}
 use Rattle.model.specs.Refusals.{malformed, clientsFull, logFull}
-use Rattle.model.specs.Limits.{lastPoint, clientCount, executedSize, goneSize, giveSize, takeHead, releaseSize}
+use Rattle.model.specs.Limits.{lastPoint, clientCount, goneSize, giveSize, takeHead, releaseSize}
 use Rattle.model.specs.Tables.{every}
 use Rattle.model.specs.Plan.{entryAt, noEntry}
 use Rattle.model.specs.Packets.{resultBytes}
 use Rattle.model.specs.Images.{Image, floorOf, notKnown, imageLength, imageInRange, entryInRange}
-use Rattle.model.specs.Logs.{LogRecord, executed, gone, gave, took, released}
+use Rattle.model.specs.Logs.{LogRecord, executed, gone, gave, took, released, executedSizeOf}
 use Rattle.model.specs.States.{State, pointAt, isHeld, isGiven, isSynced, isId, held, given, noPoint}
 use Rattle.model.specs.Apply.{foundedPoint, founded}
-use Rattle.model.specs.Decisions.{Decided, find, sameCommand, requestRefusal, heldRefusal, onHeld, newRefusal, onNew, onId, executedFor, decideRequest, fetchRefusal, noticeRefusal, decideNotice, placesBad, giveRefusal, onGive, imageRefusal, freeFor, takeRefusal, takeTests, decideTake, receiptRefusal, releaseRefusal, decideRelease, syncRefusal, onSync, resultOfRecord}
+use Rattle.model.specs.Decisions.{Decided, timedBy, find, sameCommand, requestRefusal, heldRefusal, onHeld, newRefusal, onNew, onId, executedFor, decideRequest, fetchRefusal, noticeRefusal, decideNotice, placesBad, giveRefusal, onGive, imageRefusal, freeFor, takeRefusal, takeTests, decideTake, receiptRefusal, releaseRefusal, decideRelease, syncRefusal, onSync, resultOfRecord}
 use Rattle.model_laws.specs.Bytes.{All}
 use Rattle.model_laws.proofs.Tests.{or-left, or-right}
 use Rattle.model_laws.proofs.Reflects.{flag, of, both}
@@ -98,13 +98,13 @@ request-still x y over floor after call s l e = let f : ltb call floor ≡ false
 full-not : (floor clients : ℕ) → (notKnown floor && leb clientCount clients) ≡ false → floor ≡ 0 → clients < clientCount
 full-not floor clients e z = leb-false _ _ (sym (rw (eq-eqb _ _ z)) ∙ e)
 
-pub new-tests : (floor clients free : ℕ) → newRefusal floor clients free ≡ passed → (floor ≡ 0 → clients < clientCount) × (executedSize ≤ free)
+pub new-tests : (floor clients free need : ℕ) → newRefusal floor clients free need ≡ passed → (floor ≡ 0 → clients < clientCount) × (need ≤ free)
 unfolding newRefusal
-new-tests floor clients free e = (full-not floor clients (search passing depth 12), search passing depth 12)
+new-tests floor clients free need e = (full-not floor clients (search passing depth 12), search passing depth 12)
 
-pub new-again : (floor clients free : ℕ) → newRefusal floor clients free ≡ passed → newRefusal floor clients executedSize ≡ passed
+pub new-again : (floor clients free need : ℕ) → newRefusal floor clients free need ≡ passed → newRefusal floor clients need need ≡ passed
 unfolding newRefusal
-new-again floor clients free e = let s : ltb free executedSize ≡ false = search passing depth 12 in rw s at e
+new-again floor clients free need e = let s : ltb free need ≡ false = search passing depth 12 in rw (le-ltb need need (omega arith)) (rw s at e)
 
 pub held-tests : (mark : ℕ) (q : Request) (r : Completion) → heldRefusal mark q r ≡ passed → (sameCommand r q ≡ true) × (r .end ≤ mark)
 unfolding heldRefusal isSynced
@@ -114,11 +114,11 @@ pub tests-held : (mark : ℕ) (q : Request) (r : Completion) → sameCommand r q
 unfolding heldRefusal isSynced
 tests-held mark q r s l = rw (s, le-leb (r .end) mark l)
 
-held-never : (st : State) (q : Request) (s : Completion) (r : LogRecord) → onHeld st q s ≡ append r → ⊥
+held-never : (v : Versions) (st : State) (q : Request) (s : Completion) (r : LogRecord) → onHeld v st q s ≡ append r → ⊥
 unfolding onHeld
-held-never st q s r e =
-    let k = unless-appends (heldRefusal (st .mark) q s) (reply (resultBytes (resultOfRecord s))) e in
-    let c : reply (resultBytes (resultOfRecord s)) ≡ append r = k .1 in
+held-never v st q s r e =
+    let k = unless-appends (heldRefusal (st .mark) q s) (reply (resultBytes (resultOfRecord (timedBy v st) s))) e in
+    let c : reply (resultBytes (resultOfRecord (timedBy v st) s)) ≡ append r = k .1 in
     let z : _≡_ {A = ℕ} 0 1 = cc in
     omega arith
 
@@ -126,7 +126,7 @@ held-never st q s r e =
 pub record Requested (v : Versions) (st : State) (free : ℕ) (q : Request) (r : LogRecord) : Type 0 where
   pub first : Admits st q
   pub fresh : find (q .command .client) (q .command .call) (st .records) ≡ none
-  pub second : newRefusal (floorOf (q .command .client) (st .floors)) (length (st .floors)) free ≡ passed
+  pub second : newRefusal (floorOf (q .command .client) (st .floors)) (length (st .floors)) free (executedSizeOf (v .timed)) ≡ passed
   pub same : r ≡ executed (executedFor v st q)
 
 pub requested : (v : Versions) (st : State) (free : ℕ) (q : Request) (r : LogRecord) → decideRequest v st free q ≡ append r → Requested v st free q r
@@ -137,10 +137,10 @@ requested v st free q r e =
   where
     go : Admits st q → (o : Option Completion) → find (q .command .client) (q .command .call) (st .records) ≡ o → onId v st free q o ≡ append r → Requested v st free q r
     go a none f k =
-        let b = unless-appends (newRefusal (floorOf (q .command .client) (st .floors)) (length (st .floors)) free) (append (executed (executedFor v st q))) k in
+        let b = unless-appends (newRefusal (floorOf (q .command .client) (st .floors)) (length (st .floors)) free (executedSizeOf (v .timed))) (append (executed (executedFor v st q))) k in
         let m : append (executed (executedFor v st q)) ≡ append r = b .1 in
         record { first = a; fresh = f; second = b .0; same = cc }
-    go a (some s) f k = absurd (held-never st q s r k)
+    go a (some s) f k = absurd (held-never v st q s r k)
 
 pub requested-appends : (v : Versions) (st : State) (free : ℕ) (q : Request) (r : LogRecord) → Requested v st free q r → decideRequest v st free q ≡ append r
 unfolding decideRequest onId onNew
@@ -152,14 +152,14 @@ pub request-passed : (v : Versions) (st : State) (free : ℕ) (q : Request) (r :
 request-passed v st free q r e =
     let k = requested v st free q r e in
     let a = request-tests _ _ _ _ (k .first) in
-    let b = new-tests _ _ _ (k .second) in
+    let b = new-tests _ _ _ _ (k .second) in
     (record { held = a .0; over = a .2; fresh = find-fresh _ _ _ (k .fresh); place = b .0 }, k .same)
 
 pub request-terms : (v : Versions) (st : State) (free : ℕ) (q : Request) (r : LogRecord) → decideRequest v st free q ≡ append r
-    → (st .heard < q .lease) × (executedSize ≤ free)
+    → (st .heard < q .lease) × (executedSizeOf (v .timed) ≤ free)
 request-terms v st free q r e =
     let k = requested v st free q r e in
-    (leb-false _ _ (request-tests _ _ _ _ (k .first) .1), new-tests _ _ _ (k .second) .1)
+    (leb-false _ _ (request-tests _ _ _ _ (k .first) .1), new-tests _ _ _ _ (k .second) .1)
 
 -- ---- a first request, at a founded server
 
@@ -169,14 +169,15 @@ founded-held n [] p l e = absurd (omega arith)
 founded-held n (x ∷ es) zero l e = rw (eq-eqb _ _ e)
 founded-held n (x ∷ es) (suc p) l e = founded-held n es p (omega arith) e
 
-pub founded-executes : (v : Versions) (plan : List PlanEntry) (n free : ℕ) (q : Request) → q .command .point < length plan → FirstRequest plan n q → executedSize ≤ free
+pub founded-executes : (v : Versions) (plan : List PlanEntry) (n free : ℕ) (q : Request) → q .command .point < length plan → FirstRequest plan n q
+    → executedSizeOf (v .timed) ≤ free
     → decideRequest v (founded plan n) free q ≡ append (executed (executedFor v (founded plan n) q))
 unfolding founded pointAt entryAt floorOf find requestRefusal isHeld newRefusal
 founded-executes v plan n free q p F space =
     requested-appends v (founded plan n) free q _ (record {
       first = rw (founded-held n plan (q .command .point) p (F .home), lt-leb (q .lease) 0 (F .lease), le-ltb (q .command .call) 0 (omega arith));
       fresh = refl;
-      second = rw (le-ltb free executedSize space);
+      second = rw (le-ltb free (executedSizeOf (v .timed)) space);
       same = refl;
     })
 
@@ -365,9 +366,9 @@ pub held-byte : (mark : ℕ) (q : Request) (r : Completion) → heldRefusal mark
 unfolding heldRefusal
 held-byte mark q r = search (ltb-true, small-if) depth 16
 
-pub new-byte : (floor clients free : ℕ) → newRefusal floor clients free < 256
+pub new-byte : (floor clients free need : ℕ) → newRefusal floor clients free need < 256
 unfolding newRefusal
-new-byte floor clients free = search (ltb-true, small-if) depth 16
+new-byte floor clients free need = search (ltb-true, small-if) depth 16
 
 -- of 8 and 9, no place and no space, only where a new id is refused so: every other number is neither
 neither : (n k : ℕ) → (ltb n clientsFull || ltb logFull n) ≡ true → clientsFull ≤ k → k ≤ logFull → eqb n k ≡ false
@@ -386,8 +387,8 @@ pub held-other : (mark : ℕ) (q : Request) (r : Completion) (n : ℕ) → clien
 unfolding heldRefusal
 held-other mark q r n l h = search (other-if, neither) depth 16
 
-pub new-other : (floor clients free n : ℕ) → clientsFull ≤ n → n ≤ logFull → (n ≡ clientsFull → (notKnown floor && leb clientCount clients) ≡ false)
-    → (n ≡ logFull → ltb free executedSize ≡ false) → eqb (newRefusal floor clients free) n ≡ false
+pub new-other : (floor clients free need n : ℕ) → clientsFull ≤ n → n ≤ logFull → (n ≡ clientsFull → (notKnown floor && leb clientCount clients) ≡ false)
+    → (n ≡ logFull → ltb free need ≡ false) → eqb (newRefusal floor clients free need) n ≡ false
 unfolding newRefusal
-new-other floor clients free n l h full space =
-    search (other-if, neither, other-test clientsFull n (notKnown floor && leb clientCount clients) full, other-test logFull n (ltb free executedSize) space) depth 16
+new-other floor clients free need n l h full space =
+    search (other-if, neither, other-test clientsFull n (notKnown floor && leb clientCount clients) full, other-test logFull n (ltb free need) space) depth 16

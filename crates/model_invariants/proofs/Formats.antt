@@ -42,7 +42,7 @@ use Rattle.model_invariants.proofs.Images.{image-of, image-well, image-
 
 pub good-record : (r : LogRecord) → recordOk r ≡ true → recordFits r → GoodRecord r
 unfolding noticeOk giveOk releaseOk
-good-record (executed x) h f = record { ok = h; client = f .client; call = f .call; value = f .value }
+good-record (executed x) h f = record { ok = h; client = f .client; call = f .call; value = f .value; time = f .time }
 good-record (gone n) h f = record { ok = leb-true _ _ h; client = f .client; time = f .time }
 good-record (gave g) h f = let a = both (le (g .point) lastPoint) (le (g .destination) lastServer) .holds h in record { point = a .0; destination = a .1; moveNumber = f .moveNumber }
 good-record (took i) h f = image-of i h f
@@ -63,6 +63,7 @@ executed-fits x g =
       argument = c .argument;
       value = g .value;
       quality = omega (arith, o .1);
+      time = g .time;
     }
 
 pub record-good : (r : LogRecord) → GoodRecord r → (recordOk r ≡ true) × recordFits r
@@ -101,8 +102,8 @@ pub parsed-image : (b : List ℕ) (i : Image) → Bytes b → parseImage b ≡ s
 parsed-image b i h e = let p = image-is b h i e in image-of i (p .ok) (p .fits)
 
 -- the bytes of a sound state's image are read back as that image
-pub image-read : {P : ℕ → Type 0} (st : State) (p : ℕ) → SoundBy P st → p ≤ lastPoint → parseImage (imageBytes (imageFor st p)) ≡ some (imageFor st p)
-image-read st p S l = let G = image-good st p S l .0 in image-back (imageFor st p) (image-fits (imageFor st p) G) (image-well (imageFor st p) G)
+pub image-read : {P : ℕ → Type 0} (v : Versions) (st : State) (p : ℕ) → SoundBy P st → p ≤ lastPoint → parseImage (imageBytes (imageFor v st p)) ≡ some (imageFor v st p)
+image-read v st p S l = let G = image-good v st p S l .0 in image-back (imageFor v st p) (image-fits (imageFor v st p) G) (image-well (imageFor v st p) G)
 
 -- ---- what an operation decides on what it is handed
 

@@ -6,21 +6,20 @@
 -- Assumes nothing.
 use Prim.Native.Nat.{ℕ, zero, suc, _+_, _≤_}
 use mathlib.Core.Path.{_≡_, refl, sym, ap, _∙_, subst}
-use mathlib.Core.Bool.{_||_}
+use mathlib.Core.Bool.{Bool, true, false, _||_}
 use mathlib.Core.List.{List, [], _∷_, _++_}
 use mathlib.Core.Option.{Option, none, some, Option·map}
 use native.Mathlib.Omega.{arith}
-use native.Mathlib.Nat.{zero-add, suc-add}
 use lib.ListN.{length, take, drop, length-append, length-drop, List·getD-append}
-use lib.Seq.{getD-take, take-append-le, drop-append-le, take-take, take-nil}
+use lib.Seq.{getD-take, take-append-le, drop-append-le, take-take}
 use lib.Dec.{eqb, ltb}
 use borrow.Author.Tests.{eqb-true, ltb-false, le-ltb}
 use Rattle.model.specs.Numbers.{byteAt, le32At}
-use Rattle.model.specs.Packets.{noticeAt}
+use Rattle.model.specs.Packets.{timeAt, noticeAt}
 use Rattle.model.specs.Limits.{headSize, leastImage, greatestImage}
-use Rattle.model.specs.Limits.{executedKind, goneKind, giveKind, takeKind, releaseKind, executedSize, goneSize, giveSize, takeHead, releaseSize}
+use Rattle.model.specs.Limits.{firstExecutedKind, goneKind, giveKind, takeKind, releaseKind, executedKind, firstExecutedSize, executedSize, goneSize, giveSize, takeHead, releaseSize}
 use Rattle.model.specs.Logs.{LogRecord, Entry, Extent, off, cut, spans, within, takeExtent, extentOf, recordAt}
-use Rattle.model.specs.Logs.{executedAt, giveAt, releaseAt}
+use Rattle.model.specs.Logs.{executedAt, executedParsed, executedKindOf, executedSizeOf, giveAt, releaseAt}
 use Rattle.model_laws.specs.Bytes.{All}
 use Rattle.model_laws.specs.Fits.{lastEnd}
 use Rattle.model_laws.specs.OneWalk.{walk}
@@ -29,6 +28,7 @@ use Rattle.model_laws.proofs.Numbers.{le32-take, signed-take, zeros3-take}
 use Rattle.model_laws.proofs.Logs.{within-whole, within-spans, take-spans, stepWalk, stepRecord, stepExtent, walk-cons}
 use Rattle.model_laws.proofs.Ends.{spans-least}
 use Rattle.model_invariants.specs.Placed.{later, PastHead}
+use Rattle.model_invariants.proofs.Lists.{drop-take}
 
 -- ---- a whole record
 
@@ -66,10 +66,23 @@ whole-fixed s t m n k h x r e q =
       same = r (omega arith) (kind-take m s k (omega arith) q);
     }
 
-executed-take : (m : ℕ) (s : List ℕ) → executedSize ≤ m → executedAt (take m s) ≡ executedAt s
+first-least : (timed : Bool) → firstExecutedSize ≤ executedSizeOf timed
+unfolding executedSizeOf
+first-least true = omega arith
+first-least false = omega arith
+
+-- a time that stands within the bytes taken
+time-take : (timed : Bool) (m : ℕ) (s : List ℕ) → executedSizeOf timed ≤ m → timeAt timed (take m s) firstExecutedSize ≡ timeAt timed s firstExecutedSize
+unfolding executedSizeOf timeAt
+time-take true m s h = le32-take m s firstExecutedSize (omega arith)
+time-take false m s h = refl
+
+executed-take : (timed : Bool) (m : ℕ) (s : List ℕ) → executedSizeOf timed ≤ m → executedAt timed (take m s) ≡ executedAt timed s
 unfolding executedAt
-executed-take m s h =
+executed-take timed m s h =
+    let l : firstExecutedSize ≤ m = omega (arith, first-least timed) in
     rw (
+      time-take timed m s h,
       le32-take m s 4 (omega arith),
       le32-take m s 8 (omega arith),
       le32-take m s 12 (omega arith),
@@ -82,11 +95,14 @@ executed-take m s h =
     )
 
 module _ (s t : List ℕ) (m : ℕ) where
-  whole-executed : within s executedSize ≡ spans m → byteAt s 0 ≡ executedKind → Whole s t m
-  unfolding extentOf recordAt
-  whole-executed e k =
+  whole-executed : (timed : Bool) → within s (executedSizeOf timed) ≡ spans m → byteAt s 0 ≡ executedKindOf timed → Whole s t m
+  unfolding extentOf recordAt executedParsed executedSizeOf executedKindOf
+  whole-executed true e k =
       whole-fixed s t m executedSize executedKind (omega arith) (λ u j. rw j)
-      (λ l j. rw (j, k, zeros3-take m s 25 (omega arith), executed-take m s l)) e k
+      (λ l j. rw (j, k, zeros3-take m s 25 (omega arith), executed-take true m s l)) e k
+  whole-executed false e k =
+      whole-fixed s t m firstExecutedSize firstExecutedKind (omega arith) (λ u j. rw j)
+      (λ l j. rw (j, k, zeros3-take m s 25 (omega arith), executed-take false m s l)) e k
 
   whole-gone : within s goneSize ≡ spans m → byteAt s 0 ≡ goneKind → Whole s t m
   unfolding extentOf recordAt noticeAt
@@ -118,11 +134,6 @@ take-front s t m =
     rw (le-ltb (length (s ++ t)) takeHead (omega (arith, length-append s t)), le32-front s t 4 (omega arith), b)
     (within-front s t (takeHead + le32At s 4) (w .1) ∙ ap spans (sym (w .0)))))
 
-drop-take : (k n : ℕ) (s : List ℕ) → drop k (take (k + n) s) ≡ take n (drop k s)
-drop-take zero n s = rw zero-add
-drop-take (suc k) n [] = rw suc-add (sym (take-nil n))
-drop-take (suc k) n (b ∷ s) = rw suc-add (drop-take k n s)
-
 -- the image's bytes
 part-take : (s : List ℕ) (n : ℕ) → take n (drop takeHead (take (takeHead + n) s)) ≡ take n (drop takeHead s)
 part-take s n = ap (take n) (drop-take takeHead n s) ∙ take-take n n (drop takeHead s) (omega arith)
@@ -140,14 +151,15 @@ whole-took s t m e k =
     }
 
 whole : (s t : List ℕ) (m : ℕ) → extentOf s ≡ spans m → Whole s t m
-unfolding extentOf
+unfolding extentOf executedSizeOf executedKindOf
 whole s t m =
     let P : Extent → Type 0 = λ x. x ≡ spans m → Whole s t m in
-    choose P (eqb (byteAt s 0) executedKind) (λ k e. whole-executed s t m e (eqb-true (byteAt s 0) executedKind k))
+    choose P (eqb (byteAt s 0) firstExecutedKind) (λ k e. whole-executed s t m false e (eqb-true (byteAt s 0) firstExecutedKind k))
     (λ k1. choose P (eqb (byteAt s 0) goneKind) (λ k e. whole-gone s t m e (eqb-true (byteAt s 0) goneKind k))
     (λ k2. choose P (eqb (byteAt s 0) giveKind) (λ k e. whole-gave s t m e (eqb-true (byteAt s 0) giveKind k))
     (λ k3. choose P (eqb (byteAt s 0) takeKind) (λ k e. whole-took s t m e (eqb-true (byteAt s 0) takeKind k))
-    (λ k4. choose P (eqb (byteAt s 0) releaseKind) (λ k e. whole-released s t m e (eqb-true (byteAt s 0) releaseKind k)) (λ k5 e. impossible (cc))))))
+    (λ k4. choose P (eqb (byteAt s 0) releaseKind) (λ k e. whole-released s t m e (eqb-true (byteAt s 0) releaseKind k))
+    (λ k5. choose P (eqb (byteAt s 0) executedKind) (λ k e. whole-executed s t m true e (eqb-true (byteAt s 0) executedKind k)) (λ k6 e. impossible (cc)))))))
 
 -- what is read there is the same
 pub record-front : (s t : List ℕ) (m : ℕ) → extentOf s ≡ spans m → recordAt (s ++ t) ≡ recordAt s

@@ -4,9 +4,9 @@
 --     image-of, image-well, image-fits   a well-formed image that fits is GoodImage
 --     sort-all, sort-length, sort-ascending     sortEntries
 --     image-good                         the image of a point of a sound state is well formed, its values in range
---     image-short                        and has at most 10,544 bytes
+--     image-short                        and has at most 10,544 bytes in the first form, 12,592 in the second
 -- Assumes nothing.
-use Prim.Native.Nat.{ℕ, suc, _*_, _≤_, _<_}
+use Prim.Native.Nat.{ℕ, suc, _+_, _*_, _≤_, _<_}
 use mathlib.Core.Path.{_≡_, refl, sym, ap, _∙_, subst}
 use mathlib.Core.Bool.{Bool, true, false, _&&_, _||_, false≢true}
 use mathlib.Core.List.{List, [], _∷_, map}
@@ -18,17 +18,19 @@ use borrow.Author.Tests.{eqb-true, ltb-true, ltb-false}
 use Rattle.model.specs.declared.Floor.{Floor}
 use Rattle.model.specs.declared.Completion.{Completion}
 use Rattle.model.specs.declared.ImageEntry.{ImageEntry}
+use Rattle.model.specs.Versions.{Versions}
 use Rattle.model.specs.Choice.{pick}
 use Rattle.model.specs.Tables.{every, keep}
-use Rattle.model.specs.Limits.{lastPoint, lastServer, lastQuality, clientCount, greatestImage}
+use Rattle.model.specs.Limits.{lastPoint, lastServer, lastQuality, clientCount, recordCount}
 use Rattle.model.specs.Plan.{entryAt}
 use Rattle.model.specs.Packets.{commandOk, outcomeOk, idOk}
-use Rattle.model.specs.Images.{Image, floorOf, clientsAscend, idBefore, idsAscend, floorOk, imageEntryOk, imageHeadOk, imageTablesOk, imageLength, imageHead, entryWidth}
+use Rattle.model.specs.Images.{Image, floorOf, clientsAscend, idBefore, idsAscend, floorOk, imageEntryOk, imageHeadOk, imageTablesOk, imageLength, imageHead, entriesStart, entryRowOf, entryWidth, greatestOf}
 use Rattle.model.specs.States.{State, pointAt}
 use Rattle.model.specs.Apply.{takenRecord}
-use Rattle.model.specs.Decisions.{isOnPoint, entryOfRecord, insertEntry, sortEntries, imageFor}
+use Rattle.model.specs.Decisions.{isOnPoint, entryOfRecord, insertEntry, sortEntries, imageFor, timedBy}
 use Rattle.model_laws.specs.Bytes.{All}
-use Rattle.model_laws.specs.Fits.{ImageEntryFits, ImageFits, imageWell}
+use Rattle.model_laws.specs.Fits.{TimeFits, ImageEntryFits, ImageFits, imageWell}
+use Rattle.model_laws.proofs.Checkpoints.{Timely}
 use Rattle.model_laws.proofs.Tests.{and-both}
 use Rattle.model_laws.proofs.Reflects.{Reflects, Test, le, lt, eq, flag, of, both, facts, passed, reflects, rows-hold, rows-pass, choose-or}
 use Rattle.model_invariants.specs.Sound.{GoodEntry, Ranged, GoodPoint, GoodCompletion, Windowed, Distinct, SoundBy, Before, EntriesAscending, GoodImageEntry, GoodImage, GoodValues}
@@ -36,7 +38,7 @@ use Rattle.model_laws.proofs.Tables.{all-keep, length-keep}
 use Rattle.model_invariants.proofs.Lists.{all-to, all-with, all-image, keep-passes}
 use Rattle.model_invariants.proofs.Floors.{eqb-no}
 use Rattle.model_invariants.proofs.Count.{distinct-keep, windows-few}
-use Rattle.model_invariants.proofs.Tests.{sound-entry, split, window-says, floor-says, floor-fits, command-fits, outcome-fits, ascends, ascend-test}
+use Rattle.model_invariants.proofs.Tests.{sound-entry, split, window-says, floor-says, floor-fits, command-fits, outcome-fits, times-fit, ascends, ascend-test}
 use Rattle.model_invariants.proofs.Steps.{taken-distinct}
 
 -- ---- the order of ids
@@ -113,9 +115,9 @@ ascend-entries (e ∷ (f ∷ fs)) a =
 
 -- ---- tables
 
-image-entry-says : (p : ℕ) (fs : List Floor) (e : ImageEntry) → Reflects (ImageEntryFits e) (imageEntryOk p fs e) (GoodImageEntry p fs e)
+image-entry-says : (timed : Bool) (p : ℕ) (fs : List Floor) (e : ImageEntry) → Reflects (ImageEntryFits timed e) (imageEntryOk p fs e) (GoodImageEntry timed p fs e)
 unfolding imageEntryOk idOk
-image-entry-says p fs e =
+image-entry-says timed p fs e =
     reflects
     (flag (commandOk (e .op) p (e .argument)) ∷ flag (outcomeOk (e .result .outcome) (e .result .quality)) ∷ both (le 1 (e .client)) (le 1 (e .call))
     ∷ of (window-says (floorOf (e .client) fs) (e .call)) ∷ [])
@@ -128,12 +130,13 @@ image-entry-says p fs e =
       client-fits = f .client;
       call-fits = f .call;
       value-fits = f .value;
+      time = f .time;
       window = q 3;
     })
     (λ g k. k (g .command) (g .outcome) (g .client, g .call) (g .window))
 
-pub image-entry-fits : (p : ℕ) (fs : List Floor) (e : ImageEntry) → GoodImageEntry p fs e → ImageEntryFits e
-image-entry-fits p fs e g =
+pub image-entry-fits : (timed : Bool) (p : ℕ) (fs : List Floor) (e : ImageEntry) → GoodImageEntry timed p fs e → ImageEntryFits timed e
+image-entry-fits timed p fs e g =
     let c = command-fits (e .op) p (e .argument) (g .command) in
     let o = outcome-fits (e .result .outcome) (e .result .quality) (g .outcome) in
     record {
@@ -144,15 +147,16 @@ image-entry-fits p fs e g =
       op = omega (arith, c .op);
       outcome = omega (arith, o .0);
       quality = omega (arith, o .1);
+      time = g .time;
     }
 
 -- an image's records: at most 16 for each floor
-pub entries-few : (p : ℕ) (fs : List Floor) (es : List ImageEntry) → All (GoodImageEntry p fs) es → EntriesAscending es → length es ≤ 16 * length fs
+pub entries-few : (timed : Bool) (p : ℕ) (fs : List Floor) (es : List ImageEntry) → All (GoodImageEntry timed p fs) es → EntriesAscending es → length es ≤ 16 * length fs
 unfolding takenRecord
-entries-few p fs es h a =
+entries-few timed p fs es h a =
     let rs : List Completion = map (takenRecord 0 0) es in
     let w : All (Windowed fs) rs
-    = all-image (Windowed fs) (takenRecord 0 0) es (all-to es (λ (e : ImageEntry) (g : GoodImageEntry p fs e). g .window) h) in
+    = all-image (Windowed fs) (takenRecord 0 0) es (all-to es (λ (e : ImageEntry) (g : GoodImageEntry timed p fs e). g .window) h) in
     omega (arith, windows-few fs rs w (taken-distinct 0 0 es a), length-map es (takenRecord 0 0))
 
 -- the tests of a head and of the tables
@@ -165,7 +169,7 @@ tableTests i =
     flag (every floorOk (i .floors)) ∷ flag (clientsAscend (i .floors)) ∷ flag (every (imageEntryOk (i .point) (i .floors)) (i .entries)) ∷ flag (idsAscend (i .entries)) ∷ []
 
 abbrev imageTests : Image → List Test
-imageTests i = flag (imageHeadOk (imageHead i)) ∷ le (imageLength i) greatestImage ∷ flag (imageTablesOk i) ∷ []
+imageTests i = flag (imageHeadOk (imageHead i)) ∷ le (imageLength i) (greatestOf (i .timed)) ∷ flag (imageTablesOk i) ∷ []
 
 pub image-of : (i : Image) → imageWell i ≡ true → ImageFits i → GoodImage i
 unfolding imageWell imageTablesOk imageHeadOk imageHead
@@ -173,7 +177,8 @@ image-of i h F =
     let w = facts (imageTests i) h in
     let p = facts (headTests i) (w 0) in
     let t = facts (tableTests i) (w 2) in
-    let entries : All (GoodImageEntry (i .point) (i .floors)) (i .entries) = rows-hold (image-entry-says (i .point) (i .floors)) (i .entries) (F .entries) (t 2) in
+    let entries : All (GoodImageEntry (i .timed) (i .point) (i .floors)) (i .entries) =
+    rows-hold (image-entry-says (i .timed) (i .point) (i .floors)) (i .entries) (F .entries) (t 2) in
     let ids : EntriesAscending (i .entries) = entries-ascend (i .entries) (t 3) in
     record {
       point = p 0;
@@ -186,21 +191,25 @@ image-of i h F =
       clients = p 4;
       floors = rows-hold floor-says (i .floors) (F .floors) (t 0);
       ascending = ascends (i .floors) (t 1);
-      count = omega (arith, entries-few (i .point) (i .floors) (i .entries) entries ids, p 4);
+      count = omega (arith, entries-few (i .timed) (i .point) (i .floors) (i .entries) entries ids, p 4);
       entries = entries;
       ids = ids;
     }
 
-pub image-short : (i : Image) → GoodImage i → imageLength i ≤ greatestImage
-unfolding imageLength entryWidth
-image-short i G = omega (arith, G .clients, G .count)
+pub image-short : (i : Image) → GoodImage i → imageLength i ≤ greatestOf (i .timed)
+unfolding imageLength imageHead entryWidth entryRowOf greatestOf
+image-short i G = by-form (i .timed) (length (i .floors)) (length (i .entries)) (G .clients) (G .count)
+  where
+    by-form : (timed : Bool) (n k : ℕ) → n ≤ clientCount → k ≤ recordCount → entriesStart n + entryRowOf timed * k ≤ greatestOf timed
+    by-form true n k l m = omega arith
+    by-form false n k l m = omega arith
 
 pub image-well : (i : Image) → GoodImage i → imageWell i ≡ true
 unfolding imageWell imageTablesOk imageHeadOk imageHead
 image-well i G =
     passed (imageTests i) (passed (headTests i) (G .point) (G .destination) (G .source) (G .quality) (G .clients)) (image-short i G)
     (passed (tableTests i) (rows-pass floor-says (i .floors) (G .floors)) (ascend-test (i .floors) (G .ascending))
-    (rows-pass (image-entry-says (i .point) (i .floors)) (i .entries) (G .entries)) (ascend-entries (i .entries) (G .ids)))
+    (rows-pass (image-entry-says (i .timed) (i .point) (i .floors)) (i .entries) (G .entries)) (ascend-entries (i .entries) (G .ids)))
 
 pub image-fits : (i : Image) → GoodImage i → ImageFits i
 image-fits i G =
@@ -213,7 +222,7 @@ image-fits i G =
       value = G .value;
       quality = omega (arith, G .quality);
       floors = all-to (i .floors) floor-fits (G .floors);
-      entries = all-to (i .entries) (image-entry-fits (i .point) (i .floors)) (G .entries);
+      entries = all-to (i .entries) (image-entry-fits (i .timed) (i .point) (i .floors)) (G .entries);
     }
 
 -- ---- sorting
@@ -277,10 +286,11 @@ on-point : (p : ℕ) (r : Completion) → isOnPoint p r ≡ true → r .command 
 unfolding isOnPoint
 on-point p r e = eqb-true _ _ e
 
-entry-of : (st : State) (p : ℕ) → GoodEntry (entryAt (st .plan) p) → (r : Completion) → GoodCompletion (st .plan) (st .size) r × Windowed (st .floors) r
-    → isOnPoint p r ≡ true → GoodImageEntry p (st .floors) (entryOfRecord r) × Ranged (entryAt (st .plan) p) (r .result .value)
+entry-of : (timed : Bool) (st : State) (p : ℕ) → GoodEntry (entryAt (st .plan) p) → (r : Completion)
+    → GoodCompletion (st .plan) (st .size) r × Windowed (st .floors) r × TimeFits timed (r .result .time)
+    → isOnPoint p r ≡ true → GoodImageEntry timed p (st .floors) (entryOfRecord r) × Ranged (entryAt (st .plan) p) (r .result .value)
 unfolding entryOfRecord
-entry-of st p E r k t =
+entry-of timed st p E r k t =
     let s : r .command .point ≡ p = on-point p r t in
     let g = k .0 in
     let v : Ranged (entryAt (st .plan) p) (r .result .value) = subst (λ (q : ℕ). Ranged (entryAt (st .plan) q) (r .result .value)) s (g .value) in (
@@ -292,30 +302,36 @@ entry-of st p E r k t =
         client-fits = g .client-fits;
         call-fits = g .call-fits;
         value-fits = omega (arith, v .high, E .fits);
+        time = k .2;
         window = k .1;
       },
       v,
     )
 
-pub image-good : {P : ℕ → Type 0} (st : State) (p : ℕ) → SoundBy P st → p ≤ lastPoint → GoodImage (imageFor st p) × GoodValues (entryAt (st .plan) p) (imageFor st p)
+pub image-good : {P : ℕ → Type 0} (v : Versions) (st : State) (p : ℕ) → SoundBy P st → p ≤ lastPoint
+    → GoodImage (imageFor v st p) × GoodValues (entryAt (st .plan) p) (imageFor v st p)
 unfolding imageFor entryOfRecord
-image-good st p S l =
+image-good v st p S l =
     let E = sound-entry st S p l in
     let P : GoodPoint (st .server) (st .size) (entryAt (st .plan) p) (pointAt st p) = S .point p l in
     let t : Completion → Bool = isOnPoint p in
+    let timed : Bool = timedBy v st in
     let rs : List Completion = keep t (st .records) in
     let es : List ImageEntry = map entryOfRecord rs in
-    let both : All (λ (r : Completion). GoodImageEntry p (st .floors) (entryOfRecord r) × Ranged (entryAt (st .plan) p) (r .result .value)) rs
-    = all-with rs (entry-of st p E)
-    (all-keep (λ (r : Completion). GoodCompletion (st .plan) (st .size) r × Windowed (st .floors) r) t (st .records)
-    (all-with (st .records) (λ (r : Completion) (g : GoodCompletion (st .plan) (st .size) r) (w : Windowed (st .floors) r). (g, w)) (S .records) (S .windows)))
+    let both : All (λ (r : Completion). GoodImageEntry timed p (st .floors) (entryOfRecord r) × Ranged (entryAt (st .plan) p) (r .result .value)) rs
+    = all-with rs (entry-of timed st p E)
+    (all-keep (λ (r : Completion). GoodCompletion (st .plan) (st .size) r × Windowed (st .floors) r × TimeFits timed (r .result .time)) t (st .records)
+    (all-with (st .records)
+    (λ (r : Completion) (g : GoodCompletion (st .plan) (st .size) r) (k : Windowed (st .floors) r × TimeFits timed (r .result .time)). (g, k .0, k .1)) (S .records)
+    (all-with (st .records) (λ (r : Completion) (w : Windowed (st .floors) r) (k : TimeFits timed (r .result .time)). (w, k)) (S .windows)
+    (unfold Timely in times-fit v st S))))
     (keep-passes t (st .records)) in
-    let good : All (GoodImageEntry p (st .floors)) es
-    = all-image (GoodImageEntry p (st .floors)) entryOfRecord rs
-    (all-to rs (λ (r : Completion) (k : GoodImageEntry p (st .floors) (entryOfRecord r) × Ranged (entryAt (st .plan) p) (r .result .value)). k .0) both) in
+    let good : All (GoodImageEntry timed p (st .floors)) es
+    = all-image (GoodImageEntry timed p (st .floors)) entryOfRecord rs
+    (all-to rs (λ (r : Completion) (k : GoodImageEntry timed p (st .floors) (entryOfRecord r) × Ranged (entryAt (st .plan) p) (r .result .value)). k .0) both) in
     let ranged : All (λ (e : ImageEntry). Ranged (entryAt (st .plan) p) (e .result .value)) es
     = all-image (λ (e : ImageEntry). Ranged (entryAt (st .plan) p) (e .result .value)) entryOfRecord rs
-    (all-to rs (λ (r : Completion) (k : GoodImageEntry p (st .floors) (entryOfRecord r) × Ranged (entryAt (st .plan) p) (r .result .value)). k .1) both) in (
+    (all-to rs (λ (r : Completion) (k : GoodImageEntry timed p (st .floors) (entryOfRecord r) × Ranged (entryAt (st .plan) p) (r .result .value)). k .1) both) in (
       record {
         point = l;
         destination = P .destination;
@@ -328,7 +344,7 @@ image-good st p S l =
         floors = S .floors;
         ascending = S .ascending;
         count = omega (arith, sort-length es, length-map rs entryOfRecord, length-keep t (st .records), S .count);
-        entries = sort-all (GoodImageEntry p (st .floors)) es good;
+        entries = sort-all (GoodImageEntry timed p (st .floors)) es good;
         ids = sort-ascending es (entries-distinct rs (distinct-keep t (st .records) (S .ids)));
       },
       record { value = P .value; values = sort-all (λ (e : ImageEntry). Ranged (entryAt (st .plan) p) (e .result .value)) es ranged },

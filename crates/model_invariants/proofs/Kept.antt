@@ -26,17 +26,18 @@ use Rattle.model.specs.declared.Give.{Give}
 use Rattle.model.specs.declared.Release.{Release}
 use Rattle.model.specs.declared.Completion.{Completion}
 use Rattle.model.specs.Choice.{pick, append, marks, isPassed}
-use Rattle.model.specs.Limits.{lastPoint, lastServer, headSize, executedSize, giveSize, takeHead, releaseSize, invalid}
+use Rattle.model.specs.Limits.{lastPoint, lastServer, headSize, giveSize, takeHead, releaseSize, invalid}
 use Rattle.model.specs.Plan.{entryAt, noEntry}
 use Rattle.model.specs.Rules.{argumentOk}
 use Rattle.model.specs.Packets.{commandOk, outcomeOk, idOk, doneOk, requestOk}
 use Rattle.model.specs.Images.{Image, imageLength, floorOf}
-use Rattle.model.specs.Logs.{LogRecord, executed, gone, gave, took, released, recordSize, executedOk}
+use Rattle.model.specs.Logs.{LogRecord, executed, gone, gave, took, released, recordSize, executedOk, executedSizeOf}
 use Rattle.model.specs.States
 use Rattle.model.specs.States.{State, pointAt, noPoint}
 use Rattle.model.specs.Apply.{applyRecord, applyExecuted, applyGone, applyGave, applyTook, applyReleased, foundedPoint, founded, withMark}
-use Rattle.model.specs.Decisions.{find, requestRefusal, newRefusal, resultFor, executedFor, decideRequest, decideNotice, placesBad, giveRefusal, onGive, takeTests, decideTake, releaseRefusal, decideRelease, onSync, isNone, follows}
+use Rattle.model.specs.Decisions.{find, requestRefusal, newRefusal, resultFor, timeFor, withTime, executedFor, decideRequest, decideNotice, placesBad, giveRefusal, onGive, takeTests, decideTake, releaseRefusal, decideRelease, onSync, isNone, follows}
 use Rattle.model_laws.specs.Bytes.{All}
+use Rattle.model_laws.specs.Fits.{TimeFits}
 use Rattle.model_laws.proofs.Tests.{and-both}
 use Rattle.model_laws.proofs.Reflects.{eq, flag, of, both, facts}
 use Rattle.model_laws.proofs.Commands.{command-parts}
@@ -158,13 +159,13 @@ unfolding follows
 executed-follows st x h =
     let f : ℕ = floorOf (x .command .client) (st .floors) in
     let first : ℕ = requestRefusal (pointAt st (x .command .point)) false f (x .command .call) in
-    let second : ℕ = newRefusal f (length (st .floors)) executedSize in
+    let second : ℕ = newRefusal f (length (st .floors)) (executedSizeOf (x .timed)) (executedSizeOf (x .timed)) in
     let free : Bool = isNone (find (x .command .client) (x .command .call) (st .records)) in
     let t = facts
     (flag (isPassed first) ∷ flag free ∷ flag (isPassed second) ∷ of (range-says (entryAt (st .plan) (x .command .point)) (x .result .value)) ∷ []) h in
     let a = request-tests (pointAt st (x .command .point)) false f (x .command .call) (is-zero first (t 0)) in
     let n = find-fresh (x .command .client) (x .command .call) (st .records) (none-is (find (x .command .client) (x .command .call) (st .records)) (t 1)) in
-    let p = new-tests f (length (st .floors)) executedSize (is-zero second (t 2)) in
+    let p = new-tests f (length (st .floors)) (executedSizeOf (x .timed)) (executedSizeOf (x .timed)) (is-zero second (t 2)) in
     (record { held = a .0; over = a .2; fresh = n; place = p .0 }, t 3)
 
 pub gave-follows : (st : State) (g : Give) → follows st (gave g) ≡ true
@@ -223,7 +224,7 @@ result-good v st q S G =
     (entry-good e (sound-entry st S (q .command .point) (A .point))) (range-says e (x .value) .passes (P .value)) (P .quality) (A .argument) (v .rule (q .command .op))
 
 request-good : {P : ℕ → Type 0} (v : Versions) (st : State) (q : Request) → SoundBy P st → GoodRequest q → GoodExecuted (executedFor v st q)
-unfolding executedFor executedOk
+unfolding executedFor executedOk withTime timeFor
 request-good v st q S G =
     let A = asked q (G .ok) in
     let R = result-good v st q S G in
@@ -234,7 +235,12 @@ request-good v st q S G =
       client = G .client;
       call = G .call;
       value = R .fits (sound-entry st S (q .command .point) (A .point) .fits);
+      time = noted (v .timed);
     }
+  where
+    noted : (timed : Bool) → TimeFits timed (pick timed (st .heard) 0)
+    noted true = S .heard
+    noted false = refl
 
 pub decided-good : {P : ℕ → Type 0} (st : State) (free : ℕ) (r : LogRecord) → SoundBy P st → Decides st free r → GoodRecord r
 decided-good st free r S (byRequest v q G e) = rw (request-passed v st free q r e .1) (request-good v st q S G)
@@ -248,8 +254,8 @@ decided-good st free r S (byRelease p m l e) =
 
 request-follows : {P : ℕ → Type 0} (v : Versions) (st : State) (free : ℕ) (q : Request) (r : LogRecord) → SoundBy P st → GoodRequest q → Requested v st free q r
     → follows st (executed (executedFor v st q)) ≡ true
-unfolding follows executedFor isNone
-request-follows v st free q r S G k = rw (request-again _ _ _ _ (k .first), k .fresh, new-again _ _ _ (k .second)) (result-good v st q S G .range)
+unfolding follows executedFor withTime isNone
+request-follows v st free q r S G k = rw (request-again _ _ _ _ (k .first), k .fresh, new-again _ _ _ _ (k .second)) (result-good v st q S G .range)
 
 pub decided-follows : {P : ℕ → Type 0} (st : State) (free : ℕ) (r : LogRecord) → SoundBy P st → Decides st free r → follows st r ≡ true
 unfolding follows
@@ -267,7 +273,7 @@ decided-sound st free r S D z = follows-sound st r S (decided-good st free r S D
 
 -- the log has space for what is appended
 pub decided-space : (st : State) (free : ℕ) (r : LogRecord) → Decides st free r → recordSize r ≤ free
-unfolding recordSize
+unfolding recordSize executedFor
 decided-space st free r (byRequest v q G e) = rw (request-passed v st free q r e .1) (request-terms v st free q r e .1)
 decided-space st free r (byNotice n G e) = let k = notice-passed st free n r e in rw (k .2) (k .1)
 decided-space st free r (byGive p d e) = let k = give-passed st free p d r e in rw (k .2) (k .1)
@@ -281,7 +287,7 @@ sync-sound st m n S e = let k = sync-passed st m n e in rw (k .0) (sound-mark st
 
 request-mark : (v : Versions) (st : State) (m free : ℕ) (q : Request) (r : LogRecord) → decideRequest v (withMark m st) free q ≡ append r
     → decideRequest v st free q ≡ append r
-unfolding withMark pointAt executedFor resultFor
+unfolding withMark pointAt executedFor resultFor timeFor
 request-mark v st m free q r e =
     let k = requested v (withMark m st) free q r e in
     requested-appends v st free q r (record { first = k .first; fresh = k .fresh; second = k .second; same = k .same })

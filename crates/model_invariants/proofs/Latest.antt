@@ -19,10 +19,10 @@ use Rattle.model.specs.declared.ImageEntry.{ImageEntry}
 use Rattle.model.specs.declared.Executed.{Executed}
 use Rattle.model.specs.declared.Place.{Place}
 use Rattle.model.specs.Choice.{pick}
-use Rattle.model.specs.Limits.{headSize, executedSize, takeHead}
+use Rattle.model.specs.Limits.{headSize, takeHead}
 use Rattle.model.specs.Tables.{keep, indexOf}
 use Rattle.model.specs.Images.{Image, entryWidth, entriesStart, imageHead}
-use Rattle.model.specs.Logs.{LogRecord, executed, gone, gave, took, released, Entry, recordSize}
+use Rattle.model.specs.Logs.{LogRecord, executed, gone, gave, took, released, Entry, recordSize, executedSizeOf}
 use Rattle.model.specs.States.{State}
 use Rattle.model.specs.Apply.{isOnOther, completion, takenRecord, applyExecuted, applyGone, applyGave, applyTook, applyReleased, applyRecord, apply, replayFrom}
 use Rattle.model.specs.Decisions.{follows, entryOfRecord}
@@ -106,8 +106,8 @@ entriesAt a i = lastEnd headSize a + takeHead + entriesStart (length (i .floors)
 pub data Found (start : State) (first : Place) (es : List Entry) (r : Completion) (p : Place) : Type 0 where
   before : List·Memᴰ r (start .records) → p ≡ first → Found start first es r p
   inLog : (a b : List Entry) (x : Executed) → es ≡ a ++ (record { item = executed x; end = r .end } ∷ b) → EntriesFrom headSize a
-      → x .command ≡ r .command → x .result ≡ r .result → r .end ≡ lastEnd headSize a + executedSize
-      → p ≡ placeAt inRecord (lastEnd headSize a) executedSize → Found start first es r p
+      → x .command ≡ r .command → x .result ≡ r .result → r .end ≡ lastEnd headSize a + executedSizeOf (x .timed)
+      → p ≡ placeAt inRecord (lastEnd headSize a) (executedSizeOf (x .timed)) → Found start first es r p
   inTake : (a b : List Entry) (i : Image) → es ≡ a ++ (record { item = took i; end = r .end } ∷ b) → EntriesFrom headSize a
       → i .point ≡ r .command .point → (front rest : List ImageEntry) → i .entries ≡ front ++ (entryOfRecord r ∷ rest)
       → r .end ≡ lastEnd headSize a + recordSize (took i) → p ≡ placeAt inImage (entriesAt a i + entryWidth (imageHead i) * length front) (entryWidth (imageHead i)) → Found start first es r p
@@ -168,18 +168,18 @@ module _ (start : State) (first : Place) (x c : ℕ) where
 
   module _ (es : List Entry) (F : EntriesFrom headSize es) (st : State) (z : st .size ≡ lastEnd headSize es) (p : Place) (S : Standing es p (st .records)) where
     executed-standing : (y : Executed) → follows st (executed y) ≡ true
-        → Standing (es ++ (entryFor st (executed y) ∷ [])) (latestOf x c (lastEnd headSize es) (some (executed y)) p) (applyExecuted y (st .size + executedSize) st .records)
+        → Standing (es ++ (entryFor st (executed y) ∷ [])) (latestOf x c (lastEnd headSize es) (some (executed y)) p) (applyExecuted y (st .size + executedSizeOf (y .timed)) st .records)
     unfolding applyExecuted completion latestOf recordSize
     executed-standing y h r m k l = go (eqb (y .command .client) x && eqb (y .command .call) c) refl (List·Memᴰ·append-cases (st .records) (keep-member _ _ m))
       where
-        new : r ≡ completion y (st .size + executedSize) → Found start first (es ++ (entryFor st (executed y) ∷ [])) r (placeAt inRecord (lastEnd headSize es) executedSize)
+        new : r ≡ completion y (st .size + executedSizeOf (y .timed)) → Found start first (es ++ (entryFor st (executed y) ∷ [])) r (placeAt inRecord (lastEnd headSize es) (executedSizeOf (y .timed)))
         new q =
-            let n : r .end ≡ st .size + executedSize = ap (λ (i : Completion). i .end) q in
+            let n : r .end ≡ st .size + executedSizeOf (y .timed) = ap (λ (i : Completion). i .end) q in
             inLog es [] y (ap (λ (i : ℕ). es ++ (record { item = executed y; end = i } ∷ [])) (sym n)) F (sym (ap (λ (i : Completion). i .command) q)) (sym (ap (λ (i : Completion). i .result) q))
-            (n ∙ ap (λ (i : ℕ). i + executedSize) z) refl
+            (n ∙ ap (λ (i : ℕ). i + executedSizeOf (y .timed)) z) refl
 
-        go : (b : Bool) → (eqb (y .command .client) x && eqb (y .command .call) c) ≡ b → List·Memᴰ r (st .records) ⊎ List·Memᴰ r (completion y (st .size + executedSize) ∷ [])
-            → Found start first (es ++ (entryFor st (executed y) ∷ [])) r (pick b (placeAt inRecord (lastEnd headSize es) executedSize) p)
+        go : (b : Bool) → (eqb (y .command .client) x && eqb (y .command .call) c) ≡ b → List·Memᴰ r (st .records) ⊎ List·Memᴰ r (completion y (st .size + executedSizeOf (y .timed)) ∷ [])
+            → Found start first (es ++ (entryFor st (executed y) ∷ [])) r (pick b (placeAt inRecord (lastEnd headSize es) (executedSizeOf (y .timed))) p)
         go true i (inl old) =
             let a = both (eq (y .command .client) x) (eq (y .command .call) c) .holds i in
             absurd (all-member _ (executed-follows st y h .0 .fresh) old (k ∙ sym (a .0)) (l ∙ sym (a .1)))

@@ -4,13 +4,16 @@
 --     getD-all                    of every element by its place
 --     keep-passes, keep-none      what a test keeps
 --     keep-halves                 lengths
+--     drop-take                   the bytes from a place on, of those taken
 -- Assumes nothing.
 use Prim.Native.Nat.{ℕ, zero, suc, _+_, _<_}
 use mathlib.Core.Path.{_≡_, refl, sym}
 use mathlib.Core.Bool.{Bool, true, false, not, false≢true}
 use mathlib.Core.List.{List, [], _∷_, map}
 use native.Mathlib.Omega.{arith}
-use lib.ListN.{length, getD}
+use native.Mathlib.Nat.{zero-add, suc-add}
+use lib.ListN.{length, getD, take, drop}
+use lib.Seq.{take-nil}
 use Rattle.model.specs.Choice.{pick}
 use Rattle.model.specs.Tables.{keep}
 use Rattle.model_laws.specs.Bytes.{All}
@@ -68,3 +71,8 @@ module _ {A : Type 0} (t : A → Bool) where
   unfolding keep
   keep-none [] h = refl
   keep-none (x ∷ xs) h = rw (h .0) (keep-none xs (h .1))
+
+pub drop-take : (k n : ℕ) (s : List ℕ) → drop k (take (k + n) s) ≡ take n (drop k s)
+drop-take zero n s = rw zero-add
+drop-take (suc k) n [] = rw suc-add (sym (take-nil n))
+drop-take (suc k) n (b ∷ s) = rw suc-add (drop-take k n s)

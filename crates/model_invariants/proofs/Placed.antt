@@ -33,11 +33,11 @@ use Rattle.model.specs.Plan.{entryAt}
 use Rattle.model.specs.Rules.{ruleOf}
 use Rattle.model.specs.Packets.{asRequest, asReceipt}
 use Rattle.model.specs.Images.{Image, imageLength, imageInRange, floorOf}
-use Rattle.model.specs.Logs.{LogRecord, executed, gone, gave, took, released}
+use Rattle.model.specs.Logs.{LogRecord, executed, gone, gave, took, released, executedSizeOf}
 use Rattle.model.specs.States.{State, pointAt, noPoint, isHeld, isGiven, isId}
 use Rattle.model.specs.Apply.{raise, mergeFloors, executedPoint, completion, gavePoint, tookPoint, takenRecord, releasedPoint, staysOver, staysOverFloors, isOfOther, isOnOther}
 use Rattle.model.specs.Apply.{applyExecuted, applyGone, applyGave, applyTook, applyReleased, applyRecord}
-use Rattle.model.specs.Decisions.{Decided, orMalformed, find, requestRefusal, resultOfRecord, sameCommand, heldRefusal, onHeld, resultFor, executedFor, newRefusal, onNew, onId, decideRequest, denying, onRequest}
+use Rattle.model.specs.Decisions.{Decided, timedBy, orMalformed, find, requestRefusal, resultOfRecord, sameCommand, heldRefusal, onHeld, resultFor, timeFor, withTime, executedFor, newRefusal, onNew, onId, decideRequest, denying, onRequest}
 use Rattle.model.specs.Decisions.{fetchRefusal, onFetched, onFetch, decideNotice, onNotice, placesBad, giveRefusal, onGive, isOnPoint, entryOfRecord, imageFor, imageRefusal, onImage}
 use Rattle.model.specs.Decisions.{freeFor, takeRefusal, takeTests, decideTake, onTake, receiptRefusal, onReceipt, releaseRefusal, decideRelease, onRelease, isNone, follows}
 use Rattle.model.specs.Checkpoints.{placedPoint, placedRecord, placed}
@@ -314,8 +314,16 @@ synced-point : (f : ℕ → ℕ) (st : State) → f 0 ≡ 0 → (h k : Point →
 synced-point f st z h k e p = ap h (point-placed f z st p) ∙ e (pointAt st p)
 
 module _ (f : ℕ → ℕ) (st : State) where
+  -- the form that a program writes it in
+  pub timed-placed : (v : Versions) → timedBy v (placed f st) ≡ timedBy v st
+  unfolding timedBy placed
+  timed-placed v =
+      let t : every (λ (r : Completion). eqb (r .result .time) 0) (map (placedRecord f) (st .records)) ≡ every (λ (r : Completion). eqb (r .result .time) 0) (st .records)
+      = every-map (placedRecord f) (λ (r : Completion). eqb (r .result .time) 0) (λ (r : Completion). eqb (r .result .time) 0) (λ (r : Completion). unfold placedRecord in refl) (st .records) in
+      rw t
+
   executed-for : (v : Versions) (q : Request) → executedFor v (placed f st) q ≡ executedFor v st q
-  unfolding executedFor resultFor placed placedPoint
+  unfolding executedFor resultFor timeFor placed placedPoint
   executed-for v q =
       let c = q .command in
       at-point
@@ -323,24 +331,28 @@ module _ (f : ℕ → ℕ) (st : State) where
       record {
         command = c;
         done = q .done;
-        result = ruleOf (v .rule (c .op)) (entryAt (st .plan) (c .point)) (c .op) (c .argument) (record { value = x .value; quality = x .quality });
+        result =
+            withTime (pick (v .timed) (st .heard) 0)
+            (ruleOf (v .rule (c .op)) (entryAt (st .plan) (c .point)) (c .op) (c .argument) (record { value = x .value; quality = x .quality }));
+        timed = v .timed;
       })
       f (λ (x : Point). refl) st (c .point)
 
   new-placed : (v : Versions) (free : ℕ) (q : Request) → onNew v (placed f st) free q ≡ onNew v st free q
   unfolding onNew placed
   new-placed v free q =
-      ap (λ (x : Executed). unlessRefused (newRefusal (floorOf (q .command .client) (st .floors)) (length (st .floors)) free) (append (executed x))) (executed-for v q)
+      ap (λ (x : Executed). unlessRefused (newRefusal (floorOf (q .command .client) (st .floors)) (length (st .floors)) free (executedSizeOf (v .timed))) (append (executed x)))
+      (executed-for v q)
 
   module _ (s : KeepsSynced f (st .mark)) where
-    held-placed : (q : Request) (r : Completion) → onHeld (placed f st) q (placedRecord f r) ≡ onHeld st q r
+    held-placed : (v : Versions) (q : Request) (r : Completion) → onHeld v (placed f st) q (placedRecord f r) ≡ onHeld v st q r
     unfolding onHeld heldRefusal sameCommand resultOfRecord placed placedRecord
-    held-placed q r = rw (s (r .end))
+    held-placed v q r = rw (s (r .end), timed-placed v)
 
     id-placed : (v : Versions) (free : ℕ) (q : Request) (o : Option Completion) → onId v (placed f st) free q (Option·map (placedRecord f) o) ≡ onId v st free q o
     unfolding onId
     id-placed v free q none = new-placed v free q
-    id-placed v free q (some r) = held-placed q r
+    id-placed v free q (some r) = held-placed v q r
 
     decide-placed : (v : Versions) (free : ℕ) (q : Request) → decideRequest v (placed f st) free q ≡ decideRequest v st free q
     unfolding decideRequest placed
@@ -359,31 +371,31 @@ module _ (f : ℕ → ℕ) (st : State) where
         decided-alike (asRequest p) (λ (q : Request). denying q (decideRequest v (placed f st) free q)) (λ (q : Request). denying q (decideRequest v st free q))
         (λ (q : Request). ap (denying q) (decide-placed v free q))
 
-    fetched-placed : (o : Option Completion) → onFetched (placed f st) (Option·map (placedRecord f) o) ≡ onFetched st o
+    fetched-placed : (v : Versions) (o : Option Completion) → onFetched v (placed f st) (Option·map (placedRecord f) o) ≡ onFetched v st o
     unfolding onFetched fetchRefusal resultOfRecord placed placedRecord
-    fetched-placed none = refl
-    fetched-placed (some r) = rw (s (r .end))
+    fetched-placed v none = refl
+    fetched-placed v (some r) = rw (s (r .end), timed-placed v)
 
-    pub fetch-placed : (x c : ℕ) → onFetch (placed f st) x c ≡ onFetch st x c
+    pub fetch-placed : (v : Versions) (x c : ℕ) → onFetch v (placed f st) x c ≡ onFetch v st x c
     unfolding onFetch placed
-    fetch-placed x c = ap (onFetched (placed f st)) (find-placed f x c (st .records)) ∙ fetched-placed (find x c (st .records))
+    fetch-placed v x c = ap (onFetched v (placed f st)) (find-placed f x c (st .records)) ∙ fetched-placed v (find x c (st .records))
 
     module _ (z : f 0 ≡ 0) where
-      image-for : (p : ℕ) → imageFor (placed f st) p ≡ imageFor st p
+      image-for : (v : Versions) (p : ℕ) → imageFor v (placed f st) p ≡ imageFor v st p
       unfolding imageFor placed placedPoint
-      image-for p =
+      image-for v p =
           let es : map entryOfRecord (keep (isOnPoint p) (map (placedRecord f) (st .records))) ≡ map entryOfRecord (keep (isOnPoint p) (st .records))
           = ap (map entryOfRecord) (keep-map (placedRecord f) (isOnPoint p) (isOnPoint p) (λ (r : Completion). unfold isOnPoint placedRecord in refl) (st .records))
           ∙ unfold entryOfRecord placedRecord in map-map entryOfRecord (placedRecord f) (keep (isOnPoint p) (st .records)) in
-          rw (es, point-placed f z st p)
+          rw (es, point-placed f z st p, timed-placed v)
 
-      pub image-placed : (p : ℕ) → onImage (placed f st) p ≡ onImage st p
+      pub image-placed : (v : Versions) (p : ℕ) → onImage v (placed f st) p ≡ onImage v st p
       unfolding onImage placed
-      image-placed p =
+      image-placed v p =
           let a : imageRefusal (pointAt (placed f st) p) (placed f st .mark) ≡ imageRefusal (pointAt st p) (st .mark)
           = synced-point f st z (λ (x : Point). imageRefusal x (f (st .mark))) (λ (x : Point). imageRefusal x (st .mark))
           (λ (x : Point). unfold imageRefusal placedPoint isGiven in rw (s (x .giveEnd))) p in
-          rw (a, image-for p)
+          rw (a, image-for v p)
 
       pub receipt-placed : (p : ℕ) → onReceipt (placed f st) p ≡ onReceipt st p
       unfolding onReceipt placed

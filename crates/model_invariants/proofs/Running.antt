@@ -150,7 +150,7 @@ module _ {start : State} (s : Start start) where
   operation-holds o es state log out H b z k =
       subst (λ (a : After). Holds start (entriesAfter start es (decidedOn o state log out)) (a .state) (a .log)) (sym (operated-is o state log out))
       (lent-elim (λ d. Holds start (entriesAfter start es d) (settle state log (output o out) d .state) (settle state log (output o out) d .log)) state log (output o out)
-      (outputSize o) (decision o (load state) (freeIn state log)) H H
+      (outputSize (load state) o) (decision o (load state) (freeIn state log)) H H
       (λ l s f. settled-holds es state log (output o out) (decision o (load state) (freeIn state log)) H b l f z (decision-allowed o state log k)))
 
   -- ---- recovery

@@ -77,9 +77,9 @@ pub request-seen : (b : ℕ) (v : Versions) (st : State) (free : ℕ) (p : Packe
 unfolding seenFrom
 request-seen b v st free p h = request-placed (local b) st (synced-here b st h) v free p
 
-pub fetch-seen : (b : ℕ) (st : State) (x c : ℕ) → b + headSize ≤ st .mark → onFetch (seenFrom b st) x c ≡ onFetch st x c
+pub fetch-seen : (b : ℕ) (v : Versions) (st : State) (x c : ℕ) → b + headSize ≤ st .mark → onFetch v (seenFrom b st) x c ≡ onFetch v st x c
 unfolding seenFrom
-fetch-seen b st x c h = fetch-placed (local b) st (synced-here b st h) x c
+fetch-seen b v st x c h = fetch-placed (local b) st (synced-here b st h) v x c
 
 pub notice-seen : (b : ℕ) (st : State) (free : ℕ) (p : Packet) → onNotice (seenFrom b st) free p ≡ onNotice st free p
 unfolding seenFrom
@@ -89,9 +89,9 @@ pub give-seen : (b : ℕ) (st : State) (free p d : ℕ) → onGive (seenFrom b s
 unfolding seenFrom
 give-seen b st free p d = give-placed (local b) st free p d
 
-pub image-seen : (b : ℕ) (st : State) (p : ℕ) → b + headSize ≤ st .mark → onImage (seenFrom b st) p ≡ onImage st p
+pub image-seen : (b : ℕ) (v : Versions) (st : State) (p : ℕ) → b + headSize ≤ st .mark → onImage v (seenFrom b st) p ≡ onImage v st p
 unfolding seenFrom
-image-seen b st p h = image-placed (local b) st (synced-here b st h) (local-zero b) p
+image-seen b v st p h = image-placed (local b) st (synced-here b st h) (local-zero b) v p
 
 pub take-seen : (b : ℕ) (st : State) (free : ℕ) (o : Option Image) → onTake (seenFrom b st) free o ≡ onTake st free o
 unfolding seenFrom

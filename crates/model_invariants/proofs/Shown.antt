@@ -7,7 +7,7 @@
 -- Assumes nothing.
 use Prim.Native.Nat.{ℕ, suc, _+_, _-_, _*_, _≤_}
 use mathlib.Core.Path.{_≡_, refl, sym, ap, _∙_, subst}
-use mathlib.Core.Bool.{true, false, and-false}
+use mathlib.Core.Bool.{Bool, true, false, and-false}
 use mathlib.Core.List.{List, [], _∷_, _++_, append-assoc, append-nil, List·Memᴰ, List·Memᴰ·head, List·Memᴰ·tail, List·Memᴰ·not-nil, Memᴰ·append-right}
 use mathlib.Core.Option.{Option, none, some}
 use native.Mathlib.Omega.{arith}
@@ -21,28 +21,28 @@ use Rattle.model.specs.declared.Executed.{Executed}
 use Rattle.model.specs.declared.Place.{Place}
 use Rattle.model.specs.Choice.{pick, _if_else_, passed}
 use Rattle.model.specs.Refusals.{unknown, noRefusal}
-use Rattle.model.specs.Numbers.{le32, quad}
+use Rattle.model.specs.Numbers.{le32, quad, startsWith}
 use Rattle.model.specs.Tables.{bytesOf}
-use Rattle.model.specs.Limits.{stateSize, headSize, floorRow, entryRow, executedSize, takeHead, takeKind, checkpointRecord}
-use Rattle.model.specs.Images.{Image, floorOfBytes, floorBytes, imageEntryOf, imageEntryBytes, entryWidth, entriesStart, imageHead, imageLength, imageHeadBytes, imageBytes}
-use Rattle.model.specs.Logs.{LogRecord, executed, took, Entry, headBytes, recordBytes, recordSize, takeBytes, executedAt, executedBytes, recordAt, headServer, headOk, endsOf, wholeEnd, lastOf, entriesTo, entriesBytes}
+use Rattle.model.specs.Limits.{stateSize, headSize, floorRow, entryRow, executedSize, takeHead, takeKind}
+use Rattle.model.specs.Images.{Image, floorOfBytes, floorBytes, imageEntryOf, imageEntryBytes, entryRowOf, entryWidth, entriesStart, imageHead, imageLength, imageHeadBytes, imageBytes}
+use Rattle.model.specs.Logs.{LogRecord, executed, took, Entry, headBytes, recordBytes, recordSize, takeBytes, executedSizeOf, executedAt, executedBytes, recordAt, headServer, headOk, endsOf, wholeEnd, lastOf, entriesTo, entriesBytes}
 use Rattle.model.specs.Plan.{planBytes}
 use Rattle.model.specs.States.{State, completionOf, completionBytes, isId, clientsIn, load}
 use Rattle.model.specs.Apply.{founded, replayFrom, withMark}
 use Rattle.model.specs.Decisions.{find, isNone, entryOfRecord}
 use Rattle.model.specs.Operations.{short, unfit}
-use Rattle.model.specs.Checkpoints.{placedRecord, endBefore, checkpointMagic, recordsPart, pairsBytes, pointFront, recordFront, recordWhole, checkpointBytes, recordWidth, clientsOf, restored, checkpointState}
+use Rattle.model.specs.Checkpoints.{placedRecord, endBefore, checkpointMagic, checkpointMagicOf, checkpointRecordOf, recordsPart, pairsBytes, pointFront, recordFront, recordWhole, checkpointBytes, recordWidth, clientsOf, restored, checkpointState}
 use Rattle.model.specs.Checkpoints.{inCheckpoint, placeAt, noPlace, placeAmong, latestOf, latestIn, placeInCheckpoint, checkpointBad, tailOf, inspectRefusal, inspectOf, shownOf}
 use Rattle.model_laws.specs.Bytes.{Bytes, All}
-use Rattle.model_laws.specs.Fits.{ImageEntryFits, recordFits, EntriesFrom, lastEnd, CompletionFits}
+use Rattle.model_laws.specs.Fits.{TimeFits, ImageEntryFits, ImageFits, recordFits, EntriesFrom, lastEnd, CompletionFits}
 use Rattle.model_laws.proofs.Tests.{impossible}
-use Rattle.model_laws.proofs.Tables.{length-rows, bytesOf-append, length-bytesOf, all-member}
-use Rattle.model_laws.proofs.Images.{floorCodec, entryCodec}
+use Rattle.model_laws.proofs.Tables.{row-in, length-rows, bytesOf-append, length-bytesOf, all-member}
+use Rattle.model_laws.proofs.Images.{floorCodec, entryCodec, head-length}
 use Rattle.model_laws.proofs.States.{completionCodec}
 use Rattle.model_laws.proofs.Logs.{head-server, head-back, executedCodec, record-length, log-length, entries-append, entries-back}
 use Rattle.model_laws.proofs.TwoWalks.{entries-same, recovered-on}
-use Rattle.model_laws.proofs.Fronts.{length-each, record-front-width, record-whole}
-use Rattle.model_laws.proofs.Checkpoints.{framed-is}
+use Rattle.model_laws.proofs.Fronts.{length-each, record-front-width, form-width, record-whole}
+use Rattle.model_laws.proofs.Checkpoints.{framed-is, Timely}
 use Rattle.model_laws.proofs.Restored.{restored-clients}
 use Rattle.model_invariants.specs.Sound.{GoodCompletion, Other, Distinct, Sound}
 use Rattle.model_invariants.specs.History.{Start, DecidedFrom}
@@ -57,7 +57,7 @@ use Rattle.model_invariants.proofs.Crash.{replay-end, decided-from, log
 use Rattle.model_invariants.proofs.FirstWalk.{recovered-length}
 use Rattle.model_invariants.proofs.Running.{holds-size}
 use Rattle.model_invariants.proofs.Checkpoints.{checkpoint-length}
-use Rattle.model_invariants.proofs.Restored.{gives, checkpoint-sound, checkpoint-again}
+use Rattle.model_invariants.proofs.Restored.{gives, checkpoint-sound, checkpoint-timely, checkpoint-again}
 use Rattle.model_invariants.proofs.Latest.{Once, Split, once-split, split-below, latestAmong, Found, before, inLog, inTake, found-latest}
 
 -- ---- the walk over bytes
@@ -106,45 +106,54 @@ module _ (n : ℕ) (es : List Entry) (tail : List ℕ) (logged : take (lastEnd h
       )
 
   record-shown : (a b : List Entry) (x : Executed) (end : ℕ) → es ≡ a ++ (record { item = executed x; end = end } ∷ b) → EntriesFrom headSize a
-      → take (lastEnd headSize a + executedSize - lastEnd headSize a) (drop (lastEnd headSize a) tail) ≡ executedBytes x
+      → take (lastEnd headSize a + executedSizeOf (x .timed) - lastEnd headSize a) (drop (lastEnd headSize a) tail) ≡ executedBytes x
   unfolding recordBytes recordSize
   record-shown a b x end q f =
-      part-at tail (headBytes n ++ entriesBytes a) (executedBytes x) (entriesBytes b ++ behind) (lastEnd headSize a) executedSize (tail-split a b (record { item = executed x; end = end }) q)
+      part-at tail (headBytes n ++ entriesBytes a) (executedBytes x) (entriesBytes b ++ behind) (lastEnd headSize a) (executedSizeOf (x .timed))
+      (tail-split a b (record { item = executed x; end = end }) q)
       (log-length n a f) (record-length (executed x))
 
   -- the bytes of a take before the entries that follow `front`
   imageFront : Image → List ImageEntry → List ℕ
   imageFront i front =
-      quad takeKind 0 0 0 ++ (le32 (imageLength i) ++ (imageHeadBytes (imageHead i) ++ (bytesOf floorBytes (i .floors) ++ bytesOf imageEntryBytes front)))
+      quad takeKind 0 0 0 ++ (le32 (imageLength i) ++ (imageHeadBytes (imageHead i) ++ (bytesOf floorBytes (i .floors) ++ bytesOf (imageEntryBytes (i .timed)) front)))
 
-  front-length : (i : Image) (front : List ImageEntry) → length (imageFront i front) ≡ takeHead + entriesStart (length (i .floors)) + entryRow * length front
-  unfolding imageFront imageHeadBytes
+  front-length : (i : Image) (front : List ImageEntry) → length (imageFront i front) ≡ takeHead + entriesStart (length (i .floors)) + entryRowOf (i .timed) * length front
+  unfolding imageFront
   front-length i front =
-      let l = length-append (bytesOf floorBytes (i .floors)) (bytesOf imageEntryBytes front) in
-      omega (arith, l, length-bytesOf floorCodec (i .floors), length-bytesOf entryCodec front)
+      let f : List ℕ = bytesOf floorBytes (i .floors) in
+      let e : List ℕ = bytesOf (imageEntryBytes (i .timed)) front in
+      let h : List ℕ = imageHeadBytes (imageHead i) in
+      omega (arith, length-append h (f ++ e), length-append f e, head-length (imageHead i), length-bytesOf floorCodec (i .floors), length-bytesOf (entryCodec (i .timed)) front)
 
   take-split : (i : Image) (front rest : List ImageEntry) (e : ImageEntry) → i .entries ≡ front ++ (e ∷ rest)
-      → takeBytes i ≡ imageFront i front ++ (imageEntryBytes e ++ bytesOf imageEntryBytes rest)
-  unfolding takeBytes imageBytes imageFront imageHeadBytes bytesOf
+      → takeBytes i ≡ imageFront i front ++ (imageEntryBytes (i .timed) e ++ bytesOf (imageEntryBytes (i .timed)) rest)
+  unfolding takeBytes imageBytes imageFront bytesOf
   take-split i front rest e q =
-      rw (q, bytesOf-append imageEntryBytes front (e ∷ rest), append-assoc (bytesOf floorBytes (i .floors)) (bytesOf imageEntryBytes front) (imageEntryBytes e ++ bytesOf imageEntryBytes rest))
+      let enc : ImageEntry → List ℕ = imageEntryBytes (i .timed) in
+      let h : List ℕ = imageHeadBytes (imageHead i) in
+      let f : List ℕ = bytesOf floorBytes (i .floors) in
+      let u : List ℕ = bytesOf enc front in
+      let v : List ℕ = enc e ++ bytesOf enc rest in
+      ap (λ (j : List ℕ). quad takeKind 0 0 0 ++ (le32 (imageLength i) ++ (h ++ (f ++ j)))) (ap (bytesOf enc) q ∙ bytesOf-append enc front (e ∷ rest))
+      ∙ rw (append-assoc h (f ++ u) v, append-assoc f u v)
 
   image-shown : (a b : List Entry) (i : Image) (end : ℕ) → es ≡ a ++ (record { item = took i; end = end } ∷ b) → EntriesFrom headSize a
       → (front rest : List ImageEntry) (e : ImageEntry) → i .entries ≡ front ++ (e ∷ rest) → (k : ℕ)
-      → k ≡ lastEnd headSize a + takeHead + entriesStart (length (i .floors)) + entryRow * length front
-      → take (k + entryRow - k) (drop k tail) ≡ imageEntryBytes e
+      → k ≡ lastEnd headSize a + takeHead + entriesStart (length (i .floors)) + entryRowOf (i .timed) * length front
+      → take (k + entryRowOf (i .timed) - k) (drop k tail) ≡ imageEntryBytes (i .timed) e
   unfolding recordBytes
   image-shown a b i end q f front rest e s k z =
       let h : List ℕ = headBytes n ++ entriesBytes a in
       let w : List ℕ = imageFront i front in
-      let r : List ℕ = imageEntryBytes e in
-      let v : List ℕ = bytesOf imageEntryBytes rest in
+      let r : List ℕ = imageEntryBytes (i .timed) e in
+      let v : List ℕ = bytesOf (imageEntryBytes (i .timed)) rest in
       let u : List ℕ = entriesBytes b ++ behind in
       let t : tail ≡ (h ++ w) ++ (r ++ (v ++ u))
       = tail-split a b (record { item = took i; end = end }) q
       ∙ ap (λ (j : List ℕ). h ++ (j ++ u)) (take-split i front rest e s)
       ∙ rw (append-assoc h w (r ++ (v ++ u)), append-assoc w (r ++ v) u, append-assoc r v u) in
-      part-at tail (h ++ w) r (v ++ u) k entryRow t (omega (arith, z, length-append h w, log-length n a f, front-length i front)) (entryCodec .enc-width e)
+      part-at tail (h ++ w) r (v ++ u) k (entryRowOf (i .timed)) t (omega (arith, z, length-append h w, log-length n a f, front-length i front)) (entryCodec (i .timed) .enc-width e)
 
 -- ---- the row of a checkpoint
 
@@ -161,32 +170,42 @@ records-once x c (r ∷ rs) d = (
   records-once x c rs (d .1),
 )
 
-module _ (st : State) where
+module _ (timed : Bool) (st : State) where
+  abbrev width : ℕ
+  width = checkpointRecordOf timed
+
   -- the bytes of a checkpoint before its completion records
   beforeRecords : List ℕ
   beforeRecords =
-      checkpointMagic
+      checkpointMagicOf timed
       ++ (quad (st .server) 0 0 0
       ++ (le32 (st .heard)
-      ++ (pairsBytes checkpointRecord (length (st .floors)) (length (st .records)) ++ (planBytes (st .plan) ++ (bytesOf pointFront (st .points) ++ bytesOf floorBytes (st .floors))))))
+      ++ (pairsBytes width (length (st .floors)) (length (st .records)) ++ (planBytes (st .plan) ++ (bytesOf pointFront (st .points) ++ bytesOf floorBytes (st .floors))))))
 
-  fronts-length : (rs : List Completion) → length (bytesOf (recordFront checkpointRecord) rs) ≡ checkpointRecord * length rs
-  fronts-length rs = length-each (recordFront checkpointRecord) checkpointRecord rs (all-any rs (record-front-width checkpointRecord (omega arith)))
+  row-width : (r : Completion) → length (recordFront width r) ≡ width
+  row-width r = record-front-width width (omega (arith, form-width timed .1)) r
 
-  checkpoint-split : checkpointBytes st ≡ beforeRecords ++ bytesOf (recordFront checkpointRecord) (st .records)
+  fronts-length : (rs : List Completion) → length (bytesOf (recordFront width) rs) ≡ width * length rs
+  fronts-length rs = length-each (recordFront width) width rs (all-any rs row-width)
+
+  checkpoint-split : checkpointBytes timed st ≡ beforeRecords ++ bytesOf (recordFront width) (st .records)
   unfolding checkpointBytes beforeRecords pairsBytes
   checkpoint-split =
+      let m : List ℕ = checkpointMagicOf timed in
       let f : List ℕ = bytesOf pointFront (st .points) in
       let g : List ℕ = bytesOf floorBytes (st .floors) in
-      let h : List ℕ = bytesOf (recordFront checkpointRecord) (st .records) in
-      rw (append-assoc (planBytes (st .plan)) (f ++ g) h, append-assoc f g h)
+      let h : List ℕ = bytesOf (recordFront width) (st .records) in
+      rw (append-assoc m _ h, append-assoc (planBytes (st .plan)) (f ++ g) h, append-assoc f g h)
 
   before-length : Sound st → length beforeRecords ≡ recordsPart (length (st .floors))
   before-length S =
-      let l = ap length checkpoint-split ∙ length-append beforeRecords (bytesOf (recordFront checkpointRecord) (st .records)) in
-      omega (arith, l, checkpoint-length st S, fronts-length (st .records))
+      let l = ap length checkpoint-split ∙ length-append beforeRecords (bytesOf (recordFront width) (st .records)) in
+      omega (arith, l, checkpoint-length timed st S, fronts-length (st .records))
 
 module _ (x c : ℕ) (s : List ℕ) (b : Bytes s) (st : State) (e : checkpointState s ≡ some st) where
+  abbrev formOf : Bool
+  formOf = startsWith s checkpointMagic
+
   clients-of : clientsOf s ≡ length (st .floors)
   unfolding load
   clients-of =
@@ -198,31 +217,32 @@ module _ (x c : ℕ) (s : List ℕ) (b : Bytes s) (st : State) (e : checkpointSt
     row = once-split (isId x c) (st .records) m (id-is x c r k l) (records-once x c (st .records) (checkpoint-sound s b st e .sound .ids))
 
     rowAt : ℕ
-    rowAt = recordsPart (clientsOf s) + checkpointRecord * length (row .front)
+    rowAt = recordsPart (clientsOf s) + recordWidth s * length (row .front)
 
-    row-place : placeInCheckpoint x c s ≡ placeAt inCheckpoint rowAt checkpointRecord
-    unfolding placeInCheckpoint placeAmong rowAt recordWidth
+    row-place : placeInCheckpoint x c s ≡ placeAt inCheckpoint rowAt (recordWidth s)
+    unfolding placeInCheckpoint placeAmong rowAt
     row-place =
         let g = gives s st e in
         rw (le-leb 1 (length s) (omega (arith, framed-is s (g .framed) .whole)), g .same, lt-ltb _ _ (split-below (isId x c) (st .records) row), row .index)
 
-    checkpoint-shown : take (rowAt + checkpointRecord - rowAt) (drop rowAt s) ≡ recordFront checkpointRecord r
-    unfolding rowAt bytesOf
+    checkpoint-shown : take (rowAt + recordWidth s - rowAt) (drop rowAt s) ≡ recordFront (recordWidth s) r
+    unfolding rowAt bytesOf recordWidth
     checkpoint-shown =
         let S = checkpoint-sound s b st e .sound in
-        let h : List ℕ = beforeRecords st in
-        let f : List ℕ = bytesOf (recordFront checkpointRecord) (row .front) in
-        let w : List ℕ = recordFront checkpointRecord r in
-        let v : List ℕ = bytesOf (recordFront checkpointRecord) (row .rest) in
-        let u : List ℕ = drop (length (checkpointBytes st)) s in
-        let q : bytesOf (recordFront checkpointRecord) (st .records) ≡ f ++ (w ++ v) =
-        ap (bytesOf (recordFront checkpointRecord)) (row .same) ∙ bytesOf-append (recordFront checkpointRecord) (row .front) (r ∷ row .rest) in
+        let n : ℕ = checkpointRecordOf formOf in
+        let h : List ℕ = beforeRecords formOf st in
+        let f : List ℕ = bytesOf (recordFront n) (row .front) in
+        let w : List ℕ = recordFront n r in
+        let v : List ℕ = bytesOf (recordFront n) (row .rest) in
+        let u : List ℕ = drop (length (checkpointBytes formOf st)) s in
+        let q : bytesOf (recordFront n) (st .records) ≡ f ++ (w ++ v) =
+        ap (bytesOf (recordFront n)) (row .same) ∙ bytesOf-append (recordFront n) (row .front) (r ∷ row .rest) in
         let t : s ≡ (h ++ f) ++ (w ++ (v ++ u))
-        = sym (take-append-drop (length (checkpointBytes st)) s)
-        ∙ ap (λ (j : List ℕ). j ++ u) (checkpoint-again s b st e ∙ checkpoint-split st ∙ ap (λ (j : List ℕ). h ++ j) q)
+        = sym (take-append-drop (length (checkpointBytes formOf st)) s)
+        ∙ ap (λ (j : List ℕ). j ++ u) (checkpoint-again s b st e ∙ checkpoint-split formOf st ∙ ap (λ (j : List ℕ). h ++ j) q)
         ∙ rw (append-assoc h f (w ++ (v ++ u)), append-assoc h (f ++ (w ++ v)) u, append-assoc f (w ++ v) u, append-assoc w v u) in
-        part-at s (h ++ f) w (v ++ u) rowAt checkpointRecord t
-        (omega (arith, length-append h f, before-length st S, fronts-length st (row .front), ap recordsPart clients-of)) (record-front-width checkpointRecord (omega arith) r)
+        part-at s (h ++ f) w (v ++ u) rowAt n t
+        (omega (arith, length-append h f, before-length formOf st S, fronts-length formOf st (row .front), ap recordsPart clients-of)) (row-width formOf st r)
 
 -- ---- what stands at a place is shown
 
@@ -235,7 +255,7 @@ abbrev partOf : List ℕ → List ℕ → Place → List ℕ
 partOf checkpoint tail p = take (p .end - p .start) (drop (p .start) (pick (eqb (p .source) inCheckpoint) checkpoint tail))
 
 abbrev Shown : State → List Entry → List ℕ → List ℕ → Completion → Place → Type 0
-Shown start es checkpoint tail r p = (p .refusal ≡ noRefusal) × Shows start es r p (partOf checkpoint tail p)
+Shown start es checkpoint tail r p = (p .refusal ≡ noRefusal) × Shows checkpoint start es r p (partOf checkpoint tail p)
 
 at-start : {start : State} → Start start → (r : Completion) → List·Memᴰ r (start .records) → r .end ≡ headSize
 at-start {start} s r m =
@@ -258,17 +278,20 @@ module _ (start : State) (es : List Entry) (checkpoint tail : List ℕ) (x c : �
     (logged : take (lastEnd headSize es) tail ≡ headBytes (start .server) ++ entriesBytes es) where
   found-shown : (r : Completion) (p : Place) → r .command .client ≡ x → r .command .call ≡ c → Found start (placeInCheckpoint x c checkpoint) es r p
       → Shown start es checkpoint tail r p
-  unfolding entryWidth
+  unfolding entryWidth imageHead
   found-shown r p k l (before m q) = subst (Shown start es checkpoint tail r) (sym q) (before-shown start es checkpoint tail x c F r m k l)
   found-shown r p k l (inLog a b y s f d t n q) =
       subst (Shown start es checkpoint tail r) (sym q)
       (refl, ofRecord y (member-at es a b s) d t refl (sym n) (record-shown (start .server) es tail logged a b y (r .end) s f))
   found-shown r p k l (inTake a b i s f d u v t n q) =
-      let at : ℕ = lastEnd headSize a + takeHead + entriesStart (length (i .floors)) + entryRow * length u in
+      let m : ℕ = entryRowOf (i .timed) in
+      let at : ℕ = lastEnd headSize a + takeHead + entriesStart (length (i .floors)) + m * length u in
       let w : length (i .entries) ≡ length u + suc (length v) = ap length t ∙ length-append u (entryOfRecord r ∷ v) in
-      let z : recordSize (took i) ≡ takeHead + (entriesStart (length (i .floors)) + entryRow * length (i .entries)) = unfold recordSize imageLength in refl in
+      let z : recordSize (took i) ≡ takeHead + (entriesStart (length (i .floors)) + m * length (i .entries)) = unfold recordSize imageLength in refl in
+      let l : m * length u + m ≤ m * length (i .entries) = row-in m (length u) (length (i .entries)) (omega (arith, w)) in
+      let here : List·Memᴰ (entryOfRecord r) (i .entries) = subst (λ (j : List ImageEntry). List·Memᴰ (entryOfRecord r) j) (sym t) (Memᴰ·append-right u (List·Memᴰ·head refl)) in
       subst (Shown start es checkpoint tail r) (sym q)
-      (refl, ofImage i (member-at es a b s) d refl (omega (arith, n, z, w)) (omega (arith, n, z, w)) (image-shown (start .server) es tail logged a b i (r .end) s f u v (entryOfRecord r) t at refl))
+      (refl, ofImage i (member-at es a b s) d here refl (omega (arith, n, z)) (omega (arith, n, z)) (image-shown (start .server) es tail logged a b i (r .end) s f u v (entryOfRecord r) t at refl))
 
 -- ---- the part tells the record
 
@@ -276,38 +299,72 @@ from-member : {e : Entry} (k : ℕ) (es : List Entry) → EntriesFrom k es → L
 from-member k (y ∷ es) f (List·Memᴰ·head q) = subst (λ (j : Entry). recordFits (j .item)) (sym q) (f .0 .fits)
 from-member k (y ∷ es) f (List·Memᴰ·tail m) = from-member (y .end) es (f .1) m
 
-entry-fits : (r : Completion) → CompletionFits r → ImageEntryFits (entryOfRecord r)
-unfolding entryOfRecord
-entry-fits r f =
-    record { client = f .client; call = f .call; argument = f .argument; value = f .value; op = f .op; outcome = f .outcome; quality = f .quality }
-
-row-tells : (r : Completion) → CompletionFits r → r .end ≡ headSize → completionOf (recordWhole checkpointRecord (recordFront checkpointRecord r)) ≡ r
+row-tells : (timed : Bool) (r : Completion) → CompletionFits r → TimeFits timed (r .result .time) → r .end ≡ headSize
+    → completionOf (recordWhole (checkpointRecordOf timed) (recordFront (checkpointRecordOf timed) r)) ≡ r
 unfolding placedRecord endBefore
-row-tells r f z =
+row-tells timed r f t z =
+    let w : ℕ = checkpointRecordOf timed in
     let b : endBefore (r .end) ≡ headSize = rw z in
     let q : placedRecord endBefore r ≡ r = λ i. record { command = r .command; result = r .result; end = (b ∙ sym z) i } in
-    let w : recordWhole checkpointRecord (recordFront checkpointRecord r) ≡ completionBytes (placedRecord endBefore r) = rw append-nil at (record-whole r [] b) in
-    ap completionOf (w ∙ ap completionBytes q) ∙ rw append-nil at (completionCodec .dec-enc r [] f)
+    let u : recordWhole w (recordFront w r) ≡ completionBytes (placedRecord endBefore r) = rw append-nil at (record-whole timed r [] (t, b)) in
+    ap completionOf (u ∙ ap completionBytes q) ∙ rw append-nil at (completionCodec .dec-enc r [] f)
 
-shows-tells : {start : State} {r : Completion} {p : Place} {part : List ℕ} (es : List Entry) → EntriesFrom headSize es → CompletionFits r → Shows start es r p part → Tells r p part
-shows-tells {start} {r} {p} {part} es g f (ofRecord y m c t q n e) =
-    let k : executedAt part ≡ y = ap executedAt e ∙ rw append-nil at (executedCodec .dec-enc y [] (from-member headSize es g m)) in
+-- the form by the length
+executed-form : (timed : Bool) → eqb (executedSizeOf timed) executedSize ≡ timed
+unfolding executedSizeOf
+executed-form true = refl
+executed-form false = refl
+
+entry-form : (timed : Bool) → eqb (entryRowOf timed) entryRow ≡ timed
+unfolding entryRowOf
+entry-form true = refl
+entry-form false = refl
+
+executed-tells : (y : Executed) → recordFits (executed y) → executedAt (eqb (length (executedBytes y)) executedSize) (executedBytes y) ≡ y
+unfolding recordBytes recordSize
+executed-tells y f =
+    rw (record-length (executed y), executed-form (y .timed)) (rw append-nil at (executedCodec (y .timed) .dec-enc y [] (f, refl)))
+
+entry-tells : (timed : Bool) (e : ImageEntry) → ImageEntryFits timed e → imageEntryOf (eqb (length (imageEntryBytes timed e)) entryRow) (imageEntryBytes timed e) ≡ e
+entry-tells timed e f = rw (entryCodec timed .enc-width e, entry-form timed) (rw append-nil at (entryCodec timed .dec-enc e [] f))
+
+-- the times of what a tail starts from fit the checkpoint's form
+start-time : {checkpoint : List ℕ} {start : State} → StartsFrom checkpoint start → (r : Completion) → List·Memᴰ r (start .records)
+    → TimeFits (startsWith checkpoint checkpointMagic) (r .result .time)
+unfolding founded Timely
+start-time {checkpoint} {start} (byCheckpoint b e) r m =
+    all-member (λ (j : Completion). TimeFits (startsWith checkpoint checkpointMagic) (j .result .time)) (checkpoint-timely checkpoint b start e) m
+start-time (byFounding plan n g h z q) r m = absurd (List·Memᴰ·not-nil (subst (λ (j : State). List·Memᴰ r (j .records)) q m))
+
+shows-tells : {checkpoint : List ℕ} {start : State} {r : Completion} {p : Place} {part : List ℕ} (es : List Entry) → StartsFrom checkpoint start → EntriesFrom headSize es
+    → CompletionFits r → Shows checkpoint start es r p part → Tells r p part
+unfolding recordWidth
+shows-tells {checkpoint} {start} {r} {p} {part} es s g f (ofRecord y m c t q n e) =
+    let k : executedAt (eqb (length part) executedSize) part ≡ y
+    = ap (λ (j : List ℕ). executedAt (eqb (length j) executedSize) j) e ∙ executed-tells y (from-member headSize es g m) in
     record {
       record-tells = λ h. (ap (λ (j : Executed). j .command) k ∙ c, ap (λ (j : Executed). j .result) k ∙ t);
       image-tells = λ h. absurd (omega (arith, q, h));
       checkpoint-tells = λ h. absurd (omega (arith, q, h));
     }
-shows-tells {start} {r} {p} {part} es g f (ofImage i m c q n u e) =
+shows-tells {checkpoint} {start} {r} {p} {part} es s g f (ofImage i m c w q n u e) =
+    let fits : ImageFits i = from-member headSize es g m in
     record {
       record-tells = λ h. absurd (omega (arith, q, h));
-      image-tells = λ h. ap imageEntryOf e ∙ rw append-nil at (entryCodec .dec-enc (entryOfRecord r) [] (entry-fits r f));
+      image-tells = λ h.
+          ap (λ (j : List ℕ). imageEntryOf (eqb (length j) entryRow) j) e
+          ∙ entry-tells (i .timed) (entryOfRecord r) (all-member (ImageEntryFits (i .timed)) (fits .entries) w);
       checkpoint-tells = λ h. absurd (omega (arith, q, h));
     }
-shows-tells {start} {r} {p} {part} es g f (ofCheckpoint m z q e) =
+shows-tells {checkpoint} {start} {r} {p} {part} es s g f (ofCheckpoint m z q e) =
+    let timed : Bool = startsWith checkpoint checkpointMagic in
+    let w : ℕ = checkpointRecordOf timed in
     record {
       record-tells = λ h. absurd (omega (arith, q, h));
       image-tells = λ h. absurd (omega (arith, q, h));
-      checkpoint-tells = λ h. ap (λ (j : List ℕ). completionOf (recordWhole checkpointRecord j)) e ∙ row-tells r f z;
+      checkpoint-tells = λ h.
+          ap (λ (j : List ℕ). completionOf (recordWhole (length j) j)) e
+          ∙ ap (λ (j : ℕ). completionOf (recordWhole j (recordFront w r))) (row-width timed start r) ∙ row-tells timed r f (start-time s r m) z;
     }
 
 -- ---- inspect
@@ -410,5 +467,5 @@ module _ (start : State) (es : List Entry) (state checkpoint tail : List ℕ) (F
           missing = inspect-missing;
           passes = λ r h. inspect-shown r h .0;
           shown = λ r h. inspect-shown r h .1;
-          tells = λ r h. shows-tells es (decided-from started es (H .decided)) (record-fits r h) (inspect-shown r h .1);
+          tells = λ r h. shows-tells es F (decided-from started es (H .decided)) (record-fits r h) (inspect-shown r h .1);
         }

@@ -23,11 +23,11 @@ use Rattle.model.specs.declared.Give.{Give}
 use Rattle.model.specs.declared.Release.{Release}
 use Rattle.model.specs.Numbers.{word}
 use Rattle.model.specs.Tables.{keep}
-use Rattle.model.specs.Limits.{lastPoint, lastServer, lastQuality, pointCount, executedSize, goneSize, giveSize, takeHead, releaseSize, headSize, clientCount, recordCount, lastInWindow}
+use Rattle.model.specs.Limits.{lastPoint, lastServer, lastQuality, pointCount, goneSize, giveSize, takeHead, releaseSize, headSize, clientCount, recordCount, lastInWindow}
 use Rattle.model.specs.Plan.{entryAt}
 use Rattle.model.specs.Packets.{commandOk, outcomeOk, idOk, doneOk}
 use Rattle.model.specs.Images.{Image, floorOf, imageLength}
-use Rattle.model.specs.Logs.{executedOk}
+use Rattle.model.specs.Logs.{executedOk, executedSizeOf}
 use Rattle.model.specs.States.{State, pointAt, noPoint, endsInOrder, absent as absentStatus, held as heldStatus, given as givenStatus, releasedStatus}
 use Rattle.model.specs.Apply
 use Rattle.model.specs.Apply.{raise, mergeFloors, isNotClient, staysOver, staysOverFloors, isOfOther, isOnOther, completion, takenRecord, applyExecuted, applyGone, applyGave, applyTook, applyReleased, withMark}
@@ -39,7 +39,7 @@ use Rattle.model_laws.proofs.Tables.{all-keep, all-append, length-keep}
 use Rattle.model_invariants.proofs.Lists.{all-to, all-with, all-any, all-image, all-swap, keep-passes}
 use Rattle.model_invariants.proofs.Floors.{eqb-no, raise-same, raise-other, raise-ascending, raise-good, raise-length, raise-known, merge-ascending, merge-good, merge-floor, ascending-keep, without-other}
 use Rattle.model_invariants.proofs.Count.{pairs-keep, pairs-append, distinct-keep, distinct-append, windows-few}
-use Rattle.model_invariants.proofs.Tests.{command-fits, outcome-fits}
+use Rattle.model_invariants.proofs.Tests.{command-fits, outcome-fits, time-fits}
 
 -- ---- what the log's growth keeps
 
@@ -70,6 +70,7 @@ record-grows plan s t h r g =
       client-fits = g .client-fits;
       call-fits = g .call-fits;
       value = g .value;
+      time = g .time;
       past = g .past;
       within = omega (arith, g .within);
     }
@@ -216,11 +217,11 @@ raise-place x n fs a h k = go (eqb (floorOf x fs) 0) refl
     go false e = omega (arith, raise-known x n fs a (eqb-no _ _ e))
 
 pub sound-executed : {P : ℕ → Type 0} (st : State) (x : Executed) → SoundBy P st → GoodExecuted x → PassedRequest st (x .command .client) (x .command .call) (x .command .point)
-    → Ranged (entryAt (st .plan) (x .command .point)) (x .result .value) → P (st .size + executedSize)
-    → SoundBy P (applyExecuted x (st .size + executedSize) st)
+    → Ranged (entryAt (st .plan) (x .command .point)) (x .result .value) → P (st .size + executedSizeOf (x .timed))
+    → SoundBy P (applyExecuted x (st .size + executedSizeOf (x .timed)) st)
 unfolding applyExecuted Apply.executedPoint pointAt completion
 sound-executed st x S G P v z =
-    let end = st .size + executedSize in
+    let end = st .size + executedSizeOf (x .timed) in
     let up : st .size ≤ end = omega arith in
     let T = tested x (G .ok) in
     let fs = raise (x .command .client) (x .done) (st .floors) in
@@ -258,6 +259,7 @@ sound-executed st x S G P v z =
       client-fits = G .client;
       call-fits = G .call;
       value = v;
+      time = time-fits (x .timed) (x .result .time) (G .time);
       past = omega (arith, S .head, S .mark);
       within = omega arith;
     } in
@@ -550,7 +552,7 @@ sound-took st i S G P z =
     let under-new : All (Under fs) new
     = all-image (Under fs) (takenRecord (i .point) end) (i .entries)
     (all-to (i .entries)
-    (λ (e : ImageEntry) (g : GoodImageEntry (i .point) (i .floors) e).
+    (λ (e : ImageEntry) (g : GoodImageEntry (i .timed) (i .point) (i .floors) e).
     let m = merge-floor (e .client) (i .floors) (st .floors) (G .ascending) (S .ascending) in
     record { known = omega (arith, m, g .window .known); high = omega (arith, m, g .window .high) })
     (G .entries)) in
@@ -559,7 +561,7 @@ sound-took st i S G P z =
     let good-new : All (GoodCompletion (st .plan) end) new
     = all-image (GoodCompletion (st .plan) end) (takenRecord (i .point) end) (i .entries)
     (all-with (i .entries)
-    (λ (e : ImageEntry) (g : GoodImageEntry (i .point) (i .floors) e) (v : Ranged (entryAt (st .plan) (i .point)) (e .result .value)).
+    (λ (e : ImageEntry) (g : GoodImageEntry (i .timed) (i .point) (i .floors) e) (v : Ranged (entryAt (st .plan) (i .point)) (e .result .value)).
     record {
       command = g .command;
       outcome = g .outcome;
@@ -568,6 +570,7 @@ sound-took st i S G P z =
       client-fits = g .client-fits;
       call-fits = g .call-fits;
       value = v;
+      time = time-fits (i .timed) (e .result .time) (g .time);
       past = omega (arith, S .head, S .mark);
       within = omega arith;
     })

@@ -13,6 +13,7 @@ use native.Mathlib.Omega.{arith}
 use lib.ListN.{length}
 use lib.Dec.{eqb, ltb}
 use borrow.Author.Tests.{ltb-false, not-false}
+use Rattle.model.specs.Versions.{Versions}
 use Rattle.model.specs.Choice.{pick, orElse, isPassed}
 use Rattle.model.specs.Refusals
 use Rattle.model.specs.Numbers.{word}
@@ -21,6 +22,7 @@ use Rattle.model.specs.Logs.{headServer, headOk, headBytes}
 use Rattle.model.specs.Tables.{written}
 use Rattle.model.specs.States.{State, load, sound}
 use Rattle.model.specs.Apply.{withMark}
+use Rattle.model.specs.Decisions.{timedBy}
 use Rattle.model.specs.Operations.{After, answerOf, short, unfit, stored, settle, leftUnless, settleRecovered, recoveredOn}
 use Rattle.model.specs.Checkpoints.{rebased, checkpointBytes, checkpointState, AfterCheckpoint, checkpointRefusal, checkpointOf, recoveredTail, recoverTailRefusal, recoverTailOf}
 use Rattle.model_laws.specs.Bytes.{Bytes}
@@ -37,15 +39,15 @@ use Rattle.model_invariants.proofs.Calls.{Begun, refused}
 
 -- ---- Checkpoint
 
-module _ (state log k tail : List ℕ) where
+module _ (v : Versions) (state log k tail : List ℕ) where
   -- where the tests are passed
   abbrev pub checkpointed : AfterCheckpoint
   checkpointed =
       record {
-        answer = answerOf Refusals.noRefusal (length (checkpointBytes (load state)));
+        answer = answerOf Refusals.noRefusal (length (checkpointBytes (timedBy v (load state)) (load state)));
         state = stored state (rebased (load state));
         log = log;
-        checkpoint = written k 0 (checkpointBytes (load state));
+        checkpoint = written k 0 (checkpointBytes (timedBy v (load state)) (load state));
         tail = written tail 0 (headBytes (load state .server));
       }
 
@@ -53,7 +55,7 @@ module _ (state log k tail : List ℕ) where
   abbrev pub notCheckpointed : ℕ → AfterCheckpoint
   notCheckpointed n = record { answer = answerOf n 0; state = state; log = log; checkpoint = k; tail = tail }
 
-  pub checkpoint-elim : (P : AfterCheckpoint → Type 0) → ((n : ℕ) → 1 ≤ n → P (notCheckpointed n)) → (PassedCheckpoint state k tail → P checkpointed) → P (checkpointOf state log k tail)
+  pub checkpoint-elim : (P : AfterCheckpoint → Type 0) → ((n : ℕ) → 1 ≤ n → P (notCheckpointed n)) → (PassedCheckpoint state k tail → P checkpointed) → P (checkpointOf v state log k tail)
   unfolding checkpointOf checkpointRefusal short unfit
   checkpoint-elim P out on =
       let left : ℕ → AfterCheckpoint = λ (n : ℕ). pick (isPassed n) checkpointed (notCheckpointed n) in
@@ -75,15 +77,15 @@ module _ (state log k tail : List ℕ) where
         synced = ltb-false _ _ g;
       }))))
 
-  checkpoint-begun : Bytes state → Begun (checkpointOf state log k tail .answer .refusal) state → sound (checkpointOf state log k tail .state) ≡ true
+  checkpoint-begun : Bytes state → Begun (checkpointOf v state log k tail .answer .refusal) state → sound (checkpointOf v state log k tail .state) ≡ true
   checkpoint-begun b =
       checkpoint-elim (λ a. Begun (a .answer .refusal) state → sound (a .state) ≡ true) (λ n h. refused state n (λ z. omega (arith, h, z)))
       (λ p e. stored-sound state (rebased (load state)) (rebased-sound64 (load state) (loaded-sound state b (p .sound))) (omega (arith, p .whole)))
 
-  pub checkpoint-call-sound : Bytes state → checkpointOf state log k tail .answer .refusal ≡ Refusals.noRefusal → sound (checkpointOf state log k tail .state) ≡ true
+  pub checkpoint-call-sound : Bytes state → checkpointOf v state log k tail .answer .refusal ≡ Refusals.noRefusal → sound (checkpointOf v state log k tail .state) ≡ true
   checkpoint-call-sound b e = checkpoint-begun b (inl e)
 
-  pub checkpoint-call-kept : Bytes state → sound state ≡ true → sound (checkpointOf state log k tail .state) ≡ true
+  pub checkpoint-call-kept : Bytes state → sound state ≡ true → sound (checkpointOf v state log k tail .state) ≡ true
   checkpoint-call-kept b e = checkpoint-begun b (inr e)
 
 -- ---- Recover from checkpoint and tail

@@ -1,6 +1,7 @@
 -- The tests of States and Plan against their propositions, both ways.
 --     entry-says, range-says             planEntryOk (entry-good: one way), inRange
 --     command-fits, outcome-fits         commandOk, outcomeOk
+--     time-fits, times-fit               a time of either form; those of a sound state, in the form that a program writes it in
 --     point-says                         pointOk;     points-length, points-at, at-points: pointsOk
 --     floor-says                         floorOk;     ascends, ascend-test: clientsAscend
 --     window-says, completion-says       inWindow (in-window: one way), completionOk
@@ -27,10 +28,13 @@ use Rattle.model.specs.Plan.{planEntryOk, inRange, entryAt, noEntry}
 use Rattle.model.specs.Packets.{commandOk, outcomeOk, idOk}
 use Rattle.model.specs.Images.{floorOf, floorOk, inWindow, clientsAscend}
 use Rattle.model.specs.States.{State, pointAt, noPoint, isHeld, isGiven, endOk, endsInOrder, notGiven, originOk, absentOk, heldOk, givenOk, statusOk, pointOk, pointsOk, keepsRecords, completionOk, isId, idsDiffer, endsFrom, stateOk, absent as absentStatus, held as heldStatus, given as givenStatus, releasedStatus}
+use Rattle.model.specs.Versions.{Versions}
+use Rattle.model.specs.Decisions.{timedBy}
 use Rattle.model_laws.specs.Bytes.{All}
-use Rattle.model_laws.specs.Fits.{FloorFits, PlanEntryFits, PointFits, CompletionFits, StateFits}
+use Rattle.model_laws.specs.Fits.{TimeFits, FloorFits, PlanEntryFits, PointFits, CompletionFits, StateFits}
 use Rattle.model_laws.proofs.Tests.{and-left, and-right, and-both, choose}
 use Rattle.model_laws.proofs.Reflects.{Reflects, Test, le, eq, ne, flag, of, both, SaysAt, facts, passed, reflects, rows-hold, rows-pass, choose-or, not-of-false}
+use Rattle.model_laws.proofs.Checkpoints.{Timely, timely-by}
 use Rattle.model_laws.proofs.Commands.{command-parts}
 use Rattle.model_invariants.specs.Sound.{GoodEntry, Ranged, GoodEnd, Origin, Standing, GoodPoint, Keeps, GoodFloor, Ascending, InWindow, GoodCompletion, Windowed, Other, Distinct, Arrived, SoundBy, Sound, CommandFits}
 use Rattle.model_laws.proofs.Tables.{every-all, all-every, all-getD}
@@ -64,6 +68,12 @@ command-fits op p a h = let c = command-parts op p a h in record { op = c .op; p
 pub outcome-fits : (o q : ℕ) → outcomeOk o q ≡ true → (o ≤ lastOutcome) × (q ≤ lastQuality)
 unfolding outcomeOk
 outcome-fits o q h = both (le o lastOutcome) (le q lastQuality) .holds h
+
+-- ---- times of execution
+
+pub time-fits : (timed : Bool) (t : ℕ) → TimeFits timed t → t < word
+time-fits true t h = h
+time-fits false t h = omega arith
 
 -- ---- points
 
@@ -288,6 +298,7 @@ completion-says st r =
             client-fits = f .client;
             call-fits = f .call;
             value = p 3;
+            time = f .time;
             past = p 5;
             within = p 6;
           };
@@ -466,6 +477,7 @@ record-fits st S r g =
       outcome = omega (arith, o .0);
       quality = omega (arith, o .1);
       point = omega (arith, c .point);
+      time = g .time;
       end = omega (arith, g .within, S .size);
     }
 
@@ -490,3 +502,8 @@ fits-of st S =
       records = all-to (st .records) (record-fits st S) (S .records);
       records-count = S .count;
     }
+
+-- the times of the completion records fit the form that a program writes the state in: where it writes none there are none
+pub times-fit : {P : ℕ → Type 0} (v : Versions) (st : State) → SoundBy P st → Timely (timedBy v st) st
+times-fit v st S =
+    timely-by v st (unfold Timely in all-to (st .records) (λ (r : Completion) (g : GoodCompletion (st .plan) (st .size) r). g .time) (S .records))

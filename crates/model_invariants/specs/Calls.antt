@@ -3,19 +3,21 @@
 -- Assumes nothing.
 use Prim.Native.Nat.{ℕ, _≤_}
 use mathlib.Core.Path.{_≡_}
-use mathlib.Core.Bool.{true}
+use mathlib.Core.Bool.{Bool, true, false}
 use mathlib.Core.List.{List, [], _∷_, _++_}
 use mathlib.Core.Option.{Option, some}
 use lib.ListN.{take}
-use lib.Dec.{eqb, leb}
+use lib.Dec.{leb}
 use Rattle.model.specs.Versions.{Versions}
 use Rattle.model.specs.Choice.{pick, refuse, deny, reply, append, marks}
-use Rattle.model.specs.Limits.{headSize, resultSize, receiptSize, greatestImage}
+use Rattle.model.specs.Limits.{headSize, receiptSize}
 use Rattle.model.specs.Tables.{keep}
+use Rattle.model.specs.Packets.{resultSizeOf}
+use Rattle.model.specs.Images.{greatestOf}
 use Rattle.model.specs.Logs.{LogRecord, Entry, headBytes, entriesBytes}
 use Rattle.model.specs.States.{State, load, sound}
 use Rattle.model.specs.Apply.{replayFrom, withMark}
-use Rattle.model.specs.Decisions.{Decided}
+use Rattle.model.specs.Decisions.{Decided, timedBy}
 use Rattle.model.specs.Operations.{After, freeIn, lent, foundOf, recoverOf}
 use Rattle.model.specs.Calls.{OperationOf, Operation, request, fetch, sync, notice, give, image, takeIn, receipt, release, operated, decision}
 use Rattle.model.specs.Refusals.{noRefusal}
@@ -30,11 +32,11 @@ use Rattle.model_invariants.specs.History.{Decides, entryFor, DecidedFro
 -- the packet or image that it names has B
 abbrev pub Named : {P : Type 0} → (P → Type 0) → OperationOf P → Type 0
 Named B (request v packet) = B packet
-Named B (fetch client call) = Unit
+Named B (fetch v client call) = Unit
 Named B (sync mark) = Unit
 Named B (notice packet) = B packet
 Named B (give point destination) = Unit
-Named B (image point) = Unit
+Named B (image v point) = Unit
 Named B (takeIn img) = B img
 Named B (receipt point) = Unit
 Named B (release packet) = B packet
@@ -43,33 +45,43 @@ Named B (release packet) = B packet
 abbrev pub LentBytes : Operation → Type 0
 LentBytes o = Named Bytes o
 
--- the bytes that it asks of an output, 0 where it has none, and the output that it is lent
-unfoldable pub outputSize : {P : Type 0} → OperationOf P → ℕ
-outputSize (request v packet) = resultSize
-outputSize (fetch client call) = resultSize
-outputSize (sync mark) = 0
-outputSize (notice packet) = 0
-outputSize (give point destination) = 0
-outputSize (image point) = greatestImage
-outputSize (takeIn img) = 0
-outputSize (receipt point) = receiptSize
-outputSize (release packet) = 0
+-- the bytes that it asks of an output on that state, 0 where it has none
+unfoldable pub outputSize : {P : Type 0} → State → OperationOf P → ℕ
+outputSize st (request v packet) = resultSizeOf (timedBy v st)
+outputSize st (fetch v client call) = resultSizeOf (timedBy v st)
+outputSize st (sync mark) = 0
+outputSize st (notice packet) = 0
+outputSize st (give point destination) = 0
+outputSize st (image v point) = greatestOf (timedBy v st)
+outputSize st (takeIn img) = 0
+outputSize st (receipt point) = receiptSize
+outputSize st (release packet) = 0
 
-unfoldable pub outputFor : ℕ → List ℕ → List ℕ
-outputFor n out = pick (eqb n 0) [] out
+-- it has one, and the output that it is lent
+unfoldable pub hasOutput : {P : Type 0} → OperationOf P → Bool
+hasOutput (request v packet) = true
+hasOutput (fetch v client call) = true
+hasOutput (sync mark) = false
+hasOutput (notice packet) = false
+hasOutput (give point destination) = false
+hasOutput (image v point) = true
+hasOutput (takeIn img) = false
+hasOutput (receipt point) = true
+hasOutput (release packet) = false
 
 unfoldable pub output : {P : Type 0} → OperationOf P → List ℕ → List ℕ
-output o out = outputFor (outputSize o) out
+output o out = pick (hasOutput o) out []
 
 -- x is o with what f hands over for the packet or image that o names
 pub record HandedOver {P Q : Type 0} (f : P → Option Q) (o : OperationOf P) (x : OperationOf Q) : Type 1 where
   pub named : (B : Q → Type 0) → ((p : P) (b : Q) → f p ≡ some b → B b) → Named B x
-  pub size : outputSize x ≡ outputSize o
+  pub size : (st : State) → outputSize st x ≡ outputSize st o
+  pub has : hasOutput x ≡ hasOutput o
   pub requests : (v : Versions) (b : Q) → x ≡ request v b → (p : P) × (o ≡ request v p) × (f p ≡ some b)
 
 -- what a call of it decides on the lent slices, 2 and 19 first
 unfoldable pub decidedOn : Operation → List ℕ → List ℕ → List ℕ → Decided
-decidedOn o state log out = lent state log (output o out) (outputSize o) (decision o (load state) (freeIn state log))
+decidedOn o state log out = lent state log (output o out) (outputSize (load state) o) (decision o (load state) (freeIn state log))
 
 -- ---- what an operation may decide
 

@@ -25,6 +25,7 @@ use Rattle.model.specs.Images.{Image, floorOf}
 use Rattle.model.specs.Logs.{LogRecord, executed, gone, gave, took, released, executedOk}
 use Rattle.model.specs.States.{State, pointAt, endsInOrder, absent as absentStatus, held as heldStatus, given as givenStatus, releasedStatus}
 use Rattle.model_laws.specs.Bytes.{All}
+use Rattle.model_laws.specs.Fits.{TimeFits}
 
 -- ---- parts
 
@@ -117,6 +118,7 @@ pub record GoodCompletion (plan : List PlanEntry) (size : ℕ) (r : Completion) 
   pub client-fits : r .command .client < word
   pub call-fits : r .command .call < word
   pub value : Ranged (entryAt plan (r .command .point)) (r .result .value)
+  pub time : r .result .time < word
   pub past : headSize ≤ r .end
   pub within : r .end ≤ size
 
@@ -197,8 +199,8 @@ abbrev pub EntriesAscending : List ImageEntry → Type 0
 EntriesAscending [] = Unit
 EntriesAscending (e ∷ es) = All (Before e) es × EntriesAscending es
 
--- a record of the point p among floors fs
-pub record GoodImageEntry (p : ℕ) (fs : List Floor) (e : ImageEntry) : Type 0 where
+-- a record of the point p among floors fs, in an image of that form
+pub record GoodImageEntry (timed : Bool) (p : ℕ) (fs : List Floor) (e : ImageEntry) : Type 0 where
   pub command : commandOk (e .op) p (e .argument) ≡ true
   pub outcome : outcomeOk (e .result .outcome) (e .result .quality) ≡ true
   pub client : 1 ≤ e .client
@@ -206,6 +208,7 @@ pub record GoodImageEntry (p : ℕ) (fs : List Floor) (e : ImageEntry) : Type 0 
   pub client-fits : e .client < word
   pub call-fits : e .call < word
   pub value-fits : e .result .value < word
+  pub time : TimeFits timed (e .result .time)
   pub window : InWindow (floorOf (e .client) fs) (e .call)
 
 -- all rules but the one on values, which needs the plan
@@ -221,7 +224,7 @@ pub record GoodImage (i : Image) : Type 0 where
   pub floors : All GoodFloor (i .floors)
   pub ascending : Ascending (i .floors)
   pub count : length (i .entries) ≤ recordCount
-  pub entries : All (GoodImageEntry (i .point) (i .floors)) (i .entries)
+  pub entries : All (GoodImageEntry (i .timed) (i .point) (i .floors)) (i .entries)
   pub ids : EntriesAscending (i .entries)
 
 -- the values lie in the range of e
@@ -241,6 +244,7 @@ pub record GoodExecuted (x : Executed) : Type 0 where
   pub client : x .command .client < word
   pub call : x .command .call < word
   pub value : x .result .value < word
+  pub time : TimeFits (x .timed) (x .result .time)
 
 pub record GoodNotice (n : Notice) : Type 0 where
   pub ok : 1 ≤ n .client

@@ -1,47 +1,53 @@
 -- Laws of a checkpoint: what was written is read back.
 --     Framed, framed-is, is-framed  the frame, as a record and as a test
 --     Restorable                    a state that fits, with ends that its checkpoint tells
---     checkpointFields, checkpointNumbers, checkpoint-writes     the head
+--     Timely, timely                a state whose times a form holds; the form that a program writes holds them
+--     magicEnd, magic-form, checkpointFields, checkpointNumbers, checkpoint-writes     the head, by form
 --     checkpoint-bytes-length, checkpoint-bytes-fit     the bytes of a checkpoint
 --     front-framed, restored-front  a checkpoint with any bytes behind it is framed, and gives the state's bytes, places aside
 -- Assumes nothing.
-use Prim.Native.Nat.{ℕ, _+_, _-_, _*_, _/_, _≤_}
+use Prim.Native.Nat.{ℕ, _+_, _-_, _*_, _/_, _≤_, _<_}
 use mathlib.Core.Path.{_≡_, refl, sym, ap, _∙_}
-use mathlib.Core.Bool.{true}
+use mathlib.Core.Bool.{Bool, true, false, _||_, not}
 use mathlib.Core.List.{List, [], _∷_, _++_, map, append-assoc}
 use native.Mathlib.Omega.{arith}
 use lib.ListN.{length, take, drop, replicate, length-append, length-map}
 use lib.Seq.{drop-at, drop-drop, take-at}
-use lib.Dec.{lit<}
+use lib.Dec.{eqb, lit<}
+use borrow.Author.Tests.{eqb-true}
 use Rattle.model.specs.declared.Point.{Point}
 use Rattle.model.specs.declared.Completion.{Completion}
-use Rattle.model.specs.Numbers.{le32At, le32, le64, quad, startsWith}
-use Rattle.model.specs.Tables.{bytesOf}
+use Rattle.model.specs.Choice.{pick}
+use Rattle.model.specs.Numbers.{word, le32At, le32, le64, quad, startsWith}
+use Rattle.model.specs.Tables.{bytesOf, every}
 use Rattle.model.specs.Plan.{planBytes}
 use Rattle.model.specs.Images.{floorBytes}
 use Rattle.model.specs.States.{State, recordRow, pointBytes, completionBytes, stateHeadBytes, padded, stateBytes}
-use Rattle.model.specs.Limits.{headSize, planSize, pointCount, clientCount, recordCount, floorRow, checkpointHead, checkpointPoint, checkpointRecord}
-use Rattle.model.specs.Checkpoints.{placedPoint, placedRecord, placed, endBefore, rebased, checkpointMagic, planPart, pointsPart, clientsPart, recordsPart}
+use Rattle.model.specs.Limits.{headSize, planSize, pointCount, clientCount, recordCount, floorRow, checkpointHead, checkpointPoint}
+use Rattle.model.specs.Versions.{Versions}
+use Rattle.model.specs.Decisions.{timedBy}
+use Rattle.model.specs.Checkpoints.{placedPoint, placedRecord, placed, endBefore, rebased, firstCheckpointMagic, checkpointMagic, checkpointMagicOf, checkpointRecordOf}
+use Rattle.model.specs.Checkpoints.{planPart, pointsPart, clientsPart, recordsPart}
 use Rattle.model.specs.Checkpoints.{pairsBytes, pointFront, recordFront, checkpointBytes, recordWidth, clientsOf, recordsOf, pointWhole, recordWhole, fronts}
 use Rattle.model.specs.Checkpoints.{restoredBytes, restored, checkpointFramed}
-use Rattle.model_laws.specs.Bytes.{Bytes, All}
+use Rattle.model_laws.specs.Bytes.{Bytes, All, joined}
 use Rattle.model_laws.specs.Fields.{Field, byte, word32, fixed, fixedAll, gotAll, putAll, nth, Bounded, fixedBytes}
-use Rattle.model_laws.specs.Fits.{PointFits, CompletionFits, StateFits}
+use Rattle.model_laws.specs.Fits.{TimeFits, PointFits, CompletionFits, StateFits}
 use Rattle.model_laws.proofs.Tests.{joined-all}
 use Rattle.model_laws.proofs.Reflects.{Test, le, eq, flag, facts, passed}
 use Rattle.model_laws.proofs.Numbers.{bytes-run}
 use Rattle.model_laws.proofs.Fields.{all-bytes, all-front}
-use Rattle.model_laws.proofs.Tables.{length-bytesOf, bytes-bytesOf, all-map}
+use Rattle.model_laws.proofs.Tables.{length-bytesOf, bytes-bytesOf, every-all, all-map, all-both}
 use Rattle.model_laws.proofs.Images.{floorCodec}
 use Rattle.model_laws.proofs.Plans.{plan-length, plan-bytes}
-use Rattle.model_laws.proofs.Fronts.{Told, fronts-back, fronts-take, length-fronts, bytesOf-map, length-each, bytes-each, all-any}
-use Rattle.model_laws.proofs.Fronts.{point-front-width, point-front-bytes, point-whole, record-front-width, record-front-bytes, record-whole}
+use Rattle.model_laws.proofs.Fronts.{Told, Given, fronts-back, fronts-take, length-fronts, bytesOf-map, length-each, bytes-each, all-any}
+use Rattle.model_laws.proofs.Fronts.{point-front-width, point-front-bytes, point-whole, record-front-width, record-front-bytes, form-width, record-whole}
 
 -- ---- the frame
 
 -- what the test of the frame asks, one by one
 pub record Framed (s : List ℕ) : Type 0 where
-  pub magic : startsWith s checkpointMagic ≡ true
+  pub magic : (startsWith s checkpointMagic || startsWith s firstCheckpointMagic) ≡ true
   pub plan : le32At s 12 ≡ planPart
   pub plan-size : le32At s 16 ≡ planSize
   pub points : le32At s 20 ≡ pointsPart
@@ -56,7 +62,7 @@ pub record Framed (s : List ℕ) : Type 0 where
 
 abbrev framedTests : List ℕ → List Test
 framedTests s =
-    le checkpointHead (length s) ∷ flag (startsWith s checkpointMagic) ∷ eq (le32At s 12) planPart ∷ eq (le32At s 16) planSize ∷ eq (le32At s 20) pointsPart
+    le checkpointHead (length s) ∷ flag (startsWith s checkpointMagic || startsWith s firstCheckpointMagic) ∷ eq (le32At s 12) planPart ∷ eq (le32At s 16) planSize ∷ eq (le32At s 20) pointsPart
     ∷ eq (le32At s 24) (checkpointPoint * pointCount) ∷ eq (le32At s 28) clientsPart ∷ eq (le32At s 32) (floorRow * clientsOf s) ∷ eq (le32At s 36) (recordsPart (clientsOf s))
     ∷ eq (le32At s 40) (recordWidth s * recordsOf s) ∷ le (clientsOf s) clientCount ∷ le (recordsOf s) recordCount
     ∷ le (recordsPart (clientsOf s) + recordWidth s * recordsOf s) (length s) ∷ []
@@ -96,34 +102,103 @@ pub record Restorable (st : State) : Type 0 where
   pub points : All Told (st .points)
   pub records : All (λ (r : Completion). endBefore (r .end) ≡ headSize) (st .records)
 
--- the head's fields; its numbers with n clients and k completion records
-abbrev pub checkpointFields : List Field
-checkpointFields =
-    fixedAll checkpointMagic
+-- a form without times holds 0 alone
+unfoldable pub Timely : Bool → State → Type 0
+Timely timed st = All (λ (r : Completion). TimeFits timed (r .result .time)) (st .records)
+
+timely-fits : (st : State) → StateFits st → Timely true st
+unfolding Timely
+timely-fits st f = all-map CompletionFits (λ (r : Completion). TimeFits true (r .result .time)) (λ r h. h .time) (st .records) (f .records)
+
+timely-zeros : (st : State) → every (λ r. eqb (r .result .time) 0) (st .records) ≡ true → Timely false st
+unfolding Timely
+timely-zeros st e =
+    all-map (λ (r : Completion). eqb (r .result .time) 0 ≡ true) (λ (r : Completion). r .result .time ≡ 0) (λ r h. eqb-true (r .result .time) 0 h) (st .records)
+    (every-all (λ r. eqb (r .result .time) 0) (st .records) e)
+
+-- whatever program writes it, its form holds the times
+pub timely-by : (v : Versions) (st : State) → Timely true st → Timely (timedBy v st) st
+unfolding timedBy
+timely-by v st f = go (v .timed) (every (λ r. eqb (r .result .time) 0) (st .records)) refl
+  where
+    go : (timed zeros : Bool) → every (λ r. eqb (r .result .time) 0) (st .records) ≡ zeros → Timely (timed || not zeros) st
+    go true zeros e = f
+    go false true e = timely-zeros st e
+    go false false e = f
+
+pub timely : (v : Versions) (st : State) → StateFits st → Timely (timedBy v st) st
+timely v st f = timely-by v st (timely-fits st f)
+
+-- ---- the head, by form
+
+-- the last byte of its magic
+abbrev pub magicEnd : Bool → ℕ
+magicEnd timed = pick timed 51 50
+
+pub magic-is : (timed : Bool) → checkpointMagicOf timed ≡ quad 87 76 71 (magicEnd timed)
+unfolding checkpointMagicOf
+magic-is true = refl
+magic-is false = refl
+
+magic-timed : (timed : Bool) → eqb (magicEnd timed) 51 ≡ timed
+magic-timed true = refl
+magic-timed false = refl
+
+magic-either : (timed : Bool) → (eqb (magicEnd timed) 51 || eqb (magicEnd timed) 50) ≡ true
+magic-either true = refl
+magic-either false = refl
+
+-- bytes that open with one of the magics open with that of their form
+pub magic-form : (s : List ℕ) → (startsWith s checkpointMagic || startsWith s firstCheckpointMagic) ≡ true
+    → startsWith s (quad 87 76 71 (magicEnd (startsWith s checkpointMagic))) ≡ true
+magic-form s e = go (startsWith s checkpointMagic) refl
+  where
+    go : (b : Bool) → startsWith s checkpointMagic ≡ b → startsWith s (quad 87 76 71 (magicEnd b)) ≡ true
+    go true p = p
+    go false p = rw p at e
+
+-- the head's fields; its numbers with n clients and k completion records of w bytes
+abbrev pub checkpointFields : Bool → List Field
+checkpointFields timed =
+    fixedAll (quad 87 76 71 (magicEnd timed))
     ++ (byte ∷ fixed 0 ∷ fixed 0 ∷ fixed 0 ∷ word32 ∷ word32 ∷ word32 ∷ word32 ∷ word32 ∷ word32 ∷ word32 ∷ word32 ∷ word32 ∷ [])
 
-abbrev pub checkpointNumbers : ℕ → ℕ → ℕ → ℕ → List ℕ
-checkpointNumbers server heard n k =
-    server ∷ heard ∷ planPart ∷ planSize ∷ pointsPart ∷ (checkpointPoint * pointCount) ∷ clientsPart ∷ (floorRow * n) ∷ recordsPart n ∷ (checkpointRecord * k) ∷ []
+abbrev pub checkpointNumbers : ℕ → ℕ → ℕ → ℕ → ℕ → List ℕ
+checkpointNumbers w server heard n k =
+    server ∷ heard ∷ planPart ∷ planSize ∷ pointsPart ∷ (checkpointPoint * pointCount) ∷ clientsPart ∷ (floorRow * n) ∷ recordsPart n ∷ (w * k) ∷ []
 
-pub checkpoint-writes : (st : State) → checkpointBytes st
-    ≡ putAll checkpointFields (checkpointNumbers (st .server) (st .heard) (length (st .floors)) (length (st .records)))
-    ++ (planBytes (st .plan) ++ (bytesOf pointFront (st .points) ++ (bytesOf floorBytes (st .floors) ++ bytesOf (recordFront checkpointRecord) (st .records))))
+fields-plain : (timed : Bool) → joined (fixedBytes (checkpointFields timed)) ≡ true
+fields-plain true = refl
+fields-plain false = refl
+
+pub checkpoint-writes : (timed : Bool) (st : State) → checkpointBytes timed st
+    ≡ putAll (checkpointFields timed) (checkpointNumbers (checkpointRecordOf timed) (st .server) (st .heard) (length (st .floors)) (length (st .records)))
+    ++ (planBytes (st .plan) ++ (bytesOf pointFront (st .points) ++ (bytesOf floorBytes (st .floors) ++ bytesOf (recordFront (checkpointRecordOf timed)) (st .records))))
 unfolding checkpointBytes pairsBytes
-checkpoint-writes st = refl
+checkpoint-writes timed st = rw (magic-is timed)
 
 over-floor : (n : ℕ) → floorRow * n / floorRow ≡ n
 over-floor n = omega arith
 
-over-record : (n : ℕ) → checkpointRecord * n / checkpointRecord ≡ n
-over-record n = omega arith
+over-record : (timed : Bool) (n : ℕ) → checkpointRecordOf timed * n / checkpointRecordOf timed ≡ n
+unfolding checkpointRecordOf
+over-record true n = omega arith
+over-record false n = omega arith
 
-module _ (st : State) where
+records-small : (timed : Bool) (n : ℕ) → n ≤ recordCount → checkpointRecordOf timed * n < word
+unfolding checkpointRecordOf
+records-small true n h = omega arith
+records-small false n h = omega arith
+
+module _ (timed : Bool) (st : State) where
+  abbrev row : ℕ
+  row = checkpointRecordOf timed
+
   abbrev clientsBytes : List ℕ
   clientsBytes = bytesOf floorBytes (st .floors)
 
   abbrev recordsBytes : List ℕ
-  recordsBytes = bytesOf (recordFront checkpointRecord) (st .records)
+  recordsBytes = bytesOf (recordFront row) (st .records)
 
   abbrev frontsBytes : List ℕ
   frontsBytes = bytesOf pointFront (st .points)
@@ -131,9 +206,11 @@ module _ (st : State) where
   clients-length : length clientsBytes ≡ floorRow * length (st .floors)
   clients-length = length-bytesOf floorCodec (st .floors)
 
-  records-length : length recordsBytes ≡ checkpointRecord * length (st .records)
-  records-length = length-each (recordFront checkpointRecord) checkpointRecord (st .records)
-      (all-any (λ (r : Completion). length (recordFront checkpointRecord r) ≡ checkpointRecord) (st .records) (record-front-width checkpointRecord (omega arith)))
+  front-width : (r : Completion) → length (recordFront row r) ≡ row
+  front-width r = record-front-width row (omega (arith, form-width timed .1)) r
+
+  records-length : length recordsBytes ≡ row * length (st .records)
+  records-length = length-each (recordFront row) row (st .records) (all-any (λ (r : Completion). length (recordFront row r) ≡ row) (st .records) front-width)
 
   fronts-length : length frontsBytes ≡ checkpointPoint * length (st .points)
   fronts-length = length-each pointFront checkpointPoint (st .points) (all-any (λ (x : Point). length (pointFront x) ≡ checkpointPoint) (st .points) point-front-width)
@@ -142,25 +219,24 @@ module _ (st : State) where
     points-length : length frontsBytes ≡ checkpointPoint * pointCount
     points-length = fronts-length ∙ ap (λ (k : ℕ). checkpointPoint * k) (f .points-count)
 
-    pub checkpoint-bytes-length : length (checkpointBytes st) ≡ recordsPart (length (st .floors)) + checkpointRecord * length (st .records)
-    unfolding checkpointBytes pairsBytes
+    pub checkpoint-bytes-length : length (checkpointBytes timed st) ≡ recordsPart (length (st .floors)) + row * length (st .records)
     checkpoint-bytes-length =
-        simp (length-append, plan-length (st .plan) (f .plan-count), points-length, clients-length, records-length) (omega arith)
+        rw (checkpoint-writes timed st) (simp (length-append, plan-length (st .plan) (f .plan-count), points-length, clients-length, records-length) (omega arith))
 
     abbrev numbers : List ℕ
-    numbers = checkpointNumbers (st .server) (st .heard) (length (st .floors)) (length (st .records))
+    numbers = checkpointNumbers row (st .server) (st .heard) (length (st .floors)) (length (st .records))
 
-    numbers-bounded : Bounded checkpointFields numbers
+    numbers-bounded : Bounded (checkpointFields timed) numbers
     numbers-bounded =
         let n : length (st .floors) ≤ clientCount = f .floors-count in
         let k : length (st .records) ≤ recordCount = f .records-count in
-        (f .server, (f .heard, (lit< tt, (lit< tt, (lit< tt, (lit< tt, (lit< tt, (omega arith, (omega arith, (omega arith, tt))))))))))
+        (f .server, (f .heard, (lit< tt, (lit< tt, (lit< tt, (lit< tt, (lit< tt, (omega arith, (omega arith, (records-small timed (length (st .records)) k, tt))))))))))
 
-    pub checkpoint-bytes-fit : Bytes (checkpointBytes st)
+    pub checkpoint-bytes-fit : Bytes (checkpointBytes timed st)
     checkpoint-bytes-fit =
-        rw checkpoint-writes
-        (bytes-run (putAll checkpointFields numbers ∷ planBytes (st .plan) ∷ frontsBytes ∷ clientsBytes ∷ recordsBytes ∷ []) (
-          all-bytes checkpointFields numbers (joined-all (fixedBytes checkpointFields) refl) numbers-bounded,
+        rw (checkpoint-writes timed st)
+        (bytes-run (putAll (checkpointFields timed) numbers ∷ planBytes (st .plan) ∷ frontsBytes ∷ clientsBytes ∷ recordsBytes ∷ []) (
+          all-bytes (checkpointFields timed) numbers (joined-all (fixedBytes (checkpointFields timed)) (fields-plain timed)) numbers-bounded,
           (
             plan-bytes (st .plan) (f .plan),
             (
@@ -168,8 +244,8 @@ module _ (st : State) where
               (
                 bytes-bytesOf floorCodec (st .floors) (f .floors),
                 (
-                  bytes-each (recordFront checkpointRecord) (st .records)
-                      (all-map CompletionFits (λ (r : Completion). Bytes (recordFront checkpointRecord r)) (record-front-bytes checkpointRecord) (st .records) (f .records)),
+                  bytes-each (recordFront row) (st .records)
+                      (all-map CompletionFits (λ (r : Completion). Bytes (recordFront row r)) (record-front-bytes row) (st .records) (f .records)),
                   tt,
                 ),
               ),
@@ -178,51 +254,56 @@ module _ (st : State) where
         ))
 
     module _ (rest : List ℕ) where
-      numbers-at : nth (gotAll checkpointFields (checkpointBytes st ++ rest) 0) ≡ nth numbers
+      numbers-at : nth (gotAll (checkpointFields timed) (checkpointBytes timed st ++ rest) 0) ≡ nth numbers
       numbers-at =
           let tables : List ℕ = planBytes (st .plan) ++ (frontsBytes ++ (clientsBytes ++ recordsBytes)) in
-          rw (checkpoint-writes st, append-assoc (putAll checkpointFields numbers) tables rest) (all-front checkpointFields numbers (tables ++ rest) numbers-bounded)
+          rw (checkpoint-writes timed st, append-assoc (putAll (checkpointFields timed) numbers) tables rest) (all-front (checkpointFields timed) numbers (tables ++ rest) numbers-bounded)
 
-      clients-at : clientsOf (checkpointBytes st ++ rest) ≡ length (st .floors)
+      clients-at : clientsOf (checkpointBytes timed st ++ rest) ≡ length (st .floors)
       unfolding clientsOf
       clients-at = (λ i. numbers-at i 7 / floorRow) ∙ over-floor (length (st .floors))
 
-      records-at : recordsOf (checkpointBytes st ++ rest) ≡ length (st .records)
-      unfolding recordsOf recordWidth
-      records-at = (λ i. numbers-at i 9 / checkpointRecord) ∙ over-record (length (st .records))
+      form-at : startsWith (checkpointBytes timed st ++ rest) checkpointMagic ≡ timed
+      form-at = rw (checkpoint-writes timed st) (magic-timed timed)
 
-      head-at : take 8 (drop 4 (checkpointBytes st ++ rest)) ≡ quad (st .server) 0 0 0 ++ le32 (st .heard)
-      unfolding checkpointBytes
-      head-at = refl
+      pub width-at : recordWidth (checkpointBytes timed st ++ rest) ≡ row
+      unfolding recordWidth
+      width-at = ap checkpointRecordOf form-at
 
-      drop-head : drop planPart (checkpointBytes st ++ rest) ≡ planBytes (st .plan) ++ (frontsBytes ++ (clientsBytes ++ (recordsBytes ++ rest)))
-      unfolding checkpointBytes pairsBytes
-      drop-head = simp append-assoc
+      records-at : recordsOf (checkpointBytes timed st ++ rest) ≡ length (st .records)
+      unfolding recordsOf
+      records-at = (λ i. numbers-at i 9 / width-at i) ∙ over-record timed (length (st .records))
 
-      drop-plan : drop pointsPart (checkpointBytes st ++ rest) ≡ frontsBytes ++ (clientsBytes ++ (recordsBytes ++ rest))
+      head-at : take 8 (drop 4 (checkpointBytes timed st ++ rest)) ≡ quad (st .server) 0 0 0 ++ le32 (st .heard)
+      head-at = rw (checkpoint-writes timed st)
+
+      drop-head : drop planPart (checkpointBytes timed st ++ rest) ≡ planBytes (st .plan) ++ (frontsBytes ++ (clientsBytes ++ (recordsBytes ++ rest)))
+      drop-head = rw (checkpoint-writes timed st) (simp append-assoc)
+
+      drop-plan : drop pointsPart (checkpointBytes timed st ++ rest) ≡ frontsBytes ++ (clientsBytes ++ (recordsBytes ++ rest))
       drop-plan =
-          sym (drop-drop planSize planPart (checkpointBytes st ++ rest))
+          sym (drop-drop planSize planPart (checkpointBytes timed st ++ rest))
           ∙ ap (λ (x : List ℕ). drop planSize x) drop-head
           ∙ drop-at (planBytes (st .plan)) (frontsBytes ++ (clientsBytes ++ (recordsBytes ++ rest))) planSize (plan-length (st .plan) (f .plan-count))
 
-      drop-points : drop clientsPart (checkpointBytes st ++ rest) ≡ clientsBytes ++ (recordsBytes ++ rest)
+      drop-points : drop clientsPart (checkpointBytes timed st ++ rest) ≡ clientsBytes ++ (recordsBytes ++ rest)
       drop-points =
-          sym (drop-drop (checkpointPoint * pointCount) pointsPart (checkpointBytes st ++ rest))
+          sym (drop-drop (checkpointPoint * pointCount) pointsPart (checkpointBytes timed st ++ rest))
           ∙ ap (λ (x : List ℕ). drop (checkpointPoint * pointCount) x) drop-plan
           ∙ drop-at frontsBytes (clientsBytes ++ (recordsBytes ++ rest)) (checkpointPoint * pointCount) points-length
 
-      drop-clients : drop (recordsPart (length (st .floors))) (checkpointBytes st ++ rest) ≡ recordsBytes ++ rest
+      drop-clients : drop (recordsPart (length (st .floors))) (checkpointBytes timed st ++ rest) ≡ recordsBytes ++ rest
       drop-clients =
-          sym (drop-drop (floorRow * length (st .floors)) clientsPart (checkpointBytes st ++ rest))
+          sym (drop-drop (floorRow * length (st .floors)) clientsPart (checkpointBytes timed st ++ rest))
           ∙ ap (λ (x : List ℕ). drop (floorRow * length (st .floors)) x) drop-points
           ∙ drop-at clientsBytes (recordsBytes ++ rest) (floorRow * length (st .floors)) clients-length
 
-      plan-at : take planSize (drop planPart (checkpointBytes st ++ rest)) ≡ planBytes (st .plan)
+      plan-at : take planSize (drop planPart (checkpointBytes timed st ++ rest)) ≡ planBytes (st .plan)
       plan-at =
           ap (λ (x : List ℕ). take planSize x) drop-head
           ∙ take-at (planBytes (st .plan)) (frontsBytes ++ (clientsBytes ++ (recordsBytes ++ rest))) planSize (plan-length (st .plan) (f .plan-count))
 
-      floors-at : padded (take floorRow) floorRow clientCount (fronts floorRow (clientsOf (checkpointBytes st ++ rest)) (drop clientsPart (checkpointBytes st ++ rest)))
+      floors-at : padded (take floorRow) floorRow clientCount (fronts floorRow (clientsOf (checkpointBytes timed st ++ rest)) (drop clientsPart (checkpointBytes timed st ++ rest)))
           ≡ padded floorBytes floorRow clientCount (st .floors)
       unfolding padded
       floors-at =
@@ -234,16 +315,14 @@ module _ (st : State) where
             take-at clientsBytes (recordsBytes ++ rest) (floorRow * length (st .floors)) clients-length,
           )
 
-      magic-at : startsWith (checkpointBytes st ++ rest) checkpointMagic ≡ true
-      unfolding checkpointBytes
-      magic-at = refl
+      magic-at : (startsWith (checkpointBytes timed st ++ rest) checkpointMagic || startsWith (checkpointBytes timed st ++ rest) firstCheckpointMagic) ≡ true
+      magic-at = rw (checkpoint-writes timed st) (magic-either timed)
 
-      pub front-framed : Framed (checkpointBytes st ++ rest)
-      unfolding recordWidth
+      pub front-framed : Framed (checkpointBytes timed st ++ rest)
       front-framed =
-          let n : clientsOf (checkpointBytes st ++ rest) ≡ length (st .floors) = clients-at in
-          let k : recordsOf (checkpointBytes st ++ rest) ≡ length (st .records) = records-at in
-          let l : length (checkpointBytes st ++ rest) ≡ length (checkpointBytes st) + length rest = length-append (checkpointBytes st) rest in
+          let n : clientsOf (checkpointBytes timed st ++ rest) ≡ length (st .floors) = clients-at in
+          let k : recordsOf (checkpointBytes timed st ++ rest) ≡ length (st .records) = records-at in
+          let l : length (checkpointBytes timed st ++ rest) ≡ length (checkpointBytes timed st) + length rest = length-append (checkpointBytes timed st) rest in
           record {
             magic = magic-at;
             plan = λ i. numbers-at i 2;
@@ -253,31 +332,35 @@ module _ (st : State) where
             clients = λ i. numbers-at i 6;
             clients-size = (λ i. numbers-at i 7) ∙ ap (λ (x : ℕ). floorRow * x) (sym n);
             records = (λ i. numbers-at i 8) ∙ ap recordsPart (sym n);
-            records-size = (λ i. numbers-at i 9) ∙ ap (λ (x : ℕ). checkpointRecord * x) (sym k);
+            records-size = (λ i. numbers-at i 9) ∙ (λ i. sym width-at i * sym k i);
             few-clients = rw n (f .floors-count);
             few-records = rw k (f .records-count);
-            whole = rw (n, k) (omega (arith, l, checkpoint-bytes-length));
+            whole = rw (n, k, width-at) (omega (arith, l, checkpoint-bytes-length));
           }
 
-  module _ (R : Restorable st) (rest : List ℕ) where
-    points-at : bytesOf pointWhole (fronts checkpointPoint pointCount (drop pointsPart (checkpointBytes st ++ rest))) ≡ bytesOf pointBytes (map (placedPoint endBefore) (st .points))
+  module _ (R : Restorable st) (T : Timely timed st) (rest : List ℕ) where
+    points-at : bytesOf pointWhole (fronts checkpointPoint pointCount (drop pointsPart (checkpointBytes timed st ++ rest))) ≡ bytesOf pointBytes (map (placedPoint endBefore) (st .points))
     points-at =
         rw (drop-plan (R .fits) rest, ← R .fits .points-count)
         (fronts-back Told pointFront (λ (x : Point). pointBytes (placedPoint endBefore x)) checkpointPoint pointWhole (λ x t. point-front-width x) point-whole (st .points)
         (clientsBytes ++ (recordsBytes ++ rest)) (R .points)
         ∙ sym (bytesOf-map pointBytes (placedPoint endBefore) (st .points)))
 
-    completions-at : bytesOf (recordWhole (recordWidth (checkpointBytes st ++ rest)))
-        (fronts (recordWidth (checkpointBytes st ++ rest)) (recordsOf (checkpointBytes st ++ rest)) (drop (recordsPart (clientsOf (checkpointBytes st ++ rest))) (checkpointBytes st ++ rest)))
+    given-all : All (Given timed) (st .records)
+    unfolding Timely
+    given-all = all-both (λ (r : Completion). TimeFits timed (r .result .time)) (λ (r : Completion). endBefore (r .end) ≡ headSize) (st .records) T (R .records)
+
+    completions-at : bytesOf (recordWhole (recordWidth (checkpointBytes timed st ++ rest)))
+        (fronts (recordWidth (checkpointBytes timed st ++ rest)) (recordsOf (checkpointBytes timed st ++ rest))
+        (drop (recordsPart (clientsOf (checkpointBytes timed st ++ rest))) (checkpointBytes timed st ++ rest)))
         ≡ bytesOf completionBytes (map (placedRecord endBefore) (st .records))
-    unfolding recordWidth
     completions-at =
-        rw (clients-at (R .fits) rest, records-at (R .fits) rest, drop-clients (R .fits) rest)
-        (fronts-back (λ (r : Completion). endBefore (r .end) ≡ headSize) (recordFront checkpointRecord) (λ (r : Completion). completionBytes (placedRecord endBefore r)) checkpointRecord
-        (recordWhole checkpointRecord) (λ r t. record-front-width checkpointRecord (omega arith) r) record-whole (st .records) rest (R .records)
+        rw (width-at (R .fits) rest, clients-at (R .fits) rest, records-at (R .fits) rest, drop-clients (R .fits) rest)
+        (fronts-back (Given timed) (recordFront row) (λ (r : Completion). completionBytes (placedRecord endBefore r)) row (recordWhole row) (λ r g. front-width r) (record-whole timed)
+        (st .records) rest given-all
         ∙ sym (bytesOf-map completionBytes (placedRecord endBefore) (st .records)))
 
-    pub restored-front : restoredBytes (checkpointBytes st ++ rest) ≡ stateBytes (rebased st)
+    pub restored-front : restoredBytes (checkpointBytes timed st ++ rest) ≡ stateBytes (rebased st)
     unfolding restoredBytes stateBytes stateHeadBytes rebased placed le64
     restored-front =
         rw (
@@ -293,6 +376,6 @@ module _ (st : State) where
           length-map (st .records) (placedRecord endBefore),
         )
 
-    pub restored-blank : restored (checkpointBytes st ++ rest) ≡ stateBytes (rebased st) ++ replicate (recordRow * (recordCount - length (st .records))) 0
+    pub restored-blank : restored (checkpointBytes timed st ++ rest) ≡ stateBytes (rebased st) ++ replicate (recordRow * (recordCount - length (st .records))) 0
     unfolding restored
     restored-blank = rw (restored-front, records-at (R .fits) rest)

@@ -17,7 +17,7 @@ use lib.ListN.{length, drop, length-drop}
 use lib.Dec.{eqb}
 use Rattle.model.specs.Numbers.{byteAt, le32At}
 use Rattle.model.specs.Logs.{Extent, off, cut, spans, within, takeExtent, extentOf, walkEnds, lastOf}
-use Rattle.model.specs.Limits.{executedSize, headSize, executedKind, giveKind, giveSize, goneKind, goneSize, releaseKind, releaseSize, takeKind}
+use Rattle.model.specs.Limits.{firstExecutedSize, executedSize, headSize, firstExecutedKind, executedKind, giveKind, giveSize, goneKind, goneSize, releaseKind, releaseSize, takeKind}
 use Rattle.model_laws.specs.Heads.{SameHeads}
 use Rattle.model_laws.proofs.Tests.{choose, impossible}
 use Rattle.model_laws.proofs.Logs.{within-spans, take-spans}
@@ -26,12 +26,13 @@ pub spans-least : (s : List ℕ) (n : ℕ) → extentOf s ≡ spans n → headSi
 unfolding extentOf
 spans-least s n =
     let P : Extent → Type 0 = λ x. x ≡ spans n → headSize ≤ n in
-    choose P (eqb (byteAt s 0) executedKind) (λ k e. let w = within-spans s executedSize n e in omega arith)
+    choose P (eqb (byteAt s 0) firstExecutedKind) (λ k e. let w = within-spans s firstExecutedSize n e in omega arith)
     (λ k1. choose P (eqb (byteAt s 0) goneKind) (λ k e. let w = within-spans s goneSize n e in omega arith)
     (λ k2. choose P (eqb (byteAt s 0) giveKind) (λ k e. let w = within-spans s giveSize n e in omega arith)
     (λ k3. choose P (eqb (byteAt s 0) takeKind) (λ k e. let w = take-spans s n e in omega arith)
     (λ k4. choose P (eqb (byteAt s 0) releaseKind) (λ k e. let w = within-spans s releaseSize n e in omega arith)
-    (λ k5 e. let z : _≡_ {A = ℕ} 0 1 = cc in absurd (omega arith))))))
+    (λ k5. choose P (eqb (byteAt s 0) executedKind) (λ k e. let w = within-spans s executedSize n e in omega arith)
+    (λ k6 e. let z : _≡_ {A = ℕ} 0 1 = cc in absurd (omega arith)))))))
 
 -- ---- one step
 

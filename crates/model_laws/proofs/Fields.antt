@@ -1,5 +1,5 @@
 -- Laws of a layout by its fields: what is written reads back, by one induction for every layout.
---     codec                         the codec of a layout
+--     codec, wide-codec             the codec of a layout; with its width as another term
 --     all-width, all-bytes          what is written: its length; it is bytes
 --     all-take, tests-take          only the layout's own bytes count
 --     all-at, tests-at              what was written is read back, and passes the tests; all-front: at the front
@@ -166,7 +166,7 @@ module _ {A : Type 0} {L : Layout A} {dec : List ℕ → A} {enc : A → List �
       ap (λ (x : List ℕ). dec (x ++ rest)) (e .writes a)
       ∙ e .reads (putAll (L .fields) (L .from a) ++ rest)
       ∙ ap (L .to) (all-front (L .fields) (L .from a) rest (L .fits a h))
-      ∙ e .back a
+      ∙ e .back a h
 
   pub layout-test : (a : A) (rest : List ℕ) → test (enc a ++ rest) ≡ true
   layout-test a rest =
@@ -200,4 +200,23 @@ codec {L = L} {dec = dec} {enc = enc} {test = test} e =
       test-enc = λ a rest h. layout-test e a rest;
       enc-dec = layout-again e;
       dec-fit = λ s h t. layout-fit e s h;
+    }
+
+-- the same codec, with its width as another term
+abbrev pub wide-codec : {A : Type 0} (C : Codec A) {w : ℕ} → C .width ≡ w → Codec A
+wide-codec C {w} e =
+    record {
+      dec = C .dec;
+      enc = C .enc;
+      width = w;
+      test = C .test;
+      Fit = C .Fit;
+      enc-width = λ r. C .enc-width r ∙ e;
+      enc-bytes = C .enc-bytes;
+      dec-take = λ s. ap (λ (n : ℕ). C .dec (take n s)) (sym e) ∙ C .dec-take s;
+      test-take = λ s. ap (λ (n : ℕ). C .test (take n s)) (sym e) ∙ C .test-take s;
+      dec-enc = C .dec-enc;
+      test-enc = C .test-enc;
+      enc-dec = λ s h l t. C .enc-dec s h (rw e l) t ∙ ap (λ (n : ℕ). take n s) e;
+      dec-fit = C .dec-fit;
     }

@@ -3,9 +3,9 @@
 --     fronts-same                   a state's rows that are made of fronts have those fronts
 --     bytesOf-map, length-each, bytes-each, all-any     the bytes of any rows
 --     point-front-.., record-front-..     a row's front
---     Told                          a point whose ends its front tells
+--     Told, Given                   a point whose ends its front tells; a completion record that its front gives, by form
 --     point-whole, record-whole     the front of a row gives the row, its ends before the log; -width, -bytes, -cut: what any bytes give
---     record-width                  the bytes of a completion record in a checkpoint
+--     form-width, record-width      the bytes of a completion record in a checkpoint, by its form
 -- Assumes nothing.
 use Prim.Native.Nat.{ℕ, zero, suc, _+_, _-_, _*_, _≤_, _<_}
 use mathlib.Core.Path.{_≡_, refl, sym, ap, _∙_}
@@ -19,13 +19,13 @@ use lib.Dec.{eqb, leb, lit<}
 use Rattle.model.specs.declared.Point.{Point}
 use Rattle.model.specs.declared.Completion.{Completion}
 use Rattle.model.specs.Choice.{pick}
-use Rattle.model.specs.Numbers.{word, byteAt, le32At, le64}
+use Rattle.model.specs.Numbers.{word, byteAt, le32At, le64, startsWith}
 use Rattle.model.specs.Tables.{rows, bytesOf}
 use Rattle.model.specs.States.{given, pointRow, recordRow, pointBytes, completionBytes}
 use Rattle.model.specs.Limits.{headSize, checkpointPoint, checkpointRecord}
-use Rattle.model.specs.Checkpoints.{placedPoint, placedRecord, endBefore, pointFront, recordFront, recordWidth, pointWhole, recordWhole, fronts}
+use Rattle.model.specs.Checkpoints.{placedPoint, placedRecord, endBefore, checkpointMagic, checkpointRecordOf, pointFront, recordFront, recordWidth, pointWhole, recordWhole, fronts}
 use Rattle.model_laws.specs.Bytes.{Bytes, All}
-use Rattle.model_laws.specs.Fits.{PointFits, CompletionFits}
+use Rattle.model_laws.specs.Fits.{TimeFits, PointFits, CompletionFits}
 use Rattle.model_laws.proofs.Numbers.{le32-digits, length-le64, bytes-take, bytes-drop, bytes-append, bytes-nil, bytes-le64}
 use Rattle.model_laws.proofs.Tables.{length-rows, bytes-replicate}
 use Rattle.model_laws.proofs.States.{pointCodec, completionCodec}
@@ -128,15 +128,29 @@ pub record-front-bytes : (w : ℕ) (r : Completion) → CompletionFits r → Byt
 unfolding recordFront
 record-front-bytes w r h = bytes-take w (completionBytes r) (completionCodec .enc-bytes r h)
 
-placed-record-split : (r : Completion) → completionBytes (placedRecord endBefore r) ≡ recordFront checkpointRecord r ++ le64 (endBefore (r .end))
-unfolding recordFront completionBytes placedRecord
-placed-record-split r = refl
+-- at least the 8 bytes of an id, at most the front
+pub form-width : (timed : Bool) → (8 ≤ checkpointRecordOf timed) × (checkpointRecordOf timed ≤ checkpointRecord)
+unfolding checkpointRecordOf
+form-width true = (omega arith, omega arith)
+form-width false = (omega arith, omega arith)
 
-pub record-whole : (r : Completion) (rest : List ℕ) → endBefore (r .end) ≡ headSize
-    → recordWhole checkpointRecord (recordFront checkpointRecord r ++ rest) ≡ completionBytes (placedRecord endBefore r)
+-- a record that its front gives: a form without times gives time 0
+abbrev pub Given : Bool → Completion → Type 0
+Given timed r = TimeFits timed (r .result .time) × (endBefore (r .end) ≡ headSize)
+
+placed-record-split : (timed : Bool) (r : Completion) → TimeFits timed (r .result .time)
+    → completionBytes (placedRecord endBefore r)
+    ≡ recordFront (checkpointRecordOf timed) r ++ (replicate (checkpointRecord - checkpointRecordOf timed) 0 ++ le64 (endBefore (r .end)))
+unfolding recordFront completionBytes placedRecord checkpointRecordOf
+placed-record-split true r t = refl
+placed-record-split false r t = rw t
+
+pub record-whole : (timed : Bool) (r : Completion) (rest : List ℕ) → Given timed r
+    → recordWhole (checkpointRecordOf timed) (recordFront (checkpointRecordOf timed) r ++ rest) ≡ completionBytes (placedRecord endBefore r)
 unfolding recordWhole
-record-whole r rest t =
-    rw (take-at (recordFront checkpointRecord r) rest checkpointRecord (record-front-width checkpointRecord (omega arith) r), placed-record-split r, t)
+record-whole timed r rest g =
+    let w : ℕ = checkpointRecordOf timed in
+    rw (take-at (recordFront w r) rest w (record-front-width w (omega (arith, form-width timed .1)) r), placed-record-split timed r (g .0), g .1)
 
 -- ---- rows that any bytes give
 
@@ -178,10 +192,10 @@ record-whole-bytes w s h =
     bytes-append (take w s) (replicate (checkpointRecord - w) 0 ++ le64 headSize) (bytes-take w s h)
     (bytes-append (replicate (checkpointRecord - w) 0) (le64 headSize) (bytes-replicate (checkpointRecord - w)) (bytes-le64 headSize (lit< tt)))
 
--- a row in a checkpoint: at least the 8 bytes of an id, at most the front
+-- a row in a checkpoint
 pub record-width : (s : List ℕ) → (8 ≤ recordWidth s) × (recordWidth s ≤ checkpointRecord)
 unfolding recordWidth
-record-width s = (omega arith, omega arith)
+record-width s = form-width (startsWith s checkpointMagic)
 
 -- ---- the fronts of rows that were made of fronts
 

@@ -32,17 +32,17 @@ use Rattle.model.specs.declared.Release.{Release}
 use Rattle.model.specs.Choice.{pick}
 use Rattle.model.specs.Numbers.{byteAt, le32At, le32, zeroAt, zeros3At, quad, startsWith}
 use Rattle.model.specs.Tables.{bytesOf, keep, written}
-use Rattle.model.specs.Packets.{noticeAt, noticeOk, noticeBytes}
+use Rattle.model.specs.Packets.{timeAt, timeBytes, noticeAt, noticeOk, noticeBytes}
 use Rattle.model.specs.Images.{Image, parseImage, imageBytes, imageLength}
-use Rattle.model.specs.Logs.{logMagic, headBytes, headServer, headOk, LogRecord, executed, gone, gave, took, released, executedAt, executedOk}
+use Rattle.model.specs.Logs.{logMagic, headBytes, headServer, headOk, LogRecord, executed, gone, gave, took, released, executedKindOf, executedSizeOf, executedAt, executedOk}
 use Rattle.model.specs.Logs.{executedBytes, giveAt, giveOk, giveBytes, takeBytes, releaseAt, releaseOk, releaseBytes, recordBytes, recordSize, Extent}
-use Rattle.model.specs.Logs.{off, cut, spans, within, takeExtent, extentOf, takeParsed, recordAt, Entry, entriesBytes}
+use Rattle.model.specs.Logs.{off, cut, spans, within, takeExtent, extentOf, takeParsed, executedParsed, recordAt, Entry, entriesBytes}
 use Rattle.model.specs.Limits.{lastServer, leastImage, greatestImage, headSize, takeHead}
-use Rattle.model.specs.Limits.{executedKind, giveKind, goneKind, releaseKind, takeKind}
+use Rattle.model.specs.Limits.{firstExecutedKind, giveKind, goneKind, releaseKind, takeKind, executedKind}
 use Rattle.model_laws.specs.Bytes.{Bytes, All}
 use Rattle.model_laws.specs.Codec.{Codec}
-use Rattle.model_laws.specs.Fields.{byte, word32, signed, fixed, Layout, Computes}
-use Rattle.model_laws.specs.Fits.{ExecutedFits, GiveFits, ReleaseFits, IsImage, recordFits, recordOk, IsRecord, EntryFrom, EntriesFrom, entriesFrom, lastEnd, Incomplete, Walked}
+use Rattle.model_laws.specs.Fields.{Field, byte, word32, signed, fixed, Bounded, BoundedAt, Layout, Computes}
+use Rattle.model_laws.specs.Fits.{TimeFits, ExecutedFits, GiveFits, ReleaseFits, IsImage, recordFits, recordOk, IsRecord, EntryFrom, EntriesFrom, entriesFrom, lastEnd, Incomplete, Walked}
 use Rattle.model_laws.specs.OneWalk.{walk, entriesOf}
 use Rattle.model_laws.proofs.Tests.{and-left, and-right, and-both, choose}
 use Rattle.model_laws.proofs.Numbers.{part-join, le32-digits, quad-again, starts-again, le32-is, le32-take}
@@ -92,23 +92,85 @@ head-length s e = facts (headTests s) e 0
 
 -- ---- the records' layouts; log record 2 is a notice's
 
-abbrev executedLayout : Layout Executed
-executedLayout =
+-- an executed record in a form
+abbrev pub formed : Bool → Executed → Executed
+formed timed x = record { command = x .command; done = x .done; result = x .result; timed = timed }
+
+pub formed-own : (timed : Bool) (x : Executed) → x .timed ≡ timed → formed timed x ≡ x
+formed-own timed x e = λ i. record { command = x .command; done = x .done; result = x .result; timed = sym e i }
+
+-- the fields by form; the time is the last one
+abbrev executedFields : Bool → List Field
+executedFields timed =
+    fixed (pick timed executedKind firstExecutedKind)
+    ∷ byte ∷ byte ∷ byte ∷ word32 ∷ word32 ∷ word32 ∷ signed ∷ signed ∷ byte ∷ fixed 0 ∷ fixed 0 ∷ fixed 0 ∷ pick timed (word32 ∷ []) []
+
+pub time-fits : (timed : Bool) (t : ℕ) → TimeFits timed t → Bounded (pick timed (word32 ∷ []) []) (t ∷ [])
+time-fits true t h = (h, tt)
+time-fits false t h = (h, tt)
+
+pub time-fitted : (timed : Bool) (t : ℕ) → BoundedAt (pick timed (word32 ∷ []) []) 0 t → TimeFits timed t
+time-fitted true t h = h
+time-fitted false t h = h
+
+abbrev executedLayout : Bool → Layout Executed
+executedLayout timed =
     record {
-      fields = fixed executedKind ∷ byte ∷ byte ∷ byte ∷ word32 ∷ word32 ∷ word32 ∷ signed ∷ signed ∷ byte ∷ fixed 0 ∷ fixed 0 ∷ fixed 0 ∷ [];
-      to = λ v. record { command = record { client = v 3; call = v 4; op = v 0; point = v 1; argument = v 6 }; done = v 5; result = record { outcome = v 2; value = v 7; quality = v 8 } };
-      from = λ a. a .command .op ∷ a .command .point ∷ a .result .outcome ∷ a .command .client ∷ a .command .call ∷ a .done ∷ a .command .argument ∷ a .result .value ∷ a .result .quality ∷ [];
-      Fit = ExecutedFits;
-      fits = λ a h. (h .op, (h .point, (h .outcome, (h .client, (h .call, (h .done, (h .argument, (h .value, (h .quality, tt)))))))));
-      fitted = λ v p. record { op = p 0; point = p 1; outcome = p 2; client = p 3; call = p 4; done = p 5; argument = p 6; value = p 7; quality = p 8 };
+      fields = executedFields timed;
+      to =
+          λ v.
+          record {
+            command = record { client = v 3; call = v 4; op = v 0; point = v 1; argument = v 6 };
+            done = v 5;
+            result = record { outcome = v 2; value = v 7; quality = v 8; time = v 9 };
+            timed = timed;
+          };
+      from =
+          λ a.
+          a .command .op
+          ∷ a .command .point
+          ∷ a .result .outcome
+          ∷ a .command .client
+          ∷ a .command .call
+          ∷ a .done
+          ∷ a .command .argument
+          ∷ a .result .value
+          ∷ a .result .quality
+          ∷ a .result .time
+          ∷ [];
+      Fit = λ a. ExecutedFits a × (a .timed ≡ timed);
+      fits =
+          λ a f.
+          let h = f .0 in
+          let t : TimeFits timed (a .result .time) = subst (λ (b : Bool). TimeFits b (a .result .time)) (f .1) (h .time) in
+          (h .op, (h .point, (h .outcome, (h .client, (h .call, (h .done, (h .argument, (h .value, (h .quality, time-fits timed (a .result .time) t)))))))));
+      fitted =
+          λ v p. (
+            record {
+              op = p 0;
+              point = p 1;
+              outcome = p 2;
+              client = p 3;
+              call = p 4;
+              done = p 5;
+              argument = p 6;
+              value = p 7;
+              quality = p 8;
+              time = time-fitted timed (v 9) (p 9);
+            },
+            refl,
+          );
     }
 
-pub executed-computes : Computes executedLayout executedAt executedBytes (λ s. eqb (byteAt s 0) executedKind && zeros3At s 25)
-unfolding executedAt executedBytes zeros3At
-executed-computes = record { reads = λ s. refl; writes = λ a. refl; tests = λ s. refl; plain = refl; back = λ a. refl; forth = λ s. refl }
+pub executed-computes : (timed : Bool) → Computes (executedLayout timed) (executedAt timed) (λ x. executedBytes (formed timed x)) (λ s. eqb (byteAt s 0) (executedKindOf timed) && zeros3At s 25)
+unfolding executedAt executedBytes executedKindOf timeAt timeBytes zeros3At
+executed-computes true =
+    record { reads = λ s. refl; writes = λ a. refl; tests = λ s. refl; plain = refl; back = λ a h. formed-own true a (h .1); forth = λ s. refl }
+executed-computes false =
+    record { reads = λ s. refl; writes = λ a. refl; tests = λ s. refl; plain = refl; back = λ a h. formed-own false a (h .1); forth = λ s. refl }
 
-abbrev pub executedCodec : Codec Executed
-executedCodec = codec executed-computes
+abbrev pub executedCodec : Bool → Codec Executed
+executedCodec timed = codec (executed-computes timed)
 
 abbrev giveLayout : Layout Give
 giveLayout =
@@ -123,7 +185,7 @@ giveLayout =
 
 pub give-computes : Computes giveLayout giveAt giveBytes (λ s. eqb (byteAt s 0) giveKind && zeroAt s 3)
 unfolding giveAt giveBytes
-give-computes = record { reads = λ s. refl; writes = λ a. refl; tests = λ s. refl; plain = refl; back = λ a. refl; forth = λ s. refl }
+give-computes = record { reads = λ s. refl; writes = λ a. refl; tests = λ s. refl; plain = refl; back = λ a h. refl; forth = λ s. refl }
 
 abbrev pub giveCodec : Codec Give
 giveCodec = codec give-computes
@@ -141,7 +203,7 @@ releaseLayout =
 
 pub release-computes : Computes releaseLayout releaseAt releaseBytes (λ s. eqb (byteAt s 0) releaseKind && (zeroAt s 2 && zeroAt s 3))
 unfolding releaseAt releaseBytes
-release-computes = record { reads = λ s. refl; writes = λ a. refl; tests = λ s. refl; plain = refl; back = λ a. refl; forth = λ s. refl }
+release-computes = record { reads = λ s. refl; writes = λ a. refl; tests = λ s. refl; plain = refl; back = λ a h. refl; forth = λ s. refl }
 
 abbrev pub releaseCodec : Codec Release
 releaseCodec = codec release-computes
@@ -151,17 +213,27 @@ goneCodec = noticeCodec goneKind refl
 
 -- ---- records: what was written is read back
 
+executed-length : (timed : Bool) (x : Executed) → length (executedBytes (formed timed x)) ≡ executedSizeOf timed
+unfolding executedBytes executedSizeOf timeBytes
+executed-length true x = refl
+executed-length false x = refl
+
 pub record-length : (r : LogRecord) → length (recordBytes r) ≡ recordSize r
-unfolding recordBytes recordSize executedBytes noticeBytes giveBytes takeBytes releaseBytes
-record-length (executed x) = refl
+unfolding recordBytes recordSize noticeBytes giveBytes takeBytes releaseBytes
+record-length (executed x) = executed-length (x .timed) x
 record-length (gone n) = refl
 record-length (gave g) = refl
 record-length (took i) = omega (arith, image-length i)
 record-length (released r) = refl
 
+executed-least : (timed : Bool) → headSize ≤ executedSizeOf timed
+unfolding executedSizeOf
+executed-least true = lit≤ tt
+executed-least false = lit≤ tt
+
 pub record-least : (r : LogRecord) → headSize ≤ recordSize r
 unfolding recordSize
-record-least (executed x) = lit≤ tt
+record-least (executed x) = executed-least (x .timed)
 record-least (gone n) = lit≤ tt
 record-least (gave g) = lit≤ tt
 record-least (took i) = omega arith
@@ -169,7 +241,7 @@ record-least (released r) = lit≤ tt
 
 pub record-bytes : (r : LogRecord) → recordOk r ≡ true → recordFits r → Bytes (recordBytes r)
 unfolding recordBytes takeBytes
-record-bytes (executed x) ok f = executedCodec .enc-bytes x f
+record-bytes (executed x) ok f = executedCodec (x .timed) .enc-bytes x (f, refl)
 record-bytes (gone n) ok f = goneCodec .enc-bytes n f
 record-bytes (gave g) ok f = giveCodec .enc-bytes g f
 record-bytes (took i) ok f =
@@ -181,9 +253,15 @@ take-length : (i : Image) (rest : List ℕ) → le32At (takeBytes i ++ rest) 4 �
 unfolding takeBytes le32At
 take-length i rest = le32-digits (imageLength i)
 
+executed-back : (timed : Bool) (x : Executed) (rest : List ℕ) → executedOk x ≡ true → ExecutedFits x → x .timed ≡ timed
+    → recordAt (executedBytes (formed timed x) ++ rest) ≡ some (executed x)
+unfolding recordAt executedParsed executedBytes executedKindOf zeros3At
+executed-back true x rest ok f e = rw (executedCodec true .dec-enc x rest (f, e), ok)
+executed-back false x rest ok f e = rw (executedCodec false .dec-enc x rest (f, e), ok)
+
 pub record-back : (r : LogRecord) (rest : List ℕ) → recordOk r ≡ true → recordFits r → recordAt (recordBytes r ++ rest) ≡ some r
-unfolding recordAt recordBytes executedBytes noticeBytes giveBytes takeBytes releaseBytes zeros3At takeParsed
-record-back (executed x) rest ok f = rw (executedCodec .dec-enc x rest f, ok)
+unfolding recordAt recordBytes noticeBytes giveBytes takeBytes releaseBytes zeros3At takeParsed
+record-back (executed x) rest ok f = executed-back (x .timed) x rest ok f refl
 record-back (gone n) rest ok f = rw (goneCodec .dec-enc n rest f, ok)
 record-back (gave g) rest ok f = rw (giveCodec .dec-enc g rest f, ok)
 record-back (took i) rest ok f = rw (take-length i rest, take-at (imageBytes i) rest (imageLength i) (image-length i), image-back i f ok)
@@ -208,13 +286,23 @@ take-within s n l g f = step (ltb (length s) takeHead) refl
     step true e = sym (within-cut s (takeHead + n) (omega (arith, ltb-true (length s) takeHead e)))
     step false e = rw (f (ltb-false (length s) takeHead e), le-ltb n leastImage l, le-ltb greatestImage n g)
 
+executed-take : (timed : Bool) (x : Executed) (rest : List ℕ) (j : ℕ) → 1 ≤ j
+    → extentOf (take j (executedBytes (formed timed x) ++ rest)) ≡ within (take j (executedBytes (formed timed x) ++ rest)) (executedSizeOf timed)
+unfolding extentOf executedSizeOf
+executed-take true x rest j h =
+    let s : List ℕ = executedBytes (formed true x) ++ rest in
+    let k : byteAt (take j s) 0 ≡ executedKind = getD-take j s 0 0 h ∙ unfold executedBytes executedKindOf in refl in
+    rw k
+executed-take false x rest j h =
+    let s : List ℕ = executedBytes (formed false x) ++ rest in
+    let k : byteAt (take j s) 0 ≡ firstExecutedKind = getD-take j s 0 0 h ∙ unfold executedBytes executedKindOf in refl in
+    rw k
+
 -- the extent of the first j bytes of what begins with a record: its size, or cut where they are fewer
 pub extent-take : (r : LogRecord) (rest : List ℕ) (j : ℕ) → recordOk r ≡ true → 1 ≤ j
     → extentOf (take j (recordBytes r ++ rest)) ≡ within (take j (recordBytes r ++ rest)) (recordSize r)
 unfolding recordBytes recordSize extentOf
-extent-take (executed x) rest j ok h =
-    let k : byteAt (take j (executedBytes x ++ rest)) 0 ≡ 1 = getD-take j (executedBytes x ++ rest) 0 0 h ∙ unfold executedBytes in refl in
-    rw k
+extent-take (executed x) rest j ok h = executed-take (x .timed) x rest j h
 extent-take (gone n) rest j ok h =
     let k : byteAt (take j (noticeBytes goneKind n ++ rest)) 0 ≡ goneKind = getD-take j (noticeBytes goneKind n ++ rest) 0 0 h ∙ unfold noticeBytes in refl in
     rw k
@@ -291,11 +379,25 @@ module _ (s : List ℕ) (h : Bytes s) (m : ℕ) (ext : extentOf s ≡ spans m) (
       let c : C .test s ≡ true = z (and-left zeros (ok (C .dec s)) t) in
       f (C .dec s) (and-right zeros (ok (C .dec s)) t) (C .dec-fit s h c) (n .0) (omega (arith, n)) (C .enc-dec s h (n .1) c ∙ ap (λ (k : ℕ). take k s) (sym (n .0)))
 
-  found-executed : byteAt s 0 ≡ executedKind → (zeros3At s 25 && executedOk (executedAt s)) ≡ true → IsRecord s m (executed (executedAt s))
-  unfolding recordBytes recordSize extentOf
-  found-executed k =
-      found-kind executedCodec executed (zeros3At s 25) executedOk (rw k at ext) (and-both (eqb (byteAt s 0) executedKind) (zeros3At s 25) (eq-eqb (byteAt s 0) executedKind k))
-      (λ a o f n l e. record { ok = o; fits = f; size = n; whole = l; same = e })
+  -- in a form, by its width
+  executed-is : (timed : Bool) (a : Executed) → executedOk a ≡ true → ExecutedFits a × (a .timed ≡ timed) → m ≡ executedSizeOf timed → m ≤ length s
+      → executedBytes (formed timed a) ≡ take m s → IsRecord s m (executed a)
+  unfolding recordBytes recordSize
+  executed-is timed a o f n l e =
+      record { ok = o; fits = f .0; size = rw (f .1) n; whole = l; same = ap executedBytes (sym (formed-own timed a (f .1))) ∙ e }
+
+  found-executed : (timed : Bool) → byteAt s 0 ≡ executedKindOf timed → (zeros3At s 25 && executedOk (executedAt timed s)) ≡ true → IsRecord s m (executed (executedAt timed s))
+  unfolding extentOf executedKindOf executedSizeOf
+  found-executed true k =
+      found-kind (executedCodec true) executed (zeros3At s 25) executedOk (rw k at ext) (and-both (eqb (byteAt s 0) executedKind) (zeros3At s 25) (eq-eqb (byteAt s 0) executedKind k))
+      (executed-is true)
+  found-executed false k =
+      found-kind (executedCodec false) executed (zeros3At s 25) executedOk (rw k at ext) (and-both (eqb (byteAt s 0) firstExecutedKind) (zeros3At s 25) (eq-eqb (byteAt s 0) firstExecutedKind k))
+      (executed-is false)
+
+  found-form : (timed : Bool) → byteAt s 0 ≡ executedKindOf timed → executedParsed timed s ≡ some r → IsRecord s m r
+  unfolding executedParsed
+  found-form timed k = found (zeros3At s 25 && executedOk (executedAt timed s)) (executed (executedAt timed s)) (found-executed timed k)
 
   found-gone : byteAt s 0 ≡ goneKind → (zeros3At s 1 && noticeOk (noticeAt s)) ≡ true → IsRecord s m (gone (noticeAt s))
   unfolding recordBytes recordSize extentOf
@@ -337,11 +439,10 @@ module _ (s : List ℕ) (h : Bytes s) (m : ℕ) (ext : extentOf s ≡ spans m) (
   found-image k t (some i) p e = let q : took i ≡ r = cc in subst (IsRecord s m) q (found-took k t i p)
 
   pub record-is : recordAt s ≡ some r → IsRecord s m r
-  unfolding recordAt
+  unfolding recordAt executedKindOf
   record-is =
       let P : Option LogRecord → Type 0 = λ o. o ≡ some r → IsRecord s m r in
-      choose P (eqb (byteAt s 0) executedKind)
-      (λ k. found (zeros3At s 25 && executedOk (executedAt s)) (executed (executedAt s)) (found-executed (eqb-true (byteAt s 0) executedKind k)))
+      choose P (eqb (byteAt s 0) firstExecutedKind) (λ k. found-form false (eqb-true (byteAt s 0) firstExecutedKind k))
       (λ k1. choose P (eqb (byteAt s 0) goneKind)
       (λ k. found (zeros3At s 1 && noticeOk (noticeAt s)) (gone (noticeAt s)) (found-gone (eqb-true (byteAt s 0) goneKind k)))
       (λ k2. choose P (eqb (byteAt s 0) giveKind)
@@ -352,7 +453,8 @@ module _ (s : List ℕ) (h : Bytes s) (m : ℕ) (ext : extentOf s ≡ spans m) (
       (λ k4. choose P (eqb (byteAt s 0) releaseKind)
       (λ k. found (zeroAt s 2 && (zeroAt s 3 && releaseOk (releaseAt s))) (released (releaseAt s))
       (λ t. found-released (eqb-true (byteAt s 0) releaseKind k) (and-assoc (zeroAt s 2) (zeroAt s 3) (releaseOk (releaseAt s)) ∙ t)))
-      (λ k5 e. let z : _≡_ {A = ℕ} 0 1 = cc in absurd (omega arith))))))
+      (λ k5. choose P (eqb (byteAt s 0) executedKind) (λ k. found-form true (eqb-true (byteAt s 0) executedKind k))
+      (λ k6 e. let z : _≡_ {A = ℕ} 0 1 = cc in absurd (omega arith)))))))
 
 -- ---- the walk over entries that were written
 

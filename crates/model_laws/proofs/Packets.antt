@@ -1,5 +1,5 @@
--- Laws of the six packets.
---     requestCodec, resultCodec, refusalCodec, receiptCodec, noticeCodec, grantCodec     by kind, as codecs
+-- Laws of the packets.
+--     requestCodec, resultCodec, refusalCodec, receiptCodec, noticeCodec, grantCodec     by kind, as codecs, a result by its form
 --     packet-length, packet-bytes   the length of a packet by kind; its bytes are bytes
 --     packet-back                   what was written is read back, for every well-formed packet that fits
 --     request-of, receipt-of, notice-of     what is of a kind
@@ -7,7 +7,7 @@
 -- Assumes nothing.
 use Prim.Native.Nat.{ℕ}
 use mathlib.Core.Path.{_≡_, refl, sym, ap, _∙_, subst}
-use mathlib.Core.Bool.{Bool, true, _&&_, false≢true}
+use mathlib.Core.Bool.{Bool, true, false, _&&_, false≢true}
 use mathlib.Core.List.{List, [], _∷_}
 use mathlib.Core.Option.{some}
 use native.Mathlib.Omega.{arith}
@@ -24,20 +24,20 @@ use Rattle.model.specs.declared.Grant.{Grant}
 use Rattle.model.specs.declared.Packet.{Packet}
 use Rattle.model.specs.declared.Packet.the-variants.{Malformed, Requested, Resulted, Refused, Receipted, Noticed, Granted}
 use Rattle.model.specs.Numbers.{byteAt, zeroAt, zeros3At}
-use Rattle.model.specs.Packets.{packetLength, requestAt, requestOk, requestBytes, resultAt, resultOk, resultBytes, refusalAt, refusalOk, refusalBytes}
+use Rattle.model.specs.Packets.{packetLength, timeAt, timeBytes, resultKindOf, requestAt, requestOk, requestBytes, resultAt, resultOk, resultBytes, refusalAt, refusalOk, refusalBytes}
 use Rattle.model.specs.Packets.{receiptAt, receiptOk, receiptBytes, noticeAt, noticeOk, noticeBytes, grantAt, grantOk, grantBytes, whole}
 use Rattle.model.specs.Packets.{parseRequest, parseResult, parseRefusal, parseReceipt, parseNotice, parseGrant, parsePacket, packetBytes, asRequest}
 use Rattle.model.specs.Packets.{asReceipt, asNotice}
-use Rattle.model.specs.Limits.{grantKind, noticeKind, receiptKind, refusalKind, requestKind, resultKind}
+use Rattle.model.specs.Limits.{firstResultKind, grantKind, noticeKind, receiptKind, refusalKind, requestKind, resultKind}
 use Rattle.model_laws.specs.Bytes.{Bytes}
 use Rattle.model_laws.specs.Codec.{Codec}
-use Rattle.model_laws.specs.Fields.{byte, word32, signed, fixed, Layout, Computes}
-use Rattle.model_laws.specs.Fits.{RequestFits, ResultFits, RefusalFits, ReceiptFits, NoticeFits, GrantFits, packetFits, packetOk, kindOf, IsPacket}
+use Rattle.model_laws.specs.Fields.{Field, byte, word32, signed, fixed, Bounded, BoundedAt, Layout, Computes}
+use Rattle.model_laws.specs.Fits.{TimeFits, RequestFits, ResultFits, RefusalFits, ReceiptFits, NoticeFits, GrantFits, packetFits, packetOk, kindOf, IsPacket}
 use Rattle.model_laws.proofs.Tests.{and-left, and-right, and-both, choose}
 use Rattle.model_laws.proofs.Numbers.{bytes-nil}
 use Rattle.model_laws.proofs.Fields.{codec}
 
--- ---- the six layouts
+-- ---- the layouts
 
 abbrev requestLayout : Layout Request
 requestLayout =
@@ -52,28 +52,66 @@ requestLayout =
 
 pub request-computes : Computes requestLayout requestAt requestBytes (λ s. eqb (byteAt s 0) requestKind && zeroAt s 3)
 unfolding requestAt requestBytes
-request-computes = record { reads = λ s. refl; writes = λ a. refl; tests = λ s. refl; plain = refl; back = λ a. refl; forth = λ s. refl }
+request-computes = record { reads = λ s. refl; writes = λ a. refl; tests = λ s. refl; plain = refl; back = λ a h. refl; forth = λ s. refl }
 
 abbrev pub requestCodec : Codec Request
 requestCodec = codec request-computes
 
-abbrev resultLayout : Layout ResultPacket
-resultLayout =
+-- a result by its form: its fields, what it keeps, and it as one of that form
+abbrev resultFields : Bool → List Field
+resultFields true = fixed resultKind ∷ byte ∷ byte ∷ byte ∷ word32 ∷ word32 ∷ signed ∷ word32 ∷ []
+resultFields false = fixed firstResultKind ∷ byte ∷ byte ∷ byte ∷ word32 ∷ word32 ∷ signed ∷ []
+
+abbrev pub ResultFitsIn : Bool → ResultPacket → Type 0
+ResultFitsIn timed r = ResultFits r × (r .timed ≡ timed)
+
+abbrev pub resultIn : Bool → ResultPacket → ResultPacket
+resultIn timed r = record { client = r .client; call = r .call; point = r .point; result = r .result; timed = timed }
+
+abbrev resultNumbers : ResultPacket → List ℕ
+resultNumbers r = r .result .outcome ∷ r .point ∷ r .result .quality ∷ r .client ∷ r .call ∷ r .result .value ∷ r .result .time ∷ []
+
+abbrev resultOf : Bool → (ℕ → ℕ) → ResultPacket
+resultOf timed v = record { client = v 3; call = v 4; point = v 1; result = record { outcome = v 0; value = v 5; quality = v 2; time = v 6 }; timed = timed }
+
+pub result-fits : (timed : Bool) (r : ResultPacket) → ResultFitsIn timed r → Bounded (resultFields timed) (resultNumbers r)
+result-fits true r h =
+    let f = h .0 in
+    (f .outcome, (f .point, (f .quality, (f .client, (f .call, (f .value, (subst (λ u. TimeFits u (r .result .time)) (h .1) (f .time), tt)))))))
+result-fits false r h =
+    let f = h .0 in
+    (f .outcome, (f .point, (f .quality, (f .client, (f .call, (f .value, (subst (λ u. TimeFits u (r .result .time)) (h .1) (f .time), tt)))))))
+
+pub result-fitted : (timed : Bool) (v : ℕ → ℕ) → ((k : ℕ) → BoundedAt (resultFields timed) k (v k)) → ResultFitsIn timed (resultOf timed v)
+result-fitted true v p = (record { outcome = p 0; point = p 1; quality = p 2; client = p 3; call = p 4; value = p 5; time = p 6 }, refl)
+result-fitted false v p = (record { outcome = p 0; point = p 1; quality = p 2; client = p 3; call = p 4; value = p 5; time = p 6 }, refl)
+
+abbrev resultLayout : Bool → Layout ResultPacket
+resultLayout timed =
     record {
-      fields = fixed resultKind ∷ byte ∷ byte ∷ byte ∷ word32 ∷ word32 ∷ signed ∷ [];
-      to = λ v. record { client = v 3; call = v 4; point = v 1; result = record { outcome = v 0; value = v 5; quality = v 2 } };
-      from = λ a. a .result .outcome ∷ a .point ∷ a .result .quality ∷ a .client ∷ a .call ∷ a .result .value ∷ [];
-      Fit = ResultFits;
-      fits = λ a h. (h .outcome, (h .point, (h .quality, (h .client, (h .call, (h .value, tt))))));
-      fitted = λ v p. record { outcome = p 0; point = p 1; quality = p 2; client = p 3; call = p 4; value = p 5 };
+      fields = resultFields timed;
+      to = resultOf timed;
+      from = resultNumbers;
+      Fit = ResultFitsIn timed;
+      fits = result-fits timed;
+      fitted = result-fitted timed;
     }
 
-pub result-computes : Computes resultLayout resultAt resultBytes (λ s. eqb (byteAt s 0) resultKind)
-unfolding resultAt resultBytes
-result-computes = record { reads = λ s. refl; writes = λ a. refl; tests = λ s. refl; plain = refl; back = λ a. refl; forth = λ s. refl }
+result-back : (timed : Bool) (r : ResultPacket) → ResultFitsIn timed r → resultIn timed r ≡ r
+result-back timed r h = ap (λ u. resultIn u r) (sym (h .1))
 
-abbrev pub resultCodec : Codec ResultPacket
-resultCodec = codec result-computes
+pub result-computes : (timed : Bool) → Computes (resultLayout timed) (resultAt timed) (λ r. resultBytes (resultIn timed r)) (λ s. eqb (byteAt s 0) (resultKindOf timed))
+unfolding resultAt resultBytes resultKindOf timeAt timeBytes
+result-computes true = record { reads = λ s. refl; writes = λ a. refl; tests = λ s. refl; plain = refl; back = result-back true; forth = λ s. refl }
+result-computes false = record { reads = λ s. refl; writes = λ a. refl; tests = λ s. refl; plain = refl; back = result-back false; forth = λ s. refl }
+
+abbrev pub resultCodec : Bool → Codec ResultPacket
+resultCodec timed = codec (result-computes timed)
+
+result-width : (timed : Bool) → resultCodec timed .width ≡ packetLength (resultKindOf timed)
+unfolding packetLength resultKindOf
+result-width true = refl
+result-width false = refl
 
 abbrev refusalLayout : Layout RefusalPacket
 refusalLayout =
@@ -88,7 +126,7 @@ refusalLayout =
 
 pub refusal-computes : Computes refusalLayout refusalAt refusalBytes (λ s. eqb (byteAt s 0) refusalKind && zeroAt s 3)
 unfolding refusalAt refusalBytes
-refusal-computes = record { reads = λ s. refl; writes = λ a. refl; tests = λ s. refl; plain = refl; back = λ a. refl; forth = λ s. refl }
+refusal-computes = record { reads = λ s. refl; writes = λ a. refl; tests = λ s. refl; plain = refl; back = λ a h. refl; forth = λ s. refl }
 
 abbrev pub refusalCodec : Codec RefusalPacket
 refusalCodec = codec refusal-computes
@@ -106,7 +144,7 @@ receiptLayout =
 
 pub receipt-computes : Computes receiptLayout receiptAt receiptBytes (λ s. eqb (byteAt s 0) receiptKind && zeroAt s 3)
 unfolding receiptAt receiptBytes
-receipt-computes = record { reads = λ s. refl; writes = λ a. refl; tests = λ s. refl; plain = refl; back = λ a. refl; forth = λ s. refl }
+receipt-computes = record { reads = λ s. refl; writes = λ a. refl; tests = λ s. refl; plain = refl; back = λ a h. refl; forth = λ s. refl }
 
 abbrev pub receiptCodec : Codec Receipt
 receiptCodec = codec receipt-computes
@@ -125,7 +163,7 @@ noticeLayout kind =
 
 pub notice-computes : (kind : ℕ) → ltb kind 256 ≡ true → Computes (noticeLayout kind) noticeAt (noticeBytes kind) (λ s. eqb (byteAt s 0) kind && zeros3At s 1)
 unfolding noticeAt noticeBytes zeros3At
-notice-computes kind h = record { reads = λ s. refl; writes = λ a. refl; tests = λ s. refl; plain = rw h; back = λ a. refl; forth = λ s. refl }
+notice-computes kind h = record { reads = λ s. refl; writes = λ a. refl; tests = λ s. refl; plain = rw h; back = λ a h. refl; forth = λ s. refl }
 
 abbrev pub noticeCodec : (kind : ℕ) → ltb kind 256 ≡ true → Codec Notice
 noticeCodec kind h = codec (notice-computes kind h)
@@ -143,7 +181,7 @@ grantLayout =
 
 pub grant-computes : Computes grantLayout grantAt grantBytes (λ s. eqb (byteAt s 0) grantKind && zeros3At s 1)
 unfolding grantAt grantBytes zeros3At
-grant-computes = record { reads = λ s. refl; writes = λ a. refl; tests = λ s. refl; plain = refl; back = λ a. refl; forth = λ s. refl }
+grant-computes = record { reads = λ s. refl; writes = λ a. refl; tests = λ s. refl; plain = refl; back = λ a h. refl; forth = λ s. refl }
 
 abbrev pub grantCodec : Codec Grant
 grantCodec = codec grant-computes
@@ -154,7 +192,7 @@ pub packet-length : (p : Packet) → length (packetBytes p) ≡ packetLength (ki
 unfolding packetBytes packetLength requestBytes resultBytes refusalBytes receiptBytes noticeBytes grantBytes
 packet-length Malformed = refl
 packet-length (Requested q) = refl
-packet-length (Resulted r) = refl
+packet-length (Resulted r) = resultCodec (r .timed) .enc-width r ∙ result-width (r .timed)
 packet-length (Refused r) = refl
 packet-length (Receipted r) = refl
 packet-length (Noticed n) = refl
@@ -165,19 +203,24 @@ pub packet-bytes : (p : Packet) → packetFits p → Bytes (packetBytes p)
 unfolding packetBytes
 packet-bytes Malformed f = bytes-nil
 packet-bytes (Requested q) f = requestCodec .enc-bytes q f
-packet-bytes (Resulted r) f = resultCodec .enc-bytes r f
+packet-bytes (Resulted r) f = resultCodec (r .timed) .enc-bytes r (f, refl)
 packet-bytes (Refused r) f = refusalCodec .enc-bytes r f
 packet-bytes (Receipted r) f = receiptCodec .enc-bytes r f
 packet-bytes (Noticed n) f = noticeCodec noticeKind refl .enc-bytes n f
 packet-bytes (Granted g) f = grantCodec .enc-bytes g f
 
 -- what was written is read back
+result-parsed : (timed : Bool) (r : ResultPacket) → resultOk r ≡ true → ResultFitsIn timed r → parsePacket (resultBytes (resultIn timed r)) ≡ Resulted r
+unfolding parsePacket whole packetLength parseResult resultBytes resultKindOf timeBytes
+result-parsed true r ok f = rw (resultCodec true .dec-enc r [] f, ok)
+result-parsed false r ok f = rw (resultCodec false .dec-enc r [] f, ok)
+
 pub packet-back : (p : Packet) → packetOk p ≡ true → packetFits p → parsePacket (packetBytes p) ≡ p
-unfolding packetBytes parsePacket whole packetLength parseRequest parseResult parseRefusal parseReceipt parseNotice parseGrant requestBytes resultBytes refusalBytes receiptBytes
+unfolding packetBytes parsePacket whole packetLength parseRequest parseRefusal parseReceipt parseNotice parseGrant requestBytes refusalBytes receiptBytes
     noticeBytes grantBytes zeros3At
 packet-back Malformed ok f = absurd (false≢true ok)
 packet-back (Requested q) ok f = rw (requestCodec .dec-enc q [] f, ok)
-packet-back (Resulted r) ok f = rw (resultCodec .dec-enc r [] f, ok)
+packet-back (Resulted r) ok f = result-parsed (r .timed) r ok (f, refl)
 packet-back (Refused r) ok f = rw (refusalCodec .dec-enc r [] f, ok)
 packet-back (Receipted r) ok f = rw (receiptCodec .dec-enc r [] f, ok)
 packet-back (Noticed n) ok f = rw (noticeCodec noticeKind refl .dec-enc n [] f, ok)
@@ -210,10 +253,11 @@ module _ (b : List ℕ) (h : Bytes b) where
   request-found k =
       kind-found requestCodec Requested requestKind (zeroAt b 3) requestOk refl (and-both (eqb (byteAt b 0) requestKind) (zeroAt b 3) k) (λ a o f e. record { ok = o; fits = f; same = e })
 
-  result-found : eqb (byteAt b 0) resultKind ≡ true → Found b (parseResult b)
-  unfolding parseResult packetLength packetBytes
-  result-found k =
-      kind-found resultCodec Resulted resultKind true resultOk refl (λ z. k) (λ a o f e. record { ok = o; fits = f; same = e })
+  result-found : (timed : Bool) → eqb (byteAt b 0) (resultKindOf timed) ≡ true → Found b (parseResult timed b)
+  unfolding parseResult packetBytes
+  result-found timed k =
+      kind-found (resultCodec timed) Resulted (resultKindOf timed) true resultOk (sym (result-width timed)) (λ z. k)
+      (λ a o f e. record { ok = o; fits = f .0; same = ap resultBytes (sym (result-back timed a f)) ∙ e })
 
   refusal-found : eqb (byteAt b 0) refusalKind ≡ true → Found b (parseRefusal b)
   unfolding parseRefusal packetLength packetBytes
@@ -237,14 +281,15 @@ module _ (b : List ℕ) (h : Bytes b) where
       kind-found grantCodec Granted grantKind (zeros3At b 1) grantOk refl (and-both (eqb (byteAt b 0) grantKind) (zeros3At b 1) k) (λ a o f e. record { ok = o; fits = f; same = e })
 
   pub packet-found : (parsePacket b ≡ Malformed → ⊥) → IsPacket b (parsePacket b)
-  unfolding parsePacket
+  unfolding parsePacket resultKindOf
   packet-found =
       choose (Found b) (eqb (byteAt b 0) 1) request-found
-      (λ k1. choose (Found b) (eqb (byteAt b 0) 2) result-found
+      (λ k1. choose (Found b) (eqb (byteAt b 0) 2) (result-found false)
       (λ k2. choose (Found b) (eqb (byteAt b 0) 3) refusal-found
       (λ k3. choose (Found b) (eqb (byteAt b 0) 4) receipt-found
       (λ k4. choose (Found b) (eqb (byteAt b 0) 5) notice-found
-      (λ k5. choose (Found b) (eqb (byteAt b 0) 6) grant-found (λ k6 m. absurd (m refl)))))))
+      (λ k5. choose (Found b) (eqb (byteAt b 0) 6) grant-found
+      (λ k6. choose (Found b) (eqb (byteAt b 0) 7) (result-found true) (λ k7 m. absurd (m refl))))))))
 
   pub packet-is : (p : Packet) → parsePacket b ≡ p → (p ≡ Malformed → ⊥) → IsPacket b p
   packet-is p e m = subst (IsPacket b) e (packet-found (λ q. m (sym e ∙ q)))

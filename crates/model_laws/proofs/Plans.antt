@@ -42,7 +42,7 @@ entryLayout =
 
 pub entry-computes : Computes entryLayout planEntryOf planEntryBytes (λ s. zeros3At s 13)
 unfolding planEntryOf planEntryBytes zeros3At
-entry-computes = record { reads = λ s. refl; writes = λ a. refl; tests = λ s. refl; plain = refl; back = λ a. refl; forth = λ s. refl }
+entry-computes = record { reads = λ s. refl; writes = λ a. refl; tests = λ s. refl; plain = refl; back = λ a h. refl; forth = λ s. refl }
 
 abbrev entryCodec : Codec PlanEntry
 entryCodec = codec entry-computes

@@ -1,11 +1,11 @@
 -- Laws of the state that is read from a checkpoint: any bytes that are framed.
 --     restored-long, restored-fit   their number, and that they are bytes
 --     restored-.., drop-..          what stands in them: the head's fields, the tables
---     restored-again                where they are sound, the state's checkpoint are the bytes that were read
+--     restored-again                where they are sound, the state's checkpoint in their form are the bytes that were read
 -- Assumes nothing.
 use Prim.Native.Nat.{ℕ, _+_, _-_, _*_, _≤_}
 use mathlib.Core.Path.{_≡_, refl, sym, ap, _∙_}
-use mathlib.Core.Bool.{true, and-assoc}
+use mathlib.Core.Bool.{Bool, true, and-assoc}
 use mathlib.Core.List.{List, [], _∷_, _++_, append-assoc, append-nil}
 use native.Mathlib.Omega.{arith}
 use native.Mathlib.Nat.{div-le-self}
@@ -19,7 +19,7 @@ use Rattle.model.specs.Images.{floorOfBytes, floorBytes}
 use Rattle.model.specs.States.{stateMagic, stateHead, pointRow, recordRow, pointsStart, floorsStart, recordsStart, stateEnd, pointOf, pointBytes, completionOf, completionBytes}
 use Rattle.model.specs.States.{clientsIn, recordsIn, load, padded}
 use Rattle.model.specs.Limits.{headSize, planSize, pointCount, clientCount, recordCount, floorRow, checkpointPoint, checkpointRecord}
-use Rattle.model.specs.Checkpoints.{checkpointMagic, planPart, pointsPart, clientsPart, recordsPart, pointFront, recordFront, checkpointBytes, recordWidth, clientsOf, recordsOf}
+use Rattle.model.specs.Checkpoints.{checkpointMagic, checkpointRecordOf, planPart, pointsPart, clientsPart, recordsPart, pointFront, recordFront, checkpointBytes, recordWidth, clientsOf, recordsOf}
 use Rattle.model.specs.Checkpoints.{pointWhole, recordWhole, fronts, restoredBytes, restored}
 use Rattle.model_laws.specs.Bytes.{Bytes, All, part}
 use Rattle.model_laws.specs.Fields.{gotAll, putAll, testsOf, passAll}
@@ -34,7 +34,7 @@ use Rattle.model_laws.proofs.Plans.{planCodec}
 use Rattle.model_laws.proofs.States.{pointCodec, completionCodec}
 use Rattle.model_laws.proofs.Fronts.{fronts-take, length-fronts, fronts-long, fronts-bytes, length-each, bytes-each, fronts-same, point-cut, record-cut}
 use Rattle.model_laws.proofs.Fronts.{point-whole-width, point-whole-cut, point-whole-bytes, record-whole-width, record-whole-cut, record-whole-bytes, record-width}
-use Rattle.model_laws.proofs.Checkpoints.{Framed, checkpointFields, checkpointNumbers, checkpoint-writes}
+use Rattle.model_laws.proofs.Checkpoints.{Framed, magicEnd, magic-form, checkpointFields, checkpointNumbers, checkpoint-writes}
 
 -- ---- a table with places past its rows
 
@@ -95,7 +95,7 @@ module _ (s : List ℕ) where
   restored-fit h =
       rw restored-run (bytes-run
       (stateMagic ∷ take 8 (drop 4 s) ∷ le32 (clientsOf s) ∷ le32 (recordsOf s) ∷ quad 0 0 0 0 ∷ le64 headSize ∷ le64 headSize ∷ planOfIt ∷ pointsOfIt ∷ floorsOfIt ∷ recordsOfIt ∷ []) (
-        bytes-quad 87 83 84 49 (lit< tt) (lit< tt) (lit< tt) (lit< tt),
+        bytes-quad 87 83 84 50 (lit< tt) (lit< tt) (lit< tt) (lit< tt),
         (
           bytes-take 8 (drop 4 s) (bytes-drop 4 s h),
           (
@@ -306,22 +306,26 @@ module _ (s : List ℕ) where
           (load (restored s) .records) (recordsOf s)
           (drop (recordsPart (clientsOf s)) s) records-count (rw length-drop (omega (arith, d .whole))) records-rows
 
-      head-again : putAll checkpointFields (checkpointNumbers (load (restored s) .server) (load (restored s) .heard) (clientsOf s) (recordsOf s)) ≡ take planPart s
-      unfolding load zeros3At recordWidth
+      abbrev timed : Bool
+      timed = startsWith s checkpointMagic
+
+      head-again : putAll (checkpointFields timed) (checkpointNumbers (recordWidth s) (load (restored s) .server) (load (restored s) .heard) (clientsOf s) (recordsOf s)) ≡ take planPart s
+      unfolding load zeros3At
       head-again =
-          let same : checkpointNumbers (load (restored s) .server) (load (restored s) .heard) (clientsOf s) (recordsOf s) ≡ gotAll checkpointFields s 0 =
+          let same : checkpointNumbers (recordWidth s) (load (restored s) .server) (load (restored s) .heard) (clientsOf s) (recordsOf s) ≡ gotAll (checkpointFields timed) s 0 =
           λ j. restored-server j ∷ restored-heard j ∷ sym (d .plan) j ∷ sym (d .plan-size) j ∷ sym (d .points) j ∷ sym (d .points-size) j ∷ sym (d .clients) j ∷ sym (d .clients-size) j
           ∷ sym (d .records) j ∷ sym (d .records-size) j ∷ [] in
-          let tests : passAll checkpointFields s 0 ≡ true = simp and-assoc at (and-both (startsWith s checkpointMagic) (zeros3At s 5) (d .magic) (sym restored-zeros ∙ D .at5)) in
-          ap (putAll checkpointFields) same ∙ all-again checkpointFields s 0 h (omega (arith, d .whole)) (joined-all (testsOf checkpointFields s 0) tests)
+          let tests : passAll (checkpointFields timed) s 0 ≡ true =
+          simp and-assoc at (and-both (startsWith s (quad 87 76 71 (magicEnd timed))) (zeros3At s 5) (magic-form s (d .magic)) (sym restored-zeros ∙ D .at5)) in
+          ap (putAll (checkpointFields timed)) same ∙ all-again (checkpointFields timed) s 0 h (omega (arith, d .whole)) (joined-all (testsOf (checkpointFields timed) s 0) tests)
 
-      pub restored-again : checkpointBytes (load (restored s)) ≡ take (recordsPart (clientsOf s) + recordWidth s * recordsOf s) s
-      unfolding recordWidth
+      pub restored-again : checkpointBytes timed (load (restored s)) ≡ take (recordsPart (clientsOf s) + recordWidth s * recordsOf s) s
       restored-again =
           let n : ℕ = floorRow * clientsOf s in
-          let k : ℕ = checkpointRecord * recordsOf s in
+          let k : ℕ = recordWidth s * recordsOf s in
+          let width : checkpointRecordOf timed ≡ recordWidth s = unfold recordWidth in refl in
           let e : planPart + (planSize + (checkpointPoint * pointCount + (n + k))) ≡ recordsPart (clientsOf s) + k = omega arith in
-          rw (checkpoint-writes (load (restored s)), floors-count, records-count)
+          rw (checkpoint-writes timed (load (restored s)), width, floors-count, records-count)
           (part-join s 0 planPart (planSize + (checkpointPoint * pointCount + (n + k))) head-again
           (part-join s planPart planSize (checkpointPoint * pointCount + (n + k)) plan-again
           (part-join s pointsPart (checkpointPoint * pointCount) (n + k) points-again

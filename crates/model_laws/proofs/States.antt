@@ -1,7 +1,7 @@
 -- Laws of a server's state in its buffer.
 --     pointCodec, completionCodec   the rows, as codecs
 --     padded-..                     a table with zeros past its rows
---     state-length, state-bytes     the 17,704 bytes of a state
+--     state-length, state-bytes     the 19,752 bytes of a state
 --     load-back, sound-back         a state that fits is read back from the buffer it was written to, which is sound if the state is
 --                                   (load-front, sound-front: from its bytes and any bytes behind them)
 --     sound-is, is-sound            soundness as a test and as a record
@@ -70,7 +70,7 @@ pointLayout =
 
 pub point-computes : Computes pointLayout pointOf pointBytes pointRowOk
 unfolding pointOf pointBytes pointRowOk le64
-point-computes = record { reads = λ s. refl; writes = λ a. refl; tests = λ s. refl; plain = refl; back = λ a. refl; forth = λ s. refl }
+point-computes = record { reads = λ s. refl; writes = λ a. refl; tests = λ s. refl; plain = refl; back = λ a h. refl; forth = λ s. refl }
 
 abbrev pub pointCodec : Codec Point
 pointCodec = codec point-computes
@@ -78,21 +78,22 @@ pointCodec = codec point-computes
 abbrev completionLayout : Layout Completion
 completionLayout =
     record {
-      fields = word32 ∷ word32 ∷ signed ∷ signed ∷ byte ∷ byte ∷ byte ∷ byte ∷ word64 ∷ [];
+      fields = word32 ∷ word32 ∷ signed ∷ signed ∷ byte ∷ byte ∷ byte ∷ byte ∷ word32 ∷ word64 ∷ [];
       to = λ v. record {
         command = record { client = v 0; call = v 1; op = v 4; point = v 7; argument = v 2 };
-        result = record { outcome = v 5; value = v 3; quality = v 6 };
-        end = v 8;
+        result = record { outcome = v 5; value = v 3; quality = v 6; time = v 8 };
+        end = v 9;
       };
-      from = λ r. r .command .client ∷ r .command .call ∷ r .command .argument ∷ r .result .value ∷ r .command .op ∷ r .result .outcome ∷ r .result .quality ∷ r .command .point ∷ r .end ∷ [];
+      from = λ r. r .command .client ∷ r .command .call ∷ r .command .argument ∷ r .result .value ∷ r .command .op ∷ r .result .outcome ∷ r .result .quality
+          ∷ r .command .point ∷ r .result .time ∷ r .end ∷ [];
       Fit = CompletionFits;
-      fits = λ r h. (h .client, (h .call, (h .argument, (h .value, (h .op, (h .outcome, (h .quality, (h .point, (h .end, tt)))))))));
-      fitted = λ v p. record { client = p 0; call = p 1; argument = p 2; value = p 3; op = p 4; outcome = p 5; quality = p 6; point = p 7; end = p 8 };
+      fits = λ r h. (h .client, (h .call, (h .argument, (h .value, (h .op, (h .outcome, (h .quality, (h .point, (h .time, (h .end, tt))))))))));
+      fitted = λ v p. record { client = p 0; call = p 1; argument = p 2; value = p 3; op = p 4; outcome = p 5; quality = p 6; point = p 7; time = p 8; end = p 9 };
     }
 
 pub completion-computes : Computes completionLayout completionOf completionBytes (λ s. true)
 unfolding completionOf completionBytes le64
-completion-computes = record { reads = λ s. refl; writes = λ a. refl; tests = λ s. refl; plain = refl; back = λ a. refl; forth = λ s. refl }
+completion-computes = record { reads = λ s. refl; writes = λ a. refl; tests = λ s. refl; plain = refl; back = λ a h. refl; forth = λ s. refl }
 
 abbrev pub completionCodec : Codec Completion
 completionCodec = codec completion-computes

@@ -131,5 +131,5 @@ pub record Computes {A : Type 0} (L : Layout A) (dec : List ℕ → A) (enc : A 
   pub writes : (a : A) → enc a ≡ putAll (L .fields) (L .from a)
   pub tests : (s : List ℕ) → test s ≡ passAll (L .fields) s 0
   pub plain : joined (fixedBytes (L .fields)) ≡ true
-  pub back : (a : A) → L .to (nth (L .from a)) ≡ a
+  pub back : (a : A) → L .Fit a → L .to (nth (L .from a)) ≡ a
   pub forth : (s : List ℕ) → putAll (L .fields) (L .from (L .to (nth (gotAll (L .fields) s 0)))) ≡ putAll (L .fields) (gotAll (L .fields) s 0)

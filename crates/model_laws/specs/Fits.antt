@@ -24,14 +24,19 @@ use Rattle.model.specs.declared.Executed.{Executed}
 use Rattle.model.specs.declared.Give.{Give}
 use Rattle.model.specs.declared.Release.{Release}
 use Rattle.model.specs.Numbers.{word, le32At, zeros3At, startsWith}
-use Rattle.model.specs.Images.{Image, imageHead, imageHeadOk, imageTablesOk, imageLength, imageBytes}
+use Rattle.model.specs.Images.{Image, greatestOf, imageHead, imageHeadOk, imageTablesOk, imageLength, imageBytes}
 use Rattle.model.specs.Logs.{LogRecord, executed, gone, gave, took, released, executedOk, giveOk, releaseOk, recordBytes, recordSize, cut, extentOf, Entry, entriesBytes}
 use Rattle.model.specs.Plan.{planEntryOk, planRowOk}
 use Rattle.model.specs.Tables.{everyRow, zeros}
 use Rattle.model.specs.States.{State, stateMagic, stateHead, pointRow, pointsStart, floorsStart, stateEnd, clientsIn, recordsIn, load, pointRowOk, stateOk}
-use Rattle.model.specs.Limits.{greatestImage, pointCount, clientCount, recordCount, planRow, floorRow, requestKind, resultKind, refusalKind, receiptKind, noticeKind, grantKind}
+use Rattle.model.specs.Limits.{pointCount, clientCount, recordCount, planRow, floorRow, requestKind, refusalKind, receiptKind, noticeKind, grantKind}
 use Rattle.model_laws.specs.Bytes.{All}
-use Rattle.model.specs.Packets.{requestOk, resultOk, refusalOk, receiptOk, noticeOk, grantOk, packetBytes}
+use Rattle.model.specs.Packets.{resultKindOf, requestOk, resultOk, refusalOk, receiptOk, noticeOk, grantOk, packetBytes}
+
+-- a time in a form with a time, 0 in one without
+abbrev pub TimeFits : Bool → ℕ → Type 0
+TimeFits true t = t < word
+TimeFits false t = t ≡ 0
 
 pub record RequestFits (q : Request) : Type 0 where
   pub op : q .command .op < 256
@@ -49,6 +54,7 @@ pub record ResultFits (r : ResultPacket) : Type 0 where
   pub client : r .client < word
   pub call : r .call < word
   pub value : r .result .value < word
+  pub time : TimeFits (r .timed) (r .result .time)
 
 pub record RefusalFits (r : RefusalPacket) : Type 0 where
   pub refusal : r .refusal < 256
@@ -80,7 +86,7 @@ packetFits (Receipted r) = ReceiptFits r
 packetFits (Noticed n) = NoticeFits n
 packetFits (Granted g) = GrantFits g
 
--- well-formed: of one of the six kinds, and its fields in their ranges
+-- well-formed: of one of the kinds, and its fields in their ranges
 abbrev pub packetOk : Packet → Bool
 packetOk Malformed = false
 packetOk (Requested q) = requestOk q
@@ -94,7 +100,7 @@ packetOk (Granted g) = grantOk g
 abbrev pub kindOf : Packet → ℕ
 kindOf Malformed = 0
 kindOf (Requested q) = requestKind
-kindOf (Resulted r) = resultKind
+kindOf (Resulted r) = resultKindOf (r .timed)
 kindOf (Refused r) = refusalKind
 kindOf (Receipted r) = receiptKind
 kindOf (Noticed n) = noticeKind
@@ -112,7 +118,7 @@ pub record FloorFits (f : Floor) : Type 0 where
   pub client : f .client < word
   pub floor : f .floor < word
 
-pub record ImageEntryFits (e : ImageEntry) : Type 0 where
+pub record ImageEntryFits (timed : Bool) (e : ImageEntry) : Type 0 where
   pub client : e .client < word
   pub call : e .call < word
   pub argument : e .argument < word
@@ -120,6 +126,7 @@ pub record ImageEntryFits (e : ImageEntry) : Type 0 where
   pub op : e .op < 256
   pub outcome : e .result .outcome < 256
   pub quality : e .result .quality < 256
+  pub time : TimeFits timed (e .result .time)
 
 pub record ImageFits (i : Image) : Type 0 where
   pub point : i .point < 256
@@ -130,11 +137,11 @@ pub record ImageFits (i : Image) : Type 0 where
   pub value : i .value < word
   pub quality : i .quality < 256
   pub floors : All FloorFits (i .floors)
-  pub entries : All ImageEntryFits (i .entries)
+  pub entries : All (ImageEntryFits (i .timed)) (i .entries)
 
--- well-formed: the head's fields in their ranges, at most 32 floors, at most 10,544 bytes, the tables as they should be
+-- well-formed: the head's fields in their ranges, at most 32 floors, at most as many bytes as its form has, the tables as they should be
 unfoldable pub imageWell : Image → Bool
-imageWell i = imageHeadOk (imageHead i) && (leb (imageLength i) greatestImage && imageTablesOk i)
+imageWell i = imageHeadOk (imageHead i) && (leb (imageLength i) (greatestOf (i .timed)) && imageTablesOk i)
 
 -- i is a well-formed image, and b are its bytes
 pub record IsImage (b : List ℕ) (i : Image) : Type 0 where
@@ -154,6 +161,7 @@ pub record ExecutedFits (x : Executed) : Type 0 where
   pub argument : x .command .argument < word
   pub value : x .result .value < word
   pub quality : x .result .quality < 256
+  pub time : TimeFits (x .timed) (x .result .time)
 
 pub record GiveFits (g : Give) : Type 0 where
   pub point : g .point < 256
@@ -250,6 +258,7 @@ pub record CompletionFits (r : Completion) : Type 0 where
   pub outcome : r .result .outcome < 256
   pub quality : r .result .quality < 256
   pub point : r .command .point < 256
+  pub time : r .result .time < word
   pub end : r .end < word * word
 
 -- a state that fits, with a plan of 64 entries, 64 points, and the tables in their limits

@@ -6,12 +6,13 @@ use Rattle.model.specs.Numbers.{signed, nearest, flip, le32At, le64At, le64, si
 use Rattle.model.specs.Tables.{rows, everyRow, bytesOf, every, keep, zeros, written}
 use Rattle.model.specs.Plan.{planEntryOf, planEntryBytes, planEntryOk, planRowOk, planOk, planOf, planBytes, entryAt, inRange}
 use Rattle.model.specs.Rules.{argumentRange, inArguments, argumentOk, sumInRange, setRule, stepRule, reportRule, faultRule, partRule, ruleOf}
-use Rattle.model.specs.Packets.{packetLength, idOk, doneOk, commandOk, outcomeOk, requestAt, requestOk, requestBytes, resultAt, resultOk, resultBytes, refusalAt, refusalOk, refusalBytes, receiptAt, receiptOk, receiptBytes, noticeAt, noticeOk, noticeBytes, grantAt, grantOk, grantBytes, whole, parseRequest, parseResult, parseRefusal, parseReceipt, parseNotice, parseGrant, parsePacket, packetBytes, asRequest, asReceipt, asNotice}
-use Rattle.model.specs.Images.{floorOfBytes, floorBytes, imageEntryOf, imageEntryBytes, floorOf, inWindow, clientsAscend, idBefore, idsAscend, floorOk, imageEntryOk, entryWidth, imageHead, imageHeadOf, imageAt, imageFramed, imageParts, imageHeadOk, entryRowOk, imageTablesOk, imageOk, parseImage, entryInRange, imageInRange, imageLength, imageHeadBytes, imageBytes}
-use Rattle.model.specs.Logs.{headBytes, headServer, headOk, executedAt, executedOk, executedBytes, giveAt, giveOk, giveBytes, takeBytes, releaseAt, releaseOk, releaseBytes, recordBytes, recordSize, within, takeExtent, extentOf, takeParsed, recordAt, walkEnds, endsOf, lastOf, wholeEnd, entriesTo, entriesBytes}
+use Rattle.model.specs.Packets.{packetLength, resultKindOf, resultSizeOf, timeBytes, idOk, doneOk, commandOk, outcomeOk, requestAt, requestOk, requestBytes, resultAt, resultOk, resultBytes, refusalAt, refusalOk, refusalBytes, receiptAt, receiptOk, receiptBytes, noticeAt, noticeOk, noticeBytes, grantAt, grantOk, grantBytes, whole, parseRequest, parseResult, parseRefusal, parseReceipt, parseNotice, parseGrant, parsePacket, packetBytes, asRequest, asReceipt, asNotice}
+use Rattle.model.specs.Packets as Packets
+use Rattle.model.specs.Images.{entryRowOf, greatestOf, imageMagicOf, floorOfBytes, floorBytes, imageEntryOf, imageEntryBytes, floorOf, inWindow, clientsAscend, idBefore, idsAscend, floorOk, imageEntryOk, entryWidth, imageHead, imageHeadOf, imageAt, imageFramed, imageParts, imageHeadOk, entryRowOk, imageTablesOk, imageOk, parseImage, entryInRange, imageInRange, imageLength, imageHeadBytes, imageBytes}
+use Rattle.model.specs.Logs.{headBytes, headServer, headOk, executedKindOf, executedParsed, executedSizeOf, executedAt, executedOk, executedBytes, giveAt, giveOk, giveBytes, takeBytes, releaseAt, releaseOk, releaseBytes, recordBytes, recordSize, within, takeExtent, extentOf, takeParsed, recordAt, walkEnds, endsOf, lastOf, wholeEnd, entriesTo, entriesBytes}
 use Rattle.model.specs.States.{pointAt, isHeld, isGiven, isSynced, pointOf, pointBytes, completionOf, completionBytes, clientsIn, recordsIn, load, stateHeadBytes, padded, stateBytes, endOk, endsInOrder, notGiven, originOk, absentOk, heldOk, givenOk, statusOk, pointOk, pointsOk, keepsRecords, completionOk, isId, idsDiffer, endsFrom, stateFramed, pointRowOk, stateOk, sound}
 use Rattle.model.specs.Apply.{raise, mergeFloors, isNotClient, staysOver, staysOverFloors, isOfOther, isOnOther, executedPoint, completion, applyExecuted, applyGone, gavePoint, applyGave, tookPoint, takenRecord, applyTook, releasedPoint, applyReleased, applyRecord, apply, foundedPoint, founded, replayFrom, replay, withMark}
-use Rattle.model.specs.Decisions.{orMalformed, find, requestRefusal, resultOfRecord, sameCommand, heldRefusal, onHeld, resultFor, executedFor, newRefusal, onNew, onId, decideRequest, denying, onRequest, fetchRefusal, onFetched, onFetch, syncRefusal, onSync, noticeRefusal, decideNotice, onNotice, placesBad, giveRefusal, onGive, isOnPoint, entryOfRecord, insertEntry, sortEntries, imageFor, imageRefusal, onImage, freeFor, takeRefusal, takeTests, decideTake, onTake, receiptRefusal, onReceipt, releaseRefusal, decideRelease, onRelease, isNone, follows}
+use Rattle.model.specs.Decisions.{orMalformed, find, timeFor, timedBy, withTime, requestRefusal, resultOfRecord, sameCommand, heldRefusal, onHeld, resultFor, executedFor, newRefusal, onNew, onId, decideRequest, denying, onRequest, fetchRefusal, onFetched, onFetch, syncRefusal, onSync, noticeRefusal, decideNotice, onNotice, placesBad, giveRefusal, onGive, isOnPoint, entryOfRecord, insertEntry, sortEntries, imageFor, imageRefusal, onImage, freeFor, takeRefusal, takeTests, decideTake, onTake, receiptRefusal, onReceipt, releaseRefusal, decideRelease, onRelease, isNone, follows}
 use Rattle.model.specs.Operations.{short, unfit, freeIn, stored, settle, lentRefusal, lent, leftUnless, foundRefusal, foundOf, requestOf, fetchOf, syncOf, noticeOf, giveOf, imageOf, takeOf, receiptOf, releaseOf, recovered, recoveredAll, recoveredOn, recoveredState, settleRecovered, recoverRefusal, recoverOf, logEndOf}
 use Rattle.model.specs.Clients.{placeOf, callAt, isOpen, leastOpen, firstOpen, withCalls, withLease, closed, requestFor, startWith, startOf, newCall, withCall, notSent, sent, issueOf, resendOf, isOwn, notReceived, receiveResult, receiveRefusal, receiveGrant, receiveWith, receiveOf, startNumber, sendNumber, receiveNumber, brought, sentBytes}
 use Rattle.model.specs.Leases.{timeAt, endedAt, runningAt, leaseEnd, isTaken, withNewLease, extended, spanOk, manager, notTold, granted, openOf, renewOf, queryOf, toldNumber, toldBytes}
@@ -42,9 +43,13 @@ unfoldable pub openRules : Opens
 unfolding argumentRange inArguments argumentOk sumInRange setRule stepRule reportRule faultRule partRule ruleOf
 openRules = tt
 
--- Packets: fields, parsers
+-- Packets: the result's forms, fields, parsers
+unfoldable pub openForms : Opens
+unfolding Packets.timeAt timeBytes resultKindOf resultSizeOf
+openForms = tt
+
 unfoldable pub openPacketFields : Opens
-unfolding packetLength idOk doneOk commandOk outcomeOk requestAt requestOk requestBytes resultAt resultOk resultBytes refusalAt refusalOk refusalBytes receiptAt receiptOk receiptBytes
+unfolding openForms packetLength idOk doneOk commandOk outcomeOk requestAt requestOk requestBytes resultAt resultOk resultBytes refusalAt refusalOk refusalBytes receiptAt receiptOk receiptBytes
 openPacketFields = tt
 
 unfoldable pub openPacketParsers : Opens
@@ -57,7 +62,7 @@ openPackets = tt
 
 -- Images: rows, whole ones
 unfoldable pub openImageRows : Opens
-unfolding floorOfBytes floorBytes imageEntryOf imageEntryBytes floorOf inWindow clientsAscend idBefore idsAscend floorOk imageEntryOk entryWidth
+unfolding entryRowOf greatestOf imageMagicOf floorOfBytes floorBytes imageEntryOf imageEntryBytes floorOf inWindow clientsAscend idBefore idsAscend floorOk imageEntryOk entryWidth
 openImageRows = tt
 
 unfoldable pub openImages : Opens
@@ -66,7 +71,7 @@ openImages = tt
 
 -- Logs: records, a log
 unfoldable pub openRecords : Opens
-unfolding executedAt executedOk executedBytes giveAt giveOk giveBytes takeBytes releaseAt releaseOk releaseBytes recordBytes recordSize
+unfolding executedKindOf executedParsed executedSizeOf executedAt executedOk executedBytes giveAt giveOk giveBytes takeBytes releaseAt releaseOk releaseBytes recordBytes recordSize
 openRecords = tt
 
 unfoldable pub openLogs : Opens
@@ -93,7 +98,7 @@ openApply = tt
 
 -- Decisions: of requests, of the other calls
 unfoldable pub openRequests : Opens
-unfolding orMalformed find requestRefusal resultOfRecord sameCommand heldRefusal onHeld resultFor executedFor newRefusal onNew onId decideRequest denying onRequest
+unfolding orMalformed find timeFor timedBy withTime requestRefusal resultOfRecord sameCommand heldRefusal onHeld resultFor executedFor newRefusal onNew onId decideRequest denying onRequest
 openRequests = tt
 
 unfoldable pub openMoves : Opens

@@ -1,13 +1,14 @@
 -- What the schedules come to. Each goes wrong if one part is not read (must-fail/): a command has two surviving executions, or a completed one
--- has none, so that no order explains the schedule.
+-- has none, or a result is told with another time than its execution's, so that no order explains the schedule.
 --     outcomes
 -- Assumes nothing.
 use mathlib.Core.Path.{_≡_, refl}
+use mathlib.Core.List.{[], _∷_}
 use Rattle.model_laws.specs.Opened.{Opens}
 use Rattle.claim.proofs.Opened.{openRecordWorld}
 use Rattle.proof_mutations.specs.Reads.{reading, imaged, forRequest, forFetch, forImage, forGone, forTook, noticed, taken, requests, fetches, images, takes, releases, appliesRecord, applies, regains}
 use Rattle.proof_mutations.specs.World.{settle, callOf, calls, decides, callsOn, recoversFrom, step, runFrom, run}
-use Rattle.proof_mutations.specs.Schedules.{isRun, isTake, count, runs, takesOf, openIn, open·calls}
+use Rattle.proof_mutations.specs.Schedules.{isRun, isTake, count, runs, takesOf, openIn, open·calls, timeIn, timesIn, timesTold}
 use Rattle.proof_mutations.specs.Schedules as S
 
 pub record Outcomes : Type 0 where
@@ -25,6 +26,8 @@ pub record Outcomes : Type 0 where
   pub unsynced : (runs S.unsynced ≡ 0) × (open·calls S.unsynced ≡ 1)
   -- a point given again is taken again
   pub givenAgain : takesOf S.givenAgain ≡ 2
+  -- all results of an id have the time of its execution, whatever their servers have heard of since
+  pub timed : timesTold S.timed ≡ 20 ∷ 20 ∷ []
 
 -- the calls as Reads has them, and their world
 unfoldable openReads : Opens
@@ -32,11 +35,11 @@ unfolding reading imaged forRequest forFetch forImage forGone forTook noticed ta
 openReads = tt
 
 unfoldable openCalls : Opens
-unfolding openRecordWorld openReads settle callOf calls decides callsOn recoversFrom step runFrom run isRun isTake count runs takesOf openIn open·calls
+unfolding openRecordWorld openReads settle callOf calls decides callsOn recoversFrom step runFrom run isRun isTake count runs takesOf openIn open·calls timeIn timesIn timesTold
 openCalls = tt
 
 pub outcomes : Outcomes
-unfolding openCalls S.begun S.ended S.endedTwice S.endedMoved S.finished S.finishedThere S.moved S.unsynced S.unsyncedGive S.returned S.regained S.givenAgain
+unfolding openCalls S.begun S.ended S.endedTwice S.endedMoved S.finished S.finishedThere S.moved S.unsynced S.unsyncedGive S.returned S.regained S.givenAgain S.timed
 outcomes = record {
   ended = refl;
   endedTwice = refl;
@@ -49,4 +52,5 @@ outcomes = record {
   regained = refl;
   unsynced = (refl, refl);
   givenAgain = refl;
+  timed = refl;
 }

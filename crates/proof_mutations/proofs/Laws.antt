@@ -1,6 +1,6 @@
 -- What a record is written on, a packet told on, and what a record leaves, of the calls in Reads: the facts that the relation of `protocol`
 -- asks (Written, Told) and that its replay has. Each edit of must-fail/ loses one.
---     executes-leased, -over, -fresh   what an execution passed;  repeats, fetched   the record told is synced
+--     executes-leased, -over, -fresh   what an execution passed;  repeats, fetched   the record told is synced;  repeats-held   and told as it is held
 --     imaging-synced, -whole   the give is synced, the image has all of the state;  taking, freeing   move numbers
 --     gone-heard, took-heard, took-floors     what is heard of, and floors;  regained   recovery gives the replay
 -- Assumes nothing.
@@ -16,12 +16,12 @@ use Rattle.model.specs.declared.Packet.the-variants.{Requested, Receipted}
 use Rattle.model.specs.Choice.{reply, append}
 use Rattle.model.specs.Plan.{planOf}
 use Rattle.model.specs.Versions.{Versions}
-use Rattle.model.specs.Packets.{parsePacket, asReceipt}
+use Rattle.model.specs.Packets.{parsePacket, resultBytes, asReceipt}
 use Rattle.model.specs.Images.{Image, imageBytes, floorOf}
 use Rattle.model.specs.Logs.{LogRecord, gone, took}
 use Rattle.model.specs.States.{State, pointAt}
 use Rattle.model.specs.Apply.{mergeFloors, apply, applyRecord, applyGone, applyTook, founded, replayFrom}
-use Rattle.model.specs.Decisions.{Decided, orMalformed, imageFor}
+use Rattle.model.specs.Decisions.{Decided, timedBy, find, resultOfRecord, orMalformed, imageFor}
 use Rattle.model_laws.proofs.Refused.{unless-appends}
 use Rattle.model.specs.Calls.{Operation, decision, request, fetch, image}
 use Rattle.model_invariants.specs.Passed.{Fresh}
@@ -47,6 +47,10 @@ record Executes (s : State) (q : Request) : Type 0 where
 abbrev Synced : State → Type 0
 Synced s = (r : Completion) × (r .end ≤ s .mark)
 
+-- the result packet of a completion record that is held there, its time and all
+abbrev Held : Versions → State → List ℕ → Type 0
+Held v s c = (x : ℕ) × (k : ℕ) × (r : Completion) × (find x k (s .records) ≡ some r) × (resultBytes (resultOfRecord (timedBy v s) r) ≡ c)
+
 module _ {s : State} {free : ℕ} where
   request-executes : {v : Versions} {b : List ℕ} {r : LogRecord} (q : Request) → parsePacket b ≡ Requested q → Appends s free (request v b) r → Executes s q
   request-executes q e (Inverse.executes v b z p h l o f d) = let k : z ≡ q = cc in subst (Executes s) k (record { leased = l; over = o; fresh = find-fresh _ _ _ f })
@@ -54,11 +58,14 @@ module _ {s : State} {free : ℕ} where
   request-tells : {v : Versions} {b c : List ℕ} → Replies s free (request v b) c → Synced s
   request-tells (Inverse.repeats v b x k r f l) = (r, l)
 
-  fetch-tells : {x k : ℕ} {c : List ℕ} → Replies s free (fetch x k) c → Synced s
-  fetch-tells (Inverse.fetches x k r f l) = (r, l)
+  request-holds : {v : Versions} {b c : List ℕ} → Replies s free (request v b) c → Held v s c
+  request-holds (Inverse.repeats v b x k r f l) = (x, k, r, f, refl)
 
-  image-tells : {p : ℕ} {c : List ℕ} → Replies s free (image p) c → (pointAt s p .giveEnd ≤ s .mark) × (imageBytes (imageFor s p) ≡ c)
-  image-tells (Inverse.images p l g m) = (m, refl)
+  fetch-tells : {v : Versions} {x k : ℕ} {c : List ℕ} → Replies s free (fetch v x k) c → Synced s
+  fetch-tells (Inverse.fetches v x k r f l) = (r, l)
+
+  image-tells : {v : Versions} {p : ℕ} {c : List ℕ} → Replies s free (image v p) c → (pointAt s p .giveEnd ≤ s .mark) × (imageBytes (imageFor v s p) ≡ c)
+  image-tells (Inverse.images v p l g m) = (m, refl)
 
 -- ---- Request and Fetch
 
@@ -89,21 +96,26 @@ module _ (v : Versions) (st : State) (free : ℕ) (b : List ℕ) where
   unfolding forRequest reading
   repeats c e = request-tells (request-shows e)
 
-pub fetched : (st : State) (x c : ℕ) (b : List ℕ) → fetches st x c ≡ reply b → (r : Completion) × (r .end ≤ st .mark)
+  -- and told as it is held
+  pub repeats-held : (c : List ℕ) → requests v st free (parsePacket b) ≡ reply c → Held v st c
+  unfolding forRequest reading timedBy
+  repeats-held c e = request-holds (request-shows e)
+
+pub fetched : (v : Versions) (st : State) (x c : ℕ) (b : List ℕ) → fetches v st x c ≡ reply b → (r : Completion) × (r .end ≤ st .mark)
 unfolding fetches decision forFetch reading
-fetched st x c b e = fetch-tells (shows (forFetch st) 0 (fetch x c) e)
+fetched v st x c b e = fetch-tells (shows (forFetch st) 0 (fetch v x c) e)
 
 -- ---- moves
 
 -- an image: the give is synced, and it has heard time, floors and records of the state
-module _ (st : State) (p : ℕ) (b : List ℕ) (e : images st p ≡ reply b) where
+module _ (v : Versions) (st : State) (p : ℕ) (b : List ℕ) (e : images v st p ≡ reply b) where
   pub imaging-synced : pointAt st p .giveEnd ≤ st .mark
   unfolding images decision forImage reading pointAt
-  imaging-synced = image-tells (shows (forImage st) 0 (image p) e) .0
+  imaging-synced = image-tells (shows (forImage st) 0 (image v p) e) .0
 
-  pub imaging-whole : imageBytes (imageFor st p) ≡ b
+  pub imaging-whole : imageBytes (imageFor v st p) ≡ b
   unfolding images decision forImage reading imageFor pointAt
-  imaging-whole = image-tells (shows (forImage st) 0 (image p) e) .1
+  imaging-whole = image-tells (shows (forImage st) 0 (image v p) e) .1
 
 -- a take and a release: the move is newer
 pub taking : (st : State) (free : ℕ) (i : Image) (r : LogRecord) → takes st free (some i) ≡ append r → pointAt st (i .point) .moveNumber < i .moveNumber

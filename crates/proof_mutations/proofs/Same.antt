@@ -66,11 +66,11 @@ recovers-same c plan (some log) w = refl
 decides-same : (o : Operation) (st : State) (free : ℕ) → decides o st free ≡ decision o st free
 unfolding decides decision requests fetches images forRequest forFetch forImage reading
 decides-same (request v b) st free = refl
-decides-same (fetch x c) st free = refl
+decides-same (fetch v x c) st free = refl
 decides-same (sync m) st free = refl
 decides-same (notice b) st free = refl
 decides-same (give p d) st free = refl
-decides-same (image p) st free = refl
+decides-same (image v p) st free = refl
 decides-same (takeIn b) st free = takes-same st free _
 decides-same (receipt p) st free = refl
 decides-same (release b) st free = releases-same st free _

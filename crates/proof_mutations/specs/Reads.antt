@@ -47,6 +47,7 @@ imaged i number heard floors =
       quality = i .quality;
       floors = floors;
       entries = i .entries;
+      timed = i .timed;
     }
 
 -- ---- what each call reads
@@ -63,11 +64,11 @@ forImage st = reading st (st .heard) (st .mark) (st .floors) (st .records)
 unfoldable pub requests : Versions → State → ℕ → Packet → Decided
 requests v st free p = onRequest v (forRequest st) free p
 
-unfoldable pub fetches : State → ℕ → ℕ → Decided
-fetches st x c = onFetch (forFetch st) x c
+unfoldable pub fetches : Versions → State → ℕ → ℕ → Decided
+fetches v st x c = onFetch v (forFetch st) x c
 
-unfoldable pub images : State → ℕ → Decided
-images st p = onImage (forImage st) p
+unfoldable pub images : Versions → State → ℕ → Decided
+images v st p = onImage v (forImage st) p
 
 unfoldable pub takes : State → ℕ → Option Image → Decided
 takes st free o =

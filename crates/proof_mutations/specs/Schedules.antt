@@ -7,9 +7,13 @@ use mathlib.Core.Option.{Option, none, some}
 use lib.Dec.{eqb}
 use lib.ListN.{length}
 use Rattle.model.specs.declared.Client.{Client}
+use Rattle.model.specs.declared.Packet.{Packet}
+use Rattle.model.specs.declared.Packet.the-variants.{Malformed, Requested, Resulted, Refused, Receipted, Noticed, Granted}
+use Rattle.model.specs.Choice.{pick}
 use Rattle.model.specs.Numbers.{half}
 use Rattle.model.specs.Tables.{keep}
 use Rattle.model.specs.Versions.{today}
+use Rattle.model.specs.Packets.{parsePacket}
 use Rattle.model.specs.Logs.{LogRecord, executed, gone, gave, took, released}
 use Rattle.model.specs.Calls.{request, fetch, sync, notice, give, image, takeIn, receipt, release}
 use Rattle.model.specs.Simulator.{simulatorPlan}
@@ -64,8 +68,8 @@ endedMoved =
     ∷ outside (query 1 20)
     ∷ call 0 (notice 2) 999
     ∷ call 0 (give 5 1) 999
-    ∷ call 0 (sync 56) 999
-    ∷ call 0 (image 5) 999
+    ∷ call 0 (sync 60) 999
+    ∷ call 0 (image today 5) 999
     ∷ call 1 (takeIn 3) 999
     ∷ call 1 (request today 1) 999
     ∷ [])
@@ -76,14 +80,14 @@ unfoldable pub finished : List Event
 finished =
     begun 1000
     ++ (call 0 (request today 1) 999
-    ∷ call 0 (sync 36) 999
+    ∷ call 0 (sync 40) 999
     ∷ call 0 (request today 1) 999
     ∷ outside (receive 1 2)
     ∷ outside (issue 1 1 6 (half + 41))
     ∷ call 0 (request today 3) 999
     ∷ call 0 (give 5 1) 999
-    ∷ call 0 (sync 72) 999
-    ∷ call 0 (image 5) 999
+    ∷ call 0 (sync 80) 999
+    ∷ call 0 (image today 5) 999
     ∷ call 1 (takeIn 4) 999
     ∷ call 1 (request today 1) 999
     ∷ [])
@@ -94,18 +98,18 @@ unfoldable pub finishedThere : List Event
 finishedThere =
     begun 1000
     ++ (call 0 (request today 1) 999
-    ∷ call 0 (sync 36) 999
+    ∷ call 0 (sync 40) 999
     ∷ call 0 (request today 1) 999
     ∷ outside (receive 1 2)
     ∷ call 0 (give 5 1) 999
-    ∷ call 0 (sync 44) 999
-    ∷ call 0 (image 5) 999
+    ∷ call 0 (sync 48) 999
+    ∷ call 0 (image today 5) 999
     ∷ call 1 (takeIn 3) 999
     ∷ outside (issue 1 1 5 (half + 41))
     ∷ call 1 (request today 4) 999
     ∷ call 0 (give 6 1) 999
-    ∷ call 0 (sync 52) 999
-    ∷ call 0 (image 6) 999
+    ∷ call 0 (sync 56) 999
+    ∷ call 0 (image today 6) 999
     ∷ call 1 (takeIn 5) 999
     ∷ call 1 (request today 1) 999
     ∷ [])
@@ -116,11 +120,11 @@ moved =
     begun 1000
     ++ (call 0 (request today 1) 999
     ∷ call 0 (give 5 1) 999
-    ∷ call 0 (sync 44) 999
-    ∷ call 0 (image 5) 999
+    ∷ call 0 (sync 48) 999
+    ∷ call 0 (image today 5) 999
     ∷ call 1 (takeIn 2) 999
     ∷ call 1 (request today 1) 999
-    ∷ call 1 (sync 92) 999
+    ∷ call 1 (sync 96) 999
     ∷ call 1 (request today 1) 999
     ∷ outside (receive 1 4)
     ∷ [])
@@ -131,7 +135,7 @@ unsynced =
     begun 1000
     ++ (call 0 (request today 1) 999
     ∷ call 0 (request today 1) 999
-    ∷ call 0 (fetch 1 1) 999
+    ∷ call 0 (fetch today 1 1) 999
     ∷ outside (receive 1 2)
     ∷ outside (receive 1 3)
     ∷ crash 0 8
@@ -142,7 +146,7 @@ unfoldable pub unsyncedGive : List Event
 unsyncedGive =
     begun 1000
     ++ (call 0 (give 5 1) 999
-    ∷ call 0 (image 5) 999
+    ∷ call 0 (image today 5) 999
     ∷ call 1 (takeIn 2) 999
     ∷ crash 0 8
     ∷ recover 0 simulatorPlan
@@ -156,11 +160,11 @@ returned =
     begun 1000
     ++ (call 0 (give 5 1) 999
     ∷ call 0 (sync 16) 999
-    ∷ call 0 (image 5) 999
+    ∷ call 0 (image today 5) 999
     ∷ call 1 (takeIn 2) 999
     ∷ call 1 (give 5 0) 999
     ∷ call 1 (sync 72) 999
-    ∷ call 1 (image 5) 999
+    ∷ call 1 (image today 5) 999
     ∷ call 0 (takeIn 3) 999
     ∷ call 0 (request today 1) 999
     ∷ call 1 (takeIn 2) 999
@@ -174,19 +178,19 @@ givenAgain =
     ∷ found 1 simulatorPlan 1
     ∷ call 0 (give 5 1) 999
     ∷ call 0 (sync 16) 999
-    ∷ call 0 (image 5) 999
+    ∷ call 0 (image today 5) 999
     ∷ call 1 (takeIn 0) 999
     ∷ call 1 (sync 64) 999
     ∷ call 1 (receipt 5) 999
     ∷ call 0 (release 1) 999
     ∷ call 1 (give 5 0) 999
     ∷ call 1 (sync 72) 999
-    ∷ call 1 (image 5) 999
+    ∷ call 1 (image today 5) 999
     ∷ call 0 (takeIn 2) 999
     ∷ call 0 (give 5 1) 999
     ∷ call 0 (release 1) 999
     ∷ call 0 (sync 88) 999
-    ∷ call 0 (image 5) 999
+    ∷ call 0 (image today 5) 999
     ∷ call 1 (takeIn 3) 999
     ∷ []
 
@@ -195,11 +199,43 @@ unfoldable pub regained : List Event
 regained =
     begun 1000
     ++ (call 0 (request today 1) 999
-    ∷ call 0 (sync 36) 999
-    ∷ crash 0 36
+    ∷ call 0 (sync 40) 999
+    ∷ crash 0 40
     ∷ recover 0 simulatorPlan
     ∷ call 0 (request today 1) 999
     ∷ [])
+
+-- the lease of client 2 ends, and server 0 hears of time 20; then call 1 of client 1 is executed and told. The point moves to server 1, which hears of time
+-- 40 as the lease of client 3 ends; a repeat there is told the time of the execution
+unfoldable pub timed : List Event
+timed =
+    found 0 simulatorPlan 0
+    ∷ found 1 simulatorPlan 1
+    ∷ outside (open·lease 0 1000)
+    ∷ outside (open·lease 0 10)
+    ∷ outside (open·lease 0 30)
+    ∷ outside (start 0)
+    ∷ outside (start 1)
+    ∷ outside (start 2)
+    ∷ outside (issue 2 1 6 (half + 40))
+    ∷ call 0 (request today 3) 999
+    ∷ outside (query 2 20)
+    ∷ call 0 (notice 4) 999
+    ∷ outside (issue 1 1 5 (half + 40))
+    ∷ call 0 (request today 5) 999
+    ∷ call 0 (sync 84) 999
+    ∷ call 0 (request today 5) 999
+    ∷ call 0 (give 5 1) 999
+    ∷ call 0 (sync 92) 999
+    ∷ call 0 (image today 5) 999
+    ∷ call 1 (takeIn 7) 999
+    ∷ outside (issue 3 0 5 half)
+    ∷ call 1 (request today 8) 999
+    ∷ outside (query 3 40)
+    ∷ call 1 (notice 9) 999
+    ∷ call 1 (sync 140) 999
+    ∷ call 1 (request today 5) 999
+    ∷ []
 
 -- ---- what is counted
 
@@ -237,3 +273,20 @@ openIn (some d) = length (keep (λ k. not (eqb (k .call) 0)) (d .calls))
 
 unfoldable pub open·calls : List Event → ℕ
 open·calls es = openIn (run es .clients 1)
+
+-- the times that results of call 1 of client 1 were told with
+unfoldable pub timeIn : Packet → List ℕ
+timeIn Malformed = []
+timeIn (Requested q) = []
+timeIn (Resulted r) = pick (eqb (r .client) 1 && eqb (r .call) 1) (r .result .time ∷ []) []
+timeIn (Refused r) = []
+timeIn (Receipted r) = []
+timeIn (Noticed n) = []
+timeIn (Granted g) = []
+
+unfoldable pub timesIn : List (List ℕ) → List ℕ
+timesIn [] = []
+timesIn (b ∷ bs) = timeIn (parsePacket b) ++ timesIn bs
+
+unfoldable pub timesTold : List Event → List ℕ
+timesTold es = timesIn (run es .made)

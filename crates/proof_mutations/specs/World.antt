@@ -42,11 +42,11 @@ calls c room d (crashed log k mark) w = w
 -- what an operation decides, by the calls of Reads
 unfoldable pub decides : Operation → State → ℕ → Decided
 decides (request v b) st free = requests v st free (parsePacket b)
-decides (fetch x c) st free = fetches st x c
+decides (fetch v x c) st free = fetches v st x c
 decides (sync m) st free = decision (sync m) st free
 decides (notice b) st free = decision (notice b) st free
 decides (give p d) st free = decision (give p d) st free
-decides (image p) st free = images st p
+decides (image v p) st free = images v st p
 decides (takeIn b) st free = takes st free (parseImage b)
 decides (receipt p) st free = decision (receipt p) st free
 decides (release b) st free = releases st free (parsePacket b)

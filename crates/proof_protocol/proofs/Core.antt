@@ -255,9 +255,9 @@ module _ (plan : Plan) (srv : ℕ → Server) (made : List Packet) (clock : ℕ)
   }
 
   -- a record is appended
-  pub core-write : (c : ℕ) (r : LogRecord) → srv c .founded ≡ true → Written plan c (replay plan c (srv c .log)) (In made) r
-      → Core plan (with c (record { founded = srv c .founded; log = record { item = r; at = clock } ∷ srv c .log; mark = srv c .mark })) made (suc clock)
-  core-write c r f w = record {
+  pub core-write : (c : ℕ) (r : LogRecord) (n : ℕ) → srv c .founded ≡ true → Written plan c (replay plan c (srv c .log)) (In made) r
+      → Core plan (with c (record { founded = srv c .founded; log = record { item = r; at = clock; bytes = n } ∷ srv c .log; mark = srv c .mark })) made (suc clock)
+  core-write c r n f w = record {
     marks = changed-cases (λ d k. k .mark ≤ length (k .log)) srv c x (let h = core .marks c in omega arith) (λ d _. core .marks d);
     blank = changed-cases (λ d k. k .founded ≡ false → (k .log ≡ []) × (k .mark ≡ 0)) srv c x (λ e. impossible (sym f ∙ e)) (λ d _. core .blank d);
     legit = changed-cases (λ d k. Legit plan (In made) d (suc clock) (k .log)) srv c x
@@ -276,7 +276,7 @@ module _ (plan : Plan) (srv : ℕ → Server) (made : List Packet) (clock : ℕ)
   }
     where
       e : Entry
-      e = record { item = r; at = clock }
+      e = record { item = r; at = clock; bytes = n }
 
       x : Server
       x = record { founded = srv c .founded; log = e ∷ srv c .log; mark = srv c .mark }

@@ -65,11 +65,11 @@ issued-by w (W.client x (W.relets d t)) k m = inl m
 issued-by w (W.leases o p) k m = inl m
 
 -- a change that writes a record may write it
-writes-by : {plan : Plan} {w : World} {c : Change} {b : ℕ} {r : LogRecord} → c ≡ W.server b (W.writes r) → Allowed plan w c → Written plan b (stateOf plan w b) (In (w .made)) r
-writes-by {plan} {w} {c} {b} {r} e a = go (subst (Allowed plan w) e a)
+writes-by : {plan : Plan} {w : World} {c : Change} {b : ℕ} {r : LogRecord} {n : ℕ} → c ≡ W.server b (W.writes r n) → Allowed plan w c → Written plan b (stateOf plan w b) (In (w .made)) r
+writes-by {plan} {w} {c} {b} {r} {n} e a = go (subst (Allowed plan w) e a)
   where
-    go : Allowed plan w (W.server b (W.writes r)) → Written plan b (stateOf plan w b) (In (w .made)) r
-    go (I.writing _ _ f k) = k
+    go : Allowed plan w (W.server b (W.writes r n)) → Written plan b (stateOf plan w b) (In (w .made)) r
+    go (I.writing _ _ _ f k) = k
 
 module _ (plan : Plan) (cs : List Change) (run-ok : Run plan emptyWorld cs) where
   -- what is seen as issued was issued by an earlier change
@@ -140,7 +140,7 @@ told-image plan w i a m = go a m
     go : {c : Change} → Allowed plan w c → In (step w c .made) (S.image i) → Old plan w i
     go I.nothing j = inl j
     go (I.founding c e) j = inl j
-    go (I.writing c r f wr) j = inl j
+    go (I.writing c r n f wr) j = inl j
     go (I.syncing c k f up le) j = inl j
     go (I.crashing c k f le) j = inl j
     go (I.telling c q f t) j = told c _ q t j
@@ -275,10 +275,10 @@ module _ (plan : Plan) (w : World) (p t m : ℕ) (later : Later plan w p t m) (h
 
   later-logs : {c : Change} → Allowed plan w c → (b : ℕ) {y : Server} → LogStep w c b y → (l : List Entry) → Tail l (y .log) → m < replay plan b l .points p .move → t ≤ replay plan b l .heard
   later-logs a b Trace.still l tl h = later .logs b l tl h
-  later-logs a b (Trace.grew r q) l tl h = go (Tail-cons l _ _ tl)
+  later-logs a b (Trace.grew r n q) l tl h = go (Tail-cons l _ _ tl)
     where
       e : Entry
-      e = record { item = r; at = w .clock }
+      e = record { item = r; at = w .clock; bytes = n }
 
       go : (l ≡ e ∷ w .servers b .log) ⊎ Tail l (w .servers b .log) → t ≤ replay plan b l .heard
       go (inl z) = subst (λ (k : List Entry). t ≤ replay plan b k .heard) (sym z) (later-record b e (writes-by q a) (subst (λ (k : List Entry). m < replay plan b k .points p .move) z h))

@@ -108,9 +108,9 @@ module _ (plan : Plan) (w : World) (inv : Inv plan w) where
   tells-facts c p (I.receipting q) = facts-told plan srv made (inv .facts) _
       (λ j n y e. let z : _≡_ {A = ℕ} 0 1 = cc in absurd (omega arith)) (λ i e. let z : _≡_ {A = ℕ} 0 1 = cc in absurd (omega arith))
 
-  write-facts : (c : ℕ) (r : LogRecord) → Written plan c (replay plan c (srv c .log)) (In made) r
-      → Facts plan (F.with srv c (record { founded = srv c .founded; log = record { item = r; at = w .clock } ∷ srv c .log; mark = srv c .mark })) made
-  write-facts c r wr = facts-server plan srv made (inv .facts) c _
+  write-facts : (c : ℕ) (r : LogRecord) (n : ℕ) → Written plan c (replay plan c (srv c .log)) (In made) r
+      → Facts plan (F.with srv c (record { founded = srv c .founded; log = record { item = r; at = w .clock; bytes = n } ∷ srv c .log; mark = srv c .mark })) made
+  write-facts c r n wr = facts-server plan srv made (inv .facts) c _
       (F.grown (λ p. let k = inv .core .chain p in new-grows plan (In made) (Leaves srv) (Stood srv) p (k .0) (k .1) c (srv c .log) (Tail-refl _, inv .core .marks c)
       (stepAt plan (In made) c _ (srv c .log) p wr)) (inv .facts .grows c))
       (omega arith) (λ l t le. within t)
@@ -142,7 +142,7 @@ module _ (plan : Plan) (w : World) (inv : Inv plan w) where
   unfolding step serverAfter clientAfter madeBy seenBy stateOf
   keeps I.nothing = record { core = ticked; facts = inv .facts; manager = inv .manager; clients = inv .clients }
   keeps (I.founding c e) = let b = inv .core .blank c e in cut-keeps c _ refl (whole (sym (b .0))) (omega (arith, b .1)) (omega arith)
-  keeps (I.writing c r f wr) = record { core = core-write plan srv made now (inv .core) c r f wr; facts = write-facts c r wr; manager = inv .manager; clients = inv .clients }
+  keeps (I.writing c r n f wr) = record { core = core-write plan srv made now (inv .core) c r n f wr; facts = write-facts c r n wr; manager = inv .manager; clients = inv .clients }
   keeps (I.syncing c m f up le) = cut-keeps c _ f (Tail-refl _) up le
   keeps (I.crashing c j f le) = cut-keeps c _ f (Tail-drop j _) (omega arith) (simp length-drop (omega arith))
   keeps (I.telling c p f t) =

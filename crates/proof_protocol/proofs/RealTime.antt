@@ -33,7 +33,7 @@ use Rattle.proof_protocol.proofs.Inv.{run-inv}
 use Rattle.proof_protocol.proofs.Order.{marked, entry, ordered, merged-in, merged-out, Falls, next, merged-falls}
 use Rattle.proof_protocol.proofs.Trace.{run-take, after-suc, allowed-at, at-is, clock-is, last-world, wrote, seen-on, synced-on, inv-at}
 use Rattle.proof_protocol.proofs.Final.{written-issued, byEvent, H, timeline, order, tops, inv, shown-top, issued-past, ordered-out, once, results, values}
-use Rattle.proof_protocol.proofs.Survive.{ordered-in, survivors, survives-at}
+use Rattle.proof_protocol.proofs.Survive.{ordered-in, survivors, survives-at, times}
 
 -- ---- an execution is one
 
@@ -138,9 +138,9 @@ module _ (plan : Plan) (cs : List Change) (run-ok : Run plan emptyWorld cs) wher
                 (src (st .0) e (st .1 .done) (st .1 .item) (subst (Allowed plan (after cs (e .at))) (wr .src) (allowed-at plan cs run-ok (e .at) (wr .early)))),
           )
         where
-          src : (c : ℕ) (e : Entry) (dn : ℕ) → e .item ≡ S.executed (d .version) (d .cmd) dn (d .res) → Allowed plan (after cs (e .at)) (W.server c (W.writes (e .item)))
+          src : (c : ℕ) (e : Entry) (dn : ℕ) → e .item ≡ S.executed (d .version) (d .cmd) dn (d .res) → Allowed plan (after cs (e .at)) (W.server c (W.writes (e .item) (e .bytes)))
               → Saw (after cs (e .at) .seen) (issued (d .cmd))
-          src c e dn q (I.writing b x f wr) = written-issued plan (after cs (e .at)) (inv-at plan cs run-ok (e .at)) wr q
+          src c e dn q (I.writing b x y f wr) = written-issued plan (after cs (e .at)) (inv-at plan cs run-ok (e .at)) wr q
 
   -- a command completed within the first b changes was executed by one of them, and that execution is in the order
   completed-then : (b : ℕ) → b ≤ length cs → (k : Command) (r : Result) → Saw (after cs b .seen) (received k r)
@@ -271,5 +271,6 @@ explained plan cs r = (
     values = values plan cs r;
     real-time = real-time plan cs r;
     sequence = sequence plan cs r;
+    times = times plan cs r;
   },
 )

@@ -30,8 +30,8 @@ Crashes c d = (j : ℕ) × (c ≡ W.server d (W.crashes j))
 -- what the change c makes of server d
 pub data LogStep (w : World) (c : Change) (d : ℕ) : Server → Type 0 where
   still : LogStep w c d (w .servers d)
-  grew : (r : LogRecord) → c ≡ W.server d (W.writes r)
-      → LogStep w c d (record { founded = w .servers d .founded; log = record { item = r; at = w .clock } ∷ w .servers d .log; mark = w .servers d .mark })
+  grew : (r : LogRecord) (n : ℕ) → c ≡ W.server d (W.writes r n)
+      → LogStep w c d (record { founded = w .servers d .founded; log = record { item = r; at = w .clock; bytes = n } ∷ w .servers d .log; mark = w .servers d .mark })
   cut : (x : Server) → Tail (x .log) (w .servers d .log) → w .servers d .mark ≤ x .mark → Crashes c d ⊎ Tail (w .servers d .log) (x .log) → LogStep w c d x
 
 nil-tail : (l : List Entry) → Tail [] l
@@ -44,7 +44,7 @@ server-step plan w inv I.nothing d = still
 server-step plan w inv (I.founding c e) d =
     let b = inv .core .blank c e in
     changed-cases (LogStep w (W.server c W.founds)) (w .servers) c _ (cut _ (nil-tail _) (omega (arith, b .1)) (inr (whole (b .0)))) (λ b _. still) d
-server-step plan w inv (I.writing c r f wr) d = changed-cases (LogStep w (W.server c (W.writes r))) (w .servers) c _ (grew r refl) (λ b _. still) d
+server-step plan w inv (I.writing c r n f wr) d = changed-cases (LogStep w (W.server c (W.writes r n))) (w .servers) c _ (grew r n refl) (λ b _. still) d
 server-step plan w inv (I.syncing c m f up le) d = changed-cases (LogStep w (W.server c (W.syncs m))) (w .servers) c _ (cut _ (Tail-refl _) up (inr (Tail-refl _))) (λ b _. still) d
 server-step plan w inv (I.crashing c j f le) d = changed-cases (LogStep w (W.server c (W.crashes j))) (w .servers) c _ (cut _ (Tail-drop j _) (omega arith) (inl (j, refl))) (λ b _. still) d
 server-step plan w inv (I.telling c p f t) d = still
@@ -171,7 +171,7 @@ module _ (plan : Plan) (cs : List Change) (r : Run plan emptyWorld cs) where
   pub record Wrote (N c : ℕ) (e : Entry) (rest : List Entry) : Type 0 where
     pub early : e .at < N
     pub before : rest ≡ log (e .at) c
-    pub src : ev (e .at) ≡ W.server c (W.writes (e .item))
+    pub src : ev (e .at) ≡ W.server c (W.writes (e .item) (e .bytes))
     pub stays : (m : ℕ) → e .at < m → m ≤ N → Tail (e ∷ rest) (log m c)
 
   empty-start : (c : ℕ) → log 0 c ≡ []
@@ -191,24 +191,25 @@ module _ (plan : Plan) (cs : List Change) (r : Run plan emptyWorld cs) where
           more m a (inl k) = top m k
           more m a (inr k) = w .stays m a (omega arith)
 
-      new : (x : LogRecord) → ev N ≡ W.server c (W.writes x) → e ≡ record { item = x; at = after cs N .clock } → rest ≡ log N c → Wrote (suc N) c e rest
-      new x s p q =
+      new : (x : LogRecord) (k : ℕ) → ev N ≡ W.server c (W.writes x k) → e ≡ record { item = x; at = after cs N .clock; bytes = k } → rest ≡ log N c → Wrote (suc N) c e rest
+      new x k s p q =
           let n : N ≡ e .at = sym (ap (λ (z : Entry). z .at) p ∙ clock-is N (omega arith)) in
-          let y : x ≡ e .item = sym (ap (λ (z : Entry). z .item) p) in
+          let y : W.writes x k ≡ W.writes (e .item) (e .bytes) = sym (ap (λ (z : Entry). W.writes (z .item) (z .bytes)) p) in
           record {
             early = omega arith;
             before = subst (λ (z : ℕ). rest ≡ log z c) n q;
-            src = subst (λ (z : ℕ). ev z ≡ W.server c (W.writes (e .item))) n (subst (λ (z : LogRecord). ev N ≡ W.server c (W.writes z)) y s);
+            src = subst (λ (z : ℕ). ev z ≡ W.server c (W.writes (e .item) (e .bytes))) n (s ∙ ap (W.server c) y);
             stays = λ m a b. top m (omega arith);
           }
 
-      parts : (x : LogRecord) → ev N ≡ W.server c (W.writes x) → (e ∷ rest ≡ record { item = x; at = after cs N .clock } ∷ log N c) ⊎ Tail (e ∷ rest) (log N c) → Wrote (suc N) c e rest
-      parts x s (inl q) = new x s (cc) (cc)
-      parts x s (inr u) = longer (ih u)
+      parts : (x : LogRecord) (k : ℕ) → ev N ≡ W.server c (W.writes x k) → (e ∷ rest ≡ record { item = x; at = after cs N .clock; bytes = k } ∷ log N c) ⊎ Tail (e ∷ rest) (log N c)
+          → Wrote (suc N) c e rest
+      parts x k s (inl q) = new x k s (cc) (cc)
+      parts x k s (inr u) = longer (ih u)
 
       go : {y : Server} → LogStep (after cs N) (ev N) c y → Tail (e ∷ rest) (y .log) → Wrote (suc N) c e rest
       go still v = longer (ih v)
-      go (grew x s) v = parts x s (Tail-cons _ _ _ v)
+      go (grew x k s) v = parts x k s (Tail-cons _ _ _ v)
       go (cut x u m k) v = longer (ih (Tail-trans v u))
 
   pub wrote : (N : ℕ) → N ≤ length cs → (c : ℕ) (e : Entry) (rest : List Entry) → Tail (e ∷ rest) (log N c) → Wrote N c e rest
@@ -222,7 +223,7 @@ module _ (plan : Plan) (cs : List Change) (r : Run plan emptyWorld cs) where
     where
       go : {y : Server} → LogStep (after cs n) (ev n) c y → Crashes (ev n) c ⊎ Tail (log n c) (y .log)
       go still = inr (Tail-refl _)
-      go (grew x s) = inr (within (Tail-refl _))
+      go (grew x k s) = inr (within (Tail-refl _))
       go (cut x u m k) = k
 
   step-mark : (n : ℕ) → n < length cs → (c : ℕ) → after cs n .servers c .mark ≤ after cs (suc n) .servers c .mark
@@ -230,7 +231,7 @@ module _ (plan : Plan) (cs : List Change) (r : Run plan emptyWorld cs) where
     where
       go : {y : Server} → LogStep (after cs n) (ev n) c y → after cs n .servers c .mark ≤ y .mark
       go still = omega arith
-      go (grew x s) = omega arith
+      go (grew x k s) = omega arith
       go (cut x u m k) = m
 
   -- a tail that is not too long for what a change leaves is a tail of it
@@ -239,7 +240,7 @@ module _ (plan : Plan) (cs : List Change) (r : Run plan emptyWorld cs) where
     where
       go : {y : Server} → LogStep (after cs n) (ev n) c y → length l ≤ length (y .log) → Tail l (y .log)
       go still q = t
-      go (grew x s) q = within t
+      go (grew x k s) q = within t
       go (cut x u m k) q = Tail-short t u q
 
   -- what no crash cuts off stands

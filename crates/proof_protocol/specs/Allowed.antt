@@ -77,8 +77,8 @@ pub data Leased (m : LeaseManager) : LeaseManager → Packet → Type 0 where
 pub data Allowed (plan : Plan) (w : World) : Change → Type 0 where
   nothing : Allowed plan w same
   founding : (c : ℕ) → w .servers c .founded ≡ false → Allowed plan w (server c founds)
-  writing : (c : ℕ) (r : LogRecord) → w .servers c .founded ≡ true → Written plan c (stateOf plan w c) (Made w) r
-      → Allowed plan w (server c (writes r))
+  writing : (c : ℕ) (r : LogRecord) (n : ℕ) → w .servers c .founded ≡ true → Written plan c (stateOf plan w c) (Made w) r
+      → Allowed plan w (server c (writes r n))
   -- a recovery syncs all that is kept
   syncing : (c m : ℕ) → w .servers c .founded ≡ true → w .servers c .mark ≤ m → m ≤ length (w .servers c .log)
       → Allowed plan w (server c (syncs m))

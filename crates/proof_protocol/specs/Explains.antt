@@ -15,7 +15,7 @@ use Rattle.model.specs.Limits.{pointCount}
 use Rattle.model.specs.Plan.{entryAt}
 use Rattle.model.specs.Sequential.{Marked, OrderEntry, parts, commands, EntryResult, one, opened, valuesAfter, Answers}
 use Rattle.claim.specs.Claim.{_∈_, Once, Before}
-use Rattle.proof_protocol.specs.Servers.{Plan, Id, Result}
+use Rattle.proof_protocol.specs.Servers.{Plan, Id, idOf, Result}
 use Rattle.proof_protocol.specs.Servers as S
 use Rattle.proof_protocol.specs.World.{World, Change, run, stateOf, emptyWorld, commandAt, issuedBy}
 use Rattle.proof_protocol.specs.World as W
@@ -61,7 +61,8 @@ module _ (cs : List Change) where
   pub record Executes (n c : ℕ) (m : Marked) : Type 0 where
     pub done : ℕ
     pub res : Result
-    pub event : At n (W.server c (W.writes (S.executed (m .version) (m .command) done res)))
+    pub bytes : ℕ
+    pub event : At n (W.server c (W.writes (S.executed (m .version) (m .command) done res) bytes))
 
   -- an execution survives where every later crash of its server kept the log as long as it was then
   pub record SurvivesAt (n : ℕ) (m : Marked) : Type 0 where
@@ -75,6 +76,10 @@ module _ (cs : List Change) where
     pub among : part ∈ parts e
     pub at : ℕ
     pub survives : SurvivesAt at part
+
+  -- change n executes m so that it survives, and notes this time
+  abbrev pub Notes : ℕ → Marked → ℕ → Type 0
+  Notes n m t = (s : SurvivesAt n m) × (s .executes .res .time ≡ t)
 
 module _ (plan : Plan) (cs : List Change) where
   -- point p in the state that server c has at the end
@@ -104,6 +109,8 @@ module _ (plan : Plan) (cs : List Change) where
     -- the order keeps each point's sequence of surviving executions
     pub sequence : (m n : ℕ) (j k : Marked) (a b : OrderEntry) → SurvivesAt cs m j → SurvivesAt cs n k → m < n
         → j .command .point ≡ k .command .point → j ∈ parts a → k ∈ parts b → a ∈ order → b ∈ order → Before a b order
+    -- every result told has the time that a surviving execution of its id noted
+    pub times : (i : Id) (p : ℕ) (x : Result) → S.answered i p x ∈ final cs .made → (n : ℕ) × (m : Marked) × (idOf (m .command) ≡ i) × Notes cs n m (x .time)
 
 unfoldable pub Explained : Type 0
 Explained = (plan : Plan) (cs : List Change) → Run plan emptyWorld cs → (order : List OrderEntry) × Explains plan cs order

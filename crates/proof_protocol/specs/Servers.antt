@@ -1,5 +1,5 @@
 -- A server (paper: cabinet) as its log: records, the state that replay makes of them, packets. The definitions follow those of `model` on
--- numbers instead of bytes; values are over the integers. Three things are added: an entry's event number, the version that a command was
+-- numbers instead of bytes; values are over the integers. Added are an entry's event number and length, the version that a command was
 -- executed by, and a point's past, all its executions so far.
 -- Assumes nothing.
 use Prim.Native.Nat.{ℕ, suc, max}
@@ -38,6 +38,7 @@ idOf k = record { client = k .client; call = k .call }
 -- a command's result, as records hold it and packets tell it
 pub record Result : Type 0 where
   pub answer : ResultZ  -- what the sequential specification answers
+  pub time : ℕ  -- the time of execution, of which nothing is asked but that it stays
 
 -- a completion record; `place` is the number of the log record that brought it, counted from 1
 pub record Completion : Type 0 where
@@ -70,10 +71,11 @@ pub data LogRecord : Type 0 where
   took : Image → LogRecord
   freed : ℕ → ℕ → LogRecord  -- release: point, the give's move
 
--- a log record, with the number of the event that appended it
+-- a log record, with the number of the event that appended it, and its length in bytes: of two records of one content an old form is shorter
 pub record Entry : Type 0 where
   pub item : LogRecord
   pub at : ℕ
+  pub bytes : ℕ
 
 -- ---- state
 

@@ -46,7 +46,7 @@ stateOf plan w c = replay plan c (w .servers c .log)
 
 pub data ServerChange : Type 0 where
   founds : ServerChange
-  writes : LogRecord → ServerChange  -- a record is logged
+  writes : LogRecord → ℕ → ServerChange  -- a record is logged, of so many bytes
   syncs : ℕ → ServerChange  -- the new mark, in records
   crashes : ℕ → ServerChange  -- records lost
 
@@ -71,7 +71,7 @@ pub data Change : Type 0 where
 -- event t
 unfoldable pub serverAfter : ℕ → Server → ServerChange → Server
 serverAfter t x founds = record { founded = true; log = []; mark = 0 }
-serverAfter t x (writes r) = record { founded = x .founded; log = record { item = r; at = t } ∷ x .log; mark = x .mark }
+serverAfter t x (writes r n) = record { founded = x .founded; log = record { item = r; at = t; bytes = n } ∷ x .log; mark = x .mark }
 serverAfter t x (syncs m) = record { founded = x .founded; log = x .log; mark = m }
 serverAfter t x (crashes j) = record { founded = x .founded; log = drop j (x .log); mark = x .mark }
 

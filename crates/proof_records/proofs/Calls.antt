@@ -50,12 +50,12 @@ use Rattle.claim.specs.RecordWorld as R
 use Rattle.proof_records.specs.Made.{PacketLike}
 
 -- a decision of the operation o at server c, and the change that follows it
-pub data Effect (o : Operation) (c : ℕ) : Decided → W.Change → Type 0 where
-  refuses : {n : ℕ} → n ≢ 0 → Effect o c (refuse n) W.same
-  denies : {n : ℕ} {b : List ℕ} → n ≢ 0 → Effect o c (deny n b) W.same
-  replies : {b : List ℕ} {p : S.Packet} → (b ≡ [] → ⊥) → Effect o c (reply b) (W.tells c p)
-  appends : {r : LogRecord} {a : S.LogRecord} → Source o a → Effect o c (append r) (W.server c (W.writes a))
-  sets : {m k : ℕ} → o ≡ Calls.sync m → Effect o c (marks m) (W.server c (W.syncs k))
+pub data Effect (st : State) (o : Operation) (c : ℕ) : Decided → W.Change → Type 0 where
+  refuses : {n : ℕ} → n ≢ 0 → Effect st o c (refuse n) W.same
+  denies : {n : ℕ} {b : List ℕ} → n ≢ 0 → Effect st o c (deny n b) W.same
+  replies : {b : List ℕ} {p : S.Packet} → (b ≡ [] → ⊥) → Effect st o c (reply b) (W.tells c p)
+  appends : {r : LogRecord} {a : S.LogRecord} {n : ℕ} → Source st o a → Effect st o c (append r) (W.server c (W.writes a n))
+  sets : {m k : ℕ} → o ≡ Calls.sync m → Effect st o c (marks m) (W.server c (W.syncs k))
 
 -- ---- a running server
 
@@ -89,21 +89,21 @@ module _ {plan : List PlanEntry} {w : World} {v : W.World} (l : WorldLike plan w
 
   -- a record appended
   append-like : (free : ℕ) (r : LogRecord) (a : S.LogRecord) (L : RecordLike r a) → Decides st free r
-      → WorldLike plan (withServer c (running (apply st (entryFor st r)) (longer log (entryFor st r))) w) (W.step v (W.server c (W.writes a)))
+      → WorldLike plan (withServer c (running (apply st (entryFor st r)) (longer log (entryFor st r))) w) (W.step v (W.server c (W.writes a (recordSize r))))
   unfolding W.serverAfter longer zs abstractIn entriesIn
   append-like free r a L D =
       let K = running-like in
       let e = entryFor st r in
-      let z : Pair = record { entry = e; abstract = record { item = a; at = v .clock }; like = L } in
+      let z : Pair = record { entry = e; abstract = record { item = a; at = v .clock; bytes = recordSize r }; like = L } in
       let past : st .mark < e .end = omega (arith, K .synced, record-least r) in
       let size : apply st e .size ≡ e .end = unfold apply in apply-size r (e .end) st in
       let mark : apply st e .mark ≡ st .mark = unfold apply in apply-fixed r (e .end) st .2 in
-      like-server l c (running (apply st e) (longer log e)) (W.writes a)
+      like-server l c (running (apply st e) (longer log e)) (W.writes a (recordSize r))
       (like-running (apply st e) (longer log e)
       (record {
         pairs = z ∷ zs;
         founded = K .founded;
-        same = ap (λ (es : List S.Entry). record { item = a; at = v .clock } ∷ es) (K .same);
+        same = ap (λ (es : List S.Entry). record { item = a; at = v .clock; bytes = recordSize r } ∷ es) (K .same);
         marked = K .marked ∙ sym (ap (placeOf (z ∷ zs)) mark ∙ place-old z zs (st .mark) past);
         good = K .good;
         server = K .server;
@@ -114,6 +114,7 @@ module _ {plan : List PlanEntry} {w : World} {v : W.World} (l : WorldLike plan w
             free = free;
             decides = decides-mark (replay plan c (entriesIn zs)) free (st .mark) r (subst (λ (x : State). Decides x free r) marked D);
             end = ap (λ (n : ℕ). n + recordSize r) size-is;
+            bytes = refl;
           },
           K .chain,
         );
@@ -147,7 +148,7 @@ module _ {plan : List PlanEntry} {w : World} {v : W.World} (l : WorldLike plan w
     pub change : W.Change
     pub allowed : Allowed plan v change
     pub like : WorldLike plan (making (settle st log d .made) (withServer c (running (settle st log d .state) (settle st log d .log)) w)) (W.step v change)
-    pub effect : Effect o c d change
+    pub effect : Effect st o c d change
 
   pub decided-like : (free : ℕ) (o : Operation) → Handed (Made v) o → (d : Decided) → Shows st free o d
       → Followed o d
@@ -168,8 +169,8 @@ module _ {plan : List PlanEntry} {w : World} {v : W.World} (l : WorldLike plan w
       let K = running-like in
       let T = written plan c (K .pairs) st (W.stateOf plan v c) running-alike free o r s H in
       record {
-        change = W.server c (W.writes (T .abstract));
-        allowed = P.writing c (T .abstract) (K .founded) (T .why);
+        change = W.server c (W.writes (T .abstract) (recordSize r));
+        allowed = P.writing c (T .abstract) (recordSize r) (K .founded) (T .why);
         like = append-like free r (T .abstract) (T .like) (T .decides);
         effect = appends (T .source);
       }
@@ -188,7 +189,7 @@ module _ {plan : List PlanEntry} {w : World} {v : W.World} (l : WorldLike plan w
 module _ {plan : List PlanEntry} {w : World} {v : W.World} (l : WorldLike plan w v) (c room : ℕ) where
   pub call-follows : (e : Event) (o : Operation) → step w e ≡ calls c room (decision o) (w .servers c) w → Handed (Made v) o
       → (((st : State) (log : Log) → Running (w .servers c) st log → ⊥) → Quiet w e)
-      → ((st : State) (log : Log) → Running (w .servers c) st log → (a : W.Change) → Effect o c (decidedIn st room o) a → Matched w v (W.step v a) e a) → Stepped plan w v e
+      → ((st : State) (log : Log) → Running (w .servers c) st log → (a : W.Change) → Effect st o c (decidedIn st room o) a → Matched w v (W.step v a) e a) → Stepped plan w v e
   unfolding callOf
   call-follows e o q H quiet match = go (or-not (w .servers c))
     where
@@ -238,16 +239,16 @@ module _ {plan : List PlanEntry} {w : World} {v : W.World} (l : WorldLike plan w
         let y = running-same (w .servers c) st (X .state) log (X .log) u (X .up) in
         rw (← e, y .0, y .1, same-request p vs (X .bytes) i (X .delivered)) (X .no-number, X .no-packet)
 
-    call-matched : (st : State) (log : Log) → Running (w .servers c) st log → (d : Decided) → decidedIn st room x ≡ d → (a : W.Change) → Effect x c d a
+    call-matched : (st : State) (log : Log) → Running (w .servers c) st log → (d : Decided) → decidedIn st room x ≡ d → (a : W.Change) → Effect st x c d a
         → Matched w v (W.step v a) (R.call c o room) a
     unfolding settle Quiet callOf
     call-matched st log u d e a (refuses k) = other (R.call c o room) W.same (λ p vs q i X. k (executed-left st log u d e p vs q i X .0)) tt
     call-matched st log u d e a (denies k) = other (R.call c o room) W.same (λ p vs q i X. k (executed-left st log u d e p vs q i X .0)) tt
     call-matched st log u d e a (replies {p = t} k) = other (R.call c o room) (W.tells c t) (λ p vs q i X. k (executed-left st log u d e p vs q i X .1)) tt
-    call-matched st log u d e a (appends (execution vs b q r i p h)) =
+    call-matched st log u d e a (appends (execution vs b q r i p t h)) =
         let n = over .requests vs b i in
         rw (h, n .1)
-        (executed c (n .0) vs room q r
+        (executed c (n .0) vs room q r _
         (record {
           state = st;
           log = log;
@@ -257,7 +258,7 @@ module _ {plan : List PlanEntry} {w : World} {v : W.World} (l : WorldLike plan w
           no-number = subst (λ (y : Operation). settle st log (decidedIn st room y) .number ≡ 0) i (ap (λ (y : Decided). settle st log y .number) e);
           no-packet = subst (λ (y : Operation). settle st log (decidedIn st room y) .made ≡ []) i (ap (λ (y : Decided). settle st log y .made) e);
           parsed = p;
-        }))
+        }) t)
     call-matched st log u d e a (appends (no-execution n h)) = other (R.call c o room) a (λ p vs q i X. n vs (X .bytes) (same-request p vs (X .bytes) i (X .delivered))) h
     call-matched st log u d e a (sets {m = m} k) =
         other (R.call c o room) a

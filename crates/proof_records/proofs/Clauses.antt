@@ -3,7 +3,7 @@
 --     issues-there, issues-here              issues, both ways
 --     completes-there                        completions
 --     executes-there, executes-here          executions, both ways
---     survives-there, survives-here          survivors, both ways
+--     survives-there, survives-here          survivors, both ways;  notes-here   with the times that they note
 -- Assumes nothing.
 use Prim.Native.Nat.{ℕ, suc, _<_, zero, _+_, _-_, _≤_}
 use mathlib.Core.Path.{_≡_, refl, sym, _∙_, ap, subst}
@@ -35,7 +35,7 @@ use Rattle.claim.specs.Claim.{commandAt}
 use Rattle.claim.specs.RecordWorld.{World, Event, run, after, emptyWorld, keptBy, Server, Log, running, callOf, calls, callsOn, step, runFrom}
 use Rattle.claim.specs.RecordWorld as R
 use Rattle.claim.specs.RecordProvisos.{At, lengthOf}
-use Rattle.claim.specs.RecordClaim.{Issues, Completes, Executes, SurvivesAt}
+use Rattle.claim.specs.RecordClaim.{Issues, Completes, Executes, SurvivesAt, Notes}
 use Rattle.proof_records.specs.Likeness.{resultOf}
 use Rattle.proof_records.specs.Worlds.{Running, WorldLike}
 use Rattle.proof_records.specs.Matched.{Executed, Cut, Quiet, Plain, Matched, Follows, bytesIn}
@@ -44,7 +44,7 @@ use Rattle.proof_records.proofs.Calls.{some-same, running-like}
 use Rattle.proof_records.proofs.Runs.{like-at, matched-at, matched-back, run-of}
 use Rattle.model.specs.States.{State}
 use Rattle.model.specs.Apply.{replay, withMark}
-use Rattle.model.specs.Decisions.{Decided}
+use Rattle.model.specs.Decisions.{Decided, timeFor}
 use Rattle.proof_protocol.proofs.Basics.{eqb-same}
 use Rattle.proof_protocol.proofs.Logs.{Tail, Tail-refl, Tail-trans, Tail-length}
 use Rattle.proof_records.proofs.Worlds.{running-kept, calls-up}
@@ -71,13 +71,13 @@ module _ {w : World} {v v′ : W.World} where
   receive-on (M.other e a h s) d b r e′ f′ k = absurd (h d b r e′ f′ k)
 
   request-on : {c p room : ℕ} {vs : Versions} {a : W.Change} → Matched w v v′ (R.call c (request vs p) room) a → (q : Request) → Executed w c p vs room q
-      → (r : S.Result) × (a ≡ W.server c (W.writes (S.executed (vs .rule (q .command .op)) (q .command) (q .done) r)))
+      → (r : S.Result) × (n : ℕ) × (a ≡ W.server c (W.writes (S.executed (vs .rule (q .command .op)) (q .command) (q .done) r) n))
   unfolding Quiet
-  request-on (M.executed c p vs room k r X) q Y =
+  request-on (M.executed c p vs room k r n X u) q Y =
       let j : X .bytes ≡ Y .bytes = some-same (X .delivered) (Y .delivered) in
       let z : Requested k ≡ Requested q = sym (X .parsed) ∙ (ap parsePacket j ∙ Y .parsed) in
       let t : k ≡ q = cc in
-      (r, rw t)
+      (r, n, rw t)
   request-on (M.other e a h s) q Y = absurd (h _ _ q refl Y)
 
 -- the same issue asks the same
@@ -138,7 +138,7 @@ module _ (plan : List ℕ) (es : List Event) (cs : List W.Change) (F : Follows (
             answer = s;
             its = ap (λ (y : Request). y .command ∷ []) (issue-asked d op p b q s .asks) ∙ (issue-same t ∙ i .its);
           }
-      go e k a (M.executed d p vs room y r f) z = let o : _≡_ {A = ℕ} 0 1 = cc in absurd (omega arith)
+      go e k a (M.executed d p vs room y r g f u) z = let o : _≡_ {A = ℕ} 0 1 = cc in absurd (omega arith)
       go e k a (M.cut d b j y) z = let o : _≡_ {A = ℕ} 0 1 = cc in absurd (omega arith)
       go e k a (M.received x p d b r f g h) z = let o : _≡_ {A = ℕ} 0 1 = cc in absurd (omega arith)
       go e k a (M.other f b h s) z = absurd (subst Plain z s)
@@ -167,39 +167,46 @@ module _ (plan : List ℕ) (es : List Event) (cs : List W.Change) (F : Follows (
       record {
         done = x .asked .done;
         res = k .0;
+        bytes = k .1;
         event =
-            subst (λ (y : Marked). X.At cs n (W.server c (W.writes (S.executed (y .version) (y .command) (x .asked .done) (k .0))))) (x .its)
-            (subst (X.At cs n) (k .1) (r .1));
+            subst (λ (y : Marked). X.At cs n (W.server c (W.writes (S.executed (y .version) (y .command) (x .asked .done) (k .0)) (k .1)))) (x .its)
+            (subst (X.At cs n) (k .2) (r .1));
       }
 
-  -- an execution in the run is of a request
-  pub executes-here : (n c : ℕ) (m : Marked) → X.Executes cs n c m → Executes es n c m
+  -- an execution in the run is of a request, and notes the time of its result
+  abbrev Noted : ℕ → ℕ → Marked → ℕ → Type 0
+  Noted n c m t = (y : Executes es n c m) × (timeFor (y .versions) (y .state) ≡ t)
+
+  pub executes-here : (n c : ℕ) (m : Marked) (x : X.Executes cs n c m) → Noted n c m (x .res .time)
   unfolding Running decision
   executes-here n c m x = let r = pairing-back n _ (x .event) in go (r .0) (r .1) _ (r .2) refl
     where
       go : (e : Event) → At es n e → (a : W.Change) → Matched (after es n) (X.after cs n) (X.after cs (suc n)) e a
-          → a ≡ W.server c (W.writes (S.executed (m .version) (m .command) (x .done) (x .res))) → Executes es n c m
-      go e q a (M.executed d p vs room k r Y) z =
+          → a ≡ W.server c (W.writes (S.executed (m .version) (m .command) (x .done) (x .res)) (x .bytes)) → Noted n c m (x .res .time)
+      go e q a (M.executed d p vs room k r g Y u) z =
           let i : d ≡ c = cc in
           let j : vs .rule (k .command .op) ≡ m .version = cc in
           let t : k .command ≡ m .command = cc in
-          subst (λ (y : ℕ). Executes es n y m) i
-          (record {
-            number = p;
-            versions = vs;
-            room = room;
-            event = q;
-            state = Y .state;
-            log = Y .log;
-            up = Y .up;
-            bytes = Y .bytes;
-            delivered = Y .delivered;
-            no-number = Y .no-number;
-            no-packet = Y .no-packet;
-            asked = k;
-            parsed = Y .parsed;
-            its = rw (j, t);
-          })
+          let f : r ≡ x .res = cc in
+          subst (λ (y : ℕ). Noted n y m (x .res .time)) i (
+            record {
+              number = p;
+              versions = vs;
+              room = room;
+              event = q;
+              state = Y .state;
+              log = Y .log;
+              up = Y .up;
+              bytes = Y .bytes;
+              delivered = Y .delivered;
+              no-number = Y .no-number;
+              no-packet = Y .no-packet;
+              asked = k;
+              parsed = Y .parsed;
+              its = rw (j, t);
+            },
+            sym u ∙ ap (λ (y : S.Result). y .time) f,
+          )
       go e q a (M.cut d b j y) z = let o : _≡_ {A = ℕ} 0 1 = cc in absurd (omega arith)
       go e q a (M.issued y op p b d r f s) z = let o : _≡_ {A = ℕ} 0 1 = cc in absurd (omega arith)
       go e q a (M.received y p d b r f g h) z = let o : _≡_ {A = ℕ} 0 1 = cc in absurd (omega arith)
@@ -218,7 +225,7 @@ module _ (plan : List ℕ) (es : List Event) (cs : List W.Change) (F : Follows (
       go : (e : Event) → At es n e → (a : W.Change) → Matched (after es n) (X.after cs n) (X.after cs (suc n)) e a → a ≡ W.server c (W.crashes j)
           → (b : ℕ) × At es n (R.crash c b) × Cut (X.after cs n) (X.after cs (suc n)) c b
       go e k a (M.cut d b i y) z = let h : d ≡ c = cc in (b, rw (← h) k, rw (← h) y)
-      go e k a (M.executed d p vs room y r f) z = let o : _≡_ {A = ℕ} 0 1 = cc in absurd (omega arith)
+      go e k a (M.executed d p vs room y r g f u) z = let o : _≡_ {A = ℕ} 0 1 = cc in absurd (omega arith)
       go e k a (M.issued x op p b d r y s) z = let o : _≡_ {A = ℕ} 0 1 = cc in absurd (omega arith)
       go e k a (M.received x p d b r f g y) z = let o : _≡_ {A = ℕ} 0 1 = cc in absurd (omega arith)
       go e k a (M.other f b h s) z = absurd (subst Plain z s)
@@ -244,9 +251,9 @@ runs-on w c room d st log u =
     ap (λ (x : World). x .servers c) (calls-up c w room d (w .servers c) st log u)
     ∙ (ap (λ (f : ℕ → Server). f c) (making-servers (callOf st log room d .made) (withServer c (running (callOf st log room d .state) (callOf st log room d .log)) w)) ∙ rw (eqb-same c))
 
-one-more : (v : W.World) (c : ℕ) (a : S.LogRecord) → 1 ≤ length (W.step v (W.server c (W.writes a)) .servers c .log)
+one-more : (v : W.World) (c : ℕ) (a : S.LogRecord) (n : ℕ) → 1 ≤ length (W.step v (W.server c (W.writes a n)) .servers c .log)
 unfolding W.step W.serverAfter
-one-more v c a = rw (eqb-same c) (omega arith)
+one-more v c a n = rw (eqb-same c) (omega arith)
 
 module _ (plan : List ℕ) (es : List Event) (cs : List W.Change) (F : Follows (planOf plan) emptyWorld W.emptyWorld es cs) where
   abbrev logAt : ℕ → ℕ → List S.Entry
@@ -311,9 +318,9 @@ module _ (plan : List ℕ) (es : List Event) (cs : List W.Change) (F : Follows (
   grew : (n c : ℕ) (k : Marked) → X.Executes cs n c k → 1 ≤ length (logAt (suc n) c)
   grew n c k x =
       let i = at-is cs n _ (x .event) in
-      let e : X.after cs (suc n) ≡ W.step (X.after cs n) (W.server c (W.writes (S.executed (k .version) (k .command) (x .done) (x .res))))
+      let e : X.after cs (suc n) ≡ W.step (X.after cs n) (W.server c (W.writes (S.executed (k .version) (k .command) (x .done) (x .res)) (x .bytes)))
       = after-suc (planOf plan) cs (run-of F) n (i .0) ∙ ap (W.step (X.after cs n)) (i .1) in
-      subst (λ (y : W.World). 1 ≤ length (y .servers c .log)) (sym e) (one-more (X.after cs n) c _)
+      subst (λ (y : W.World). 1 ≤ length (y .servers c .log)) (sym e) (one-more (X.after cs n) c _ _)
 
   module _ (n c : ℕ) (k : Marked) (x : X.Executes cs n c k)
       (kept : (m j : ℕ) → n < m → X.At cs m (W.server c (W.crashes j)) → X.logLength cs (suc n) c ≤ X.logLength cs (suc m) c) where
@@ -334,8 +341,11 @@ module _ (plan : List ℕ) (es : List Event) (cs : List W.Change) (F : Follows (
         go u (inl z) = absurd (never u z)
         go u (inr y) = omega (arith, tail-bytes (stands (suc m) (omega arith) u), y .most)
 
-  pub survives-here : (n : ℕ) (k : Marked) → X.SurvivesAt cs n k → SurvivesAt es n k
-  survives-here n k s =
+  pub notes-here : (n : ℕ) (k : Marked) (s : X.SurvivesAt cs n k) → Notes es n k (s .executes .res .time)
+  notes-here n k s =
       let c = s .server in
       let x = executes-here plan es cs F n c k (s .executes) in
-      record { server = c; executes = x; kept = λ m b h a. rw (executed-bytes n c k x) (kept-here n c k (s .executes) (s .kept) m b h a) }
+      (record { server = c; executes = x .0; kept = λ m b h a. rw (executed-bytes n c k (x .0)) (kept-here n c k (s .executes) (s .kept) m b h a) }, x .1)
+
+  pub survives-here : (n : ℕ) (k : Marked) → X.SurvivesAt cs n k → SurvivesAt es n k
+  survives-here n k s = notes-here n k s .0

@@ -1,6 +1,7 @@
 -- Demand 3 over states and log records: after every schedule there is one order of all surviving commands, each once, that explains every
 -- result and every final value, in real-time order.
 --     holder-there             the holder of a point
+--     told-there, times-here   results told, and their times
 --     explains-here            what explains the run explains the schedule
 --     demand3-records
 -- Assumes nothing.
@@ -14,21 +15,27 @@ use lib.ListN.{length, take}
 use lib.Seq.{take-length}
 use Rattle.model.specs.Plan.{planOf}
 use Rattle.model.specs.Limits.{pointCount}
-use Rattle.model.specs.Sequential.{OrderEntry, commands, readingMeant}
+use Rattle.model.specs.declared.ResultPacket.{ResultPacket}
+use Rattle.model.specs.Sequential.{Marked, OrderEntry, commands, readingMeant}
 use Rattle.model.specs.States.{State, pointAt}
 use Rattle.claim.specs.Claim.{readingAt, SurvivesBy, HolderBy}
+use Rattle.proof_protocol.specs.Servers as S
 use Rattle.proof_protocol.specs.World as W
+use Rattle.proof_protocol.specs.Allowed.{Made}
 use Rattle.proof_protocol.specs.Explains as X
 use Rattle.proof_protocol.proofs.RealTime.{explained}
 use Rattle.claim.specs.RecordWorld.{Event, run, after, emptyWorld, keptBy}
-use Rattle.claim.specs.RecordClaim.{finalState, Recovers, account, Explains, Demand3}
-use Rattle.proof_records.specs.Likeness.{readingOf}
+use Rattle.claim.specs.World.{packet}
+use Rattle.claim.specs.RecordClaim.{Notes, Tells, finalState, Recovers, account, Explains, Demand3}
+use Rattle.proof_records.specs.Likeness.{readingOf, resultOf}
+use Rattle.proof_records.specs.Made.{Means}
 use Rattle.proof_records.specs.Worlds.{WorldLike}
 use Rattle.proof_records.specs.Matched.{Follows}
+use Rattle.proof_records.proofs.Calls.{packet-in}
 use Rattle.proof_records.proofs.Starts.{kept-recovers}
 use Rattle.proof_records.proofs.Counting.{Counts, given-counts, founded-given}
 use Rattle.proof_records.proofs.Runs.{followed, run-of, same-length}
-use Rattle.proof_records.proofs.Clauses.{like, issues-there, completes-there, survives-there, survives-here}
+use Rattle.proof_records.proofs.Clauses.{like, issues-there, completes-there, survives-there, survives-here, notes-here}
 
 module _ (plan : List ℕ) (es : List Event) (cs : List W.Change) (F : Follows (planOf plan) emptyWorld W.emptyWorld es cs) where
   -- ---- the end
@@ -80,6 +87,22 @@ module _ (plan : List ℕ) (es : List Event) (cs : List W.Change) (F : Follows (
   survivor-here : (e : OrderEntry) → X.Survives cs e → SurvivesBy plan (account plan es) e
   survivor-here e s = record { part = s .part; among = s .among; at = s .at; survives = survives-here plan es cs F (s .at) (s .part) (s .survives) }
 
+  -- a result told is told in the run
+  told-there : (r : ResultPacket) → Tells es r → Made (X.final cs) (S.answered (record { client = r .client; call = r .call }) (r .point) (resultOf (r .result)))
+  unfolding packet Means
+  told-there r t = subst (Means (Made (X.final cs))) (t .parsed) (final-like .made (t .bytes) (packet-in (run es .made) (t .number) (t .bytes) (t .made)) .packet) .1
+
+  times-here : (order : List OrderEntry) → X.Explains (planOf plan) cs order → (r : ResultPacket) → Tells es r
+      → (n : ℕ) × (m : Marked) × (m .command .client ≡ r .client) × (m .command .call ≡ r .call) × Notes es n m (r .result .time)
+  times-here order E r t =
+      let x = E .times (record { client = r .client; call = r .call }) (r .point) (resultOf (r .result)) (told-there r t) in (
+        x .0,
+        x .1,
+        ap (λ (i : S.Id). i .client) (x .2),
+        ap (λ (i : S.Id). i .call) (x .2),
+        subst (Notes es (x .0) (x .1)) (x .3 .1) (notes-here plan es cs F (x .0) (x .1) (x .3 .0)),
+      )
+
   pub explains-here : (order : List OrderEntry) → X.Explains (planOf plan) cs order → Explains plan es order
   explains-here order E =
       record {
@@ -91,6 +114,7 @@ module _ (plan : List ℕ) (es : List Event) (cs : List W.Change) (F : Follows (
         sequence =
             λ m n j k a b s t h e u v x y.
             E .sequence m n j k a b (survives-there plan es cs F m j s) (survives-there plan es cs F n k t) h e u v x y;
+        times = times-here order E;
         recovers = recovers-end;
       }
 

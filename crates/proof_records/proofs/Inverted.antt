@@ -53,7 +53,7 @@ handed P (some x) f r h = h x refl
 module _ (st : State) (free : ℕ) where
   -- what is told of a completion record
   held-shown : (v : Versions) (b : List ℕ) (q : Request) (x c : ℕ) (r : Completion) → find x c (st .records) ≡ some r
-      → Shows st free (Calls.request v b) (denying q (onHeld st q r))
+      → Shows st free (Calls.request v b) (denying q (onHeld v st q r))
   unfolding onHeld denying
   held-shown v b q x c r f =
       passes (λ d. Shows st free (Calls.request v b) (denying q d)) _ _ (λ k n. (n, (_, refl))) (λ z. Inverse.repeats v b x c r f (held-tests (st .mark) q r z .1))
@@ -77,18 +77,18 @@ module _ (st : State) (free : ℕ) where
           (λ z. Inverse.executes v b q p (t .0) (leb-false _ _ (t .1)) (t .2) f (e ∙ (ap (onId v st free q) f ∙ unless-passed _ (append _) z)))
       id (some r) f t e = held-shown v b q _ _ r f
 
-  fetch-shown : (x c : ℕ) → Shows st free (Calls.fetch x c) (onFetch st x c)
+  fetch-shown : (v : Versions) (x c : ℕ) → Shows st free (Calls.fetch v x c) (onFetch v st x c)
   unfolding onFetch onFetched
-  fetch-shown x c = go (find x c (st .records)) refl
+  fetch-shown v x c = go (find x c (st .records)) refl
     where
-      go : (o : Option Completion) → find x c (st .records) ≡ o → Shows st free (Calls.fetch x c) (onFetched st o)
+      go : (o : Option Completion) → find x c (st .records) ≡ o → Shows st free (Calls.fetch v x c) (onFetched v st o)
       go none f = λ e. omega arith
-      go (some r) f = passes (Shows st free (Calls.fetch x c)) _ _ (λ k n. n) (λ z. Inverse.fetches x c r f (fetch-tests (st .mark) r z))
+      go (some r) f = passes (Shows st free (Calls.fetch v x c)) _ _ (λ k n. n) (λ z. Inverse.fetches v x c r f (fetch-tests (st .mark) r z))
 
   pub shown : (o : Operation) → Shows st free o (decision o st free)
   unfolding decision onRequest onSync onNotice decideNotice onGive onImage onTake decideTake onReceipt onRelease decideRelease
   shown (Calls.request v b) = handed (Shows st free (Calls.request v b)) (asRequest (parsePacket b)) _ (λ k n. n) (λ q e. request-shown v b q (request-of _ q e))
-  shown (Calls.fetch x c) = fetch-shown x c
+  shown (Calls.fetch v x c) = fetch-shown v x c
   shown (Calls.sync m) =
       passes (Shows st free (Calls.sync m)) _ _ (λ k n. n) (λ z. let a = sync-tests (st .mark) (st .size) m z in (refl, a .0, a .1))
   shown (Calls.notice b) =
@@ -100,12 +100,12 @@ module _ (st : State) (free : ℕ) where
       let a = place-tests p d _ z in
       let g = give-tests st free p d (a .0) (a .1) .0 in
       Inverse.gives p d (g .point) (g .held) (unless-passed _ _ z))
-  shown (Calls.image p) =
-      passes (Shows st free (Calls.image p)) _ _ (λ k n. n)
+  shown (Calls.image v p) =
+      passes (Shows st free (Calls.image v p)) _ _ (λ k n. n)
       (λ z.
       let a = point-tests p _ z in
       let b = image-tests (pointAt st p) (st .mark) (a .1) in
-      Inverse.images p (a .0) (b .0) (b .1))
+      Inverse.images v p (a .0) (b .0) (b .1))
   shown (Calls.takeIn b) =
       handed (Shows st free (Calls.takeIn b)) (parseImage b) _ (λ k n. n)
       (λ i e.

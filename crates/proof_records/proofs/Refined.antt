@@ -32,9 +32,10 @@ use Rattle.model.specs.Packets.{commandOk, outcomeOk, idOk, requestOk, resultOk
 use Rattle.model.specs.Images.{imageBytes, floorOf}
 use Rattle.model.specs.Logs.{LogRecord, executed}
 use Rattle.model.specs.States.{State, pointAt, held, given, isId, releasedStatus}
-use Rattle.model.specs.Decisions.{find, resultOfRecord, resultFor, executedFor, isOnPoint, entryOfRecord, sortEntries, imageFor}
+use Rattle.model.specs.Decisions.{timedBy, find, resultOfRecord, resultFor, withTime, executedFor, isOnPoint, entryOfRecord, sortEntries, imageFor}
 use Rattle.model_laws.proofs.Meaning.{rule-tie}
-use Rattle.model_laws.specs.Fits.{IsPacket}
+use Rattle.model_laws.specs.Bytes.{All}
+use Rattle.model_laws.specs.Fits.{TimeFits, IsPacket}
 use Rattle.model_laws.proofs.Tables.{all-member}
 use Rattle.model_laws.proofs.Tests.{and-left, and-both}
 use Rattle.model_laws.proofs.Commands.{CommandParts, command-parts}
@@ -42,7 +43,8 @@ use Rattle.model_invariants.specs.Sound.{GoodCompletion, GoodRequest, SoundBy}
 use Rattle.model_invariants.specs.History.{Decides, byRequest, byNotice, byGive, byTake, byRelease}
 use Rattle.model.specs.Calls.{Operation}
 use Rattle.model_invariants.specs.Calls.{Named}
-use Rattle.model_invariants.proofs.Tests.{split, entry-good, sound-entry}
+use Rattle.model_laws.proofs.Checkpoints.{Timely}
+use Rattle.model_invariants.proofs.Tests.{split, entry-good, sound-entry, times-fit}
 use Rattle.model_invariants.proofs.Decided.{find-fresh}
 use Rattle.model_invariants.proofs.Images.{image-good, sort-length}
 use Rattle.proof_protocol.specs.Servers as S
@@ -95,9 +97,10 @@ found-in x c (q ∷ rs) r e = go (isId x c q) e (found-in x c rs r)
 -- ---- packets
 
 -- the result packet of a good completion record
-result-packet : (st : State) → SoundBy AnyLength st → (r : Completion) → GoodCompletion (st .plan) (st .size) r → IsPacket (resultBytes (resultOfRecord r)) (Resulted (resultOfRecord r))
+result-packet : (timed : Bool) (st : State) → SoundBy AnyLength st → (r : Completion) → GoodCompletion (st .plan) (st .size) r → TimeFits timed (r .result .time)
+    → IsPacket (resultBytes (resultOfRecord timed r)) (Resulted (resultOfRecord timed r))
 unfolding resultOfRecord resultOk packetBytes outcomeOk idOk
-result-packet st G r g =
+result-packet timed st G r g t =
     let K = command-parts (r .command .op) (r .command .point) (r .command .argument) (g .command) in
     let O = split (leb (r .result .outcome) lastOutcome) (leb (r .result .quality) lastQuality) (g .outcome) in
     let E = sound-entry st G (r .command .point) (K .point) in
@@ -114,6 +117,7 @@ result-packet st G r g =
             client = g .client-fits;
             call = g .call-fits;
             value = omega (arith, g .value .high, E .fits);
+            time = t;
           };
       same = refl;
     }
@@ -149,7 +153,7 @@ module _ (plan : List PlanEntry) (c : ℕ) (zs : List Pair) (st : State) (s : S.
     pub like : RecordLike r abstract
     pub why : Written plan c s M abstract
     pub decides : Decides st free r
-    pub source : Source o abstract
+    pub source : Source st o abstract
 
   -- a packet that is told, in whatever world it is made
   pub record Spoke (b : List ℕ) : Type 1 where
@@ -183,7 +187,7 @@ module _ (plan : List PlanEntry) (c : ℕ) (zs : List Pair) (st : State) (s : S.
   floor-same x = ap (floorOf x) (A .like .floors)
 
   pub written : {M : S.Packet → Type 0} (o : Operation) (r : LogRecord) → Appends st free o r → Handed M o → Wrote M o r
-  unfolding Means ImageMeans askedIn executedFor
+  unfolding Means ImageMeans askedIn executedFor withTime resultMeant
   written {M} o r (Inverse.executes v b q e h l f n d) H =
       let m = subst (Means M) e (H .packet) in
       let P = A .like .points (q .command .point) (request-command q (m .0) .point) in
@@ -191,10 +195,10 @@ module _ (plan : List PlanEntry) (c : ℕ) (zs : List Pair) (st : State) (s : S.
         abstract = _;
         like = Likeness.executed (v .rule (q .command .op)) (executedFor v st q);
         why =
-            executing (v .rule (q .command .op)) (askedIn q) (resultOf (resultFor v st q)) (m .1) (held-like zs _ _ P h) (omega (arith, A .like .heard)) (rw (floor-same (q .command .client)) f)
-            (none-held _ _ n) (rule-same v q (m .0));
+            executing (v .rule (q .command .op)) (askedIn q) (resultOf (executedFor v st q .result)) (m .1) (held-like zs _ _ P h) (omega (arith, A .like .heard))
+            (rw (floor-same (q .command .client)) f) (none-held _ _ n) (rule-same v q (m .0));
         decides = byRequest v q (m .0) d;
-        source = execution v b q _ refl e refl;
+        source = execution v b q _ refl e refl refl;
       }
   written {M} o r (Inverse.goes b n e d) H =
       let m = subst (Means M) e (H .packet) in
@@ -260,9 +264,9 @@ module _ (plan : List PlanEntry) (c : ℕ) (zs : List Pair) (st : State) (s : S.
     count : length told ≡ length (sortEntries (map entryOfRecord mine))
     count = length-map mine (completionOf zs) ∙ sym (sort-length (map entryOfRecord mine) ∙ length-map mine entryOfRecord)
 
-    image-spoke : pointAt st p .giveEnd ≤ st .mark → Spoke (imageBytes (imageFor st p))
+    image-spoke : (v : Versions) → pointAt st p .giveEnd ≤ st .mark → Spoke (imageBytes (imageFor v st p))
     unfolding imageFor S.imageFor readingOf isOnPoint completionOf given-like
-    image-spoke h =
+    image-spoke v h =
         let P = A .like .points p l in
         let G = given-like zs (pointAt st p) (s .points p) P g in
         let a = S.imageFor s p (G .destination) told in
@@ -271,7 +275,7 @@ module _ (plan : List PlanEntry) (c : ℕ) (zs : List Pair) (st : State) (s : S.
           why = imaging p G told (place-rises zs _ _ h) to back;
           like =
               λ M m.
-              like-image (imageFor st p) a (image-good st p (A .sound) l .0)
+              like-image (imageFor v st p) a (image-good v st p (A .sound) l .0)
               (record { point = refl; destination = refl; move = P .move; heard = A .like .heard; value = P .value; floors = A .like .floors; records = entered; count = count }) m;
         }
       where
@@ -288,22 +292,23 @@ module _ (plan : List PlanEntry) (c : ℕ) (zs : List Pair) (st : State) (s : S.
             rw (y .2) (map-in (completionOf zs) (y .0) mine (keep-in (isOnPoint p) (y .0) (st .records) (y .1) (eq-eqb _ _ q)))
 
   -- the result of a completion record
-  result-spoke : (x k : ℕ) (r : Completion) → find x k (st .records) ≡ some r → r .end ≤ st .mark → Spoke (resultBytes (resultOfRecord r))
+  result-spoke : (v : Versions) (x k : ℕ) (r : Completion) → find x k (st .records) ≡ some r → r .end ≤ st .mark → Spoke (resultBytes (resultOfRecord (timedBy v st) r))
   unfolding completionOf resultOfRecord Means
-  result-spoke x k r f l =
+  result-spoke v x k r f l =
       let i = found-in x k (st .records) r f in
-      let I = result-packet st (A .sound) r (all-member _ (A .sound .records) i) in
+      let T : All (λ (y : Completion). TimeFits (timedBy v st) (y .result .time)) (st .records) = unfold Timely in times-fit v st (A .sound) in
+      let I = result-packet (timedBy v st) st (A .sound) r (all-member _ (A .sound .records) i) (all-member _ T i) in
       record {
         packet = _;
         why = repeating (completionOf zs r) (A .like .records .to r i) (place-rises zs _ _ l);
-        like = λ M m. like-packet (Resulted (resultOfRecord r)) I (I .fits, m);
+        like = λ M m. like-packet (Resulted (resultOfRecord (timedBy v st) r)) I (I .fits, m);
       }
 
   pub spoken : (o : Operation) (b : List ℕ) → Replies st free o b → Spoke b
   unfolding resultOfRecord Means pointAt
-  spoken o b (Inverse.repeats v d x k r f l) = result-spoke x k r f l
-  spoken o b (Inverse.fetches x k r f l) = result-spoke x k r f l
-  spoken o b (Inverse.images p l g h) = image-spoke p l g h
+  spoken o b (Inverse.repeats v d x k r f l) = result-spoke v x k r f l
+  spoken o b (Inverse.fetches v x k r f l) = result-spoke v x k r f l
+  spoken o b (Inverse.images v p l g h) = image-spoke p l g v h
   spoken o b (Inverse.receipts p l t h) =
       let G = A .sound .point p l in
       let P = A .like .points p l in

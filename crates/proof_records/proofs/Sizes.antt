@@ -15,8 +15,7 @@ use lib.ListN.{length}
 use Rattle.model.specs.declared.PlanEntry.{PlanEntry}
 use Rattle.model.specs.Choice.{pick}
 use Rattle.model.specs.Limits.{lastServer, headSize}
-use Rattle.model.specs.Images.{imageLength, entryWidth}
-use Rattle.model.specs.Logs.{LogRecord, Entry, recordSize}
+use Rattle.model.specs.Logs.{Entry}
 use Rattle.model.specs.States.{State}
 use Rattle.model.specs.Apply.{apply, founded, replay, replayFrom}
 use Rattle.model_invariants.specs.History.{GoodPlan}
@@ -24,19 +23,10 @@ use Rattle.model_invariants.proofs.Recovery.{replay-next, apply-size}
 use Rattle.proof_protocol.specs.Servers as S
 use Rattle.proof_protocol.proofs.Logs.{Tail, Tail-cons}
 use Rattle.proof_protocol.proofs.Logs as Logs
-use Rattle.proof_records.specs.Likeness.{RecordLike, Pair, entriesIn, abstractIn, placeOf, Chain, Within}
-use Rattle.proof_records.specs.Likeness as Likeness
-use Rattle.proof_records.specs.Matched.{sizeOf, bytesIn}
+use Rattle.proof_records.specs.Likeness.{Pair, entriesIn, abstractIn, placeOf, Chain, Within}
+use Rattle.proof_records.specs.Matched.{bytesIn}
 use Rattle.proof_records.proofs.Places.{place-all, place-rises, abstract-length}
 use Rattle.proof_records.proofs.Replays.{chain-alike}
-
-size-like : {r : LogRecord} {a : S.LogRecord} → RecordLike r a → recordSize r ≡ sizeOf a
-unfolding recordSize sizeOf imageLength entryWidth
-size-like (Likeness.executed v x) = refl
-size-like (Likeness.gone n) = refl
-size-like (Likeness.gave g) = refl
-size-like (Likeness.took i a k) = rw (k .floors, k .count)
-size-like (Likeness.released r) = refl
 
 -- the replay's recorded length with one more record
 pub next-size : (plan : List PlanEntry) (c : ℕ) (es : List Entry) (e : Entry) → replay plan c (es ++ (e ∷ [])) .size ≡ e .end
@@ -47,7 +37,7 @@ module _ (plan : List PlanEntry) (c : ℕ) where
   pub chain-bytes : (zs : List Pair) → Chain plan c zs → replay plan c (entriesIn zs) .size ≡ bytesIn (abstractIn zs)
   unfolding entriesIn abstractIn bytesIn replay replayFrom founded
   chain-bytes [] d = refl
-  chain-bytes (z ∷ zs) d = next-size plan c (entriesIn zs) (z .entry) ∙ (d .0 .end ∙ omega (arith, chain-bytes zs (d .1), size-like (z .like)))
+  chain-bytes (z ∷ zs) d = next-size plan c (entriesIn zs) (z .entry) ∙ (d .0 .end ∙ omega (arith, chain-bytes zs (d .1), d .0 .bytes))
 
   pub chain-most : (zs : List Pair) (k : ℕ) → headSize ≤ k → Within k zs → replay plan c (entriesIn zs) .size ≤ k
   unfolding entriesIn replay replayFrom founded

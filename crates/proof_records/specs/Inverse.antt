@@ -18,7 +18,7 @@ use Rattle.model.specs.Packets.{parsePacket, resultBytes, refusalBytes, receipt
 use Rattle.model.specs.Images.{Image, parseImage, imageBytes, floorOf}
 use Rattle.model.specs.Logs.{LogRecord, executed, gone, gave, took, released}
 use Rattle.model.specs.States.{State, pointAt, held, given}
-use Rattle.model.specs.Decisions.{Decided, find, resultOfRecord, executedFor, decideRequest, decideNotice, onGive, imageFor, decideTake, decideRelease}
+use Rattle.model.specs.Decisions.{Decided, timedBy, find, resultOfRecord, executedFor, decideRequest, decideNotice, onGive, imageFor, decideTake, decideRelease}
 use Rattle.model.specs.Calls.{Operation, request, fetch, sync, notice, give, image, takeIn, receipt, release}
 
 module _ (st : State) (free : ℕ) where
@@ -37,9 +37,9 @@ module _ (st : State) (free : ℕ) where
         → Appends (release b) (released (record { point = r .point; moveNumber = pointAt st (r .point) .moveNumber }))
 
   pub data Replies : Operation → List ℕ → Type 0 where
-    repeats : (v : Versions) (b : List ℕ) (x c : ℕ) (r : Completion) → find x c (st .records) ≡ some r → r .end ≤ st .mark → Replies (request v b) (resultBytes (resultOfRecord r))
-    fetches : (x c : ℕ) (r : Completion) → find x c (st .records) ≡ some r → r .end ≤ st .mark → Replies (fetch x c) (resultBytes (resultOfRecord r))
-    images : (p : ℕ) → p ≤ lastPoint → pointAt st p .status ≡ given → pointAt st p .giveEnd ≤ st .mark → Replies (image p) (imageBytes (imageFor st p))
+    repeats : (v : Versions) (b : List ℕ) (x c : ℕ) (r : Completion) → find x c (st .records) ≡ some r → r .end ≤ st .mark → Replies (request v b) (resultBytes (resultOfRecord (timedBy v st) r))
+    fetches : (v : Versions) (x c : ℕ) (r : Completion) → find x c (st .records) ≡ some r → r .end ≤ st .mark → Replies (fetch v x c) (resultBytes (resultOfRecord (timedBy v st) r))
+    images : (v : Versions) (p : ℕ) → p ≤ lastPoint → pointAt st p .status ≡ given → pointAt st p .giveEnd ≤ st .mark → Replies (image v p) (imageBytes (imageFor v st p))
     receipts : (p : ℕ) → p ≤ lastPoint → pointAt st p .takenMove ≢ 0 → pointAt st p .takeEnd ≤ st .mark
         → Replies (receipt p) (receiptBytes (record { point = p; server = st .server; moveNumber = pointAt st p .takenMove }))
 

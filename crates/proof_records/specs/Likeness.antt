@@ -34,7 +34,7 @@ readingOf x = readingMeant (record { value = x .value; quality = x .quality })
 
 -- a result in the protocol
 abbrev pub resultOf : CommandResult → S.Result
-resultOf r = record { answer = resultMeant r }
+resultOf r = record { answer = resultMeant r; time = r .time }
 
 -- ys has just what f makes of the elements of xs, in any order
 pub record Mapped {A B : Type 0} (f : A → B) (xs : List A) (ys : List B) : Type 0 where
@@ -121,6 +121,7 @@ pub record Link (plan : List PlanEntry) (c : ℕ) (z : Pair) (zs : List Pair) : 
   pub free : ℕ
   pub decides : Decides (replay plan c (entriesIn zs)) free (z .entry .item)
   pub end : z .entry .end ≡ replay plan c (entriesIn zs) .size + recordSize (z .entry .item)
+  pub bytes : z .abstract .bytes ≡ recordSize (z .entry .item)
 
 abbrev pub Chain : List PlanEntry → ℕ → List Pair → Type 0
 Chain plan c [] = Unit

@@ -1,7 +1,7 @@
 -- The provisos at one event; what an event over records and the change that follows it have to do with each other, as demand 3 reads them; a
 -- schedule over records, followed event by event by a run of the protocol.
 -- Assumes nothing.
-use Prim.Native.Nat.{ℕ, _≤_, _+_, _*_, suc}
+use Prim.Native.Nat.{ℕ, _≤_, _+_, suc}
 use mathlib.Core.Path.{_≡_}
 use mathlib.Core.List.{List, [], _∷_}
 use mathlib.Core.Option.{none, some}
@@ -10,7 +10,7 @@ use Rattle.model.specs.Clients.{issueOf, receiveOf}
 use Rattle.claim.specs.World.{start, issue, resend, receive, open·lease, renew, query, packet}
 use Rattle.claim.specs.RecordWorld.{World, Event, Log, keptBy, callOf, step, runFrom}
 use Rattle.claim.specs.RecordWorld as R
-use lib.ListN.{length, take, getElem?}
+use lib.ListN.{take, getElem?}
 use Rattle.model.specs.Versions.{Versions}
 use Rattle.model.specs.declared.PlanEntry.{PlanEntry}
 use Rattle.model.specs.declared.Client.{Client}
@@ -19,8 +19,9 @@ use Rattle.model.specs.declared.ResultPacket.{ResultPacket}
 use Rattle.model.specs.declared.Packet.the-variants.{Requested}
 use Rattle.model.specs.declared.Sent.the-variants.{Asked}
 use Rattle.model.specs.declared.Received.the-variants.{Completed}
-use Rattle.model.specs.Limits.{headSize, executedSize, goneSize, giveSize, takeHead, releaseSize, leastImage, floorRow, entryRow}
+use Rattle.model.specs.Limits.{headSize}
 use Rattle.model.specs.Packets.{parsePacket}
+use Rattle.model.specs.Decisions.{timeFor}
 use Rattle.model.specs.Calls.{Operation, request, decision}
 use Rattle.proof_protocol.specs.Servers as S
 use Rattle.proof_protocol.specs.World as W
@@ -31,16 +32,9 @@ use Rattle.proof_records.specs.Worlds.{Running, WorldLike}
 
 -- ---- the bytes of the protocol's log
 
-unfoldable pub sizeOf : S.LogRecord → ℕ
-sizeOf (S.executed v k d r) = executedSize
-sizeOf (S.gone x t) = goneSize
-sizeOf (S.gave p d m) = giveSize
-sizeOf (S.took a) = takeHead + (leastImage + floorRow * length (a .floors) + entryRow * length (a .records))
-sizeOf (S.freed p m) = releaseSize
-
 unfoldable pub bytesIn : List S.Entry → ℕ
 bytesIn [] = headSize
-bytesIn (e ∷ es) = bytesIn es + sizeOf (e .item)
+bytesIn (e ∷ es) = bytesIn es + e .bytes
 
 -- of the log before, what ends within the b bytes kept stays, and no more
 pub record Cut (v v′ : W.World) (c b : ℕ) : Type 0 where
@@ -56,11 +50,12 @@ NoExecution (S.gave p d m) = Unit {0}
 NoExecution (S.took a) = Unit {0}
 NoExecution (S.freed p m) = Unit {0}
 
--- a request writes the execution of its command by its program's version, and no other call writes an execution
-pub data Source (o : Operation) (a : S.LogRecord) : Type 0 where
-  execution : (v : Versions) (b : List ℕ) (q : Request) (r : S.Result) → o ≡ request v b → parsePacket b ≡ Requested q
-      → a ≡ S.executed (v .rule (q .command .op)) (q .command) (q .done) r → Source o a
-  no-execution : ((v : Versions) (b : List ℕ) → o ≡ request v b → ⊥) → NoExecution a → Source o a
+-- on the state st a request writes the execution of its command by its program's version, with the time of execution, and no other call writes
+-- an execution
+pub data Source (st : State) (o : Operation) (a : S.LogRecord) : Type 0 where
+  execution : (v : Versions) (b : List ℕ) (q : Request) (r : S.Result) → o ≡ request v b → parsePacket b ≡ Requested q → r .time ≡ timeFor v st
+      → a ≡ S.executed (v .rule (q .command .op)) (q .command) (q .done) r → Source st o a
+  no-execution : ((v : Versions) (b : List ℕ) → o ≡ request v b → ⊥) → NoExecution a → Source st o a
 
 -- ---- events
 
@@ -87,7 +82,7 @@ NoIssue (W.relets d t) = Unit {0}
 abbrev pub Plain : W.Change → Type 0
 Plain W.same = Unit {0}
 Plain (W.server c W.founds) = Unit {0}
-Plain (W.server c (W.writes a)) = NoExecution a
+Plain (W.server c (W.writes a n)) = NoExecution a
 Plain (W.server c (W.syncs m)) = Unit {0}
 Plain (W.server c (W.crashes j)) = ⊥
 Plain (W.tells c p) = Unit {0}
@@ -109,8 +104,8 @@ Quiet w (R.outside (renew x t span)) = Unit
 Quiet w (R.outside (query x t)) = Unit
 
 pub data Matched (w : World) (v v′ : W.World) : Event → W.Change → Type 0 where
-  executed : (c p : ℕ) (vs : Versions) (room : ℕ) (q : Request) (r : S.Result) → Executed w c p vs room q
-      → Matched w v v′ (R.call c (request vs p) room) (W.server c (W.writes (S.executed (vs .rule (q .command .op)) (q .command) (q .done) r)))
+  executed : (c p : ℕ) (vs : Versions) (room : ℕ) (q : Request) (r : S.Result) (n : ℕ) (x : Executed w c p vs room q) → r .time ≡ timeFor vs (x .state)
+      → Matched w v v′ (R.call c (request vs p) room) (W.server c (W.writes (S.executed (vs .rule (q .command .op)) (q .command) (q .done) r) n))
   cut : (c b j : ℕ) → Cut v v′ c b → Matched w v v′ (R.crash c b) (W.server c (W.crashes j))
   issued : (x op p a : ℕ) (d : Client) (q : Request) → w .clients x ≡ some d → issueOf d op p a .answer ≡ Asked q
       → Matched w v v′ (R.outside (issue x op p a)) (W.client x (W.issues d op p a))

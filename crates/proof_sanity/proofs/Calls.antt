@@ -31,12 +31,12 @@ use Rattle.model.specs.Choice.{refuse, reply, append, marks, isPassed, unlessRe
 use Rattle.model.specs.Numbers.{word}
 use Rattle.model.specs.Limits.{lastPoint, lastInWindow, stateSize, resultSize, executedSize}
 use Rattle.model.specs.Tables.{keep, written}
-use Rattle.model.specs.Packets.{parsePacket, asRequest, packetBytes, resultBytes, refusalBytes, resultOk, outcomeOk, idOk, doneOk, commandOk, requestOk}
+use Rattle.model.specs.Packets.{timeBytes, resultSizeOf, parsePacket, asRequest, packetBytes, resultBytes, refusalBytes, resultOk, outcomeOk, idOk, doneOk, commandOk, requestOk}
 use Rattle.model.specs.Images.{floorOf}
-use Rattle.model.specs.Logs.{LogRecord, executed, recordSize, recordBytes}
+use Rattle.model.specs.Logs.{LogRecord, executed, executedSizeOf, recordSize, recordBytes}
 use Rattle.model.specs.States.{State, load, stateBytes, stateEnd, pointAt, noPoint}
 use Rattle.model.specs.Apply.{raise, staysOver, completion, executedPoint, applyExecuted, applyRecord, withMark}
-use Rattle.model.specs.Decisions.{Decided, orMalformed, find, sameCommand, resultOfRecord, heldRefusal, onHeld, executedFor, newRefusal, onNew, onId, decideRequest, denying, onRequest, syncRefusal, onSync}
+use Rattle.model.specs.Decisions.{Decided, timedBy, orMalformed, find, sameCommand, resultOfRecord, heldRefusal, onHeld, executedFor, newRefusal, onNew, onId, decideRequest, denying, onRequest, syncRefusal, onSync}
 use Rattle.model.specs.Operations.{After, answerOf, after, short, unfit, freeIn, stored, settle, lentRefusal, lent, requestOf, syncOf}
 use Rattle.model.specs.Refusals.{noRefusal}
 use Rattle.model_laws.specs.Bytes.{Bytes}
@@ -68,29 +68,29 @@ find-last x c (s ∷ rs) r f p q = rw (id-not x c s (f .0)) (find-last x c rs r 
 
 -- ---- result packets
 
-pub result-length : (r : Completion) → length (resultBytes (resultOfRecord r)) ≡ resultSize
-unfolding resultBytes
+pub result-length : (r : Completion) → length (resultBytes (resultOfRecord true r)) ≡ resultSize
+unfolding resultBytes resultOfRecord timeBytes
 result-length r = refl
 
 -- it stands at the front of the output
-pub result-front : (out : List ℕ) (r : Completion) → resultSize ≤ length out → take resultSize (written out 0 (resultBytes (resultOfRecord r))) ≡ resultBytes (resultOfRecord r)
+pub result-front : (out : List ℕ) (r : Completion) → resultSize ≤ length out → take resultSize (written out 0 (resultBytes (resultOfRecord true r))) ≡ resultBytes (resultOfRecord true r)
 result-front out r l =
-    let b = resultBytes (resultOfRecord r) in
+    let b = resultBytes (resultOfRecord true r) in
     let n : length b ≡ resultSize = result-length r in
     rw (written-front out b (omega (arith, n))) (ap (λ (k : ℕ). take k (b ++ drop (length b) out)) (sym n) ∙ take-append-seam b (drop (length b) out))
 
 -- the packet of a held record is read back
-pub packet-read : (st : State) → Sound st → (r : Completion) → GoodCompletion (st .plan) (st .size) r → parsePacket (resultBytes (resultOfRecord r)) ≡ Resulted (resultOfRecord r)
+pub packet-read : (st : State) → Sound st → (r : Completion) → GoodCompletion (st .plan) (st .size) r → parsePacket (resultBytes (resultOfRecord true r)) ≡ Resulted (resultOfRecord true r)
 unfolding resultOfRecord resultOk idOk packetBytes
 packet-read st S r G =
-    let p = resultOfRecord r in
+    let p = resultOfRecord true r in
     let c = command-fits (r .command .op) (r .command .point) (r .command .argument) (G .command) in
     let o = outcome-fits (r .result .outcome) (r .result .quality) (G .outcome) in
     let v : r .result .value < word = omega (arith, G .value .high, sound-entry st S (r .command .point) (c .point) .fits) in
     packet-back (Resulted p) ok
-    (record { outcome = omega (arith, o .0); point = omega (arith, c .point); quality = omega (arith, o .1); client = G .client-fits; call = G .call-fits; value = v })
+    (record { outcome = omega (arith, o .0); point = omega (arith, c .point); quality = omega (arith, o .1); client = G .client-fits; call = G .call-fits; value = v; time = G .time })
   where
-    ok : resultOk (resultOfRecord r) ≡ true
+    ok : resultOk (resultOfRecord true r) ≡ true
     ok =
         and-both (leb (r .command .point) lastPoint) _ (le-leb _ _ (command-fits (r .command .op) (r .command .point) (r .command .argument) (G .command) .point))
         (and-both (outcomeOk (r .result .outcome) (r .result .quality)) _ (G .outcome) (and-both (leb 1 (r .command .client)) _ (le-leb _ _ (G .client)) (le-leb _ _ (G .call))))
@@ -98,10 +98,10 @@ packet-read st S r G =
 -- ---- an id that is held
 
 pub held-replies : (st : State) (free : ℕ) (q : Request) (r : Completion) → Admits st q → find (q .command .client) (q .command .call) (st .records) ≡ some r → sameCommand r q ≡ true
-    → r .end ≤ st .mark → decideRequest today st free q ≡ reply (resultBytes (resultOfRecord r))
-unfolding decideRequest onId onHeld
+    → r .end ≤ st .mark → decideRequest today st free q ≡ reply (resultBytes (resultOfRecord true r))
+unfolding decideRequest onId onHeld timedBy
 held-replies st free q r a f same m =
-    let x : Decided = reply (resultBytes (resultOfRecord r)) in
+    let x : Decided = reply (resultBytes (resultOfRecord true r)) in
     unless-passed _ _ a ∙ rw f (unless-passed _ x (tests-held (st .mark) q r same m))
 
 -- the point of a request, and done ≤ call
@@ -158,7 +158,7 @@ module _ {state log out : List ℕ} (R : Ready state log out) where
       rw (le-ltb (length state) stateSize (R .long), le-ltb (length o) need h, R .safe, le-ltb (length log) (load state .size) (R .recorded))
 
   pub request-is : (b : List ℕ) (q : Request) → parsePacket b ≡ Requested q → requestOf today state log b out ≡ settle state log out (denying q (decideRequest today st free q))
-  unfolding requestOf onRequest orMalformed asRequest
+  unfolding requestOf onRequest orMalformed asRequest resultSizeOf timedBy
   request-is b q e =
       ap (settle state log out) (lent-decides out resultSize (R .output) (onRequest today st free (parsePacket b)) ∙ ap (onRequest today st free) e)
 
@@ -189,17 +189,17 @@ module _ {state log out : List ℕ} (R : Ready state log out) where
 
   pub request-held : (b : List ℕ) (q : Request) → parsePacket b ≡ Requested q → (r : Completion) → find (q .command .client) (q .command .call) (st .records) ≡ some r
       → sameCommand r q ≡ true → Admits st q → r .end ≤ st .mark
-      → requestOf today state log b out ≡ after (answerOf noRefusal resultSize) state log (written out 0 (resultBytes (resultOfRecord r)))
+      → requestOf today state log b out ≡ after (answerOf noRefusal resultSize) state log (written out 0 (resultBytes (resultOfRecord true r)))
   unfolding settle denying
   request-held b q e r f same a m =
       request-is b q e
       ∙ ap (λ (d : Decided). settle state log out (denying q d)) (held-replies st free q r a f same m)
-      ∙ ap (λ (n : ℕ). after (answerOf noRefusal n) state log (written out 0 (resultBytes (resultOfRecord r)))) (result-length r)
+      ∙ ap (λ (n : ℕ). after (answerOf noRefusal n) state log (written out 0 (resultBytes (resultOfRecord true r)))) (result-length r)
 
   abbrev IsReply : Request → Decided → Type 0
   IsReply q d =
       settle state log out (denying q d) .answer ≡ answerOf noRefusal resultSize
-      → (r : Completion) × (find (q .command .client) (q .command .call) (st .records) ≡ some r) × (sameCommand r q ≡ true) × (d ≡ reply (resultBytes (resultOfRecord r)))
+      → (r : Completion) × (find (q .command .client) (q .command .call) (st .records) ≡ some r) × (sameCommand r q ≡ true) × (d ≡ reply (resultBytes (resultOfRecord true r)))
 
   other-size : (n k : ℕ) → k < resultSize → answerOf n k ≡ answerOf noRefusal resultSize → ⊥
   other-size n k h e = let z : k ≡ resultSize = ap (λ (x : Answer). x .wrote) e in omega arith
@@ -209,9 +209,9 @@ module _ {state log out : List ℕ} (R : Ready state log out) where
   no-reply q n e = absurd (other-size n _ (lit≤ tt) e)
 
   reply-id : (q : Request) (o : Option Completion) → find (q .command .client) (q .command .call) (st .records) ≡ o → IsReply q (onId today st free q o)
-  unfolding onId onNew onHeld unlessRefused settle denying
+  unfolding onId onNew onHeld unlessRefused settle denying timedBy
   reply-id q none f =
-      unless (IsReply q) (newRefusal (floorOf (q .command .client) (st .floors)) (length (st .floors)) free) {d = append (executed (executedFor today st q))} (no-reply q)
+      unless (IsReply q) (newRefusal (floorOf (q .command .client) (st .floors)) (length (st .floors)) free (executedSizeOf true)) {d = append (executed (executedFor today st q))} (no-reply q)
       (λ e. absurd (other-size 0 0 (lit≤ tt) e))
   reply-id q (some r) f =
       choose (IsReply q) (isPassed (heldRefusal (st .mark) q r)) (λ z e. (r, f, held-tests (st .mark) q r (eqb-true _ _ z) .0, refl)) (λ z. no-reply q _)
@@ -225,7 +225,7 @@ module _ {state log out : List ℕ} (R : Ready state log out) where
       → (r : Completion)
       × (find (q .command .client) (q .command .call) (st .records) ≡ some r)
       × (sameCommand r q ≡ true)
-      × (requestOf today state log b out ≡ after (answerOf noRefusal resultSize) state log (written out 0 (resultBytes (resultOfRecord r))))
+      × (requestOf today state log b out ≡ after (answerOf noRefusal resultSize) state log (written out 0 (resultBytes (resultOfRecord true r))))
   unfolding settle denying
   request-replied b q e z =
       let k = is-reply q (ap (λ (a : After). a .answer) (sym (request-is b q e)) ∙ z) in
@@ -235,7 +235,7 @@ module _ {state log out : List ℕ} (R : Ready state log out) where
         k .2,
         request-is b q e
             ∙ ap (λ (d : Decided). settle state log out (denying q d)) (k .3)
-            ∙ ap (λ (n : ℕ). after (answerOf noRefusal n) state log (written out 0 (resultBytes (resultOfRecord r)))) (result-length r),
+            ∙ ap (λ (n : ℕ). after (answerOf noRefusal n) state log (written out 0 (resultBytes (resultOfRecord true r)))) (result-length r),
       )
 
   -- ---- an answer without number or packet
@@ -251,7 +251,7 @@ module _ {state log out : List ℕ} (R : Ready state log out) where
   denied q n e = absurd (not-made n _ (lit≤ tt) e)
 
   by-id : (q : Request) (o : Option Completion) → IsAppended q (onId today st free q o)
-  unfolding onId onNew onHeld settle denying resultBytes
+  unfolding onId onNew onHeld settle denying resultBytes resultOfRecord timeBytes timedBy
   by-id q none = unless (IsAppended q) _ (denied q) (λ e. (executed (executedFor today st q), refl))
   by-id q (some r) = unless (IsAppended q) _ (denied q) (λ e. absurd (not-made 0 _ (lit≤ tt) e))
 
@@ -281,10 +281,11 @@ module _ {state log out : List ℕ} (R : Ready state log out) where
     executed-admits = requested today st free q (executed x) executed-decided .first
 
     pub executed-terms : (st .heard < q .lease) × (executedSize ≤ free)
+    unfolding executedSizeOf
     executed-terms = request-terms today st free q (executed x) executed-decided
 
     pub executed-result : requestOf today state log b out ≡ after (answerOf noRefusal 0) (stored state new) (written log (st .size) (recordBytes (executed x))) out
-    unfolding settle denying applyRecord recordSize
+    unfolding settle denying applyRecord recordSize executedSizeOf executedFor
     executed-result = request-is b q (A .parsed) ∙ ap (λ (d : Decided). settle state log out (denying q d)) executed-decided
 
     good : GoodRequest q
@@ -295,7 +296,7 @@ module _ {state log out : List ℕ} (R : Ready state log out) where
     executed-space = omega (arith, executed-terms .1, R .recorded)
 
     pub executed-sound : Sound new
-    unfolding applyRecord recordSize
+    unfolding applyRecord recordSize executedSizeOf executedFor
     executed-sound =
         decided-sound st free (executed x) ready-sound (byRequest today q good executed-decided) (omega (arith, executed-space, R .counted))
 

@@ -1,9 +1,11 @@
--- The schedules of Moved and Forgetting, run.
---     trace-is, crash-trace-is, store-trace-is     what is seen of them
+-- The schedules of Moved, Forgetting and Timed, run.
+--     trace-is, crash-trace-is, store-trace-is, timed-trace-is     what is seen of them
 --     kept-recovers                what the crash keeps is recovered
 --     stored-recovers, head-alone     what is stored, with the tail's head, is recovered; the head alone gives the founding state
+--     heard-then                   what server 0 has heard of when it executes the second step of Timed
 -- Assumes nothing.
 use mathlib.Core.Path.{_≡_, refl}
+use mathlib.Core.Bool.{true}
 use mathlib.Core.Option.{some}
 use Rattle.model.specs.Plan.{planOf}
 use Rattle.model.specs.Apply.{founded}
@@ -13,12 +15,13 @@ use Rattle.model.specs.Logs.{headBytes}
 use Rattle.model.specs.States.{endsInOrder}
 use Rattle.model.specs.Checkpoints as Checkpoints
 use Rattle.model.specs.Checkpoints.{rebased, checkpointBytes, recoveredTail}
-use Rattle.claim.specs.World.{emptyWorld, storedOf, checkpoints, stores}
+use Rattle.claim.specs.World.{emptyWorld, storedOf, checkpoints, stores, after}
 use Rattle.claim.specs.Provisos.{reachOf}
 use Rattle.model_laws.specs.Opened.{Opens}
 use Rattle.claim.proofs.Opened.{openWorld}
 use Rattle.proof_sanity.specs.Trace.{bytesOk, countedOk, typedOk, sameBytes, isNothing, keptIs, beginsOk, notStarted, startsNew, keepsOk, operationDone, done, callWith, seenWith, standsAt, endSeen, traceFrom, keepsMany}
 use Rattle.proof_sanity.specs.Moved.{takenState, schedule, rowsSeen, traceSeen}
+use Rattle.proof_sanity.specs.Timed.{timed, timedRows, timedSeen, heardBy}
 use Rattle.proof_sanity.specs.Forgetting.{setState, setAndCrash, keptWhole, setAndCrashSeen, setAndStore, setAndStoreSeen}
 
 -- checkpoint and tail
@@ -27,8 +30,8 @@ unfolding endsInOrder Checkpoints.placedPoint Checkpoints.placedRecord Checkpoin
 openRebased = tt
 
 unfoldable openLayout : Opens
-unfolding Checkpoints.pairsBytes Checkpoints.pointFront Checkpoints.recordFront Checkpoints.checkpointBytes Checkpoints.recordWidth Checkpoints.clientsOf Checkpoints.recordsOf
-    Checkpoints.pointWhole Checkpoints.recordWhole Checkpoints.fronts Checkpoints.restoredBytes Checkpoints.restored
+unfolding Checkpoints.checkpointMagicOf Checkpoints.checkpointRecordOf Checkpoints.pairsBytes Checkpoints.pointFront Checkpoints.recordFront Checkpoints.checkpointBytes
+    Checkpoints.recordWidth Checkpoints.clientsOf Checkpoints.recordsOf Checkpoints.pointWhole Checkpoints.recordWhole Checkpoints.fronts Checkpoints.restoredBytes Checkpoints.restored
 openLayout = tt
 
 unfoldable openCheckpoints : Opens
@@ -58,10 +61,18 @@ pub kept-recovers : recoveredState (planOf simulatorPlan) keptWhole ≡ some set
 unfolding openTrace setState
 kept-recovers = refl
 
-pub stored-recovers : recoveredTail (checkpointBytes setState) (headBytes 0) ≡ some (rebased setState)
+pub stored-recovers : recoveredTail (checkpointBytes true setState) (headBytes 0) ≡ some (rebased setState)
 unfolding openTrace setState
 stored-recovers = refl
 
 pub head-alone : recoveredState (planOf simulatorPlan) (headBytes 0) ≡ some (founded (planOf simulatorPlan) 0)
 unfolding openTrace
 head-alone = refl
+
+pub timed-trace-is : traceFrom simulatorPlan 5 emptyWorld timed ≡ timedSeen
+unfolding openTrace timed timedRows timedSeen
+timed-trace-is = refl
+
+pub heard-then : heardBy (after timed 15 .servers 0) ≡ 20
+unfolding openTrace timed heardBy
+heard-then = refl

@@ -27,7 +27,7 @@ use Rattle.model.specs.States.{State, pointAt}
 use Rattle.model.specs.Apply.{foundedPoint, founded}
 use Rattle.model.specs.Versions.{Version, today}
 use Rattle.model.specs.Sequential.{one, resultMeant, OrderEntry, single, parts, valuesWith, markedBy, Marked, ReadingZ, Values, readingMeant, opened, valuesAfter, entered, answerZ, afterZ, ruleZ, setZ, inRangeZ, entryZ}
-use Rattle.model.specs.Checkpoints.{rebased, checkpointBytes}
+use Rattle.model.specs.Checkpoints.{rebased, checkpointMagicOf, checkpointBytes, recoveredTail}
 use Rattle.model.specs.Calls.{sync}
 use Rattle.model.specs.Clients.{placeOf, callAt, receiveOf}
 use Rattle.model.specs.Simulator.{simulatorPlan}
@@ -107,11 +107,11 @@ module _ (es : List Event) (rs : List Seen) (x : Ended) (is : traceFrom simulato
   provisos h = provisos-kept simulatorPlan 5 (afterSet es) seen is h
 
   -- event 4 executes the command, and it survives
-  set-survives : every (keepsMany 0 36) rs ≡ true → SurvivesAt (afterSet es) 4 (markedBy today setting)
+  set-survives : every (keepsMany 0 40) rs ≡ true → SurvivesAt (afterSet es) 4 (markedBy today setting)
   unfolding At callSeen callWith done every keepsMany
   set-survives h =
-      survives-seen simulatorPlan (afterSet es) 5 seen is 4 0 1 8 36 today lentAll settingAsked refl parsed (call-at simulatorPlan 5 (afterSet es) seen is 4 (asks 0 1) _ refl refl)
-      (ap (λ (y : Call). y .size) (call-at simulatorPlan 5 (afterSet es) seen is 5 (call 0 (sync 36) lentAll) _ refl refl)) h
+      survives-seen simulatorPlan (afterSet es) 5 seen is 4 0 1 8 40 today lentAll settingAsked refl parsed (call-at simulatorPlan 5 (afterSet es) seen is 4 (asks 0 1) _ refl refl)
+      (ap (λ (y : Call). y .size) (call-at simulatorPlan 5 (afterSet es) seen is 5 (call 0 (sync 40) lentAll) _ refl refl)) h
 
   -- and no other is executed
   only-setting : every (asksOnly (requestBytes settingAsked)) rs ≡ true → (n c : ℕ) (k : Marked) → Executes (afterSet es) n c k → k .command ≡ setting
@@ -124,7 +124,7 @@ module _ (es : List Event) (rs : List Seen) (x : Ended) (is : traceFrom simulato
 
   -- the server counts with the founding state, and there is no other
   module _ (given : Server → Option State) (none-given : given nothing ≡ none) (first : given (run (afterSet es) .servers 0) ≡ some (founded (planOf simulatorPlan) 0))
-      (kept : every (keepsMany 0 36) rs ≡ true) (only : every (asksOnly (requestBytes settingAsked)) rs ≡ true) (home : every (below 1) es ≡ true) where
+      (kept : every (keepsMany 0 40) rs ≡ true) (only : every (asksOnly (requestBytes settingAsked)) rs ≡ true) (home : every (below 1) es ≡ true) where
     abbrev told : Account
     told = counting simulatorPlan (afterSet es) given
 
@@ -184,7 +184,7 @@ not-explained = no-order _ _ _ crash-trace-is (givenBy simulatorPlan) refl first
   where
     first : givenBy simulatorPlan (run setAndCrash .servers 0) ≡ some (founded (planOf simulatorPlan) 0)
     first =
-        let s = down-of 5 (run setAndCrash .servers 0) nothingStored keptWhole 36 (ap (λ (y : Ended). y .first) (end-at simulatorPlan 5 setAndCrash setAndCrashSeen crash-trace-is)) in
+        let s = down-of 5 (run setAndCrash .servers 0) nothingStored keptWhole 40 (ap (λ (y : Ended). y .first) (end-at simulatorPlan 5 setAndCrash setAndCrashSeen crash-trace-is)) in
         rw (s, kept-recovers)
 
 -- ---- recovery that forgets the checkpoint
@@ -210,7 +210,7 @@ store-down = down-of 5 (run setAndStore .servers 0) setStored (headBytes 0) 8 (a
 
 -- the true server recovers what it had
 pub store-recovers : finalState simulatorPlan setAndStore 0 ≡ some (rebased setState)
-unfolding finalState stateGiven recoveredBy checkpointBytes
+unfolding finalState stateGiven recoveredBy checkpointBytes checkpointMagicOf recoveredTail
 store-recovers = rw store-down stored-recovers
 
 pub checkpoint-not-explained : (order : List OrderEntry) → ExplainedBy simulatorPlan (counting simulatorPlan setAndStore (tailOnly simulatorPlan)) order → ⊥

@@ -4,3 +4,4 @@ pub mod NotVacuous
 pub mod Traced
 pub mod Computed
 pub mod Forgetting
+pub mod Timed

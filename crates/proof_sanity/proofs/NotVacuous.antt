@@ -88,34 +88,34 @@ survives = survives-by today
 set-survives : SurvivesAt schedule 7 (markedBy today setting)
 unfolding At schedule rowsSeen callSeen callWith done every keepsMany
 set-survives =
-    survives 7 0 2 8 36 settingAsked refl (parsed .0) (row 7 (asks 0 2) _ refl refl) (ap (λ (x : Call). x .size) (row 8 (call 0 (sync 36) lentAll) _ refl refl)) refl
+    survives 7 0 2 8 40 settingAsked refl (parsed .0) (row 7 (asks 0 2) _ refl refl) (ap (λ (x : Call). x .size) (row 8 (call 0 (sync 40) lentAll) _ refl refl)) refl
 
 step-survives : SurvivesAt schedule 15 (markedBy today stepping)
 unfolding At schedule rowsSeen callSeen callWith done every keepsMany
 step-survives =
-    survives 15 0 4 36 64 (stepAsked 1) refl (parsed .1) (row 15 (asks 0 4) _ refl refl) (ap (λ (x : Call). x .size) (row 16 (call 0 (give 5 1) lentAll) _ refl refl)) refl
+    survives 15 0 4 40 72 (stepAsked 1) refl (parsed .1) (row 15 (asks 0 4) _ refl refl) (ap (λ (x : Call). x .size) (row 16 (call 0 (give 5 1) lentAll) _ refl refl)) refl
 
 -- the crash that follows keeps 8 bytes, and the checkpoint
 before-survives : SurvivesAt schedule 30 (markedBy today (stepCommand 2))
 unfolding At schedule rowsSeen callSeen callWith done every keepsMany
 before-survives =
-    survives 30 1 10 132 160 (stepAsked 2) refl (parsed .2) (row 30 (asks 1 10) _ refl refl) (ap (λ (x : Call). x .size) (row 31 (call 1 (sync 160) lentAll) _ refl refl)) refl
+    survives 30 1 10 140 172 (stepAsked 2) refl (parsed .2) (row 30 (asks 1 10) _ refl refl) (ap (λ (x : Call). x .size) (row 31 (call 1 (sync 172) lentAll) _ refl refl)) refl
 
 tail-survives : SurvivesAt schedule 39 (markedBy today (stepCommand 3))
 unfolding At schedule rowsSeen callSeen callWith done every keepsMany
 tail-survives =
-    survives 39 1 12 160 188 (stepAsked 3) refl (parsed .3) (row 39 (asks 1 12) _ refl refl) (ap (λ (x : Call). x .size) (row 40 (call 1 (sync 36) lentAll) _ refl refl)) refl
+    survives 39 1 12 172 204 (stepAsked 3) refl (parsed .3) (row 39 (asks 1 12) _ refl refl) (ap (λ (x : Call). x .size) (row 40 (call 1 (sync 40) lentAll) _ refl refl)) refl
 
 stayed-survives : SurvivesAt schedule 47 (markedBy before (farCommand 4))
 unfolding At schedule rowsSeen callSeen callWith done every keepsMany
 stayed-survives =
-    survives-by before 47 1 14 188 216 (farAsked 4) refl (parsed .4) (row 47 (asksOf before 1 14) _ refl refl)
-    (ap (λ (x : Call). x .size) (row 48 (call 1 (sync 64) lentAll) _ refl refl)) refl
+    survives-by before 47 1 14 204 232 (farAsked 4) refl (parsed .4) (row 47 (asksOf before 1 14) _ refl refl)
+    (ap (λ (x : Call). x .size) (row 48 (call 1 (sync 68) lentAll) _ refl refl)) refl
 
 stopped-survives : SurvivesAt schedule 52 (markedBy today (farCommand 5))
 unfolding At schedule rowsSeen callSeen callWith done every keepsMany
 stopped-survives =
-    survives 52 1 16 216 244 (farAsked 5) refl (parsed .5) (row 52 (asks 1 16) _ refl refl) (ap (λ (x : Call). x .size) (row 53 (call 1 (sync 92) lentAll) _ refl refl)) refl
+    survives 52 1 16 232 264 (farAsked 5) refl (parsed .5) (row 52 (asks 1 16) _ refl refl) (ap (λ (x : Call). x .size) (row 53 (call 1 (sync 100) lentAll) _ refl refl)) refl
 
 -- event 13 keeps 50 bytes, counted from the founding
 first-cut : Crashes schedule 13 0 50
@@ -127,7 +127,7 @@ first-cut =
 -- its first execution is cut off by the crash
 step-cut : Executes schedule 12 0 (markedBy today stepping) × (SurvivesAt schedule 12 (markedBy today stepping) → ⊥)
 unfolding At schedule rowsSeen callSeen callWith done
-step-cut = (executes-seen simulatorPlan schedule 12 0 4 36 today lentAll (stepAsked 1) refl (parsed .1) (row 12 (asks 0 4) _ refl refl), cut)
+step-cut = (executes-seen simulatorPlan schedule 12 0 4 40 today lentAll (stepAsked 1) refl (parsed .1) (row 12 (asks 0 4) _ refl refl), cut)
   where
     cut : SurvivesAt schedule 12 (markedBy today stepping) → ⊥
     cut s =
@@ -135,7 +135,7 @@ step-cut = (executes-seen simulatorPlan schedule 12 0 4 36 today lentAll (stepAs
         let z : s .server ≡ 0 = cc in
         let cut-here : Crashes schedule 13 (s .server) 50 = rw z first-cut in
         let k : reachOf (after schedule 13 .servers 0) ≤ 50 = subst (λ (d : ℕ). reachOf (after schedule 13 .servers d) ≤ 50) z (s .kept 13 50 (lit< tt) cut-here) in
-        let n : reachOf (after schedule 13 .servers 0) ≡ 64 = ap (λ (x : Call). x .size) (row 13 (crash 0 50) _ refl refl) in
+        let n : reachOf (after schedule 13 .servers 0) ≡ 72 = ap (λ (x : Call). x .size) (row 13 (crash 0 50) _ refl refl) in
         omega (arith, k, n)
 
 -- server 1 refuses the late repeat of the first with 4

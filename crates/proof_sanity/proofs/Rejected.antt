@@ -39,10 +39,10 @@ use Rattle.model.specs.Plan.{planOk, planOf, entryAt, inRange}
 use Rattle.model.specs.Rules.{ruleOf, setRule}
 use Rattle.model.specs.Packets.{parsePacket, asRequest, resultBytes}
 use Rattle.model.specs.Images.{floorOf, notKnown}
-use Rattle.model.specs.Logs.{Entry, executed, recordSize, headBytes, headServer, recordBytes, entriesBytes}
+use Rattle.model.specs.Logs.{Entry, executed, executedSizeOf, recordSize, headBytes, headServer, recordBytes, entriesBytes}
 use Rattle.model.specs.States.{State, load, pointAt}
 use Rattle.model.specs.Apply.{completion, executedPoint, applyExecuted, founded, withMark, apply, replayFrom}
-use Rattle.model.specs.Decisions.{Decided, orMalformed, find, sameCommand, resultOfRecord, onHeld, resultFor, executedFor, onNew, onId, decideRequest, denying, onRequest}
+use Rattle.model.specs.Decisions.{Decided, timedBy, timeFor, withTime, orMalformed, find, sameCommand, resultOfRecord, onHeld, resultFor, executedFor, onNew, onId, decideRequest, denying, onRequest}
 use Rattle.model.specs.Operations.{After, answerOf, after, short, unfit, freeIn, stored, settle, leftUnless, foundRefusal, foundOf, requestOf, syncOf, recoverRefusal, recoverOf, settleRecovered, recoveredState}
 use Rattle.model.specs.Checkpoints.{placedRecord, placed, endBefore, rebased, checkpointBytes, checkpointState, AfterCheckpoint, checkpointRefusal, checkpointOf, recoveredTail, recoverTailRefusal, recoverTailOf}
 use Rattle.model_laws.specs.Bytes.{Bytes}
@@ -59,7 +59,7 @@ use Rattle.model_invariants.specs.History.{GoodPlan, Start}
 use Rattle.model.specs.Calls.{request, operated}
 use Rattle.model_invariants.specs.Calls.{Holds, decidedOn, entriesAfter}
 use Rattle.model_invariants.proofs.Floors.{eqb-same}
-use Rattle.model_invariants.proofs.Tests.{split}
+use Rattle.model_invariants.proofs.Tests.{split, times-fit}
 use Rattle.model_invariants.proofs.Steps.{sound-mark}
 use Rattle.model_invariants.proofs.Decided.{find-has, fresh-find, founded-executes, request-other, held-other, new-other}
 use Rattle.model_invariants.proofs.Kept.{founded-start, founded-sound, apply-mark}
@@ -87,7 +87,7 @@ pub served-after-sync : {state log out : List ℕ} → Ready state log out → (
     → find (q .command .client) (q .command .call) (load state .records) ≡ some r → sameCommand r q ≡ true → Admits (load state) q
     → (syncOf state log (load state .size) .answer ≡ answerOf Refusals.noRefusal 0)
     × (requestOf today (syncOf state log (load state .size) .state) (syncOf state log (load state .size) .log) b out
-    ≡ after (answerOf Refusals.noRefusal resultSize) (syncOf state log (load state .size) .state) log (written out 0 (resultBytes (resultOfRecord r))))
+    ≡ after (answerOf Refusals.noRefusal resultSize) (syncOf state log (load state .size) .state) log (written out 0 (resultBytes (resultOfRecord true r))))
 unfolding withMark pointAt
 served-after-sync {state} {log} {out} R b q A r f same a =
     let st = load state in
@@ -106,7 +106,7 @@ served-after-sync {state} {log} {out} R b q A r f same a =
 
 pub not-unchanging : {state log out : List ℕ} → Ready state log out → (b : List ℕ) (q : Request) → Asks b q → requestOf today state log b out .answer ≡ answerOf Refusals.noRefusal 0
     → Changed state log q (requestOf today state log b out)
-unfolding applyExecuted executedPoint executedFor recordSize
+unfolding applyExecuted executedPoint executedFor withTime recordSize executedSizeOf
 not-unchanging {state} {log} {out} R b q A z =
     let st = load state in
     let x = executedFor today st q in
@@ -166,8 +166,8 @@ own-results-differ R R′ b b′ q q′ A A′ z z′ other e =
     let o′ = own-result R′ b′ q′ A′ z′ in
     let r : Completion = o .0 in
     let r′ : Completion = o′ .0 in
-    let k : Resulted (resultOfRecord r) ≡ Resulted (resultOfRecord r′) = sym (o .1 .packet) ∙ ap parsePacket e ∙ o′ .1 .packet in
-    let p : resultOfRecord r ≡ resultOfRecord r′ = cc in
+    let k : Resulted (resultOfRecord true r) ≡ Resulted (resultOfRecord true r′) = sym (o .1 .packet) ∙ ap parsePacket e ∙ o′ .1 .packet in
+    let p : resultOfRecord true r ≡ resultOfRecord true r′ = cc in
     other (sym (o .1 .client) ∙ ap (λ (x : ResultPacket). x .client) p ∙ o′ .1 .client) (sym (o .1 .call) ∙ ap (λ (x : ResultPacket). x .call) p ∙ o′ .1 .call)
 
 -- ---- a server that answers 8 or 9 although there is place and space
@@ -198,11 +198,11 @@ module _ (state log out b : List ℕ) (n : ℕ) (low : 8 ≤ n) (high : n ≤ 9)
     by m d h g = choose Denied (isPassed m) (λ k. g) (λ k. denies m (eqb-false m n h))
 
     by-id : (o : Option Completion) → Denied (onId today st free q o)
-    unfolding onId onNew onHeld settle denying
+    unfolding onId onNew onHeld settle denying timedBy executedSizeOf
     by-id none =
         let c = q .command in
-        by _ (append (executed (executedFor today st q))) (new-other (floorOf (c .client) (st .floors)) (length (st .floors)) free n low high (eight q e) nine) (λ k. omega arith)
-    by-id (some r) = by _ (reply (resultBytes (resultOfRecord r))) (held-other (st .mark) q r n low high) (λ k. omega arith)
+        by _ (append (executed (executedFor today st q))) (new-other (floorOf (c .client) (st .floors)) (length (st .floors)) free (executedSizeOf true) n low high (eight q e) nine) (λ k. omega arith)
+    by-id (some r) = by _ (reply (resultBytes (resultOfRecord true r))) (held-other (st .mark) q r n low high) (λ k. omega arith)
 
     by-tests : Denied (decideRequest today st free q)
     unfolding decideRequest
@@ -225,7 +225,7 @@ module _ (state log out b : List ℕ) (n : ℕ) (low : 8 ≤ n) (high : n ≤ 9)
   other-number : requestOf today state log b out .answer .refusal ≢ n
   unfolding requestOf settle
   other-number =
-      lent-elim Other state log out resultSize (onRequest today st free (parsePacket b)) (λ k. omega arith) (λ k. omega arith)
+      lent-elim Other state log out _ (onRequest today st free (parsePacket b)) (λ k. omega arith) (λ k. omega arith)
       (λ l s f. by-packet (parsePacket b) refl)
 
 places : (state log b out : List ℕ) (q : Request) → parsePacket b ≡ Requested q
@@ -257,7 +257,7 @@ places-and-space state log b out q e = (places state log b out q e, space state 
 
 -- a request that was executed, a sync to the log's length, and the same request: its answer is its own execution's result
 pub served-own : {state log out : List ℕ} → Ready state log out → (b : List ℕ) (q : Request) → Asks b q → requestOf today state log b out .answer ≡ answerOf Refusals.noRefusal 0
-    → Served b q (resultFor today (load state) q) out (requestOf today state log b out .state) (requestOf today state log b out .log)
+    → Served b q (executedFor today (load state) q .result) out (requestOf today state log b out .state) (requestOf today state log b out .log)
 unfolding sameCommand completion executedFor executedPoint resultOfRecord applyExecuted answeredWith
 served-own {state} {log} {out} R b q A z =
     let st = load state in
@@ -285,14 +285,15 @@ same-packet : (p p′ : ResultPacket) → Resulted p ≡ Resulted p′ → p ≡
 same-packet p p′ e = cc
 
 set-rule : (st : State) (q : Request) → q .command .op ≡ setOp → inRange (entryAt (st .plan) (q .command .point)) (q .command .argument) ≡ true
-    → resultFor today st q ≡ record { outcome = carriedOut; value = q .command .argument; quality = valid }
-unfolding resultFor ruleOf setRule
+    → executedFor today st q .result ≡ record { outcome = carriedOut; value = q .command .argument; quality = valid; time = st .heard }
+unfolding executedFor timeFor withTime resultFor ruleOf setRule
 set-rule st q o i = rw (o, i)
 
--- a set of a value in range is answered with outcome 0, that value and quality 0
+-- a set of a value in range is answered with outcome 0, that value, quality 0 and the heard time of its execution
 pub set-result : {state log out : List ℕ} → Ready state log out → (b : List ℕ) (q : Request) → Asks b q → requestOf today state log b out .answer ≡ answerOf Refusals.noRefusal 0
     → q .command .op ≡ setOp → inRange (entryAt (load state .plan) (q .command .point)) (q .command .argument) ≡ true
-    → Served b q (record { outcome = carriedOut; value = q .command .argument; quality = valid }) out (requestOf today state log b out .state) (requestOf today state log b out .log)
+    → Served b q (record { outcome = carriedOut; value = q .command .argument; quality = valid; time = load state .heard }) out (requestOf today state log b out .state)
+    (requestOf today state log b out .log)
 set-result {state} {log} {out} R b q A z o i =
     subst (λ (y : CommandResult). Served b q y out (requestOf today state log b out .state) (requestOf today state log b out .log)) (set-rule (load state) q o i) (served-own R b q A z)
 
@@ -420,12 +421,12 @@ front s b l = rw (written-front s b l) (take-append-seam b (drop (length b) s))
 
 module _ (st : State) (S : Sound st) where
   -- a checkpoint and the tail's head give what the checkpoint keeps
-  resumes : recoveredTail (checkpointBytes st) (headBytes (st .server)) ≡ some (rebased st)
-  unfolding recoveredTail headBytes headServer rebased placed entriesBytes replayFrom
+  resumes : recoveredTail (checkpointBytes true st) (headBytes (st .server)) ≡ some (rebased st)
+  unfolding recoveredTail headBytes headServer rebased placed entriesBytes replayFrom timedBy
   resumes =
       let n = st .server in
-      let back : checkpointState (checkpointBytes st) ≡ some (rebased st) = rw append-nil at (checkpoint-back st S []) in
-      let start : Start (rebased st) = record { sound = rebased-sound64 st S; empty = checkpoint-size (checkpointBytes st) (rebased st) back } in
+      let back : checkpointState (checkpointBytes true st) ≡ some (rebased st) = rw append-nil at (checkpoint-back true st S (times-fit today st S) []) in
+      let start : Start (rebased st) = record { sound = rebased-sound64 st S; empty = checkpoint-size (checkpointBytes true st) (rebased st) back } in
       rw (back, eqb-same n) (recovered-on (headBytes n) (rebased st) (head-back n [] (S .server)) ∙ log-recovers start n [] [] History.none tt)
 
 -- a checkpoint of whatever synced state, and recovery from its bytes and the tail's head
@@ -437,15 +438,15 @@ module _ {state log out : List ℕ} (R : Ready state log out) (all : load state 
   abbrev made : AfterCheckpoint
   made =
       record {
-        answer = answerOf Refusals.noRefusal (length (checkpointBytes was));
+        answer = answerOf Refusals.noRefusal (length (checkpointBytes true was));
         state = stored state (rebased was);
         log = log;
-        checkpoint = written checkpoint 0 (checkpointBytes was);
+        checkpoint = written checkpoint 0 (checkpointBytes true was);
         tail = written tail 0 (headBytes (was .server));
       }
 
-  checkpoint-is : checkpointOf state log checkpoint tail ≡ made
-  unfolding checkpointOf checkpointRefusal short unfit
+  checkpoint-is : checkpointOf today state log checkpoint tail ≡ made
+  unfolding checkpointOf checkpointRefusal short unfit timedBy
   checkpoint-is =
       rw (
         le-ltb (length state) stateSize (R .long),
@@ -463,8 +464,8 @@ module _ {state log out : List ℕ} (R : Ready state log out) (all : load state 
   unfolding headBytes recoverTailOf recoverTailRefusal leftUnless settleRecovered rebased placed withMark
   recovery-is =
       let S = ready-sound R in
-      let k : take (length (checkpointBytes was)) (written checkpoint 0 (checkpointBytes was)) ≡ checkpointBytes was
-      = front checkpoint (checkpointBytes was) (omega (arith, checkpoint-fits was S, l)) in
+      let k : take (length (checkpointBytes true was)) (written checkpoint 0 (checkpointBytes true was)) ≡ checkpointBytes true was
+      = front checkpoint (checkpointBytes true was) (omega (arith, checkpoint-fits true was S, l)) in
       let t : take headSize (written tail 0 (headBytes (was .server))) ≡ headBytes (was .server) = front tail (headBytes (was .server)) h in
       let m : withMark (rebased was .size) (rebased was) ≡ rebased was = ap (λ (y : ℕ). withMark (endBefore y) (rebased was)) (sym all) in
       rw (k, t, le-ltb (length fresh) stateSize f, resumes was S, m)
@@ -475,9 +476,9 @@ module _ {state log out : List ℕ} (R : Ready state log out) (all : load state 
   loads-again : load (again .state) ≡ rebased was
   loads-again = ap (λ (y : After). load (y .state)) recovery-is ∙ stored-load fresh (rebased was) (rebased-sound64 was (ready-sound R)) (omega (arith, f))
 
-  pub resumed : Resumed state (checkpointOf state log checkpoint tail)
-      (recoverTailOf fresh (take (checkpointOf state log checkpoint tail .answer .wrote) (checkpointOf state log checkpoint tail .checkpoint))
-      (take headSize (checkpointOf state log checkpoint tail .tail)))
+  pub resumed : Resumed state (checkpointOf today state log checkpoint tail)
+      (recoverTailOf fresh (take (checkpointOf today state log checkpoint tail .answer .wrote) (checkpointOf today state log checkpoint tail .checkpoint))
+      (take headSize (checkpointOf today state log checkpoint tail .tail)))
   unfolding rebased placed
   resumed =
       rw checkpoint-is
@@ -495,8 +496,8 @@ module _ {state log out : List ℕ} (R : Ready state log out) (all : load state 
 -- not refused, and the last one gives the result
 pub not-refuses-all : (state log plan b out : List ℕ) (n : ℕ) (q : Request) → Bytes state → stateSize ≤ length state → Bytes plan → planOk plan ≡ true → n ≤ lastServer
     → headSize + executedSize ≤ length log → length log < word * word → resultSize ≤ length out → Asks b q → FirstRequest (planOf plan) n q
-    → Begins (foundOf state log plan n) b out q (resultFor today (founded (planOf plan) n) q)
-unfolding foundOf foundRefusal leftUnless settle denying founded pointAt entryAt freeIn floorOf
+    → Begins (foundOf state log plan n) b out q (executedFor today (founded (planOf plan) n) q .result)
+unfolding foundOf foundRefusal leftUnless settle denying founded pointAt entryAt freeIn floorOf executedSizeOf
 not-refuses-all state log plan b out n q sb sl pb ok hn gl gz o A F =
     let fd = founded (planOf plan) n in
     let G = plan-good plan pb ok in
@@ -518,6 +519,6 @@ not-refuses-all state log plan b out n q sb sl pb ok hn gl gz o A F =
       found = refl;
       executed = z;
       served =
-          subst (λ (y : State). Served b q (resultFor today y q) out (requestOf today (stored state fd) log₁ b out .state) (requestOf today (stored state fd) log₁ b out .log)) ld
+          subst (λ (y : State). Served b q (executedFor today y q .result) out (requestOf today (stored state fd) log₁ b out .state) (requestOf today (stored state fd) log₁ b out .log)) ld
           (served-own R b q A z);
     })

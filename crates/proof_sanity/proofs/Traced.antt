@@ -86,7 +86,7 @@ typed-ok (found c state log plan n) h = both (bytesOk state) (bytesOk plan) (byt
 typed-ok (call c o l) h = counted-ok l h
 typed-ok (inquire c i l) h = counted-ok l h
 typed-ok (recover c state log plan) h = bytes-ok state h
-typed-ok (checkpoint c tail l) h = counted-ok l h
+typed-ok (checkpoint c v tail l) h = counted-ok l h
 typed-ok (store c) h = tt
 typed-ok (recover·tail c state k tail) h = bytes-ok state h
 typed-ok (crash c k) h = tt
@@ -179,7 +179,7 @@ done-world w (found c state log p n) = refl
 done-world w (call c o l) = operation-world c l (w .servers c) (handed (packet w) o) w refl
 done-world w (inquire c i l) = refl
 done-world w (recover c state log p) = refl
-done-world w (checkpoint c tail l) = refl
+done-world w (checkpoint c v tail l) = refl
 done-world w (store c) = refl
 done-world w (recover·tail c state k tail) = refl
 done-world w (crash c k) = refl
@@ -354,13 +354,13 @@ module _ (d : ℕ) where
   crash-other c n (storing k log next state tail) w h = with-other c d _ w h
   crash-other c n (crashed k kept mark) w h = with-other c d _ w h
 
-  checkpoint-other : (c : ℕ) (t : List ℕ) (l : Lent) (s : Server) (w : World) → eqb d c ≡ false → checkpoints c t l s w .servers d ≡ w .servers d
+  checkpoint-other : (c : ℕ) (v : Versions) (t : List ℕ) (l : Lent) (s : Server) (w : World) → eqb d c ≡ false → checkpoints c v t l s w .servers d ≡ w .servers d
   unfolding checkpoints
-  checkpoint-other c t l nothing w h = refl
-  checkpoint-other c t l (running k state log) w h =
-      choose (λ (x : World). x .servers d ≡ w .servers d) (eqb (checkpointOf (lentState l state) (lentLog l log) (l .out) t .answer .refusal) noRefusal) (λ z. with-other c d _ w h) (λ z. refl)
-  checkpoint-other c t l (storing k log next state tail) w h = refl
-  checkpoint-other c t l (crashed k kept mark) w h = refl
+  checkpoint-other c v t l nothing w h = refl
+  checkpoint-other c v t l (running k state log) w h =
+      choose (λ (x : World). x .servers d ≡ w .servers d) (eqb (checkpointOf v (lentState l state) (lentLog l log) (l .out) t .answer .refusal) noRefusal) (λ z. with-other c d _ w h) (λ z. refl)
+  checkpoint-other c v t l (storing k log next state tail) w h = refl
+  checkpoint-other c v t l (crashed k kept mark) w h = refl
 
   store-other : (c : ℕ) (s : Server) (w : World) → eqb d c ≡ false → stores c s w .servers d ≡ w .servers d
   unfolding stores
@@ -379,7 +379,7 @@ module _ (d : ℕ) where
     step-other w (call c o t) h = on-other c t (handed (packet w) o) w (other c h)
     step-other w (inquire c i t) h = calls-other c t _ (w .servers c) w (other c h)
     step-other w (recover c state log p) h = found-other c _ _ w (other c h)
-    step-other w (checkpoint c t l) h = checkpoint-other c t l (w .servers c) w (other c h)
+    step-other w (checkpoint c v t l) h = checkpoint-other c v t l (w .servers c) w (other c h)
     step-other w (store c) h = store-other c (w .servers c) w (other c h)
     step-other w (recover·tail c state n t) h = found-other c _ _ w (other c h)
     step-other w (crash c b) h = crash-other c b (w .servers c) w (other c h)

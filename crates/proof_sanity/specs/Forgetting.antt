@@ -3,6 +3,7 @@
 -- but a crash is their last event, and the server counts with what its own recovery gives.
 -- Assumes nothing.
 use Prim.Native.Nat.{ℕ, _+_}
+use mathlib.Core.Bool.{true}
 use mathlib.Core.List.{List, [], _∷_, _++_}
 use mathlib.Core.Option.{Option, none, some}
 use lib.ListN.{replicate}
@@ -16,6 +17,7 @@ use Rattle.model.specs.Apply.{apply, founded}
 use Rattle.model.specs.Checkpoints.{checkpointBytes}
 use Rattle.model.specs.Operations.{recoveredState}
 use Rattle.model.specs.Calls.{sync}
+use Rattle.model.specs.Versions.{today}
 use Rattle.model.specs.Simulator.{simulatorPlan}
 use Rattle.claim.specs.World.{Event, found, outside, open·lease, start, issue, receive, call, checkpoint, store, crash, Stored, nothingStored, Server, nothing, running, storing, crashed, run}
 use Rattle.claim.specs.Claim.{Account, account, recoveredBy}
@@ -50,6 +52,8 @@ module _ (plan : List ℕ) (es : List Event) where
         Issues = account plan es .Issues;
         Completes = account plan es .Completes;
         SurvivesAt = account plan es .SurvivesAt;
+        Notes = account plan es .Notes;
+        Tells = account plan es .Tells;
         final = λ c. given (run es .servers c);
         Recovers = account plan es .Recovers;
       }
@@ -58,7 +62,7 @@ module _ (plan : List ℕ) (es : List Event) where
 
 abbrev pub afterSet : List Event → List Event
 afterSet es =
-    found 0 newState (replicate 8 0) simulatorPlan 0 ∷ outside (open·lease 0 10) ∷ outside (start 0) ∷ outside (issue 1 1 5 (half + 40)) ∷ asks 0 1 ∷ call 0 (sync 36) lentAll ∷ es
+    found 0 newState (replicate 8 0) simulatorPlan 0 ∷ outside (open·lease 0 10) ∷ outside (start 0) ∷ outside (issue 1 1 5 (half + 40)) ∷ asks 0 1 ∷ call 0 (sync 40) lentAll ∷ es
 
 abbrev pub rowsAfterSet : List Seen → List Seen
 rowsAfterSet rs =
@@ -67,17 +71,17 @@ rowsAfterSet rs =
     ∷ onPacket (grantBytes (record { client = 1; lease = 10 }))
     ∷ atClient (idle 1 10 1) none
     ∷ answering 8 (requestBytes settingAsked) 0 0
-    ∷ called 36 (sync 36) 0 0
+    ∷ called 40 (sync 40) 0 0
     ∷ rs
 
 -- the server's state then
 unfoldable pub setState : State
-setState = apply (founded (planOf simulatorPlan) 0) (record { item = executed settingDone; end = 36 })
+setState = apply (founded (planOf simulatorPlan) 0) (record { item = executed settingDone; end = 40 })
 
 -- ---- the server crashes
 
 unfoldable pub setAndCrash : List Event
-setAndCrash = afterSet (crash 0 36 ∷ [])
+setAndCrash = afterSet (crash 0 40 ∷ [])
 
 abbrev pub keptWhole : List ℕ
 keptWhole = headBytes 0 ++ executedBytes settingDone
@@ -85,28 +89,28 @@ keptWhole = headBytes 0 ++ executedBytes settingDone
 unfoldable pub setAndCrashSeen : Trace
 setAndCrashSeen =
     record {
-      rows = rowsAfterSet (crashing 36 0 36 ∷ []);
-      end = record { first = down nothingStored keptWhole 36; second = off };
+      rows = rowsAfterSet (crashing 40 0 40 ∷ []);
+      end = record { first = down nothingStored keptWhole 40; second = off };
     }
 
 -- ---- the client receives its result; a checkpoint is made and stored, and the server crashes with nothing of the tail but its head
 
 unfoldable pub setAndStore : List Event
-setAndStore = afterSet (asks 0 1 ∷ outside (receive 1 2) ∷ checkpoint 0 (replicate headSize 0) lentCheckpoint ∷ store 0 ∷ crash 0 8 ∷ [])
+setAndStore = afterSet (asks 0 1 ∷ outside (receive 1 2) ∷ checkpoint 0 today (replicate headSize 0) lentCheckpoint ∷ store 0 ∷ crash 0 8 ∷ [])
 
 abbrev pub setStored : Stored
-setStored = record { checkpoint = checkpointBytes setState; replaced = 28 }
+setStored = record { checkpoint = checkpointBytes true setState; replaced = 32 }
 
 unfoldable pub setAndStoreSeen : Trace
 setAndStoreSeen =
     record {
       rows =
           rowsAfterSet
-          (answering 36 (requestBytes settingAsked) 0 resultSize
+          (answering 40 (requestBytes settingAsked) 0 resultSize
           ∷ atClient setter (some (resultBytes settingAnswer))
-          ∷ atServer 36
-          ∷ atServer 36
-          ∷ crashing 36 0 36
+          ∷ atServer 40
+          ∷ atServer 40
+          ∷ crashing 40 0 40
           ∷ []);
       end = record { first = down setStored (headBytes 0) 8; second = off };
     }

@@ -2,3 +2,4 @@ pub mod Ready
 pub mod Trace
 pub mod Moved
 pub mod Forgetting
+pub mod Timed

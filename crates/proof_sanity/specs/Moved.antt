@@ -4,13 +4,14 @@
 -- repeat of client 1's request. Server 0 releases the point. Client 2 steps again. Server 1 makes a checkpoint, which is stored, crashes with
 -- nothing of the tail but its head, recovers from both, and answers out of the checkpoint. A third step is executed on the tail; the next
 -- checkpoint is lost by a crash before it is stored, and the server recovers from the first one and its tail; there client 2 gets its result. Then client 2
--- steps past the range's end twice: a program of the first version executes the one and changes nothing, today's executes the other and stops at the end.
+-- steps past the range's end twice: a program of the first version executes the one and changes nothing, and notes no time; today's executes the other and stops at the end.
 -- Assumes nothing.
 use Prim.Native.Nat.{ℕ, suc, _+_, _-_}
-use mathlib.Core.Bool.{true}
+use mathlib.Core.Bool.{true, false}
 use mathlib.Core.List.{List, [], _∷_, _++_}
 use mathlib.Core.Option.{Option, none, some}
 use lib.ListN.{replicate, take}
+use lib.Dec.{eqb}
 use Rattle.model.specs.declared.Client.{Client}
 use Rattle.model.specs.declared.OpenCall.{OpenCall}
 use Rattle.model.specs.declared.Command.{Command}
@@ -19,6 +20,7 @@ use Rattle.model.specs.declared.Executed.{Executed}
 use Rattle.model.specs.declared.Request.{Request}
 use Rattle.model.specs.declared.ResultPacket.{ResultPacket}
 use Rattle.model.specs.declared.Point.{Point}
+use Rattle.model.specs.Choice.{pick}
 use Rattle.model.specs.Versions.{Versions, first, today}
 use Rattle.model.specs.Numbers.{half}
 use Rattle.model.specs.Limits.{stateSize, headSize, checkpointSize, greatestImage, resultSize, receiptSize, refusalSize, noticeKind, setOp, stepOp, carriedOut, outOfRange, stopped, valid}
@@ -52,27 +54,31 @@ abbrev pub stepping : Command
 stepping = stepCommand 1
 
 abbrev pub settingResult : CommandResult
-settingResult = record { outcome = carriedOut; value = half + 40; quality = valid }
+settingResult = record { outcome = carriedOut; value = half + 40; quality = valid; time = 0 }
+
+-- the first is executed before the notice of time 20, the others after it
+abbrev pub stepTime : ℕ → ℕ
+stepTime c = pick (eqb c 1) 0 20
 
 abbrev pub stepResult : ℕ → CommandResult
-stepResult c = record { outcome = carriedOut; value = half + (40 + c); quality = valid }
+stepResult c = record { outcome = carriedOut; value = half + (40 + c); quality = valid; time = stepTime c }
 
 abbrev pub steppingResult : CommandResult
 steppingResult = stepResult 1
 
--- its steps past the range's end: by the first version the value stays, by today's it is the end
+-- its steps past the range's end: by the first version the value stays, and no time is noted; by today's it is the end
 abbrev pub farCommand : ℕ → Command
 farCommand c = record { client = 2; call = c; op = stepOp; point = 5; argument = half + 1000 }
 
 abbrev pub stayedResult : CommandResult
-stayedResult = record { outcome = outOfRange; value = half + 43; quality = valid }
+stayedResult = record { outcome = outOfRange; value = half + 43; quality = valid; time = 0 }
 
 abbrev pub stoppedResult : CommandResult
-stoppedResult = record { outcome = stopped; value = half + 1000; quality = valid }
+stoppedResult = record { outcome = stopped; value = half + 1000; quality = valid; time = 20 }
 
--- a program from before the second versions
+-- a program from before the second versions, and before times of execution
 abbrev pub before : Versions
-before = record { rule = λ op. first }
+before = record { rule = λ op. first; timed = false }
 
 -- as requests, with the lease ends 10 and 1000, and their result packets
 abbrev pub settingAsked : Request
@@ -85,20 +91,20 @@ abbrev pub farAsked : ℕ → Request
 farAsked c = record { command = farCommand c; done = c; lease = 1000 }
 
 abbrev pub settingAnswer : ResultPacket
-settingAnswer = record { client = 1; call = 1; point = 5; result = settingResult }
+settingAnswer = record { client = 1; call = 1; point = 5; result = settingResult; timed = true }
 
 abbrev pub stepAnswer : ℕ → ResultPacket
-stepAnswer c = record { client = 2; call = c; point = 5; result = stepResult c }
+stepAnswer c = record { client = 2; call = c; point = 5; result = stepResult c; timed = true }
 
 abbrev pub farAnswer : ℕ → CommandResult → ResultPacket
-farAnswer c r = record { client = 2; call = c; point = 5; result = r }
+farAnswer c r = record { client = 2; call = c; point = 5; result = r; timed = true }
 
 -- in the log
 abbrev pub settingDone : Executed
-settingDone = record { command = setting; done = 1; result = settingResult }
+settingDone = record { command = setting; done = 1; result = settingResult; timed = true }
 
 abbrev pub stepDone : ℕ → Executed
-stepDone c = record { command = stepCommand c; done = c; result = stepResult c }
+stepDone c = record { command = stepCommand c; done = c; result = stepResult c; timed = true }
 
 -- the image of point 5 on its way to server 1
 abbrev pub movedImage : Image
@@ -116,6 +122,7 @@ movedImage =
           record { client = 1; call = 1; op = setOp; argument = half + 40; result = settingResult }
           ∷ record { client = 2; call = 1; op = stepOp; argument = half + 1; result = steppingResult }
           ∷ [];
+      timed = true;
     }
 
 -- the notice of client 1's end
@@ -127,7 +134,7 @@ setterGone = record { client = 1; time = 20 }
 abbrev pub newState : List ℕ
 newState = replicate stateSize 0
 
--- the whole state buffer, a log of up to 200 bytes, an output of 16; for the longest image
+-- the whole state buffer, a log of up to 200 bytes, an output of 20; for the longest image
 abbrev pub lentAll : Lent
 lentAll = record { state = stateSize; log = 200; spare = replicate 200 0; out = replicate resultSize 0 }
 
@@ -138,7 +145,7 @@ lentImage = record { state = stateSize; log = 200; spare = replicate 200 0; out 
 abbrev pub lentCheckpoint : Lent
 lentCheckpoint = record { state = stateSize; log = 200; spare = replicate 200 0; out = replicate checkpointSize 0 }
 
--- what the crashes keep: 50 of server 0's 64 bytes, all 120 of server 1's; of its tail the head, then all 36 bytes
+-- what the crashes keep: 50 of server 0's 72 bytes, all 128 of server 1's; of its tail the head, then all 40 bytes
 abbrev pub keptFirst : List ℕ
 keptFirst = take 50 (headBytes 0 ++ (executedBytes settingDone ++ executedBytes (stepDone 1)))
 
@@ -152,14 +159,14 @@ keptTail = headBytes 1 ++ executedBytes (stepDone 3)
 unfoldable pub takenState : State
 takenState =
     replayFrom (founded (planOf simulatorPlan) 1)
-    (record { item = took movedImage; end = 120 } ∷ record { item = gone setterGone; end = 132 } ∷ record { item = executed (stepDone 2); end = 160 } ∷ [])
+    (record { item = took movedImage; end = 128 } ∷ record { item = gone setterGone; end = 140 } ∷ record { item = executed (stepDone 2); end = 172 } ∷ [])
 
 abbrev pub storedBytes : List ℕ
-storedBytes = checkpointBytes takenState
+storedBytes = checkpointBytes true takenState
 
--- it replaces the log's 152 bytes of records
+-- it replaces the log's 164 bytes of records
 abbrev pub firstStored : Stored
-firstStored = record { checkpoint = storedBytes; replaced = 152 }
+firstStored = record { checkpoint = storedBytes; replaced = 164 }
 
 -- the number of a request's packet among those made
 abbrev pub asksOf : Versions → ℕ → ℕ → Event
@@ -178,7 +185,7 @@ schedule =
     ∷ outside (start 1)
     ∷ outside (issue 1 1 5 (half + 40))
     ∷ asks 0 2
-    ∷ call 0 (sync 36) lentAll
+    ∷ call 0 (sync 40) lentAll
     ∷ asks 0 2
     ∷ outside (receive 1 3)
     ∷ outside (issue 2 2 5 (half + 1))
@@ -187,10 +194,10 @@ schedule =
     ∷ recover 0 newState keptFirst simulatorPlan
     ∷ asks 0 4
     ∷ call 0 (give 5 1) lentAll
-    ∷ call 0 (sync 72) lentAll
-    ∷ call 0 (image 5) lentImage
+    ∷ call 0 (sync 80) lentAll
+    ∷ call 0 (image today 5) lentImage
     ∷ call 1 (takeIn 5) lentAll
-    ∷ crash 1 120
+    ∷ crash 1 128
     ∷ recover 1 newState keptSecond simulatorPlan
     ∷ asks 1 4
     ∷ outside (receive 2 6)
@@ -201,8 +208,8 @@ schedule =
     ∷ call 0 (release 9) lentAll
     ∷ outside (issue 2 2 5 (half + 1))
     ∷ asks 1 10
-    ∷ call 1 (sync 160) lentAll
-    ∷ checkpoint 1 (replicate headSize 0) lentCheckpoint
+    ∷ call 1 (sync 172) lentAll
+    ∷ checkpoint 1 today (replicate headSize 0) lentCheckpoint
     ∷ store 1
     ∷ crash 1 8
     ∷ recover·tail 1 newState storedBytes (headBytes 1)
@@ -210,20 +217,20 @@ schedule =
     ∷ outside (receive 2 11)
     ∷ outside (issue 2 2 5 (half + 1))
     ∷ asks 1 12
-    ∷ call 1 (sync 36) lentAll
-    ∷ checkpoint 1 (replicate headSize 0) lentCheckpoint
-    ∷ crash 1 36
+    ∷ call 1 (sync 40) lentAll
+    ∷ checkpoint 1 today (replicate headSize 0) lentCheckpoint
+    ∷ crash 1 40
     ∷ recover·tail 1 newState (written (replicate checkpointSize 0) 0 storedBytes) keptTail
     ∷ asks 1 12
     ∷ outside (receive 2 13)
     ∷ outside (issue 2 2 5 (half + 1000))
     ∷ asksOf before 1 14
-    ∷ call 1 (sync 64) lentAll
+    ∷ call 1 (sync 68) lentAll
     ∷ asks 1 14
     ∷ outside (receive 2 15)
     ∷ outside (issue 2 2 5 (half + 1000))
     ∷ asks 1 16
-    ∷ call 1 (sync 92) lentAll
+    ∷ call 1 (sync 100) lentAll
     ∷ asks 1 16
     ∷ outside (receive 2 17)
     ∷ []
@@ -288,60 +295,60 @@ rowsSeen =
     ∷ onPacket (grantBytes (record { client = 2; lease = 1000 }))
     ∷ atClient (idle 1 10 1) none
     ∷ answering 8 (requestBytes settingAsked) 0 0
-    ∷ called 36 (sync 36) 0 0
-    ∷ answering 36 (requestBytes settingAsked) 0 resultSize
+    ∷ called 40 (sync 40) 0 0
+    ∷ answering 40 (requestBytes settingAsked) 0 resultSize
     ∷ atClient setter (some (resultBytes settingAnswer))
     ∷ atClient (idle 2 1000 1) none
-    ∷ answering 36 (requestBytes (stepAsked 1)) 0 0
-    ∷ crashing 64 0 50
+    ∷ answering 40 (requestBytes (stepAsked 1)) 0 0
+    ∷ crashing 72 0 50
     ∷ atServer 50
-    ∷ answering 36 (requestBytes (stepAsked 1)) 0 0
-    ∷ called 64 (give 5 1) 0 0
-    ∷ called 72 (sync 72) 0 0
-    ∷ called 72 (image 5) 0 104
+    ∷ answering 40 (requestBytes (stepAsked 1)) 0 0
+    ∷ called 72 (give 5 1) 0 0
+    ∷ called 80 (sync 80) 0 0
+    ∷ called 80 (image today 5) 0 112
     ∷ called 8 (takeIn (imageBytes movedImage)) 0 0
-    ∷ crashing 120 1 120
-    ∷ atServer 120
-    ∷ answering 120 (requestBytes (stepAsked 1)) 0 resultSize
+    ∷ crashing 128 1 128
+    ∷ atServer 128
+    ∷ answering 128 (requestBytes (stepAsked 1)) 0 resultSize
     ∷ atClient (stepper 1) (some (resultBytes (stepAnswer 1)))
     ∷ atManager
-    ∷ called 120 (notice (noticeBytes noticeKind setterGone)) 0 0
-    ∷ answering 132 (requestBytes settingAsked) 4 refusalSize
-    ∷ called 132 (receipt 5) 0 receiptSize
-    ∷ called 72 (release (receiptBytes (record { point = 5; server = 1; moveNumber = 1 }))) 0 0
+    ∷ called 128 (notice (noticeBytes noticeKind setterGone)) 0 0
+    ∷ answering 140 (requestBytes settingAsked) 4 refusalSize
+    ∷ called 140 (receipt 5) 0 receiptSize
+    ∷ called 80 (release (receiptBytes (record { point = 5; server = 1; moveNumber = 1 }))) 0 0
     ∷ atClient (idle 2 1000 2) none
-    ∷ answering 132 (requestBytes (stepAsked 2)) 0 0
-    ∷ called 160 (sync 160) 0 0
-    ∷ atServer 160
-    ∷ atServer 160
-    ∷ crashing 160 1 160
-    ∷ atServer 160
-    ∷ answering 160 (requestBytes (stepAsked 2)) 0 resultSize
+    ∷ answering 140 (requestBytes (stepAsked 2)) 0 0
+    ∷ called 172 (sync 172) 0 0
+    ∷ atServer 172
+    ∷ atServer 172
+    ∷ crashing 172 1 172
+    ∷ atServer 172
+    ∷ answering 172 (requestBytes (stepAsked 2)) 0 resultSize
     ∷ atClient (stepper 2) (some (resultBytes (stepAnswer 2)))
     ∷ atClient (idle 2 1000 3) none
-    ∷ answering 160 (requestBytes (stepAsked 3)) 0 0
-    ∷ called 188 (sync 36) 0 0
-    ∷ atServer 188
-    ∷ crashing 188 1 188
-    ∷ atServer 188
-    ∷ answering 188 (requestBytes (stepAsked 3)) 0 resultSize
+    ∷ answering 172 (requestBytes (stepAsked 3)) 0 0
+    ∷ called 204 (sync 40) 0 0
+    ∷ atServer 204
+    ∷ crashing 204 1 204
+    ∷ atServer 204
+    ∷ answering 204 (requestBytes (stepAsked 3)) 0 resultSize
     ∷ atClient (stepper 3) (some (resultBytes (stepAnswer 3)))
     ∷ atClient (idle 2 1000 4) none
-    ∷ called 188 (request before (requestBytes (farAsked 4))) 0 0
-    ∷ called 216 (sync 64) 0 0
-    ∷ answering 216 (requestBytes (farAsked 4)) 0 resultSize
+    ∷ called 204 (request before (requestBytes (farAsked 4))) 0 0
+    ∷ called 232 (sync 68) 0 0
+    ∷ answering 232 (requestBytes (farAsked 4)) 0 resultSize
     ∷ atClient (farStepper 4) (some (resultBytes (farAnswer 4 stayedResult)))
     ∷ atClient (idle 2 1000 5) none
-    ∷ answering 216 (requestBytes (farAsked 5)) 0 0
-    ∷ called 244 (sync 92) 0 0
-    ∷ answering 244 (requestBytes (farAsked 5)) 0 resultSize
+    ∷ answering 232 (requestBytes (farAsked 5)) 0 0
+    ∷ called 264 (sync 100) 0 0
+    ∷ answering 264 (requestBytes (farAsked 5)) 0 resultSize
     ∷ atClient (farStepper 5) (some (resultBytes (farAnswer 5 stoppedResult)))
     ∷ []
 
 -- server 0 has released the point, server 1 holds it, taken before its checkpoint; both with move number 1
 abbrev pub giverPoint : Point
 giverPoint =
-    record { status = releasedStatus; quality = valid; destination = 1; value = half + 41; moveNumber = 1; takenMove = 0; giveEnd = 72; takeEnd = 0 }
+    record { status = releasedStatus; quality = valid; destination = 1; value = half + 41; moveNumber = 1; takenMove = 0; giveEnd = 80; takeEnd = 0 }
 
 abbrev pub takerPoint : Point
 takerPoint = record { status = held; quality = valid; destination = 0; value = half + 1000; moveNumber = 1; takenMove = 1; giveEnd = 0; takeEnd = headSize }

@@ -38,7 +38,7 @@ pub record Asks (b : List ℕ) (q : Request) : Type 0 where
   pub parsed : parsePacket b ≡ Requested q
 
 -- the state and the log after the request q was executed: its id, which was not held, is held, with what the rule made of its
--- command; its point has that value and quality; the log has 28 bytes more, the executed record
+-- command; its point has that value and quality; the log has 32 bytes more, the executed record
 pub record Changed (state log : List ℕ) (q : Request) (a : After) : Type 0 where
   pub was : find (q .command .client) (q .command .call) (load state .records) ≡ none
   pub is : find (q .command .client) (q .command .call) (load (a .state) .records) ≡ some (completion (executedFor today (load state) q) (load state .size + executedSize))
@@ -50,14 +50,14 @@ pub record Changed (state log : List ℕ) (q : Request) (a : After) : Type 0 whe
 -- the answer's packet is that of the record r, which is held for the request's own id, with the request's own command
 pub record Own (state : List ℕ) (q : Request) (a : After) (r : Completion) : Type 0 where
   pub found : find (q .command .client) (q .command .call) (load state .records) ≡ some r
-  pub packet : parsePacket (take resultSize (a .out)) ≡ Resulted (resultOfRecord r)
+  pub packet : parsePacket (take resultSize (a .out)) ≡ Resulted (resultOfRecord true r)
   pub client : r .command .client ≡ q .command .client
   pub call : r .command .call ≡ q .command .call
   pub op : r .command .op ≡ q .command .op
   pub point : r .command .point ≡ q .command .point
   pub argument : r .command .argument ≡ q .command .argument
 
--- the first 16 bytes of the output once the state is synced to the log's length and the request b is called
+-- the first 20 bytes of the output once the state is synced to the log's length and the request b is called
 unfoldable pub answeredWith : List ℕ → List ℕ → List ℕ → List ℕ → List ℕ
 answeredWith b out state log =
     let s = syncOf state log (load state .size) in
@@ -68,7 +68,7 @@ pub record Served (b : List ℕ) (q : Request) (r : CommandResult) (out state lo
   pub synced : syncOf state log (load state .size) .answer ≡ answerOf noRefusal 0
   pub answer : requestOf today (syncOf state log (load state .size) .state) (syncOf state log (load state .size) .log) b out .answer ≡ answerOf noRefusal resultSize
   pub packet : parsePacket (answeredWith b out state log)
-      ≡ Resulted (record { client = q .command .client; call = q .command .call; point = q .command .point; result = r })
+      ≡ Resulted (record { client = q .command .client; call = q .command .call; point = q .command .point; result = r; timed = true })
 
 -- a recovery that is not refused holds what the request q executed: its completion record, its point's value and quality, all synced
 pub record Regained (state : List ℕ) (q : Request) (a : After) : Type 0 where
@@ -81,7 +81,7 @@ pub record Regained (state : List ℕ) (q : Request) (a : After) : Type 0 where
 -- a checkpoint of the state, and the recovery r from what it wrote: neither is refused, and recovery gives the state that the checkpoint left. Every
 -- completion record and every point is there, its places before the tail
 pub record Resumed (state : List ℕ) (a : AfterCheckpoint) (r : After) : Type 0 where
-  pub made : a .answer ≡ answerOf noRefusal (length (checkpointBytes (load state)))
+  pub made : a .answer ≡ answerOf noRefusal (length (checkpointBytes true (load state)))
   pub answer : r .answer ≡ answerOf noRefusal 0
   pub same : load (r .state) ≡ load (a .state)
   pub holds : (x c : ℕ) (k : Completion) → find x c (load state .records) ≡ some k → find x c (load (r .state) .records) ≡ some (placedRecord endBefore k)

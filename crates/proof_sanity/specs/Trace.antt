@@ -34,7 +34,7 @@ typedOk (found c state log plan n) = bytesOk state && bytesOk plan
 typedOk (call c o l) = countedOk l
 typedOk (inquire c i l) = countedOk l
 typedOk (recover c state log plan) = bytesOk state
-typedOk (checkpoint c tail l) = countedOk l
+typedOk (checkpoint c v tail l) = countedOk l
 typedOk (store c) = true
 typedOk (recover·tail c state k tail) = bytesOk state
 typedOk (crash c k) = true
@@ -81,7 +81,7 @@ keepsOk plan w (found c state log p n) = sameBytes p plan && (eqb n c && isNothi
 keepsOk plan w (call c o l) = true
 keepsOk plan w (inquire c i l) = true
 keepsOk plan w (recover c state log p) = sameBytes p plan && (keptIs log (keptBy (w .servers c)) && sameBytes (storedOf (w .servers c) .checkpoint) [])
-keepsOk plan w (checkpoint c tail l) = true
+keepsOk plan w (checkpoint c v tail l) = true
 keepsOk plan w (store c) = true
 keepsOk plan w (recover·tail c state k tail) = keptIs tail (keptBy (w .servers c)) && beginsOk (storedOf (w .servers c) .checkpoint) k
 keepsOk plan w (crash c k) = leb (markOf (w .servers c)) k && leb k (lengthOf (w .servers c))
@@ -137,7 +137,7 @@ done w (found c state log p n) = record { world = step w (found c state log p n)
 done w (call c o l) = operationDone c l (w .servers c) (handed (packet w) o) w
 done w (inquire c i l) = record { world = step w (inquire c i l); answer = none }
 done w (recover c state log p) = record { world = step w (recover c state log p); answer = none }
-done w (checkpoint c tail l) = record { world = step w (checkpoint c tail l); answer = none }
+done w (checkpoint c v tail l) = record { world = step w (checkpoint c v tail l); answer = none }
 done w (store c) = record { world = step w (store c); answer = none }
 done w (recover·tail c state k tail) = record { world = step w (recover·tail c state k tail); answer = none }
 done w (crash c k) = record { world = step w (crash c k); answer = none }
@@ -158,7 +158,7 @@ callWith w (found c state log p n) a = atServer (w .servers c) none none
 callWith w (call c o l) a = atServer (w .servers c) (handed (packet w) o) a
 callWith w (inquire c i l) a = atServer (w .servers c) none none
 callWith w (recover c state log p) a = atServer (w .servers c) none none
-callWith w (checkpoint c tail l) a = atServer (w .servers c) none none
+callWith w (checkpoint c v tail l) a = atServer (w .servers c) none none
 callWith w (store c) a = atServer (w .servers c) none none
 callWith w (recover·tail c state k tail) a = atServer (w .servers c) none none
 callWith w (crash c k) a = atCrash c k (w .servers c)
@@ -197,11 +197,11 @@ pub record Answered (l : Lent) (s : Server) (h : Option Operation) (a : Answer) 
 -- a request, if it is one, has the packet b
 unfoldable pub requestsOnly : List ℕ → Operation → Bool
 requestsOnly b (request v p) = sameBytes p b
-requestsOnly b (fetch x c) = true
+requestsOnly b (fetch v x c) = true
 requestsOnly b (sync m) = true
 requestsOnly b (notice p) = true
 requestsOnly b (give p d) = true
-requestsOnly b (image p) = true
+requestsOnly b (image v p) = true
 requestsOnly b (takeIn p) = true
 requestsOnly b (receipt p) = true
 requestsOnly b (release p) = true
@@ -260,7 +260,7 @@ below k (found c state log p n) = ltb c k
 below k (call c o l) = ltb c k
 below k (inquire c i l) = ltb c k
 below k (recover c state log p) = ltb c k
-below k (checkpoint c tail l) = ltb c k
+below k (checkpoint c v tail l) = ltb c k
 below k (store c) = ltb c k
 below k (recover·tail c state n tail) = ltb c k
 below k (crash c b) = ltb c k

@@ -15,7 +15,6 @@ use lib.ListN.{take}
 use borrow.Author.Tests.{eqb-true, lt-ltb}
 use Rattle.model.specs.Choice.{pick}
 use Rattle.model.specs.Versions.{Versions}
-use Rattle.model.specs.Limits.{resultSize}
 use Rattle.model.specs.Packets.{parsePacket}
 use Rattle.model.specs.States.{State}
 use Rattle.model.specs.Decisions.{Decided, onRequest}
@@ -24,14 +23,14 @@ use Rattle.model.specs.Refusals.{noRefusal}
 use Rattle.model_laws.specs.Bytes.{Bytes}
 use Rattle.model_invariants.specs.Sound.{Sound}
 use Rattle.model.specs.Calls.{Operation, request, decision, operated}
-use Rattle.model_invariants.specs.Calls.{output, outputFor, outputSize, LentBytes}
+use Rattle.model_invariants.specs.Calls.{output, hasOutput, outputSize, LentBytes}
 use Rattle.model_invariants.specs.Placed.{seenFrom}
 use Rattle.claim.specs.World.{withServer, making, lentState, lentLog, stateBack, logBack}
 use Rattle.claim.specs.World as B
 use Rattle.claim.specs.Provisos.{Counted}
 use Rattle.claim.specs.RecordWorld as R
 use Rattle.safety.specs.Alike.{RunningAlike, ServerAlike, nothing, running, storing, crashed, Both, LeftAlike, LeftSeen, whole}
-use Rattle.safety.specs.Decoded.{roomIn, roomOf}
+use Rattle.safety.specs.Decoded.{roomIn, roomOf, toldSize}
 use Rattle.safety.proofs.Facts.{holds-sound}
 use Rattle.safety.proofs.Worlds.{alike-server, alike-making}
 use Rattle.safety.proofs.Parties.{parties-server, parties-making}
@@ -62,8 +61,8 @@ module _ (o : Operation) (h : LentBytes o) (t : B.Lent) (ok : Counted t) where
   abbrev out : List ℕ
   out = output o (t .out)
 
-  abbrev need : ℕ
-  need = outputSize o
+  abbrev need : State → ℕ
+  need st = outputSize st o
 
   module _ {plan : List ℕ} {c : ℕ} {st : State} {log : R.Log} {k : B.Stored} {state bytes : List ℕ} (K : RunningAlike plan c st log k state bytes) where
     abbrev b : ℕ
@@ -161,7 +160,7 @@ module _ (o : Operation) (h : LentBytes o) (t : B.Lent) (ok : Counted t) where
 pub request-answer : (vs : Versions) (t : B.Lent) → Counted t → (p : List ℕ) → Bytes p
     → {plan : List ℕ} {c : ℕ} {st : State} {log : R.Log} {k : B.Stored} {state bytes : List ℕ} → RunningAlike plan c st log k state bytes
     → (requestOf vs (lentState t state) (lentLog t bytes) p (t .out) .answer ≡ answerOf noRefusal 0)
-    ↔ ((R.callOf st log (k .replaced + roomIn t state bytes (t .out) resultSize) (λ s free. onRequest vs s free (parsePacket p)) .number ≡ 0)
-    × (R.callOf st log (k .replaced + roomIn t state bytes (t .out) resultSize) (λ s free. onRequest vs s free (parsePacket p)) .made ≡ []))
-unfolding decision output outputFor outputSize operated whole
+    ↔ ((R.callOf st log (k .replaced + roomIn t state bytes (t .out) (toldSize vs)) (λ s free. onRequest vs s free (parsePacket p)) .number ≡ 0)
+    × (R.callOf st log (k .replaced + roomIn t state bytes (t .out) (toldSize vs)) (λ s free. onRequest vs s free (parsePacket p)) .made ≡ []))
+unfolding decision output hasOutput outputSize operated whole
 request-answer vs t ok p h K = call-answer (request vs p) h t ok K

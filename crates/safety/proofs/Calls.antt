@@ -180,8 +180,9 @@ module _ (o : Operation) (k : LentBytes o) (t : B.Lent) (ok : Counted t) where
   abbrev out : List ℕ
   out = output o (t .out)
 
-  abbrev need : ℕ
-  need = outputSize o
+  -- what it asks of its output, by the state
+  abbrev need : State → ℕ
+  need st = outputSize st o
 
   module _ {start : State} {log : R.Log} {state bytes : List ℕ} (K : LocalAlike start (load state) log state bytes) where
     abbrev front : List ℕ
@@ -202,7 +203,7 @@ module _ (o : Operation) (k : LentBytes o) (t : B.Lent) (ok : Counted t) where
         let L = quiet K t tooShort [] out refl in
         rw e (record { answer = refused-answer refl (omega arith) (omega arith); made = refl; server = L .server })
 
-    left-whole : stateSize ≤ length front → need ≤ length out → Left (unlessRefused (pick (unfit front slice) unsound 0) (decision o (load front) (freeIn front slice))) (length slice)
+    left-whole : stateSize ≤ length front → need (load front) ≤ length out → Left (unlessRefused (pick (unfit front slice) unsound 0) (decision o (load front) (freeIn front slice))) (length slice)
     unfolding Left R.callOf unlessRefused unfit freeIn settle R.settle
     left-whole whole enough =
         rw (lent-sound K t whole, ← lent-load K t whole) (go (ltb (length slice) (load front .size)) refl)
@@ -218,13 +219,13 @@ module _ (o : Operation) (k : LentBytes o) (t : B.Lent) (ok : Counted t) where
             let S : Sound (load front) = subst Sound (sym same) (holds-sound (K .holds)) in
             let d : Decided = decision o (load front) (freeIn front slice) in
             subst (λ (x : State). LeftAlike start t state bytes (settle front slice out d) (R.settle x log d)) (sym same)
-            (settled K t whole ok holding out need enough d (decision-allowed o front slice k) (operation-made (load front) S o (freeIn front slice) k))
+            (settled K t whole ok holding out (need (load front)) enough d (decision-allowed o front slice k) (operation-made (load front) S o (freeIn front slice) k))
 
     left-either : Left (decidedOn o front slice (t .out)) (roomIn t state bytes out need)
     unfolding roomIn decidedOn lent lentRefusal short
-    left-either = go (ltb (length front) stateSize) refl (ltb (length out) need) refl
+    left-either = go (ltb (length front) stateSize) refl (ltb (length out) (need (load front))) refl
       where
-        go : (p : Bool) → ltb (length front) stateSize ≡ p → (q : Bool) → ltb (length out) need ≡ q
+        go : (p : Bool) → ltb (length front) stateSize ≡ p → (q : Bool) → ltb (length out) (need (load front)) ≡ q
             → Left (unlessRefused (pick (p || q) tooShort (pick (unfit front slice) unsound 0)) (decision o (load front) (freeIn front slice))) (pick (p || q) 0 (length slice))
         go true x q y = unfold unlessRefused in left-short
         go false x true y = unfold unlessRefused in left-short
@@ -242,7 +243,7 @@ module _ (o : Operation) (k : LentBytes o) (t : B.Lent) (ok : Counted t) where
   unfolding R.callOf R.settle
   made-bytes st S log room = go (ltb room (st .size))
     where
-      made : (x : Decided) → Made need x → Bytes (R.settle st log x .made)
+      made : (x : Decided) → Made (need st) x → Bytes (R.settle st log x .made)
       made (refuse n) a = bytes-nil
       made (deny n b) a = a .0
       made (reply b) a = a .0

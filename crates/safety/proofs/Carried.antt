@@ -10,6 +10,7 @@ use mathlib.Core.Option.{Option, some}
 use native.Mathlib.Omega.{arith}
 use Rattle.model.specs.declared.Command.{Command}
 use Rattle.model.specs.declared.Point.{Point}
+use Rattle.model.specs.declared.ResultPacket.{ResultPacket}
 use Rattle.model.specs.Sequential.{Marked, OrderEntry, commands, EntryResult, readingMeant}
 use Rattle.model.specs.States.{State, pointAt}
 use Rattle.model.specs.Checkpoints.{placedPoint}
@@ -47,10 +48,12 @@ shown-there (both b st) o e = let z : st ≡ o = cc in (b, ap (λ (s : State). s
 
 -- ---- an order
 
--- what issues, completes or survives in the run x does so in the run y, what survives in y survives in x, and the ends show the same
+-- what issues, completes, survives or is told in the run x does so in the run y, what survives in y survives in x with the time that it notes, and the
+-- ends show the same
 module _ (plan : List ℕ) (x y : Account) (issues : (n : ℕ) (ks : List Command) → x .Issues n ks → y .Issues n ks)
     (completes : (n : ℕ) (ks : List Command) (r : EntryResult) → x .Completes n ks r → y .Completes n ks r)
     (survives : (n : ℕ) (k : Marked) → x .SurvivesAt n k → y .SurvivesAt n k) (survives-back : (n : ℕ) (k : Marked) → y .SurvivesAt n k → x .SurvivesAt n k)
+    (tells : (r : ResultPacket) → x .Tells r → y .Tells r) (notes-back : (n : ℕ) (k : Marked) (t : ℕ) → y .Notes n k t → x .Notes n k t)
     (final : (c : ℕ) → Shown (x .final c) (y .final c)) (recovers : x .Recovers) where
   survivor : (e : OrderEntry) → SurvivesBy plan x e → SurvivesBy plan y e
   survivor e s = record { part = s .part; among = s .among; at = s .at; survives = survives (s .at) (s .part) (s .survives) }
@@ -90,5 +93,6 @@ module _ (plan : List ℕ) (x y : Account) (issues : (n : ℕ) (ks : List Comman
             ap (λ (z : State). readingMeant (readingAt (pointAt z p))) (s .3) ∙ ap readingMeant (reading-seen b o p) ∙ E .values p c o h (holder p c b o (s .2) K);
         real-time = λ m n a b r c i h s t. E .real-time m n a b r (completes m (commands a) r c) (issues n (commands b) i) h s t;
         sequence = λ m n j k a b s t h e u v i l. E .sequence m n j k a b (survives m j s) (survives n k t) h e u v i l;
+        times = λ r t. let e = E .times r (tells r t) in (e .0, e .1, e .2, e .3, notes-back (e .0) (e .1) (r .result .time) (e .4));
         recovers = recovers;
       }

@@ -15,7 +15,7 @@ use lib.Dec.{eqb, leb, ltb}
 use borrow.Author.Tests.{leb-true, leb-false, ltb-true, ltb-false, lt-leb}
 use Rattle.model.specs.Choice.{pick}
 use Rattle.model.specs.Numbers.{byteAt, le32At}
-use Rattle.model.specs.Limits.{headSize, executedSize, goneSize, giveSize, releaseSize, takeHead, leastImage, greatestImage}
+use Rattle.model.specs.Limits.{headSize, firstExecutedSize, executedSize, goneSize, giveSize, releaseSize, takeHead, leastImage, greatestImage}
 use Rattle.model.specs.Tables.{keep}
 use Rattle.model.specs.Logs.{Entry, recordSize, headBytes, recordBytes, entriesBytes, off, cut, spans, within, takeExtent, extentOf}
 use Rattle.model.specs.States.{State, load}
@@ -65,17 +65,20 @@ module _ (s : List ℕ) (j : ℕ) (some : 1 ≤ j) where
   unfolding extentOf
   extent-prefix e =
       let first : getD t 0 0 ≡ getD s 0 0 = getD-take j s 0 0 some in
-      rw first (go (eqb (byteAt s 0) 1) (eqb (byteAt s 0) 2) (eqb (byteAt s 0) 3) (eqb (byteAt s 0) 4) (eqb (byteAt s 0) 5) e)
+      rw first (go (eqb (byteAt s 0) 1) (eqb (byteAt s 0) 2) (eqb (byteAt s 0) 3) (eqb (byteAt s 0) 4) (eqb (byteAt s 0) 5) (eqb (byteAt s 0) 6) e)
     where
-      go : (k1 k2 k3 k4 k5 : Bool)
-          → pick k1 (within s executedSize) (pick k2 (within s goneSize) (pick k3 (within s giveSize) (pick k4 (takeExtent s) (pick k5 (within s releaseSize) off)))) ≡ cut
-          → pick k1 (within t executedSize) (pick k2 (within t goneSize) (pick k3 (within t giveSize) (pick k4 (takeExtent t) (pick k5 (within t releaseSize) off)))) ≡ cut
-      go true k2 k3 k4 k5 h = within-take executedSize h
-      go false true k3 k4 k5 h = within-take goneSize h
-      go false false true k4 k5 h = within-take giveSize h
-      go false false false true k5 h = take-cut h
-      go false false false false true h = within-take releaseSize h
-      go false false false false false h = h
+      go : (k1 k2 k3 k4 k5 k6 : Bool)
+          → pick k1 (within s firstExecutedSize)
+          (pick k2 (within s goneSize) (pick k3 (within s giveSize) (pick k4 (takeExtent s) (pick k5 (within s releaseSize) (pick k6 (within s executedSize) off))))) ≡ cut
+          → pick k1 (within t firstExecutedSize)
+          (pick k2 (within t goneSize) (pick k3 (within t giveSize) (pick k4 (takeExtent t) (pick k5 (within t releaseSize) (pick k6 (within t executedSize) off))))) ≡ cut
+      go true k2 k3 k4 k5 k6 h = within-take firstExecutedSize h
+      go false true k3 k4 k5 k6 h = within-take goneSize h
+      go false false true k4 k5 k6 h = within-take giveSize h
+      go false false false true k5 k6 h = take-cut h
+      go false false false false true k6 h = within-take releaseSize h
+      go false false false false false true h = within-take executedSize h
+      go false false false false false false h = h
 
 pub incomplete-take : (s : List ℕ) (j : ℕ) → Incomplete s → Incomplete (take j s)
 incomplete-take s zero i = tt

@@ -12,14 +12,14 @@ use borrow.Author.Tests.{eqb-true}
 use Rattle.model.specs.Choice.{pick}
 use Rattle.model.specs.Plan.{planOk}
 use Rattle.model.specs.States.{State}
-use Rattle.model.specs.Versions.{Versions}
+use Rattle.model.specs.Versions.{Versions, today}
 use Rattle.model.specs.Operations.{After, foundOf, recoverOf}
 use Rattle.model.specs.Checkpoints.{recoverTailOf}
 use Rattle.model.specs.Clients.{startOf}
 use Rattle.model.specs.Calls.{OperationOf, request, fetch, sync, notice, give, image, takeIn, receipt, release}
 use Rattle.model.specs.Refusals.{noRefusal}
 use Rattle.model_laws.proofs.Numbers.{bytes-nil}
-use Rattle.model_invariants.specs.Calls.{outputSize, outputFor, output}
+use Rattle.model_invariants.specs.Calls.{outputSize, hasOutput, output}
 use Rattle.claim.specs.World.{OutsideCall, start}
 use Rattle.claim.specs.World as B
 use Rattle.claim.specs.Provisos as BP
@@ -47,11 +47,11 @@ plan-bytes a p s = go (eqb (a .answer .refusal) noRefusal)
 whole-request : {P : Type 0} (b : ℕ) (o : OperationOf P) (vs : Versions) (p : P) → whole b o ≡ request vs p → o ≡ request vs p
 unfolding whole
 whole-request b (request v x) vs p e = e
-whole-request b (fetch x c) vs p e = apart (cc)
+whole-request b (fetch v x c) vs p e = apart (cc)
 whole-request b (sync m) vs p e = apart (cc)
 whole-request b (notice x) vs p e = apart (cc)
 whole-request b (give x d) vs p e = apart (cc)
-whole-request b (image x) vs p e = apart (cc)
+whole-request b (image v x) vs p e = apart (cc)
 whole-request b (takeIn x) vs p e = apart (cc)
 whole-request b (receipt x) vs p e = apart (cc)
 whole-request b (release x) vs p e = apart (cc)
@@ -132,10 +132,10 @@ module _ (plan : List ℕ) {r : R.World} {b : B.World} (l : WorldAlike plan r b)
       }
 
   idles : (y : B.Event) (c : ℕ) → Decodes plan r b y (idle c)
-  idles y c = bare y (idle c) (λ d k q. apart (cc)) (λ d x vs room q. apart (cc)) (λ o q. apart (cc)) (unasked c (fetch 0 0))
+  idles y c = bare y (idle c) (λ d k q. apart (cc)) (λ d x vs room q. apart (cc)) (λ o q. apart (cc)) (unasked c (fetch today 0 0))
 
   pub decodes : (y : B.Event) → Allowed plan b y → Decodes plan r b y (decoded plan b y)
-  unfolding decoded output outputFor outputSize RP.Typed BP.Typed
+  unfolding decoded output hasOutput outputSize RP.Typed BP.Typed
   decodes (B.found c state log p n) a =
       let P : List ℕ = planIf (foundOf state log p n) p in
       bare _ _ (λ d k q. apart (cc)) (λ d x vs room q. apart (cc)) (λ o q. apart (cc))
@@ -164,13 +164,13 @@ module _ (plan : List ℕ) {r : R.World} {b : B.World} (l : WorldAlike plan r b)
             let n : ℕ = B.storedOf (b .servers c) .replaced in
             let j : whole n o ≡ request us x = cc in
             let e : o ≡ request us x = whole-request n o us x j in
-            let k : room ≡ roomOf (b .servers c) u (output o (u .out)) (outputSize o) = cc in
+            let k : room ≡ roomOf (b .servers c) u (output o (u .out)) (λ st. outputSize st o) = cc in
             (u, rw (i, e) refl, rw (i, e) at k);
         outsides = λ z q. apart (cc);
       }
   decodes (B.inquire c i u) a = idles _ c
   decodes (B.recover c state log p) a = recovery _ c (planIf (recoverOf state log p) p) (recover-ok c state log p (a .recovers c state log p refl))
-  decodes (B.checkpoint c tail u) a = idles _ c
+  decodes (B.checkpoint c v tail u) a = idles _ c
   decodes (B.store c) a = idles _ c
   decodes (B.recover·tail c state k tail) a = recovery _ c (planIf (recoverTailOf state k tail) plan) (tail-ok (recoverTailOf state k tail))
   decodes (B.crash c n) a =

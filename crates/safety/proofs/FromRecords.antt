@@ -2,26 +2,29 @@
 -- survives over records survives over bytes, and the servers count with the same states at the end, places of the log aside.
 --     issues-here, issues-there, completes-here
 --     executes-here, executes-there
---     survives-here, survives-there
+--     survives-here, survives-there, notes-there
+--     tells-here
 --     same-given, same-final, recovers-end
 --     from-records
 -- Assumes nothing.
 use Prim.Native.Nat.{ℕ, suc, _+_, _≤_}
-use mathlib.Core.Path.{_≡_, refl, sym, _∙_, subst}
+use mathlib.Core.Path.{_≡_, refl, sym, _∙_, ap, subst}
 use mathlib.Core.List.{List}
 use mathlib.Core.Option.{some}
 use native.Mathlib.Omega.{arith}
 use borrow.Author.Tests.{lt-ltb}
 use Rattle.model.specs.Versions.{Versions}
 use Rattle.model.specs.declared.Command.{Command}
+use Rattle.model.specs.declared.ResultPacket.{ResultPacket}
 use Rattle.model.specs.Sequential.{Marked, EntryResult}
-use Rattle.model.specs.Limits.{resultSize}
 use Rattle.model.specs.Packets.{parsePacket}
-use Rattle.model.specs.States.{State}
-use Rattle.model.specs.Decisions.{Decided, onRequest}
+use Rattle.model.specs.States.{State, load}
+use Rattle.model.specs.Checkpoints.{placed}
+use Rattle.model.specs.Decisions.{Decided, onRequest, timeFor}
 use Rattle.model.specs.Calls.{request}
 use Rattle.model_laws.specs.Bytes.{Bytes}
-use Rattle.model_invariants.specs.Calls.{outputSize, outputFor, output}
+use Rattle.model_invariants.specs.Calls.{outputSize, hasOutput, output}
+use Rattle.model_invariants.specs.Placed.{seenFrom}
 use Rattle.claim.specs.World.{Lent, packet}
 use Rattle.claim.specs.World as B
 use Rattle.claim.specs.Provisos.{Counted}
@@ -31,7 +34,7 @@ use Rattle.claim.specs.RecordWorld as R
 use Rattle.claim.specs.RecordProvisos as RP
 use Rattle.claim.specs.RecordClaim as RC
 use Rattle.safety.specs.Alike.{RunningAlike, ServerAlike, nothing, running, storing, crashed, Shown, neither, both, whole}
-use Rattle.safety.specs.Decoded.{roomIn, roomOf, placeOf, decoded, schedule}
+use Rattle.safety.specs.Decoded.{roomIn, roomOf, toldSize, placeOf, decoded, schedule}
 use Rattle.safety.proofs.Worlds.{running-here, running-room, same-packet, same-client, alike-reach}
 use Rattle.safety.proofs.Parties.{packet-made}
 use Rattle.safety.proofs.Called.{request-answer}
@@ -48,6 +51,11 @@ same-given plan c (running {st = st} {k = k} K) = rw (K .loads) (both (k .replac
 same-given plan c (storing {st = st} {next = k} K e L) = rw (L .loads) (both (k .replaced) st)
 same-given plan c (crashed K) = recovered-shown K
 
+-- places of the log are no part of the time of execution
+time-seen : (v : Versions) (b : ℕ) (st : State) → timeFor v (seenFrom b st) ≡ timeFor v st
+unfolding timeFor seenFrom placed
+time-seen v b st = refl
+
 -- a call that is not refused over records: no checkpoint is being stored, and the server runs over bytes
 module _ {plan : List ℕ} {c : ℕ} where
   no-room : {st : State} {log : R.Log} {k : B.Stored} {state bytes : List ℕ} → RunningAlike plan c st log k state bytes → (d : State → ℕ → Decided)
@@ -55,7 +63,7 @@ module _ {plan : List ℕ} {c : ℕ} where
   unfolding R.callOf R.settle
   no-room {st = st} {log = log} K d = rw (lt-ltb 0 (st .size) (omega (arith, K .past, K .mark))) (λ z. absurd (omega (arith, z)))
 
-  running-there : {x : R.Server} {y : B.Server} → ServerAlike plan c x y → (st : State) (log : R.Log) → x ≡ R.running st log → (t : Lent) (out : List ℕ) (need : ℕ)
+  running-there : {x : R.Server} {y : B.Server} → ServerAlike plan c x y → (st : State) (log : R.Log) → x ≡ R.running st log → (t : Lent) (out : List ℕ) (need : State → ℕ)
       → (d : State → ℕ → Decided) → R.callOf st log (roomOf y t out need) d .number ≡ 0
       → (k : B.Stored) × (state : List ℕ) × (bytes : List ℕ) × (y ≡ B.running k state bytes) × RunningAlike plan c st log k state bytes
   unfolding roomOf
@@ -149,7 +157,7 @@ module _ (plan : List ℕ) (ys : List B.Event) (P : BP.Provisos plan ys) where
   counted n c p vs t a = P .typed n (B.call c (request vs p) t) a
 
   pub executes-here : (n c : ℕ) (k : Marked) → BC.Executes ys n c k → RC.Executes (schedule plan ys) n c k
-  unfolding decoded whole output outputFor outputSize
+  unfolding decoded whole output hasOutput outputSize
   executes-here n c k x =
       let u = running-here (both-at plan ys P n .alike .servers c) (x .stored) (x .state) (x .log) (x .up) in
       let ok = counted n c (x .number) (x .versions) (x .lent) (x .event) in
@@ -157,9 +165,9 @@ module _ (plan : List ℕ) (ys : List B.Event) (P : BP.Provisos plan ys) where
       record {
         number = x .number;
         versions = x .versions;
-        room = x .stored .replaced + roomIn (x .lent) (x .state) (x .log) (x .lent .out) resultSize;
+        room = x .stored .replaced + roomIn (x .lent) (x .state) (x .log) (x .lent .out) (toldSize (x .versions));
         event =
-            subst (λ (k : ℕ). RP.At (schedule plan ys) n (R.call c (request (x .versions) (x .number)) k)) (running-room (x .up) (x .lent) (x .lent .out) resultSize)
+            subst (λ (k : ℕ). RP.At (schedule plan ys) n (R.call c (request (x .versions) (x .number)) k)) (running-room (x .up) (x .lent) (x .lent .out) (toldSize (x .versions)))
             (at-here plan ys P n (B.call c (request (x .versions) (x .number)) (x .lent)) (x .event));
         state = u .0;
         log = u .1;
@@ -173,33 +181,39 @@ module _ (plan : List ℕ) (ys : List B.Event) (P : BP.Provisos plan ys) where
         its = x .its;
       }
 
-  executes-there : (n c : ℕ) (k : Marked) → RC.Executes (schedule plan ys) n c k → BC.Executes ys n c k
+  -- with the time that it notes: places aside, the state is the same
+  abbrev Noted : ℕ → ℕ → Marked → ℕ → Type 0
+  Noted n c k t = (x : BC.Executes ys n c k) × (timeFor (x .versions) (load (x .state)) ≡ t)
+
+  executes-there : (n c : ℕ) (k : Marked) (x : RC.Executes (schedule plan ys) n c k) → Noted n c k (timeFor (x .versions) (x .state))
   executes-there n c k x =
       let e = at-back plan ys P n (R.call c (request (x .versions) (x .number)) (x .room)) (x .event) in
       let f = e .2 .requests c (x .number) (x .versions) (x .room) refl in
       let t : Lent = f .0 in
       let decide : State → ℕ → Decided = λ s free. onRequest (x .versions) s free (parsePacket (x .bytes)) in
-      let u = running-there (both-at plan ys P n .alike .servers c) (x .state) (x .log) (x .up) t (t .out) resultSize decide (rw (f .2) at (x .no-number)) in
+      let u = running-there (both-at plan ys P n .alike .servers c) (x .state) (x .log) (x .up) t (t .out) (toldSize (x .versions)) decide (rw (f .2) at (x .no-number)) in
       let at : BP.At ys n (B.call c (request (x .versions) (x .number)) t) = subst (BP.At ys n) (f .1) (e .1) in
-      let room : x .room ≡ u .0 .replaced + roomIn t (u .1) (u .2) (t .out) resultSize = f .2 ∙ running-room (u .3) t (t .out) resultSize in
+      let room : x .room ≡ u .0 .replaced + roomIn t (u .1) (u .2) (t .out) (toldSize (x .versions)) = f .2 ∙ running-room (u .3) t (t .out) (toldSize (x .versions)) in
       let d : packet (b n) (x .number) ≡ some (x .bytes) = sym (packet-here n (x .number)) ∙ x .delivered in
-      let z = request-answer (x .versions) t (counted n c (x .number) (x .versions) t at) (x .bytes) (made-bytes n (x .number) (x .bytes) d) (u .4) .1 in
-      record {
-        number = x .number;
-        versions = x .versions;
-        lent = t;
-        event = at;
-        stored = u .0;
-        state = u .1;
-        log = u .2;
-        up = u .3;
-        bytes = x .bytes;
-        delivered = d;
-        answer = z (rw room at (x .no-number), rw room at (x .no-packet));
-        asked = x .asked;
-        parsed = x .parsed;
-        its = x .its;
-      }
+      let z = request-answer (x .versions) t (counted n c (x .number) (x .versions) t at) (x .bytes) (made-bytes n (x .number) (x .bytes) d) (u .4) .1 in (
+        record {
+          number = x .number;
+          versions = x .versions;
+          lent = t;
+          event = at;
+          stored = u .0;
+          state = u .1;
+          log = u .2;
+          up = u .3;
+          bytes = x .bytes;
+          delivered = d;
+          answer = z (rw room at (x .no-number), rw room at (x .no-packet));
+          asked = x .asked;
+          parsed = x .parsed;
+          its = x .its;
+        },
+        ap (timeFor (x .versions)) (u .4 .loads) ∙ time-seen (x .versions) (u .0 .replaced) (x .state),
+      )
 
   -- ---- survivors
 
@@ -225,13 +239,24 @@ module _ (plan : List ℕ) (ys : List B.Event) (P : BP.Provisos plan ys) where
         kept = λ m d h a. subst (λ (z : ℕ). z ≤ d) (sym (reach-here (suc n) (s .server))) (s .kept m d h (crash-there m (s .server) d a));
       }
 
+  pub notes-there : (n : ℕ) (k : Marked) (t : ℕ) → RC.Notes (schedule plan ys) n k t → BC.Notes ys n k t
+  notes-there n k t (s, e) =
+      let x = executes-there n (s .server) k (s .executes) in (
+        record {
+          server = s .server;
+          executes = x .0;
+          kept = λ m d h a. subst (λ (z : ℕ). z ≤ d) (reach-here (suc n) (s .server)) (s .kept m d h (crash-here m (s .server) d a));
+        },
+        x .1 ∙ e,
+      )
+
   pub survives-there : (n : ℕ) (k : Marked) → RC.SurvivesAt (schedule plan ys) n k → BC.SurvivesAt ys n k
-  survives-there n k s =
-      record {
-        server = s .server;
-        executes = executes-there n (s .server) k (s .executes);
-        kept = λ m d h a. subst (λ (z : ℕ). z ≤ d) (reach-here (suc n) (s .server)) (s .kept m d h (crash-here m (s .server) d a));
-      }
+  survives-there n k s = notes-there n k _ (s, refl) .0
+
+  -- ---- results told
+
+  tells-here : (x : ResultPacket) → BC.Tells ys x → RC.Tells (schedule plan ys) x
+  tells-here x t = record { number = t .number; bytes = t .bytes; made = same-packet (end-alike plan ys P) (t .number) ∙ t .made; parsed = t .parsed }
 
   -- ---- the end
 
@@ -257,5 +282,5 @@ from-records d plan ys P =
     let x = d plan (schedule plan ys) (provisos-here plan ys P) in (
       x .0,
       explained-too plan (BC.account plan ys) (RC.account plan (schedule plan ys)) (issues-here plan ys P) (completes-here plan ys P) (survives-here plan ys P)
-          (survives-there plan ys P) (same-final plan ys P) (recovers-end plan ys P) (x .0) (x .1),
+          (survives-there plan ys P) (tells-here plan ys P) (notes-there plan ys P) (same-final plan ys P) (recovers-end plan ys P) (x .0) (x .1),
     )

@@ -72,11 +72,11 @@ module _ (b : ℕ) (st : State) (past : b + headSize ≤ st .mark) (up : st .mar
   pub decision-seen : (o : Operation) (free : ℕ) → decision (whole b o) st free ≡ marksFrom b (decision o seen free)
   unfolding decision whole
   decision-seen (request v p) free = sym (plain (request v p) free (Seen.request-seen b v st free (parsePacket p) past) (λ k q. let z : _≡_ {A = ℕ} 0 1 = cc in omega arith))
-  decision-seen (fetch x c) free = sym (plain (fetch x c) free (Seen.fetch-seen b st x c past) (λ k q. let z : _≡_ {A = ℕ} 0 1 = cc in omega arith))
+  decision-seen (fetch v x c) free = sym (plain (fetch v x c) free (Seen.fetch-seen b v st x c past) (λ k q. let z : _≡_ {A = ℕ} 0 1 = cc in omega arith))
   decision-seen (sync m) free = sym (Seen.sync-seen b st past up m)
   decision-seen (notice p) free = sym (plain (notice p) free (Seen.notice-seen b st free (parsePacket p)) (λ k q. let z : _≡_ {A = ℕ} 0 1 = cc in omega arith))
   decision-seen (give p d) free = sym (plain (give p d) free (Seen.give-seen b st free p d) (λ k q. let z : _≡_ {A = ℕ} 0 1 = cc in omega arith))
-  decision-seen (image p) free = sym (plain (image p) free (Seen.image-seen b st p past) (λ k q. let z : _≡_ {A = ℕ} 0 1 = cc in omega arith))
+  decision-seen (image v p) free = sym (plain (image v p) free (Seen.image-seen b v st p past) (λ k q. let z : _≡_ {A = ℕ} 0 1 = cc in omega arith))
   decision-seen (takeIn i) free = sym (plain (takeIn i) free (Seen.take-seen b st free (parseImage i)) (λ k q. let z : _≡_ {A = ℕ} 0 1 = cc in omega arith))
   decision-seen (receipt p) free = sym (plain (receipt p) free (Seen.receipt-seen b st p past) (λ k q. let z : _≡_ {A = ℕ} 0 1 = cc in omega arith))
   decision-seen (release p) free = sym (plain (release p) free (Seen.release-seen b st free (parsePacket p)) (λ k q. let z : _≡_ {A = ℕ} 0 1 = cc in omega arith))

@@ -18,7 +18,8 @@ use Rattle.model.specs.Tables.{written}
 use Rattle.model.specs.Logs.{Entry, headBytes, entriesBytes}
 use Rattle.model.specs.States.{State, load, sound, stateEnd}
 use Rattle.model.specs.Apply.{founded, replayFrom, withMark}
-use Rattle.model.specs.Decisions.{Decided}
+use Rattle.model.specs.Versions.{Versions}
+use Rattle.model.specs.Decisions.{Decided, timedBy}
 use Rattle.model.specs.Operations.{After, stored, recovered}
 use Rattle.model.specs.Checkpoints.{placed, endBefore, rebased, checkpointBytes, AfterCheckpoint}
 use Rattle.model.specs.Refusals.{noRefusal}
@@ -32,6 +33,7 @@ use Rattle.model_invariants.specs.History as History
 use Rattle.model_invariants.specs.Calls as Limits
 use Rattle.model_invariants.specs.Placed.{local, seenFrom, later}
 use Rattle.model_invariants.specs.Passed.{PassedCheckpoint}
+use Rattle.model_invariants.proofs.Tests.{times-fit}
 use Rattle.model_invariants.proofs.Recovery.{recovers}
 use Rattle.model_invariants.proofs.Crash.{decided-from}
 use Rattle.model_invariants.proofs.Loaded.{stored-sound, stored-load}
@@ -86,7 +88,7 @@ early-more m n h (e ∷ es) a = (omega (arith, h, a .0), early-more m n h es (a 
 
 -- ---- what a checkpoint leaves
 
-module _ {plan : List ℕ} {c : ℕ} {st : State} {log : R.Log} {k : B.Stored} {state bytes : List ℕ} (K : RunningAlike plan c st log k state bytes) (t : B.Lent) (tail : List ℕ)
+module _ {plan : List ℕ} {c : ℕ} {st : State} {log : R.Log} {k : B.Stored} {state bytes : List ℕ} (K : RunningAlike plan c st log k state bytes) (v : Versions) (t : B.Lent) (tail : List ℕ)
     (P : PassedCheckpoint (lentState t state) (t .out) tail) where
   abbrev front : List ℕ
   front = lentState t state
@@ -121,7 +123,7 @@ module _ {plan : List ℕ} {c : ℕ} {st : State} {log : R.Log} {k : B.Stored} {
       omega (arith, z, good .mark, running-mark K, running-size K, holds-size (K .holds))
 
   abbrev next : B.Stored
-  next = record { checkpoint = checkpointBytes now; replaced = k .replaced + more }
+  next = record { checkpoint = checkpointBytes (timedBy v now) now; replaced = k .replaced + more }
 
   -- the state that the call leaves, as the whole log has it
   rebased-now : rebased now ≡ seenFrom more now
@@ -177,7 +179,7 @@ module _ {plan : List ℕ} {c : ℕ} {st : State} {log : R.Log} {k : B.Stored} {
         replays = whole-from (C .number) (W .recovers);
         size = omega (arith, W .size, size, long);
         begins = begins-next W S;
-        gives = storedState good refl;
+        gives = storedState (timedBy v now) good (times-fit v now good) refl;
       }
 
   -- the buffers that the call leaves
@@ -252,33 +254,33 @@ module _ {plan : List ℕ} {r : R.World} {b : B.World} (l : Both plan r b) (c : 
       go x y (crashed K) k = l
 
   -- a checkpoint made, or refused
-  makes : (t : B.Lent) (tail : List ℕ) {st : State} {log : R.Log} {k : B.Stored} {state bytes : List ℕ} → RunningAlike plan c st log k state bytes
-      → ServerAlike plan c (R.running st log) (b .servers c) → Both plan (R.calls c 0 d (R.running st log) r) (B.checkpoints c tail t (B.running k state bytes) b)
+  makes : (v : Versions) (t : B.Lent) (tail : List ℕ) {st : State} {log : R.Log} {k : B.Stored} {state bytes : List ℕ} → RunningAlike plan c st log k state bytes
+      → ServerAlike plan c (R.running st log) (b .servers c) → Both plan (R.calls c 0 d (R.running st log) r) (B.checkpoints c v tail t (B.running k state bytes) b)
   unfolding B.checkpoints
-  makes t tail {st} {log} {k} {state} {bytes} K here =
+  makes v t tail {st} {log} {k} {state} {bytes} K here =
       let low : 1 ≤ st .size = omega (arith, K .past, K .mark) in
       let front : List ℕ = lentState t state in
       let next : AfterCheckpoint → B.Stored
       = λ (a : AfterCheckpoint). record { checkpoint = take (a .answer .wrote) (a .checkpoint); replaced = k .replaced + (length bytes - headSize) } in
-      checkpoint-elim front (lentLog t bytes) (t .out) tail
+      checkpoint-elim v front (lentLog t bytes) (t .out) tail
       (λ a. Both plan (R.calls c 0 d (R.running st log) r)
       (pick (eqb (a .answer .refusal) noRefusal) (withServer c (B.storing k bytes (next a) (a .state ++ drop (t .state) state) (take headSize (a .tail))) b) b))
       (λ n h. rw (ne-eqb n noRefusal (λ z. omega (arith, h, z)), refused-call c d st log r low) (idle-server l c (R.running st log) here))
       (λ P.
-      let same : load front ≡ load state = lent-same K t tail P in
+      let same : load front ≡ load state = lent-same K v t tail P in
       let S : Sound (load state) = holds-sound (K .holds) in
-      let cut : take (length (checkpointBytes (load state))) (written (t .out) 0 (checkpointBytes (load state))) ≡ checkpointBytes (load state)
-      = rw (written-front (t .out) (checkpointBytes (load state)) (omega (arith, checkpoint-fits (load state) S, P .room)))
-      (take-append-seam (checkpointBytes (load state)) (drop (length (checkpointBytes (load state))) (t .out))) in
-      rw (same, cut) (becomes _ low (storing K (all-synced K t tail P) (runs-next K t tail P))))
+      let made : List ℕ = checkpointBytes (timedBy v (load state)) (load state) in
+      let cut : take (length made) (written (t .out) 0 made) ≡ made
+      = rw (written-front (t .out) made (omega (arith, checkpoint-fits (timedBy v (load state)) (load state) S, P .room))) (take-append-seam made (drop (length made) (t .out))) in
+      rw (same, cut) (becomes _ low (storing K (all-synced K v t tail P) (runs-next K v t tail P))))
 
-  pub checkpoint-alike : (t : B.Lent) (tail : List ℕ) → Both plan (R.calls c 0 d (r .servers c) r) (B.checkpoints c tail t (b .servers c) b)
+  pub checkpoint-alike : (v : Versions) (t : B.Lent) (tail : List ℕ) → Both plan (R.calls c 0 d (r .servers c) r) (B.checkpoints c v tail t (b .servers c) b)
   unfolding R.calls
-  checkpoint-alike t tail = go (r .servers c) (b .servers c) (l .alike .servers c) (l .alike .servers c)
+  checkpoint-alike v t tail = go (r .servers c) (b .servers c) (l .alike .servers c) (l .alike .servers c)
     where
-      go : (x : R.Server) (y : B.Server) → ServerAlike plan c x y → ServerAlike plan c x (b .servers c) → Both plan (R.calls c 0 d x r) (B.checkpoints c tail t y b)
+      go : (x : R.Server) (y : B.Server) → ServerAlike plan c x y → ServerAlike plan c x (b .servers c) → Both plan (R.calls c 0 d x r) (B.checkpoints c v tail t y b)
       go x y nothing k = unfold B.checkpoints in l
-      go x y (running K) k = makes t tail K k
+      go x y (running K) k = makes v t tail K k
       go x y (storing {st = st} {log = log} K e L) k =
           unfold B.checkpoints in rw (refused-call c d st log r (omega (arith, K .past, K .mark))) (idle-server l c (R.running st log) k)
       go x y (crashed K) k = unfold B.checkpoints in l

@@ -33,6 +33,7 @@ use Rattle.model_invariants.proofs.Crash.{from-end, replay-end, decided-from, l
 use Rattle.model_invariants.proofs.Placed.{keep-map}
 use Rattle.model_invariants.proofs.Seen.{recovered-seen}
 use Rattle.model_invariants.proofs.TailEquals.{recovered-append}
+use Rattle.model_laws.proofs.Checkpoints.{Timely}
 use Rattle.model_invariants.proofs.Checkpoints.{checkpoint-back}
 use Rattle.claim.specs.World as B
 use Rattle.claim.specs.Provisos.{Begins}
@@ -135,12 +136,12 @@ on-start {start} {es} {kept} K =
     )
 
 -- a checkpoint of a sound state, and a tail
-by-tail : {start made : State} {es : List Entry} {kept : List ℕ} {mark : ℕ} → Sound made → start ≡ rebased made → Kept start es kept mark → (rest : List ℕ)
-    → recoveredTail (checkpointBytes made ++ rest) kept ≡ some (replayFrom start es)
+by-tail : (timed : Bool) {start made : State} {es : List Entry} {kept : List ℕ} {mark : ℕ} → Sound made → Timely timed made → start ≡ rebased made → Kept start es kept mark → (rest : List ℕ)
+    → recoveredTail (checkpointBytes timed made ++ rest) kept ≡ some (replayFrom start es)
 unfolding recoveredTail
-by-tail {start} {made} {es} {kept} S e K rest =
+by-tail timed {start} {made} {es} {kept} S T e K rest =
     let x = on-start K in
-    rw (checkpoint-back made S rest, ← e, x .1, eq-eqb (start .server) (start .server) refl) (x .0)
+    rw (checkpoint-back timed made S T rest, ← e, x .1, eq-eqb (start .server) (start .server) refl) (x .0)
 
 module _ (plan : List ℕ) {start : State} {es : List Entry} {kept : List ℕ} {mark : ℕ} (K : Kept start es kept mark) where
   -- by the founding
@@ -159,16 +160,16 @@ module _ (plan : List ℕ) {start : State} {es : List Entry} {kept : List ℕ} {
 
   pub in-force : {c : ℕ} {checkpoint : List ℕ} → InForce plan c start checkpoint → recoveredBy plan checkpoint kept ≡ some (replayFrom start es)
   in-force {c} (first e) = unfold recoveredBy in by-plan c e
-  in-force (stored {made = made} S e) =
-      by-checkpoint (checkpointBytes made) (ap (λ (s : List ℕ). recoveredTail s kept) (sym (append-nil (checkpointBytes made))) ∙ by-tail S e K [])
+  in-force (stored timed {made = made} S T e) =
+      by-checkpoint (checkpointBytes timed made) (ap (λ (s : List ℕ). recoveredTail s kept) (sym (append-nil (checkpointBytes timed made))) ∙ by-tail timed S T e K [])
 
   -- from a slice that begins with the stored checkpoint
   pub in-force-slice : {c : ℕ} {checkpoint : List ℕ} → InForce plan c start checkpoint → (slice : List ℕ) → Begins checkpoint slice → recoveredTail slice kept ≡ some (replayFrom start es)
   in-force-slice (first e) slice B = absurd (omega (arith, B .some·bytes))
-  in-force-slice (stored {made = made} S e) slice B =
-      let n : ℕ = length (checkpointBytes made) in
-      let split : checkpointBytes made ++ drop n slice ≡ slice = ap (λ (x : List ℕ). x ++ drop n slice) (sym (B .front)) ∙ take-append-drop n slice in
-      ap (λ (x : List ℕ). recoveredTail x kept) (sym split) ∙ by-tail S e K (drop n slice)
+  in-force-slice (stored timed {made = made} S T e) slice B =
+      let n : ℕ = length (checkpointBytes timed made) in
+      let split : checkpointBytes timed made ++ drop n slice ≡ slice = ap (λ (x : List ℕ). x ++ drop n slice) (sym (B .front)) ∙ take-append-drop n slice in
+      ap (λ (x : List ℕ). recoveredTail x kept) (sym split) ∙ by-tail timed S T e K (drop n slice)
 
 -- ---- what servers come to
 

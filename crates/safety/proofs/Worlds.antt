@@ -176,7 +176,7 @@ running-here {plan} {c} (running {st = st} {log = log} {k = j} {state = s} {byte
 running-here (storing K m L) k state bytes e = let z : _≡_ {A = ℕ} 0 1 = cc in absurd (omega arith)
 running-here (crashed K) k state bytes e = let z : _≡_ {A = ℕ} 0 1 = cc in absurd (omega arith)
 
-pub running-room : {y : B.Server} {k : B.Stored} {state bytes : List ℕ} → y ≡ B.running k state bytes → (t : B.Lent) (out : List ℕ) (need : ℕ)
+pub running-room : {y : B.Server} {k : B.Stored} {state bytes : List ℕ} → y ≡ B.running k state bytes → (t : B.Lent) (out : List ℕ) (need : State → ℕ)
     → roomOf y t out need ≡ k .replaced + roomIn t state bytes out need
 unfolding roomOf
 running-room e t out need = rw e

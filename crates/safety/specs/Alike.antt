@@ -3,7 +3,7 @@
 -- Assumes nothing.
 use Prim.Native.Nat.{ℕ, _+_, _≤_}
 use mathlib.Core.Path.{_≡_}
-use mathlib.Core.Bool.{true}
+use mathlib.Core.Bool.{Bool, true}
 use mathlib.Core.List.{List, [], _++_}
 use mathlib.Core.Logic.{_↔_}
 use mathlib.Core.Option.{Option, none, some}
@@ -19,6 +19,7 @@ use Rattle.model.specs.Operations.{After, answerOf, recovered}
 use Rattle.model.specs.Checkpoints.{rebased, checkpointBytes}
 use Rattle.model.specs.Refusals.{noRefusal}
 use Rattle.model_laws.specs.Bytes.{Bytes, All}
+use Rattle.model_laws.proofs.Checkpoints.{Timely}
 use Rattle.model_invariants.specs.Sound.{Sound}
 use Rattle.model.specs.Calls.{OperationOf, request, fetch, sync, notice, give, image, takeIn, receipt, release}
 use Rattle.model_invariants.specs.Placed.{seenFrom, later}
@@ -36,10 +37,10 @@ pub record LocalAlike (start st : State) (log : R.Log) (state bytes : List ℕ) 
 
 -- ---- a server by its whole log
 
--- what is in force gives the state that the log starts from: the founding, or the checkpoint of a state
+-- what is in force gives the state that the log starts from: the founding, or the checkpoint of a state in a form that holds its times
 pub data InForce (plan : List ℕ) (c : ℕ) (start : State) : List ℕ → Type 0 where
   first : start ≡ founded (planOf plan) c → InForce plan c start []
-  stored : {made : State} → Sound made → start ≡ rebased made → InForce plan c start (checkpointBytes made)
+  stored : (timed : Bool) {made : State} → Sound made → Timely timed made → start ≡ rebased made → InForce plan c start (checkpointBytes timed made)
 
 -- the whole log is what checkpoints replaced and the records es of its tail, which starts from `start`
 pub record Continues (plan : List ℕ) (c : ℕ) (k : B.Stored) (log : R.Log) (start : State) (es : List Entry) : Type 0 where
@@ -104,11 +105,11 @@ pub record LeftAlike (start : State) (t : B.Lent) (state bytes : List ℕ) (a : 
 -- an operation as the whole log has it: a mark is counted from the founding
 unfoldable pub whole : {P : Type 0} → ℕ → OperationOf P → OperationOf P
 whole b (request v packet) = request v packet
-whole b (fetch client call) = fetch client call
+whole b (fetch v client call) = fetch v client call
 whole b (sync mark) = sync (b + mark)
 whole b (notice packet) = notice packet
 whole b (give point destination) = give point destination
-whole b (image point) = image point
+whole b (image v point) = image v point
 whole b (takeIn img) = takeIn img
 whole b (receipt point) = receipt point
 whole b (release packet) = release packet

@@ -5,7 +5,6 @@ use mathlib.Core.Path.{_≡_}
 use mathlib.Core.List.{List, []}
 use mathlib.Core.Option.{some}
 use Rattle.model.specs.Versions.{Versions}
-use Rattle.model.specs.Limits.{resultSize}
 use Rattle.model.specs.Operations.{foundOf, recoverOf}
 use Rattle.model.specs.Checkpoints.{recoverTailOf}
 use Rattle.model.specs.Calls.{request}
@@ -15,7 +14,7 @@ use Rattle.claim.specs.World as B
 use Rattle.claim.specs.Provisos as BP
 use Rattle.claim.specs.RecordWorld as R
 use Rattle.proof_records.specs.Provided.{FoundOk, Provided}
-use Rattle.safety.specs.Decoded.{roomOf}
+use Rattle.safety.specs.Decoded.{roomOf, toldSize}
 
 pub record RecoverOk (plan : List ℕ) (s : B.Server) (log p : List ℕ) : Type 0 where
   pub one-plan : p ≡ plan
@@ -41,5 +40,5 @@ pub record Decodes (plan : List ℕ) (r : R.World) (b : B.World) (y : B.Event) (
   pub provided : Provided plan r e
   pub crashes : (c n : ℕ) → e ≡ R.crash c n → (k : ℕ) × (y ≡ B.crash c k) × (n ≡ B.storedOf (b .servers c) .replaced + k)
   pub requests : (c p : ℕ) (vs : Versions) (room : ℕ) → e ≡ R.call c (request vs p) room
-      → (t : Lent) × (y ≡ B.call c (request vs p) t) × (room ≡ roomOf (b .servers c) t (t .out) resultSize)
+      → (t : Lent) × (y ≡ B.call c (request vs p) t) × (room ≡ roomOf (b .servers c) t (t .out) (toldSize vs))
   pub outsides : (o : OutsideCall) → e ≡ R.outside o → y ≡ B.outside o

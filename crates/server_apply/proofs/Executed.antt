@@ -41,6 +41,7 @@ pub record Widths (x : Executed) (end : ℕ) : Type 0 where
   pub argument : x .command .argument < word
   pub value : x .result .value < word
   pub quality : x .result .quality < 256
+  pub time : x .result .time < word
   pub ends : end < word * word
 
 module _ {s : List ℕ} (w : Canonical s) (x : Executed) (end : ℕ) (f : Widths x end) (r : Room x (load s)) where
@@ -87,7 +88,18 @@ module _ {s : List ℕ} (w : Canonical s) (x : Executed) (end : ℕ) (f : Widths
       stage-next t (λ (st : State). withRecords (st .records ++ (completion x end ∷ [])) st)
       (p ∙ ap (λ (d : Completion). stored s2 (withRecords (load s2 .records ++ (d ∷ [])) (load s2))) q)
       (added-fits kept (t .fits) (completion x end)
-      (record { client = f .client; call = f .call; argument = f .argument; value = f .value; op = f .op; outcome = f .outcome; quality = f .quality; point = f .point; end = f .ends })
+      (record {
+        client = f .client;
+        call = f .call;
+        argument = f .argument;
+        value = f .value;
+        op = f .op;
+        outcome = f .outcome;
+        quality = f .quality;
+        point = f .point;
+        time = f .time;
+        end = f .ends;
+      })
       (r .records)) (omega (arith, length-append (kept .records) (completion x end ∷ [])))
 
   pub executed-stage : {q y : Point} {s3 s4 : List ℕ} → Stage s s3 added → q ≡ pointAt (load s) (x .command .point) → y ≡ executedPoint x q → s4 ≡ stored s3 (withPoint (x .command .point) y (load s3))

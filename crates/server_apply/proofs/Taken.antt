@@ -31,6 +31,7 @@ use Rattle.model_laws.specs.Layout.{withHeard, withSize, withPoint, withFloors,
 use Rattle.model_laws.proofs.Numbers.{bytes-drop}
 use Rattle.model_laws.proofs.Tables.{all-keep, all-append, length-keep, keep-append, rows-fit, everyRow-true}
 use Rattle.model_laws.proofs.Images.{floorCodec, entry-fit}
+use Rattle.model_invariants.proofs.Tests.{time-fits}
 use Rattle.state_rows.specs.Canonical.{Canonical}
 use Rattle.state_rows.proofs.Chains.{fits-point, fits-heard, fits-size, fits-floors, fits-records}
 use Rattle.state_records.specs.declared.Rule.{Rule}
@@ -56,18 +57,29 @@ unfolding mergeFloors
 merge-fits [] fs a b = b
 merge-fits (g ∷ gs) fs a b = merge-fits gs (raise (g .client) (g .floor) fs) (a .1) (raise-fits g fs (a .0) b)
 
-entries-fit : (w n : ℕ) (s : List ℕ) → Bytes s → All ImageEntryFits (rows imageEntryOf w n s)
+entries-fit : (timed : Bool) (w n : ℕ) (s : List ℕ) → Bytes s → All (ImageEntryFits timed) (rows (imageEntryOf timed) w n s)
 unfolding rows
-entries-fit w zero s b = tt
-entries-fit w (suc n) s b = (entry-fit s b, entries-fit w n (drop w s) (bytes-drop w s b))
+entries-fit timed w zero s b = tt
+entries-fit timed w (suc n) s b = (entry-fit timed s b, entries-fit timed w n (drop w s) (bytes-drop w s b))
 
-taken-fit : (p end : ℕ) (es : List ImageEntry) → p < 256 → end < word * word → All ImageEntryFits es → All CompletionFits (map (takenRecord p end) es)
+taken-fit : (timed : Bool) (p end : ℕ) (es : List ImageEntry) → p < 256 → end < word * word → All (ImageEntryFits timed) es → All CompletionFits (map (takenRecord p end) es)
 unfolding takenRecord
-taken-fit p end [] h k a = tt
-taken-fit p end (e ∷ es) h k a =
+taken-fit timed p end [] h k a = tt
+taken-fit timed p end (e ∷ es) h k a =
     let f = a .0 in (
-      record { client = f .client; call = f .call; argument = f .argument; value = f .value; op = f .op; outcome = f .outcome; quality = f .quality; point = h; end = k },
-      taken-fit p end es h k (a .1),
+      record {
+        client = f .client;
+        call = f .call;
+        argument = f .argument;
+        value = f .value;
+        op = f .op;
+        outcome = f .outcome;
+        quality = f .quality;
+        point = h;
+        time = time-fits timed (e .result .time) (f .time);
+        end = k;
+      },
+      taken-fit timed p end es h k (a .1),
     )
 
 -- ---- one change more
@@ -149,8 +161,8 @@ module _ {s : List ℕ} (w : Canonical s) (image : List ℕ) (b : Bytes image) (
     taken-done {s4} f e =
         let fit : All CompletionFits (brought three h end image) =
         all-keep CompletionFits (staysOverFloors (three .floors)) (map (takenRecord (h .point) end) (imageAt h image .entries))
-        (taken-fit (h .point) end (imageAt h image .entries) (f .point) (f .size) (unfold imageAt in entries-fit (entryWidth h) (h .entries) (drop (entriesStart (h .floors)) image)
-        (bytes-drop (entriesStart (h .floors)) image b))) in
+        (taken-fit (h .timed) (h .point) end (imageAt h image .entries) (f .point) (f .size)
+        (unfold imageAt in entries-fit (h .timed) (entryWidth h) (h .entries) (drop (entriesStart (h .floors)) image) (bytes-drop (entriesStart (h .floors)) image b))) in
         stage-next t (addedBy h end image) e
         (fits-records three (t .fits) (three .records ++ brought three h end image) (all-append CompletionFits (three .records) (brought three h end image) (t .fits .records) fit) both)
         (unfold withRecords in omega (arith, length-append (three .records) (brought three h end image))) .is
@@ -206,7 +218,8 @@ records-fit h end image st b hp he a =
     let new : List Completion = map (takenRecord (h .point) end) (i .entries) in
     all-keep CompletionFits (staysOverFloors (mergeFloors (i .floors) (st .floors))) (old ++ new)
     (all-append CompletionFits old new (all-keep CompletionFits (isOnOther (h .point)) (st .records) a)
-    (taken-fit (h .point) end (i .entries) hp he (entries-fit (entryWidth h) (h .entries) (drop (entriesStart (h .floors)) image) (bytes-drop (entriesStart (h .floors)) image b))))
+    (taken-fit (h .timed) (h .point) end (i .entries) hp he
+    (entries-fit (h .timed) (entryWidth h) (h .entries) (drop (entriesStart (h .floors)) image) (bytes-drop (entriesStart (h .floors)) image b))))
 
 module _ {s : List ℕ} (w : Canonical s) (image : List ℕ) (b : Bytes image) (h : ImageHead) (end : ℕ)
     (floors : length (applyTook (imageAt h image) end (load s) .floors) ≤ clientCount) (records : length (applyTook (imageAt h image) end (load s) .records) ≤ recordCount) (f : Widths h end) where

@@ -16,6 +16,8 @@ use Rattle.model.specs.Choice.{pick}
 use Rattle.model.specs.Limits.{stateSize, headSize, checkpointSize}
 use Rattle.model.specs.Refusals.{tooShort, unsound, notSynced, noRefusal}
 use Rattle.model.specs.States.{load}
+use Rattle.model.specs.Versions.{today}
+use Rattle.model.specs.Decisions.{timedBy}
 use Rattle.model.specs.Operations.{answerOf, short, unfit, lentRefusal}
 use Rattle.model.specs.Checkpoints.{AfterCheckpoint, checkpointRefusal, checkpointOf}
 use Rattle.model_laws.specs.Fits.{Sound}
@@ -80,13 +82,13 @@ module _ (s log : List ℕ) (n t : ℕ) where
 -- ---- the call
 
 module _ (s log c t : List ℕ) {k : ℕ} (p : k ≡ checkpointRefusal s log (length c) (length t)) where
-  pub by-refused : (k ≡ noRefusal → ⊥) → {r : Answer} → r ≡ answerOf k 0 → afterCheckpoint r s log c t ≡ checkpointOf s log c t
+  pub by-refused : (k ≡ noRefusal → ⊥) → {r : Answer} → r ≡ answerOf k 0 → afterCheckpoint r s log c t ≡ checkpointOf today s log c t
   unfolding checkpointOf
   by-refused z e = rw (e, ← p, ne-eqb k noRefusal z)
 
   module _ (z : k ≡ noRefusal) where
-    pub by-passed : {a : AfterCheckpoint} → a ≡ checkpointTaken s log c t → a ≡ checkpointOf s log c t
-    unfolding checkpointOf checkpointTaken
+    pub by-passed : {a : AfterCheckpoint} → a ≡ checkpointTaken s log c t → a ≡ checkpointOf today s log c t
+    unfolding checkpointOf checkpointTaken timedBy
     by-passed e = rw (e, ← p, z)
 
     pub passed-done : Sound s × (checkpointSize ≤ length c) × (headSize ≤ length t)

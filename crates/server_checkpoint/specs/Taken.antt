@@ -1,5 +1,6 @@
 -- What a call of checkpoint leaves, and what one that is not refused leaves.
 -- Assumes nothing.
+use mathlib.Core.Bool.{true}
 use mathlib.Core.List.{List}
 use Prim.Native.Nat.{ℕ}
 use lib.ListN.{length}
@@ -16,5 +17,5 @@ afterCheckpoint a s l c t = record { answer = a; state = s; log = l; checkpoint 
 
 unfoldable pub checkpointTaken : List ℕ → List ℕ → List ℕ → List ℕ → AfterCheckpoint
 checkpointTaken s l c t =
-    afterCheckpoint (answerOf noRefusal (length (checkpointBytes (load s)))) (stored s (rebased (load s))) l (written c 0 (checkpointBytes (load s)))
+    afterCheckpoint (answerOf noRefusal (length (checkpointBytes true (load s)))) (stored s (rebased (load s))) l (written c 0 (checkpointBytes true (load s)))
     (written t 0 (headBytes (load s .server)))

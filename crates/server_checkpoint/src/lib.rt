@@ -8,6 +8,7 @@ ghost use Prim.Native.Nat.{ℕ, _≤_};
 ghost use mathlib.Core.List.{List};
 ghost use lib.ListN.{length};
 ghost use Rattle.model.specs.Limits.{headSize, checkpointSize};
+ghost use Rattle.model.specs.Versions.{today};
 ghost use Rattle.model.specs.Checkpoints.{checkpointRefusal, checkpointOf};
 ghost use Rattle.model_laws.specs.Fits.{Sound};
 ghost use Rattle.server_checkpoint.specs.Taken.{afterCheckpoint, checkpointTaken};
@@ -44,7 +45,7 @@ fn checkpoint_done(s: &mut [u8], checkpoint: &mut [u8], tail: &mut [u8]) -> Answ
 // 2; 19; 7; else the checkpoint, the tail's head, and the state that starts from both. The log is only measured.
 pub fn checkpoint(state: &mut [u8], log: &[u8], checkpoint: &mut [u8], tail: &mut [u8]) -> Answer
     ensures { λ r. ⌜ afterCheckpoint r (now (state .exit)) (now (log .entry)) (now (checkpoint .exit))
-        (now (tail .exit)) ≡ checkpointOf (now (state .entry)) (now (log .entry)) (now (checkpoint .entry))
+        (now (tail .exit)) ≡ checkpointOf today (now (state .entry)) (now (log .entry)) (now (checkpoint .entry))
         (now (tail .entry)) ⌝ }
 {
     let refusal = checkpoint_refusal(state, log, checkpoint.len(), tail.len());

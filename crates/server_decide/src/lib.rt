@@ -37,7 +37,7 @@ use model::constants::WRONG_DESTINATION;
 ghost use mathlib.Core.Path.{_≡_};
 ghost use mathlib.Core.Bool.{_&&_, _||_, not};
 ghost use lib.Dec.{leb};
-ghost use Rattle.model.specs.Limits.{clientCount};
+ghost use Rattle.model.specs.Limits.{clientCount, executedSize};
 ghost use Rattle.model.specs.Images.{notKnown};
 ghost use Rattle.model.specs.States.{isHeld, isGiven, isSynced};
 ghost use Rattle.model.specs.Decisions.{sameCommand, requestRefusal, heldRefusal, newRefusal, fetchRefusal, syncRefusal, noticeRefusal, placesBad, giveRefusal, imageRefusal, receiptRefusal, releaseRefusal, takeRefusal};
@@ -190,9 +190,9 @@ pub fn held_refusal(mark: u64, q: Request, completion: Completion) -> u32
     NO_REFUSAL
 }
 
-// One that is not held: 8 client not known and 32 known; 9 log lacks 28 bytes.
+// One that is not held: 8 client not known and 32 known; 9 log lacks 32 bytes.
 pub fn new_refusal(floor: u32, clients: usize, free: usize) -> u32
-    ensures { λ r. ⌜ r ≡ newRefusal floor clients free ⌝ }
+    ensures { λ r. ⌜ r ≡ newRefusal floor clients free executedSize ⌝ }
 {
     if no_place(floor, clients) {
         return CLIENTS_FULL;

@@ -20,10 +20,10 @@ use Rattle.model.specs.declared.ImageHead.{ImageHead}
 use Rattle.model.specs.Choice.{pick, orElse}
 use Rattle.model.specs.Numbers.{word}
 use Rattle.model.specs.Refusals.{unknown}
-use Rattle.model.specs.Limits.{headSize, executedSize}
+use Rattle.model.specs.Limits.{headSize}
 use Rattle.model.specs.Tables.{indexOf}
 use Rattle.model.specs.Images.{imageEntryOf, entryWidth, entriesStart, imageHead, imageHeadOf, imageAt, imageOk}
-use Rattle.model.specs.Logs.{LogRecord, executed, spans, recordAt, recordSize}
+use Rattle.model.specs.Logs.{LogRecord, executed, executedSizeOf, spans, recordAt, recordSize}
 use Rattle.model.specs.Checkpoints.{inImage, placeAt, noPlace, fronts, placeAmong, isEntryId, latestOf, latestIn}
 use Rattle.model_laws.specs.Bytes.{Bytes, part}
 use Rattle.model_laws.specs.Fits.{IsRecord}
@@ -56,7 +56,7 @@ image-place s from x c found {h} {w} {at} {i} {r} e u v p q =
     let a : i ≡ indexOf (isRowId x c) (fronts (entryWidth d) (d .entries) (drop (entriesStart (d .floors)) s)) = rw (u, v, e) at p in
     let b : r ≡ pick (ltb i (d .entries)) (placeAt inImage (from + entriesStart (d .floors) + entryWidth d * i) (entryWidth d)) found = rw (u, v, e) at q in
     b
-    ∙ among imageEntryOf t inImage (from + entriesStart (d .floors)) (entryWidth d) (d .entries) (drop (entriesStart (d .floors)) s) found a
+    ∙ among (imageEntryOf (d .timed)) t inImage (from + entriesStart (d .floors)) (entryWidth d) (d .entries) (drop (entriesStart (d .floors)) s) found a
     ∙ ap (λ (y : ImageHead). placeAmong inImage (from + entriesStart (y .floors)) (entryWidth y) t (imageAt d s .entries) found) (sym (head-same d s))
 
 -- ---- one record
@@ -66,7 +66,7 @@ says log at n p e = sym (ap (recordMeans log) e) ∙ p .means
 
 -- an executed record's bytes are all there
 pub executed-inside : (log : List ℕ) (at n : ℕ) → Bytes log → extentFrom log at ≡ spans n → {r : Record} {x : Executed} → Parsed log at n r → r ≡ Performed x
-    → at + executedSize ≤ length log
+    → at + executedSizeOf (x .timed) ≤ length log
 unfolding recordMeans recordSize
 executed-inside log at n b w {r} {x} p e =
     let i : IsRecord (drop at log) n (executed x) = record-is (drop at log) (bytes-drop at log b) n (from-spans log at n w) (executed x) (sym (says log at n p e)) in

@@ -2,7 +2,6 @@
 use crate::records;
 use model::Place;
 use model::constants;
-use model::constants::CHECKPOINT_RECORD;
 use model::constants::NO_REFUSAL;
 use state_records::ids;
 use state_rows::state;
@@ -65,11 +64,12 @@ fn place_in_checkpoint(checkpoint: &[u8], client: u32, call: u32) -> Place
     if checkpoint.len() == 0 {
         return none;
     }
-    let n = state_restore::records_of(checkpoint, CHECKPOINT_RECORD);
+    let width = state_restore::record_width(checkpoint);
+    let n = state_restore::records_of(checkpoint, width);
     let clients = state_restore::clients_of(checkpoint);
     let at = constants::CLIENTS_PART + constants::FLOOR_ROW * clients;
-    let i = records::index_of(checkpoint, at, CHECKPOINT_RECORD, n, client, call);
-    records::place_of(constants::IN_CHECKPOINT, at, CHECKPOINT_RECORD, n, i, none)
+    let i = records::index_of(checkpoint, at, width, n, client, call);
+    records::place_of(constants::IN_CHECKPOINT, at, width, n, i, none)
 }
 
 // In a log that is as long as the state records, and in the checkpoint before it.

@@ -11,10 +11,10 @@ ghost use lib.Dec.{ltb};
 ghost use Rattle.model.specs.Choice.{pick};
 ghost use Rattle.model.specs.Numbers.{word};
 ghost use mathlib.Core.Option.{some};
-ghost use Rattle.model.specs.Limits.{headSize, executedSize};
+ghost use Rattle.model.specs.Limits.{headSize};
 ghost use Rattle.model.specs.Tables.{indexOf};
 ghost use Rattle.model.specs.Images.{imageOk};
-ghost use Rattle.model.specs.Logs.{executed, spans, recordAt};
+ghost use Rattle.model.specs.Logs.{executed, executedSizeOf, spans, recordAt};
 ghost use Rattle.model.specs.Checkpoints.{placeAt, fronts, latestOf};
 ghost use Rattle.format_log_reader.specs.Answers.{imageIn};
 ghost use Rattle.format_log_ends.specs.Answers.{extentFrom};
@@ -74,13 +74,25 @@ pub fn place_of(source: u32, at: usize, width: usize, n: usize, i: usize, found:
 
 // ---- one record
 
+// The bytes of an executed record, by its form.
+fn executed_size(timed: bool) -> usize
+    ensures { λ r. ⌜ r ≡ executedSizeOf timed ⌝ }
+{
+    if timed {
+        constants::EXECUTED_SIZE
+    } else {
+        constants::FIRST_EXECUTED_SIZE
+    }
+}
+
 // An executed record from at has the id, or `found` holds it.
 fn place_executed(execution: Executed, at: usize, client: u32, call: u32, found: Place) -> Place
-    requires { ⌜ at + executedSize < word * word ⌝ }
+    requires { ⌜ at + executedSizeOf (execution .timed) < word * word ⌝ }
     ensures { λ r. ⌜ r ≡ latestOf client call at (some (executed execution)) found ⌝ }
 {
     if (execution.command.client == client) & (execution.command.call == call) {
-        return place_at(constants::IN_RECORD, at, constants::EXECUTED_SIZE);
+        let n = executed_size(execution.timed);
+        return place_at(constants::IN_RECORD, at, n);
     }
     found
 }

@@ -17,7 +17,7 @@ use Rattle.model.specs.declared.Answer.{Answer}
 use Rattle.model.specs.declared.ResultPacket.{ResultPacket}
 use Rattle.model.specs.Choice.{pick, reply, append, unlessRefused}
 use Rattle.model.specs.Tables.{written}
-use Rattle.model.specs.Packets.{resultBytes}
+use Rattle.model.specs.Packets.{resultBytes, timeBytes}
 use Rattle.model.specs.Logs.{LogRecord, recordBytes, recordSize}
 use Rattle.model.specs.Apply.{applyRecord}
 use Rattle.model.specs.Limits.{stateSize, resultSize}
@@ -93,9 +93,10 @@ module _ (s log : List ℕ) (k need : ℕ) {n : ℕ} (p : n ≡ lentRefusal s lo
 -- ---- what a call answers that is not refused
 
 module _ (s log out : List ℕ) where
-  pub replied : (p : ResultPacket) {r : Answer} {o : List ℕ} → r ≡ answerOf noRefusal resultSize → o ≡ written out 0 (resultBytes p) → after r s log o ≡ settle s log out (reply (resultBytes p))
-  unfolding settle resultBytes
-  replied p e q = rw (e, q)
+  pub replied : (p : ResultPacket) → p .timed ≡ true → {r : Answer} {o : List ℕ} → r ≡ answerOf noRefusal resultSize → o ≡ written out 0 (resultBytes p)
+      → after r s log o ≡ settle s log out (reply (resultBytes p))
+  unfolding settle resultBytes timeBytes
+  replied p z e q = rw (e, q, z)
 
   pub appended : (x : LogRecord) {r : Answer} {t l : List ℕ} → t ≡ stored s (applyRecord x (load s .size + recordSize x) (load s))
       → l ≡ written log (load s .size) (recordBytes x) → r ≡ answerOf noRefusal 0 → after r t l out ≡ settle s log out (append x)

@@ -22,18 +22,19 @@ use Rattle.model.specs.Choice.{pick, refuse, reply, append, unlessRefused}
 use Rattle.model.specs.Limits.{lastPoint, lastServer, giveSize, releaseSize, receiptSize, greatestImage}
 use Rattle.model.specs.Tables.{written}
 use Rattle.model.specs.Packets.{parsePacket, receiptBytes}
-use Rattle.model.specs.Images.{imageBytes, imageLength}
+use Rattle.model.specs.Images.{Image, greatestOf, imageBytes, imageLength}
 use Rattle.model.specs.Logs.{LogRecord, gave, released, recordBytes, recordSize}
 use Rattle.model.specs.States.{load, pointAt}
 use Rattle.model.specs.Apply.{applyRecord, applyGave, applyReleased}
-use Rattle.model.specs.Decisions.{Decided, placesBad, giveRefusal, onGive, imageFor, onImage, onReceipt, releaseRefusal, decideRelease, onRelease}
+use Rattle.model.specs.Versions.{today}
+use Rattle.model.specs.Decisions.{Decided, placesBad, giveRefusal, onGive, timedBy, imageFor, onImage, onReceipt, releaseRefusal, decideRelease, onRelease}
 use Rattle.model.specs.Operations.{answerOf, after, settle, stored, lentRefusal, lent, freeIn, giveOf, receiptOf, imageOf, releaseOf}
 use Rattle.model.specs.Refusals.{noRefusal, malformed}
 use Rattle.model_laws.specs.Bytes.{Bytes}
 use Rattle.model_laws.proofs.Tests.{or-left, or-right}
 use Rattle.model_laws.specs.Fits.{Sound}
 use Rattle.model_laws.proofs.States.{is-sound}
-use Rattle.model_laws.proofs.Images.{image-length}
+use Rattle.model_laws.proofs.Images.{greatest-most, image-length}
 use Rattle.model_invariants.specs.Passed.{PassedGive}
 use Rattle.model_laws.proofs.Refused.{unless-passed}
 use Rattle.model_invariants.proofs.Decided.{give-passed, release-passed}
@@ -118,8 +119,10 @@ module _ (s log : List ℕ) where
 
 -- ---- receipt and image
 
-pub image-most : (s : List ℕ) → Bytes s → Sound s → (p : ℕ) → p ≤ lastPoint → {n : ℕ} → n ≡ imageLength (imageFor (load s) p) → n ≤ greatestImage
-image-most s h S p l q = rw q (image-short (imageFor (load s) p) (image-good (load s) p (loaded-sound s h (is-sound s S)) l .0))
+pub image-most : (s : List ℕ) → Bytes s → Sound s → (p : ℕ) → p ≤ lastPoint → {n : ℕ} → n ≡ imageLength (imageFor today (load s) p) → n ≤ greatestImage
+image-most s h S p l q =
+    let i : Image = imageFor today (load s) p in
+    rw q (omega (arith, image-short i (image-good today (load s) p (loaded-sound s h (is-sound s S)) l .0), greatest-most (i .timed)))
 
 module _ (s log : List ℕ) (p : ℕ) where
   module _ (out : List ℕ) where
@@ -131,8 +134,8 @@ module _ (s log : List ℕ) (p : ℕ) where
     unfolding receiptOf onReceipt
     receipt-is = ap (settle s log out) (place-by receiptSize _ _)
 
-    pub image-is : imageOf s log p out ≡ settle s log out (unlessRefused (placeNumber s log (length out) greatestImage p) (imageDecided (load s) p))
-    unfolding imageOf onImage
+    pub image-is : imageOf today s log p out ≡ settle s log out (unlessRefused (placeNumber s log (length out) greatestImage p) (imageDecided (load s) p))
+    unfolding imageOf onImage timedBy greatestOf
     image-is = ap (settle s log out) (place-by greatestImage _ _)
 
     pub receipt-done : {x : Point} {v : ℕ} {r : Answer} {o : List ℕ} → x ≡ pointAt (load s) p → v ≡ load s .server
@@ -141,10 +144,10 @@ module _ (s log : List ℕ) (p : ℕ) where
     unfolding settle receiptBytes
     receipt-done a b e f = rw (e, f, a, b)
 
-    pub image-done : {n : ℕ} {r : Answer} {o : List ℕ} → o ≡ written out 0 (imageBytes (imageFor (load s) p)) → n ≡ imageLength (imageFor (load s) p) → r ≡ answerOf noRefusal n
-        → after r s log o ≡ settle s log out (reply (imageBytes (imageFor (load s) p)))
+    pub image-done : {n : ℕ} {r : Answer} {o : List ℕ} → o ≡ written out 0 (imageBytes (imageFor today (load s) p)) → n ≡ imageLength (imageFor today (load s) p) → r ≡ answerOf noRefusal n
+        → after r s log o ≡ settle s log out (reply (imageBytes (imageFor today (load s) p)))
     unfolding settle
-    image-done a b e = rw (e, a, b, image-length (imageFor (load s) p))
+    image-done a b e = rw (e, a, b, image-length (imageFor today (load s) p))
 
   pub place-ready : {n need m : ℕ} → m ≡ placeNumber s log n need p → m ≡ noRefusal → Fit s log n need × (p ≤ lastPoint)
   unfolding placeNumber

@@ -14,6 +14,7 @@ use Rattle.model.specs.Limits.{lastPoint}
 use Rattle.model.specs.Packets.{receiptBytes}
 use Rattle.model.specs.Images.{imageBytes}
 use Rattle.model.specs.States.{State, load, pointAt}
+use Rattle.model.specs.Versions.{today}
 use Rattle.model.specs.Decisions.{Decided, placesBad, giveRefusal, imageFor, imageRefusal, receiptRefusal}
 use Rattle.model.specs.Operations.{lentRefusal, freeIn}
 
@@ -37,7 +38,7 @@ placeNumber s log n need p = first (lentRefusal s log n need) (pick (ltb lastPoi
 
 -- and what they decide then
 abbrev pub imageDecided : State → ℕ → Decided
-imageDecided st p = unlessRefused (imageRefusal (pointAt st p) (st .mark)) (reply (imageBytes (imageFor st p)))
+imageDecided st p = unlessRefused (imageRefusal (pointAt st p) (st .mark)) (reply (imageBytes (imageFor today st p)))
 
 abbrev pub receiptDecided : State → ℕ → Decided
 receiptDecided st p =

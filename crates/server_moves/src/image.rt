@@ -8,6 +8,7 @@ ghost use Prim.Native.Nat.{_≤_};
 ghost use lib.ListN.{length};
 ghost use Rattle.model.specs.Limits.{lastPoint, greatestImage};
 ghost use Rattle.model.specs.States.{load};
+ghost use Rattle.model.specs.Versions.{today};
 ghost use Rattle.model.specs.Operations.{after, imageOf};
 ghost use Rattle.model_laws.specs.Fits.{Sound};
 ghost use Rattle.server_memory.specs.Memory.{SettledBeside};
@@ -32,7 +33,7 @@ fn image_made(s: &[u8], point: u8, out: &mut [u8]) -> Answer
 // 2; 19; 1; 3 not given, or released; 7 give not synced; else the image of the point.
 pub fn image(s: &[u8], log: &[u8], point: u32, out: &mut [u8]) -> Answer
     ensures { λ r. ⌜ after r (now (s .entry)) (now (log .entry)) (now (out .exit))
-        ≡ imageOf (now (s .entry)) (now (log .entry)) point (now (out .entry)) ⌝ }
+        ≡ imageOf today (now (s .entry)) (now (log .entry)) point (now (out .entry)) ⌝ }
 {
     let refusal = crate::point::place_number(s, log, out.len(), constants::GREATEST_IMAGE, point);
     if refusal != 0 {

@@ -1,19 +1,20 @@
 -- What a record that follows a sound state finds there, and leaves.
 --     executed-place                the point of an executed record
+--     executed-space                it has the space of its own form, in every form
 --     executed-room                 the tables have room for it
 --     ready-sound, ready-standing   the state that a record leaves is sound; so its buffer stands again
 -- Assumes nothing.
 use Prim.Native.Nat.{ℕ, _*_, _≤_, _<_}
-use mathlib.Core.Path.{_≡_, sym, ap, _∙_, subst}
-use mathlib.Core.Bool.{true}
+use mathlib.Core.Path.{_≡_, refl, sym, ap, _∙_, subst}
+use mathlib.Core.Bool.{Bool, true, false}
 use mathlib.Core.List.{List}
 use Rattle.model.specs.declared.Executed.{Executed}
-use Rattle.model.specs.Limits.{lastPoint}
+use Rattle.model.specs.Limits.{lastPoint, executedSize}
 use Rattle.model.specs.Numbers.{word}
-use Rattle.model.specs.Logs.{LogRecord, executed}
+use Rattle.model.specs.Logs.{LogRecord, executed, executedSizeOf}
 use Rattle.model.specs.States.{load}
 use Rattle.model.specs.Apply.{applyRecord}
-use Rattle.model.specs.Decisions.{follows}
+use Rattle.model.specs.Decisions.{newRefusal, follows}
 use Rattle.model.specs.Operations.{stored}
 use Rattle.model_invariants.specs.Sound.{Sound, GoodExecuted}
 use Rattle.model_invariants.proofs.Steps.{tested}
@@ -26,6 +27,12 @@ use Rattle.server_replay.specs.Standing.{Standing, Ready}
 
 pub executed-place : (x : Executed) → GoodExecuted x → x .command .point ≤ lastPoint
 executed-place x G = command-fits (x .command .op) (x .command .point) (x .command .argument) (tested x (G .ok) .command) .point
+
+pub executed-space : (timed : Bool) (floor clients : ℕ)
+    → newRefusal floor clients (executedSizeOf timed) (executedSizeOf timed) ≡ newRefusal floor clients executedSize executedSize
+unfolding newRefusal executedSizeOf
+executed-space true floor clients = refl
+executed-space false floor clients = refl
 
 -- ---- the state that a record leaves
 

@@ -20,12 +20,13 @@ use Rattle.model.specs.declared.Packet.{Packet}
 use Rattle.model.specs.declared.Packet.the-variants.{Malformed, Requested, Resulted, Refused, Receipted, Noticed, Granted}
 use Rattle.model.proofs.Packet.{the-type}
 use Rattle.model.specs.Choice.{pick, refuse, reply, append, marks, unlessRefused}
-use Rattle.model.specs.Packets.{resultBytes, parsePacket, asNotice}
+use Rattle.model.specs.Versions.{today}
+use Rattle.model.specs.Packets.{resultSizeOf, resultBytes, parsePacket, asNotice}
 use Rattle.model.specs.Images.{floorOf}
 use Rattle.model.specs.Logs.{gone}
 use Rattle.model.specs.States.{State, load}
 use Rattle.model.specs.Apply.{withMark}
-use Rattle.model.specs.Decisions.{orMalformed, find, resultOfRecord, fetchRefusal, onFetched, onFetch, onSync, noticeRefusal, decideNotice, onNotice}
+use Rattle.model.specs.Decisions.{timedBy, orMalformed, find, resultOfRecord, fetchRefusal, onFetched, onFetch, onSync, noticeRefusal, decideNotice, onNotice}
 use Rattle.model.specs.Operations.{After, answerOf, after, settle, stored, freeIn, lentRefusal, lent, syncOf, fetchOf, noticeOf}
 use Rattle.model.specs.Limits.{resultSize, goneSize}
 use Rattle.model.specs.Refusals.{unknown, logFull, malformed, noRefusal}
@@ -46,19 +47,19 @@ module _ (s log : List ℕ) where
 -- ---- fetch
 
 module _ (s log out : List ℕ) where
-  pub fetch-is : (client call : ℕ) → fetchOf s log client call out ≡ settle s log out (unlessRefused (lentRefusal s log (length out) resultSize) (onFetch (load s) client call))
-  unfolding fetchOf lent
+  pub fetch-is : (client call : ℕ) → fetchOf today s log client call out ≡ settle s log out (unlessRefused (lentRefusal s log (length out) resultSize) (onFetch today (load s) client call))
+  unfolding fetchOf lent resultSizeOf timedBy
   fetch-is client call = refl
 
   pub fetch-none : (client call : ℕ) {f : Found} → f ≡ foundOf (find client call (load s .records)) → f ≡ Nothing → {r : Answer} → r ≡ answerOf unknown 0
-      → after r s log out ≡ settle s log out (onFetch (load s) client call)
+      → after r s log out ≡ settle s log out (onFetch today (load s) client call)
   unfolding settle onFetch onFetched
   fetch-none client call p q e = rw (e, found-none (find client call (load s .records)) (sym q ∙ p))
 
   pub fetch-at : (client call : ℕ) {f : Found} (x : Completion) → f ≡ foundOf (find client call (load s .records)) → f ≡ At x
-      → {a : After} → a ≡ settle s log out (unlessRefused (fetchRefusal (load s .mark) x) (reply (resultBytes (resultOfRecord x)))) → a ≡ settle s log out (onFetch (load s) client call)
-  unfolding onFetch onFetched
-  fetch-at client call x p q e = e ∙ ap (settle s log out) (sym (ap (onFetched (load s)) (found-at (find client call (load s .records)) x (sym q ∙ p))))
+      → {a : After} → a ≡ settle s log out (unlessRefused (fetchRefusal (load s .mark) x) (reply (resultBytes (resultOfRecord true x)))) → a ≡ settle s log out (onFetch today (load s) client call)
+  unfolding onFetch onFetched timedBy
+  fetch-at client call x p q e = e ∙ ap (settle s log out) (sym (ap (onFetched today (load s)) (found-at (find client call (load s .records)) x (sym q ∙ p))))
 
 -- ---- notice
 

@@ -2,10 +2,11 @@
 --     request-number     a refusal's number is at most 9
 --     request-room       the tables have room for an execution, and its call is not under the raised floor
 --     request-space      the log has space for its record
+--     request-timed      it notes a time
 --     request-place      its point is one of the plan's
 -- Assumes nothing.
 use Prim.Native.Nat.{ℕ, _+_, _*_, _≤_, _<_}
-use mathlib.Core.Path.{_≡_, sym, _∙_}
+use mathlib.Core.Path.{_≡_, sym, ap, _∙_}
 use mathlib.Core.Bool.{Bool, true, false, _&&_, not}
 use mathlib.Core.Option.{Option, none, some}
 use native.Mathlib.Omega.{arith}
@@ -19,7 +20,7 @@ use Rattle.model.specs.Numbers.{word}
 use Rattle.model.specs.Versions.{today}
 use Rattle.model.specs.Limits.{lastPoint, clientCount, executedSize}
 use Rattle.model.specs.Images.{floorOf, notKnown}
-use Rattle.model.specs.Logs.{executed, recordSize}
+use Rattle.model.specs.Logs.{executed, recordSize, executedSizeOf}
 use Rattle.model.specs.States.{State, pointAt, isHeld, isSynced}
 use Rattle.model.specs.Apply.{applyRecord}
 use Rattle.model.specs.Decisions.{Decided, find, sameCommand, executedFor, requestRefusal, heldRefusal, onHeld, newRefusal, onNew, onId, decideRequest}
@@ -51,14 +52,14 @@ small-unless : (k : ℕ) (d : Decided) → k ≤ lastDenied → Small d → Smal
 unfolding unlessRefused
 small-unless k d h s = choose Small (isPassed k) (λ e. s) (λ e n p. let m : k ≡ n = cc in omega (arith, m, h))
 
-small-held : (st : State) (q : Request) (r : Completion) → Small (onHeld st q r)
+small-held : (st : State) (q : Request) (r : Completion) → Small (onHeld today st q r)
 unfolding onHeld heldRefusal
 small-held st q r =
     small-unless _ _ (small-if (not (sameCommand r q)) otherCommand _ (omega arith) (small-if (not (isSynced (st .mark) (r .end))) notSynced 0 (omega arith) (omega arith)))
     (λ n e. let z : _≡_ {A = ℕ} 0 1 = cc in absurd (omega arith))
 
 small-new : (st : State) (free : ℕ) (q : Request) → Small (onNew today st free q)
-unfolding onNew newRefusal
+unfolding onNew newRefusal executedSizeOf
 small-new st free q =
     small-unless _ _
     (small-if (notKnown (floorOf (q .command .client) (st .floors)) && leb clientCount (length (st .floors))) clientsFull _ (omega arith)
@@ -91,7 +92,18 @@ module _ (st : State) (free : ℕ) (q : Request) {d : Decision} (p : decided d �
     appends = sym p ∙ rw h
 
     pub request-space : executedSize ≤ free
+    unfolding executedSizeOf
     request-space = request-terms today st free q (executed x) appends .1
+
+    its : x ≡ executedFor today st q
+    its = one (request-passed today st free q (executed x) appends .1)
+      where
+        one : {a b : Executed} → executed a ≡ executed b → a ≡ b
+        one e = cc
+
+    pub request-timed : x .timed ≡ true
+    unfolding executedFor
+    request-timed = rw its
 
     module _ (S : Sound st) (G : GoodRequest q) where
       decides : Decides st free (executed x)
@@ -108,14 +120,10 @@ module _ (st : State) (free : ℕ) (q : Request) {d : Decision} (p : decided d �
 
       over : floorOf (x .command .client) (st .floors) ≤ x .command .call
       unfolding executedFor
-      over =
-          let k = request-passed today st free q (executed x) appends in
-          let i : x ≡ executedFor today st q = one (k .1) in
-          rw i (k .0 .over)
-        where
-          one : {a b : Executed} → executed a ≡ executed b → a ≡ b
-          one e = cc
+      over = rw its (request-passed today st free q (executed x) appends .0 .over)
 
       pub request-room : st .size + executedSize < word * word → Room x st
-      unfolding applyRecord recordSize
-      request-room z = room-of st x S tests over (st .size + executedSize) (decided-sound st free (executed x) S decides z)
+      unfolding applyRecord recordSize executedSizeOf
+      request-room z =
+          let k : executedSizeOf (x .timed) ≡ executedSize = ap executedSizeOf request-timed in
+          room-of st x S tests over (st .size + executedSizeOf (x .timed)) (decided-sound st free (executed x) S decides (rw k z))

@@ -31,11 +31,11 @@ use Rattle.model.specs.Tables.{written}
 use Rattle.model.specs.Plan.{entryAt}
 use Rattle.model.specs.Rules.{argumentOk}
 use Rattle.model.specs.Images.{floorOf}
-use Rattle.model.specs.Packets.{commandOk, idOk, doneOk, requestOk, resultBytes, refusalBytes, parsePacket, asRequest}
-use Rattle.model.specs.Logs.{executed, recordBytes, recordSize}
+use Rattle.model.specs.Packets.{resultSizeOf, commandOk, idOk, doneOk, requestOk, resultBytes, refusalBytes, parsePacket, asRequest}
+use Rattle.model.specs.Logs.{executed, recordBytes, recordSize, executedSizeOf}
 use Rattle.model.specs.States.{State, load, pointAt}
 use Rattle.model.specs.Apply.{applyRecord, applyExecuted}
-use Rattle.model.specs.Decisions.{Decided, orMalformed, find, resultOfRecord, resultFor, executedFor, requestRefusal, heldRefusal, newRefusal, onHeld, onNew, onId, decideRequest, denying, onRequest}
+use Rattle.model.specs.Decisions.{Decided, timedBy, orMalformed, find, resultOfRecord, resultFor, executedFor, requestRefusal, heldRefusal, newRefusal, onHeld, onNew, onId, decideRequest, denying, onRequest}
 use Rattle.model.specs.Operations.{After, answerOf, after, settle, stored, freeIn, lentRefusal, lent, requestOf}
 use Rattle.model.specs.Refusals.{malformed, noRefusal}
 use Rattle.model_laws.proofs.Tests.{and-left}
@@ -76,13 +76,13 @@ module _ (q : Request) (g : GoodRequest q) where
 -- ---- a decision in code
 
 module _ (st : State) (q : Request) where
-  pub held-decided : (r : Completion) → onHeld st q r ≡ unlessRefused (heldRefusal (st .mark) q r) (reply (resultBytes (resultOfRecord r)))
-  unfolding onHeld
+  pub held-decided : (r : Completion) → onHeld today st q r ≡ unlessRefused (heldRefusal (st .mark) q r) (reply (resultBytes (resultOfRecord true r)))
+  unfolding onHeld timedBy
   held-decided r = refl
 
   pub new-decided : (free : ℕ)
-      → onNew today st free q ≡ unlessRefused (newRefusal (floorOf (q .command .client) (st .floors)) (length (st .floors)) free) (append (executed (executedFor today st q)))
-  unfolding onNew
+      → onNew today st free q ≡ unlessRefused (newRefusal (floorOf (q .command .client) (st .floors)) (length (st .floors)) free executedSize) (append (executed (executedFor today st q)))
+  unfolding onNew executedSizeOf
   new-decided free = refl
 
   pub request-decided : (free : ℕ)
@@ -105,7 +105,7 @@ module _ (st : State) (free : ℕ) (q : Request) {f : Found} (p : f ≡ foundOf 
   unfolding onId
   on-none h k = k ∙ rw (found-none (find (q .command .client) (q .command .call) (st .records)) (sym h ∙ p))
 
-  pub on-at : (x : Completion) → f ≡ At x → {d : Decided} → d ≡ onHeld st q x → d ≡ onId today st free q (find (q .command .client) (q .command .call) (st .records))
+  pub on-at : (x : Completion) → f ≡ At x → {d : Decided} → d ≡ onHeld today st q x → d ≡ onId today st free q (find (q .command .client) (q .command .call) (st .records))
   unfolding onId
   on-at x h k = k ∙ rw (found-at (find (q .command .client) (q .command .call) (st .records)) x (sym h ∙ p))
 
@@ -124,7 +124,7 @@ other-packet st free (Granted q) h = refl
 module _ (s log out : List ℕ) where
   module _ (packet : List ℕ) where
     pub request-is : requestOf today s log packet out ≡ settle s log out (unlessRefused (lentRefusal s log (length out) resultSize) (onRequest today (load s) (freeIn s log) (parsePacket packet)))
-    unfolding requestOf lent
+    unfolding requestOf lent resultSizeOf timedBy
     request-is = refl
 
     pub request-other : {p : Packet} {r : Answer} → p ≡ parsePacket packet → OneOf (0 ∷ 2 ∷ 3 ∷ 4 ∷ 5 ∷ 6 ∷ []) (tagOf the-type p) → r ≡ answerOf malformed 0
@@ -144,13 +144,15 @@ module _ (s log out : List ℕ) where
     unfolding decided denying settle refusalBytes
     denied n h a b = rw (← p, h, a, b)
 
-    pub answered : (x : Completion) → d ≡ Reply x → {r : Answer} {o : List ℕ} → r ≡ answerOf noRefusal resultSize → o ≡ written out 0 (resultBytes (resultOfRecord x))
+    pub answered : (x : Completion) → d ≡ Reply x → {r : Answer} {o : List ℕ} → r ≡ answerOf noRefusal resultSize → o ≡ written out 0 (resultBytes (resultOfRecord true x))
         → after r s log o ≡ settle s log out (denying q e)
-    unfolding decided denying
-    answered x h a b = rw (← p, h) (replied s log out (resultOfRecord x) a b)
+    unfolding decided denying resultOfRecord
+    answered x h a b = rw (← p, h) (replied s log out (resultOfRecord true x) refl a b)
 
-    pub executes : (x : Executed) → d ≡ Execute x → {r : Answer} {t l : List ℕ} → r ≡ answerOf noRefusal 0
+    pub executes : (x : Executed) → d ≡ Execute x → x .timed ≡ true → {r : Answer} {t l : List ℕ} → r ≡ answerOf noRefusal 0
         → t ≡ stored s (applyExecuted x (load s .size + executedSize) (load s)) → l ≡ written log (load s .size) (recordBytes (executed x))
         → after r t l out ≡ settle s log out (denying q e)
-    unfolding decided denying applyRecord recordSize
-    executes x h a b c = rw (← p, h) (appended s log out (executed x) b c a)
+    unfolding decided denying applyRecord recordSize executedSizeOf
+    executes x h z a b c =
+        rw (← p, h)
+        (appended s log out (executed x) (b ∙ ap (λ (n : ℕ). stored s (applyExecuted x (load s .size + n) (load s))) (sym (ap executedSizeOf z))) c a)

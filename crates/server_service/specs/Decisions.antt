@@ -2,6 +2,7 @@
 -- Assumes nothing.
 use Prim.Native.Nat.{ℕ, _+_}
 use mathlib.Core.Path.{_≡_}
+use mathlib.Core.Bool.{true}
 use mathlib.Core.List.{List}
 use Rattle.model.specs.declared.Answer.{Answer}
 use Rattle.model.specs.declared.Executed.{Executed}
@@ -23,7 +24,7 @@ use Rattle.server_service.specs.declared.request.Decision.the-variants.{
 
 unfoldable pub decided : Decision → Decided
 decided (Refuse n) = refuse n
-decided (Reply x) = reply (resultBytes (resultOfRecord x))
+decided (Reply x) = reply (resultBytes (resultOfRecord true x))
 decided (Execute x) = append (executed x)
 
 abbrev pub refusalFor : ℕ → Request → RefusalPacket

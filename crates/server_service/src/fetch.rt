@@ -9,6 +9,7 @@ ghost use lib.ListN.{length};
 ghost use Rattle.model.specs.Limits.{resultSize};
 ghost use Rattle.model.specs.States.{load};
 ghost use Rattle.model.specs.Decisions.{onFetch};
+ghost use Rattle.model.specs.Versions.{today};
 ghost use Rattle.model.specs.Operations.{after, fetchOf};
 ghost use Rattle.state_rows.specs.Canonical.{Canonical};
 ghost use Rattle.server_memory.specs.Memory.{SettledBeside};
@@ -16,7 +17,7 @@ ghost use Rattle.server_memory.specs.Memory.{SettledBeside};
 // Once the tests of lent memory are passed: 17 none held; 7 not synced; else the result packet.
 fn fetched(s: &[u8], client: u32, call: u32, out: &mut [u8]) -> Answer
     requires { ⌜ Canonical (now s) × (resultSize ≤ length (now out)) ⌝ }
-    ensures { λ r. ⌜ SettledBeside (onFetch (load (now (s .entry))) client call)
+    ensures { λ r. ⌜ SettledBeside (onFetch today (load (now (s .entry))) client call)
         (now (s .entry)) (now (out .entry)) r (now (s .entry)) (now (out .exit)) ⌝ }
 {
     let found = state_records::find(s, client, call);
@@ -36,7 +37,7 @@ fn fetched(s: &[u8], client: u32, call: u32, out: &mut [u8]) -> Answer
 // 2; 19; 17 none held; 7 not synced; else the result packet.
 pub fn fetch(s: &[u8], log: &[u8], client: u32, call: u32, out: &mut [u8]) -> Answer
     ensures { λ r. ⌜ after r (now (s .entry)) (now (log .entry)) (now (out .exit))
-        ≡ fetchOf (now (s .entry)) (now (log .entry)) client call (now (out .entry)) ⌝ }
+        ≡ fetchOf today (now (s .entry)) (now (log .entry)) client call (now (out .entry)) ⌝ }
 {
     let refusal = server_memory::lent_refusal(s, log, out.len(), constants::RESULT_SIZE);
     if refusal != 0 {

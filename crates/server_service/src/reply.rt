@@ -4,6 +4,7 @@ use model::Completion;
 use model::ResultPacket;
 use model::constants;
 ghost use mathlib.Core.Path.{_≡_};
+ghost use mathlib.Core.Bool.{true};
 ghost use Prim.Native.Nat.{_≤_};
 ghost use lib.ListN.{length};
 ghost use Rattle.model.specs.Limits.{resultSize};
@@ -14,7 +15,7 @@ ghost use Rattle.model.specs.Operations.{answerOf};
 
 // The result packet of a completion record.
 fn result_of(completion: Completion) -> ResultPacket
-    ensures { λ r. ⌜ r ≡ resultOfRecord completion ⌝ }
+    ensures { λ r. ⌜ r ≡ resultOfRecord true completion ⌝ }
 {
     let result = completion.result;
     ResultPacket {
@@ -22,6 +23,7 @@ fn result_of(completion: Completion) -> ResultPacket
         call: completion.command.call,
         point: completion.command.point,
         result,
+        timed: true,
     }
 }
 
@@ -29,7 +31,7 @@ fn result_of(completion: Completion) -> ResultPacket
 pub fn reply(out: &mut [u8], completion: Completion) -> Answer
     requires { ⌜ resultSize ≤ length (now out) ⌝ }
     ensures { λ r. ⌜ (r ≡ answerOf 0 resultSize)
-        × (now (out .exit) ≡ written (now (out .entry)) 0 (resultBytes (resultOfRecord completion))) ⌝ }
+        × (now (out .exit) ≡ written (now (out .entry)) 0 (resultBytes (resultOfRecord true completion))) ⌝ }
 {
     format_packet_writer::write_result(out, result_of(completion));
     server_decide::made(constants::RESULT_SIZE_U32)

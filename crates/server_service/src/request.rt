@@ -1,6 +1,7 @@
 // A client's request to a running server: decided on the state, then refused with a packet, answered, or executed. It
 // answers and leaves its lent slices as its definition says, for all arguments.
 use model::Answer;
+use model::CommandResult;
 use model::Completion;
 use model::Executed;
 use model::Packet;
@@ -11,6 +12,7 @@ use model::constants;
 use state_records::Found;
 use state_rows::state;
 ghost use mathlib.Core.Path.{_≡_};
+ghost use mathlib.Core.Bool.{true};
 ghost use Prim.Native.Nat.{_+_, _≤_};
 ghost use lib.ListN.{length};
 ghost use Rattle.model.specs.Limits.{lastPoint, executedSize, refusalSize, resultSize};
@@ -43,7 +45,7 @@ pub enum Decision {
 // An id that is held: 6 with another op, point or argument; 7 not synced; else its result.
 fn held_decision(s: &[u8], q: Request, completion: Completion) -> Decision
     requires { ⌜ stateEnd ≤ length (now s) ⌝ }
-    ensures { λ r. ⌜ decided r ≡ onHeld (load (now (s .entry))) q completion ⌝ }
+    ensures { λ r. ⌜ decided r ≡ onHeld today (load (now (s .entry))) q completion ⌝ }
 {
     let mark = state::mark_of(s);
     let refusal = server_decide::held_refusal(mark, q, completion);
@@ -53,7 +55,7 @@ fn held_decision(s: &[u8], q: Request, completion: Completion) -> Decision
     Decision::Reply(completion)
 }
 
-// The record of the command's execution.
+// The record of the command's execution; its time is the heard time.
 fn executed_for(s: &[u8], q: Request) -> Executed
     requires { ⌜ (stateEnd ≤ length (now s)) × GoodRequest q ⌝ }
     ensures { λ r. ⌜ r ≡ executedFor today (load (now (s .entry))) q ⌝ }
@@ -69,11 +71,16 @@ fn executed_for(s: &[u8], q: Request) -> Executed
             quality: x.quality,
         },
     );
+    let heard = state::heard_of(s);
     let command = q.command;
     Executed {
         command,
         done: q.done,
-        result: outcome,
+        result: CommandResult {
+            time: heard,
+            ..outcome
+        },
+        timed: true,
     }
 }
 
@@ -136,7 +143,7 @@ fn deny(out: &mut [u8], refusal: u32, q: Request) -> Answer
 // Logs and applies the record.
 fn execute(s: &mut [u8], log: &mut [u8], executed: Executed) -> Answer
     requires { ⌜ Canonical (now s) × (executed .command .point ≤ lastPoint) × Room executed (load (now s))
-        × (load (now s) .size + executedSize ≤ length (now log)) ⌝ }
+        × (load (now s) .size + executedSize ≤ length (now log)) × (executed .timed ≡ true) ⌝ }
     ensures { λ r. ⌜ Executes executed (now (s .entry)) (now (log .entry)) r (now (s .exit)) (now (log .exit)) ⌝ }
 {
     let size = state::size_of(s);

@@ -6,6 +6,7 @@ use Rattle.model.specs.Choice.{pick}
 use Rattle.model.specs.Refusals.{badMark}
 use Rattle.model.specs.Limits.{greatestImage, receiptSize}
 use Rattle.model.specs.States.{load}
+use Rattle.model.specs.Versions.{today}
 use Rattle.model.specs.Operations.{syncOf, giveOf, imageOf, receiptOf}
 use Rattle.model.specs.Simulator as simulator
 use Rattle.simulator_text.specs.declared.ServerLine.{ServerLine}
@@ -37,5 +38,5 @@ serverRan s l ps (Deliver k) = delivering s l ps (numbered ps k)
 serverRan s l ps Sync = servedBy ps (syncOf s l (load s .size))
 serverRan s l ps (Cut k) = cutting s l ps k
 serverRan s l ps (Give p d) = servedBy ps (giveOf s l p d)
-serverRan s l ps (Image p) = servedBy ps (imageOf s l p (simulator.room greatestImage))
+serverRan s l ps (Image p) = servedBy ps (imageOf today s l p (simulator.room greatestImage))
 serverRan s l ps (Receipt p) = servedBy ps (receiptOf s l p (simulator.room receiptSize))

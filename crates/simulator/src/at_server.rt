@@ -12,6 +12,7 @@ ghost use lib.ListN.{length};
 ghost use Rattle.model.specs.Limits.{greatestImage, receiptSize};
 ghost use Rattle.model.specs.States.{load, stateEnd};
 ghost use Rattle.model.specs.Operations.{syncOf, giveOf, imageOf, receiptOf, recoverOf};
+ghost use Rattle.model.specs.Versions.{today};
 ghost use Rattle.model.specs.Simulator.{room, simulatorPlan};
 ghost use Rattle.simulator_memory.specs.Store.{packetsIn, Room};
 ghost use Rattle.simulator.specs.Served.{servedBy, Leaves};
@@ -61,7 +62,7 @@ fn image_to(s: &[u8], log: &[u8], store: &mut [u8], count: u32, point: u32, out:
     requires { ⌜ Room (now store) count × (length (now out) ≤ greatestImage) ⌝ }
     ensures { λ r. ⌜ Leaves
         (servedBy (packetsIn (now (store .entry)) count)
-        (imageOf (now (s .entry)) (now (log .entry)) point (now (out .entry))))
+        (imageOf today (now (s .entry)) (now (log .entry)) point (now (out .entry))))
         count r (now (s .entry)) (now (log .entry)) (now (store .exit)) ⌝ }
 {
     let answer = server_moves::image::image(s, log, point, out);
@@ -72,7 +73,7 @@ fn image_line(s: &[u8], log: &[u8], store: &mut [u8], count: u32, point: u32) ->
     requires { ⌜ Room (now store) count ⌝ }
     ensures { λ r. ⌜ Leaves
         (servedBy (packetsIn (now (store .entry)) count)
-        (imageOf (now (s .entry)) (now (log .entry)) point (room greatestImage)))
+        (imageOf today (now (s .entry)) (now (log .entry)) point (room greatestImage)))
         count r (now (s .entry)) (now (log .entry)) (now (store .exit)) ⌝ }
 {
     let mut out = blank_image();

@@ -1,4 +1,4 @@
--- The parts of a sound state's checkpoint, as they stand in the state; and the whole.
+-- The parts of a sound state's checkpoint with times, as they stand in the state; and the whole.
 --     plan-part, points-part, clients-part, records-part     the bytes that are copied
 --     points-written, records-written       the loops' results, lent parts aside
 --     frame-runs, pairs-runs                stores of the head
@@ -6,6 +6,7 @@
 -- Assumes nothing.
 use Prim.Native.Nat.{ℕ, _+_, _-_, _*_}
 use mathlib.Core.Path.{_≡_, refl, sym, ap, _∙_}
+use mathlib.Core.Bool.{true}
 use mathlib.Core.List.{List, _++_}
 use native.Mathlib.Omega.{arith}
 use borrow.Rule.Slice.PartMut.{putMid, midOf}
@@ -16,7 +17,7 @@ use Rattle.model.specs.Tables.{bytesOf, written}
 use Rattle.model.specs.Plan.{planEntryOf, planBytes}
 use Rattle.model.specs.Images.{floorBytes}
 use Rattle.model.specs.States.{State, load, clientsIn, recordsIn, stateHead, pointsStart, floorsStart, recordsStart, pointRow, recordRow}
-use Rattle.model.specs.Checkpoints.{checkpointMagic, planPart, pointsPart, clientsPart, recordsPart, pairsBytes, pointFront, recordFront, checkpointBytes, fronts}
+use Rattle.model.specs.Checkpoints.{checkpointMagic, checkpointMagicOf, checkpointRecordOf, planPart, pointsPart, clientsPart, recordsPart, pairsBytes, pointFront, recordFront, checkpointBytes, fronts}
 use Rattle.model_laws.specs.Bytes.{Bytes, part}
 use Rattle.model_laws.specs.Runs.{last, run, storedBy, bytesBy}
 use Rattle.model_laws.specs.Fits.{Sound}
@@ -98,9 +99,9 @@ abbrev frame : State → List ℕ
 frame st = checkpointMagic ++ (quad (st .server) 0 0 0 ++ le32 (st .heard))
 
 -- with the numbers of clients and completion records as they stand in the state's head
-whole : (s : List ℕ) → checkpointBytes (load s) ≡ frame (load s) ++ (pairsBytes checkpointRecord (clientsIn s) (recordsIn s)
+whole : (s : List ℕ) → checkpointBytes true (load s) ≡ frame (load s) ++ (pairsBytes checkpointRecord (clientsIn s) (recordsIn s)
     ++ (planBytes (load s .plan) ++ (bytesOf pointFront (load s .points) ++ (bytesOf floorBytes (load s .floors) ++ bytesOf (recordFront checkpointRecord) (load s .records)))))
-unfolding checkpointBytes
+unfolding checkpointBytes checkpointMagicOf checkpointRecordOf
 whole s = rw (floors-count s, records-count s)
 
 pairs-length : (n k : ℕ) → length (pairsBytes checkpointRecord n k) ≡ 32
@@ -121,7 +122,7 @@ module _ (s : List ℕ) (h : Bytes s) (d : Sound s) where
   pub checkpoint-runs : (t : List ℕ)
       → written (written (written (written (written (written t 0 (frame (load s))) 12 (pairsBytes checkpointRecord (clientsIn s) (recordsIn s))) planPart (planBytes (load s .plan))) pointsPart
       (bytesOf pointFront (load s .points))) clientsPart (bytesOf floorBytes (load s .floors))) (recordsPart (clientsIn s)) (bytesOf (recordFront checkpointRecord) (load s .records))
-      ≡ written t 0 (checkpointBytes (load s))
+      ≡ written t 0 (checkpointBytes true (load s))
   unfolding storedBy bytesBy
   checkpoint-runs t =
       runs-stored t 0
@@ -133,5 +134,6 @@ module _ (s : List ℕ) (h : Bytes s) (d : Sound s) where
       (last (bytesOf (recordFront checkpointRecord) (load s .records))))))))
       ∙ ap (λ (x : List ℕ). written t 0 x) (sym (whole s))
 
-  pub checkpoint-size : recordsPart (clientsIn s) + checkpointRecord * recordsIn s ≡ length (checkpointBytes (load s))
-  checkpoint-size = rw (checkpoint-bytes-length (load s) (load-fits s h d), floors-count s, records-count s)
+  pub checkpoint-size : recordsPart (clientsIn s) + checkpointRecord * recordsIn s ≡ length (checkpointBytes true (load s))
+  unfolding checkpointRecordOf
+  checkpoint-size = rw (checkpoint-bytes-length true (load s) (load-fits s h d), floors-count s, records-count s)

@@ -1,5 +1,5 @@
-// A server's checkpoint, written from its state: the head with the pairs, then the four parts. Plan and clients are the
-// state's bytes; a row of a point or of a completion record is the front of the state's row.
+// A server's checkpoint, written from its state in the form with times: the head with the pairs, then the four parts.
+// Plan and clients are the state's bytes; a row of a point or of a completion record is the front of the state's row.
 use model::constants;
 use model::constants::CHECKPOINT_MAGIC;
 use model::constants::CHECKPOINT_POINT;
@@ -12,6 +12,7 @@ use model::constants::POINT_COUNT;
 use model::constants::POINTS_PART;
 use state_rows::state;
 ghost use mathlib.Core.Path.{_≡_};
+ghost use mathlib.Core.Bool.{true};
 ghost use mathlib.Core.List.{_++_};
 ghost use Prim.Native.Nat.{_+_, _*_, _≤_};
 ghost use lib.ListN.{length, take};
@@ -154,7 +155,8 @@ fn write_records(checkpoint: &mut [u8], s: &[u8], from: usize)
 pub fn write_checkpoint(checkpoint: &mut [u8], s: &[u8]) -> u32
     requires { ⌜ (Sound (now s)) × (checkpointSize ≤ length (now checkpoint)) ⌝ }
     ensures { λ r. ⌜ (now (checkpoint .exit) ≡ written (now (checkpoint .entry)) 0
-        (checkpointBytes (load (now (s .entry))))) × (r ≡ length (checkpointBytes (load (now (s .entry))))) ⌝ }
+        (checkpointBytes true (load (now (s .entry)))))
+        × (r ≡ length (checkpointBytes true (load (now (s .entry))))) ⌝ }
 {
     let n = state_rows::clients_in(s) as usize;
     let k = state_rows::records_in(s) as usize;

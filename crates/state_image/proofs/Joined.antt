@@ -5,6 +5,7 @@
 -- Assumes nothing.
 use Prim.Native.Nat.{ℕ, _+_, _-_, _*_, _≤_, _<_}
 use mathlib.Core.Path.{_≡_, sym, ap, _∙_}
+use mathlib.Core.Bool.{true}
 use mathlib.Core.List.{List}
 use mathlib.Core.Logic.{_≢_}
 use native.Mathlib.Omega.{arith}
@@ -16,9 +17,10 @@ use Rattle.model.specs.declared.ImageHead.{ImageHead}
 use Rattle.model.specs.declared.Point.{Point}
 use Rattle.model.specs.Limits.{recordCount, callWindow, entryRow}
 use Rattle.model.specs.Tables.{bytesOf, written}
-use Rattle.model.specs.Images.{imageEntryBytes, imageHead}
+use Rattle.model.specs.Images.{imageEntryBytes, entryRowOf, imageHead}
 use Rattle.model.specs.States.{load, clientsIn, recordsIn, completionOf, pointAt, recordRow, recordsStart}
-use Rattle.model.specs.Decisions.{entryOfRecord, imageFor}
+use Rattle.model.specs.Versions.{today}
+use Rattle.model.specs.Decisions.{entryOfRecord, timedBy, imageFor}
 use Rattle.model_laws.specs.Bytes.{Bytes}
 use Rattle.model_laws.specs.Fits.{Sound}
 use Rattle.model_laws.proofs.Images.{entryCodec}
@@ -48,11 +50,11 @@ module _ (p : ℕ) (s : List ℕ) (S : Sound s) {n : ℕ} (q : n ≡ clientsIn s
   unfolding entryIn
   slot-entry v z l x = x ∙ ap entryOfRecord (sym (record-at s (v - 1) (omega arith)))
 
-  module _ {at : ℕ} {s₀ s₁ : List ℕ} {k j : ℕ} (o : Walking entryCodec (load s .records) (take (callWindow * n) t) at s₀ k j s₁) (l : k < callWindow * n) where
+  module _ {at : ℕ} {s₀ s₁ : List ℕ} {k j : ℕ} (o : Walking (entryCodec true) (load s .records) (take (callWindow * n) t) at s₀ k j s₁) (l : k < callWindow * n) where
     short : k < length (take (callWindow * n) t)
     short = omega (arith, slots-count)
 
-    pub next-skip : getD t k 0 ≡ 0 → Walking entryCodec (load s .records) (take (callWindow * n) t) at s₀ (k + 1) j s₁
+    pub next-skip : getD t k 0 ≡ 0 → Walking (entryCodec true) (load s .records) (take (callWindow * n) t) at s₀ (k + 1) j s₁
     next-skip z = walk-skip o short (slot-at k l ∙ z)
 
     other : getD t k 0 ≢ 0 → getD (take (callWindow * n) t) k 0 ≢ 0
@@ -62,11 +64,12 @@ module _ (p : ℕ) (s : List ℕ) (S : Sound s) {n : ℕ} (q : n ≡ clientsIn s
     next-room z = omega (arith, slots-count, walk-room o short (other z))
 
     pub next-put : getD t k 0 ≢ 0 → {x : ImageEntry} → x ≡ entryOfRecord (completionOf (drop (recordsStart + recordRow * (getD t k 0 - 1)) s)) → {s₂ : List ℕ}
-        → s₂ ≡ written s₁ (at + entryRow * j) (imageEntryBytes x) → Walking entryCodec (load s .records) (take (callWindow * n) t) at s₀ (k + 1) (j + 1) s₂
+        → s₂ ≡ written s₁ (at + entryRow * j) (imageEntryBytes true x) → Walking (entryCodec true) (load s .records) (take (callWindow * n) t) at s₀ (k + 1) (j + 1) s₂
+    unfolding entryRowOf
     next-put z {x} y w =
         walk-put o short (other z) (slot-entry (getD t k 0) z (slot-most k) y ∙ ap (entryIn (load s .records)) (sym (slot-at k l))) w
 
-  entries-image : Bytes s → entriesIn (load s .records) (take (callWindow * n) t) ≡ imageFor (load s) p .entries
+  entries-image : Bytes s → entriesIn (load s .records) (take (callWindow * n) t) ≡ imageFor today (load s) p .entries
   unfolding pointSlots imageFor
   entries-image b =
       let T : StateSound (load s) = tables s b S in
@@ -76,16 +79,27 @@ module _ (p : ℕ) (s : List ℕ) (S : Sound s) {n : ℕ} (q : n ≡ clientsIn s
       ∙ slots-sorted p (load s .floors) (T .clients) (load s .records) (T .ascending) 0 (load s .records) (λ (j : ℕ). ap (λ (i : ℕ). getD (load s .records) i noRecord) (zero-add j)) (T .windows)
       (T .ids)
 
-  pub entries-done : Bytes s → {at : ℕ} {s₀ s₁ : List ℕ} {k j : ℕ} → Walking entryCodec (load s .records) (take (callWindow * n) t) at s₀ k j s₁ → callWindow * n ≤ k
-      → (s₁ ≡ written s₀ at (bytesOf imageEntryBytes (imageFor (load s) p .entries))) × (j ≡ length (imageFor (load s) p .entries))
+  pub entries-done : Bytes s → {at : ℕ} {s₀ s₁ : List ℕ} {k j : ℕ} → Walking (entryCodec true) (load s .records) (take (callWindow * n) t) at s₀ k j s₁ → callWindow * n ≤ k
+      → (s₁ ≡ written s₀ at (bytesOf (imageEntryBytes true) (imageFor today (load s) p .entries))) × (j ≡ length (imageFor today (load s) p .entries))
   entries-done b o l = rw (← entries-image b) (walk-end o (omega (arith, slots-count)))
 
 -- ---- the head
 
 pub head-of : (p : ℕ) (s : List ℕ) {x : Point} → x ≡ pointAt (load s) p → {server heard clients count : ℕ} → server ≡ load s .server → heard ≡ load s .heard → clients ≡ clientsIn s
-    → count ≡ length (imageFor (load s) p .entries)
+    → count ≡ length (imageFor today (load s) p .entries)
     → _≡_ {A = ImageHead}
-    (record { point = p; destination = x .destination; source = server; moveNumber = x .moveNumber; heard = heard; value = x .value; quality = x .quality; floors = clients; entries = count })
-    (imageHead (imageFor (load s) p))
-unfolding imageHead imageFor
+    (record {
+      point = p;
+      destination = x .destination;
+      source = server;
+      moveNumber = x .moveNumber;
+      heard = heard;
+      value = x .value;
+      quality = x .quality;
+      floors = clients;
+      entries = count;
+      timed = true;
+    })
+    (imageHead (imageFor today (load s) p))
+unfolding imageHead imageFor timedBy
 head-of p s q a b c d = rw (q, a, b, c, d, length-floors s)

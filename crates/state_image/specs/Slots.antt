@@ -2,6 +2,7 @@
 -- Assumes nothing.
 use Prim.Native.Nat.{ℕ, suc, _-_}
 use mathlib.Core.Path.{_≡_}
+use mathlib.Core.Bool.{true}
 use mathlib.Core.List.{List, [], _∷_}
 use lib.ListN.{length, getD, set, replicate}
 use lib.Dec.{eqb}
@@ -13,6 +14,7 @@ use Rattle.model.specs.Limits.{recordCount}
 use Rattle.model.specs.Tables.{bytesOf, written}
 use Rattle.model.specs.Images.{imageEntryBytes}
 use Rattle.model.specs.States.{State, load}
+use Rattle.model.specs.Versions.{today}
 use Rattle.model.specs.Decisions.{isOnPoint, entryOfRecord, imageFor}
 use Rattle.state_clients.specs.Places.{slotOf}
 
@@ -21,7 +23,7 @@ abbrev pub noRecord : Completion
 noRecord =
     record {
       command = record { client = 0; call = 0; op = 0; point = 0; argument = 0 };
-      result = record { outcome = 0; value = 0; quality = 0 };
+      result = record { outcome = 0; value = 0; quality = 0; time = 0 };
       end = 0;
     }
 
@@ -46,5 +48,5 @@ entriesIn rs (v ∷ vs) = pick (eqb v 0) (entriesIn rs vs) (entryIn rs v ∷ ent
 -- the entries of the point's image stored in out from at on, which left t; n of them
 abbrev pub EntriesPut : ℕ → List ℕ → ℕ → List ℕ → List ℕ → ℕ → Type 0
 EntriesPut point s at out t n =
-    (t ≡ written out at (bytesOf imageEntryBytes (imageFor (load s) point .entries)))
-    × (n ≡ length (imageFor (load s) point .entries))
+    (t ≡ written out at (bytesOf (imageEntryBytes true) (imageFor today (load s) point .entries)))
+    × (n ≡ length (imageFor today (load s) point .entries))

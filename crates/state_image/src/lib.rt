@@ -18,6 +18,7 @@ ghost use Rattle.model.specs.Limits.{lastPoint, greatestImage, recordCount, ent
 ghost use Rattle.model.specs.Tables.{written};
 ghost use Rattle.model.specs.Images.{imageBytes, imageLength, imageHead};
 ghost use Rattle.model.specs.States.{load, completionOf, recordsStart, recordRow};
+ghost use Rattle.model.specs.Versions.{today};
 ghost use Rattle.model.specs.Decisions.{entryOfRecord, imageFor};
 ghost use Rattle.model_laws.specs.Fits.{Sound};
 ghost use Rattle.state_image.specs.Slots.{pointSlots, EntriesPut};
@@ -73,8 +74,7 @@ fn write_entries(out: &mut [u8], at: usize, s: &[u8], point: u8) -> usize
         k += 1;
         if slot != 0 {
             let entry = entry_of(s, slot - 1);
-            let place = format_image_rows::entry_at(at, ENTRY_ROW, j);
-            format_image_writer::put_entry(out, place, entry);
+            format_image_writer::put_entry(out, at + ENTRY_ROW * j, entry);
             j += 1;
         }
     }
@@ -85,8 +85,9 @@ fn write_entries(out: &mut [u8], at: usize, s: &[u8], point: u8) -> usize
 
 // The head of the point's image, which has that many entries.
 fn head_for(s: &[u8], point: u8, entries: u32) -> ImageHead
-    requires { ⌜ (Sound (now s)) × (point ≤ lastPoint) × (entries ≡ length (imageFor (load (now s)) point .entries)) ⌝ }
-    ensures { λ r. ⌜ r ≡ imageHead (imageFor (load (now (s .entry))) point) ⌝ }
+    requires { ⌜ (Sound (now s)) × (point ≤ lastPoint)
+        × (entries ≡ length (imageFor today (load (now s)) point .entries)) ⌝ }
+    ensures { λ r. ⌜ r ≡ imageHead (imageFor today (load (now (s .entry))) point) ⌝ }
 {
     let x = state::point_at(s, point);
     ImageHead {
@@ -99,6 +100,7 @@ fn head_for(s: &[u8], point: u8, entries: u32) -> ImageHead
         quality: x.quality,
         floors: state_rows::clients_in(s),
         entries,
+        timed: true,
     }
 }
 
@@ -106,8 +108,8 @@ fn head_for(s: &[u8], point: u8, entries: u32) -> ImageHead
 pub fn write_image(out: &mut [u8], s: &[u8], point: u8) -> usize
     requires { ⌜ (Sound (now s)) × (point ≤ lastPoint) × (greatestImage ≤ length (now out)) ⌝ }
     ensures { λ r. ⌜ (now (out .exit) ≡ written (now (out .entry)) 0
-        (imageBytes (imageFor (load (now (s .entry))) point)))
-        × (r ≡ imageLength (imageFor (load (now (s .entry))) point)) ⌝ }
+        (imageBytes (imageFor today (load (now (s .entry))) point)))
+        × (r ≡ imageLength (imageFor today (load (now (s .entry))) point)) ⌝ }
 {
     let floors = state_rows::clients_in(s);
     format_image_writer::write_floors(out, &s[FLOORS_START..], floors as usize);
@@ -115,6 +117,5 @@ pub fn write_image(out: &mut [u8], s: &[u8], point: u8) -> usize
     let n = write_entries(out, at, s, point);
     let h = head_for(s, point, n as u32);
     format_image_writer::write_head(out, h);
-    let width = format_image_rows::entry_width(h);
-    format_image_rows::entry_at(at, width, n)
+    at + ENTRY_ROW * n
 }

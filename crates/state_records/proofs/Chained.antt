@@ -2,6 +2,7 @@
 --     kept-fits, added-fits, brought-fits     the state with its new records
 -- Assumes nothing.
 use Prim.Native.Nat.{ℕ, _+_, _*_, _≤_, _<_}
+use mathlib.Core.Bool.{Bool}
 use mathlib.Core.List.{List, [], _∷_, _++_, map}
 use native.Mathlib.Omega.{arith}
 use lib.ListN.{length, length-append}
@@ -17,13 +18,14 @@ use Rattle.model_laws.specs.Bytes.{All}
 use Rattle.model_laws.specs.Fits.{StateFits, CompletionFits, ImageEntryFits}
 use Rattle.model_laws.specs.Layout.{withRecords}
 use Rattle.model_laws.proofs.Tables.{all-keep, all-append, length-keep}
+use Rattle.model_invariants.proofs.Tests.{time-fits}
 use Rattle.state_rows.proofs.Chains.{fits-records}
 use Rattle.state_records.specs.declared.Rule.{Rule}
 use Rattle.state_records.specs.Rules.{staysBy, keptBy, brought}
 
-taken-fits : (p end : ℕ) → p < 256 → end < word * word → (e : ImageEntry) → ImageEntryFits e → CompletionFits (takenRecord p end e)
+taken-fits : (p end : ℕ) → p < 256 → end < word * word → (timed : Bool) (e : ImageEntry) → ImageEntryFits timed e → CompletionFits (takenRecord p end e)
 unfolding takenRecord
-taken-fits p end h l e f =
+taken-fits p end h l timed e f =
     record {
       client = f .client;
       call = f .call;
@@ -33,12 +35,13 @@ taken-fits p end h l e f =
       outcome = f .outcome;
       quality = f .quality;
       point = h;
+      time = time-fits timed (e .result .time) (f .time);
       end = l;
     }
 
-all-taken : (p end : ℕ) → p < 256 → end < word * word → (es : List ImageEntry) → All ImageEntryFits es → All CompletionFits (map (takenRecord p end) es)
-all-taken p end h l [] f = tt
-all-taken p end h l (e ∷ es) f = (taken-fits p end h l e (f .0), all-taken p end h l es (f .1))
+all-taken : (p end : ℕ) → p < 256 → end < word * word → (timed : Bool) (es : List ImageEntry) → All (ImageEntryFits timed) es → All CompletionFits (map (takenRecord p end) es)
+all-taken p end h l timed [] f = tt
+all-taken p end h l timed (e ∷ es) f = (taken-fits p end h l timed e (f .0), all-taken p end h l timed es (f .1))
 
 module _ (st : State) (f : StateFits st) where
   pub kept-fits : (rule : Rule) → StateFits (withRecords (keptBy rule st) st)
@@ -53,9 +56,9 @@ module _ (st : State) (f : StateFits st) where
   pub added-fits : (r : Completion) → CompletionFits r → length (st .records) < recordCount → StateFits (withRecords (st .records ++ (r ∷ [])) st)
   added-fits r a h = more-fits (r ∷ []) (a, tt) (omega arith)
 
-  pub brought-fits : (h : ImageHead) (end : ℕ) (image : List ℕ) → h .point < 256 → end < word * word → All ImageEntryFits (imageAt h image .entries)
+  pub brought-fits : (h : ImageHead) (end : ℕ) (image : List ℕ) → h .point < 256 → end < word * word → All (ImageEntryFits (h .timed)) (imageAt h image .entries)
       → length (st .records) + length (brought st h end image) ≤ recordCount
       → StateFits (withRecords (st .records ++ brought st h end image) st)
   brought-fits h end image p l a c =
       more-fits (brought st h end image)
-      (all-keep CompletionFits (staysOverFloors (st .floors)) (map (takenRecord (h .point) end) (imageAt h image .entries)) (all-taken (h .point) end p l (imageAt h image .entries) a)) c
+      (all-keep CompletionFits (staysOverFloors (st .floors)) (map (takenRecord (h .point) end) (imageAt h image .entries)) (all-taken (h .point) end p l (h .timed) (imageAt h image .entries) a)) c

@@ -122,22 +122,22 @@ module _ {rule : Rule} {s₀ : List ℕ} {n : ℕ} {s : List ℕ} {i j : ℕ} (o
 
 -- ---- an image's records
 
--- of the m entries of an image, of w bytes each, from k on the first i were tried; those that stay stand behind b rows, up to row j
-pub record Adding (f : ImageEntry → Completion) (image : List ℕ) (w k : ℕ) (s₀ : List ℕ) (b m : ℕ) (s : List ℕ) (i j : ℕ) : Type 0 where
+-- of the m entries of an image in a form, of w bytes each, from k on the first i were tried; those that stay stand behind b rows, up to row j
+pub record Adding (timed : Bool) (f : ImageEntry → Completion) (image : List ℕ) (w k : ℕ) (s₀ : List ℕ) (b m : ℕ) (s : List ℕ) (i j : ℕ) : Type 0 where
   pub below : i ≤ m
   pub clients : clientsIn s₀ ≤ clientCount
   pub long : stateEnd ≤ length s
-  pub room : b + length (keep (staysOverFloors (load s₀ .floors)) (map f (rows imageEntryOf w m (drop k image)))) ≤ recordCount
-  pub kept : Gathered completionCodec (staysOverFloors (load s₀ .floors)) recordsStart b s₀ (map f (rows imageEntryOf w i (drop k image))) s j
+  pub room : b + length (keep (staysOverFloors (load s₀ .floors)) (map f (rows (imageEntryOf timed) w m (drop k image)))) ≤ recordCount
+  pub kept : Gathered completionCodec (staysOverFloors (load s₀ .floors)) recordsStart b s₀ (map f (rows (imageEntryOf timed) w i (drop k image))) s j
 
 brought-rows : (s : List ℕ) (h : ImageHead) (end : ℕ) (image : List ℕ)
     → brought (load s) h end image ≡ keep (staysOverFloors (load s .floors)) (map (takenRecord (h .point) end)
-    (rows imageEntryOf (entryWidth h) (h .entries) (drop (entriesStart (h .floors)) image)))
+    (rows (imageEntryOf (h .timed)) (entryWidth h) (h .entries) (drop (entriesStart (h .floors)) image)))
 unfolding imageAt
 brought-rows s h end image = refl
 
 pub adding-start : (h : ImageHead) (end : ℕ) {image s : List ℕ} {b : ℕ} → Canonical s → b + length (brought (load s) h end image) ≤ recordCount
-    → Adding (takenRecord (h .point) end) image (entryWidth h) (entriesStart (h .floors)) s b (h .entries) s 0 b
+    → Adding (h .timed) (takenRecord (h .point) end) image (entryWidth h) (entriesStart (h .floors)) s b (h .entries) s 0 b
 unfolding rows
 adding-start h end {image} {s} {b} w l =
     record {
@@ -148,41 +148,41 @@ adding-start h end {image} {s} {b} w l =
       kept = gathered-start completionCodec (staysOverFloors (load s .floors)) recordsStart b s;
     }
 
-module _ {f : ImageEntry → Completion} {image : List ℕ} {w k : ℕ} {s₀ : List ℕ} {b m : ℕ} {s : List ℕ} {i j : ℕ} (o : Adding f image w k s₀ b m s i j) where
+module _ {timed : Bool} {f : ImageEntry → Completion} {image : List ℕ} {w k : ℕ} {s₀ : List ℕ} {b m : ℕ} {s : List ℕ} {i j : ℕ} (o : Adding timed f image w k s₀ b m s i j) where
   abbrev t : Completion → Bool
   t = staysOverFloors (load s₀ .floors)
 
   abbrev some-rows : ℕ → List Completion
-  some-rows n = map f (rows imageEntryOf w n (drop k image))
+  some-rows n = map f (rows (imageEntryOf timed) w n (drop k image))
 
-  one-more : {r : Completion} {e : ImageEntry} → e ≡ imageEntryOf (drop (k + w * i) image) → r ≡ f e → some-rows (i + 1) ≡ some-rows i ++ (r ∷ [])
+  one-more : {r : Completion} {e : ImageEntry} → e ≡ imageEntryOf timed (drop (k + w * i) image) → r ≡ f e → some-rows (i + 1) ≡ some-rows i ++ (r ∷ [])
   one-more {r} {e} p q =
-      let row : rows imageEntryOf w (i + 1) (drop k image) ≡ rows imageEntryOf w i (drop k image) ++ (e ∷ []) = rows-snoc imageEntryOf w i (drop k image) ∙ rw (drop-drop, p) in
-      ap (map f) row ∙ map-append f (rows imageEntryOf w i (drop k image)) (e ∷ []) ∙ rw q
+      let row : rows (imageEntryOf timed) w (i + 1) (drop k image) ≡ rows (imageEntryOf timed) w i (drop k image) ++ (e ∷ []) = rows-snoc (imageEntryOf timed) w i (drop k image) ∙ rw (drop-drop, p) in
+      ap (map f) row ∙ map-append f (rows (imageEntryOf timed) w i (drop k image)) (e ∷ []) ∙ rw q
 
   -- those of the first i + 1 that stay are among those of all that stay
   fewer : i < m → length (keep t (some-rows (i + 1))) ≤ length (keep t (some-rows m))
   fewer h =
-      let rest : List ImageEntry = rows imageEntryOf w (m - (i + 1)) (drop (w * (i + 1)) (drop k image)) in
+      let rest : List ImageEntry = rows (imageEntryOf timed) w (m - (i + 1)) (drop (w * (i + 1)) (drop k image)) in
       let e : m ≡ i + 1 + (m - (i + 1)) = omega arith in
       let split : keep t (some-rows m) ≡ keep t (some-rows (i + 1)) ++ keep t (map f rest) =
       ap (λ (n : ℕ). keep t (some-rows n)) e
-      ∙ ap (λ (x : List ImageEntry). keep t (map f x)) (rows-append imageEntryOf w (i + 1) (m - (i + 1)) (drop k image))
-      ∙ ap (keep t) (map-append f (rows imageEntryOf w (i + 1) (drop k image)) rest)
+      ∙ ap (λ (x : List ImageEntry). keep t (map f x)) (rows-append (imageEntryOf timed) w (i + 1) (m - (i + 1)) (drop k image))
+      ∙ ap (keep t) (map-append f (rows (imageEntryOf timed) w (i + 1) (drop k image)) rest)
       ∙ keep-append t (some-rows (i + 1)) (map f rest) in
       rw (split, length-append) (omega arith)
 
   pub adding-stays : (stateEnd ≤ length s) × (clientsIn s ≤ clientCount)
   adding-stays = (o .long, rw (same-clients (o .kept)) (o .clients))
 
-  pub adding-room : {r : Completion} {e : ImageEntry} {u : Bool} → i < m → e ≡ imageEntryOf (drop (k + w * i) image) → r ≡ f e → u ≡ staysOverFloors (load s .floors) r
+  pub adding-room : {r : Completion} {e : ImageEntry} {u : Bool} → i < m → e ≡ imageEntryOf timed (drop (k + w * i) image) → r ≡ f e → u ≡ staysOverFloors (load s .floors) r
       → (stateEnd ≤ length s) × (u ≡ true → j < recordCount)
   adding-room {r} {e} h p q v =
       let more : length (keep t (some-rows (i + 1))) ≡ length (keep t (some-rows i)) + length (keep t (r ∷ [])) = rw (one-more p q, keep-append, length-append) in
       (o .long, row-free t r (v ∙ rw (same-floors (o .kept) (o .clients))) (omega (arith, more, fewer h, o .room, o .kept .count)))
 
-  pub adding-next : {r : Completion} {e : ImageEntry} {u : Bool} {s' : List ℕ} {j' : ℕ} → i < m → e ≡ imageEntryOf (drop (k + w * i) image) → r ≡ f e
-      → u ≡ staysOverFloors (load s .floors) r → s' ≡ pick u (written s (recordsStart + recordRow * j) (completionBytes r)) s → j' ≡ pick u (j + 1) j → Adding f image w k s₀ b m s' (i + 1) j'
+  pub adding-next : {r : Completion} {e : ImageEntry} {u : Bool} {s' : List ℕ} {j' : ℕ} → i < m → e ≡ imageEntryOf timed (drop (k + w * i) image) → r ≡ f e
+      → u ≡ staysOverFloors (load s .floors) r → s' ≡ pick u (written s (recordsStart + recordRow * j) (completionBytes r)) s → j' ≡ pick u (j + 1) j → Adding timed f image w k s₀ b m s' (i + 1) j'
   adding-next {r} {e} {u} {s'} {j'} h p q v x y =
       let next : Gathered completionCodec t recordsStart b s₀ (some-rows i ++ (r ∷ [])) s' j' =
       gathered-next completionCodec t (o .kept) r u (v ∙ rw (same-floors (o .kept) (o .clients))) x y in
@@ -195,7 +195,7 @@ module _ {f : ImageEntry → Completion} {image : List ℕ} {w k : ℕ} {s₀ : 
       }
 
 pub adding-end : (h : ImageHead) (end : ℕ) {image s₀ s : List ℕ} {b i j : ℕ}
-    → Adding (takenRecord (h .point) end) image (entryWidth h) (entriesStart (h .floors)) s₀ b (h .entries) s i j → h .entries ≤ i
+    → Adding (h .timed) (takenRecord (h .point) end) image (entryWidth h) (entriesStart (h .floors)) s₀ b (h .entries) s i j → h .entries ≤ i
     → (s ≡ written s₀ (recordsStart + recordRow * b) (bytesOf completionBytes (brought (load s₀) h end image))) × (j ≡ b + length (brought (load s₀) h end image))
 adding-end h end {image} {s₀} {s} {b} {i} {j} o l =
     let e : i ≡ h .entries = omega (arith, o .below) in

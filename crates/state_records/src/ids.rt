@@ -4,11 +4,10 @@ use crate::Found;
 use model::ImageEntry;
 use model::ImageHead;
 ghost use mathlib.Core.Path.{_≡_};
-ghost use Prim.Native.Nat.{_+_, _*_, _≤_};
-ghost use lib.ListN.{length, drop};
-ghost use Rattle.model.specs.Limits.{entryRow};
-ghost use Rattle.model.specs.Tables.{rows, every};
-ghost use Rattle.model.specs.Images.{imageEntryOf, imageAt, lengthBy};
+ghost use Prim.Native.Nat.{_≤_};
+ghost use lib.ListN.{length};
+ghost use Rattle.model.specs.Tables.{every};
+ghost use Rattle.model.specs.Images.{imageAt, lengthBy};
 ghost use Rattle.model.specs.States.{load};
 ghost use Rattle.model.specs.Decisions.{freeFor};
 ghost use Rattle.model_invariants.specs.Sound.{Distinct};
@@ -39,32 +38,23 @@ fn is_free(s: &[u8], point: u8, entry: ImageEntry) -> bool
     }
 }
 
-// Each of so many records of an image from at.
-fn entries_free(s: &[u8], image: &[u8], point: u8, width: usize, at: usize, entries: usize) -> bool
-    requires { ⌜ Canonical (now s) × Distinct (load (now s) .records) × (entryRow ≤ width)
-        × (at + width * entries ≤ length (now image)) ⌝ }
-    ensures { λ r. ⌜ r ≡ every (freeFor point (load (now (s .entry)) .records))
-        (rows imageEntryOf width entries (drop at (now (image .entry)))) ⌝ }
-{
-    let mut i = 0;
-    while i < entries {
-        let k = format_image_rows::entry_at(at, width, i);
-        let entry = format_image_rows::entry_from(image, k);
-        if !is_free(s, point, entry) {
-            return false;
-        }
-        i += 1;
-    }
-    true
-}
-
 // Each id of an image with the head h.
 pub fn ids_free(s: &[u8], image: &[u8], h: ImageHead) -> bool
     requires { ⌜ Canonical (now s) × Distinct (load (now s) .records) × (lengthBy h ≤ length (now image)) ⌝ }
     ensures { λ r. ⌜ r ≡ every (freeFor (h .point) (load (now (s .entry)) .records))
         (imageAt h (now (image .entry)) .entries) ⌝ }
 {
+    let entries = h.entries as usize;
     let width = format_image_rows::entry_width(h);
     let at = format_image_rows::entries_start(h.floors);
-    entries_free(s, image, h.point, width, at, h.entries as usize)
+    let mut i = 0;
+    while i < entries {
+        let k = format_image_rows::entry_at(at, width, i);
+        let entry = format_image_rows::entry_from(image, k, h.timed);
+        if !is_free(s, h.point, entry) {
+            return false;
+        }
+        i += 1;
+    }
+    true
 }

@@ -248,7 +248,7 @@ fn put_entries(s: &mut [u8], n: usize, image: &[u8], h: ImageHead, end: u64) -> 
     let mut j = n;
     while i < entries {
         let k = format_image_rows::entry_at(at, width, i);
-        let entry = format_image_rows::entry_from(image, k);
+        let entry = format_image_rows::entry_from(image, k, h.timed);
         let r = taken_record(h.point, end, entry);
         let stay = over_floors(s, r);
         j = put_kept(s, stay, j, r);

@@ -1,12 +1,13 @@
 -- The frame of a checkpoint, and lengths of what is stored of it.
 --     framed-by                     the test of the frame, with the pairs tested apart
+--     records-within                the table of completion records lies in the checkpoint
 --     whole-rows                    the rows of a part
 --     length-part                   n bytes of a slice
 --     rows-length, padded-length, head-length     rows, a table with the zeros past its rows, the head
 -- Assumes nothing.
 use Prim.Native.Nat.{ℕ, zero, suc, _+_, _-_, _*_, _/_, _≤_}
 use mathlib.Core.Path.{_≡_, sym, _∙_}
-use mathlib.Core.Bool.{Bool, _&&_}
+use mathlib.Core.Bool.{Bool, _&&_, _||_}
 use mathlib.Core.List.{List}
 use native.Mathlib.Omega.{arith}
 use native.Mathlib.Nat.{mul-zero, mul-suc, mul-div-le}
@@ -14,19 +15,27 @@ use lib.ListN.{length, drop, replicate, length-append, length-drop, length-repli
 use lib.Seq.{length-take-le}
 use borrow.Author.Tests.{le-leb}
 use Rattle.model.specs.Numbers.{le64, startsWith}
-use Rattle.model.specs.Limits.{checkpointHead, checkpointRecord}
+use Rattle.model.specs.Limits.{recordCount, checkpointHead, checkpointRecord}
 use Rattle.model.specs.Tables.{rows, bytesOf}
 use Rattle.model.specs.States.{stateHead, padded}
-use Rattle.model.specs.Checkpoints.{checkpointMagic, recordWidth, recordsOf, fronts, checkpointFramed}
+use Rattle.model.specs.Checkpoints.{firstCheckpointMagic, checkpointMagic, recordsPart, recordWidth, clientsOf, recordsSizeIn, recordsOf, fronts, checkpointFramed}
 use Rattle.model_laws.specs.Bytes.{part}
 use Rattle.model_laws.proofs.Tables.{places}
-use Rattle.model_laws.proofs.Fronts.{length-fronts}
+use Rattle.model_laws.proofs.Fronts.{length-fronts, record-width}
+use Rattle.model_laws.proofs.Checkpoints.{Framed}
 use Rattle.state_restore.specs.Parts.{fixedPairs, tablePairs, headRestored}
 
 -- the test of the frame, with the pairs tested apart
-pub framed-by : (s : List ℕ) {m b : Bool} → checkpointHead ≤ length s → m ≡ startsWith s checkpointMagic → b ≡ fixedPairs checkpointRecord s → (m && b) ≡ checkpointFramed s
-unfolding checkpointFramed fixedPairs tablePairs recordsOf recordWidth
-framed-by s h q p = rw (q, p, le-leb checkpointHead (length s) h)
+pub framed-by : (s : List ℕ) {m o b : Bool} {w : ℕ} → checkpointHead ≤ length s → m ≡ startsWith s checkpointMagic → o ≡ startsWith s firstCheckpointMagic → w ≡ recordWidth s
+    → b ≡ fixedPairs w s → ((m || o) && b) ≡ checkpointFramed s
+unfolding checkpointFramed fixedPairs tablePairs recordsOf
+framed-by s h q u v p = rw (p, q, u, v, le-leb checkpointHead (length s) h)
+
+-- the table of completion records lies in the checkpoint, with the width and the counts that were read
+pub records-within : (s : List ℕ) → Framed s → {n w k : ℕ} → n ≡ clientsOf s → w ≡ recordWidth s → k ≡ recordsSizeIn s / w
+    → (recordsPart n + w * k ≤ length s) × (k ≤ recordCount) × (w ≤ checkpointRecord)
+unfolding recordsOf
+records-within s d p v q = rw (q, v, p) (d .whole, d .few-records, record-width s .1)
 
 -- whole rows of w bytes take no more than what was read
 pub whole-rows : {v b : ℕ} (w : ℕ) → v ≡ b → w * (v / w) ≤ v

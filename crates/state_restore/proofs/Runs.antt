@@ -4,7 +4,7 @@
 --     client-runs                   the clients, and zeros past their rows
 --     head-runs, restored-runs      the head; head and tables, one behind the other
 -- Assumes nothing.
-use Prim.Native.Nat.{ℕ, _+_, _-_, _*_, _≤_, _<_}
+use Prim.Native.Nat.{ℕ, _+_, _-_, _*_, _/_, _≤_, _<_}
 use mathlib.Core.Path.{_≡_, refl, sym, ap, _∙_}
 use mathlib.Core.List.{List, _++_, append-assoc}
 use native.Mathlib.Omega.{arith}
@@ -17,7 +17,7 @@ use Rattle.model.specs.Numbers.{le32At, le32, le64, quad}
 use Rattle.model.specs.Limits.{headSize, planSize, pointCount, clientCount, floorRow, checkpointHead, checkpointPoint, checkpointRecord}
 use Rattle.model.specs.Tables.{rows, bytesOf, written}
 use Rattle.model.specs.States.{given, stateMagic, clientsPlace, recordsPlace, lengthPlace, markPlace, stateHead, pointsStart, floorsStart, recordsStart, pointRow, padded}
-use Rattle.model.specs.Checkpoints.{planPart, pointsPart, clientsPart, recordsPart, recordWidth, clientsOf, recordsOf, pointWhole, recordWhole, fronts, restoredBytes}
+use Rattle.model.specs.Checkpoints.{planPart, pointsPart, clientsPart, recordsPart, recordWidth, clientsOf, recordsSizeIn, recordsOf, pointWhole, recordWhole, fronts, restoredBytes}
 use Rattle.model_laws.specs.Bytes.{part}
 use Rattle.model_laws.specs.Runs.{last, run, storedBy, bytesBy}
 use Rattle.model_laws.proofs.Numbers.{le32-drop, length-le64}
@@ -149,13 +149,14 @@ module _ (t : List ℕ) (i : Framed t) where
   clients-length =
       padded-length (take floorRow) floorRow floorRow (length-part 0 floorRow) n clientCount (drop clientsPart t) (i .few-clients) (rw length-drop (omega (arith, i .whole)))
 
-  -- as the calls leave it, with the counts that were read
-  pub restored-runs : (s : List ℕ) {c k : ℕ} {s1 s2 s3 s4 s5 : List ℕ} → c ≡ n → k ≡ m → s1 ≡ written s 0 (headRestored c k t) → s2 ≡ written s1 stateHead planBytes
+  -- as the calls leave it, with the width and the counts that were read
+  pub restored-runs : (s : List ℕ) {c w k : ℕ} {s1 s2 s3 s4 s5 : List ℕ} → c ≡ n → w ≡ recordWidth t → k ≡ recordsSizeIn t / w
+      → s1 ≡ written s 0 (headRestored c k t) → s2 ≡ written s1 stateHead planBytes
       → s3 ≡ written s2 pointsStart points → s4 ≡ written s3 floorsStart (padded (take floorRow) floorRow clientCount (fronts floorRow c (drop clientsPart t)))
-      → s5 ≡ written s4 recordsStart (bytesOf (recordWhole (recordWidth t)) (fronts (recordWidth t) k (drop (recordsPart c) t))) → s5 ≡ written s 0 (restoredBytes t)
-  unfolding storedBy bytesBy
-  restored-runs s p q a b d e f =
-      rw (f, e, d, b, a, p, q)
+      → s5 ≡ written s4 recordsStart (bytesOf (recordWhole w) (fronts w k (drop (recordsPart c) t))) → s5 ≡ written s 0 (restoredBytes t)
+  unfolding storedBy bytesBy recordsOf
+  restored-runs s p v q a b d e f =
+      rw (f, e, d, b, a, p, q, v)
       (runs-stored s 0
       (run (headRestored n m t) stateHead (omega (arith, head-length n m t (omega (arith, i .whole))))
       (run planBytes pointsStart (ap (λ (x : ℕ). stateHead + x) plan-length)

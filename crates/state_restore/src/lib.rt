@@ -2,7 +2,6 @@
 // at 8.
 use model::constants;
 use model::constants::CHECKPOINT_POINT;
-use model::constants::CHECKPOINT_RECORD;
 use model::constants::CLIENTS_PART;
 use model::constants::FLOOR_ROW;
 use model::constants::FLOORS_START;
@@ -22,7 +21,7 @@ ghost use Rattle.model.specs.Choice.{pick};
 ghost use Rattle.model.specs.Limits.{headSize, pointCount, clientCount, recordCount, floorRow, checkpointHead, checkpointPoint, checkpointRecord};
 ghost use Rattle.model.specs.Tables.{bytesOf, written};
 ghost use Rattle.model.specs.States.{given, stateEnd, stateHead, pointsStart, pointRow, floorsStart, recordsStart, recordRow, padded};
-ghost use Rattle.model.specs.Checkpoints.{pointsPart, clientsPart, recordsPart, clientsOf, recordsSizeIn, pointWhole, recordWhole, fronts};
+ghost use Rattle.model.specs.Checkpoints.{pointsPart, clientsPart, recordsPart, clientsOf, recordWidth, recordsSizeIn, pointWhole, recordWhole, fronts};
 ghost use Rattle.model.specs.Checkpoints.{restoredBytes, checkpointFramed};
 ghost use Rattle.state_restore.specs.Parts.{fixedPairs, tablePairs, headRestored};
 ghost use Rattle.state_restore.specs.Restored.{RestoredBy};
@@ -35,6 +34,18 @@ pub fn clients_of(s: &[u8]) -> usize
     ensures { λ r. ⌜ r ≡ clientsOf (now (s .entry)) ⌝ }
 {
     format_numbers::read_u32(s, constants::CHECKPOINT_CLIENTS_LENGTH) as usize / FLOOR_ROW
+}
+
+// The bytes of a completion record, by the checkpoint's form: the one place that knows them.
+pub fn record_width(s: &[u8]) -> usize
+    requires { ⌜ checkpointHead ≤ length (now s) ⌝ }
+    ensures { λ r. ⌜ r ≡ recordWidth (now (s .entry)) ⌝ }
+{
+    if format_numbers::starts_with(s, constants::CHECKPOINT_MAGIC) {
+        constants::CHECKPOINT_RECORD
+    } else {
+        constants::FIRST_CHECKPOINT_RECORD
+    }
 }
 
 // The number of completion records of width bytes, by the length of their part.
@@ -81,16 +92,18 @@ fn pairs_ok(s: &[u8], width: usize) -> bool
                     & ((clients == CLIENTS_PART) & tables))))
 }
 
-// The magic, and parts without gaps from byte 44 within the slice.
+// One of the magics, and parts without gaps from byte 44 within the slice.
 pub fn framed(checkpoint: &[u8]) -> bool
     ensures { λ r. ⌜ r ≡ checkpointFramed (now (checkpoint .entry)) ⌝ }
 {
     if checkpoint.len() < constants::CHECKPOINT_HEAD {
         return false;
     }
-    let magic = format_numbers::starts_with(checkpoint, constants::CHECKPOINT_MAGIC);
-    let pairs = pairs_ok(checkpoint, CHECKPOINT_RECORD);
-    magic & pairs
+    let timed = format_numbers::starts_with(checkpoint, constants::CHECKPOINT_MAGIC);
+    let untimed = format_numbers::starts_with(checkpoint, constants::FIRST_CHECKPOINT_MAGIC);
+    let width = record_width(checkpoint);
+    let pairs = pairs_ok(checkpoint, width);
+    (timed | untimed) & pairs
 }
 
 // ---- rows
@@ -125,7 +138,7 @@ fn put_point(s: &mut [u8], to: usize, checkpoint: &[u8], from: usize)
     format_numbers::write_u64(s, to + constants::POINT_TAKE_END, take);
 }
 
-// The completion record in the width bytes from one place, in the 28 bytes from another: zeros up to its front's end,
+// The completion record in the width bytes from one place, in the 32 bytes from another: zeros up to its front's end,
 // and its end.
 fn put_record(s: &mut [u8], to: usize, checkpoint: &[u8], from: usize, width: usize)
     requires { ⌜ (to + recordRow ≤ length (now s)) × (from + width ≤ length (now checkpoint))
@@ -219,7 +232,8 @@ pub fn restore(work: &mut [u8], checkpoint: &[u8])
     ensures { λ r. ⌜ now (work .exit) ≡ written (now (work .entry)) 0 (restoredBytes (now (checkpoint .entry))) ⌝ }
 {
     let n = clients_of(checkpoint);
-    let count = records_of(checkpoint, CHECKPOINT_RECORD);
+    let width = record_width(checkpoint);
+    let count = records_of(checkpoint, width);
     put_head(work, checkpoint, n, count);
     format_numbers::copy_part(
         work,
@@ -230,13 +244,7 @@ pub fn restore(work: &mut [u8], checkpoint: &[u8])
     );
     put_points(work, checkpoint);
     put_clients(work, checkpoint, n);
-    put_records(
-        work,
-        checkpoint,
-        CLIENTS_PART + FLOOR_ROW * n,
-        CHECKPOINT_RECORD,
-        count,
-    );
+    put_records(work, checkpoint, CLIENTS_PART + FLOOR_ROW * n, width, count);
 }
 
 // The state that a checkpoint gives, if it gives one: restored, and sound by the state's own rule.

@@ -42,14 +42,26 @@ abbrev pub completionAtPlace : List ℕ → ℕ → Completion
 completionAtPlace s k =
     record {
       command = record { client = le32At s k; call = le32At s (k + 4); op = getD s (k + 16) 0; point = getD s (k + 19) 0; argument = signedAt s (k + 8) };
-      result = record { outcome = getD s (k + 17) 0; value = signedAt s (k + 12); quality = getD s (k + 18) 0 };
-      end = le64At s (k + 20);
+      result = record { outcome = getD s (k + 17) 0; value = signedAt s (k + 12); quality = getD s (k + 18) 0; time = le32At s (k + 20) };
+      end = le64At s (k + 24);
     }
 
 pub completion-drop : (s : List ℕ) (k : ℕ) → completionOf (drop k s) ≡ completionAtPlace s k
 unfolding completionOf
 completion-drop s k =
-    rw (le32-drop k s 0, le32-drop k s 4, signed-drop k s 8, signed-drop k s 12, getD-drop k s 16 0, getD-drop k s 17 0, getD-drop k s 18 0, getD-drop k s 19 0, le64-drop k s 20, add-zero)
+    rw (
+      le32-drop k s 0,
+      le32-drop k s 4,
+      signed-drop k s 8,
+      signed-drop k s 12,
+      getD-drop k s 16 0,
+      getD-drop k s 17 0,
+      getD-drop k s 18 0,
+      getD-drop k s 19 0,
+      le32-drop k s 20,
+      le64-drop k s 24,
+      add-zero,
+    )
 
 -- ---- stores
 
@@ -68,8 +80,9 @@ point-runs s k x =
     (last (le64 (x .takeEnd))))))))
 
 pub completion-runs : (s : List ℕ) (k : ℕ) (r : Completion)
-    → written (written (written (written (written (written s k (le32 (r .command .client))) (k + 4) (le32 (r .command .call))) (k + 8) (signed32 (r .command .argument))) (k + 12)
-    (signed32 (r .result .value))) (k + 16) (quad (r .command .op) (r .result .outcome) (r .result .quality) (r .command .point))) (k + 20) (le64 (r .end))
+    → written (written (written (written (written (written (written s k (le32 (r .command .client))) (k + 4) (le32 (r .command .call))) (k + 8) (signed32 (r .command .argument))) (k + 12)
+    (signed32 (r .result .value))) (k + 16) (quad (r .command .op) (r .result .outcome) (r .result .quality) (r .command .point))) (k + 20) (le32 (r .result .time))) (k + 24)
+    (le64 (r .end))
     ≡ written s k (completionBytes r)
 unfolding completionBytes le64 storedBy bytesBy
 completion-runs s k r =
@@ -79,4 +92,5 @@ completion-runs s k r =
     (run (signed32 (r .command .argument)) (k + 12) (omega arith)
     (run (signed32 (r .result .value)) (k + 16) (omega arith)
     (run (quad (r .command .op) (r .result .outcome) (r .result .quality) (r .command .point)) (k + 20) (omega arith)
-    (last (le64 (r .end))))))))
+    (run (le32 (r .result .time)) (k + 24) (omega arith)
+    (last (le64 (r .end)))))))))

@@ -94,7 +94,7 @@ pub fn put_point(s: &mut [u8], k: usize, x: Point)
     format_numbers::write_u64(s, k + constants::POINT_TAKE_END, x.takeEnd);
 }
 
-// The completion record in the 28 bytes from k.
+// The completion record in the 32 bytes from k.
 pub fn completion_from(s: &[u8], k: usize) -> Completion
     requires { ⌜ k + recordRow ≤ length (now s) ⌝ }
     ensures { λ r. ⌜ r ≡ completionOf (drop k (now (s .entry))) ⌝ }
@@ -110,6 +110,7 @@ pub fn completion_from(s: &[u8], k: usize) -> Completion
         outcome: s[k + constants::RECORD_OUTCOME],
         value: format_numbers::read_signed(s, k + constants::RECORD_VALUE),
         quality: s[k + constants::RECORD_QUALITY],
+        time: format_numbers::read_u32(s, k + constants::RECORD_TIME),
     };
     Completion {
         command,
@@ -118,7 +119,7 @@ pub fn completion_from(s: &[u8], k: usize) -> Completion
     }
 }
 
-// Stores a completion record in the 28 bytes from k.
+// Stores a completion record in the 32 bytes from k.
 pub fn put_completion(s: &mut [u8], k: usize, r: Completion)
     requires { ⌜ k + recordRow ≤ length (now s) ⌝ }
     ensures { λ x. ⌜ now (s .exit) ≡ written (now (s .entry)) k (completionBytes r) ⌝ }
@@ -135,6 +136,7 @@ pub fn put_completion(s: &mut [u8], k: usize, r: Completion)
         r.result.quality,
         r.command.point,
     );
+    format_numbers::write_u32(s, k + constants::RECORD_TIME, r.result.time);
     format_numbers::write_u64(s, k + constants::RECORD_END, r.end);
 }
 

@@ -1,9 +1,12 @@
 //! Runs random schedules and checks demand 3 after each.
 //! Arguments: number of schedules (10,000), seed, and 1 for servers that are
-//! renewed in the schedule, 2 for a lock and its gates, or 3 for checkpoints, each
-//! server beside a shadow without them.
+//! renewed in the schedule, 2 for a lock and its gates, 3 for checkpoints, each
+//! server beside a shadow without them, or 4 for times, with checkpoints and with the
+//! last renewal of each server, beside shadows too.
 
-use second::schedule::{generate, generate_checkpoints, generate_lock, generate_renewed, Renewed};
+use second::schedule::{
+    generate, generate_checkpoints, generate_lock, generate_renewed, generate_timed, Renewed,
+};
 use second::world::{minimise_lock, minimise_renewed, run_lock, run_renewed, Counts, Options};
 use std::process::ExitCode;
 use std::time::Instant;
@@ -25,7 +28,8 @@ fn main() -> ExitCode {
         0 => |seed| check_one(Renewed::today(&generate(seed)), seed, false),
         1 => |seed| check_one(generate_renewed(seed), seed, false),
         2 => check_lock,
-        _ => |seed| check_one(Renewed::today(&generate_checkpoints(seed)), seed, true),
+        3 => |seed| check_one(Renewed::today(&generate_checkpoints(seed)), seed, true),
+        _ => |seed| check_one(generate_timed(seed), seed, true),
     };
     let begin = Instant::now();
     let mut counts = Counts::default();

@@ -1,27 +1,30 @@
 //! The faults of request 5 at a server: what a checkpoint loses of the state, what it leaves
 //! in the state, and where inspect looks first.
 
-use super::{lower_floors, with_mark_at_end, Fault, Faulty};
+use super::{drop_times, lower_floors, with_mark_at_end, Fault, Faulty};
 use crate::answer::{Answer, Refusal};
-use crate::checkpoint::write_checkpoint;
+use crate::checkpoint::write_checkpoint_as;
+use crate::program::Form;
 use crate::record::record_ends;
 use crate::rule::VALID;
 use crate::server::{Hold, Place, Point, Server};
 
 impl Faulty {
-    pub fn checkpoint(
+    /// Checkpoint as a program that writes the given form answers it.
+    pub fn checkpoint_as(
         &mut self,
+        form: Form,
         len: usize,
         log: &[u8],
         checkpoint: &mut [u8],
         tail: &mut [u8],
     ) -> Answer {
         let Some(fault) = self.fault else {
-            return self.server.checkpoint(len, log, checkpoint, tail);
+            return self.server.checkpoint_as(form, len, log, checkpoint, tail);
         };
         let before = self.server.clone();
         let mut own = checkpoint.to_vec();
-        let mut call = |s: &mut Server| s.checkpoint(len, log, &mut own, tail);
+        let mut call = |s: &mut Server| s.checkpoint_as(form, len, log, &mut own, tail);
         let answer = match fault {
             Fault::CheckpointBeforeSync => self.checkpoint_unsynced(call),
             _ => call(&mut self.server),
@@ -32,7 +35,7 @@ impl Faulty {
         leave(fault, &before, &mut self.server);
         let mut view = before;
         lose(fault, &mut view);
-        Answer::wrote(write_checkpoint(&view, checkpoint))
+        Answer::wrote(write_checkpoint_as(form, &view, checkpoint))
     }
 
     /// The mark stays if the call is refused.
@@ -97,6 +100,7 @@ fn lose(fault: Fault, view: &mut Server) {
     match fault {
         Fault::CheckpointWithoutHeard => view.heard = 0,
         Fault::CheckpointWithoutRecords => view.records.clear(),
+        Fault::CheckpointWithoutTimes => drop_times(view),
         Fault::CheckpointWithoutFloors => lower_floors(view),
         Fault::CheckpointWithoutGivenRecords => drop_given_records(view),
         Fault::CheckpointGivenAsReleased => {

@@ -102,4 +102,14 @@ pub enum Fault {
     InspectCheckpointFirst,
     /// Inspect looks in the tail from its first record on.
     InspectFirstRecord,
+    /// A result carries the heard time at the reply.
+    TimeOfReply,
+    /// A take puts its own heard time in the records that it brings; recovery does not.
+    TimeOfTake,
+    /// The image carries times 0.
+    ImageWithoutTimes,
+    /// The checkpoint has times 0.
+    CheckpointWithoutTimes,
+    /// Recover gives executed records without a time the heard time that they find.
+    RecoverWorksTimesOut,
 }

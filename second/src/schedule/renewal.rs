@@ -2,13 +2,14 @@
 //! place in the schedule, the next one from there on, and so on up to today's.
 
 use super::{generate, Call, Flaw, Keep, Party, Schedule, Step};
+use crate::program::Program;
 use crate::random::Random;
-use crate::rule::{Op, Rules};
+use crate::rule::Op;
 use std::ops::Range;
 
 /// The number of steps before each renewal of a server, in ascending order. Two
 /// at one place leave out the program between them.
-pub type Places = [usize; Rules::ALL.len() - 1];
+pub type Places = [usize; Program::ALL.len() - 1];
 
 #[derive(Clone, PartialEq, Eq, Debug)]
 pub struct Renewed {
@@ -37,10 +38,18 @@ impl Renewed {
         shorter
     }
 
-    /// The same steps, with all servers past their first renewal from the start.
-    pub fn from_second_program(mut self) -> Renewed {
-        self.places.iter_mut().for_each(|places| places[0] = 0);
+    /// The same steps, with all servers past so many renewals from the start.
+    pub fn past(mut self, renewals: usize) -> Renewed {
+        let places = self.places.iter_mut();
+        places.for_each(|places| places[..renewals].fill(0));
         self
+    }
+
+    /// All servers renewed at random places.
+    pub(super) fn renew_all(&mut self, random: &mut Random) {
+        for _ in 0..self.schedule.cabinets {
+            self.renew(random);
+        }
     }
 
     /// Adds the next server, renewed at random places.
@@ -69,11 +78,11 @@ impl Renewed {
     }
 }
 
-/// The rules of a server in a step, by the places of its renewals.
-pub(crate) fn rules_in_step(places: &[Places], server: usize, step: usize) -> Rules {
+/// The program of a server in a step, by the places of its renewals.
+pub(crate) fn program_in_step(places: &[Places], server: usize, step: usize) -> Program {
     let renewed = |places: &Places| places.iter().filter(|&&place| place <= step).count();
     let program = places.get(server).map(renewed);
-    program.map_or(Rules::TODAY, |program| Rules::ALL[program])
+    program.map_or(Program::TODAY, |program| Program::ALL[program])
 }
 
 /// Steps right before and right after a renewal: a crash and its recovery, a
@@ -128,8 +137,6 @@ pub fn generate_renewed(seed: u64) -> Renewed {
     let mut renewed = Renewed::today(&generate(seed));
     let mut random = Random::new(!seed);
     tell_programs_apart(&mut renewed.schedule.steps, &mut random);
-    for _ in 0..renewed.schedule.cabinets {
-        renewed.renew(&mut random);
-    }
+    renewed.renew_all(&mut random);
     renewed
 }

@@ -4,7 +4,8 @@
 use super::replay::replay_on;
 use super::{Hold, Server, BEFORE_THIS_LOG, STATE_LEN};
 use crate::answer::{Answer, Refusal};
-use crate::checkpoint::{parse_checkpoint, write_checkpoint, CHECKPOINT_LEN};
+use crate::checkpoint::{parse_checkpoint, write_checkpoint_as, CHECKPOINT_LEN};
+use crate::program::Form;
 use crate::record::{parse_head, write_head, HEAD_LEN};
 
 impl Server {
@@ -18,11 +19,24 @@ impl Server {
         checkpoint: &mut [u8],
         tail: &mut [u8],
     ) -> Answer {
-        Answer::of_written(self.try_checkpoint(state_len, log, checkpoint, tail))
+        self.checkpoint_as(Form::Timed, state_len, log, checkpoint, tail)
+    }
+
+    /// Checkpoint as a program that writes the given form answers it.
+    pub fn checkpoint_as(
+        &mut self,
+        form: Form,
+        state_len: usize,
+        log: &[u8],
+        checkpoint: &mut [u8],
+        tail: &mut [u8],
+    ) -> Answer {
+        Answer::of_written(self.try_checkpoint(form, state_len, log, checkpoint, tail))
     }
 
     fn try_checkpoint(
         &mut self,
+        form: Form,
         state_len: usize,
         log: &[u8],
         checkpoint: &mut [u8],
@@ -35,7 +49,7 @@ impl Server {
         if !self.synced(self.length) {
             return Err(Refusal::NotSynced);
         }
-        let written = write_checkpoint(self, checkpoint);
+        let written = write_checkpoint_as(form, self, checkpoint);
         tail[..HEAD_LEN].copy_from_slice(&write_head(self.cabinet));
         self.rebase();
         Ok(written)

@@ -4,14 +4,16 @@ use super::{Server, STATE_LEN};
 use crate::answer::{Answer, Refusal};
 use crate::image::CLIENTS_MAX;
 use crate::packet::{
-    parse_notice, parse_request, write_refusal, write_result, RefusalPacket, Request, REFUSAL_LEN,
-    RESULT_LEN,
+    parse_notice, parse_request, result_len, write_refusal, write_result, write_result_untimed,
+    RefusalPacket, Request, REFUSAL_LEN,
 };
 use crate::plan::{parse_plan, CABINETS};
+use crate::program::{Form, Program};
 use crate::record::{
-    write_executed, write_gone, write_head, Executed, Gone, EXECUTED_LEN, GONE_LEN, HEAD_LEN,
+    executed_len, write_executed, write_executed_untimed, write_gone, write_head, Executed, Gone,
+    GONE_LEN, HEAD_LEN,
 };
-use crate::rule::{apply_by, Rules};
+use crate::rule::apply_by;
 
 /// What a request that passed its tests comes to.
 enum Decision {
@@ -43,25 +45,26 @@ impl Server {
         packet: &[u8],
         output: &mut [u8],
     ) -> Answer {
-        self.request_by(Rules::TODAY, state_len, log, packet, output)
+        self.request_by(Program::TODAY, state_len, log, packet, output)
     }
 
-    /// Request as a program of the given rules answers it.
+    /// Request as the given program answers it.
     pub fn request_by(
         &mut self,
-        rules: Rules,
+        program: Program,
         state_len: usize,
         log: &mut [u8],
         packet: &[u8],
         output: &mut [u8],
     ) -> Answer {
-        if let Err(refusal) = self.test_lent(state_len, log, output, RESULT_LEN) {
+        let needed = result_len(program.form);
+        if let Err(refusal) = self.test_lent(state_len, log, output, needed) {
             return Answer::refused(refusal);
         }
         let Some(request) = parse_request(packet) else {
             return Answer::refused(Refusal::Malformed);
         };
-        match self.decide(&request, log) {
+        match self.decide(program.form, &request, log) {
             Err(refusal) => {
                 output[..REFUSAL_LEN].copy_from_slice(&refusal_packet(refusal, &request));
                 Answer {
@@ -69,16 +72,16 @@ impl Server {
                     written: REFUSAL_LEN,
                 }
             }
-            Ok(Decision::Repeat(index)) => self.write_reply(index, output),
+            Ok(Decision::Repeat(index)) => self.write_reply(program.form, index, output),
             Ok(Decision::Execute) => {
-                self.execute(rules, &request, log);
+                self.execute(program, &request, log);
                 Answer::DONE
             }
         }
     }
 
     /// The tests 3 to 9 of a well-formed request.
-    fn decide(&self, request: &Request, log: &[u8]) -> Result<Decision, Refusal> {
+    fn decide(&self, form: Form, request: &Request, log: &[u8]) -> Result<Decision, Refusal> {
         if !self.held(request.point) {
             return Err(Refusal::NotHeld);
         }
@@ -92,7 +95,7 @@ impl Server {
         if !known && self.clients.len() == CLIENTS_MAX {
             return Err(Refusal::ClientsFull);
         }
-        self.test_space(log, EXECUTED_LEN)?;
+        self.test_space(log, executed_len(form))?;
         Ok(Decision::Execute)
     }
 
@@ -116,17 +119,21 @@ impl Server {
         Ok(Decision::Repeat(index))
     }
 
-    fn write_reply(&self, index: usize, output: &mut [u8]) -> Answer {
+    fn write_reply(&self, form: Form, index: usize, output: &mut [u8]) -> Answer {
         let reply = self.records[index].reply();
-        output[..RESULT_LEN].copy_from_slice(&write_result(&reply));
-        Answer::wrote(RESULT_LEN)
+        let output = &mut output[..result_len(form)];
+        match form {
+            Form::Untimed => output.copy_from_slice(&write_result_untimed(&reply)),
+            Form::Timed => output.copy_from_slice(&write_result(&reply)),
+        }
+        Answer::wrote(output.len())
     }
 
-    fn execute(&mut self, rules: Rules, request: &Request, log: &mut [u8]) {
+    fn execute(&mut self, program: Program, request: &Request, log: &mut [u8]) {
         let point = self.point(request.point);
         let entry = self.plan.entry(request.point);
         let effect = apply_by(
-            rules,
+            program.rules,
             request.op,
             request.argument,
             entry,
@@ -143,8 +150,12 @@ impl Server {
             argument: request.argument,
             value: effect.value,
             quality: effect.quality,
+            time: program.form.time(self.heard),
         };
-        let end = self.append(log, &write_executed(&record));
+        let end = match program.form {
+            Form::Untimed => self.append(log, &write_executed_untimed(&record)),
+            Form::Timed => self.append(log, &write_executed(&record)),
+        };
         self.apply_executed(&record, end);
     }
 
@@ -158,7 +169,19 @@ impl Server {
         call: u32,
         output: &mut [u8],
     ) -> Answer {
-        if let Err(refusal) = self.test_lent(state_len, log, output, RESULT_LEN) {
+        self.fetch_as(Form::Timed, state_len, log, (client, call), output)
+    }
+
+    /// Fetch as a program that writes the given form answers it.
+    pub fn fetch_as(
+        &self,
+        form: Form,
+        state_len: usize,
+        log: &[u8],
+        (client, call): (u32, u32),
+        output: &mut [u8],
+    ) -> Answer {
+        if let Err(refusal) = self.test_lent(state_len, log, output, result_len(form)) {
             return Answer::refused(refusal);
         }
         match self.record_index(client, call) {
@@ -166,7 +189,7 @@ impl Server {
             Some(index) if !self.synced(self.records[index].end) => {
                 Answer::refused(Refusal::NotSynced)
             }
-            Some(index) => self.write_reply(index, output),
+            Some(index) => self.write_reply(form, index, output),
         }
     }
 

@@ -5,7 +5,7 @@ use super::checkpoint::start_of;
 use super::Server;
 use crate::answer::Refusal;
 use crate::checkpoint::record_at;
-use crate::image::{parse_layout, MOVED_LEN};
+use crate::image::{moved_len, parse_layout};
 use crate::record::{parse_whole, record_begin, record_ends, Record, TAKE_HEAD_LEN};
 
 /// What holds a completion record, by its number.
@@ -60,20 +60,16 @@ impl Server {
         let ends = record_ends(tail)?;
         self.record_index(client, call).ok_or(Refusal::Unknown)?;
         let entry = || {
-            let from = record_at(start.as_ref()?, client, call)?;
-            Some(entry_at(Source::Checkpoint, from))
+            let bytes = record_at(checkpoint, start.as_ref()?, client, call)?;
+            Some(Place {
+                source: Source::Checkpoint,
+                from: bytes.start,
+                to: bytes.end,
+            })
         };
         last_holder(tail, &ends, (client, call))
             .or_else(entry)
             .ok_or(Refusal::Unknown)
-    }
-}
-
-fn entry_at(source: Source, from: usize) -> Place {
-    Place {
-        source,
-        from,
-        to: from + MOVED_LEN,
     }
 }
 
@@ -94,8 +90,13 @@ fn held_in(tail: &[u8], from: usize, to: usize, (client, call): (u32, u32)) -> O
             to,
         }),
         Record::Take(image) => {
-            let at = parse_layout(image)?.record_at(client, call)?;
-            Some(entry_at(Source::Image, from + TAKE_HEAD_LEN + at))
+            let image = parse_layout(image)?;
+            let from = from + TAKE_HEAD_LEN + image.record_at(client, call)?;
+            Some(Place {
+                source: Source::Image,
+                from,
+                to: from + moved_len(image.form),
+            })
         }
         _ => None,
     }

@@ -3,13 +3,13 @@
 
 use super::{Hold, Server, RECORDS_MAX};
 use crate::answer::{Answer, Refusal};
-use crate::image::{parse_image, write_image, Image, ImageHead, CLIENTS_MAX, IMAGE_MAX};
+use crate::image::{image_max, parse_image, write_image_as, Image, ImageHead, CLIENTS_MAX};
 use crate::packet::{parse_receipt, write_receipt, Receipt, RECEIPT_LEN};
 use crate::plan::{CABINETS, POINTS};
+use crate::program::{Form, Program};
 use crate::record::{
     write_give, write_release, write_take_head, Give, Release, GIVE_LEN, RELEASE_LEN, TAKE_HEAD_LEN,
 };
-use crate::rule::Rules;
 
 impl Server {
     // Give.
@@ -64,17 +64,30 @@ impl Server {
     // Image.
 
     pub fn image(&self, state_len: usize, log: &[u8], point: u32, output: &mut [u8]) -> Answer {
-        Answer::of_written(self.try_image(state_len, log, point, output))
+        self.image_as(Form::Timed, state_len, log, point, output)
+    }
+
+    /// Image as a program that writes the given form answers it.
+    pub fn image_as(
+        &self,
+        form: Form,
+        state_len: usize,
+        log: &[u8],
+        point: u32,
+        output: &mut [u8],
+    ) -> Answer {
+        Answer::of_written(self.try_image(form, state_len, log, point, output))
     }
 
     fn try_image(
         &self,
+        form: Form,
         state_len: usize,
         log: &[u8],
         point: u32,
         output: &mut [u8],
     ) -> Result<usize, Refusal> {
-        self.test_lent(state_len, log, output, IMAGE_MAX)?;
+        self.test_lent(state_len, log, output, image_max(form))?;
         let point = point_number(point)?;
         let Hold::Given { destination, end } = self.point(point).hold else {
             return Err(Refusal::NotHeld);
@@ -82,15 +95,16 @@ impl Server {
         if !self.synced(end) {
             return Err(Refusal::NotSynced);
         }
-        Ok(self.write_image(point, destination, output))
+        Ok(self.write_image(form, point, destination, output))
     }
 
-    fn write_image(&self, point: u8, destination: u8, output: &mut [u8]) -> usize {
+    fn write_image(&self, form: Form, point: u8, destination: u8, output: &mut [u8]) -> usize {
         let mut order = [0u16; RECORDS_MAX];
         let order = self.records_by_id(point, &mut order);
         let records = order.iter().map(|&i| self.records[usize::from(i)].moved());
         let head = self.image_head(point, destination);
-        write_image(&head, self.clients.iter().copied(), records, output)
+        let floors = self.clients.iter().copied();
+        write_image_as(form, &head, floors, records, output)
     }
 
     fn image_head(&self, point: u8, destination: u8) -> ImageHead {
@@ -126,31 +140,33 @@ impl Server {
     // Take.
 
     pub fn take(&mut self, state_len: usize, log: &mut [u8], image: &[u8]) -> Answer {
-        self.take_by(Rules::TODAY, state_len, log, image)
+        self.take_by(Program::TODAY, state_len, log, image)
     }
 
-    /// Take as a program of the given rules answers it: an outcome that it
-    /// does not know is outside its range.
+    /// Take as the given program answers it: an outcome that it does not know is
+    /// outside its range, and an image of a later form is none.
     pub fn take_by(
         &mut self,
-        rules: Rules,
+        program: Program,
         state_len: usize,
         log: &mut [u8],
         image: &[u8],
     ) -> Answer {
-        Answer::of(self.try_take(rules, state_len, log, image))
+        Answer::of(self.try_take(program, state_len, log, image))
     }
 
     fn try_take(
         &mut self,
-        rules: Rules,
+        program: Program,
         state_len: usize,
         log: &mut [u8],
         bytes: &[u8],
     ) -> Result<(), Refusal> {
         self.test_state(state_len, log)?;
+        let known = program.rules.outcome_max();
         let image = parse_image(bytes, &self.plan)
-            .filter(|image| image.records().all(|r| r.outcome <= rules.outcome_max()))
+            .filter(|image| program.reads(image.form))
+            .filter(|image| image.records().all(|r| r.outcome <= known))
             .ok_or(Refusal::Malformed)?;
         self.test_take(&image)?;
         self.test_space(log, TAKE_HEAD_LEN + bytes.len())?;

@@ -18,6 +18,11 @@ impl World<'_> {
         &self.cabinets[cabinet].log
     }
 
+    /// All packets and images made, in order.
+    pub fn packets(&self) -> impl Iterator<Item = &[u8]> {
+        self.pool.iter().map(Vec::as_slice)
+    }
+
     /// The bytes that the crashes of a cabinet not recovered have kept.
     pub fn kept(&self, cabinet: usize) -> Option<&[u8]> {
         let c = &self.cabinets[cabinet];
@@ -42,7 +47,7 @@ impl World<'_> {
     pub fn marks(&self) -> Vec<Rules> {
         let mut marks = vec![Rules::TODAY; self.commands.len()];
         for e in self.executions.iter().rev().filter(|e| e.survives) {
-            marks[e.command] = e.rules;
+            marks[e.command] = e.program.rules;
         }
         marks
     }
@@ -81,7 +86,7 @@ impl World<'_> {
         let log = &self.log(cabinet)[..kept as usize];
         let answer = match self.lent_checkpoint(cabinet) {
             Some(checkpoint) => server.recover_checkpoint(STATE_LEN, &checkpoint, log),
-            None => server.recover_by(self.rules(cabinet), STATE_LEN, log, &self.plan),
+            None => server.recover_by(self.program(cabinet).rules, STATE_LEN, log, &self.plan),
         };
         (answer.number == 0).then(|| Server::clone(&server))
     }

@@ -110,7 +110,7 @@ impl World<'_> {
         let same = self.desks[index] == before;
         assert!(answer.is_ok() || same, "a refusal leaves a desk");
         self.tally(&answer);
-        if let Ok(Received::Result { call, effect }) = answer {
+        if let Ok(Received::Result { call, effect, .. }) = answer {
             let id = (self.desks[index].client, call);
             for c in &mut self.commands {
                 if (c.client, c.call) == id {

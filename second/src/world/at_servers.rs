@@ -3,9 +3,10 @@
 use super::{Execution, Phase, World, IMAGE};
 use crate::answer::Answer;
 use crate::bytes::get_u32;
-use crate::image::{IMAGE_MAGIC, IMAGE_MAX};
-use crate::packet::{NOTICE, RECEIPT, RECEIPT_LEN, REQUEST, RESULT_LEN};
-use crate::record::{parse_executed, Executed, EXECUTED_LEN};
+use crate::image::{image_max, IMAGE_MAGIC, IMAGE_MAGIC_UNTIMED};
+use crate::packet::{result_len, NOTICE, RECEIPT, RECEIPT_LEN, REQUEST};
+use crate::program::Program;
+use crate::record::{executed_len, parse_executed, Executed};
 use crate::rule::{apply_by, Op, PartRule, Rules, STOPPED};
 use crate::schedule::{Flaw, Mark, Party, Which};
 
@@ -40,15 +41,17 @@ impl World<'_> {
             return;
         };
         let packet = self.pool[number].clone();
-        let rules = self.rules(cabinet);
-        let (answer, output) = self.call(cabinet, flaw, RESULT_LEN, |s, len, log, out| {
-            s.request_by(rules, len, log, &packet, out)
+        let program = self.program(cabinet);
+        let needed = result_len(program.form);
+        let heard = self.cabinets[cabinet].server.heard;
+        let (answer, output) = self.call(cabinet, flaw, needed, |s, len, log, out| {
+            s.request_by(program, len, log, &packet, out)
         });
         if answer.number == 0 && answer.written == 0 {
-            self.executed(cabinet, &packet);
+            self.executed(cabinet, heard, &packet);
         }
         let made = self.made(answer, &output);
-        self.counts.repeats += u64::from(answer == Answer::wrote(RESULT_LEN));
+        self.counts.repeats += u64::from(answer == Answer::wrote(needed));
         self.note(|| {
             format!(
                 "request packet {} at cabinet {cabinet} -> {} {made}",
@@ -58,34 +61,37 @@ impl World<'_> {
         });
     }
 
-    pub(super) fn executed(&mut self, cabinet: usize, packet: &[u8]) {
+    /// At the heard time that the request found.
+    pub(super) fn executed(&mut self, cabinet: usize, heard: u32, packet: &[u8]) {
         let id = (get_u32(packet, 4), get_u32(packet, 8));
         let command = self.commands.iter().position(|c| (c.client, c.call) == id);
-        let rules = self.rules(cabinet);
+        let program = self.program(cabinet);
         let c = &self.cabinets[cabinet];
         self.executions.push(Execution {
             command: command.expect("a request is made by an issue"),
             cabinet,
-            rules,
+            program,
+            time: program.form.time(heard),
             end: c.replaced() + c.server.length,
             place: self.place,
             survives: true,
         });
-        self.count_executed(cabinet, rules);
+        self.count_executed(cabinet, program);
         self.count_opened(packet, cabinet);
     }
 
-    fn count_executed(&mut self, cabinet: usize, rules: Rules) {
-        let record = self.last_executed(cabinet);
+    fn count_executed(&mut self, cabinet: usize, program: Program) {
+        let record = self.last_executed(cabinet, program);
         let rounded_differently = self.rounded_differently(&record);
         let counts = &mut self.counts;
         counts.executed += 1;
-        counts.executed_old += u64::from(rules == Rules::OLD);
-        counts.executed_between += u64::from(rules == Rules::BETWEEN);
+        counts.executed_old += u64::from(program == Program::FIRST);
+        counts.executed_between += u64::from(program == Program::SECOND);
+        counts.executed_untimed += u64::from(program == Program::THIRD);
         match (record.op, record.outcome) {
             (Op::Step, 1) => counts.steps_refused += 1,
             (Op::Step, STOPPED) => counts.steps_stopped += 1,
-            (Op::Part, _) if rounded_differently => match rules.part {
+            (Op::Part, _) if rounded_differently => match program.rules.part {
                 PartRule::Down => counts.parts_down += 1,
                 PartRule::Nearest => counts.parts_up += 1,
             },
@@ -94,10 +100,11 @@ impl World<'_> {
     }
 
     /// The executed record at the log's end.
-    fn last_executed(&self, cabinet: usize) -> Executed {
+    fn last_executed(&self, cabinet: usize, program: Program) -> Executed {
         let c = &self.cabinets[cabinet];
         let end = c.server.length as usize;
-        parse_executed(&c.log[end - EXECUTED_LEN..end]).expect("an executed record")
+        let from = end - executed_len(program.form);
+        parse_executed(&c.log[from..end]).expect("an executed record")
     }
 
     /// Whether the two versions of part's rule differ for the record's argument.
@@ -127,8 +134,9 @@ impl World<'_> {
         let Some(cabinet) = self.running(at, self.holder(packet[2])) else {
             return;
         };
-        let (answer, output) = self.call(cabinet, flaw, RESULT_LEN, |s, len, log, out| {
-            s.fetch(len, log, client, call, out)
+        let form = self.program(cabinet).form;
+        let (answer, output) = self.call(cabinet, flaw, result_len(form), |s, len, log, out| {
+            s.fetch_as(form, len, log, (client, call), out)
         });
         let made = self.made(answer, &output);
         self.note(|| {
@@ -193,8 +201,9 @@ impl World<'_> {
             return;
         };
         let p = u32::from(point);
-        let (answer, output) = self.call(cabinet, flaw, IMAGE_MAX, |s, len, log, out| {
-            s.image(len, log, p, out)
+        let form = self.program(cabinet).form;
+        let (answer, output) = self.call(cabinet, flaw, image_max(form), |s, len, log, out| {
+            s.image_as(form, len, log, p, out)
         });
         let made = self.made(answer, &output);
         self.note(|| {
@@ -212,11 +221,11 @@ impl World<'_> {
             return;
         };
         let image = self.pool[number].clone();
-        let rules = self.rules(cabinet);
+        let program = self.program(cabinet);
         let (answer, _) = self.call(cabinet, flaw, 0, |s, len, log, _| {
-            s.take_by(rules, len, log, &image)
+            s.take_by(program, len, log, &image)
         });
-        self.count_take(rules, answer, &image);
+        self.count_take(program, answer, &image);
         self.note(|| {
             format!(
                 "take image {} at cabinet {cabinet} -> {}",
@@ -226,16 +235,18 @@ impl World<'_> {
         });
     }
 
-    fn count_take(&mut self, rules: Rules, answer: Answer, image: &[u8]) {
+    fn count_take(&mut self, program: Program, answer: Answer, image: &[u8]) {
+        let untimed = image.starts_with(&IMAGE_MAGIC_UNTIMED);
         match answer.number {
             0 => {
                 let source = usize::from(image[6]);
                 self.counts.takes += 1;
                 let gate = self.lock.is_some_and(|l| l.is_gate(image[4]));
                 self.counts.gate_takes += u64::from(gate);
-                self.counts.takes_across += u64::from(self.rules(source) != rules);
+                self.counts.takes_across += u64::from(self.program(source) != program);
+                self.counts.takes_untimed += u64::from(untimed && program == Program::TODAY);
             }
-            1 if image.starts_with(&IMAGE_MAGIC) => self.counts.images_too_new += 1,
+            1 if untimed || image.starts_with(&IMAGE_MAGIC) => self.counts.images_too_new += 1,
             _ => {}
         }
     }

@@ -4,9 +4,10 @@
 pub struct Counts {
     pub steps: u64,
     pub executed: u64,
-    /// Executions by the first program and by the one before today's.
+    /// Executions by the programs before today's.
     pub executed_old: u64,
     pub executed_between: u64,
+    pub executed_untimed: u64,
     /// Steps past an end, by the old rule and by today's.
     pub steps_refused: u64,
     pub steps_stopped: u64,
@@ -26,10 +27,17 @@ pub struct Counts {
     /// Recoveries without a crash.
     pub recovered_running: u64,
     pub takes: u64,
-    /// Takes from a server whose program has other rules at the time.
+    /// Takes from a server that runs another program at the time.
     pub takes_across: u64,
-    /// Images refused for an outcome that the taker's program does not know.
+    /// Images without times taken by today's program.
+    pub takes_untimed: u64,
+    /// Images refused for an outcome or a form that the taker's program does not know.
     pub images_too_new: u64,
+    /// Results in the form without time, results with a time above 0, and results in today's
+    /// form of commands that earlier programs executed.
+    pub results_untimed: u64,
+    pub results_timed: u64,
+    pub results_from_untimed: u64,
     pub releases: u64,
     pub gone: u64,
     pub refusals: [u64; 21],
@@ -61,6 +69,8 @@ pub struct Storing {
     pub crashed_stored: u64,
     /// Surviving executions whose records checkpoints replaced.
     pub replaced: u64,
+    /// Recoveries by today's program from a checkpoint without times.
+    pub from_untimed: u64,
     /// Completion records shown as executed record, image entry and checkpoint entry.
     pub inspected: [u64; 3],
 }
@@ -74,6 +84,7 @@ impl Storing {
         self.crashed_storing += other.crashed_storing;
         self.crashed_stored += other.crashed_stored;
         self.replaced += other.replaced;
+        self.from_untimed += other.from_untimed;
         for (sum, n) in self.inspected.iter_mut().zip(other.inspected) {
             *sum += n;
         }
@@ -86,6 +97,7 @@ impl Counts {
         self.executed += other.executed;
         self.executed_old += other.executed_old;
         self.executed_between += other.executed_between;
+        self.executed_untimed += other.executed_untimed;
         self.steps_refused += other.steps_refused;
         self.steps_stopped += other.steps_stopped;
         self.parts_down += other.parts_down;
@@ -100,7 +112,11 @@ impl Counts {
         self.recovered_running += other.recovered_running;
         self.takes += other.takes;
         self.takes_across += other.takes_across;
+        self.takes_untimed += other.takes_untimed;
         self.images_too_new += other.images_too_new;
+        self.results_untimed += other.results_untimed;
+        self.results_timed += other.results_timed;
+        self.results_from_untimed += other.results_from_untimed;
         self.releases += other.releases;
         self.gone += other.gone;
         self.controllers += other.controllers;

@@ -1,7 +1,9 @@
 //! Crashes, and recoveries after them and without one.
 
 use super::{Phase, World};
+use crate::checkpoint::CHECKPOINT_MAGIC_UNTIMED;
 use crate::faults::Fault;
+use crate::program::Program;
 use crate::schedule::{Flaw, Keep, Party};
 use crate::server::Server;
 
@@ -100,7 +102,7 @@ impl World<'_> {
     /// Recovers from the log's first bytes, and from the checkpoint if one is stored;
     /// false if it is refused.
     pub(super) fn recover_from(&mut self, cabinet: usize, kept: u64, flaw: Flaw) -> bool {
-        let (plan, rules) = (self.plan, self.rules(cabinet));
+        let (plan, program) = (self.plan, self.program(cabinet));
         let flaw = match flaw {
             Flaw::State => Flaw::State,
             _ => Flaw::None,
@@ -110,13 +112,16 @@ impl World<'_> {
             let kept = &log[..(replaced.unwrap_or(0) + kept) as usize];
             match (&checkpoint, replaced) {
                 (Some(checkpoint), None) => s.recover_checkpoint(len, checkpoint, kept),
-                _ => s.recover_by(rules, len, kept, &plan),
+                _ => s.recover_by(program.rules, len, kept, &plan),
             }
         });
         let recovered = answer.number == 0;
         if recovered {
             self.cabinets[cabinet].phase = Phase::Running;
             self.last = cabinet;
+            let untimed = checkpoint.is_some_and(|c| c.starts_with(&CHECKPOINT_MAGIC_UNTIMED));
+            let from_untimed = untimed && program == Program::TODAY;
+            self.counts.storing.from_untimed += u64::from(from_untimed);
         }
         self.note(|| {
             let number = answer.number;

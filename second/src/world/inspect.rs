@@ -4,7 +4,7 @@
 use super::{Differs, Phase, World};
 use crate::answer::Refusal;
 use crate::checkpoint::read_record;
-use crate::image::read_moved;
+use crate::image::{parse_layout, read_moved};
 use crate::record::{parse_executed, record_begin, record_ends, TAKE_HEAD_LEN};
 use crate::server::{Completion, Place, Source, STATE_LEN};
 
@@ -47,7 +47,9 @@ fn decode(place: &Place, checkpoint: &[u8], tail: &[u8]) -> Option<Completion> {
         Source::Image => {
             let (from, to) = record_around(tail, place.from)?;
             let point = tail[from + TAKE_HEAD_LEN + 4];
-            Some(Completion::of_moved(&read_moved(bytes)?, point, to as u64))
+            let entry = parse_layout(&tail[from + TAKE_HEAD_LEN..to])?;
+            let entry = read_moved(entry.form, bytes)?;
+            Some(Completion::of_moved(&entry, point, to as u64))
         }
         Source::Checkpoint => read_record(bytes),
     }

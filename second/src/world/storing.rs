@@ -15,6 +15,7 @@ impl World<'_> {
             return;
         };
         let (mut checkpoint, mut tail) = self.buffers(flaw);
+        let form = self.program(cabinet).form;
         let c = &mut self.cabinets[cabinet];
         if c.phase != Phase::Running {
             return;
@@ -22,7 +23,7 @@ impl World<'_> {
         let (mark, length) = (c.server.mark, c.server.length);
         let (state_len, log_len, _) = lent(flaw, c, 0);
         let log = &c.log[..log_len];
-        let answer = (c.server).checkpoint(state_len, log, &mut checkpoint, &mut tail);
+        let answer = (c.server).checkpoint_as(form, state_len, log, &mut checkpoint, &mut tail);
         self.counts.steps += 1;
         self.counts.refusals[answer.number as usize] += 1;
         self.counts.storing.unsynced += u64::from(answer.number == 7);

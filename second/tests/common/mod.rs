@@ -2,13 +2,15 @@
 #![allow(dead_code)]
 
 use second::answer::{Answer, Refusal};
-use second::image::{write_image, Floor, ImageHead, Moved, IMAGE_MAX};
+use second::image::{moved_len, write_image_as, Floor, ImageHead, Moved, IMAGE_MAX};
 use second::packet::{
-    parse_result, write_notice, write_receipt, write_request, Notice, Receipt, Request, REQUEST_LEN,
+    parse_result, write_notice, write_receipt, write_request, Notice, Receipt, Request,
+    REQUEST_LEN, RESULT_LEN,
 };
 use second::plan::{write_plan, Entry, Plan, PLAN_LEN};
+use second::program::{Form, Program};
 use second::random::Random;
-use second::record::{parse_executed, Executed, EXECUTED_LEN};
+use second::record::{parse_record, Executed, Parsed, Record, HEAD_LEN};
 use second::rule::{apply, apply_by, Effect, Op, Rules};
 use second::server::{Server, STATE_LEN};
 
@@ -135,23 +137,22 @@ impl Rig {
         self.request(0, 0, packet);
     }
 
-    /// The same by a program of the given rules.
-    pub fn execute_by(&mut self, rules: Rules, packet: &[u8]) {
+    /// The same by the given program.
+    pub fn execute_by(&mut self, program: Program, packet: &[u8]) {
         self.expect(0, 0, |s, log, out| {
-            s.request_by(rules, STATE_LEN, log, packet, out)
+            s.request_by(program, STATE_LEN, log, packet, out)
         });
     }
 
     /// The result of a call of client 1, fetched.
     pub fn result(&mut self, call: u32) -> Effect {
-        let reply = parse_result(&self.fetch(0, 16, 1, call)).expect("a result");
+        let reply = parse_result(&self.fetch(0, RESULT_LEN, 1, call)).expect("a result");
         effect(reply.outcome, reply.value, reply.quality)
     }
 
-    /// The executed record at the log's end.
+    /// The last executed record of the log.
     pub fn last_record(&self) -> Executed {
-        let end = self.server.length as usize;
-        parse_executed(&self.log[end - EXECUTED_LEN..end]).expect("a record")
+        *executed_records(self.whole_log()).last().expect("a record")
     }
 
     /// The log up to its length.
@@ -193,15 +194,19 @@ impl Rig {
         self.expect(number, 0, |s, log, _| s.take(STATE_LEN, log, image));
     }
 
-    /// The point and its records of one client, given to cabinet 1 and taken there by
-    /// each program; the taker is as `check` says, and recovers from its log.
+    /// The point and its records of one client, given to cabinet 1 in each program's form
+    /// and taken there by that program; the taker is as `check` says, and recovers from its
+    /// log.
     pub fn move_to_each_program(&mut self, point: u32, records: usize, check: impl Fn(&mut Rig)) {
         self.give(0, point, 1);
         self.sync_all();
-        let image = self.image(0, 48 + 8 + 20 * records, point);
-        for rules in Rules::ALL {
+        for program in Program::ALL {
+            let written = 48 + 8 + moved_len(program.form) * records;
+            let image = self.expect(0, written, |s, log, out| {
+                s.image_as(program.form, STATE_LEN, log, point, out)
+            });
             let mut taker = Rig::new(1, 2000);
-            taker.expect(0, 0, |s, log, _| s.take_by(rules, STATE_LEN, log, &image));
+            taker.expect(0, 0, |s, log, _| s.take_by(program, STATE_LEN, log, &image));
             taker.sync_all();
             check(&mut taker);
             let mut recovered = Server::new();
@@ -236,6 +241,19 @@ impl Rig {
             self.execute(&read(client, 1, 31));
         }
     }
+}
+
+/// The executed records of a log that is whole.
+pub fn executed_records(log: &[u8]) -> Vec<Executed> {
+    let (mut at, mut records) = (HEAD_LEN, Vec::new());
+    while let Parsed::Whole(record, end) = parse_record(log, at) {
+        if let Record::Executed(r) = record {
+            records.push(r);
+        }
+        at = end;
+    }
+    assert_eq!(at, log.len());
+    records
 }
 
 pub fn request(op: Op, point: u8, client: u32, call: u32, argument: i32) -> Request {
@@ -302,12 +320,18 @@ pub fn moved(client: u32, call: u32) -> Moved {
         op: Op::Set,
         outcome: 0,
         quality: 0,
+        time: 60,
     }
 }
 
 pub fn image(head: &ImageHead, floors: &[Floor], records: &[Moved]) -> Vec<u8> {
+    image_as(Form::Timed, head, floors, records)
+}
+
+pub fn image_as(form: Form, head: &ImageHead, floors: &[Floor], records: &[Moved]) -> Vec<u8> {
     let mut bytes = vec![0; IMAGE_MAX];
-    let len = write_image(
+    let len = write_image_as(
+        form,
         head,
         floors.iter().copied(),
         records.iter().copied(),

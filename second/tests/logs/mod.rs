@@ -29,12 +29,13 @@ pub fn recover(log: &[u8], plan: &Plan) -> Option<Server> {
 pub fn plain_len(b: &[u8]) -> Option<usize> {
     match b[0] {
         1 => Some(28),
+        6 => Some(32),
         2 => Some(12),
         3 | 5 => Some(8),
         4 if b.len() < 8 => Some(8),
         4 => {
             let image_len = get_u32(b, 4) as usize;
-            (48..=10_544).contains(&image_len).then_some(8 + image_len)
+            (48..=12_592).contains(&image_len).then_some(8 + image_len)
         }
         _ => None,
     }
@@ -70,11 +71,17 @@ pub fn executed(client: u32, call: u32, done: u32, point: u8, value: i32) -> Exe
         argument: 1,
         value,
         quality: 0,
+        time: 60,
     }
 }
 
 pub fn executed_bytes(client: u32, call: u32, done: u32, point: u8, value: i32) -> Vec<u8> {
     write_executed(&executed(client, call, done, point, value)).to_vec()
+}
+
+/// The same record as a program before request 6 writes it.
+pub fn executed_untimed_bytes(client: u32, call: u32, done: u32, point: u8, value: i32) -> Vec<u8> {
+    write_executed_untimed(&executed(client, call, done, point, value)).to_vec()
 }
 
 pub fn give_bytes(point: u8, destination: u8, move_number: u32) -> Vec<u8> {

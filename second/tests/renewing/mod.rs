@@ -88,24 +88,36 @@ pub fn schedule(calls: &Calls) -> Schedule {
     }
 }
 
-/// Server 0 is renewed after the first list of calls and after the second;
-/// server 1 runs today's program.
-pub fn renewed_after(lists: [&Calls; 3]) -> Renewed {
-    let [first, second, _] = lists.map(|calls| calls.iter().map(Vec::len).sum::<usize>());
+/// Server 0 is renewed after each list of calls but the last; server 1 runs today's
+/// program.
+pub fn renewed_after(lists: [&Calls; 4]) -> Renewed {
+    let [first, second, third, _] = lists.map(|calls| calls.iter().map(Vec::len).sum::<usize>());
     Renewed {
         schedule: schedule(&lists.concat()),
-        places: vec![[first, first + second], [0, 0]],
+        places: vec![[first, first + second, first + second + third], [0; 3]],
     }
 }
 
 /// Server 0 is renewed between the calls, from the first program to today's.
 pub fn renewed_between(before: &Calls, after: &Calls) -> Renewed {
-    renewed_after([before, &[], after])
+    renewed_after([before, &[], &[], after])
 }
 
 /// The same from the second program to today's.
 pub fn renewed_from_second(before: &Calls, after: &Calls) -> Renewed {
-    renewed_after([&[], before, after])
+    renewed_after([&[], before, &[], after])
+}
+
+/// The same from the third program to today's.
+pub fn renewed_from_third(before: &Calls, after: &Calls) -> Renewed {
+    renewed_after([&[], &[], before, after])
+}
+
+/// The same schedule with server 1 past so many renewals alone, from the start on.
+pub fn other_past(renewals: usize, mut renewed: Renewed) -> Renewed {
+    let never = renewed.schedule.steps.len();
+    renewed.places[1][renewals..].fill(never);
+    renewed
 }
 
 /// Runs the schedule; the marked book explains it.

@@ -316,12 +316,12 @@ impl Maker<'_> {
             return None;
         };
         let (class, size) = match (kind, number, made) {
-            (Kind::Request, 0, 0) => ("request: executed".to_string(), 28),
+            (Kind::Request, 0, 0) => ("request: executed".to_string(), 32),
             (Kind::Request, 0, _) => ("request: result".to_string(), 0),
             (Kind::Request, ..) => (format!("request: {number}"), 0),
             (Kind::Image, ..) => (
                 format!("take: {number}"),
-                56 + 8 + 20 * self.random.below(4),
+                56 + 8 + 24 * self.random.below(4),
             ),
             (Kind::Receipt, ..) => (format!("release: {number}"), 8),
             _ => (format!("deliver: {number}"), 0),

@@ -179,6 +179,7 @@ impl Parts {
             argument: request.argument,
             value,
             quality: 0,
+            time: 0,
         });
         let at = self.pair.length() - EXECUTED_LEN;
         let row = &self.pair.state[POINTS_AT + 32 * usize::from(request.point)..];

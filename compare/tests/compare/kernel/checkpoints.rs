@@ -6,12 +6,13 @@ mod damaged;
 
 use super::*;
 use compare::checkpoint::Place;
+use compare::forms::{untimed_checkpoint, untimed_log};
 use compare::pair::{Buffers, LentCheckpoint};
 use damaged::cause;
 use second::checkpoint::{CHECKPOINT_LEN, CHECKPOINT_MAX};
 use second::record::{write_head, HEAD_LEN};
 
-const CALLED: [&str; 15] = [
+const CALLED: [&str; 16] = [
     "checkpoint: 0",
     "checkpoint: 0, nothing since the last",
     "checkpoint: 2, state",
@@ -24,6 +25,7 @@ const CALLED: [&str; 15] = [
     "crash: after storing",
     "crash: later",
     "recover_checkpoint: 0, incomplete record",
+    "recover_checkpoint: 0, forms without times",
     "recover_checkpoint: 2",
     "inspect: 2",
     "damaged state: 19",
@@ -48,10 +50,13 @@ const BY_TAIL: [&str; 6] = [
     "recover_checkpoint: 14, record cannot follow",
 ];
 
-const INSPECTED: [&str; 9] = [
+const INSPECTED: [&str; 12] = [
     "inspect: 0, executed record",
+    "inspect: 0, untimed executed record",
     "inspect: 0, image entry",
+    "inspect: 0, untimed image entry",
     "inspect: 0, checkpoint entry",
+    "inspect: 0, untimed checkpoint entry",
     "inspect: 14, checkpoint",
     "inspect: 14, other server",
     "inspect: 14, tail",
@@ -72,9 +77,15 @@ fn class_of_checkpoint(answer: Answer, lent: &LentCheckpoint, length: usize) -> 
 
 fn class_of_place(place: Place, pair: &Pair, checkpoint: &[u8], tail: &[u8]) -> String {
     let detail = match (place.number, place.source) {
-        (0, 1) => "executed record",
-        (0, 2) => "image entry",
-        (0, _) => "checkpoint entry",
+        (0, source) => match (source, place.end - place.start) {
+            (1, 32) => "executed record",
+            (1, 28) => "untimed executed record",
+            (2, 24) => "image entry",
+            (2, 20) => "untimed image entry",
+            (3, 24) => "checkpoint entry",
+            (3, 20) => "untimed checkpoint entry",
+            _ => panic!("{place:?}"),
+        },
         (14, _) => match cause(checkpoint, &tail[..pair.length()]) {
             _ if checkpoint.is_empty() => "tail",
             "checkpoint's head" | "checkpoint's pairs" | "unsound state" => "checkpoint",
@@ -303,6 +314,23 @@ impl Plant {
         self.recover_at(i, k, tally);
     }
 
+    /// The server is renewed: it goes on from what the program before left, its checkpoint too.
+    fn renewed(&mut self, i: usize, tally: &mut Tally) {
+        let before = self.world.pairs[i].server.clone();
+        let stored = &mut self.stored[i];
+        let from_checkpoint = !stored.checkpoint.is_empty();
+        if from_checkpoint {
+            stored.checkpoint = untimed_checkpoint(&stored.checkpoint);
+            stored.replaced = untimed_log(&stored.replaced, || true);
+        }
+        let kept = self.world.put_old_forms(i);
+        self.recover_at(i, kept, tally);
+        same_but_times(&before, &self.world.pairs[i].server);
+        if from_checkpoint {
+            tally.meet("recover_checkpoint: 0, forms without times");
+        }
+    }
+
     // ---- inspect
 
     /// Some ids, known and not, in what is in force.
@@ -362,13 +390,17 @@ impl Plant {
     }
 
     fn step(&mut self, tally: &mut Tally) {
-        match self.world.random.below(240) {
+        match self.world.random.below(244) {
             200..=213 => self.checkpoint(tally),
             214..=224 => self.inspect(tally),
             225 | 226 => self.crash(tally),
             227..=231 => self.damaged_checkpoint(tally),
             232..=236 => self.damaged_tail(tally),
             237 => self.damaged_state(tally),
+            238..=243 => {
+                let i = self.world.any();
+                self.renewed(i, tally);
+            }
             n => self.world.work(n, &mut self.others),
         }
     }
@@ -420,7 +452,7 @@ fn longest() {
     inspect_all(&plant, &[], &mut tally);
     let checkpoint = plant.stored_now(0);
     assert_eq!(checkpoint.len(), CHECKPOINT_MAX);
-    assert_eq!(CHECKPOINT_MAX, 12_588);
+    assert_eq!(CHECKPOINT_MAX, 14_636);
     inspect_all(&plant, &checkpoint, &mut tally);
     plant.recover_from(0, &checkpoint, HEAD_LEN, &mut tally);
     let next = Request {

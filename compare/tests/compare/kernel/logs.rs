@@ -4,7 +4,9 @@
 use super::*;
 use compare::kernel::{log_end, second_log_end, LogEnd};
 use second::image::IMAGE_MIN;
-use second::record::{parse_head, parse_record, Parsed, EXECUTED, HEAD_LEN, RELEASE, TAKE};
+use second::record::{
+    parse_head, parse_record, Parsed, EXECUTED, EXECUTED_UNTIMED, HEAD_LEN, TAKE,
+};
 
 const BAD_LOG: LogEnd = LogEnd { number: 14, end: 0 };
 
@@ -30,7 +32,7 @@ pub(super) fn fault(log: &[u8]) -> &'static str {
     let at = *places(log).last().expect("a place");
     match (parse_record(log, at), log.get(at)) {
         (Parsed::Broken, Some(&TAKE)) if !image_length_ok(&log[at..]) => "image length",
-        (Parsed::Broken, Some(EXECUTED..=RELEASE)) => "field",
+        (Parsed::Broken, Some(EXECUTED_UNTIMED..=EXECUTED)) => "field",
         (Parsed::Broken, _) => "kind",
         _ => "record cannot follow",
     }
@@ -136,9 +138,9 @@ impl World {
         }
     }
 
-    /// One of the first seven numbers of a record.
+    /// One of the first eight numbers of a record.
     fn change_field(&mut self, record: &mut [u8]) {
-        let fields = record.len().min(28) as u32 / 4;
+        let fields = record.len().min(32) as u32 / 4;
         let at = 4 * self.random.below(fields) as usize;
         let by = *self.random.pick(&[1, u32::MAX, 1 << 31]);
         let four = get_u32(record, at).wrapping_add(by);
@@ -148,12 +150,12 @@ impl World {
     /// A record's kind, or the image length that it has if it is a take.
     fn change_head(&mut self, record: &mut [u8]) {
         if self.random.chance(50) {
-            record[0] = *self.random.pick(&[0, 1, 2, 3, 4, 5, 6, 255]);
+            record[0] = *self.random.pick(&[0, 1, 2, 3, 4, 5, 6, 7, 255]);
         } else {
             put_u32(
                 record,
                 4,
-                *self.random.pick(&[0, 47, 48, 56, 10_544, 10_545]),
+                *(self.random).pick(&[0, 47, 48, 56, 10_544, 10_545, 12_592, 12_593]),
             );
         }
     }
@@ -278,15 +280,16 @@ fn named_logs() {
     named(&[&set], ends_at(36), 0);
     named(&[&set, &set[..27]], ends_at(36), 0);
     named(&[&no_op, &set], ends_at(64), 14);
-    named(&[&no_op, &set, &[6]], BAD_LOG, 14);
+    named(&[&no_op, &set, &[7]], BAD_LOG, 14);
     named(&[&set, &[0]], BAD_LOG, 14);
-    named(&[&set, &[6, 0, 0, 0, 0, 0, 0, 0]], BAD_LOG, 14);
-    for length in [0, 47, 10_545, u32::MAX] {
+    named(&[&set, &[7, 0, 0, 0, 0, 0, 0, 0]], BAD_LOG, 14);
+    named(&[&set, &[6, 0, 0, 0, 0, 0, 0, 0]], ends_at(36), 0);
+    for length in [0, 47, 12_593, u32::MAX] {
         named(&[&take_head(length)], BAD_LOG, 14);
         named(&[&set, &take_head(length), &set[..20]], BAD_LOG, 14);
         named(&[&take_head(length)[..7]], ends_at(8), 0);
     }
-    for length in [48, 10_544] {
+    for length in [48, 10_544, 10_545, 12_591, 12_592] {
         let image = vec![0; length as usize];
         named(&[&take_head(length)], ends_at(8), 0);
         named(&[&take_head(length), &image[1..]], ends_at(8), 0);

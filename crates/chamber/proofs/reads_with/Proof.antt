@@ -1,6 +1,6 @@
 -- `chamber::reads_with` meets its contract.
 -- Assumes nothing.
-use mathlib.Core.Path.{refl}
+use mathlib.Core.Path.{refl, _∙_}
 use borrow.Author.Tests.{ne-eqb}
 use Rattle.chamber_claim.specs.Chamber.{readsWith}
 use borrow.Author.Needs.{needs}
@@ -12,7 +12,7 @@ unfolding readsWith
 returns c =
     let role = c .before .before in
     let test = role .before .before .before in
-    rw (← test .before .before .call-at .ensures, test .if1 .taken, ← role .role-in .ensures, ← c .before .read-by .ensures) (c .stored .ensures)
+    rw (← test .before .before .call-at .ensures, test .if1 .taken) (c .stored .ensures ∙ rw (role .role-in .ensures, c .before .read-by .ensures) refl)
 
 returns-2 : tie.Need-returns-2
 unfolding readsWith

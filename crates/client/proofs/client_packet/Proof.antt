@@ -26,7 +26,11 @@ returns-4 c = rw (c .before .match .keys3) (c .parse-grant .ensures)
 
 returns-5 : tie.Need-returns-5
 unfolding clientPacket
-returns-5 c = search picks depth 24
+returns-5 c = rw (c .before .match .keys4) (c .parse-result2 .ensures)
+
+returns-6 : tie.Need-returns-6
+unfolding clientPacket
+returns-6 c = search picks depth 24
 
 pub client-packet-spec : {M : Type 1} → statement M
 client-packet-spec =
@@ -37,7 +41,9 @@ client-packet-spec =
     (λ c κs. search needs)
     (λ c κs. search needs)
     (λ c κs. search needs)
+    (λ c κs. search needs)
     returns-2
     returns-3
     returns-4
-    returns-5)
+    returns-5
+    returns-6)

@@ -13,11 +13,7 @@ returns c = rw (lt-ltb _ _ (c .if1 .taken)) refl
 
 returns-2 : tie.Need-returns-2
 unfolding packetCall
-returns-2 c = rw (le-ltb _ _ (c .before .before .if1 .left), lt-ltb _ _ (c .if2 .taken)) refl
-
-returns-3 : tie.Need-returns-3
-unfolding packetCall
-returns-3 c = rw (le-ltb _ _ (c .before .before .before .if1 .left), le-ltb _ _ (c .before .if2 .left)) (c .read-u32 .ensures)
+returns-2 c = rw (le-ltb _ _ (c .before .if1 .left)) (c .read-u32 .ensures)
 
 pub packet-call-spec : {M : Type 1} → statement M
-packet-call-spec = tie.close (tie.spec returns (λ c. search needs) returns-2 (λ c κs. search needs) returns-3)
+packet-call-spec = tie.close (tie.spec returns (λ c κs. search needs) returns-2)

@@ -1,7 +1,8 @@
 -- `format_fields::result_at` meets its contract.
 -- Assumes nothing.
+use native.Mathlib.Omega.{arith}
 use Rattle.model.specs.Packets.{resultAt}
-use borrow.Author.Needs.{needs}
+use Rattle.format_fields.proofs.Forms.{size-least, size-timed}
 use Rattle.format_fields.proofs.result_at.Statement.{statement}
 use Rattle.format_fields.proofs.result_at.Tie as tie
 
@@ -13,10 +14,11 @@ pub result-at-spec : {M : Type 1} → statement M
 result-at-spec =
     tie.close
     (tie.spec
-    (λ c. search needs)
-    (λ c κs. search needs)
-    (λ c. search needs)
-    (λ c κs. search needs)
-    (λ c κs. search needs)
-    (λ c. search needs)
+    (λ c. omega (arith, size-least _ _ (c .before .before .pre)))
+    (λ c κs. size-least _ _ (c .before .before .pre))
+    (λ c. omega (arith, size-least _ _ (c .before .before .before .before .pre)))
+    (λ c κs. size-timed _ _ (c .before .before .before .before .pre))
+    (λ c κs. omega (arith, size-least _ _ (c .before .before .before .before .before .pre)))
+    (λ c κs. omega (arith, size-least _ _ (c .before .before .before .before .before .before .pre)))
+    (λ c. omega (arith, size-least _ _ (c .before .before .before .before .before .before .before .before .pre)))
     returns)

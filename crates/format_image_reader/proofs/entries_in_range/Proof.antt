@@ -12,14 +12,14 @@ use Rattle.format_image_reader.proofs.entries_in_range.Statement.{state
 use Rattle.format_image_reader.proofs.entries_in_range.Tie as tie
 
 abbrev Inv-loop : tie.InvT-loop
-Inv-loop s e width at entries i₀ i =
-    Open (rowTest imageEntryOf (entryInRange e)) width at (every (entryInRange e) (rows imageEntryOf width entries (drop at s))) s entries i
+Inv-loop s e timed width at entries i₀ i =
+    Open (rowTest (imageEntryOf timed) (entryInRange e)) width at (every (entryInRange e) (rows (imageEntryOf timed) width entries (drop at s))) s entries i
 
 abbrev μ-loop : tie.MeasureT-loop
-μ-loop s e width at entries i₀ i = entries - i
+μ-loop s e timed width at entries i₀ i = entries - i
 
 loop-holds : tie.Need-loop-holds Inv-loop μ-loop
-loop-holds c = every-open imageEntryOf _ _ (entryInRange _) _ _
+loop-holds c = every-open (imageEntryOf _) _ _ (entryInRange _) _ _
 
 entry-at-requires : tie.Need-entry-at-requires Inv-loop μ-loop
 entry-at-requires c κs = let a = c .before .before .before .args in omega (arith, row-in (a .width) _ (a .entries) (c .loop-test .taken))

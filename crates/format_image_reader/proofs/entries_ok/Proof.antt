@@ -10,13 +10,13 @@ use Rattle.format_image_reader.proofs.entries_ok.Statement.{statement}
 use Rattle.format_image_reader.proofs.entries_ok.Tie as tie
 
 abbrev Inv-loop : tie.InvT-loop
-Inv-loop s n point width at entries i₀ j₀ i j = Beside point n width at entries s i j
+Inv-loop s n point timed width at entries i₀ j₀ i j = Beside timed point n width at entries s i j
 
 abbrev μ-loop : tie.MeasureT-loop
-μ-loop s n point width at entries i₀ j₀ i j = entries - i
+μ-loop s n point timed width at entries i₀ j₀ i j = entries - i
 
 loop-holds : tie.Need-loop-holds Inv-loop μ-loop
-loop-holds c = beside-start _ _ _ _ _ _
+loop-holds c = beside-start _ _ _ _ _ _ _
 
 entry-at-requires : tie.Need-entry-at-requires Inv-loop μ-loop
 entry-at-requires c κs = let a = c .before .before .before .args in omega (arith, row-in (a .width) _ (a .entries) (c .loop-test .taken))

@@ -10,8 +10,8 @@ returns c =
     let c3 = c .before .before in
     let c2 = c3 .before .before .before .before in
     let c1 = c2 .before .before .before .before in
-    let start = c1 .before .before .before .args in
-    rw (c3 .write-point .ensures, c2 .write-pairs .ensures, c1 .write-frame .ensures) (head-written (start .out .now) (start .h))
+    let start = c1 .before .before .before in
+    rw (c3 .write-point .ensures, c2 .write-pairs .ensures, c1 .write-frame .ensures) (head-written (start .args .out .now) (start .args .h) (start .pre .3))
 
 pub write-head-spec : {M : Type 1} → statement M
 write-head-spec =

@@ -1,24 +1,10 @@
 -- `format_image_writer::write_pairs` meets its contract.
 -- Assumes nothing.
-use native.Mathlib.Omega.{arith}
 use Rattle.model_laws.proofs.Written.{written-sets}
-use Rattle.model_laws.proofs.Images.{width-most}
 use Rattle.format_image_writer.specs.Heads.{pairBytes}
 use borrow.Author.Needs.{needs}
 use Rattle.format_image_writer.proofs.write_pairs.Statement.{statement}
 use Rattle.format_image_writer.proofs.write_pairs.Tie as tie
-
-mul-entries : tie.Need-mul-entries
-mul-entries c =
-    let wide = c .before in
-    let start = wide .before .before .before in
-    rw (wide .entry-width .ensures) (omega (arith, start .pre, width-most (start .args .h) (start .args .h .entries)))
-
-cast-entries-2 : tie.Need-cast-entries-2
-cast-entries-2 c =
-    let wide = c .before in
-    let start = wide .before .before .before in
-    rw (wide .entry-width .ensures) (omega (arith, start .pre, width-most (start .args .h) (start .args .h .entries)))
 
 returns : tie.Need-returns
 unfolding pairBytes
@@ -29,7 +15,6 @@ returns c =
     let c3 = c4 .before .before .before .before .before in
     let c2 = c3 .before .before .before .before in
     let c1 = c2 .before .before .before .before in
-    let wide = c1 .before .before .before in
     rw (
       c6 .write-u326 .ensures,
       c5 .write-u325 .ensures,
@@ -37,8 +22,7 @@ returns c =
       c3 .write-u323 .ensures,
       c2 .write-u322 .ensures,
       c1 .write-u32 .ensures,
-      wide .entry-width .ensures,
-      wide .before .entries-start .ensures,
+      c1 .before .before .before .entries-start .ensures,
     )
     (simp written-sets)
 
@@ -48,10 +32,7 @@ write-pairs-spec =
     (tie.spec
     (λ c κs. search needs)
     (λ c. search needs)
-    (λ c κs. search needs)
     (λ c. search needs)
-    mul-entries
-    cast-entries-2
     (λ c κs. search needs)
     (λ c κs. search needs)
     (λ c κs. search needs)

@@ -28,12 +28,16 @@ unfolding extentOf
 returns-5 c = rw (c .before .match .keys5) (c .extent-within4 .ensures)
 
 returns-6 : tie.Need-returns-6
-unfolding extentMeans extentOf
-returns-6 c = rw (c .match .keys6)
+unfolding extentOf
+returns-6 c = rw (c .before .match .keys6) (c .extent-within5 .ensures)
 
 returns-7 : tie.Need-returns-7
 unfolding extentMeans extentOf
-returns-7 c = search picks depth 24
+returns-7 c = rw (c .match .keys7)
+
+returns-8 : tie.Need-returns-8
+unfolding extentMeans extentOf
+returns-8 c = search picks depth 24
 
 pub extent-of-spec : {M : Type 1} → statement M
 extent-of-spec =
@@ -45,10 +49,12 @@ extent-of-spec =
     (λ c κs. search needs)
     (λ c κs. search needs)
     (λ c κs. search needs)
+    (λ c κs. search needs)
     returns
     returns-2
     returns-3
     returns-4
     returns-5
     returns-6
-    returns-7)
+    returns-7
+    returns-8)

@@ -38,7 +38,11 @@ returns-4 c = size-by _ _ (c .before .before .before .before .pre) (rw (c .befor
 
 returns-5 : tie.Need-returns-5
 unfolding sizeFrom
-returns-5 c = size-by _ _ (c .before .before .before .pre) (search picks depth 24)
+returns-5 c = size-by _ _ (c .before .before .before .pre) (rw (c .match .keys5))
+
+returns-6 : tie.Need-returns-6
+unfolding sizeFrom
+returns-6 c = size-by _ _ (c .before .before .before .pre) (search picks depth 24)
 
 pub size-at-spec : {M : Type 1} → statement M
 size-at-spec =
@@ -53,4 +57,5 @@ size-at-spec =
     returns-2
     returns-3
     returns-4
-    returns-5)
+    returns-5
+    returns-6)

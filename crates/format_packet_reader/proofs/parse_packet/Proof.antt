@@ -38,11 +38,15 @@ returns-7 c = rw (c .before .match .keys6) (c .parse-grant .ensures)
 
 returns-8 : tie.Need-returns-8
 unfolding parsePacket
-returns-8 c = rw (c .match .keys7)
+returns-8 c = rw (c .before .match .keys7) (c .parse-result2 .ensures)
 
 returns-9 : tie.Need-returns-9
 unfolding parsePacket
-returns-9 c = search picks depth 24
+returns-9 c = rw (c .match .keys8)
+
+returns-10 : tie.Need-returns-10
+unfolding parsePacket
+returns-10 c = search picks depth 24
 
 pub parse-packet-spec : {M : Type 1} → statement M
 parse-packet-spec =
@@ -56,6 +60,7 @@ parse-packet-spec =
     (λ c κs. search needs)
     (λ c κs. search needs)
     (λ c κs. search needs)
+    (λ c κs. search needs)
     returns-2
     returns-3
     returns-4
@@ -63,4 +68,5 @@ parse-packet-spec =
     returns-6
     returns-7
     returns-8
-    returns-9)
+    returns-9
+    returns-10)

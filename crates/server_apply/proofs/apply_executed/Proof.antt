@@ -24,6 +24,7 @@ widths start =
       argument = omega (arith, start .good .1 .0 .1, start .fits);
       value = omega (arith, start .good .1 .0 .1, start .fits);
       quality = omega (arith, start .good .1 .0 .1, start .fits);
+      time = omega (arith, start .good .1 .0 .1, start .fits);
       ends = omega (arith, start .good .1 .0 .1, start .fits);
     }
 

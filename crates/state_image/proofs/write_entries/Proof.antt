@@ -1,6 +1,7 @@
 -- `state_image::write_entries` meets its contract.
 -- Assumes nothing.
 use Prim.Native.Nat.{_-_, _*_, _<_}
+use mathlib.Core.Bool.{true}
 use native.Mathlib.Omega.{arith}
 use lib.ListN.{take}
 use borrow.Author.Needs.{needs}
@@ -14,7 +15,7 @@ use Rattle.state_image.proofs.write_entries.Statement.{statement}
 use Rattle.state_image.proofs.write_entries.Tie as tie
 
 abbrev Inv-loop : tie.InvT-loop
-Inv-loop out₀ at s point n slots j₀ k₀ out j k = Walking entryCodec (load s .records) (take (callWindow * n) slots) at out₀ k j out
+Inv-loop out₀ at s point n slots j₀ k₀ out j k = Walking (entryCodec true) (load s .records) (take (callWindow * n) slots) at out₀ k j out
 
 abbrev μ-loop : tie.MeasureT-loop
 μ-loop out₀ at s point n slots j₀ k₀ out j k = callWindow * n - k
@@ -43,7 +44,7 @@ room c =
     )
 
 loop-holds : tie.Need-loop-holds Inv-loop μ-loop
-loop-holds c = let a = c .before .before .before .before .args in walk-start entryCodec (load (a .s .now) .records) _ (a .at) (a .out .now)
+loop-holds c = let a = c .before .before .before .before .args in walk-start (entryCodec true) (load (a .s .now) .records) _ (a .at) (a .out .now)
 
 entry-of-requires : tie.Need-entry-of-requires Inv-loop μ-loop
 entry-of-requires c κs =
@@ -58,27 +59,30 @@ entry-of-requires c κs =
           (loop .loop .k),
     )
 
-entry-at-requires : tie.Need-entry-at-requires Inv-loop μ-loop
-entry-at-requires c κs = omega (arith, start-of (c .before .before .before) .pre .1, room (c .before))
+mul-put-entry : tie.Need-mul-put-entry Inv-loop μ-loop
+mul-put-entry c = omega (arith, room (c .before .before))
+
+add-put-entry : tie.Need-add-put-entry Inv-loop μ-loop
+add-put-entry c = omega (arith, start-of (c .before .before .before .before) .pre .1, room (c .before .before))
 
 put-entry-requires : tie.Need-put-entry-requires Inv-loop μ-loop
 put-entry-requires c κs =
-    let taken = c .before .before .before in
+    let taken = c .before .before in
     let loop = taken .before .before in
-    omega (arith, start-of loop .pre .1, loop .loop .inv .same, c .before .entry-at .ensures, room taken)
+    omega (arith, start-of loop .pre .1, loop .loop .inv .same, room taken)
 
 add-j : tie.Need-add-j Inv-loop μ-loop
-add-j c = omega (arith, room (c .before .before .before .before .before .before))
+add-j c = omega (arith, room (c .before .before .before .before .before))
 
 loop-again : tie.Need-loop-again Inv-loop μ-loop
 loop-again c =
     let put = c .before .before in
-    let place = put .before .before in
-    let taken = place .before .before in
+    let made = put .before .before in
+    let taken = made .before in
     let loop = taken .before .before in
     let start = start-of loop in
     next-put (start .args .point) (start .args .s .now) (start .pre .0) (clients-at loop .clients-in .ensures) (loop .before .point-slots .ensures) (loop .loop .inv) (taken .before .loop-test .taken)
-    (taken .if1 .taken) (place .before .entry-of .ensures) (rw (place .entry-at .ensures) at (put .put-entry .ensures))
+    (taken .if1 .taken) (made .entry-of .ensures) (put .put-entry .ensures)
 
 loop-again-2 : tie.Need-loop-again-2 Inv-loop μ-loop
 loop-again-2 c =
@@ -111,7 +115,8 @@ write-entries-spec =
     (λ c. search needs)
     (λ c. search needs)
     entry-of-requires
-    entry-at-requires
+    mul-put-entry
+    add-put-entry
     put-entry-requires
     add-j
     (λ c. search needs)

@@ -1,7 +1,6 @@
 -- `state_image::write_image` meets its contract.
 -- Assumes nothing.
 use native.Mathlib.Omega.{arith}
-use Rattle.model_laws.proofs.Images.{width-most}
 use Rattle.state_image.proofs.Whole.{entries-most, headed, imaged, sized}
 use borrow.Author.Needs.{needs}
 use Rattle.state_image.proofs.write_image.Statement.{statement}
@@ -36,28 +35,31 @@ write-head-requires : tie.Need-write-head-requires
 write-head-requires c κs =
     let start = start-of (clients-at (floors-at (entries-at (c .before)))) in
     let made = headed (start .args .point) (start .args .s .now) (start .pre .0) (c .before .head-for .ensures) in
-    (search needs, made .0, made .1)
+    (search needs, made .0, made .1, made .2)
 
-entry-at-requires : tie.Need-entry-at-requires
-entry-at-requires c κs =
-    let made = c .before .before .before .before .before in
-    let entries = entries-at made in
+mul-result : tie.Need-mul-result
+mul-result c =
+    let entries = entries-at (c .before .before .before .before) in
+    let start = start-of (clients-at (floors-at entries)) in
+    omega (arith, entries-most (start .args .point) (start .args .s .now) (start .pre .0) (entries .write-entries .ensures .1))
+
+add-result : tie.Need-add-result
+add-result c =
+    let entries = entries-at (c .before .before .before .before) in
     let clients = clients-at (floors-at entries) in
     let start = start-of clients in
-    rw (c .entry-width .ensures, place-at entries .entries-start .ensures)
+    rw (place-at entries .entries-start .ensures)
     (omega (
       arith,
       start .pre .0 .few-clients,
       clients .clients-in .ensures,
       entries-most (start .args .point) (start .args .s .now)
           (start .pre .0) (entries .write-entries .ensures .1),
-      width-most (made .head-for .result) (entries .write-entries .result),
     ))
 
 returns : tie.Need-returns
 returns c =
-    let wide = c .before in
-    let head = wide .before .before .before in
+    let head = c .before .before in
     let made = head .before .before in
     let entries = entries-at made in
     let floors = floors-at entries in
@@ -65,9 +67,7 @@ returns c =
     let a = start-of clients .args in (
       imaged (a .point) (a .s .now) (clients .clients-in .ensures) (a .out .now) (floors .write-floors .ensures) (place-at entries .entries-start .ensures)
           (entries .write-entries .ensures .0) (made .head-for .ensures) (head .write-head .ensures),
-      rw (c .entry-at .ensures)
-          (sized (a .point) (a .s .now) (clients .clients-in .ensures) (entries .write-entries .ensures .1) (place-at entries .entries-start .ensures) (made .head-for .ensures)
-          (wide .entry-width .ensures)),
+      sized (a .point) (a .s .now) (clients .clients-in .ensures) (entries .write-entries .ensures .1) (place-at entries .entries-start .ensures),
     )
 
 pub write-image-spec : {M : Type 1} → statement M
@@ -85,7 +85,7 @@ write-image-spec =
     cast-head-for
     (λ c κs. search needs)
     write-head-requires
-    (λ c κs. search needs)
-    entry-at-requires
+    mul-result
+    add-result
     (λ c. search needs)
     returns)

@@ -4,7 +4,7 @@ use Prim.Native.Nat.{_+_, _-_, _*_, _≤_}
 use native.Mathlib.Omega.{arith}
 use lib.ListN.{length}
 use borrow.Author.Needs.{needs}
-use Rattle.model.specs.Limits.{entryRow}
+use Rattle.model.specs.Images.{entryRowOf}
 use Rattle.model_laws.proofs.Tables.{row-in}
 use Rattle.model_laws.proofs.Images.{entries-within}
 use Rattle.model.specs.Apply.{takenRecord}
@@ -13,7 +13,7 @@ use Rattle.state_records.proofs.put_entries.Statement.{statement}
 use Rattle.state_records.proofs.put_entries.Tie as tie
 
 abbrev Inv-loop : tie.InvT-loop
-Inv-loop s₀ n image h end entries width at i₀ j₀ s i j = Adding (takenRecord (h .point) end) image width at s₀ n entries s i j
+Inv-loop s₀ n image h end entries width at i₀ j₀ s i j = Adding (h .timed) (takenRecord (h .point) end) image width at s₀ n entries s i j
 
 abbrev μ-loop : tie.MeasureT-loop
 μ-loop s₀ n image h end entries width at i₀ j₀ s i j = entries - i
@@ -25,7 +25,8 @@ loop-holds c =
 
 -- the row of index i lies in the image
 row-there : (c : tie.In-loop Inv-loop μ-loop) → let at = c .before .before in
-    at .entries-start .result + at .before .entry-width .result * c .before .loop .i + entryRow ≤ length (at .before .before .before .before .before .args .image .now)
+    at .entries-start .result + at .before .entry-width .result * c .before .loop .i + entryRowOf (at .before .before .before .before .before .args .h .timed)
+    ≤ length (at .before .before .before .before .before .args .image .now)
 row-there c =
     let at = c .before .before in
     let wide = at .before in

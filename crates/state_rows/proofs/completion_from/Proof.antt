@@ -7,7 +7,7 @@ use Rattle.state_rows.proofs.completion_from.Tie as tie
 
 returns : tie.Need-returns
 returns c =
-    let at-read-signed = c .before .before .before .before in
+    let at-read-signed = c .before .before .before .before .before in
     let start = at-read-signed .before .before .before .before .before .before .args in
     cc (completion-drop (start .s .now) (start .k))
 
@@ -30,6 +30,8 @@ completion-from-spec =
     (λ c κs. search needs)
     (λ c. search needs)
     (λ c. search needs)
+    (λ c. search needs)
+    (λ c κs. search needs)
     (λ c. search needs)
     (λ c κs. search needs)
     returns)

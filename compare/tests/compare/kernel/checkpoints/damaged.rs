@@ -3,7 +3,8 @@
 use super::super::logs::{fault, places};
 use super::*;
 use second::bytes::{all_zero, get_pair};
-use second::checkpoint::{parse_checkpoint, CHECKPOINT_MAGIC};
+use second::checkpoint::{parse_checkpoint, CHECKPOINT_MAGIC, CHECKPOINT_MAGIC_UNTIMED};
+use second::image::{MOVED_LEN, MOVED_UNTIMED_LEN};
 use second::record::{parse_head, TAKE};
 
 const POINTS_PART: usize = 1068;
@@ -21,7 +22,16 @@ pub(super) fn cause(checkpoint: &[u8], tail: &[u8]) -> &'static str {
 }
 
 fn head_ok(b: &[u8]) -> bool {
-    b.len() >= 44 && b[..4] == CHECKPOINT_MAGIC && b[4] < 16 && all_zero(&b[5..8])
+    let opening = [CHECKPOINT_MAGIC, CHECKPOINT_MAGIC_UNTIMED];
+    b.len() >= 44 && opening.iter().any(|o| b[..4] == *o) && b[4] < 16 && all_zero(&b[5..8])
+}
+
+/// Length of a completion record of a checkpoint whose head is there.
+fn row(b: &[u8]) -> usize {
+    match b.starts_with(&CHECKPOINT_MAGIC_UNTIMED) {
+        true => MOVED_UNTIMED_LEN,
+        false => MOVED_LEN,
+    }
 }
 
 /// Of a checkpoint whose head is there: plan, points, clients and records without gaps, in the slice.
@@ -31,7 +41,7 @@ fn pairs_ok(b: &[u8]) -> bool {
         && points == (POINTS_PART, 1024)
         && (clients.0, clients.1 % 8, clients.1 / 8 <= 32) == (CLIENTS_PART, 0, true)
         && records.0 == clients.0 + clients.1
-        && (records.1 % 20, records.1 / 20 <= 512) == (0, true)
+        && (records.1 % row(b), records.1 / row(b) <= 512) == (0, true)
         && records.0 + records.1 <= b.len()
 }
 
@@ -42,6 +52,7 @@ fn damage(random: &mut Random, b: &mut Vec<u8>) {
         return inputs::damage(random, b);
     }
     let [clients, records] = [28, 36].map(|at| get_pair(b, at));
+    let row = row(b);
     match random.below(11) {
         0 => inputs::damage(random, b),
         1 => {
@@ -52,9 +63,9 @@ fn damage(random: &mut Random, b: &mut Vec<u8>) {
         3 => change_pair(random, b),
         4 => change_field(random, b, (POINTS_PART, 1024), 16),
         5 => change_field(random, b, clients, 8),
-        6 | 7 => change_field(random, b, records, 20),
+        6 | 7 => change_field(random, b, records, row),
         8 | 9 => exchange_rows(random, b, clients, 8),
-        _ => exchange_rows(random, b, records, 20),
+        _ => exchange_rows(random, b, records, row),
     }
 }
 
@@ -63,8 +74,8 @@ fn change_pair(random: &mut Random, b: &mut [u8]) {
     let at = 12 + 4 * random.below(8) as usize;
     let four = match random.below(3) {
         0 => inputs::number(random),
-        1 => get_u32(b, at).wrapping_add(*random.pick(&[1, 4, 8, 20, 1024])),
-        _ => get_u32(b, at).wrapping_sub(*random.pick(&[1, 4, 8, 20, 1024])),
+        1 => get_u32(b, at).wrapping_add(*random.pick(&[1, 4, 8, 20, 24, 1024])),
+        _ => get_u32(b, at).wrapping_sub(*random.pick(&[1, 4, 8, 20, 24, 1024])),
     };
     put_u32(b, at, four);
 }
@@ -156,7 +167,12 @@ fn with_tail(random: &mut Random) -> Plant {
         let mut plant = Plant::new(random.next_u64());
         run(&mut plant, 150);
         (0..3).for_each(|i| drop(plant.stored_now(i)));
-        run(&mut plant, 60);
+        run(&mut plant, 30);
+        if plant.chance(50) {
+            let lists: [&[&str]; 2] = [&CALLED, &RECOVERED];
+            (0..3).for_each(|i| plant.renewed(i, &mut Tally::of("", &lists)));
+        }
+        run(&mut plant, 30);
         let records = &plant.world.pairs[0].server.records;
         let old = records.iter().filter(|r| r.end == HEAD_LEN as u64).count();
         if old > 0 && plant.world.log_of(0).len() > 2 * HEAD_LEN {
@@ -213,12 +229,12 @@ fn damaged_checkpoints() {
     tally.finish();
 }
 
-/// Another value of a byte: the first ones change a bit, or drop a row of 20 where it is a length.
+/// Another value of a byte: the first ones change a bit, or drop a row of 24 where it is a length.
 fn other_value(random: &mut Random, byte: u8, n: u32) -> u8 {
     match n {
         0 => byte ^ 1,
         1 => byte ^ 0x80,
-        2 => byte.wrapping_sub(20),
+        2 => byte.wrapping_sub(24),
         _ => inputs::byte(random),
     }
 }
@@ -226,7 +242,10 @@ fn other_value(random: &mut Random, byte: u8, n: u32) -> u8 {
 /// Every byte of the checkpoint in turn gets so many other values; the completion record of its last row is
 /// inspected.
 fn every_byte(plant: &mut Plant, checkpoint: &[u8], values: u32, tally: &mut Tally) {
-    let (tail, last) = (write_head(checkpoint[4]), checkpoint.len() - 20);
+    let (tail, last) = (
+        write_head(checkpoint[4]),
+        checkpoint.len() - row(checkpoint),
+    );
     let id = (get_u32(checkpoint, last), get_u32(checkpoint, last + 4));
     let mut changed = checkpoint.to_vec();
     for at in 0..checkpoint.len() {
@@ -325,7 +344,7 @@ fn behind(plant: &mut Plant, tally: &mut Tally) {
     let record = *plant.world.pairs[0].server.records.first().expect("one");
     let id = (record.client, record.call);
     let place = plant.world.pairs[0].inspect(STATE_LEN, &checkpoint, &tail, id);
-    for more in [1, 8, 20, 28, CHECKPOINT_LEN - length, CHECKPOINT_LEN] {
+    for more in [1, 8, 20, 24, 32, CHECKPOINT_LEN - length, CHECKPOINT_LEN] {
         let random = &mut plant.world.random;
         checkpoint.resize_with(length + more, || inputs::byte(random));
         plant.recovered(&checkpoint, &tail, tally);
@@ -389,7 +408,7 @@ fn named_checkpoints() {
     let most = plant.stored_now(0);
     let few = Plant::of(two_servers(&mut Tally::new("", &super::super::CLASSES))).stored_now(0);
     let client = [40, 0, 0, 0, 1, 0, 0, 0];
-    let mut record = [0; 20];
+    let mut record = [0; MOVED_LEN];
     record[..8].copy_from_slice(&[40, 0, 0, 0, 1, 0, 0, 0]);
     let known = lengthened(&few, 2, &client);
     let both = lengthened(&known, 3, &record);

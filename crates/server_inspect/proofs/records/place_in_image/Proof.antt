@@ -5,8 +5,8 @@ use mathlib.Core.Path.{refl}
 use native.Mathlib.Omega.{arith}
 use lib.ListN.{length}
 use borrow.Author.Needs.{needs}
-use Rattle.model.specs.Limits.{entryRow}
-use Rattle.model_laws.proofs.Images.{entries-within}
+use Rattle.model.specs.Images.{entryRowOf}
+use Rattle.model_laws.proofs.Images.{row-least, entries-within}
 use Rattle.format_image_reader.proofs.Whole.{ok-least, ok-size}
 use Rattle.server_inspect.proofs.Latest.{image-place}
 use Rattle.server_inspect.proofs.records.place_in_image.Statement.{statement}
@@ -17,7 +17,7 @@ head-from-requires c κs = ok-least (c .before .args .image .now) refl (c .befor
 
 -- the entries lie in the image
 within : (c : tie.After-entries-start) → let wide = c .before in let read = wide .before .before in
-    (entryRow ≤ wide .entry-width .result)
+    (entryRowOf (read .head-from .result .timed) ≤ wide .entry-width .result)
     × (c .entries-start .result + wide .entry-width .result * read .head-from .result .entries ≤ length (read .before .before .args .image .now))
 within c =
     let wide = c .before in
@@ -26,7 +26,7 @@ within c =
     entries-within (read .head-from .result) (ok-size (start .args .image .now) (start .pre .0) (read .head-from .ensures)) (wide .entry-width .ensures) (c .entries-start .ensures)
 
 index-of-requires : tie.Need-index-of-requires
-index-of-requires c κs = (within c .1, omega (arith, within c .0))
+index-of-requires c κs = (within c .1, omega (arith, within c .0, row-least (c .before .before .before .head-from .result .timed)))
 
 add-place-of : tie.Need-add-place-of
 add-place-of c = omega (arith, within (c .before) .1, c .before .before .before .before .before .before .pre .1)

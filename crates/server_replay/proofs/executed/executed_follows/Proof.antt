@@ -1,6 +1,7 @@
 -- `server_replay::executed::executed_follows` meets its contract.
 -- Assumes nothing.
 use Rattle.model.specs.Decisions.{follows}
+use Rattle.server_replay.proofs.Rooms.{executed-space}
 use borrow.Author.Needs.{needs}
 use Rattle.server_replay.proofs.executed.executed_follows.Statement.{statement}
 use Rattle.server_replay.proofs.executed.executed_follows.Tie as tie
@@ -16,6 +17,7 @@ returns c =
     let at-entry-at = at-floor-in .before in
     let at-point-at = at-entry-at .before in
     rw (
+      executed-space,
       c .in-range .ensures,
       at-new-refusal .new-refusal .ensures,
       at-request-refusal .request-refusal .ensures,

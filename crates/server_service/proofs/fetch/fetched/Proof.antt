@@ -1,6 +1,7 @@
 -- `server_service::fetch::fetched` meets its contract.
 -- Assumes nothing.
-use mathlib.Core.Path.{_∙_}
+use mathlib.Core.Path.{refl, _∙_}
+use Rattle.model.specs.Decisions.{resultOfRecord}
 use Rattle.server_memory.proofs.Settled.{by-refused, by-passed, replied}
 use Rattle.server_service.proofs.Chains.{fetch-none, fetch-at}
 use borrow.Author.Needs.{needs}
@@ -26,6 +27,7 @@ returns-2 c log =
     fetch-none (a .s .now) log (a .out .now) (a .client) (a .call) (at-find .find .ensures) (at-told .enum-told .given .1) (c .refused .ensures)
 
 returns-3 : tie.Need-returns-3
+unfolding resultOfRecord
 returns-3 c log =
     let at-reply = c .before .before in
     let at-if = at-reply .before .before in
@@ -36,7 +38,7 @@ returns-3 c log =
     let a = at-find .before .before .before .args in
     fetch-at (a .s .now) log (a .out .now) (a .client) (a .call) _ (at-find .find .ensures) (at-found .found .given .1)
     (by-passed (a .s .now) log (a .out .now) _ (at-refusal .fetch-refusal .ensures ∙ rw (at-mark .mark-of .ensures)) (at-if .if1 .left)
-    (replied (a .s .now) log (a .out .now) _ (at-reply .reply .ensures .0) (at-reply .reply .ensures .1)))
+    (replied (a .s .now) log (a .out .now) _ refl (at-reply .reply .ensures .0) (at-reply .reply .ensures .1)))
 
 pub fetched-spec : {M : Type 1} → statement M
 fetched-spec =

@@ -10,7 +10,7 @@ use Rattle.model.specs.Limits.{executedSize}
 use Rattle.model_invariants.proofs.Loaded.{loaded-sound}
 use Rattle.state_rows.proofs.Chains.{canonical-sound}
 use Rattle.server_service.proofs.Requests.{denied, answered, executes}
-use Rattle.server_service.proofs.Passed.{request-number, request-space, request-place, request-room}
+use Rattle.server_service.proofs.Passed.{request-number, request-space, request-timed, request-place, request-room}
 use borrow.Author.Needs.{needs}
 use Rattle.server_service.proofs.request.requested.Statement.{statement}
 use Rattle.server_service.proofs.request.requested.Tie as tie
@@ -48,6 +48,7 @@ execute-requires c κs =
       request-place st _ (start .args .q) decision _ told sound (start .pre .1),
       request-room st _ (start .args .q) decision _ told sound (start .pre .1) (omega (arith, space, start .good .1 .0 .1)),
       space,
+      request-timed st _ (start .args .q) decision _ told,
     )
 
 returns : tie.Need-returns
@@ -81,7 +82,8 @@ returns-3 c =
     let begin = at-free-in .before .before .before .before .before .before in
     let start = begin .args in
     executes (start .s .now) (start .log .now) (start .out .now) (start .q) (at-request-decision .request-decision .ensures ∙ rw (at-free-in .free-in .ensures)) _ (at-d3 .decision3 .given .1)
-    (at-execute .execute .ensures .0) (at-execute .execute .ensures .1) (at-execute .execute .ensures .2)
+    (request-timed (load (start .s .now)) _ (start .q) (at-request-decision .request-decision .ensures) _ (at-d3 .decision3 .given .1)) (at-execute .execute .ensures .0)
+    (at-execute .execute .ensures .1) (at-execute .execute .ensures .2)
 
 pub requested-spec : {M : Type 1} → statement M
 requested-spec =

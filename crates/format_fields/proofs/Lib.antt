@@ -1,0 +1,2 @@
+-- Laws that the proofs of `format_fields` cite.
+pub mod Forms
