@@ -1,6 +1,7 @@
 -- The loops over the completion records: those of the state that stay, and those of an image that are added.
 --     compact-start, compact-room, compact-next, compact-end     the state's own
 --     adding-start, adding-room, adding-next, adding-end         an image's
+--     entry-inside                                               one of these lies within the image
 -- Assumes nothing.
 use Prim.Native.Nat.{ℕ, _+_, _-_, _*_, _≤_, _<_}
 use mathlib.Core.Path.{_≡_, refl, sym, ap, _∙_}
@@ -16,12 +17,13 @@ use Rattle.model.specs.declared.Completion.{Completion}
 use Rattle.model.specs.Choice.{pick}
 use Rattle.model.specs.Limits.{clientCount, recordCount}
 use Rattle.model.specs.Tables.{rows, bytesOf, keep, written}
-use Rattle.model.specs.Images.{imageEntryOf, imageAt, entryWidth, entriesStart}
+use Rattle.model.specs.Images.{imageEntryOf, imageAt, entryRowOf, entryWidth, entriesStart, lengthBy}
 use Rattle.model.specs.States.{load, stateEnd, clientsIn, recordsIn, completionOf, completionBytes, recordsStart, recordRow}
 use Rattle.model.specs.Apply.{staysOverFloors, takenRecord}
 use Rattle.model_laws.specs.Bytes.{Bytes}
 use Rattle.model_laws.proofs.Written.{drop-written-past}
-use Rattle.model_laws.proofs.Tables.{length-rows, everyRow-true, written-rows, rows-append, rows-snoc, length-bytesOf, keep-append}
+use Rattle.model_laws.proofs.Tables.{row-in, length-rows, everyRow-true, written-rows, rows-append, rows-snoc, length-bytesOf, keep-append}
+use Rattle.model_laws.proofs.Images.{entries-within}
 use Rattle.model_laws.proofs.States.{completionCodec}
 use Rattle.state_rows.specs.Canonical.{Canonical}
 use Rattle.state_rows.proofs.Access.{records-count}
@@ -121,6 +123,10 @@ module _ {rule : Rule} {s₀ : List ℕ} {n : ℕ} {s : List ℕ} {i j : ℕ} (o
       rw (all-rows h) (o .kept .bytes, count, omega (arith, at-most, o .below))
 
 -- ---- an image's records
+
+-- the record of index i lies within the image
+pub entry-inside : (h : ImageHead) {n w k i : ℕ} → lengthBy h ≤ n → w ≡ entryWidth h → k ≡ entriesStart (h .floors) → i < h .entries → k + w * i + entryRowOf (h .timed) ≤ n
+entry-inside h {w = w} {i = i} l p q t = let within = entries-within h l p q in omega (arith, within .0, within .1, row-in w i (h .entries) t)
 
 -- of the m entries of an image in a form, of w bytes each, from k on the first i were tried; those that stay stand behind b rows, up to row j
 pub record Adding (timed : Bool) (f : ImageEntry → Completion) (image : List ℕ) (w k : ℕ) (s₀ : List ℕ) (b m : ℕ) (s : List ℕ) (i j : ℕ) : Type 0 where

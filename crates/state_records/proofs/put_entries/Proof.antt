@@ -5,10 +5,8 @@ use native.Mathlib.Omega.{arith}
 use lib.ListN.{length}
 use borrow.Author.Needs.{needs}
 use Rattle.model.specs.Images.{entryRowOf}
-use Rattle.model_laws.proofs.Tables.{row-in}
-use Rattle.model_laws.proofs.Images.{entries-within}
 use Rattle.model.specs.Apply.{takenRecord}
-use Rattle.state_records.proofs.Loops.{Adding, adding-start, adding-stays, adding-room, adding-next, adding-end}
+use Rattle.state_records.proofs.Loops.{entry-inside, Adding, adding-start, adding-stays, adding-room, adding-next, adding-end}
 use Rattle.state_records.proofs.put_entries.Statement.{statement}
 use Rattle.state_records.proofs.put_entries.Tie as tie
 
@@ -31,8 +29,7 @@ row-there c =
     let at = c .before .before in
     let wide = at .before in
     let start = wide .before .before .before .before in
-    let within = entries-within (start .args .h) (start .pre .1) (wide .entry-width .ensures) (at .entries-start .ensures) in
-    omega (arith, within .0, within .1, row-in (wide .entry-width .result) (c .before .loop .i) (start .args .h .entries) (c .loop-test .taken))
+    entry-inside (start .args .h) (start .pre .1) (wide .entry-width .ensures) (at .entries-start .ensures) (c .loop-test .taken)
 
 entry-at-requires : tie.Need-entry-at-requires Inv-loop μ-loop
 entry-at-requires c κs = omega (arith, row-there c)

@@ -9,9 +9,8 @@ use Rattle.model.specs.Tables.{rows, every}
 use Rattle.model.specs.Images.{imageEntryOf, imageAt, entryRowOf}
 use Rattle.model.specs.States.{load}
 use Rattle.model.specs.Decisions.{freeFor}
-use Rattle.model_laws.proofs.Tables.{row-in}
-use Rattle.model_laws.proofs.Images.{entries-within}
 use Rattle.model_laws.proofs.Loops.{Open, rowTest, every-open, open-next, open-false, open-true}
+use Rattle.state_records.proofs.Loops.{entry-inside}
 use Rattle.state_records.proofs.ids.ids_free.Statement.{statement}
 use Rattle.state_records.proofs.ids.ids_free.Tie as tie
 
@@ -34,8 +33,7 @@ row-there c =
     let at = c .before .before in
     let wide = at .before in
     let start = wide .before .before .before .before in
-    let within = entries-within (start .args .h) (start .pre .2) (wide .entry-width .ensures) (at .entries-start .ensures) in
-    omega (arith, within .0, within .1, row-in (wide .entry-width .result) (c .before .loop .i) (start .args .h .entries) (c .loop-test .taken))
+    entry-inside (start .args .h) (start .pre .2) (wide .entry-width .ensures) (at .entries-start .ensures) (c .loop-test .taken)
 
 entry-at-requires : tie.Need-entry-at-requires Inv-loop μ-loop
 entry-at-requires c κs = omega (arith, row-there c)
