@@ -76,19 +76,22 @@ static struct outcome read_point(int point) {
 }
 
 /* set and step, by the kernel's rules */
-static struct outcome carry_out(struct outcome now, int op, int argument) {
-    int64_t value = op == MANTELORRIS_SET ? argument : (int64_t)now.value + argument;
-    if (op == MANTELORRIS_STEP && now.quality != MANTELORRIS_VALID) now.outcome = MANTELORRIS_OUTCOME_INVALID;
-    else if (value < LOW || value > HIGH) now.outcome = MANTELORRIS_OUTCOME_OUT_OF_RANGE;
-    else now = (struct outcome){MANTELORRIS_OUTCOME_DONE, (int)value, MANTELORRIS_VALID};
-    return now;
+static struct outcome set_to(struct outcome now, int value) {
+    if (value < LOW || value > HIGH) return (struct outcome){MANTELORRIS_OUTCOME_OUT_OF_RANGE, now.value, now.quality};
+    return (struct outcome){MANTELORRIS_OUTCOME_DONE, value, MANTELORRIS_BY_HAND};
+}
+
+static struct outcome step_by(struct outcome now, int argument) {
+    if (now.quality == MANTELORRIS_INVALID) return (struct outcome){MANTELORRIS_OUTCOME_INVALID, now.value, now.quality};
+    int64_t sum = (int64_t)now.value + argument, value = sum < LOW ? LOW : sum > HIGH ? HIGH : sum;
+    return (struct outcome){value == sum ? MANTELORRIS_OUTCOME_DONE : MANTELORRIS_OUTCOME_STOPPED, (int)value, now.quality};
 }
 
 static int32_t command(const uint8_t *packet) {
     int op = packet[1], point = packet[2], argument = argument_of(packet);
     int32_t before;
     if (completed(packet, &before)) return before;
-    struct outcome r = carry_out(read_point(point), op, argument);
+    struct outcome now = read_point(point), r = op == MANTELORRIS_SET ? set_to(now, argument) : step_by(now, argument);
     bind(point_write, 3, (int[]){point, r.value, r.quality});
     step(point_write);
     bind(keep, 8, (int[]){(int)mantelorris_packet_client(packet), (int)mantelorris_packet_call(packet), op, point, argument, r.outcome, r.value, r.quality});

@@ -67,9 +67,10 @@ static void move_gate(int32_t value) {
     (void)value; /* yours: the actuator goes to this value */
 }
 
-/* where the point is not held here, another cabinet has the gate; where its value is not valid, it stays as it is: that rule is your plant's */
+/* where the point is not held here, another cabinet has the gate; where its value is invalid, it stays as it is: that rule is your plant's. A value by hand is an operator's aim: the
+ * gate goes there */
 static void drive_gate(void) {
-    if (mantelorris_status(state, GATE) != MANTELORRIS_HELD || mantelorris_quality(state, GATE) != MANTELORRIS_VALID) return;
+    if (mantelorris_status(state, GATE) != MANTELORRIS_HELD || mantelorris_quality(state, GATE) == MANTELORRIS_INVALID) return;
     move_gate(mantelorris_value(state, GATE));
 }
 
@@ -162,8 +163,8 @@ static void found(void) {
 static void print_state(void) {
     printf("server %u, ", mantelorris_server(state));
     if (card.base) printf("checkpoint %zu bytes, ", card.base);
-    printf("log %llu bytes, point %d: value %d, quality %u\n", (unsigned long long)mantelorris_length(state), GATE, mantelorris_value(state, GATE),
-           mantelorris_quality(state, GATE));
+    printf("log %llu bytes, point %d: value %d, %s\n", (unsigned long long)mantelorris_length(state), GATE, mantelorris_value(state, GATE),
+           mantelorris_quality_name(mantelorris_quality(state, GATE)));
 }
 
 /* what is on the card, whosever it is; nothing is written, cut or founded */

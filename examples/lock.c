@@ -1,6 +1,6 @@
 /* A lock: the controller that drives its gates, the crew's desk that works paddles and level gauges, and the cabinet, in one program over a line that loses
- * packets. It fills the chamber, opens and closes the upper gate, empties it, opens and closes the lower gate. On the way the controller is lost while it opens a gate,
- * its successor too, and the next one before the cabinet has heard of it; what they have sent comes in the worst moment.
+ * packets. It fills the chamber, opens and closes the upper gate, empties it, opens and closes the lower gate. Once the crew enters a level by hand, and no gate opens until it is
+ * reported. On the way the controller is lost while it opens a gate, its successor too, and the next one before the cabinet has heard of it; what they have sent comes in the worst moment.
  *
  *     lock [CYCLES [SEED [unfenced]]]   prints what happens; ends with 0 if no two gates were ever open together
  *
@@ -233,6 +233,14 @@ static void open_refused(uint32_t gate, const char *when) {
     if (number != MANTELORRIS_NOT_SAFE) fail("an opening that is not safe was issued");
 }
 
+/* somebody enters the level above by hand, as it is: a value that was set is no measurement, so the gate stays shut until the gauge's own is reported */
+static void level_by_hand(void) {
+    crew(MANTELORRIS_SET, LEVEL1, level[0]);
+    look(UPPER);
+    open_refused(UPPER, "by a level that was entered");
+    crew(MANTELORRIS_REPORT, LEVEL1, level[0]);
+}
+
 /* ---- a lost controller */
 
 static struct mantelorris_lease_reply notice_of(uint32_t client) {
@@ -318,6 +326,7 @@ static void cycle(int number, int fenced) {
         lose_three(fenced);
         close_gate(LOWER);
     } else {
+        if (number == 2) level_by_hand();
         open_gate(UPPER);
         look(LOWER);
         open_refused(LOWER, "now");

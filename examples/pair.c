@@ -69,7 +69,7 @@ static void recover(void) {
 }
 
 static void move_gate(void) {
-    if (mantelorris_status(state, GATE) != MANTELORRIS_HELD || mantelorris_quality(state, GATE) != MANTELORRIS_VALID) return;
+    if (mantelorris_status(state, GATE) != MANTELORRIS_HELD || mantelorris_quality(state, GATE) == MANTELORRIS_INVALID) return;
     int32_t value = mantelorris_value(state, GATE);
     (void)value; /* yours: drive the actuator to this value. Where the point is not held here, the other cabinet drives it, or nobody until it is taken */
 }

@@ -85,7 +85,7 @@ extern "C" {
  * an older program would misread (packets, images, log, state); the minor one with what is added. Compare the two at start and do not serve where they
  * differ: a struct that a call gives may be longer in one than in the other. */
 #define MANTELORRIS_VERSION_MAJOR 1
-#define MANTELORRIS_VERSION_MINOR 6
+#define MANTELORRIS_VERSION_MINOR 7
 #define MANTELORRIS_VERSION ((uint32_t)MANTELORRIS_VERSION_MAJOR << 16 | MANTELORRIS_VERSION_MINOR)
 
 /* least lengths of slices; a plan has exactly its length */
@@ -112,11 +112,11 @@ extern "C" {
 /* ops of a command, with the argument that each takes */
 enum mantelorris_op {
     MANTELORRIS_READ = 0,   /* 0: gives value and quality, changes nothing */
-    MANTELORRIS_SET = 1,    /* the new value */
-    MANTELORRIS_STEP = 2,   /* added to the value, where the quality is valid; stops at the ends of the range */
-    MANTELORRIS_REPORT = 3, /* a measured value; one outside the range makes the point invalid */
+    MANTELORRIS_SET = 1,    /* the new value, by hand */
+    MANTELORRIS_STEP = 2,   /* added to the value, where that is not invalid; stops at the ends of the range, and leaves the quality */
+    MANTELORRIS_REPORT = 3, /* a measured value: valid; one outside the range makes the point invalid */
     MANTELORRIS_FAULT = 4,  /* 0: the point gets its fallback and is invalid */
-    MANTELORRIS_PART = 5    /* 0 to 1000: thousandths of the way from low to high, to the nearest unit, a half to the even quotient */
+    MANTELORRIS_PART = 5    /* 0 to 1000: thousandths of the way from low to high, to the nearest unit, a half to the even quotient; by hand */
 };
 
 /* outcomes of a command that was carried out */
@@ -128,7 +128,13 @@ enum mantelorris_outcome {
     MANTELORRIS_OUTCOME_STOPPED = 4       /* step past an end of the range: value = that end, the quality as it was */
 };
 
-enum mantelorris_quality { MANTELORRIS_VALID = 0, MANTELORRIS_INVALID = 1 };
+/* What a value is worth. By hand since 1.7; results, points and logs from before have 0 where a value was set. A value by hand is one to go by: ask for
+ * MANTELORRIS_INVALID, never for "not 0" */
+enum mantelorris_quality {
+    MANTELORRIS_VALID = 0,   /* reported, in range */
+    MANTELORRIS_INVALID = 1, /* the fallback: newly founded, a fault, or reported out of range */
+    MANTELORRIS_BY_HAND = 2  /* entered by set or part, and stepped from there */
+};
 
 /* where a point stands at a server */
 enum mantelorris_status { MANTELORRIS_ABSENT = 0, MANTELORRIS_HELD = 1, MANTELORRIS_GIVEN = 2, MANTELORRIS_RELEASED = 3 };
@@ -515,7 +521,12 @@ static inline const char *mantelorris_outcome_name(uint32_t outcome) {
 }
 
 static inline const char *mantelorris_quality_name(uint32_t quality) {
-    return quality == MANTELORRIS_VALID ? "valid" : quality == MANTELORRIS_INVALID ? "invalid" : "unknown quality";
+    switch (quality) {
+    case MANTELORRIS_VALID: return "valid";
+    case MANTELORRIS_INVALID: return "invalid";
+    case MANTELORRIS_BY_HAND: return "by hand";
+    default: return "unknown quality";
+    }
 }
 
 static inline const char *mantelorris_status_name(uint32_t status) {

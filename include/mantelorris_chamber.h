@@ -11,8 +11,9 @@
  *
  * Opening. Any set or part of a gate is an opening, part 0 too; set 0 is none and needs no reads. Before an opening, and since the
  * last set or part that was issued, on either gate, read
- *     1. the other gate: 0 and valid
- *     2. after it the two levels that adjoin the gate to open, in any order: both valid, at most 5 apart
+ *     1. the other gate: 0, valid or by hand
+ *     2. after it the two levels that adjoin the gate to open, in any order: both valid, at most 5 apart. A level by hand (set by a fitter) keeps the gates
+ *        shut, 20: report it
  * Of each point the latest read counts; so a gate that is read again asks for its levels again. An example for the upper gate: set lower to 0, read lower,
  * read level1, read level2, set upper.
  *

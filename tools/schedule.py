@@ -12,6 +12,8 @@ LOW, HIGH, FALLBACK = -100, 1000, 0
 HEAD, EXECUTED, MOVE, TAKE, IMAGE, FLOOR, ENTRY = 8, 32, 8, 8, 48, 8, 24  # bytes: log head, records, an image and its rows
 OPS = ['read', 'set', 'step', 'report', 'fault', 'part']
 OUTCOMES = ['', ', out of range', ', no step', ', fallback', ', stopped']
+VALID, INVALID, BY_HAND = range(3)
+QUALITIES = ['', ' invalid', ' by hand']
 
 
 def refusals():
@@ -130,7 +132,7 @@ class State:
 
     def point(self, p):
         held = self.number == 0
-        return self.points.setdefault(p, dict(status='held' if held else 'absent', value=FALLBACK, quality=1, move=0, taken=0, destination=None))
+        return self.points.setdefault(p, dict(status='held' if held else 'absent', value=FALLBACK, quality=INVALID, move=0, taken=0, destination=None))
 
     def raise_floors(self, floors):
         for client, floor in floors.items():
@@ -187,17 +189,17 @@ def ruled(op, argument, value, quality):
     if op == 0:
         return 0, value, quality
     if op == 1:
-        return (0, argument, 0) if inside else (1, value, quality)
+        return (0, argument, BY_HAND) if inside else (1, value, quality)
     if op == 2:
-        if quality:
+        if quality == INVALID:
             return 2, value, quality
         stopped = max(LOW, min(HIGH, value + argument))
         return 0 if stopped == value + argument else 4, stopped, quality
     if op == 3 and inside:
-        return 0, argument, 0
+        return 0, argument, VALID
     if op == 5:
-        return 0, LOW + round(Fraction((HIGH - LOW) * argument, 1000)), 0  # round takes a half to the even number
-    return 3, FALLBACK, 1
+        return 0, LOW + round(Fraction((HIGH - LOW) * argument, 1000)), BY_HAND  # round takes a half to the even number
+    return 3, FALLBACK, INVALID
 
 
 def command_text(op, argument):
@@ -205,7 +207,7 @@ def command_text(op, argument):
 
 
 def result_text(r):
-    return 'value %d%s%s' % (r['value'], ' invalid' if r['quality'] else '', OUTCOMES[r['outcome']])
+    return 'value %d%s%s' % (r['value'], QUALITIES[r['quality']], OUTCOMES[r['outcome']])
 
 
 def record_text(r):

@@ -16,7 +16,7 @@ use second::record::{
     write_executed, write_executed_untimed, write_give, write_gone, write_release, write_take_head,
     Executed, Give, Gone, Release,
 };
-use second::rule::{Op, ARGUMENTS};
+use second::rule::{Op, ARGUMENTS, QUALITY_MAX};
 
 /// Often near 0 or the greatest.
 pub fn number(random: &mut Random) -> u32 {
@@ -51,6 +51,11 @@ pub fn op_argument(random: &mut Random) -> (Op, i32) {
     (op, signed(random).clamp(least, greatest))
 }
 
+/// Valid, invalid or by hand.
+pub fn quality(random: &mut Random) -> u8 {
+    random.below(u32::from(QUALITY_MAX) + 1) as u8
+}
+
 /// Done and call of one window.
 pub fn window(random: &mut Random) -> (u32, u32) {
     let done = at_least_1(random);
@@ -81,7 +86,7 @@ pub fn packet_of_kind(random: &mut Random, kind: u32) -> Packet {
         2 | 7 => Packet::Result(Reply {
             outcome: random.below(5) as u8,
             point,
-            quality: random.below(2) as u8,
+            quality: quality(random),
             client,
             call,
             value: signed(random),
@@ -246,7 +251,7 @@ pub fn moved(random: &mut Random, client: u32, call: u32, range: (i32, i32)) -> 
         value: within(random, range),
         op,
         outcome: random.below(5) as u8,
-        quality: random.below(2) as u8,
+        quality: quality(random),
         time: number(random),
     }
 }
@@ -291,7 +296,7 @@ pub fn image(random: &mut Random, tables: Tables, range: (i32, i32)) -> Vec<u8> 
         move_number: number(random),
         heard: number(random),
         value: within(random, range),
-        quality: random.below(2) as u8,
+        quality: quality(random),
     };
     let mut bytes = vec![0; IMAGE_MAX];
     let form = *random.pick(&[Form::Untimed, Form::Timed]);
@@ -335,7 +340,7 @@ fn executed(random: &mut Random, point: u8) -> Executed {
         done,
         argument,
         value: signed(random),
-        quality: random.below(2) as u8,
+        quality: quality(random),
         time: number(random),
     }
 }

@@ -228,7 +228,7 @@ fn point_state(random: &mut Random, server: &Server, p: u8) -> Point {
     };
     Point {
         value: inputs::within(random, (entry.low, entry.high)),
-        quality: random.below(2) as u8,
+        quality: inputs::quality(random),
         move_number,
         hold,
         taken,

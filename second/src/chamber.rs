@@ -1,12 +1,13 @@
 //! Paper 02, request 2: the controller of a lock chamber, a desk for two gates and
-//! three levels, with its start, issue, resend and receive. It has one command open at a time, so its reads are completed
-//! in the order of their calls.
+//! three levels, with its start, issue, resend and receive. It has one command open at a
+//! time, so its reads are completed in the order of their calls. Request 7: a value by
+//! hand is valid on a gate and invalid on a level.
 
 use crate::answer::Refusal;
 use crate::client::{Client, Made, OpenCall, Received};
 use crate::packet::parse_result;
 use crate::plan::POINTS;
-use crate::rule::{Effect, Op, VALID};
+use crate::rule::{Effect, Op, BY_HAND, VALID};
 
 /// Greatest difference of the levels beside a gate that is opened.
 pub const LEVELS_APART: u32 = 5;
@@ -78,6 +79,18 @@ pub struct LatestRead {
     pub call: u32,
     pub value: i32,
     pub quality: u8,
+}
+
+impl LatestRead {
+    /// Of a gate: 0, measured or by hand.
+    pub fn is_closed(&self) -> bool {
+        self.value == 0 && matches!(self.quality, VALID | BY_HAND)
+    }
+
+    /// Of a level: measured.
+    pub fn is_valid_level(&self) -> bool {
+        self.quality == VALID
+    }
 }
 
 #[derive(Clone, PartialEq, Eq, Debug)]
@@ -162,10 +175,10 @@ impl Chamber {
         ) {
             (Some(other), Some(one), Some(two)) => {
                 other.call > self.moved
-                    && (other.value, other.quality) == (0, VALID)
+                    && other.is_closed()
                     && [one, two]
                         .iter()
-                        .all(|level| level.call > other.call && level.quality == VALID)
+                        .all(|level| level.call > other.call && level.is_valid_level())
                     && one.value.abs_diff(two.value) <= LEVELS_APART
             }
             _ => false,

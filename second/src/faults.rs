@@ -2,7 +2,7 @@
 //! checker only. A fault stands around the calls of a sound server, never in them.
 //! Those of request 2 (paper 02) stand around a controller, its successor's start,
 //! the other desks and the office; some of request 5 stand around what a host keeps.
-//! Those of request 6 change times alone.
+//! Those of request 6 change times alone, those of request 7 qualities.
 
 use crate::answer::Answer;
 use crate::bytes::put_u32;
@@ -13,7 +13,7 @@ use crate::record::{
     executed_len, parse_executed, parse_record, write_executed, write_executed_untimed, Executed,
     Parsed, Record, HEAD_LEN,
 };
-use crate::rule::{apply_by, Op, PartRule, Rules, INVALID, STOPPED};
+use crate::rule::{apply_by, Op, PartRule, Rules, BY_HAND, INVALID, STOPPED, VALID};
 use crate::server::{Completion, Server};
 use std::ops::{Deref, DerefMut};
 
@@ -201,7 +201,9 @@ fn wrong_rule(fault: Option<Fault>, rules: Rules) -> Option<fn(&mut Executed, &E
     match fault? {
         Fault::StepToOtherEnd => Some(to_other_end),
         Fault::StepLosesQuality => Some(lose_quality),
-        Fault::PartHalfUp if rules.part == PartRule::Nearest => Some(half_up),
+        Fault::PartHalfUp if rules.part != PartRule::Down => Some(half_up),
+        Fault::StepLosesByHand => Some(lose_by_hand),
+        Fault::ReportByHand if rules.quality_max() == BY_HAND => Some(report_by_hand),
         _ => None,
     }
 }
@@ -218,6 +220,18 @@ fn to_other_end(record: &mut Executed, entry: &Entry) {
 fn lose_quality(record: &mut Executed, _: &Entry) {
     if record.outcome == STOPPED {
         record.quality = INVALID;
+    }
+}
+
+fn lose_by_hand(record: &mut Executed, _: &Entry) {
+    if (record.op, record.quality) == (Op::Step, BY_HAND) {
+        record.quality = VALID;
+    }
+}
+
+fn report_by_hand(record: &mut Executed, _: &Entry) {
+    if (record.op, record.quality) == (Op::Report, VALID) {
+        record.quality = BY_HAND;
     }
 }
 

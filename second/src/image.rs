@@ -5,7 +5,7 @@ use crate::bytes::{all_zero, get_i32, get_pair, get_u32, put_i32, put_pairs, put
 use crate::packet::{cabinet_ok, point_ok, WINDOW};
 use crate::plan::Plan;
 use crate::program::Form;
-use crate::rule::{Op, OUTCOME_MAX};
+use crate::rule::{Op, OUTCOME_MAX, QUALITY_MAX};
 use std::cmp::Ordering;
 
 pub const IMAGE_MAGIC: [u8; 4] = [0x4D, 0x56, 0x49, 0x32];
@@ -206,7 +206,7 @@ fn parse_image_head(b: &[u8]) -> Option<ImageHead> {
         && cabinet_ok(head.destination)
         && cabinet_ok(head.source)
         && b[7] == 0
-        && head.quality <= 1
+        && head.quality <= QUALITY_MAX
         && all_zero(&b[POINT_AT + 5..POINT_AT + POINT_LEN]);
     ok.then_some(head)
 }
@@ -255,7 +255,7 @@ fn records_ok(form: Form, records: &[u8], floors: &[u8]) -> bool {
 }
 
 fn moved_ok(r: &Moved) -> bool {
-    r.op.accepts(r.argument) && r.outcome <= OUTCOME_MAX && r.quality <= 1
+    r.op.accepts(r.argument) && r.outcome <= OUTCOME_MAX && r.quality <= QUALITY_MAX
 }
 
 fn in_window(r: &Moved, f: &Floor) -> bool {

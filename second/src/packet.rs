@@ -4,7 +4,7 @@
 use crate::bytes::{all_zero, get_i32, get_u32, put_i32, put_u32};
 use crate::plan::{CABINETS, POINTS};
 use crate::program::Form;
-use crate::rule::{Op, OUTCOME_MAX};
+use crate::rule::{Op, OUTCOME_MAX, QUALITY_MAX};
 
 pub const REQUEST: u8 = 1;
 /// A result without its time.
@@ -176,7 +176,7 @@ pub fn parse_result(b: &[u8]) -> Option<Reply> {
     };
     let ok = reply.outcome <= OUTCOME_MAX
         && point_ok(reply.point)
-        && reply.quality <= 1
+        && reply.quality <= QUALITY_MAX
         && reply.client >= 1
         && reply.call >= 1;
     ok.then_some(reply)

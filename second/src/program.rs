@@ -1,6 +1,6 @@
 //! The programs that a server has run, each by the rules of its time and in the
-//! forms of its time. Request 6 of paper 02 changed the forms: today's carry the
-//! time of execution.
+//! forms of its time. Request 6 of paper 02 changed the forms: since then they carry
+//! the time of execution.
 
 use crate::rule::Rules;
 
@@ -38,21 +38,26 @@ impl Program {
     /// From request 1 on, before request 4.
     pub const SECOND: Program = Program::untimed(Rules::BETWEEN);
     /// From request 4 on, before request 6.
-    pub const THIRD: Program = Program::untimed(Rules::TODAY);
-    pub const TODAY: Program = Program {
-        rules: Rules::TODAY,
-        form: Form::Timed,
-    };
+    pub const THIRD: Program = Program::untimed(Rules::NEAREST);
+    /// From request 6 on, before request 7.
+    pub const FOURTH: Program = Program::timed(Rules::NEAREST);
+    pub const TODAY: Program = Program::timed(Rules::TODAY);
     /// In the order of time.
-    pub const ALL: [Program; 4] = [
+    pub const ALL: [Program; 5] = [
         Program::FIRST,
         Program::SECOND,
         Program::THIRD,
+        Program::FOURTH,
         Program::TODAY,
     ];
 
     const fn untimed(rules: Rules) -> Program {
         let form = Form::Untimed;
+        Program { rules, form }
+    }
+
+    const fn timed(rules: Rules) -> Program {
+        let form = Form::Timed;
         Program { rules, form }
     }
 

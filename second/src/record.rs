@@ -7,7 +7,7 @@ use crate::bytes::{all_zero, get_i32, get_u32, put_i32, put_u32};
 use crate::image::{IMAGE_MAX, IMAGE_MIN};
 use crate::packet::{cabinet_ok, point_ok, window_ok};
 use crate::program::Form;
-use crate::rule::{Op, OUTCOME_MAX};
+use crate::rule::{Op, OUTCOME_MAX, QUALITY_MAX};
 
 pub const LOG_MAGIC: [u8; 4] = [0x57, 0x4C, 0x47, 0x31];
 pub const HEAD_LEN: usize = 8;
@@ -215,7 +215,7 @@ pub fn parse_executed(b: &[u8]) -> Option<Executed> {
         && record.client >= 1
         && window_ok(record.done, record.call)
         && record.op.accepts(record.argument)
-        && record.quality <= 1
+        && record.quality <= QUALITY_MAX
         && all_zero(&b[25..EXECUTED_UNTIMED_LEN]);
     ok.then_some(record)
 }

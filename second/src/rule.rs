@@ -1,11 +1,15 @@
 //! Paper 01, "Points and commands": the rules of the six ops. Request 1 of
-//! paper 02 changed the rule of step and request 4 that of part; both versions
-//! of each stand here.
+//! paper 02 changed the rule of step, request 4 that of part, and request 7 those
+//! of set and part; all versions of each stand here.
 
 use crate::plan::Entry;
 
 pub const VALID: u8 = 0;
 pub const INVALID: u8 = 1;
+/// Entered by a set or part, not measured.
+pub const BY_HAND: u8 = 2;
+/// Greatest quality in packets, records, images, checkpoints and states.
+pub const QUALITY_MAX: u8 = BY_HAND;
 
 /// Outcome of a step that stopped at an end of the range.
 pub const STOPPED: u8 = 4;
@@ -52,6 +56,23 @@ impl Op {
     }
 }
 
+/// Versions of op 1's rule: the quality that a set in range gives.
+#[derive(Clone, Copy, PartialEq, Eq, Hash, Debug, Default)]
+pub enum SetRule {
+    Valid,
+    #[default]
+    ByHand,
+}
+
+impl SetRule {
+    fn quality(self) -> u8 {
+        match self {
+            SetRule::Valid => VALID,
+            SetRule::ByHand => BY_HAND,
+        }
+    }
+}
+
 /// Versions of op 2's rule: what a step past low or high does.
 #[derive(Clone, Copy, PartialEq, Eq, Hash, Debug, Default)]
 pub enum StepRule {
@@ -62,19 +83,31 @@ pub enum StepRule {
     Stop,
 }
 
-/// Versions of op 5's rule: how the quotient is rounded.
+/// Versions of op 5's rule: how the quotient is rounded, and the quality given.
 #[derive(Clone, Copy, PartialEq, Eq, Hash, Debug, Default)]
 pub enum PartRule {
     Down,
     /// To the nearest; an exact half to the even quotient.
-    #[default]
     Nearest,
+    /// The same, by hand.
+    #[default]
+    ByHand,
+}
+
+impl PartRule {
+    fn quality(self) -> u8 {
+        match self {
+            PartRule::Down | PartRule::Nearest => VALID,
+            PartRule::ByHand => BY_HAND,
+        }
+    }
 }
 
 /// The version of each op's rule that a program executes by. An op that is
 /// not named here has one version, so these make no difference to it.
 #[derive(Clone, Copy, PartialEq, Eq, Hash, Debug, Default)]
 pub struct Rules {
+    pub set: SetRule,
     pub step: StepRule,
     pub part: PartRule,
 }
@@ -82,26 +115,41 @@ pub struct Rules {
 impl Rules {
     /// Before request 1 of paper 02.
     pub const OLD: Rules = Rules {
+        set: SetRule::Valid,
         step: StepRule::Refuse,
         part: PartRule::Down,
     };
     /// From request 1 on, before request 4.
     pub const BETWEEN: Rules = Rules {
         step: StepRule::Stop,
-        part: PartRule::Down,
+        ..Rules::OLD
+    };
+    /// From request 4 on, before request 7.
+    pub const NEAREST: Rules = Rules {
+        part: PartRule::Nearest,
+        ..Rules::BETWEEN
     };
     pub const TODAY: Rules = Rules {
-        step: StepRule::Stop,
-        part: PartRule::Nearest,
+        set: SetRule::ByHand,
+        part: PartRule::ByHand,
+        ..Rules::NEAREST
     };
     /// Those of all programs, the first program's first.
-    pub const ALL: [Rules; 3] = [Rules::OLD, Rules::BETWEEN, Rules::TODAY];
+    pub const ALL: [Rules; 4] = [Rules::OLD, Rules::BETWEEN, Rules::NEAREST, Rules::TODAY];
 
     /// Greatest outcome that a program of these rules knows.
     pub fn outcome_max(self) -> u8 {
         match self.step {
             StepRule::Refuse => 3,
             StepRule::Stop => STOPPED,
+        }
+    }
+
+    /// Greatest quality that a program of these rules knows.
+    pub fn quality_max(self) -> u8 {
+        match self.set {
+            SetRule::Valid => INVALID,
+            SetRule::ByHand => BY_HAND,
         }
     }
 }
@@ -136,7 +184,7 @@ pub fn apply_by(
     };
     match op {
         Op::Read => keep(0),
-        Op::Set if entry.contains(argument) => assign(argument),
+        Op::Set if entry.contains(argument) => assign(argument, rules.set.quality()),
         Op::Set => keep(1),
         Op::Step if quality == INVALID => keep(2),
         Op::Step => {
@@ -147,17 +195,17 @@ pub fn apply_by(
                 quality,
             }
         }
-        Op::Report if entry.contains(argument) => assign(argument),
+        Op::Report if entry.contains(argument) => assign(argument, VALID),
         Op::Report | Op::Fault => fall_back(entry),
-        Op::Part => assign(part(rules.part, entry, argument)),
+        Op::Part => assign(part(rules.part, entry, argument), rules.part.quality()),
     }
 }
 
-fn assign(value: i32) -> Effect {
+fn assign(value: i32, quality: u8) -> Effect {
     Effect {
         outcome: 0,
         value,
-        quality: VALID,
+        quality,
     }
 }
 
@@ -169,7 +217,7 @@ fn fall_back(entry: &Entry) -> Effect {
     }
 }
 
-/// Outcome and value of a step on a valid point. The sum has 64 bits, so it
+/// Outcome and value of a step on a point that is not invalid. The sum has 64 bits, so it
 /// does not wrap.
 fn step(rule: StepRule, entry: &Entry, value: i32, argument: i32) -> (u8, i32) {
     let sum = i64::from(value) + i64::from(argument);
@@ -191,7 +239,7 @@ fn part(rule: PartRule, entry: &Entry, argument: i32) -> i32 {
     let (down, rest) = (product / 1000, product % 1000);
     let up = match rule {
         PartRule::Down => false,
-        PartRule::Nearest => rest > 500 || (rest == 500 && down % 2 == 1),
+        PartRule::Nearest | PartRule::ByHand => rest > 500 || (rest == 500 && down % 2 == 1),
     };
     (low + down + i64::from(up)) as i32
 }

@@ -25,6 +25,7 @@ mod crashes;
 mod desk;
 mod inspect;
 mod lock;
+mod openings;
 mod shadow;
 mod storing;
 mod times;
@@ -145,6 +146,8 @@ pub struct World<'a> {
     /// their starts.
     lock: Option<LockPoints>,
     controllers: Vec<usize>,
+    /// Place of the first opening whose answer is not as its conditions ask.
+    wrong_opening: Option<u32>,
     office: LeaseManager,
     clock: u32,
     /// All packets and images made, and their places by kind.
@@ -187,6 +190,7 @@ impl<'a> World<'a> {
             desks: Vec::new(),
             lock: None,
             controllers: Vec::new(),
+            wrong_opening: None,
             office: LeaseManager::new(),
             clock: 0,
             pool: Vec::new(),

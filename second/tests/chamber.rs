@@ -1,8 +1,10 @@
-//! The controller of a lock chamber (paper 02, request 2), call by call.
+//! The controller of a lock chamber (paper 02, request 2, with the qualities of request 7),
+//! call by call.
 
 use second::answer::Refusal;
 use second::chamber::{Chamber, LatestRead, LOWER, UPPER};
 use second::client::Received;
+use second::faults::{Fault, FaultyChamber};
 use second::packet::{
     parse_request, write_grant, write_refusal, write_result, Grant, RefusalPacket, Reply, Request,
     RESULT_LEN,
@@ -182,7 +184,7 @@ fn each_condition() {
     assert_eq!(opens(|_| {}), 0);
     // The other gate: another value, invalid, or read after the levels.
     assert_eq!(opens(|c| read(c, LOW, 0, 0)), 20);
-    for (value, quality) in [(1, 0), (-1, 0), (0, 1)] {
+    for (value, quality) in [(1, 0), (-1, 0), (0, 1), (1, 2), (-1, 2)] {
         let mut c = chamber();
         read(&mut c, LOW, value, quality);
         read(&mut c, ABOVE, 50, 0);
@@ -191,11 +193,14 @@ fn each_condition() {
     }
     // A level's latest read counts, and a read of the own gate or of level 3 does not.
     assert_eq!(opens(|c| read(c, ABOVE, 50, 1)), 20);
+    assert_eq!(opens(|c| read(c, ABOVE, 50, 2)), 20);
+    assert_eq!(opens(|c| read(c, INSIDE, 50, 2)), 20);
     assert_eq!(opens(|c| read(c, INSIDE, 56, 0)), 20);
     assert_eq!(opens(|c| read(c, INSIDE, 45, 0)), 0);
     assert_eq!(opens(|c| read(c, INSIDE, 44, 0)), 20);
     assert_eq!(opens(|c| read(c, UP, 70, 1)), 0);
     assert_eq!(opens(|c| read(c, BELOW, 900, 1)), 0);
+    assert_eq!(opens(|c| read(c, BELOW, 900, 2)), 0);
     // Any set or part since, on either gate, whatever its outcome.
     assert_eq!(opens(|c| complete(c, SET, LOW, 0, (0, 0))), 20);
     assert_eq!(opens(|c| complete(c, SET, UP, 0, (70, 0))), 20);
@@ -206,6 +211,54 @@ fn each_condition() {
         read(&mut c, point, value, 0);
     }
     assert_eq!(refused(&c, SET, UP, 5), 0);
+}
+
+/// The qualities with which the other gate and both levels are read.
+fn qualities() -> impl Iterator<Item = [u8; 3]> {
+    (0..27).map(|n| [n / 9, n / 3 % 3, n % 3])
+}
+
+/// The answer to a gate's opening after reads with these qualities, under a fault or none.
+fn opening_by(fault: Option<Fault>, gate: u32, qualities: [u8; 3]) -> u32 {
+    let mut c = FaultyChamber::new(chamber(), fault);
+    let points = match gate {
+        UP => [LOW, ABOVE, INSIDE],
+        _ => [UP, INSIDE, BELOW],
+    };
+    for (point, quality) in points.into_iter().zip(qualities) {
+        read(&mut c, point, 0, quality);
+    }
+    let opening = c.issue(SET, gate, 5);
+    opening.err().map_or(0, |refusal| refusal.number())
+}
+
+/// A value by hand is valid on a gate and not on a level; quality 0 is on both, 1 on neither.
+#[test]
+fn qualities_of_an_opening() {
+    for gate in [UP, LOW] {
+        for [other, one, two] in qualities() {
+            let clear = other != 1 && one == 0 && two == 0;
+            let due = if clear { 0 } else { 20 };
+            assert_eq!(opening_by(None, gate, [other, one, two]), due);
+        }
+    }
+}
+
+/// A gate that takes 0 alone and a level that takes 2 answer otherwise, where it is by hand
+/// and nothing else fails.
+#[test]
+fn faults_of_the_qualities() {
+    let differ = |fault| -> Vec<[u8; 3]> {
+        let differs = |gate, q| opening_by(Some(fault), gate, q) != opening_by(None, gate, q);
+        let cells = qualities().filter(|&q| differs(UP, q));
+        let cells: Vec<_> = cells.collect();
+        assert!(qualities().filter(|&q| differs(LOW, q)).eq(cells.clone()));
+        cells
+    };
+    assert_eq!(differ(Fault::GateByHandRefused), [[2, 0, 0]]);
+    let levels = [[0, 2], [2, 0], [2, 2]];
+    let cells = [0, 2].map(|gate| levels.map(|[one, two]| [gate, one, two]));
+    assert_eq!(differ(Fault::LevelByHandTaken), cells.concat());
 }
 
 /// At most 5 apart as integers; a difference of 32 bits would wrap.

@@ -41,8 +41,8 @@ const CLIENTS: [u8; 24] = [
 /// at its low end, the entry that came with point 40.
 #[rustfmt::skip]
 const RECORDS: [u8; 72] = [
-    3, 0, 0, 0, 1, 0, 0, 0, 40, 0, 0, 0, 40, 0, 0, 0, 1, 0, 0, 5, 0, 0, 0, 0,
-    0xFF, 0xFF, 0xFF, 0xFF, 7, 0, 0, 0, 0x67, 0xFF, 0xFF, 0xFF, 0x9C, 0xFF, 0xFF, 0xFF, 2, 4, 0, 5, 0, 0, 0, 0,
+    3, 0, 0, 0, 1, 0, 0, 0, 40, 0, 0, 0, 40, 0, 0, 0, 1, 0, 2, 5, 0, 0, 0, 0,
+    0xFF, 0xFF, 0xFF, 0xFF, 7, 0, 0, 0, 0x67, 0xFF, 0xFF, 0xFF, 0x9C, 0xFF, 0xFF, 0xFF, 2, 4, 2, 5, 0, 0, 0, 0,
     1, 0, 0, 0, 2, 0, 0, 0, 7, 0, 0, 0, 7, 0, 0, 0, 1, 0, 0, 40, 60, 0, 0, 0,
 ];
 
@@ -50,7 +50,7 @@ fn by_hand() -> Vec<u8> {
     let plan: Vec<[u8; 16]> = (0..64).map(|i| plan_row(u8::from(i >= 32))).collect();
     // Status, quality, destination; value; move; latest taken move.
     let points = (0..64).map(|i| match i {
-        5 => [[2, 0, 3, 0], [0x9C, 0xFF, 0xFF, 0xFF], [1, 0, 0, 0], [0; 4]],
+        5 => [[2, 2, 3, 0], [0x9C, 0xFF, 0xFF, 0xFF], [1, 0, 0, 0], [0; 4]],
         6 => [[3, 1, 1, 0], [0; 4], [1, 0, 0, 0], [0; 4]],
         40 => [[1, 0, 0, 0], [11, 0, 0, 0], [9, 0, 0, 0], [9, 0, 0, 0]],
         0..32 => [[1, 1, 0, 0], [0; 4], [0; 4], [0; 4]],

@@ -159,7 +159,7 @@ fn left_crashed() {
     for (count, value, left) in [(1, 30, 1), (2, 10, 1), (3, 10, 0)] {
         let steps = &steps[..count];
         after(steps, |world| {
-            assert_eq!(world.finals()[usize::from(POINT)], Some((value, 0)));
+            assert_eq!(world.finals()[usize::from(POINT)], Some((value, 2)));
             assert_eq!(world.server(0).is_some(), left == 0);
         });
         assert_eq!(counts(steps).left_crashed, left);

@@ -6,7 +6,7 @@ use common::*;
 use second::checker::{check, check_marked, Command, Finals, Violation};
 use second::plan::{Entry, Plan, POINTS};
 use second::random::Random;
-use second::rule::{Effect, Op, Rules};
+use second::rule::{Effect, Op, Rules, BY_HAND, VALID};
 use second::schedule::generate;
 use second::sequential::SequentialSpec;
 use second::world::{run, Counts, Options};
@@ -29,7 +29,9 @@ fn run_all(count: u64, options: Options) -> Counts {
 fn assert_eventful(counts: &Counts, schedules: u64) {
     assert!(counts.executed > 5 * schedules);
     assert!(counts.steps_stopped > schedules / 4);
-    assert_eq!((counts.executed_old, counts.steps_refused), (0, 0));
+    let by_today = [0, 0, 0, 0, counts.executed];
+    assert_eq!((counts.executed_by, counts.steps_refused), (by_today, 0));
+    assert!(counts.by_hand > schedules && counts.steps_by_hand > schedules);
     assert!(counts.completed > 2 * schedules);
     assert!(counts.repeats > 2 * schedules);
     assert!(counts.crashes > schedules);
@@ -101,26 +103,27 @@ fn finals_of(point: usize, value: i32, quality: u8) -> Finals {
 #[test]
 fn checker_by_hand() {
     let plan = Plan::uniform(RANGE);
-    let first = completed(command(1, Op::Set, 5, 40, 1), 2, 0, 40, 0);
-    let second = completed(command(2, Op::Set, 5, 50, 3), 4, 0, 50, 0);
+    let first = completed(command(1, Op::Set, 5, 40, 1), 2, 0, 40, 2);
+    let second = completed(command(2, Op::Set, 5, 50, 3), 4, 0, 50, 2);
     let no_order = Err(Violation::NoOrder { point: 5 });
     let verdict = |commands: &[Command], value, quality| {
         check(&plan, commands, &finals_of(5, value, quality))
     };
     assert_eq!(verdict(&[], 0, 1), Ok(()));
     assert_eq!(verdict(&[], 40, 0), no_order);
-    assert_eq!(verdict(&[first], 40, 0), Ok(()));
+    assert_eq!(verdict(&[first], 40, 2), Ok(()));
     assert_eq!(verdict(&[first], 40, 1), no_order);
-    assert_eq!(verdict(&[first, second], 50, 0), Ok(()));
+    assert_eq!(verdict(&[first], 40, 0), no_order);
+    assert_eq!(verdict(&[first, second], 50, 2), Ok(()));
     // The first was completed before the second was issued.
-    assert_eq!(verdict(&[first, second], 40, 0), no_order);
+    assert_eq!(verdict(&[first, second], 40, 2), no_order);
     // Had they overlapped, either could stand last.
-    let overlapping = completed(command(2, Op::Set, 5, 50, 1), 4, 0, 50, 0);
-    assert_eq!(verdict(&[first, overlapping], 40, 0), Ok(()));
+    let overlapping = completed(command(2, Op::Set, 5, 50, 1), 4, 0, 50, 2);
+    assert_eq!(verdict(&[first, overlapping], 40, 2), Ok(()));
     // A step carried out twice.
-    let step = completed(command(2, Op::Step, 5, 20, 3), 4, 0, 60, 0);
-    assert_eq!(verdict(&[first, step], 60, 0), Ok(()));
-    assert_eq!(verdict(&[first, step], 80, 0), no_order);
+    let step = completed(command(2, Op::Step, 5, 20, 3), 4, 0, 60, 2);
+    assert_eq!(verdict(&[first, step], 60, 2), Ok(()));
+    assert_eq!(verdict(&[first, step], 80, 2), no_order);
     // A result received of a command that a crash removed.
     let lost = Command {
         survives: false,
@@ -137,7 +140,7 @@ fn checker_by_hand() {
     // A surviving command must be an entry, received or not.
     let pending = command(1, Op::Set, 5, 40, 1);
     assert_eq!(verdict(&[pending], 0, 1), no_order);
-    assert_eq!(verdict(&[pending], 40, 0), Ok(()));
+    assert_eq!(verdict(&[pending], 40, 2), Ok(()));
     // A holder not founded is left out.
     let mut finals = finals_of(5, 0, 1);
     finals[5] = None;
@@ -148,7 +151,7 @@ fn checker_by_hand() {
 #[test]
 fn checker_runs_by_the_marks() {
     let plan = Plan::uniform(RANGE);
-    let set = completed(command(1, Op::Set, 5, 990, 1), 2, 0, 990, 0);
+    let report = completed(command(1, Op::Report, 5, 990, 1), 2, 0, 990, 0);
     let old = completed(command(2, Op::Step, 5, 20, 3), 4, 1, 990, 0);
     let new = completed(command(3, Op::Step, 5, 20, 5), 6, 4, 1000, 0);
     let unseen = command(4, Op::Step, 5, -2000, 7);
@@ -157,21 +160,48 @@ fn checker_runs_by_the_marks() {
         check_marked(&plan, commands, marks, &finals_of(5, value, 0))
     };
     let (o, t) = (Rules::OLD, Rules::TODAY);
-    assert_eq!(verdict(&[set, old], &[t, o], 990), Ok(()));
-    assert_eq!(verdict(&[set, old], &[o, o], 990), Ok(()));
-    assert_eq!(verdict(&[set, old], &[t, t], 990), no_order);
-    assert_eq!(verdict(&[set, old, new], &[o, o, t], 1000), Ok(()));
-    assert_eq!(verdict(&[set, old, new], &[o, t, o], 1000), no_order);
-    assert_eq!(verdict(&[set, old, new], &[o, o, o], 1000), no_order);
+    assert_eq!(verdict(&[report, old], &[t, o], 990), Ok(()));
+    assert_eq!(verdict(&[report, old], &[o, o], 990), Ok(()));
+    assert_eq!(verdict(&[report, old], &[t, t], 990), no_order);
+    assert_eq!(verdict(&[report, old, new], &[o, o, t], 1000), Ok(()));
+    assert_eq!(verdict(&[report, old, new], &[o, t, o], 1000), no_order);
+    assert_eq!(verdict(&[report, old, new], &[o, o, o], 1000), no_order);
     // A step without a result counts at the end by its mark.
-    assert_eq!(verdict(&[set, unseen], &[t, o], 990), Ok(()));
-    assert_eq!(verdict(&[set, unseen], &[t, o], -100), no_order);
-    assert_eq!(verdict(&[set, unseen], &[t, t], -100), Ok(()));
-    assert_eq!(verdict(&[set, unseen], &[t, t], 990), no_order);
+    assert_eq!(verdict(&[report, unseen], &[t, o], 990), Ok(()));
+    assert_eq!(verdict(&[report, unseen], &[t, o], -100), no_order);
+    assert_eq!(verdict(&[report, unseen], &[t, t], -100), Ok(()));
+    assert_eq!(verdict(&[report, unseen], &[t, t], 990), no_order);
     // Without marks, all are run by today's rules.
     let finals = finals_of(5, -100, 0);
-    assert_eq!(check(&plan, &[set, unseen], &finals), Ok(()));
-    assert_eq!(check(&plan, &[set, old], &finals_of(5, 990, 0)), no_order);
+    assert_eq!(check(&plan, &[report, unseen], &finals), Ok(()));
+    assert_eq!(
+        check(&plan, &[report, old], &finals_of(5, 990, 0)),
+        no_order
+    );
+}
+
+/// The book runs a set and a part by their marks, and a step behind them keeps what they
+/// gave.
+#[test]
+fn checker_runs_sets_and_parts_by_the_marks() {
+    let plan = Plan::uniform(RANGE);
+    let no_order = Err(Violation::NoOrder { point: 5 });
+    for (op, argument, due) in [
+        (Op::Set, 40, [(40, 0), (40, 0), (40, 0), (40, 2)]),
+        (Op::Part, 5, [(-95, 0), (-95, 0), (-94, 0), (-94, 2)]),
+    ] {
+        for (i, (value, quality)) in due.into_iter().enumerate() {
+            let first = completed(command(1, op, 5, argument, 1), 2, 0, value, quality);
+            let step = completed(command(2, Op::Step, 5, 1, 3), 4, 0, value + 1, quality);
+            for (rules, other) in Rules::ALL.into_iter().zip(due) {
+                let marks = [rules, Rules::ALL[i]];
+                let finals = finals_of(5, value + 1, quality);
+                let verdict = check_marked(&plan, &[first, step], &marks, &finals);
+                let explained = other == due[i];
+                assert_eq!(verdict, if explained { Ok(()) } else { no_order });
+            }
+        }
+    }
 }
 
 /// All orders of the surviving commands, of all points together.
@@ -193,7 +223,7 @@ fn some_order(rest: &mut Vec<(Command, Rules)>, book: &SequentialSpec, finals: &
     })
 }
 
-/// Commands run in a random order, by the old rules at times, finals at times
+/// Commands run in a random order, by earlier rules at times, finals at times
 /// changed.
 fn random_history(
     random: &mut Random,
@@ -204,7 +234,8 @@ fn random_history(
     let mut commands = Vec::new();
     let mut places: Vec<u32> = (1..40).collect();
     for call in 1..=random.below(7) {
-        let op = *random.pick(&[Op::Read, Op::Set, Op::Step, Op::Step]);
+        let ops = [Op::Read, Op::Set, Op::Report, Op::Part, Op::Step, Op::Step];
+        let op = *random.pick(&ops);
         let argument = match op {
             Op::Read => 0,
             _ => random.between(0, 2),
@@ -217,7 +248,7 @@ fn random_history(
         let (a, b) = (place(), place());
         let mut c = command(call, op, point, argument, a.min(b));
         let rules = match random.chance(old_percent) {
-            true => Rules::OLD,
+            true => *random.pick(&Rules::ALL),
             false => Rules::TODAY,
         };
         let effect = book.run_by(rules, op, point, argument);
@@ -231,7 +262,8 @@ fn random_history(
     finals[0] = Some(book.point(0));
     finals[1] = Some(book.point(1));
     if random.chance(30) {
-        finals[random.below(2) as usize] = Some((random.between(0, 3), 0));
+        let quality = *random.pick(&[VALID, BY_HAND]);
+        finals[random.below(2) as usize] = Some((random.between(0, 3), quality));
     }
     (commands, finals)
 }
@@ -263,7 +295,7 @@ fn checker_agrees_with_a_search_over_whole_orders() {
     assert_agrees(Plan::uniform(RANGE), 0);
 }
 
-/// The same where steps pass an end and some commands are marked old.
+/// The same where steps pass an end and some commands are marked with earlier rules.
 #[test]
 fn checker_agrees_by_the_marks() {
     let narrow = Entry { high: 2, ..RANGE };

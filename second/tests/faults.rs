@@ -82,6 +82,16 @@ fn part_that_rounds_halves_up() {
     assert_found(Fault::PartHalfUp);
 }
 
+#[test]
+fn step_that_loses_by_hand() {
+    assert_found(Fault::StepLosesByHand);
+}
+
+#[test]
+fn report_that_is_by_hand() {
+    assert_found(Fault::ReportByHand);
+}
+
 /// A shortened schedule still violates, and is no longer than the first.
 #[test]
 fn shortened_schedules_still_violate() {

@@ -143,7 +143,7 @@ fn records_that_do_not_read() {
     assert_eq!(shown(&|log| log[16] = 1, (1, 1)), Ok((1, 8, 40)));
     assert_eq!(shown(&|log| log[16] = 1, (1, 3)), Err(Refusal::Unknown));
     // Op, point, outcome, quality, a zero byte.
-    for (place, byte) in [(9, 6), (10, 64), (11, 5), (32, 2), (35, 1)] {
+    for (place, byte) in [(9, 6), (10, 64), (11, 5), (32, 3), (35, 1)] {
         let bad = |log: &mut [u8]| (log[16], log[place]) = (1, byte);
         assert_eq!(shown(&bad, (1, 1)), Ok((3, 2100, 2124)));
         assert_eq!(shown(&bad, (1, 3)), Err(Refusal::Unknown));

@@ -1,7 +1,7 @@
 //! Request 2 of paper 02 over random schedules: no order of what survives has both
-//! gates of the lock open anywhere. Faults planted in the
-//! controller, in its successor's start, in other desks, in the office and in
-//! the servers are found.
+//! gates of the lock open anywhere, and each opening is answered as its conditions
+//! ask. Faults planted in the controller, in its successor's start, in other desks,
+//! in the office and in the servers are found.
 
 mod search;
 
@@ -32,6 +32,7 @@ fn run_all(count: u64, options: Options) -> Counts {
         let found = run_lock(&generate_lock(seed), options);
         assert_eq!(found.demand3, Ok(()), "seed {seed}");
         assert!(!found.both_away(), "seed {seed}: {:?}", found.orders);
+        assert_eq!(found.wrong_opening, None, "seed {seed}");
         counts.add(&found.counts);
     }
     counts
@@ -256,16 +257,40 @@ fn an_opening_in_time_by_hand() {
 
 // Planted faults.
 
-fn both_away(seed: u64, fault: Option<Fault>) -> bool {
+fn run_seed(seed: u64, fault: Option<Fault>) -> LockRun {
     let options = Options {
         fault,
         ..Options::default()
     };
-    run_lock(&generate_lock(seed), options).both_away()
+    run_lock(&generate_lock(seed), options)
+}
+
+fn both_away(seed: u64, fault: Option<Fault>) -> bool {
+    run_seed(seed, fault).both_away()
 }
 
 fn assert_found(fault: Fault) -> u64 {
     search::first_violation(FIRST_SEED..FIRST_SEED + FAULT_MAX, fault, both_away)
+}
+
+/// By an opening's answer alone: the claim does not depend on these qualities.
+fn assert_answered_wrongly(fault: Fault) {
+    let seeds = FIRST_SEED..FIRST_SEED + FAULT_MAX;
+    search::first_violation(seeds, fault, |seed, fault| {
+        run_seed(seed, fault).wrong_opening.is_some()
+    });
+    let mut seeds = FIRST_SEED..FIRST_SEED + 1_000;
+    assert!(!seeds.any(|seed| both_away(seed, Some(fault))));
+}
+
+#[test]
+fn a_gate_by_hand_refused() {
+    assert_answered_wrongly(Fault::GateByHandRefused);
+}
+
+#[test]
+fn a_level_by_hand_taken() {
+    assert_answered_wrongly(Fault::LevelByHandTaken);
 }
 
 #[test]

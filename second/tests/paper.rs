@@ -1,5 +1,5 @@
 //! The cases that paper 01 spells out: the yard's whole case and the P cases,
-//! with what requests 1 and 4 of paper 02 changed and added.
+//! with what requests 1, 4 and 7 of paper 02 changed and added.
 
 mod common;
 
@@ -250,18 +250,23 @@ fn random_line(random: &mut Random) -> String {
 #[test]
 fn p_cases_of_the_ops() {
     let cases = [
-        (Op::Set, 1000, 5, 0, effect(0, 1000, 0)),
+        (Op::Set, 1000, 5, 0, effect(0, 1000, 2)),
         (Op::Set, 1001, 5, 0, effect(1, 5, 0)),
+        (Op::Set, 1001, 5, 2, effect(1, 5, 2)),
         (Op::Step, 1, 1000, 0, effect(4, 1000, 0)),
+        (Op::Step, 1, 1000, 2, effect(4, 1000, 2)),
         (Op::Step, 1, 999, 0, effect(0, 1000, 0)),
+        (Op::Step, -1, 1000, 2, effect(0, 999, 2)),
         (Op::Step, 0, 0, 1, effect(2, 0, 1)),
         (Op::Report, -101, 5, 0, effect(3, 0, 1)),
+        (Op::Report, 7, 5, 2, effect(0, 7, 0)),
         (Op::Fault, 0, 5, 0, effect(3, 0, 1)),
-        (Op::Part, 0, 5, 0, effect(0, -100, 0)),
-        (Op::Part, 333, 5, 1, effect(0, 266, 0)),
-        (Op::Part, 5, 5, 1, effect(0, -94, 0)),
-        (Op::Part, 15, 5, 0, effect(0, -84, 0)),
-        (Op::Part, 1000, 5, 1, effect(0, 1000, 0)),
+        (Op::Fault, 0, 5, 2, effect(3, 0, 1)),
+        (Op::Part, 0, 5, 0, effect(0, -100, 2)),
+        (Op::Part, 333, 5, 1, effect(0, 266, 2)),
+        (Op::Part, 5, 5, 1, effect(0, -94, 2)),
+        (Op::Part, 15, 5, 0, effect(0, -84, 2)),
+        (Op::Part, 1000, 5, 1, effect(0, 1000, 2)),
     ];
     for (op, argument, value, quality, expected) in cases {
         assert_eq!(apply(op, argument, &RANGE, value, quality), expected);
@@ -278,16 +283,16 @@ fn ops_beyond_the_p_cases() {
     };
     let cases = [
         (Op::Read, 0, 4, 1, effect(0, 4, 1)),
-        (Op::Set, i32::MIN, 4, 1, effect(0, i32::MIN, 0)),
+        (Op::Set, i32::MIN, 4, 1, effect(0, i32::MIN, 2)),
         (Op::Step, 1, i32::MAX, 0, effect(4, i32::MAX, 0)),
         (Op::Step, -1, i32::MIN, 0, effect(4, i32::MIN, 0)),
         (Op::Step, i32::MIN, i32::MAX, 0, effect(0, -1, 0)),
         (Op::Report, 9, 4, 1, effect(0, 9, 0)),
         (Op::Fault, 0, 4, 0, effect(3, 3, 1)),
-        (Op::Part, 1000, 4, 0, effect(0, i32::MAX, 0)),
-        (Op::Part, 999, 4, 0, effect(0, 2_143_188_680, 0)),
-        (Op::Part, 500, 4, 0, effect(0, 0, 0)),
-        (Op::Part, 0, 4, 0, effect(0, i32::MIN, 0)),
+        (Op::Part, 1000, 4, 0, effect(0, i32::MAX, 2)),
+        (Op::Part, 999, 4, 0, effect(0, 2_143_188_680, 2)),
+        (Op::Part, 500, 4, 0, effect(0, 0, 2)),
+        (Op::Part, 0, 4, 0, effect(0, i32::MIN, 2)),
     ];
     for (op, argument, value, quality, expected) in cases {
         assert_eq!(apply(op, argument, &wide, value, quality), expected);

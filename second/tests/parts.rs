@@ -1,5 +1,6 @@
 //! Request 4 of paper 02: part rounds its quotient to the nearest, an exact half
-//! to the even one. What earlier programs executed stays as it is.
+//! to the even one; since request 7 its value is by hand. What earlier programs executed
+//! stays as it is.
 
 mod common;
 mod logs;
@@ -24,19 +25,24 @@ const GREATEST: Entry = Entry {
     home: 0,
 };
 
+/// The quality that a part gives by the rules of each program.
+const QUALITIES: [u8; 5] = [0, 0, 0, 0, 2];
+
 /// The value after a part; it does not depend on the one before.
 fn part(rules: Rules, entry: &Entry, argument: i32) -> i32 {
     let by = |value, quality| apply_by(rules, Op::Part, argument, entry, value, quality);
     let found = by(entry.low, 0);
-    assert_eq!(found, effect(0, found.value, 0));
-    assert_eq!(by(entry.high, 1), found);
+    let quality = if rules == Rules::TODAY { 2 } else { 0 };
+    assert_eq!(found, effect(0, found.value, quality));
+    assert_eq!([by(entry.high, 1), by(entry.low, 2)], [found; 2]);
     found.value
 }
 
-/// By today's rule, and by the rule before it.
+/// By today's rule, and by the first one.
 fn parts(entry: &Entry, argument: i32) -> (i32, i32) {
-    let [old, between, today] = Rules::ALL.map(|rules| part(rules, entry, argument));
-    assert_eq!(old, between);
+    let values = Rules::ALL.map(|rules| part(rules, entry, argument));
+    let [old, between, nearest, today] = values;
+    assert_eq!([between, nearest], [old, today]);
     let same = apply(Op::Part, argument, entry, entry.high, 1);
     assert_eq!(same.value, today);
     (today, between)
@@ -113,17 +119,18 @@ fn low_equals_high() {
 
 #[test]
 fn other_ops_do_not_differ() {
-    assert_differ_only_in(Op::Part, Rules::BETWEEN, Rules::TODAY);
+    assert_differ_only_in(&[Op::Part], Rules::BETWEEN, Rules::NEAREST);
 }
 
 #[test]
 fn book_by_each_rule() {
     let mut book = SequentialSpec::new(plan());
-    assert_eq!(book.run(Op::Part, POINT, 5), effect(0, -94, 0));
-    for (rules, value) in Rules::ALL.into_iter().zip([-95, -95, -94]) {
+    assert_eq!(book.run(Op::Part, POINT, 5), effect(0, -94, 2));
+    let due = [(-95, 0), (-95, 0), (-94, 0), (-94, 2)];
+    for (rules, (value, quality)) in Rules::ALL.into_iter().zip(due) {
         let found = book.run_by(rules, Op::Part, POINT, 5);
-        assert_eq!(found, effect(0, value, 0));
-        assert_eq!(book.point(POINT), (value, 0));
+        assert_eq!(found, effect(0, value, quality));
+        assert_eq!(book.point(POINT), (value, quality));
     }
 }
 
@@ -228,23 +235,31 @@ fn part_packet(call: u32, argument: i32) -> [u8; REQUEST_LEN] {
     write_request(&request(Op::Part, POINT, 1, call, argument))
 }
 
-/// Part 5 by each program in turn, at one cabinet.
-fn rig_of_all_programs() -> Rig {
+/// Part 5 by each of so many programs in turn, at one cabinet.
+fn rig_of_programs(count: usize) -> Rig {
     let mut rig = Rig::new(0, 2000);
-    for (call, program) in (1..).zip(Program::ALL) {
+    for (call, &program) in (1..).zip(&Program::ALL[..count]) {
         rig.execute_by(program, &part_packet(call, 5));
     }
     rig
 }
 
-/// The results of the four calls of `rig_of_all_programs`; a repeat gives the
-/// same and executes nothing.
+fn rig_of_all_programs() -> Rig {
+    rig_of_programs(Program::ALL.len())
+}
+
+/// The results of the calls of `rig_of_programs`; a repeat gives the same and executes
+/// nothing.
 fn assert_results(rig: &mut Rig) {
     rig.sync_all();
-    for (call, value) in (1..).zip([-95, -95, -94, -94]) {
-        assert_eq!(rig.result(call), effect(0, value, 0));
+    let due = [-95, -95, -94, -94, -94].into_iter().zip(QUALITIES);
+    for (call, (value, quality)) in (1..=rig.server.records.len() as u32).zip(due) {
+        assert_eq!(rig.result(call), effect(0, value, quality));
         let bytes = rig.request(0, RESULT_LEN, &part_packet(call, 5));
-        assert_eq!(bytes[12..16], i32::to_le_bytes(value));
+        assert_eq!(
+            (bytes[3], &bytes[12..16]),
+            (quality, &value.to_le_bytes()[..])
+        );
     }
 }
 
@@ -253,15 +268,15 @@ fn each_rule_at_a_cabinet() {
     let mut rig = rig_of_all_programs();
     let record = rig.last_record();
     assert_eq!((record.op, record.outcome), (Op::Part, 0));
-    assert_eq!((record.argument, record.value), (5, -94));
+    assert_eq!((record.argument, record.value, record.quality), (5, -94, 2));
     assert_eq!(rig.server.point(POINT).value, -94);
     assert_results(&mut rig);
     // Request is by today's rules.
-    rig.execute(&part_packet(5, 995));
+    rig.execute(&part_packet(6, 995));
     assert_eq!(rig.last_record().value, 994); // 1094.5
-    rig.execute_by(Program::SECOND, &part_packet(6, 999));
+    rig.execute_by(Program::SECOND, &part_packet(7, 999));
     assert_eq!(rig.last_record().value, 998); // 1098.9
-    rig.execute(&part_packet(7, 999));
+    rig.execute(&part_packet(8, 999));
     assert_eq!(rig.last_record().value, 999);
 }
 
@@ -295,13 +310,18 @@ fn old_log_recovers() {
     assert_eq!(rig.last_record().value, -94);
 }
 
-/// Results of all programs move with the point, to a cabinet of any program.
+/// Results of all programs move with the point, to a cabinet of any program that knows their
+/// qualities.
 #[test]
 fn results_of_all_programs_move() {
-    rig_of_all_programs().move_to_each_program(u32::from(POINT), 4, |taker| {
-        assert_eq!(taker.server.point(POINT).value, -94);
-        assert_results(taker);
-    });
+    for count in [4, 5] {
+        rig_of_programs(count).move_to_each_program(u32::from(POINT), count, |taker| {
+            let point = taker.server.point(POINT);
+            let quality = QUALITIES[count - 1];
+            assert_eq!((point.value, point.quality), (-94, quality));
+            assert_results(taker);
+        });
+    }
 }
 
 /// Commands of random programs at one cabinet, half of them parts: the book

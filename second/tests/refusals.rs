@@ -160,7 +160,7 @@ fn request_refusals() {
     let expected = Reply {
         outcome: 0,
         point: 5,
-        quality: 0,
+        quality: 2,
         client: 1,
         call: 3,
         value: 40,
@@ -466,13 +466,14 @@ fn image_refusals() {
     let expected = image(
         &ImageHead {
             value: 40,
-            quality: 0,
+            quality: 2,
             ..head(5, 1, 0, 1)
         },
         &[floor(1, 1)],
         &[Moved {
             argument: 40,
             value: 40,
+            quality: 2,
             time: 0,
             ..moved(1, 1)
         }],
@@ -583,7 +584,7 @@ fn bad_images() -> Vec<Vec<u8>> {
     }
     with(&|b| put_u32(b, 40, 1001));
     with(&|b| put_u32(b, 40, -101i32 as u32));
-    with(&|b| b[44] = 2);
+    with(&|b| b[44] = 3);
     for at in 45..48 {
         with(&|b| b[at] = 1);
     }
@@ -607,7 +608,7 @@ fn bad_images() -> Vec<Vec<u8>> {
     with(&|b| b[80] = 6);
     with(&|b| b[80] = 0);
     with(&|b| b[81] = 5);
-    with(&|b| b[82] = 2);
+    with(&|b| b[82] = 3);
     with(&|b| b[83] = 1);
     let many: Vec<Floor> = (1..=33).map(|client| floor(client, 1)).collect();
     bad.push(image(&head(40, 0, 1, 1), &many, &[]));
@@ -884,7 +885,7 @@ fn recover_broken_layouts() {
         (12, 0),
         (12, 4),
         (12, 21),
-        (24, 2),
+        (24, 3),
         (25, 1),
         (26, 1),
         (27, 1),

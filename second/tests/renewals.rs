@@ -1,16 +1,17 @@
 //! Demand 3 with servers that are renewed one at a time: each executes by the
-//! first program's rules, then by those of the next, then by today's, and the
+//! first program's rules, then by those of the next ones up to today's, and the
 //! book runs each command by the rules that it was executed by.
 
 mod common;
 mod renewing;
 mod search;
 
+use common::effect;
 use renewing::*;
 use second::checker::Violation;
 use second::faults::Fault;
 use second::plan::write_plan;
-use second::rule::{PartRule, Rules};
+use second::rule::{Effect, PartRule, Rules, SetRule};
 use second::schedule::{generate, generate_renewed, Call, Keep, Renewed};
 use second::server::{Server, STATE_LEN};
 use second::world::{minimise_renewed, run, run_renewed, Counts, Options, World};
@@ -19,36 +20,37 @@ const FIRST_SEED: u64 = 3_000_000;
 const SCHEDULES: u64 = 5_000;
 const OLD: Rules = Rules::OLD;
 const BETWEEN: Rules = Rules::BETWEEN;
+const NEAREST: Rules = Rules::NEAREST;
 const TODAY: Rules = Rules::TODAY;
 
 // Call by call.
 
-/// Each program in turn at one server: its steps past an end and its parts.
+/// Each program in turn at one server: its sets, its steps past an end and its parts.
 #[test]
 fn through_all_programs() {
     let calls = [complete(1, 990), complete(2, 20), complete(5, 5)];
     let first = [&[begin()][..], &calls].concat();
-    let renewed = renewed_after([&first, &calls, &calls, &calls]);
+    let renewed = renewed_after([&first, &calls, &calls, &calls, &calls]);
     let world = explained(&renewed);
     let expected = [
         [(0, 990), (1, 990), (0, -95)].map(Some),
         [(0, 990), (4, 1000), (0, -95)].map(Some),
         [(0, 990), (4, 1000), (0, -94)].map(Some),
         [(0, 990), (4, 1000), (0, -94)].map(Some),
+        [(0, 990), (4, 1000), (0, -94)].map(Some),
     ];
     assert_eq!(results(&world), expected.concat());
-    let marks = [[OLD; 3], [BETWEEN; 3], [TODAY; 3], [TODAY; 3]];
+    let expected = [[0; 3], [0; 3], [0; 3], [0; 3], [2; 3]].concat();
+    assert!(qualities(&world)
+        .into_iter()
+        .eq(expected.into_iter().map(Some)));
+    let marks = [OLD, BETWEEN, NEAREST, NEAREST, TODAY].map(|rules| [rules; 3]);
     assert_eq!(world.marks(), marks.concat());
-    assert_eq!(world.finals()[usize::from(POINT)], Some((-94, 0)));
+    assert_eq!(world.finals()[usize::from(POINT)], Some((-94, 2)));
     let counts = run_renewed(&renewed, Options::default()).counts;
-    let executed = [
-        counts.executed,
-        counts.executed_old,
-        counts.executed_between,
-        counts.executed_untimed,
-    ];
-    assert_eq!(executed, [12, 3, 3, 3]);
-    assert_eq!((counts.parts_down, counts.parts_up), (2, 2));
+    assert_eq!((counts.executed, counts.executed_by), (15, [3; 5]));
+    assert_eq!((counts.parts_down, counts.parts_up), (2, 3));
+    assert_eq!((counts.by_hand, counts.steps_by_hand), (2, 1));
 }
 
 /// The state that the old program left is the new one's first.
@@ -80,34 +82,44 @@ fn never_renewed() {
     assert_eq!(results(&world)[1], Some((1, 990)));
 }
 
-/// At 990, a command that the crash before the renewal removed is executed
+/// At 990 by a report, a command that the crash before the renewal removed is executed
 /// again, by today's rule and so marked; one that it kept has the old result.
 fn crash_before_renewal(
     renew: fn(&Calls, &Calls) -> Renewed,
     old: Rules,
     command: Call,
-    [again, kept]: [(u8, i32); 2],
+    [again, kept]: [Effect; 2],
 ) {
     let repeat = [vec![RECOVER, REQUEST, SYNC, REQUEST, RECEIVE]];
     for (keep, mark, result) in [(Keep::Synced, TODAY, again), (Keep::All, old, kept)] {
         let late = vec![command, REQUEST, crash(keep)];
-        let renewed = renew(&[begin(), complete(1, 990), late], &repeat);
+        let renewed = renew(&[begin(), complete(3, 990), late], &repeat);
         let world = explained(&renewed);
         assert_eq!(world.marks(), [old, mark]);
-        assert_eq!(results(&world)[1], Some(result));
+        let received = world.commands()[1].completed.map(|(_, effect)| effect);
+        assert_eq!(received, Some(result));
         assert_eq!(unmarked(&world, &renewed).is_ok(), mark == TODAY);
     }
 }
 
 #[test]
 fn step_between_crash_and_recovery() {
-    crash_before_renewal(renewed_between, OLD, issue(2, 20), [(4, 1000), (1, 990)]);
+    let results = [effect(4, 1000, 0), effect(1, 990, 0)];
+    crash_before_renewal(renewed_between, OLD, issue(2, 20), results);
 }
 
 #[test]
 fn part_between_crash_and_recovery() {
-    let values = [(0, -94), (0, -95)];
-    crash_before_renewal(renewed_from_second, BETWEEN, issue(5, 5), values);
+    let results = [effect(0, -94, 2), effect(0, -95, 0)];
+    crash_before_renewal(renewed_from_second, BETWEEN, issue(5, 5), results);
+    let results = [effect(0, -94, 2), effect(0, -94, 0)];
+    crash_before_renewal(renewed_from_third, NEAREST, issue(5, 5), results);
+}
+
+#[test]
+fn set_between_crash_and_recovery() {
+    let results = [effect(0, 40, 2), effect(0, 40, 0)];
+    crash_before_renewal(renewed_from_fourth, NEAREST, issue(1, 40), results);
 }
 
 /// From an old server to one of the next program and back, with steps at each.
@@ -162,15 +174,15 @@ fn image_waits_for_the_renewal() {
 #[test]
 fn places_without_some_steps() {
     let renewed = Renewed {
-        places: vec![[0, 3, 3], [5, 9, 9]],
+        places: vec![[0, 3, 3, 3], [5, 9, 9, 9]],
         ..Renewed::today(&schedule(&[begin(), complete(1, 1)]))
     };
     let places = |from, to| renewed.without(from..to).places;
-    assert_eq!(places(0, 0), [[0, 3, 3], [5, 9, 9]]);
-    assert_eq!(places(0, 2), [[0, 1, 1], [3, 7, 7]]);
-    assert_eq!(places(2, 6), [[0, 2, 2], [2, 5, 5]]);
-    assert_eq!(places(5, 9), [[0, 3, 3], [5, 5, 5]]);
-    assert_eq!(places(0, 9), [[0; 3], [0; 3]]);
+    assert_eq!(places(0, 0), [[0, 3, 3, 3], [5, 9, 9, 9]]);
+    assert_eq!(places(0, 2), [[0, 1, 1, 1], [3, 7, 7, 7]]);
+    assert_eq!(places(2, 6), [[0, 2, 2, 2], [2, 5, 5, 5]]);
+    assert_eq!(places(5, 9), [[0, 3, 3, 3], [5, 5, 5, 5]]);
+    assert_eq!(places(0, 9), [[0; 4], [0; 4]]);
     assert_eq!(renewed.without(2..6).schedule.steps.len(), 5);
 }
 
@@ -178,20 +190,16 @@ fn places_without_some_steps() {
 
 /// What the new rules and the renewals bring about happens often.
 fn assert_eventful(counts: &Counts, schedules: u64) {
-    let old = [
-        counts.executed_old,
-        counts.executed_between,
-        counts.executed_untimed,
-    ];
-    let today = counts.executed - old.iter().sum::<u64>();
-    assert!(old
-        .iter()
-        .chain([&today])
-        .all(|&executed| executed > schedules));
-    assert!(counts.steps_refused > schedules / 6);
+    let executed = counts.executed_by;
+    assert!(executed.iter().all(|&executed| executed > schedules));
+    assert_eq!(executed.iter().sum::<u64>(), counts.executed);
+    assert!(counts.steps_refused > schedules / 10);
     assert!(counts.steps_stopped > schedules / 4);
     assert!(counts.parts_down > schedules / 4);
     assert!(counts.parts_up > schedules / 4);
+    assert!(counts.by_hand > schedules / 4);
+    assert!(counts.steps_by_hand > schedules / 10);
+    assert!(counts.takes_by_hand > schedules / 40);
     assert!(counts.completed > 2 * schedules);
     assert!(counts.crashes > schedules);
     assert!(counts.lost > schedules / 10);
@@ -243,15 +251,15 @@ fn no_violation_with_renewals() {
 /// renewals are in order, and spread over the schedules.
 #[test]
 fn renewals_are_spread() {
-    // Counted by renewal and by half of the schedule; one in eight first renewals of three
+    // Counted by renewal and by half of the schedule; one in sixteen first renewals of four
     // comes late.
-    let mut halves = [[0; 2]; 3];
-    for seed in FIRST_SEED..FIRST_SEED + 500 {
+    let mut halves = [[0; 2]; 4];
+    for seed in FIRST_SEED..FIRST_SEED + 1000 {
         let renewed = generate_renewed(seed);
         let count = renewed.schedule.steps.len();
         assert_eq!(renewed.places.len(), usize::from(renewed.schedule.cabinets));
         for places in &renewed.places {
-            assert!(places.is_sorted() && places[2] <= count);
+            assert!(places.is_sorted() && places[3] <= count);
             for (halves, &place) in halves.iter_mut().zip(places) {
                 halves[usize::from(place >= count / 2)] += 1;
             }
@@ -321,29 +329,34 @@ fn recovery_works_results_out() {
 
 // Part alone: the programs of these schedules differ in nothing else.
 
-/// The servers run the second program first, then today's.
-fn generate_from_second(seed: u64) -> Renewed {
-    generate_renewed(seed).past(1)
+/// The servers run the second program first, then those up to the fourth.
+fn generate_second_to_fourth(seed: u64) -> Renewed {
+    generate_renewed(seed).past(1).up_to(3)
 }
 
 #[test]
-fn no_violation_from_the_second_program() {
-    let counts = run_all(2000, generate_from_second);
-    assert_eq!((counts.executed_old, counts.steps_refused), (0, 0));
-    assert!(counts.executed_between > 2000 && counts.executed > 8000);
+fn no_violation_from_the_second_to_the_fourth_program() {
+    let counts = run_all(2000, generate_second_to_fourth);
+    assert_eq!((counts.executed_by[0], counts.executed_by[4]), (0, 0));
+    assert_eq!((counts.steps_refused, counts.by_hand), (0, 0));
+    assert!(counts.executed_by[1] > 2000 && counts.executed > 8000);
     assert!(counts.parts_down > 500 && counts.parts_up > 500);
     assert!(counts.takes_across > 500);
 }
 
-/// A book that runs all parts by one version of their rule, and steps by their
+/// A book that runs all parts by one version of their rule, and sets and steps by their
 /// marks, does not explain the schedules.
 #[test]
 fn marks_of_part_ignored() {
-    for part in [PartRule::Down, PartRule::Nearest] {
+    for part in [PartRule::Down, PartRule::Nearest, PartRule::ByHand] {
         let other = |rules| Rules { part, ..rules };
-        let three = first_unexplained(FIRST_SEED, generate_renewed, other);
-        let two = first_unexplained(FIRST_SEED, generate_from_second, other);
-        println!("{part:?} alone: found after {three} and {two} schedules");
+        let makes = [
+            generate_renewed,
+            generate_second_to_fourth,
+            generate_from_fourth,
+        ];
+        let found = makes.map(|make| first_unexplained(FIRST_SEED, make, other));
+        println!("part by {part:?} alone: found after {found:?} schedules");
     }
 }
 
@@ -367,7 +380,8 @@ fn parts_moved_between_programs() {
     let world = explained(&renewed);
     let expected = [(0, -95), (0, -94), (4, 1000), (0, 994), (0, 998)];
     assert_eq!(results(&world), expected.map(Some));
-    assert_eq!(world.marks(), [BETWEEN, TODAY, TODAY, BETWEEN, BETWEEN]);
+    let marks = [BETWEEN, NEAREST, NEAREST, BETWEEN, BETWEEN];
+    assert_eq!(world.marks(), marks);
     let counts = run_renewed(&renewed, Options::default()).counts;
     assert_eq!((counts.takes, counts.takes_across), (2, 2));
     assert_eq!(counts.images_too_new, 0);
@@ -378,7 +392,7 @@ fn parts_moved_between_programs() {
 fn recovery_works_parts_out() {
     let seeds = FIRST_SEED..FIRST_SEED + SOON;
     search::first_violation(seeds, Fault::RecoverWorksOut, |seed, fault| {
-        violates(&generate_from_second(seed), fault)
+        violates(&generate_second_to_fourth(seed), fault)
     });
     let before = [begin(), complete(5, 5), vec![crash(Keep::All)]];
     let renewed = renewed_from_second(&before, &[vec![RECOVER], complete(0, 0)]);
@@ -387,4 +401,109 @@ fn recovery_works_parts_out() {
     // The program that executed them may work them out.
     let never = renewed_from_second(&[&before[..], &[vec![RECOVER]]].concat(), &[]);
     assert!(!violates(&never, Some(Fault::RecoverWorksOut)));
+}
+
+// Values by hand: the programs of these schedules differ in nothing else.
+
+/// The servers run the fourth program up to their second renewal, then today's.
+fn generate_from_fourth(seed: u64) -> Renewed {
+    let mut renewed = generate_renewed(seed);
+    for places in &mut renewed.places {
+        *places = [0, 0, 0, places[1]];
+    }
+    renewed
+}
+
+#[test]
+fn no_violation_from_the_fourth_program() {
+    let counts = run_all(2000, generate_from_fourth);
+    assert_eq!(counts.executed_by[..3], [0; 3]);
+    assert!(counts.executed_by[3] > 4000 && counts.executed_by[4] > 4000);
+    assert!(counts.by_hand > 2000 && counts.steps_by_hand > 500);
+    assert!(counts.takes_by_hand > 200 && counts.images_too_new > 100);
+}
+
+/// A book that runs all sets by one version of their rule, and steps and parts by their
+/// marks, does not explain the schedules.
+#[test]
+fn marks_of_set_ignored() {
+    for set in [SetRule::Valid, SetRule::ByHand] {
+        let other = |rules| Rules { set, ..rules };
+        let makes = [generate_renewed, generate_from_fourth];
+        let found = makes.map(|make| first_unexplained(FIRST_SEED, make, other));
+        println!("set by {set:?} alone: found after {found:?} schedules");
+    }
+}
+
+/// A step at a server of today's program keeps the quality that an earlier one gave, and
+/// the next set is by hand. The way back is closed until that server is renewed.
+#[test]
+fn sets_moved_between_programs() {
+    let before = [
+        begin(),
+        complete(1, 40),
+        give_to(1),
+        vec![TAKE],
+        complete(2, 1),
+        complete(1, 50),
+        complete(2, 1),
+        give_to(0),
+        vec![TAKE],
+    ];
+    let renewed = renewed_from_fourth(&before, &[vec![TAKE], complete(2, 2000)]);
+    let world = explained(&renewed);
+    let expected = [(0, 40), (0, 41), (0, 50), (0, 51), (4, 1000)];
+    assert_eq!(results(&world), expected.map(Some));
+    assert_eq!(qualities(&world), [0, 0, 2, 2, 2].map(Some));
+    assert_eq!(world.marks(), [NEAREST, TODAY, TODAY, TODAY, TODAY]);
+    let counts = run_renewed(&renewed, Options::default()).counts;
+    assert_eq!((counts.takes, counts.images_too_new), (2, 1));
+    assert_eq!((counts.takes_by_hand, counts.steps_by_hand), (1, 2));
+}
+
+/// An image whose point is as measured waits too while an entry is by hand: the record of a
+/// set that is open stays, that of a completed one goes with the next command's done.
+#[test]
+fn entry_by_hand_waits_for_the_renewal() {
+    let open = vec![issue(1, 50), REQUEST];
+    for (set, expected) in [(open, (1, 1)), (complete(1, 50), (2, 0))] {
+        let calls = [
+            begin(),
+            give_to(1),
+            vec![TAKE],
+            set,
+            complete(3, 7),
+            give_to(0),
+            vec![TAKE],
+        ];
+        let renewed = renewed_from_fourth(&calls, &[]);
+        assert_eq!(explained(&renewed).finals()[5], Some((7, 0)));
+        let counts = run_renewed(&renewed, Options::default()).counts;
+        assert_eq!((counts.takes, counts.images_too_new), expected);
+    }
+}
+
+/// A recovery that works qualities out by its own program's rule.
+#[test]
+fn recovery_works_qualities_out() {
+    let seeds = FIRST_SEED..FIRST_SEED + SOON;
+    search::first_violation(seeds, Fault::RecoverWorksOut, |seed, fault| {
+        violates(&generate_from_fourth(seed), fault)
+    });
+    for command in [complete(1, 40), complete(5, 5)] {
+        let before = [begin(), command, vec![crash(Keep::All)]];
+        let renewed = renewed_from_fourth(&before, &[vec![RECOVER], complete(0, 0)]);
+        assert!(violates(&renewed, Some(Fault::RecoverWorksOut)));
+        assert_eq!(qualities(&explained(&renewed)), [0, 0].map(Some));
+    }
+}
+
+#[test]
+fn faults_in_the_quality() {
+    for make in [generate_renewed, generate_from_fourth] {
+        for fault in [Fault::StepLosesByHand, Fault::ReportByHand] {
+            let seeds = FIRST_SEED..FIRST_SEED + 10 * SOON;
+            search::first_violation(seeds, fault, |seed, fault| violates(&make(seed), fault));
+        }
+    }
 }

@@ -63,7 +63,7 @@ fn random_packet(random: &mut Random) -> Packet {
         1 => Packet::Result(Reply {
             outcome: random.below(5) as u8,
             point,
-            quality: random.below(2) as u8,
+            quality: random.below(3) as u8,
             client,
             call,
             value: number(random) as i32,
@@ -265,7 +265,7 @@ fn random_image(random: &mut Random, plan: &Plan) -> Parts {
         move_number: number(random),
         heard: number(random),
         value: value(random),
-        quality: random.below(2) as u8,
+        quality: random.below(3) as u8,
     };
     let mut clients: Vec<u32> = (0..random.below(6)).map(|_| at_least_1(random)).collect();
     clients.sort_unstable();
@@ -290,7 +290,7 @@ fn random_image(random: &mut Random, plan: &Plan) -> Parts {
                     value: value(random),
                     op,
                     outcome: random.below(5) as u8,
-                    quality: random.below(2) as u8,
+                    quality: random.below(3) as u8,
                     time: form.time(number(random)),
                 });
             }
@@ -383,7 +383,7 @@ fn random_record(random: &mut Random) -> Vec<u8> {
                 done,
                 argument,
                 value: number(random) as i32,
-                quality: random.below(2) as u8,
+                quality: random.below(3) as u8,
                 time: number(random),
             };
             match random.chance(50) {

@@ -22,10 +22,12 @@ use second::simulator;
 
 const POINT: u8 = 5;
 
-/// Outcome and value of a step on a valid point; the quality stays.
+/// Outcome and value of a step on a point that is not invalid; the quality stays.
 fn stepped(rules: Rules, entry: &Entry, value: i32, argument: i32) -> (u8, i32) {
-    let e = apply_by(rules, Op::Step, argument, entry, value, 0);
-    assert_eq!(e.quality, 0);
+    let by = |quality| apply_by(rules, Op::Step, argument, entry, value, quality);
+    let (e, by_hand) = (by(0), by(2));
+    assert_eq!((e.quality, by_hand.quality), (0, 2));
+    assert_eq!((e.outcome, e.value), (by_hand.outcome, by_hand.value));
     (e.outcome, e.value)
 }
 
@@ -132,13 +134,13 @@ fn all_steps_in_small_ranges() {
 
 #[test]
 fn other_ops_do_not_differ() {
-    assert_differ_only_in(Op::Step, Rules::OLD, Rules::BETWEEN);
+    assert_differ_only_in(&[Op::Step], Rules::OLD, Rules::BETWEEN);
 }
 
 #[test]
 fn default_rules_are_todays() {
     assert_eq!(Rules::default(), Rules::TODAY);
-    assert_eq!(Rules::ALL.map(Rules::outcome_max), [3, 4, 4]);
+    assert_eq!(Rules::ALL.map(Rules::outcome_max), [3, 4, 4, 4]);
     let mut book = SequentialSpec::new(plan());
     book.set(POINT, 999, 0);
     assert_eq!(book.clone().run(Op::Step, POINT, 2), effect(4, 1000, 0));
@@ -172,26 +174,26 @@ fn value_and_quality(server: &Server) -> (i32, u8) {
 #[test]
 fn outcome_4_in_state_log_and_result() {
     let mut rig = rig_after_step(Program::TODAY);
-    assert_eq!(value_and_quality(&rig.server), (1000, 0));
+    assert_eq!(value_and_quality(&rig.server), (1000, 2));
     let record = rig.last_record();
     assert_eq!((record.op, record.outcome), (Op::Step, 4));
     assert_eq!((record.argument, record.value), (20, 1000));
     rig.sync_all();
     for _ in 0..2 {
-        assert_eq!(rig.result(2), effect(4, 1000, 0));
+        assert_eq!(rig.result(2), effect(4, 1000, 2));
         let bytes = rig.request(0, RESULT_LEN, &step(1, 2, 20));
-        assert_eq!(bytes[..4], [7, 4, POINT, 0]);
+        assert_eq!(bytes[..4], [7, 4, POINT, 2]);
     }
     let kept = rig.server.length as usize;
     let log = rig.log[..kept].to_vec();
     let before = rig.server.clone();
     rig.expect(0, 0, |s, _, _| s.recover(STATE_LEN, &log, &plan_bytes()));
     assert_eq!(rig.server, before);
-    assert_eq!(rig.result(2), effect(4, 1000, 0));
+    assert_eq!(rig.result(2), effect(4, 1000, 2));
     // Past the other end.
     rig.execute(&step(1, 3, i32::MIN));
     rig.sync_all();
-    assert_eq!(rig.result(3), effect(4, -100, 0));
+    assert_eq!(rig.result(3), effect(4, -100, 2));
 }
 
 /// Request is request_by with today's rules.
@@ -359,9 +361,9 @@ fn outcome_4_moves_with_the_point() {
     let mut taker = Rig::new(1, 2000);
     taker.take(0, &image);
     taker.sync_all();
-    assert_eq!(taker.result(2), effect(4, 1000, 0));
+    assert_eq!(taker.result(2), effect(4, 1000, 2));
     let bytes = taker.request(0, RESULT_LEN, &step(1, 2, 20));
-    assert_eq!(bytes[..4], [7, 4, POINT, 0]);
+    assert_eq!(bytes[..4], [7, 4, POINT, 2]);
     let log = taker.whole_log();
     assert_eq!(recover(log, &plan()), Some(taker.server));
 }

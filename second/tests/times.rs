@@ -468,7 +468,7 @@ fn the_third_program_refuses_today_s_images() {
     }
     assert!(Program::ALL.iter().all(|p| p.reads(Form::Untimed)));
     let timed = Program::ALL.map(|p| p.reads(Form::Timed));
-    assert_eq!(timed, [false, false, false, true]);
+    assert_eq!(timed, [false, false, false, true, true]);
     assert_eq!(Program::default(), Program::TODAY);
 }
 
@@ -577,8 +577,8 @@ fn with(fault: Option<Fault>) -> Options {
 }
 
 fn assert_eventful(counts: &Counts, schedules: u64) {
-    let today = counts.executed - counts.executed_untimed;
-    assert!(today > 2 * schedules && counts.executed_untimed > 2 * schedules);
+    let [.., third, fourth, today] = counts.executed_by;
+    assert!(third > 2 * schedules && fourth > schedules && today > 2 * schedules);
     assert!(counts.results_untimed > schedules);
     assert!(counts.results_timed > schedules);
     assert!(counts.results_from_untimed > schedules / 4);

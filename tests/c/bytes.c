@@ -77,7 +77,7 @@ int main(void) {
     show("refusal, 7", out, n);
     sync_log(a);
     n = due(mantelorris_request(OF(a), set.packet, set.length, out, sizeof out), 0);
-    show("result, outcome 0, value -40, time 50", out, n);
+    show("result, outcome 0, value -40, by hand, time 50", out, n);
     due(mantelorris_give(OF(a), GATE, 1), 0);
     sync_log(a);
     n = due(mantelorris_image(OF(a), GATE, out, sizeof out), 0);

@@ -130,6 +130,10 @@ static void clients(void) {
     expect("receive: not open", mantelorris_receive(&d, p, 20).number, 17);
     result(p, 5, 5, 0, 9, 1, -40, 70);
     expect("receive: outcome 5", mantelorris_receive(&d, p, 20).number, 1);
+    result(p, 0, 5, 3, 9, 1, -40, 70);
+    expect("receive: quality 3", mantelorris_receive(&d, p, 20).number, 1);
+    p[0] = 2;
+    expect("receive: quality 3, without a time", mantelorris_receive(&d, p, 16).number, 1);
     result(p, 0, 5, 0, 9, 1, -40, 70);
     for (size_t length = 0; length <= 24; length++)
         if (length != 20) expect("receive: packet 7 of another length", mantelorris_receive(&d, p, length).number, 1);
@@ -159,16 +163,19 @@ static void clients(void) {
     expect("receive: its value", got.value, -2147483647 - 1);
     expect("receive: the same again", mantelorris_receive(&d, p, 20).number, 17);
     send_refused("issue: 1 is still open", mantelorris_issue(&d, 1, 5, 0), 15);
-    result(p, 0, 5, 0, 9, 1, -40, 70);
+    result(p, 0, 5, 2, 9, 1, -40, 70);
     p[0] = 2;
     got = mantelorris_receive(&d, p, 16);
     expect("receive: 1, without a time", got.number, 0);
     expect("receive: 1, its kind", got.kind, 7);
+    expect("receive: 1, by hand", got.quality, MANTELORRIS_BY_HAND);
     expect("receive: 1, its value", got.value, -40);
     expect("receive: 1, its time", got.time, 0);
     request("issue 17: done is 2, with today's lease end", mantelorris_issue(&d, 4, 63, 0), 4, 63, 9, 17, 2, 250, 0);
-    result(p, 0, 7, 0, 9, 2, 1, 0);
-    expect("receive: 2", mantelorris_receive(&d, p, 20).number, 0);
+    result(p, 0, 7, 2, 9, 2, 1, 0);
+    got = mantelorris_receive(&d, p, 20);
+    expect("receive: 2", got.number, 0);
+    expect("receive: 2, by hand", got.quality, MANTELORRIS_BY_HAND);
     request("resend 4: done is 4", mantelorris_resend(&d, 4), 2, 7, 9, 4, 4, 250, 2147483647);
 
     /* the last number */

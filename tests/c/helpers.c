@@ -218,12 +218,29 @@ static void full(void) {
     expect("the plan, of a checkpoint", (uint64_t)memcmp(mantelorris_plan(other), plan, sizeof plan), 0);
 }
 
+/* the quality that the point has after each command */
+static void entered(void) {
+    static const struct {
+        uint32_t op, argument, quality;
+    } rows[] = {{MANTELORRIS_READ, 0, MANTELORRIS_INVALID}, {MANTELORRIS_STEP, 0, MANTELORRIS_INVALID}, {MANTELORRIS_SET, 1, MANTELORRIS_BY_HAND}, {MANTELORRIS_STEP, 0, MANTELORRIS_BY_HAND},
+                {MANTELORRIS_READ, 0, MANTELORRIS_BY_HAND}, {MANTELORRIS_REPORT, 1, MANTELORRIS_VALID}, {MANTELORRIS_STEP, 0, MANTELORRIS_VALID}, {MANTELORRIS_PART, 500, MANTELORRIS_BY_HAND},
+                {MANTELORRIS_FAULT, 0, MANTELORRIS_INVALID}, {MANTELORRIS_PART, 0, MANTELORRIS_BY_HAND}};
+    struct mantelorris_lease_manager manager = mantelorris_leases();
+    struct mantelorris_lease_reply grant = mantelorris_open(&manager, 0, 600);
+    struct mantelorris_client client = mantelorris_start(grant.packet, grant.length).client;
+    expect("found", founded(1), 0);
+    for (size_t i = 0; i < sizeof rows / sizeof rows[0]; i++) {
+        request(&client, rows[i].op, (int32_t)rows[i].argument, 0);
+        expect("quality", mantelorris_quality(state, POINT), rows[i].quality);
+    }
+}
+
 static void names(void) {
     static const char *const ops[] = {"read", "set", "step", "report", "fault", "part", "unknown op"}, *const outcomes[] = {"done", "out of range", "invalid", "fallback", "stopped", "unknown outcome"};
-    static const char *const qualities[] = {"valid", "invalid", "unknown quality"}, *const states[] = {"absent", "held", "given", "released", "unknown status"};
+    static const char *const qualities[] = {"valid", "invalid", "by hand", "unknown quality"}, *const states[] = {"absent", "held", "given", "released", "unknown status"};
     for (uint32_t i = 0; i < 7; i++) expect_name(mantelorris_op_name(i), ops[i]);
     for (uint32_t i = 0; i < 6; i++) expect_name(mantelorris_outcome_name(i), outcomes[i]);
-    for (uint32_t i = 0; i < 3; i++) expect_name(mantelorris_quality_name(i), qualities[i]);
+    for (uint32_t i = 0; i < 4; i++) expect_name(mantelorris_quality_name(i), qualities[i]);
     for (uint32_t i = 0; i < 5; i++) expect_name(mantelorris_status_name(i), states[i]);
     /* as many ops as the library issues, and no more */
     struct mantelorris_lease_manager manager = mantelorris_leases();
@@ -236,6 +253,7 @@ int main(void) {
     plans();
     heard_and_moved();
     full();
+    entered();
     names();
     printf("%d passed, %d failed\n", passed, failed);
     return failed != 0;

@@ -323,7 +323,8 @@ static void on_client(struct desk *d, const uint8_t *packet, size_t length) {
         d->results++;
         d->last = r.value;
         d->time = r.time;
-        expect("result: outcome and quality", r.outcome | r.quality, 0);
+        expect("result: outcome", r.outcome, MANTELORRIS_OUTCOME_DONE);
+        expect("result: by hand, set or stepped from there", r.quality, MANTELORRIS_BY_HAND);
         if (r.value >= 0 && r.value <= 2 * STEPS) counted[r.value]++;
     }
     if (r.kind == MANTELORRIS_KIND_REFUSAL && r.refusal == MANTELORRIS_NOT_HELD) d->server = (int)below(2);
@@ -431,7 +432,7 @@ static void second(void) {
     }
 }
 
-/* The first command makes the point's value valid: a step on an invalid one would change nothing. */
+/* The first command gives the point a value by hand: a step on an invalid one would change nothing. */
 static void first_command(void) {
     expect("issue: set 0", (uint64_t)issued(&desks[0], 1, 0), 1);
     for (int i = 0; i < 1000 && results() < 1; i++) second();

@@ -34,7 +34,7 @@ __attribute__((force_align_arg_pointer)) void _start(void) {
     uint64_t a = mantelorris_found(state, sizeof state, log_space, sizeof log_space, plan, sizeof plan, 0);
     if (a) end(1);
     a = mantelorris_request(state, sizeof state, log_space, sizeof log_space, q.packet, q.length, out, sizeof out);
-    end(a != MANTELORRIS_OK || mantelorris_quality(state, 5) != MANTELORRIS_VALID);
+    end(a != MANTELORRIS_OK || mantelorris_quality(state, 5) != MANTELORRIS_BY_HAND);
 }
 C
 cc -std=c11 -O2 -Wall -Wextra -ffreestanding -nostdlib -static -fno-stack-protector -I"$dist" "$work/bare.c" "$dist/libmantelorris.a" -o "$work/bare"

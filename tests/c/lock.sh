@@ -12,7 +12,8 @@ for seed in $(seq 1 60); do
   timeout 60 "$work/lock" 5 "$seed" >"$work/said" || failed "seed $seed: exit $?"
   [ "$(grep -c 'command arrives late: lease ended$' "$work/said")" = 3 ] || failed "seed $seed: not three late commands refused"
   [ "$(grep -c "another client's notice$" "$work/said")" = 1 ] || failed "seed $seed: no controller that the cabinet does not know"
-  [ "$(grep -c 'not safe$' "$work/said")" = 10 ] || failed "seed $seed: not one refusal 20 at the start and two a cycle, but for the first"
+  [ "$(grep -c 'not safe$' "$work/said")" = 11 ] || failed "seed $seed: not one refusal 20 at the start, two a cycle but for the first, and one by hand"
+  [ "$(grep -c 'by a level that was entered: not safe$' "$work/said")" = 1 ] || failed "seed $seed: a level by hand opens a gate"
   tail -n 1 "$work/said" >"$work/last"
   status=0
   timeout 60 "$work/lock" 5 "$seed" unfenced >"$work/said" || status=$?

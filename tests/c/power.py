@@ -380,8 +380,8 @@ def damaged_checkpoints(card):
     checkpoint, log = parts(card)
     n = len(checkpoint)
     clients, records = struct.unpack_from('<I', card, 28)[0], struct.unpack_from('<I', card, 36)[0]
-    in_checkpoint = [(4, 16), (5, 1), (6, 1), (7, 1), *[(at, 99) for at in range(12, 44)], (44 + 13, 1), (44 + 12, 16), (1068, 4), (1068 + 1, 2), (1068 + 3, 1),
-                     (1068 + 16 * GATE + 7, 99), (1068 + 8, 1), (clients + 4, 0), (records, 99), (records + 16, 9), (records + 19, 64)]
+    in_checkpoint = [(4, 16), (5, 1), (6, 1), (7, 1), *[(at, 99) for at in range(12, 44)], (44 + 13, 1), (44 + 12, 16), (1068, 4), (1068 + 1, 3), (1068 + 3, 1),
+                     (1068 + 16 * GATE + 7, 99), (1068 + 8, 1), (clients + 4, 0), (records, 99), (records + 16, 9), (records + 18, 3), (records + 19, 64)]
     cards = [(*with_byte(card, at, byte), 'checkpoint: bad log: the card is damaged') for at, byte in in_checkpoint]
     cards += [(*with_byte(card, at, 0xFF), 'log: bad log: the card is damaged, or it is no log') for at in range(4)]
     cards += [(*with_byte(card, n + at, 9), 'tail: bad log: the card is damaged behind its checkpoint') for at in (0, 5, 8)]
@@ -514,10 +514,13 @@ def in_use(hosts, port):
 
 
 def driven(driver, log, card):
-    """after a start, by value, status and quality"""
-    said = [ran(driver, 'driven', c)[0].stdout for c in (log, card, b'WLG1' + bytes(4))]
+    """after a start, by value, status and quality: the cards of a session, one that was just founded, and one of each quality"""
+    each = [b'WLG1' + bytes(4) + struct.pack('<4B3I2iB3xI', 6, 3, GATE, 0, 1, 1, 1, 70, 70, quality, 0) for quality in range(3)]
+    said = [ran(driver, 'driven', c)[0].stdout for c in (log, card, b'WLG1' + bytes(4), *each)]
     values = [whole_records(*parts(c))[-1][1] for c in (log, card)]
-    count('the gate is driven after a start, where its value is valid', [text.split('server')[0] for text in said] == ['gate to %d; ' % v for v in values] + [''])
+    due = ['gate to %d; ' % v for v in values] + ['', 'gate to 70; ', '', 'gate to 70; ']
+    count('the gate is driven after a start, where its value is not invalid', [text.split('server')[0] for text in said] == due)
+    count('and its quality is told by name', [text.split(', ')[-1] for text in said] == [q + '\n' for q in ('by hand', 'by hand', 'invalid', 'valid', 'invalid', 'by hand')])
     one = changed('driver_1', *DRIVES, ['-DSERVER=1'])
     count('and not where the point is not held', ran(one, 'driven_1', b'WLG1\1' + bytes(3))[0].stdout.startswith('server 1, '))
 

@@ -3,7 +3,7 @@
   - the stored logs and checkpoints of every version (tests/logs): state and records are those that were stored, words and JSON say the same
   - every cut of a log; every bit of two logs turned, a bit of each byte of a card with a checkpoint, of images and packets: its answer is the library's, the place that it names holds the first
     byte that the library refuses, and there is a reason; by a build that ends at a read past the bytes (tests/c/reader.c)
-  - records that cannot follow and checkpoints that are off, each with its own reason; logs made up; what docs/GUIDE.md shows; raw cards; wrong plans; no plan
+  - records that cannot follow and checkpoints that are off, each with its own reason; each quality in each layout; logs made up; what docs/GUIDE.md shows; raw cards; wrong plans; no plan
   - a card beside the host that serves from it: a file, and raw sectors
   - an empty file, a folder, no file, no permission, a full disk behind its output, wrong options; 16 MB of log, damaged at its end, of zeros and of noise: each under a second of processor time
   - the card is not changed and not opened for writing; a reader that opens it so is found out
@@ -18,6 +18,8 @@ UNITS = sorted(glob.glob('examples/reader/*.c'))
 PLAN = '--plan=-100,1000,0,0'
 OPS = ['read', 'set', 'step', 'report', 'fault', 'part']
 OUTCOMES = ['done', 'out of range', 'invalid', 'fallback', 'stopped']
+QUALITIES = ['valid', 'invalid', 'by hand']
+BY_HAND = QUALITIES.index('by hand')
 passed, failed = 0, 0
 
 
@@ -127,10 +129,10 @@ def stored():
 
 def held(state, server):
     for r in state['records']:
-        yield '%d %d %d %d %d %d' % (server, r['client'], r['call'], OUTCOMES.index(r['outcome']), r['value'], r['quality'] == 'invalid') + (' %d' % r['time'] if r['time'] else '')
+        yield '%d %d %d %d %d %d' % (server, r['client'], r['call'], OUTCOMES.index(r['outcome']), r['value'], QUALITIES.index(r['quality'])) + (' %d' % r['time'] if r['time'] else '')
     for p in state['points']:
         if p['point'] in (5, 6) and p['status'] == 'held':
-            yield 'point %d at %d: value %d, quality %d' % (p['point'], server, p['value'], p['quality'] == 'invalid')
+            yield 'point %d at %d: value %d, quality %d' % (p['point'], server, p['value'], QUALITIES.index(p['quality']))
 
 
 def stored_cards():
@@ -274,14 +276,15 @@ def packet_good(p):
     if p[0] == 1:
         limit = {0: 0, 4: 0, 5: 1000}.get(p[1], 1 << 32)
         return p[1] <= 5 and p[3] == 0 and 1 <= number(12) <= number(8) <= number(12) + 15 and number(20) <= limit
-    return 3 <= p[1] <= 9 and p[3] == 0 if p[0] == 3 else p[1] <= 4 and p[3] <= 1
+    return 3 <= p[1] <= 9 and p[3] == 0 if p[0] == 3 else p[1] <= 4 and p[3] <= BY_HAND
 
 
 def packets():
     known = {name: data for name, data in examples() if name in ('grant', 'request', 'refusal', 'result', 'receipt', 'notice')}
     wrong = [name for name, data in known.items() if run('--hex', data.hex(' '))[0] or run('--hex', data.hex(':'))[0] or '  %s ' % name not in run(saved('packet', data))[1]]
     first = b'\2' + known['result'][1:16]  # of a server before 1.6
-    wrong += [name for data, name in ((first, ', valid\n'), (known['result'], ', valid, time 50\n')) if name not in run('--hex', data.hex())[1]]
+    wrong += [(name, form) for quality, name in enumerate(QUALITIES) for data, form in ((first, ', %s\n'), (known['result'], ', %s, time 50\n'))
+              if form % name not in run('--hex', changed(data, 3, bytes([quality])).hex())[1]]
     cards = [t for data in (first, *known.values()) for t in turned(data, 8)] + [data[:n] for data in known.values() for n in range(1, len(data))]
     for data, (_, _, told_json) in zip(cards, asked(cards)):
         if told_json['what'] == 'packet' and (told_json['answer'] != (0 if packet_good(data) else 1) or (told_json['answer'] and not told_json['refused']['why'])):
@@ -305,8 +308,8 @@ def images():
 
 # ---- records that cannot follow
 
-def executed(op, p, client, call, argument, value, done=1, outcome=0, time=0):
-    return struct.pack('<4B3I2i4BI', 6, op, p, outcome, client, call, done, argument, value, 0, 0, 0, 0, time)
+def executed(op, p, client, call, argument, value, done=1, outcome=0, time=0, quality=0):
+    return struct.pack('<4B3I2i4BI', 6, op, p, outcome, client, call, done, argument, value, quality, 0, 0, 0, time)
 
 
 def first_form(record):
@@ -322,15 +325,15 @@ def gone(client, time):
     return struct.pack('<4B2I', 2, 0, 0, 0, client, time)
 
 
-def image(p, to, move, clients=(), records=(), time=b'\7\0\0\0'):
-    """time: of each record; none: an image as before 1.6"""
+def image(p, to, move, clients=(), records=(), time=b'\7\0\0\0', quality=0):
+    """time: of each record; none: an image as before 1.6. quality: of the point and of each record"""
     rows = b''.join(struct.pack('<2I', *c) for c in clients)
-    entries = b''.join(struct.pack('<2I2i4B', client, call, 0, 0, 1, 0, 0, 0) + time for client, call in records)
-    return (b'MVI2' if time else b'MVI1') + struct.pack('<4B2I6Ii4B', p, to, 3, 0, move, 0, 40, 8, 48, len(rows), 48 + len(rows), len(entries), 7, 0, 0, 0, 0) + rows + entries
+    entries = b''.join(struct.pack('<2I2i4B', client, call, 0, 0, 1, 0, quality, 0) + time for client, call in records)
+    return (b'MVI2' if time else b'MVI1') + struct.pack('<4B2I6Ii4B', p, to, 3, 0, move, 0, 40, 8, 48, len(rows), 48 + len(rows), len(entries), 7, quality, 0, 0, 0) + rows + entries
 
 
-def take(*of):
-    data = image(*of)
+def take(*of, **more):
+    data = image(*of, **more)
     return struct.pack('<4BI', 4, 0, 0, 0, len(data)) + data
 
 
@@ -387,7 +390,7 @@ def checkpoints(folder, row, again):
              ('checkpoint', 44 + 32, 'a fallback outside its own range in the plan', changed(good, 44 + 32 + 8, number(1001)) + tail),
              ('checkpoint', 44 + 32, 'byte 88, home, is 16, and 0 to 15 is due', changed(good, 44 + 32 + 12, number(16)) + tail),
              ('checkpoint', point_5, 'the value of point 5 is outside its range', changed(good, point_5 + 4, number(1001)) + tail),
-             ('checkpoint', point_5, 'byte 1149, quality, is 2, and 0 to 1 is due', changed(good, point_5 + 1, b'\2') + tail),
+             ('checkpoint', point_5, 'byte 1149, quality, is 3, and 0 to 2 is due', changed(good, point_5 + 1, b'\3') + tail),
              ('checkpoint', point_5 + 16, 'status, destination, moves and home of point 6 do not fit each other', changed(good, point_5 + 16, b'\1') + tail),
              ('checkpoint', 2092, 'byte 2096, floor, is 0, and 1 or more is due', changed(good, 2096, number(0)) + tail),
              ('checkpoint', 2092 + 8, 'clients do not ascend here', changed(changed(good[:2100] + good[2092:], 32, number(16)), 36, number(2108)) + tail),
@@ -412,13 +415,43 @@ def checkpoints_of_both():
     checkpoints('fourth', 24, slice(52, 84))
 
 
+def of_quality():
+    """of each layout with a quality, in both forms: its card by that quality"""
+    record = lambda quality: executed(1, 5, 1, 1, 40, 40, quality=quality)
+    yield lambda quality: HEAD + record(quality)
+    yield lambda quality: HEAD + first_form(record(quality))
+    for time in b'\7\0\0\0', b'':
+        yield lambda quality: HEAD + short(3, 5, 1, 0, 1) + take(5, 0, 2, [(1, 1)], [(1, 1)], time, quality)
+    for folder in 'third', 'fourth':
+        good = open('tests/logs/%s/server1.checkpoint' % folder, 'rb').read()
+        yield lambda quality: changed(changed(good, 1068 + 16 * 5 + 1, bytes([quality])), 2100 + 18, bytes([quality])) + b'WLG1\1\0\0\0'
+
+
+def qualities():
+    """those that there are, of point 5 and of its first record, by name; the next one has a reason"""
+    wrong, count = [], 0
+    for card_of in of_quality():
+        *good, (answer, _, bad) = asked([card_of(quality) for quality in range(len(QUALITIES) + 1)])
+        for name, (taken, _, told_json) in zip(QUALITIES, good):
+            state = told_json.get('state', {'points': [], 'records': []})
+            names = [p['quality'] for p in state['points'] if p['point'] == 5] + [r['quality'] for r in state['records'][:1]]
+            wrong += [(name, taken, names)] if taken or names != [name, name] else []
+        wrong += [bad] if answer != 14 or 'quality, is 3, and 0 to 2 is due' not in bad['refused']['why'] else []
+        count += 1
+    told('%d layouts with each quality, by name, and with one more' % count, wrong)
+
+
+def any_quality(rng):
+    return rng.choices(range(4), [10, 10, 10, 1])[0]
+
+
 def any_record(rng):
     """of few points, clients, calls and moves, so that a run of them often follows; some fields are off"""
     p, client, call, move = rng.randrange(3), rng.randint(1, 3), rng.randint(1, 6), rng.randrange(3)
     kind = rng.choices(range(6), [40, 10, 20, 20, 10, 1])[0]
     if kind == 0:
         value, done = rng.choice([1000, 1001, -101] if rng.randrange(9) == 0 else [0, 5]), rng.randint(1, call + (rng.randrange(9) == 0))
-        record = executed(rng.randrange(6), p, client, call, rng.choice([0, 0, 7, 2000]), value, done, rng.randrange(5), rng.choice([0, 5, 0xFFFFFFFF]))
+        record = executed(rng.randrange(6), p, client, call, rng.choice([0, 0, 7, 2000]), value, done, rng.randrange(5), rng.choice([0, 5, 0xFFFFFFFF]), any_quality(rng))
         return record if rng.randrange(3) else first_form(record)
     if kind == 1:
         return gone(client, rng.choice([0, 5, 0xFFFFFFFF]))
@@ -427,7 +460,7 @@ def any_record(rng):
     if kind == 3:
         clients = sorted({rng.randint(1, 40): rng.randint(1, 3) for _ in range(rng.choice([0, 1, 3, 32]))}.items())
         return take(p, rng.choice([0, 0, 0, 1]), move, clients, [(c, f + rng.choice([0, 1, 16] if rng.randrange(9) == 0 else [0])) for c, f in clients[:2]],
-                    rng.choice([b'', b'\5\0\0\0']))
+                    rng.choice([b'', b'\5\0\0\0']), any_quality(rng))
     return short(5, p, 0, 0, move) if kind == 4 else rng.randbytes(rng.randint(1, 30))
 
 
@@ -453,7 +486,7 @@ def guide():
     """the cards of the worked example in docs/GUIDE.md, as its section on the reader shows them"""
     text = open('docs/GUIDE.md', encoding='utf-8').read()
     rest = lambda what: bytes.fromhex(re.search(r'card from byte 72, %s: ([0-9A-F ]+)' % what, text)[1])
-    synced = HEAD + executed(1, 5, 2, 1, 100, 100) + executed(2, 5, 1, 1, 20, 120)
+    synced = HEAD + executed(1, 5, 2, 1, 100, 100, quality=BY_HAND) + executed(2, 5, 1, 1, 20, 120, quality=BY_HAND)
     section = text[text.index('## A card in your hand'):]
     shown = [[line[4:] for line in block.split('\n')] for block in re.findall(r'(?:^    .*\n)+', section, flags=re.M)]
     said = [run(saved('card', synced + rest(what)))[1].split('\n') for what in ('torn', 'not cut, with the give')]
@@ -721,7 +754,7 @@ def main():
     print('seed %d' % SEED)
     READER = built('mantelorris-card', UNITS)
     TRIAL = built('trial', [u for u in UNITS if not u.endswith('/main.c')] + ['tests/c/reader.c'], ['-g', '-fsanitize=address,undefined', '-fno-sanitize-recover=all'])
-    for part in stored_cards, without_plan, cuts, damaged, exit_statuses, packets, images, cannot_follow, checkpoints_of_both, made_up, guide, raw_cards, beside_a_host, odd, plans, large, never_written:
+    for part in stored_cards, without_plan, cuts, damaged, exit_statuses, packets, images, cannot_follow, checkpoints_of_both, qualities, made_up, guide, raw_cards, beside_a_host, odd, plans, large, never_written:
         part()
     shutil.rmtree(WORK)
     print('%d passed, %d failed' % (passed, failed))

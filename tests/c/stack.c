@@ -282,7 +282,8 @@ static void lock_command(uint32_t op, uint32_t at, int32_t argument, uint32_t nu
     call_number = mantelorris_packet_call(packet);
     expect(chamber_issue, MANTELORRIS_WINDOW_FULL);
     expect(chamber_resend, 0);
-    uint8_t result[MANTELORRIS_REPLY_SIZE] = {MANTELORRIS_KIND_RESULT, 0, (uint8_t)at, 0};
+    uint8_t quality = at < 20 ? MANTELORRIS_BY_HAND : MANTELORRIS_VALID; /* a gate was set, a level reported */
+    uint8_t result[MANTELORRIS_REPLY_SIZE] = {MANTELORRIS_KIND_RESULT, 0, (uint8_t)at, quality};
     memcpy(result + 4, packet + 4, 8); /* client and call */
     put32(result + 12, op == MANTELORRIS_READ ? 0 : (uint32_t)argument);
     memcpy(packet, result, sizeof result);

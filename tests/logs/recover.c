@@ -2,11 +2,12 @@
  * that it is linked with:
  *     recover FOLDER     prints the results that the servers hold then, which must be those in FOLDER/results
  * After that commands are executed on what was recovered, by today's rules and in today's form: the log that goes on so is cut at every byte behind what
- * was recovered, becomes a checkpoint, and goes on behind that; each time the servers hold what they held. */
+ * was recovered, becomes a checkpoint, and goes on behind that; each time the servers hold what they held, and a point that no command was for has the value
+ * and quality that it had. */
 #include "plant.h"
 #include <string.h>
 
-enum { CALLS = 16, RECORDS = 6, VISITOR = 8, DESK = 9, SECOND = 500 };
+enum { CALLS = 16, RECORDS = 6, OWNER = 1, VISITOR = 8, DESK = 9, FITTER = 10, SECOND = 500, LEFT_ALONE = 6 };
 
 static struct server servers[2], again;
 
@@ -16,13 +17,15 @@ static struct card {
     size_t base; /* the checkpoint's length, 0 where there is none */
 } cards[2];
 
-/* the result packets of a client's calls, zeros where there is none */
+/* the result packets of a client's calls, zeros where there is none; and the point that no new command is for */
 struct held {
     uint8_t packets[CALLS][MANTELORRIS_REPLY_SIZE];
+    int32_t value;
+    uint32_t quality;
 };
 
 static struct held holds(struct server *s, uint32_t client) {
-    struct held h = {0};
+    struct held h = {.value = mantelorris_value(s->state, LEFT_ALONE), .quality = mantelorris_quality(s->state, LEFT_ALONE)};
     for (uint32_t call = 1; call <= CALLS; call++) mantelorris_fetch(SLICES(s), client, call, h.packets[call - 1], sizeof h.packets[0]);
     return h;
 }
@@ -84,7 +87,11 @@ static void go_on(struct server *s, uint32_t point, size_t ends[RECORDS]) {
         must(ends[i] - ends[i - 1] == (i == 2 ? MANTELORRIS_LOG_GONE : MANTELORRIS_LOG_EXECUTED) && s->log[ends[i - 1]] == (i == 2 ? 2 : 6), "its form");
     }
     struct held new = holds(s, DESK);
-    for (uint32_t call = 1; call <= RECORDS - 3; call++) must(mantelorris_result_time(new.packets[call - 1]) == SECOND, "its time");
+    for (uint32_t call = 1; call <= RECORDS - 3; call++) {
+        must(mantelorris_result_time(new.packets[call - 1]) == SECOND, "its time");
+        must(new.packets[call - 1][3] == MANTELORRIS_BY_HAND, "a set is by hand");
+    }
+    must(mantelorris_quality(s->state, point) == MANTELORRIS_BY_HAND, "the point is by hand");
 }
 
 /* with this front of the log alone it holds what it held, and of the desk's calls those whose records are whole */
@@ -97,7 +104,7 @@ static void cut(const struct server *s, const struct card *card, size_t kept, co
     memcpy(again.log, s->log, sizeof again.log);
     recover(&again, card, kept);
     must(mantelorris_length(again.state) == ends[whole], "the whole records");
-    same(holds(&again, 1), old, "what it held, of a log that was cut");
+    same(holds(&again, OWNER), old, "what it held, of a log that was cut");
     same(holds(&again, DESK), new, "the new results, of a log that was cut");
 }
 
@@ -111,7 +118,7 @@ static void replace(struct server *s, struct card *card, uint32_t point, struct 
     for (int i = 0; i < 2; i++) {
         memset(s->state, 0xEE, sizeof s->state);
         recover(s, card, i == 0 ? sizeof head : sizeof head + MANTELORRIS_LOG_EXECUTED);
-        same(holds(s, 1), old, "what it held, from a checkpoint");
+        same(holds(s, OWNER), old, "what it held, from a checkpoint");
         same(holds(s, DESK), new, "the new results, from a checkpoint");
         if (i == 0) set(s, VISITOR, 2, point);
     }
@@ -119,36 +126,55 @@ static void replace(struct server *s, struct card *card, uint32_t point, struct 
 
 static void continued(int i) {
     struct server *s = &servers[i];
-    uint32_t point = i == 0 ? 6 : 5;
+    uint32_t point = i == 0 ? LEFT_ALONE + 1 : 5;
     size_t ends[RECORDS];
-    struct held old = holds(s, 1), new;
+    struct held old = holds(s, OWNER), new;
     go_on(s, point, ends);
-    same(holds(s, 1), old, "what it held, with new commands behind it");
+    same(holds(s, OWNER), old, "what it held, with new commands behind it");
     new = holds(s, DESK);
     for (size_t kept = ends[0]; kept <= ends[RECORDS - 1]; kept++) cut(s, &cards[i], kept, ends, old, new);
     replace(s, &cards[i], point, old, new);
 }
 
-/* ---- a command on point 5 under a call that no log has: the result, shown once it is synced, is this outcome and value, valid */
+/* ---- a command under a call that no log has: the result, shown once it is synced, and that it is this one */
 
-static void command(struct server *s, uint32_t call, uint32_t op, int32_t argument, uint8_t outcome, int32_t value) {
+static struct mantelorris_receive_reply command(struct server *s, uint32_t client, uint32_t call, uint32_t op, uint32_t point, int32_t argument) {
     uint8_t r[MANTELORRIS_REPLY_SIZE];
-    struct mantelorris_client desk = {.client = 1, .lease = 600, .next = call};
-    struct mantelorris_send_reply q = mantelorris_issue(&desk, op, 5, argument);
+    struct mantelorris_client desk = {.client = client, .lease = 600, .next = call};
+    struct mantelorris_send_reply q = mantelorris_issue(&desk, op, point, argument);
     must(q.number == 0 && ask(s, q.packet, q.length) == 0, "a command on what was recovered");
     sync(s);
-    must(mantelorris_number(mantelorris_fetch(SLICES(s), 1, q.call, r, sizeof r)) == 0, "fetch");
+    must(mantelorris_number(mantelorris_fetch(SLICES(s), client, q.call, r, sizeof r)) == 0, "fetch");
     struct mantelorris_receive_reply got = mantelorris_receive(&desk, r, sizeof r);
-    must(got.number == 0 && got.outcome == outcome && got.value == value && got.quality == MANTELORRIS_VALID, "its result is by today's rule");
-    must(got.time == mantelorris_heard(s->state), "its time is the heard time");
+    must(got.number == 0 && got.time == mantelorris_heard(s->state), "its time is the heard time");
+    return got;
+}
+
+static void gives(struct mantelorris_receive_reply got, uint8_t outcome, int32_t value, uint8_t quality) {
+    must(got.outcome == outcome && got.value == value && got.quality == quality, "its result is by today's rule");
+}
+
+/* what was recovered has the quality that its version gave it, read and stepped too, until it is set (go_on) */
+static void first_commands(void) {
+    int32_t value = mantelorris_value(servers[1].state, 5);
+    uint8_t quality = (uint8_t)mantelorris_quality(servers[1].state, 5);
+    gives(command(&servers[1], FITTER, 1, MANTELORRIS_READ, 5, 0), MANTELORRIS_OUTCOME_DONE, value, quality);
+    gives(command(&servers[1], FITTER, 2, MANTELORRIS_STEP, 5, -1), MANTELORRIS_OUTCOME_DONE, value - 1, quality);
+}
+
+static void last_commands(void) {
+    gives(command(&servers[1], OWNER, 15, MANTELORRIS_STEP, 5, 1000), MANTELORRIS_OUTCOME_STOPPED, 1000, MANTELORRIS_BY_HAND);
+    gives(command(&servers[1], OWNER, 16, MANTELORRIS_PART, 5, 5), MANTELORRIS_OUTCOME_DONE, -94, MANTELORRIS_BY_HAND);
+    gives(command(&servers[1], FITTER, 3, MANTELORRIS_REPORT, 5, 7), MANTELORRIS_OUTCOME_DONE, 7, MANTELORRIS_VALID);
+    gives(command(&servers[0], FITTER, 1, MANTELORRIS_SET, LEFT_ALONE, 7), MANTELORRIS_OUTCOME_DONE, 7, MANTELORRIS_BY_HAND);
 }
 
 int main(int count, char **words) {
     must(count == 2, "usage: recover FOLDER");
     for (int i = 0; i < 2; i++) recover_stored(words[1], i);
     results(stdout, servers);
+    first_commands();
     for (int i = 0; i < 2; i++) continued(i);
-    command(&servers[1], 15, MANTELORRIS_STEP, 1000, MANTELORRIS_OUTCOME_STOPPED, 1000);
-    command(&servers[1], 16, MANTELORRIS_PART, 5, MANTELORRIS_OUTCOME_DONE, -94);
+    last_commands();
     return 0;
 }

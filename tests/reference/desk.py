@@ -7,6 +7,7 @@ from fractions import Fraction
 
 LOW, HIGH, FALLBACK = -1000000, 1000000, 0      # the plan of examples/host.c
 READ, SET, STEP, REPORT, FAULT, PART = range(6)
+VALID, INVALID, BY_HAND = range(3)
 passed, failed = 0, 0
 
 
@@ -32,7 +33,7 @@ def read_packet(b):
     """a result or a refusal packet as a tuple, None for anything else"""
     if (len(b), b[:1]) in ((20, b'\7'), (16, b'\2')):  # one of a server before 1.6 has no time: 0
         _, outcome, point, quality, client, call, value, at = struct.unpack('<BBBBIIiI', b if b[0] == 7 else b + bytes(4))
-        return ('result', client, call, point, (outcome, value, quality, at)) if outcome <= 4 and quality <= 1 and point <= 63 and client and call else None
+        return ('result', client, call, point, (outcome, value, quality, at)) if outcome <= 4 and quality <= BY_HAND and point <= 63 and client and call else None
     if len(b) == 12 and b[0] == 3:
         _, number, point, zero, client, call = struct.unpack('<BBBBII', b)
         return ('refusal', client, call, point, number) if 3 <= number <= 9 and point <= 63 and not zero and client and call else None
@@ -47,16 +48,16 @@ def rule(op, a, was):
         return (0, value, quality)
     if op == SET or op == REPORT:
         if LOW <= a <= HIGH:
-            return (0, a, 0)
-        return (1, value, quality) if op == SET else (3, FALLBACK, 1)
+            return (0, a, BY_HAND if op == SET else VALID)
+        return (1, value, quality) if op == SET else (3, FALLBACK, INVALID)
     if op == STEP:
-        if quality == 1:
+        if quality == INVALID:
             return (2, value, quality)
         end = max(LOW, min(HIGH, value + a))
         return (0 if end == value + a else 4, end, quality)
     if op == FAULT:
-        return (3, FALLBACK, 1)
-    return (0, LOW + round(Fraction((HIGH - LOW) * a, 1000)), 0)  # round takes a half to the even number
+        return (3, FALLBACK, INVALID)
+    return (0, LOW + round(Fraction((HIGH - LOW) * a, 1000)), BY_HAND)  # round takes a half to the even number
 
 
 # ---- a lease manager of this desk's own (The lease manager), as far as it is needed here
@@ -192,12 +193,12 @@ def read_log(log):
 def commands(line, leases):
     """every op with arguments in and out of the range, one after the other; results by the rules"""
     client, at = Client(line, *leases.open(1, 600)), {}
-    wanted = [(READ, 0), (STEP, 3), (SET, 40), (STEP, 20), (STEP, HIGH), (SET, HIGH + 1), (READ, 0), (REPORT, -7), (REPORT, LOW - 1), (STEP, 1), (PART, 0), (PART, 333), (PART, 1000),
-              (STEP, 1), (STEP, -1), (FAULT, 0), (READ, 0), (SET, LOW), (STEP, -1)]
+    wanted = [(READ, 0), (STEP, 3), (SET, HIGH + 1), (SET, 40), (STEP, 20), (STEP, HIGH), (SET, HIGH + 1), (READ, 0), (REPORT, -7), (READ, 0), (SET, HIGH + 1), (STEP, 1), (STEP, LOW),
+              (REPORT, LOW - 1), (STEP, 1), (PART, 0), (PART, 333), (PART, 1000), (STEP, 1), (STEP, -1), (REPORT, HIGH), (STEP, 1), (PART, 500), (FAULT, 0), (READ, 0), (SET, LOW), (STEP, -1)]
     for op, a in wanted:
         for point in (0, 5, 63):
             call = client.issue(op, point, a)
-            due = rule(op, a, at.get(point, (FALLBACK, 1)))
+            due = rule(op, a, at.get(point, (FALLBACK, INVALID)))
             result = client.settle().get(call)
             at[point] = due[1:]
             count('op %d, argument %d' % (op, a), result, due + (0,))
@@ -214,7 +215,7 @@ def refusals(line, leases, client):
     other = bytearray(packet)
     other[2] = 10
     count('an id with another point', line.ask(bytes(other)), ('refusal', 6))
-    count('a repeat is answered, and again', [line.ask(packet) for _ in range(3)], [('result', (0, FALLBACK, 1, 0))] * 3)
+    count('a repeat is answered, and again', [line.ask(packet) for _ in range(3)], [('result', (0, FALLBACK, INVALID, 0))] * 3)
     bad = [struct.pack('<BBBBIIiI', 7, 0, 9, 0, client.number, call, 0, 0), struct.pack('<BBBBIIi', 2, 0, 9, 0, client.number, call, 0), packet[:-1], packet + b'\0', b'\x07' + packet[1:], packet[:3] + b'\1' + packet[4:], request(6, 0, 9, 1, 1, 600, 0), request(READ, 64, 9, 1, 1, 600, 0),
            request(READ, 0, 0, 1, 1, 600, 0), request(READ, 0, 9, 17, 1, 600, 0), request(READ, 0, 9, 1, 2, 600, 0), request(PART, 0, 9, 1, 1, 600, 1001), request(FAULT, 0, 9, 1, 1, 600, 1)]
     count('malformed requests have no answer', [line.ask(b, 2) for b in bad], [None] * len(bad))
@@ -238,13 +239,13 @@ def places(line, leases):
     late = Client(line, *leases.open(1301, 600))
     late.issue(READ, 1, 0)
     packet = late.packet(1)
-    count('a notice frees one', line.ask(packet), ('result', (0, FALLBACK, 1, 1300)))
+    count('a notice frees one', line.ask(packet), ('result', (0, FALLBACK, INVALID, 1300)))
     for c in clients[1:]:
         line.send(leases.ended(c.number, 1301))
         time.sleep(0.005)
     time.sleep(0.1)
     line.heard(0.05)
-    count('a repeat has the time of its execution, whatever was heard since', line.ask(packet), ('result', (0, FALLBACK, 1, 1300)))
+    count('a repeat has the time of its execution, whatever was heard since', line.ask(packet), ('result', (0, FALLBACK, INVALID, 1300)))
 
 
 def steps_under_kills(line, leases, host, rng):
@@ -269,13 +270,13 @@ def card(path):
     """the card has each command once, and its results are those of the rules in the log's order"""
     ids, at, wrong = set(), {}, []
     for client, call, op, point, argument, result, heard in read_log(open(path, 'rb').read()):
-        due = rule(op, argument, at.get(point, (FALLBACK, 1)))
+        due = rule(op, argument, at.get(point, (FALLBACK, INVALID)))
         at[point] = result[1:3]
         if result != due + (heard,) or (client, call) in ids:
             wrong.append((client, call, result, due))
         ids.add((client, call))
     count('the log: every id once, every result by its rule, its time the one heard', wrong, [])
-    count('the log: the gate at the sum of its steps', at[30], (60, 0))
+    count('the log: the gate at the sum of its steps', at[30], (60, BY_HAND))
 
 
 def main():

@@ -33,7 +33,7 @@ def parse(p):
     if (len(p) == 20 and p[0] == 7) or (len(p) == 16 and p[0] == 2):
         _, out, pt, q, cl, ca, v = struct.unpack('<BBBBIIi', p[:16])
         at = struct.unpack('<I', p[16:])[0] if p[0] == 7 else 0
-        if out <= 4 and pt <= 63 and q <= 1 and cl and ca:
+        if out <= 4 and pt <= 63 and q <= 2 and cl and ca:
             return dict(kind=7, outcome=out, point=pt, quality=q, client=cl, call=ca, value=v, time=at)
     elif len(p) == 12 and p[0] == 3:
         _, n, pt, z, cl, ca = struct.unpack('<BBBBII', p)
@@ -246,9 +246,9 @@ def refused(number):
 
 
 def check_steps(desk, number, low, high):
-    """each step of a client has one result; its values are low to high; a step completed before another was issued has the lower one"""
+    """each step of a client has one result, by hand as the set before it; its values are low to high; a step completed before another was issued has the lower one"""
     steps = [e for (n, _), e in desk.log.items() if n == number and e['op'] == STEP]
-    assert all((e['got'], e['res']['outcome'], e['res']['quality'], e['res']['point'], e['res']['time']) == (1, 0, 0, 5, 0) for e in steps)
+    assert all((e['got'], e['res']['outcome'], e['res']['quality'], e['res']['point'], e['res']['time']) == (1, 0, 2, 5, 0) for e in steps)
     assert sorted(e['res']['value'] for e in steps) == list(range(low, high + 1))
     for a in steps:
         for b in steps:
@@ -329,7 +329,7 @@ def trial(mode, seed, host, relay):
         late_repeats(desk, manager, a, b, cabinet.kill if due else lambda: None, lambda: os.path.getsize(cabinet.card) == size(151))
         desk.run(b, [(READ, 5, 0)], 1)
         m = desk.log[b.number, b.next - 1]['res']
-        assert (m['outcome'], m['quality'], m['value'], m['time']) == (0, 0, 150, a.lease), m
+        assert (m['outcome'], m['quality'], m['value'], m['time']) == (0, 2, 150, a.lease), m
         assert cabinet.kills == due, cabinet.kills
         assert os.path.getsize(cabinet.card) == size(152)
     finally:

@@ -6,11 +6,11 @@ use crate::desk::{address, drive, grant, refusal_class, resend_class, Calls, Sha
 use compare::tally::Tally;
 use compare::{chamber, inputs, other};
 use second::chamber::{is_opening, levels_beside, other_gate, Chamber, LatestRead, GATES};
-use second::packet::{parse_packet, Packet};
+use second::packet::{parse_packet, write_grant, Grant, Packet, Reply};
 use second::random::Random;
-use second::rule::Op;
+use second::rule::{Op, BY_HAND, INVALID, VALID};
 
-const CLASSES: [&str; 53] = [
+const CLASSES: [&str; 55] = [
     "start",
     "start: 1, packet",
     "start: 1, point over 63",
@@ -22,6 +22,7 @@ const CLASSES: [&str; 53] = [
     "issue: an opening of the lower gate",
     "issue: an opening by part",
     "issue: an opening, levels 5 apart",
+    "issue: an opening, the other gate by hand",
     "issue: an opening, the second level read first",
     "issue: 1, op",
     "issue: 1, point",
@@ -38,6 +39,7 @@ const CLASSES: [&str; 53] = [
     "issue: 20, level not read",
     "issue: 20, level read before the other gate",
     "issue: 20, level invalid",
+    "issue: 20, level by hand",
     "issue: 20, levels 6 apart",
     "issue: 20, levels apart by 2^31 or more",
     "issue: 20, levels apart",
@@ -67,6 +69,7 @@ const CLASSES: [&str; 53] = [
 ];
 
 /// A controller of both programs.
+#[derive(Clone)]
 struct Pair {
     have: chamber::Chamber,
     want: Chamber,
@@ -274,9 +277,18 @@ impl Pair {
         }
     }
 
-    /// Value and quality of a point: gates often 0, levels often close together.
+    /// Value and quality of a point: gates often 0 and by hand, levels often close together.
     fn found(&self, random: &mut Random, point: u8) -> (i32, u8) {
-        let quality = u8::from(random.chance(8));
+        let by_hand = if self.want.points.is_gate(point) {
+            50
+        } else {
+            6
+        };
+        let quality = match random.chance(6) {
+            true => INVALID,
+            false if random.chance(by_hand) => BY_HAND,
+            false => VALID,
+        };
         let value = match (self.want.points.is_gate(point), random.below(20)) {
             (_, 0) => inputs::signed(random),
             (true, 1) => *random.pick(&[1, -1, i32::MIN, i32::MAX]),
@@ -317,6 +329,97 @@ impl Pair {
                 })
             }
         });
+    }
+}
+
+// ---- qualities, one by one
+
+/// Places of the points in the order upper, lower, level 1, 2, 3; the points are as many.
+const LOCK: [u32; 5] = [0, 1, 2, 3, 4];
+
+impl Pair {
+    /// Of the points 0 to 4.
+    fn of_lock() -> Pair {
+        let packet = write_grant(&Grant {
+            client: 7,
+            lease_end: 100,
+        });
+        let reply = chamber::Chamber::start(&packet, LOCK);
+        let (want, number) = chamber::start(&packet, LOCK);
+        assert_eq!((reply.number, number), (0, 0));
+        Pair {
+            have: reply.chamber,
+            want: want.expect("a grant and five points"),
+            level: 0,
+        }
+    }
+
+    /// The answer of an issue on both sides.
+    fn issued(&mut self, op: Op, place: usize, argument: i32) -> u32 {
+        let have = self.have.issue(op as u32, LOCK[place], argument);
+        let want = self.want.issue(op as u32, LOCK[place], argument);
+        assert_eq!(have.reply, other::sent(want));
+        self.have = have.chamber;
+        self.compare("issue");
+        have.reply.number
+    }
+
+    /// A read up to its result, which is of kind 2 or 7.
+    fn read(&mut self, kind: u32, place: usize, (value, quality): (i32, u8)) {
+        let call = self.want.client.next;
+        assert_eq!(self.issued(Op::Read, place, 0), 0);
+        let packet = Packet::Result(Reply {
+            outcome: 0,
+            point: place as u8,
+            quality,
+            client: 7,
+            call,
+            value,
+            time: 0,
+        });
+        let bytes = inputs::packet_bytes(&packet, kind);
+        let have = self.have.receive(&bytes);
+        assert_eq!(have.reply, chamber::receive(&mut self.want, &bytes));
+        assert_eq!(have.reply.number, 0);
+        self.have = have.chamber;
+        self.compare("receive");
+    }
+}
+
+/// The answer to the opening of a gate after these reads of the other gate and of both levels.
+fn opening(kind: u32, gate: usize, other: (i32, u8), levels: [u8; 2]) -> u32 {
+    let mut pair = Pair::of_lock();
+    pair.read(kind, other_gate(gate), other);
+    for (place, quality) in levels_beside(gate).into_iter().zip(levels) {
+        pair.read(kind, place, (50, quality));
+    }
+    let numbers =
+        [(Op::Set, 5), (Op::Part, 0)].map(|(op, argument)| pair.clone().issued(op, gate, argument));
+    assert_eq!(numbers[0], numbers[1]);
+    numbers[0]
+}
+
+/// A gate is closed at 0 valid or by hand, and a level is valid at 0 alone.
+#[test]
+fn qualities() {
+    for (kind, gate) in [2, 7]
+        .into_iter()
+        .flat_map(|kind| GATES.map(|gate| (kind, gate)))
+    {
+        let opens = |other, levels| opening(kind, gate, other, levels);
+        assert_eq!(opens((0, VALID), [VALID; 2]), 0);
+        assert_eq!(opens((0, BY_HAND), [VALID; 2]), 0);
+        assert_eq!(opens((0, INVALID), [VALID; 2]), 20);
+        for away in [-1, 1, i32::MIN, i32::MAX] {
+            assert_eq!(opens((away, BY_HAND), [VALID; 2]), 20);
+        }
+        for other in [VALID, BY_HAND] {
+            for quality in [INVALID, BY_HAND] {
+                assert_eq!(opens((0, other), [quality, VALID]), 20);
+                assert_eq!(opens((0, other), [VALID, quality]), 20);
+                assert_eq!(opens((0, other), [quality, quality]), 20);
+            }
+        }
     }
 }
 
@@ -400,6 +503,9 @@ fn opening_classes(c: &Chamber, op: Op, gate: usize, tally: &mut Tally) {
     if two.call < one.call {
         tally.meet("issue: an opening, the second level read first");
     }
+    if read(other_gate(gate)).quality == BY_HAND {
+        tally.meet("issue: an opening, the other gate by hand");
+    }
 }
 
 /// The conditions of an opening that fail, one by one.
@@ -416,7 +522,7 @@ fn conditions_that_fail(c: &Chamber, gate: usize) -> Vec<&'static str> {
             if r.value != 0 {
                 failing.push("issue: 20, other gate not 0");
             }
-            if r.quality != 0 {
+            if r.quality == INVALID {
                 failing.push("issue: 20, other gate invalid");
             }
         }
@@ -448,8 +554,10 @@ fn level_that_fails(
     if other.is_some_and(|o| read.call <= o.call) {
         failing.push("issue: 20, level read before the other gate");
     }
-    if read.quality != 0 {
-        failing.push("issue: 20, level invalid");
+    match read.quality {
+        VALID => {}
+        BY_HAND => failing.push("issue: 20, level by hand"),
+        _ => failing.push("issue: 20, level invalid"),
     }
 }
 

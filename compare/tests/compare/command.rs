@@ -149,6 +149,33 @@ fn rule_class(case: &Case) -> &'static str {
     }
 }
 
+const QUALITY_CLASSES: [&str; 8] = [
+    "by hand, by a set",
+    "by hand, by a part",
+    "by hand, kept by a step",
+    "by hand, kept by a set out of range",
+    "valid, after by hand",
+    "invalid, after by hand",
+    "valid or invalid",
+    "kept",
+];
+
+/// The quality that is due after a command, and how it comes about.
+fn quality_due(case: &Case) -> (u8, &'static str) {
+    let in_range = case.entry.contains(case.argument);
+    match (case.op, case.quality) {
+        (1, _) if in_range => (2, "by hand, by a set"),
+        (5, _) => (2, "by hand, by a part"),
+        (2, 2) => (2, "by hand, kept by a step"),
+        (1, 2) => (2, "by hand, kept by a set out of range"),
+        (3, 2) if in_range => (0, "valid, after by hand"),
+        (3 | 4, 2) => (1, "invalid, after by hand"),
+        (3, _) if in_range => (0, "valid or invalid"),
+        (3 | 4, _) => (1, "valid or invalid"),
+        (_, quality) => (quality, "kept"),
+    }
+}
+
 /// Often at an end of the range.
 fn near(random: &mut Random, e: &Entry) -> i32 {
     let ends = [e.low, e.high, e.fallback];
@@ -199,7 +226,7 @@ impl Case {
             op,
             argument,
             value,
-            quality: random.below(2) as u8,
+            quality: inputs::quality(random),
         }
     }
 
@@ -237,7 +264,7 @@ impl Case {
 #[test]
 fn rules() {
     let mut random = Random::new(seed());
-    let mut tally = Tally::new("rules", &RULE_CLASSES);
+    let mut tally = Tally::of("rules", &[&RULE_CLASSES, &QUALITY_CLASSES]);
     let mut outputs = Outputs::new(RESULT_LEN);
     let base = states::founded(&inputs::plan(&mut random), 3);
     let mut pair = Pair::of(base.clone(), 64);
@@ -252,6 +279,11 @@ fn rules() {
         if case.op == 5 && !refused {
             let (value, _) = parts::nearest(&case.entry, case.argument);
             assert_eq!(pair.server.point(point).value, value, "{class}");
+        }
+        if !refused {
+            let (quality, class) = quality_due(&case);
+            assert_eq!(pair.server.point(point).quality, quality, "{class}");
+            tally.meet(class);
         }
         if !refused && random.chance(20) {
             pair.run(&Call::Sync(pair.server.length), &mut outputs);

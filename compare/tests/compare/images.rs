@@ -71,7 +71,7 @@ fn class(b: &[u8]) -> &'static str {
         _ if b[4] > 63 => "point",
         _ if b[5] > 15 => "destination",
         _ if b[6] > 15 => "source",
-        _ if b[44] > 1 => "quality",
+        _ if b[44] > 2 => "quality",
         _ if !all_zero(&b[45..48]) => "zeros of the point's part",
         _ if (n(16), n(20)) != (40, 8) => "point's pair",
         _ if n(24) != 48 => "floors: offset",
@@ -130,7 +130,7 @@ fn record_fault(r: &[u8], floors: &[(u32, u32)]) -> Option<&'static str> {
         0 | 4 if argument != 0 => "record: argument",
         5 if !(0..=1000).contains(&argument) => "record: argument",
         _ if r[17] > 4 => "record: outcome",
-        _ if r[18] > 1 => "record: quality",
+        _ if r[18] > 2 => "record: quality",
         _ => match floor {
             None => "record: client without a floor",
             Some(f) if call < f.1 => "record: call under the floor",

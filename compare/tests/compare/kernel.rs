@@ -766,7 +766,7 @@ fn spoil(random: &mut Random, state: &mut [u8]) {
         8 => state[POINTS_AT + row + 8] ^= 1,
         9 => state[POINTS_AT + row + 12] ^= 1,
         10 => late_first(state),
-        _ => state[POINTS_AT + row + 1] = 2,
+        _ => state[POINTS_AT + row + 1] = 3,
     }
 }
 

@@ -1,5 +1,6 @@
 //! The proved code, through its calls in C, against the second program.
 
+mod by_hand;
 mod chamber;
 mod client;
 mod command;
@@ -11,4 +12,5 @@ mod kernel;
 mod leases;
 mod packets;
 mod records;
+mod rig;
 mod times;

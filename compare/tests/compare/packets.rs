@@ -138,7 +138,7 @@ fn result_class(b: &[u8], whole: &'static str) -> &'static str {
     match b {
         _ if b[1] > 4 => "result: outcome",
         _ if b[2] > 63 => "result: point",
-        _ if b[3] > 1 => "result: quality",
+        _ if b[3] > 2 => "result: quality",
         _ if get_u32(b, 4) == 0 => "result: client",
         _ if get_u32(b, 8) == 0 => "result: call",
         _ => whole,

@@ -156,7 +156,7 @@ fn executed_class(b: &[u8], whole: &'static str) -> &'static str {
         _ if call < done || call > done + 15 => "executed: window",
         0 | 4 if argument != 0 => "executed: argument",
         5 if !(0..=1000).contains(&argument) => "executed: argument",
-        _ if b[24] > 1 => "executed: quality",
+        _ if b[24] > 2 => "executed: quality",
         _ if !all_zero(&b[25..28]) => "executed: zero byte",
         _ => whole,
     }
@@ -263,7 +263,7 @@ impl Reader {
             move_number,
             heard: inputs::number(random),
             value: self.value(random, point),
-            quality: random.below(2) as u8,
+            quality: inputs::quality(random),
         };
         let form = *random.pick(&[Form::Untimed, Form::Timed]);
         let (floors, records) = ([].into_iter(), [].into_iter());

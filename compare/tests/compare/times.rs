@@ -2,10 +2,11 @@
 //! forms from before it laid byte by byte. What is due is written out here, so that both
 //! programs are held to it and not to each other alone.
 
+use crate::rig::{command, plan, refused, set, Rig, HEAD, POINT};
 use compare::forms::{untimed_checkpoint, untimed_image};
 use compare::inputs::{self, Tables};
 use compare::kernel::{fetch, log_end, Call, LogEnd};
-use compare::pair::{Buffers, Outputs, Pair};
+use compare::pair::Buffers;
 use compare::proved;
 use compare::states::{self, BEHIND, STATE_END};
 use compare::tally::seed;
@@ -14,128 +15,13 @@ use second::answer::Answer;
 use second::bytes::{get_u32, put_u32};
 use second::client::Client;
 use second::image::IMAGE_MAX;
-use second::packet::{
-    write_grant, write_notice, write_request, Grant, Notice, Request, REFUSAL_LEN, RESULT_LEN,
-};
-use second::plan::{write_plan, Entry, Plan};
+use second::packet::{write_grant, Grant, RESULT_LEN};
+use second::plan::write_plan;
 use second::random::Random;
 use second::rule::Op;
 use second::server::{Server, STATE_LEN};
 
-const POINT: u8 = 5;
-const HEAD: [u8; 8] = [0x57, 0x4C, 0x47, 0x31, 0, 0, 0, 0];
 const BAD_LOG: LogEnd = LogEnd { number: 14, end: 0 };
-
-/// Points from 32 on are at home at server 1.
-fn plan() -> Plan {
-    let mut plan = Plan::uniform(Entry {
-        low: -100,
-        high: 1000,
-        fallback: 0,
-        home: 0,
-    });
-    plan.entries[32..].iter_mut().for_each(|e| e.home = 1);
-    plan
-}
-
-fn set(client: u32, call: u32, point: u8) -> Call {
-    let request = Request {
-        op: Op::Set,
-        point,
-        client,
-        call,
-        done: 1,
-        lease_end: 1000,
-        argument: 40,
-    };
-    Call::Request(write_request(&request).to_vec())
-}
-
-/// Server 0 of both programs, with outputs that fit every call.
-struct Rig {
-    pair: Pair,
-    outputs: Outputs,
-}
-
-impl Rig {
-    fn new(room: usize) -> Rig {
-        let mut rig = Rig {
-            pair: Pair::new(vec![BEHIND; STATE_LEN], vec![0xA5; room], room),
-            outputs: Outputs::new(IMAGE_MAX),
-        };
-        rig.run(Call::Found(write_plan(&plan()).to_vec(), 0), Answer::DONE);
-        rig
-    }
-
-    /// It has heard this time.
-    fn heard(time: u32) -> Rig {
-        let mut rig = Rig::new(20_000);
-        rig.hear(time);
-        rig
-    }
-
-    fn hear(&mut self, time: u32) {
-        let client = 9;
-        self.run(set(client, 1, 0), Answer::DONE);
-        let notice = write_notice(&Notice { client, time });
-        self.run(Call::Notice(notice.to_vec()), Answer::DONE);
-    }
-
-    /// The call on both sides; what it writes.
-    fn run(&mut self, call: Call, due: Answer) -> Vec<u8> {
-        let (log, out) = (self.pair.room, IMAGE_MAX);
-        self.lent(call, log, out, due)
-    }
-
-    /// The same with so much of log and output.
-    fn lent(&mut self, call: Call, log: usize, out: usize, due: Answer) -> Vec<u8> {
-        let mut lent = self.pair.whole(&self.outputs);
-        (lent.log, lent.out) = (log, out);
-        let answer = self.pair.call(&call, &lent, &mut self.outputs);
-        assert_eq!(answer, due, "{call:02x?}");
-        self.outputs.written(answer).to_vec()
-    }
-
-    fn sync(&mut self) {
-        self.run(Call::Sync(self.pair.server.length), Answer::DONE);
-    }
-
-    fn result(&mut self, client: u32, call: u32) -> Vec<u8> {
-        self.run(Call::Fetch(client, call), Answer::wrote(RESULT_LEN))
-    }
-
-    fn time(&mut self, client: u32, call: u32) -> u32 {
-        let result = self.result(client, call);
-        assert_eq!(result[0], 7);
-        get_u32(&result, 16)
-    }
-
-    /// The bytes are the log now; recovery from them is answered so.
-    fn recover(&mut self, log: &[u8], number: u32) {
-        for to in [&mut self.pair.log, &mut self.pair.server_log] {
-            to[..log.len()].copy_from_slice(log);
-        }
-        let due = Answer { number, written: 0 };
-        let call = Call::Recover(write_plan(&plan()).to_vec());
-        self.lent(call, log.len(), 0, due);
-    }
-
-    /// Start and end of the bytes that hold a completion record, and their source.
-    fn shown(&self, cp: &[u8], id: (u32, u32)) -> (u32, usize, usize) {
-        let place = self.pair.inspect(STATE_LEN, cp, &self.pair.log, id);
-        assert_eq!(place.number, 0, "{id:?}");
-        (place.source, place.start, place.end)
-    }
-}
-
-fn refused(number: u32) -> Answer {
-    let written = if (3..=9).contains(&number) {
-        REFUSAL_LEN
-    } else {
-        0
-    };
-    Answer { number, written }
-}
 
 // ---- to the byte
 
@@ -153,7 +39,7 @@ fn outputs_of_19_and_20() {
     rig.lent(Call::Fetch(1, 1), room, 19, refused(2));
     rig.sync();
     let due = [
-        7, 0, POINT, 0, 1, 0, 0, 0, 1, 0, 0, 0, 40, 0, 0, 0, 77, 0, 0, 0,
+        7, 0, POINT, 2, 1, 0, 0, 0, 1, 0, 0, 0, 40, 0, 0, 0, 77, 0, 0, 0,
     ];
     let result = Answer::wrote(RESULT_LEN);
     assert_eq!(both(&mut rig, set(1, 1, POINT), result), due);
@@ -179,11 +65,12 @@ fn outputs_of_12_591_and_12_592() {
         40, 0, 0, 0, 8, 0, 0, 0, 48, 0, 0, 0, 8, 0, 0, 0, 56, 0, 0, 0,
     ];
     let entry = [
-        1, 0, 0, 0, 1, 0, 0, 0, 40, 0, 0, 0, 40, 0, 0, 0, 1, 0, 0, 0, 77, 0, 0, 0,
+        1, 0, 0, 0, 1, 0, 0, 0, 40, 0, 0, 0, 40, 0, 0, 0, 1, 0, 2, 0, 77, 0, 0, 0,
     ];
     assert_eq!(image[..16], head);
     assert_eq!(image[16..36], pairs);
     assert_eq!(image[36..40], [24, 0, 0, 0]);
+    assert_eq!(image[40..48], [40, 0, 0, 0, 2, 0, 0, 0]);
     assert_eq!(image[56..], entry);
 }
 
@@ -196,7 +83,7 @@ fn log_space_of_31_and_32() {
     }
     rig.lent(set(1, 1, POINT), length + 32, 20, Answer::DONE);
     let due = [
-        6, 1, POINT, 0, 1, 0, 0, 0, 1, 0, 0, 0, 1, 0, 0, 0, 40, 0, 0, 0, 40, 0, 0, 0, 0, 0, 0, 0,
+        6, 1, POINT, 0, 1, 0, 0, 0, 1, 0, 0, 0, 1, 0, 0, 0, 40, 0, 0, 0, 40, 0, 0, 0, 2, 0, 0, 0,
         77, 0, 0, 0,
     ];
     assert_eq!(rig.pair.log[length..length + 32], due);
@@ -297,7 +184,7 @@ fn images_of_no_form() {
     }
 }
 
-fn take_head(length: usize) -> Vec<u8> {
+pub fn take_head(length: usize) -> Vec<u8> {
     [&[4, 0, 0, 0][..], &(length as u32).to_le_bytes()].concat()
 }
 
@@ -332,14 +219,14 @@ fn incomplete_takes() {
 // ---- forms from before, byte by byte
 
 /// A set of point 5 to 40 by client 1, without its time.
-fn old_record(call: u8) -> [u8; 28] {
+pub fn old_record(call: u8) -> [u8; 28] {
     [
         1, 1, POINT, 0, 1, 0, 0, 0, call, 0, 0, 0, 1, 0, 0, 0, 40, 0, 0, 0, 40, 0, 0, 0, 0, 0, 0, 0,
     ]
 }
 
 /// The same at time 513.
-fn new_record(call: u8) -> [u8; 32] {
+pub fn new_record(call: u8) -> [u8; 32] {
     [
         6, 1, POINT, 0, 1, 0, 0, 0, call, 0, 0, 0, 1, 0, 0, 0, 40, 0, 0, 0, 40, 0, 0, 0, 0, 0, 0,
         0, 1, 2, 0, 0,
@@ -390,7 +277,7 @@ fn kind_1_before_and_behind_kind_6() {
 /// Point 40, value 11, from server 1 by move 3, heard time 90; client 1 from call 2 on, and its
 /// set to 7.
 #[rustfmt::skip]
-const OLD_IMAGE: [u8; 76] = [
+pub const OLD_IMAGE: [u8; 76] = [
     0x4D, 0x56, 0x49, 0x31, 40, 0, 1, 0, 3, 0, 0, 0, 90, 0, 0, 0,
     40, 0, 0, 0, 8, 0, 0, 0, 48, 0, 0, 0, 8, 0, 0, 0, 56, 0, 0, 0, 20, 0, 0, 0,
     11, 0, 0, 0, 0, 0, 0, 0,
@@ -431,7 +318,7 @@ fn an_old_image_in_take_and_in_its_record() {
 
 /// A checkpoint without times: server 0, heard time 300, client 1 from call 1 on with its set of
 /// point 5 to 40.
-fn old_checkpoint() -> Vec<u8> {
+pub fn old_checkpoint() -> Vec<u8> {
     #[rustfmt::skip]
     let head = [
         0x57, 0x4C, 0x47, 0x32, 0, 0, 0, 0, 0x2C, 1, 0, 0,
@@ -457,6 +344,15 @@ fn old_checkpoint() -> Vec<u8> {
         1, 0, 0, 0, 1, 0, 0, 0, 40, 0, 0, 0, 40, 0, 0, 0, 1, 0, 0, POINT,
     ];
     [&head[..], rows.as_flattened(), &client, &record].concat()
+}
+
+/// The same with time 77.
+pub fn new_checkpoint() -> Vec<u8> {
+    let mut new = old_checkpoint();
+    new[3] = 0x33;
+    put_u32(&mut new, 40, 24);
+    new.extend([77, 0, 0, 0]);
+    new
 }
 
 #[test]
@@ -494,17 +390,15 @@ fn an_old_checkpoint_with_a_tail_of_both_kinds() {
     assert_eq!(first.len(), 2092 + 8 + 4 * 20);
     first.truncate(2120);
     put_u32(&mut first, 40, 20);
+    // The last set was today's: point 5 is by hand now.
+    assert_eq!(std::mem::replace(&mut first[1068 + 16 * 5 + 1], 0), 2);
     assert!(first == old, "the first row alone");
 }
 
 /// A row of the other form's length, another opening, one row that is not all there.
 #[test]
 fn checkpoints_of_no_form() {
-    let old = old_checkpoint();
-    let mut new = old.clone();
-    new[3] = 0x33;
-    put_u32(&mut new, 40, 24);
-    new.extend([77, 0, 0, 0]);
+    let (old, new) = (old_checkpoint(), new_checkpoint());
     let mut rig = Rig::new(20_000);
     for (good, time) in [(&old, 0), (&new, 77)] {
         let answer = rig.pair.recover_checkpoint(STATE_LEN, good, &HEAD);
@@ -583,7 +477,7 @@ fn both_results_at_a_client() {
 // ---- the state
 
 /// A state of server 0 with one completion record, byte by byte.
-fn laid_state() -> Vec<u8> {
+pub fn laid_state() -> Vec<u8> {
     let mut b = vec![BEHIND; STATE_LEN];
     b[..40].fill(0);
     b[..4].copy_from_slice(&[0x57, 0x53, 0x54, 0x32]);
@@ -667,19 +561,8 @@ fn the_time_of_execution() {
             rig.hear(100 * call);
         }
         due.push((call, rig.pair.server.heard));
-        let request = Request {
-            op: Op::from_byte(op).expect("an op"),
-            point: POINT,
-            client: 1,
-            call,
-            done: 1,
-            lease_end: 1000,
-            argument,
-        };
-        rig.run(
-            Call::Request(write_request(&request).to_vec()),
-            Answer::DONE,
-        );
+        let op = Op::from_byte(op).expect("an op");
+        rig.run(command(1, call, POINT, (op, argument)), Answer::DONE);
     }
     rig.sync();
     let same = |rig: &mut Rig, due: &[(u32, u32)]| {

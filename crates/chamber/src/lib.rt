@@ -134,12 +134,14 @@ fn is_opening(op: u8, argument: u32) -> bool
     (op == constants::PART_OP) | ((op == constants::SET_OP) & (argument != constants::HALF))
 }
 
+// On a gate a value by hand is valid too.
 fn valid_gate(quality: u8) -> bool
     ensures { λ r. ⌜ r ≡ validGate quality ⌝ }
 {
-    quality == constants::VALID
+    (quality == constants::VALID) | (quality == constants::BY_HAND)
 }
 
+// On a level it is not.
 fn valid_level(quality: u8) -> bool
     ensures { λ r. ⌜ r ≡ validLevel quality ⌝ }
 {

@@ -9,7 +9,7 @@ use mathlib.Core.List.{List, [], _∷_, _++_, map}
 use lib.ListN.{length, replicate}
 use Rattle.model.specs.declared.Sent.the-variants.{NotSent, Asked}
 use Rattle.model.specs.Numbers.{half, word}
-use Rattle.model.specs.Limits.{readOp, setOp, stepOp, reportOp, faultOp, partOp, carriedOut, valid, invalid, lastPoint, last32, callWindow}
+use Rattle.model.specs.Limits.{readOp, setOp, stepOp, reportOp, faultOp, partOp, carriedOut, valid, invalid, byHand, lastPoint, last32, callWindow}
 use Rattle.model.specs.Refusals.{noRefusal, malformed, windowFull, numbersOut, notSafe}
 use Rattle.model.specs.Packets.{grantBytes, resultBytes}
 use Rattle.model.specs.Clients.{noCall, startNumber, sendNumber}
@@ -94,11 +94,15 @@ sees point value quality = does readOp point half value quality
 abbrev pub reads : ℕ → ℕ → Step
 reads point value = sees point (half + value) valid
 
+-- read as a set or part left it
+abbrev pub enters : ℕ → ℕ → Step
+enters point value = sees point (half + value) byHand
+
 abbrev pub sets : ℕ → ℕ → Step
-sets point a = does setOp point (half + a) (half + a) valid
+sets point a = does setOp point (half + a) (half + a) byHand
 
 abbrev pub parts : ℕ → ℕ → Step
-parts point a = does partOp point (half + a) (half + a) valid
+parts point a = does partOp point (half + a) (half + a) byHand
 
 abbrev pub case : List Step → ℕ → Case
 case ss n = record { from = new; run = ss; number = n }
@@ -108,10 +112,10 @@ case ss n = record { from = new; run = ss; number = n }
 unfoldable pub cases : List Case
 cases =
     -- the first opening of each gate: the other gate is set to 0 and read, then both levels beside the gate, in either order
-    case (sets 11 0 ∷ reads 11 0 ∷ reads 20 300 ∷ reads 21 300 ∷ sets 10 50 ∷ []) noRefusal
-    ∷ case (sets 11 0 ∷ reads 11 0 ∷ reads 21 300 ∷ reads 20 300 ∷ parts 10 500 ∷ []) noRefusal
-    ∷ case (sets 10 0 ∷ reads 10 0 ∷ reads 21 300 ∷ reads 22 300 ∷ sets 11 50 ∷ []) noRefusal
-    -- the set need not be there
+    case (sets 11 0 ∷ enters 11 0 ∷ reads 20 300 ∷ reads 21 300 ∷ sets 10 50 ∷ []) noRefusal
+    ∷ case (sets 11 0 ∷ enters 11 0 ∷ reads 21 300 ∷ reads 20 300 ∷ parts 10 500 ∷ []) noRefusal
+    ∷ case (sets 10 0 ∷ enters 10 0 ∷ reads 21 300 ∷ reads 22 300 ∷ sets 11 50 ∷ []) noRefusal
+    -- the set need not be there, and the gate may have been measured
     ∷ case (reads 11 0 ∷ reads 20 300 ∷ reads 21 300 ∷ sets 10 50 ∷ []) noRefusal
     -- one condition is missing: no read of the other gate, of a level; the own gate's read, the other gate's levels
     ∷ case (reads 20 300 ∷ reads 21 300 ∷ sets 10 50 ∷ []) notSafe
@@ -125,6 +129,10 @@ cases =
     ∷ case (sees 11 half invalid ∷ reads 20 300 ∷ reads 21 300 ∷ sets 10 50 ∷ []) notSafe
     ∷ case (reads 11 0 ∷ sees 20 (half + 300) invalid ∷ reads 21 300 ∷ sets 10 50 ∷ []) notSafe
     ∷ case (reads 11 0 ∷ reads 20 300 ∷ sees 21 (half + 300) invalid ∷ sets 10 50 ∷ []) notSafe
+    -- by hand: a gate away from 0; a level, either of the two
+    ∷ case (enters 11 1 ∷ reads 20 300 ∷ reads 21 300 ∷ sets 10 50 ∷ []) notSafe
+    ∷ case (enters 11 0 ∷ enters 20 300 ∷ reads 21 300 ∷ sets 10 50 ∷ []) notSafe
+    ∷ case (enters 11 0 ∷ reads 20 300 ∷ enters 21 300 ∷ sets 10 50 ∷ []) notSafe
     -- the order: a gate read after the levels asks for the levels again; the latest read counts
     ∷ case (reads 20 300 ∷ reads 21 300 ∷ reads 11 0 ∷ sets 10 50 ∷ []) notSafe
     ∷ case (reads 20 300 ∷ reads 11 0 ∷ reads 21 300 ∷ sets 10 50 ∷ []) notSafe

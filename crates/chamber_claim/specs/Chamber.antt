@@ -18,7 +18,7 @@ use Rattle.model.specs.declared.StartAnswer.{StartAnswer}
 use Rattle.model.specs.declared.SendAnswer.{SendAnswer}
 use Rattle.model.specs.Choice.{pick}
 use Rattle.model.specs.Numbers.{half}
-use Rattle.model.specs.Limits.{lastPoint, readOp, setOp, partOp, valid, invalid}
+use Rattle.model.specs.Limits.{lastPoint, readOp, setOp, partOp, valid, invalid, byHand}
 use Rattle.model.specs.Refusals.{malformed, windowFull, notSafe}
 use Rattle.model.specs.Tables.{every}
 use Rattle.model.specs.Packets.{commandOk}
@@ -93,9 +93,11 @@ readAt ch i = getD (ch .reads) i noRead
 unfoldable pub isOpening : ℕ → ℕ → Bool
 isOpening op a = eqb op partOp || (eqb op setOp && not (eqb a half))
 
+-- on a gate a value by hand is valid too
 unfoldable pub validGate : ℕ → Bool
-validGate q = eqb q valid
+validGate q = eqb q valid || eqb q byHand
 
+-- on a level it is not
 unfoldable pub validLevel : ℕ → Bool
 validLevel q = eqb q valid
 

@@ -7,7 +7,7 @@ ghost use lib.ListN.{length, drop};
 ghost use Rattle.model.specs.Choice.{pick};
 ghost use Rattle.model.specs.Numbers.{half, nearest};
 ghost use Rattle.model.specs.Plan.{planEntryOf, planEntryOk, planRowOk, planOk};
-ghost use Rattle.model.specs.Versions.{second};
+ghost use Rattle.model.specs.Versions.{second, third};
 ghost use Rattle.model.specs.Rules.{same, result, sumInRange, endPast, pastEnd, setRule, stepRule, reportRule, faultRule, partRule, argumentOk};
 ghost use Rattle.model.specs.Limits.{planRow, partOp, wholePart, carriedOut};
 ghost use Rattle.format_commands.specs.Results.{checkedRule};
@@ -115,11 +115,12 @@ fn sum(e: PlanEntry, v: u32, argument: u32) -> u32
     (v as u64 + argument as u64 - constants::HALF_U64) as u32
 }
 
+// A value that was set is by hand.
 fn set_rule(e: PlanEntry, argument: u32, reading: Reading) -> CommandResult
-    ensures { λ x. ⌜ x ≡ setRule e argument reading ⌝ }
+    ensures { λ x. ⌜ x ≡ setRule second e argument reading ⌝ }
 {
     if format_numbers::in_range(e, argument) {
-        result_of(constants::CARRIED_OUT, argument, constants::VALID)
+        result_of(constants::CARRIED_OUT, argument, constants::BY_HAND)
     } else {
         unchanged(constants::OUT_OF_RANGE, reading)
     }
@@ -167,6 +168,7 @@ fn step_rule(e: PlanEntry, argument: u32, reading: Reading) -> CommandResult
     }
 }
 
+// A value in range is a measurement: valid.
 fn report_rule(e: PlanEntry, argument: u32, reading: Reading) -> CommandResult
     ensures { λ x. ⌜ x ≡ reportRule e argument reading ⌝ }
 {
@@ -207,14 +209,15 @@ fn part_value(low: u32, parts: u64) -> u64
     }
 }
 
+// A part of the range is by hand.
 fn part_rule(e: PlanEntry, argument: u32) -> CommandResult
     requires { ⌜ argumentOk partOp argument ≡ true ⌝ }
-    ensures { λ x. ⌜ x ≡ partRule second e argument ⌝ }
+    ensures { λ x. ⌜ x ≡ partRule third e argument ⌝ }
 {
     let span = minus(e.high as u64, e.low as u64);
     let parts = minus(argument as u64, constants::HALF_U64);
     let value = part_value(e.low, span * parts);
-    result_of(constants::CARRIED_OUT, value as u32, constants::VALID)
+    result_of(constants::CARRIED_OUT, value as u32, constants::BY_HAND)
 }
 
 // A command's result: outcome, and value and quality after it. An argument outside its op's range changes nothing,

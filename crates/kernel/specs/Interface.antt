@@ -5,9 +5,9 @@ use mathlib.Core.List.{List}
 use Rattle.model.specs.Operations.{After, wordOf}
 use Rattle.model.specs.Checkpoints.{AfterCheckpoint}
 
--- the interface's version, major × 65,536 + minor: 1.6
+-- the interface's version, major × 65,536 + minor: 1.7
 abbrev pub version : ℕ
-version = 65542
+version = 65543
 
 pub record Returned : Type 0 where
   pub answer : ℕ

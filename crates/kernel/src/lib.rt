@@ -13,7 +13,7 @@ ghost use Rattle.model.specs.Checkpoints.{checkpointOf, recoverTailOf, inspectO
 ghost use Rattle.kernel.specs.Interface.{version, returned, inC, checkpointReturned, checkpointInC};
 
 // The interface's version, major * 65,536 + minor.
-const VERSION: u32 = 65542;
+const VERSION: u32 = 65543;
 
 #[no_mangle]
 pub extern "C" fn mantelorris_version() -> u32

@@ -44,13 +44,16 @@ fellBack = 3
 abbrev pub stopped : ℕ
 stopped = 4
 
--- ---- qualities
+-- ---- qualities: valid, invalid, entered by hand
 
 abbrev pub valid : ℕ
 valid = 0
 
 abbrev pub invalid : ℕ
 invalid = 1
+
+abbrev pub byHand : ℕ
+byHand = 2
 
 -- ---- greatest values of the fields with a range
 
@@ -67,7 +70,7 @@ abbrev pub lastOutcome : ℕ
 lastOutcome = stopped
 
 abbrev pub lastQuality : ℕ
-lastQuality = invalid
+lastQuality = byHand
 
 -- the greatest number of 32 bits
 abbrev pub last32 : ℕ

@@ -14,7 +14,7 @@ use Rattle.model.specs.Choice.{pick}
 use Rattle.model.specs.Numbers.{half, nearest}
 use Rattle.model.specs.Plan.{inRange}
 use Rattle.model.specs.Limits.{last32, readOp, setOp, stepOp, reportOp, faultOp, partOp, wholePart, carriedOut, outOfRange, onInvalid, fellBack, stopped, valid, invalid}
-use Rattle.model.specs.Versions.{Version, first, second}
+use Rattle.model.specs.Versions.{Version, first, second, third, setQuality, partQuality}
 
 -- the arguments from one to another
 abbrev pub arguments : ℕ → ℕ → ArgumentRange
@@ -56,8 +56,8 @@ same n r = result n (r .value) (r .quality)
 unfoldable pub sumInRange : PlanEntry → ℕ → ℕ → Bool
 sumInRange e v a = leb (e .low + half) (v + a) && leb (v + a) (e .high + half)
 
-unfoldable pub setRule : PlanEntry → ℕ → Reading → CommandResult
-setRule e a r = pick (inRange e a) (result carriedOut a valid) (same outOfRange r)
+unfoldable pub setRule : Version → PlanEntry → ℕ → Reading → CommandResult
+setRule n e a r = pick (inRange e a) (result carriedOut a (setQuality n)) (same outOfRange r)
 
 -- the end of the range that value + a is past
 abbrev pub endPast : PlanEntry → ℕ → ℕ → ℕ
@@ -67,12 +67,14 @@ endPast e v a = pick (leb (e .low + half) (v + a)) (e .high) (e .low)
 abbrev pub pastEnd : Version → PlanEntry → ℕ → Reading → CommandResult
 pastEnd first e a r = same outOfRange r
 pastEnd second e a r = result stopped (endPast e (r .value) a) (r .quality)
+pastEnd third e a r = result stopped (endPast e (r .value) a) (r .quality)
 
 unfoldable pub stepRule : Version → PlanEntry → ℕ → Reading → CommandResult
 stepRule n e a r =
     pick (eqb (r .quality) invalid) (same onInvalid r)
     (pick (sumInRange e (r .value) a) (result carriedOut (r .value + a - half) (r .quality)) (pastEnd n e a r))
 
+-- a value that was measured: valid by every version
 unfoldable pub reportRule : PlanEntry → ℕ → Reading → CommandResult
 reportRule e a r = pick (inRange e a) (result carriedOut a valid) (result fellBack (e .fallback) invalid)
 
@@ -83,15 +85,16 @@ faultRule e = result fellBack (e .fallback) invalid
 abbrev pub rounded : Version → ℕ → ℕ → ℕ
 rounded first m n = m / n
 rounded second m n = nearest m n
+rounded third m n = nearest m n
 
 unfoldable pub partRule : Version → PlanEntry → ℕ → CommandResult
-partRule n e a = result carriedOut (e .low + rounded n ((e .high - e .low) * (a - half)) wholePart) valid
+partRule n e a = result carriedOut (e .low + rounded n ((e .high - e .low) * (a - half)) wholePart) (partQuality n)
 
 -- by the version of the op's rule; another op is refused before (malformed)
 unfoldable pub ruleOf : Version → PlanEntry → ℕ → ℕ → Reading → CommandResult
 ruleOf n e op a r =
     pick (eqb op readOp) (same carriedOut r)
-    (pick (eqb op setOp) (setRule e a r)
+    (pick (eqb op setOp) (setRule n e a r)
     (pick (eqb op stepOp) (stepRule n e a r)
     (pick (eqb op reportOp) (reportRule e a r)
     (pick (eqb op faultOp) (faultRule e)

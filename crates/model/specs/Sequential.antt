@@ -18,7 +18,7 @@ use Rattle.model.specs.Choice.{pick}
 use Rattle.model.specs.Numbers.{signed, nearest}
 use Rattle.model.specs.Plan.{entryAt}
 use Rattle.model.specs.Limits.{readOp, setOp, stepOp, reportOp, faultOp, partOp, wholePart, carriedOut, outOfRange, onInvalid, fellBack, stopped, valid, invalid}
-use Rattle.model.specs.Versions.{Version, first, second, Versions}
+use Rattle.model.specs.Versions.{Version, first, second, third, Versions, setQuality, partQuality}
 
 -- ---- over the integers
 
@@ -92,22 +92,23 @@ quotientNearest (negsuc m) n = negℤ (pos (nearest (suc m) n))
 unfoldable pub readZ : ReadingZ → ResultZ
 readZ r = resultZ carriedOut (r .value) (r .quality)
 
--- 1 set: a valid value a, outcome 0; where a is out of range nothing changes, outcome 1
-unfoldable pub setZ : EntryZ → ℤ → ReadingZ → ResultZ
-setZ e a r = pick (inRangeZ e a) (resultZ carriedOut a valid) (resultZ outOfRange (r .value) (r .quality))
+-- 1 set: the value a, with the quality that the version says, outcome 0; where a is out of range nothing changes, outcome 1
+unfoldable pub setZ : Version → EntryZ → ℤ → ReadingZ → ResultZ
+setZ n e a r = pick (inRangeZ e a) (resultZ carriedOut a (setQuality n)) (resultZ outOfRange (r .value) (r .quality))
 
 -- a step whose sum is past an end of the range: by the first version nothing changes, outcome 1; by the second the value is that end, outcome 4
 unfoldable pub pastEndZ : Version → EntryZ → ℤ → ReadingZ → ResultZ
 pastEndZ first e sum r = resultZ outOfRange (r .value) (r .quality)
 pastEndZ second e sum r = resultZ stopped (pick (leZ (e .low) sum) (e .high) (e .low)) (r .quality)
+pastEndZ third e sum r = resultZ stopped (pick (leZ (e .low) sum) (e .high) (e .low)) (r .quality)
 
--- 2 step: adds a where the sum is in range, outcome 0; nothing changes on an invalid value, outcome 2
+-- 2 step: adds a where the sum is in range, outcome 0; nothing changes on an invalid value, outcome 2; the quality stays
 unfoldable pub stepZ : Version → EntryZ → ℤ → ReadingZ → ResultZ
 stepZ n e a r =
     pick (eqb (r .quality) invalid) (resultZ onInvalid (r .value) (r .quality))
     (pick (inRangeZ e (r .value +ℤ a)) (resultZ carriedOut (r .value +ℤ a) (r .quality)) (pastEndZ n e (r .value +ℤ a) r))
 
--- 3 report: in range as set; else the fallback, invalid, outcome 3
+-- 3 report: a value a in range is valid, outcome 0; else the fallback, invalid, outcome 3
 unfoldable pub reportZ : EntryZ → ℤ → ResultZ
 reportZ e a = pick (inRangeZ e a) (resultZ carriedOut a valid) (resultZ fellBack (e .fallback) invalid)
 
@@ -119,16 +120,18 @@ faultZ e = resultZ fellBack (e .fallback) invalid
 unfoldable pub roundedZ : Version → ℤ → ℕ → ℤ
 roundedZ first x n = quotientDown x n
 roundedZ second x n = quotientNearest x n
+roundedZ third x n = quotientNearest x n
 
--- 5 part: the value that lies a thousandths of the way from low to high, rounded as the version says before low is added; valid, outcome 0
+-- 5 part: the value that lies a thousandths of the way from low to high, rounded as the version says before low is added, with the quality that the version
+-- says, outcome 0
 unfoldable pub partZ : Version → EntryZ → ℤ → ResultZ
-partZ n e a = resultZ carriedOut (e .low +ℤ roundedZ n ((e .high -ℤ e .low) *ℤ a) wholePart) valid
+partZ n e a = resultZ carriedOut (e .low +ℤ roundedZ n ((e .high -ℤ e .low) *ℤ a) wholePart) (partQuality n)
 
 -- by the version of the op's rule; commands have no other op, and one would change nothing
 unfoldable pub ruleZ : Version → EntryZ → ℕ → ℤ → ReadingZ → ResultZ
 ruleZ n e op a r =
     pick (eqb op readOp) (readZ r)
-    (pick (eqb op setOp) (setZ e a r)
+    (pick (eqb op setOp) (setZ n e a r)
     (pick (eqb op stepOp) (stepZ n e a r)
     (pick (eqb op reportOp) (reportZ e a)
     (pick (eqb op faultOp) (faultZ e)

@@ -83,11 +83,13 @@ pub const FELL_BACK: u8 = 3;
 
 pub const STOPPED: u8 = 4;
 
-// ---- qualities
+// ---- qualities: valid, invalid, entered by hand
 
 pub const VALID: u8 = 0;
 
 pub const INVALID: u8 = 1;
+
+pub const BY_HAND: u8 = 2;
 
 // ---- a point's status
 
@@ -109,7 +111,7 @@ pub const LAST_OP: u8 = PART_OP;
 
 pub const LAST_OUTCOME: u8 = STOPPED;
 
-pub const LAST_QUALITY: u8 = INVALID;
+pub const LAST_QUALITY: u8 = BY_HAND;
 
 pub const LAST_STATUS: u8 = RELEASED;
 

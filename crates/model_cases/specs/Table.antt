@@ -11,7 +11,7 @@ use Rattle.model.specs.declared.CommandResult.{CommandResult}
 use Rattle.model.specs.declared.Request.{Request}
 use Rattle.model.specs.Choice.{refuse, deny, reply, append, marks}
 use Rattle.model.specs.Numbers.{half}
-use Rattle.model.specs.Limits.{last32, pointCount, executedSize, setOp, stepOp, reportOp, faultOp, partOp, carriedOut, outOfRange, onInvalid, fellBack, stopped, valid, invalid}
+use Rattle.model.specs.Limits.{last32, pointCount, executedSize, readOp, setOp, stepOp, reportOp, faultOp, partOp, carriedOut, outOfRange, onInvalid, fellBack, stopped, valid, invalid, byHand}
 use Rattle.model.specs.Versions.{today}
 use Rattle.model.specs.Rules.{ruleOf}
 use Rattle.model.specs.Sequential.{ReadingZ, ResultZ, readingZ, resultZ, entryZ, readingMeant, resultMeant, ruleZ}
@@ -136,7 +136,7 @@ stepNarrow a o =
 abbrev pub partIn : ℕ → ℕ → ℕ → ℤ → ℕ → Case
 partIn low high a z k =
     command (record { low = low; high = high; fallback = low; home = 0 }) partOp (pos a) (half + a) (readingZ (pos 0) invalid)
-    (record { value = half; quality = invalid }) (resultZ carriedOut z valid) (record { outcome = carriedOut; value = k; quality = valid; time = 0 })
+    (record { value = half; quality = invalid }) (resultZ carriedOut z byHand) (record { outcome = carriedOut; value = k; quality = byHand; time = 0 })
 
 -- the same where the range is the greatest, −2147483648 to 2147483647
 abbrev pub partWide : ℕ → ℤ → ℕ → Case
@@ -145,7 +145,7 @@ partWide a z k = partIn 0 last32 a z k
 -- op, argument, value and quality before; outcome, value and quality after
 unfoldable pub cases : List Case
 cases =
-    onUp setOp 1000 0 invalid carriedOut 1000 valid  -- set 1000: 1000, outcome 0
+    onUp setOp 1000 0 invalid carriedOut 1000 byHand  -- set 1000: 1000, quality 2, outcome 0
     ∷ onUp setOp 1001 7 valid outOfRange 7 valid  -- set 1001: outcome 1
     ∷ onUp stepOp 1 1000 valid stopped 1000 valid  -- at 1000, step 1: 1000, outcome 4
     ∷ onUp stepOp 1 999 valid carriedOut 1000 valid  -- at 999, step 1: 1000
@@ -158,16 +158,24 @@ cases =
     ∷ onUp stepOp 0 0 invalid onInvalid 0 invalid  -- at quality 1, step 0: outcome 2
     ∷ byDown reportOp 100 7 valid fellBack 0 invalid  -- report −101: 0, quality 1, outcome 3
     ∷ onUp faultOp 0 7 valid fellBack 0 invalid  -- fault: the same
-    ∷ toDown partOp 0 0 invalid carriedOut 99 valid  -- part 0: −100
-    ∷ onUp partOp 333 0 invalid carriedOut 266 valid  -- part 333: 266
-    ∷ onUp partOp 1000 0 invalid carriedOut 1000 valid  -- part 1000: 1000
-    ∷ toDown partOp 5 0 invalid carriedOut 93 valid  -- part 5, 5 and a half from low: −94
-    ∷ toDown partOp 15 0 invalid carriedOut 83 valid  -- part 15, 16 and a half from low: −84
+    ∷ toDown partOp 0 0 invalid carriedOut 99 byHand  -- part 0: −100, quality 2
+    ∷ onUp partOp 333 0 invalid carriedOut 266 byHand  -- part 333: 266
+    ∷ onUp partOp 1000 0 invalid carriedOut 1000 byHand  -- part 1000: 1000
+    ∷ toDown partOp 5 0 invalid carriedOut 93 byHand  -- part 5, 5 and a half from low: −94
+    ∷ toDown partOp 15 0 invalid carriedOut 83 byHand  -- part 15, 16 and a half from low: −84
     ∷ partIn (half - 99) (half + 1001) 5 (negsuc 92) (half - 93)  -- where the range is −99 to 1001, part 5: −93, for the quotient is even and not the value
     ∷ partWide 0 (negsuc 2147483647) 0  -- where the range is the greatest, part 0: −2147483648
     ∷ partWide 1000 (pos 2147483647) last32  -- and part 1000: 2147483647
     ∷ partWide 500 (pos 0) half  -- part 500, 2147483647 and a half from low: 0
     ∷ partWide 300 (negsuc 858993459) 1288490188  -- part 300, 1288490188 and a half from low: −858993460
+    ∷ onUp readOp 0 7 byHand carriedOut 7 byHand  -- at 7 by hand, read: quality 2
+    ∷ onUp setOp 1001 7 byHand outOfRange 7 byHand  -- set 1001: quality 2, outcome 1
+    ∷ onUp stepOp 1 1000 byHand stopped 1000 byHand  -- at 1000 by hand, step 1: 1000, quality 2, outcome 4
+    ∷ byDown stepOp 0 1000 byHand carriedOut 999 byHand  -- step −1: 999, quality 2
+    ∷ onUp reportOp 7 1000 byHand carriedOut 7 valid  -- report 7: 7, quality 0
+    ∷ byDown reportOp 100 7 byHand fellBack 0 invalid  -- report −101: 0, quality 1, outcome 3
+    ∷ onUp faultOp 0 7 byHand fellBack 0 invalid  -- fault: the same
+    ∷ onUp partOp 1000 7 byHand carriedOut 1000 byHand  -- part 1000: 1000, quality 2
     ∷ lease 50 50 leaseOver  -- lease end 50, heard 50: 4
     ∷ lease 50 49 noRefusal  -- heard 49: passes
     ∷ window 16 1 noRefusal  -- call 16 done 1: passes

@@ -19,7 +19,7 @@ use Rattle.model_laws.proofs.Tests.{and-left, and-right, choose}
 use Rattle.model_laws.proofs.Commands.{in-arguments}
 use Rattle.model.specs.declared.PlanEntry.{PlanEntry}
 use Rattle.model.specs.Numbers.{half, nearest}
-use Rattle.model.specs.Versions.{Version, first, second}
+use Rattle.model.specs.Versions.{Version, first, second, third}
 use Rattle.model.specs.Limits.{lastServer, partOp, wholePart}
 use Rattle.model.specs.Plan.{inRange, planEntryOk}
 use Rattle.model.specs.Rules.{rounded, sumInRange, argumentOk, argumentRange}
@@ -53,8 +53,12 @@ nearest-most m s h =
     let twice = 2 * (m % wholePart) + m / wholePart % 2 in
     choose (λ (q : ℕ). q ≤ s) (ltb wholePart twice) (λ k. let u : wholePart < twice = ltb-true wholePart twice k in omega arith) (λ k. omega arith)
 
-pub part-between : (n : Version) (low high p : ℕ) → p ≤ wholePart → low + rounded n ((high - low) * p) wholePart ≤ low + (high - low)
-part-between first low high p h = let q : (high - low) * p ≤ (high - low) * wholePart = mul-le-mul-left (high - low) h in omega arith
-part-between second low high p h =
+nearest-between : (low high p : ℕ) → p ≤ wholePart → low + nearest ((high - low) * p) wholePart ≤ low + (high - low)
+nearest-between low high p h =
     let q = nearest-most ((high - low) * p) (high - low) (mul-le-mul-left (high - low) h) in
     omega arith
+
+pub part-between : (n : Version) (low high p : ℕ) → p ≤ wholePart → low + rounded n ((high - low) * p) wholePart ≤ low + (high - low)
+part-between first low high p h = let q : (high - low) * p ≤ (high - low) * wholePart = mul-le-mul-left (high - low) h in omega arith
+part-between second low high p h = nearest-between low high p h
+part-between third low high p h = nearest-between low high p h

@@ -17,7 +17,7 @@ use borrow.Author.Tests.{lt-ltb, le-ltb, le-leb, lt-leb, leb-true, leb-false, lt
 use lib.Dec.{leb, ltb, eqb}
 use lib.IntN.{ℤ, pos, negsuc, subℕ, _+ℤ_, _-ℤ_, negℤ}
 use lib.Signed.{leZ}
-use Rattle.model.specs.Versions.{Version, first, second}
+use Rattle.model.specs.Versions.{Version, first, second, third, partQuality}
 use Rattle.model.specs.declared.PlanEntry.{PlanEntry}
 use Rattle.model.specs.declared.Reading.{Reading}
 use Rattle.model.specs.Choice.{pick}
@@ -25,7 +25,7 @@ use Rattle.model.specs.Numbers.{half, signed}
 use Rattle.model.specs.Plan.{inRange, planEntryOk}
 use Rattle.model.specs.Rules.{rounded, sumInRange, endPast, pastEnd, setRule, stepRule, reportRule, faultRule, partRule, ruleOf, argumentRange, inArguments, argumentOk}
 use Rattle.model.specs.Sequential.{resultZ, entryZ, readingMeant, resultMeant, inRangeZ, quotientDown, quotientNearest, roundedZ, readZ, setZ, pastEndZ, stepZ, reportZ, faultZ, partZ, ruleZ}
-use Rattle.model.specs.Limits.{wholePart, readOp, setOp, stepOp, reportOp, faultOp, partOp, carriedOut, stopped, valid, invalid}
+use Rattle.model.specs.Limits.{wholePart, readOp, setOp, stepOp, reportOp, faultOp, partOp, carriedOut, stopped, invalid}
 use Rattle.model_laws.proofs.Bounds.{sum-bounds, part-bounds, entry-ordered}
 
 -- ---- a difference of two numbers, as an integer
@@ -162,6 +162,7 @@ rounded-tie : (v : Version) (m n : ℕ) → pos (rounded v m n) ≡ roundedZ v (
 unfolding roundedZ quotientDown quotientNearest
 rounded-tie first m n = refl
 rounded-tie second m n = refl
+rounded-tie third m n = refl
 
 module _ (e : PlanEntry) where
   range-tie : (a : ℕ) → inRange e a ≡ inRangeZ (entryZ e) (signed a)
@@ -172,9 +173,9 @@ module _ (e : PlanEntry) where
   unfolding sumInRange inRangeZ entryZ
   sum-tie v a = rw (low-sum, sum-high)
 
-  pub set-tie : (a : ℕ) (r : Reading) → resultMeant (setRule e a r) ≡ setZ (entryZ e) (signed a) (readingMeant r)
+  pub set-tie : (n : Version) (a : ℕ) (r : Reading) → resultMeant (setRule n e a r) ≡ setZ n (entryZ e) (signed a) (readingMeant r)
   unfolding resultMeant setRule setZ readingMeant
-  set-tie a r = pick-tie resultMeant (inRange e a) (inRangeZ (entryZ e) (signed a)) (range-tie a) (λ h. refl) (λ h. refl)
+  set-tie n a r = pick-tie resultMeant (inRange e a) (inRangeZ (entryZ e) (signed a)) (range-tie a) (λ h. refl) (λ h. refl)
 
   pub report-tie : (a : ℕ) (r : Reading) → resultMeant (reportRule e a r) ≡ reportZ (entryZ e) (signed a)
   unfolding resultMeant reportRule reportZ entryZ
@@ -194,6 +195,7 @@ module _ (e : PlanEntry) where
   unfolding resultMeant pastEndZ readingMeant
   past-tie first a r = refl
   past-tie second a r = ap (λ (v : ℤ). resultZ stopped v (r .quality)) (end-tie (r .value) a)
+  past-tie third a r = ap (λ (v : ℤ). resultZ stopped v (r .quality)) (end-tie (r .value) a)
 
   pub step-tie : (n : Version) (a : ℕ) (r : Reading) → resultMeant (stepRule n e a r) ≡ stepZ n (entryZ e) (signed a) (readingMeant r)
   unfolding resultMeant stepRule stepZ readingMeant
@@ -208,7 +210,7 @@ module _ (e : PlanEntry) where
   part-tie n a h k =
       let m = (e .high - e .low) * (a - half) in
       rw (diff-signed (e .high) (e .low) h, signed-pos a k)
-      (ap (λ (v : ℤ). resultZ carriedOut v valid) (sum-pos (e .low) (rounded n m wholePart) ∙ ap (λ (q : ℤ). signed (e .low) +ℤ q) (rounded-tie n m wholePart)))
+      (ap (λ (v : ℤ). resultZ carriedOut v (partQuality n)) (sum-pos (e .low) (rounded n m wholePart) ∙ ap (λ (q : ℤ). signed (e .low) +ℤ q) (rounded-tie n m wholePart)))
 
   -- for every op: read, and ops that no command has, change nothing in both
   pub rule-tie : (v : Version) (op a : ℕ) (r : Reading) → planEntryOk e ≡ true → argumentOk op a ≡ true
@@ -216,7 +218,7 @@ module _ (e : PlanEntry) where
   unfolding ruleOf ruleZ readZ resultMeant readingMeant
   rule-tie n op a r ok h =
       pick-tie resultMeant (eqb op readOp) (eqb op readOp) refl (λ k. refl)
-      (λ k. pick-tie resultMeant (eqb op setOp) (eqb op setOp) refl (λ k. set-tie a r)
+      (λ k. pick-tie resultMeant (eqb op setOp) (eqb op setOp) refl (λ k. set-tie n a r)
       (λ k. pick-tie resultMeant (eqb op stepOp) (eqb op stepOp) refl (λ k. step-tie n a r)
       (λ k. pick-tie resultMeant (eqb op reportOp) (eqb op reportOp) refl (λ k. report-tie a r)
       (λ k. pick-tie resultMeant (eqb op faultOp) (eqb op faultOp) refl (λ k. fault-tie)

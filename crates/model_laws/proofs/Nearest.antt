@@ -14,8 +14,8 @@ use lib.Dec.{ltb}
 use lib.IntN.{ℤ, pos, negsuc, subℕ, _+ℤ_, _-ℤ_, _*ℤ_, negℤ, negℤ-negℤ, negℤ-+ℤ, ℤ-discrete, pos-ne-negsuc}
 use Rattle.model.specs.Choice.{pick}
 use Rattle.model.specs.Numbers.{nearest}
-use Rattle.model.specs.Versions.{second}
-use Rattle.model.specs.Limits.{wholePart, carriedOut, valid}
+use Rattle.model.specs.Versions.{third}
+use Rattle.model.specs.Limits.{wholePart, carriedOut, byHand}
 use Rattle.model.specs.Sequential.{EntryZ, resultZ, absolute, distance, Even, Nearest, quotientNearest, roundedZ, partZ}
 use Rattle.model_laws.proofs.Meaning.{lt-or-ge, sub-pos, sub-neg}
 
@@ -224,7 +224,7 @@ nearest-only (negsuc m) n h p N = sym (negℤ-negℤ p) ∙ ap negℤ (only-pos 
 
 -- the sequential specification: for every range and argument the value is low and the nearest to (high − low) × a / 1000, and no other is
 pub part-nearest : (e : EntryZ) (a : ℤ)
-    → (q : ℤ) × (partZ second e a ≡ resultZ carriedOut (e .low +ℤ q) valid) × Nearest ((e .high -ℤ e .low) *ℤ a) wholePart q
+    → (q : ℤ) × (partZ third e a ≡ resultZ carriedOut (e .low +ℤ q) byHand) × Nearest ((e .high -ℤ e .low) *ℤ a) wholePart q
     × ((p : ℤ) → Nearest ((e .high -ℤ e .low) *ℤ a) wholePart p → p ≡ q)
 unfolding partZ roundedZ
 part-nearest e a =

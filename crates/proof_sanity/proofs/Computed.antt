@@ -1,5 +1,5 @@
--- The schedules of Moved, Forgetting and Timed, run.
---     trace-is, crash-trace-is, store-trace-is, timed-trace-is     what is seen of them
+-- The schedules of Moved, Forgetting, Timed and Entered, run.
+--     trace-is, crash-trace-is, store-trace-is, timed-trace-is, entering-trace-is     what is seen of them
 --     kept-recovers                what the crash keeps is recovered
 --     stored-recovers, head-alone     what is stored, with the tail's head, is recovered; the head alone gives the founding state
 --     heard-then                   what server 0 has heard of when it executes the second step of Timed
@@ -21,6 +21,7 @@ use Rattle.model_laws.specs.Opened.{Opens}
 use Rattle.claim.proofs.Opened.{openWorld}
 use Rattle.proof_sanity.specs.Trace.{bytesOk, countedOk, typedOk, sameBytes, isNothing, keptIs, beginsOk, notStarted, startsNew, keepsOk, operationDone, done, callWith, seenWith, standsAt, endSeen, traceFrom, keepsMany}
 use Rattle.proof_sanity.specs.Moved.{takenState, schedule, rowsSeen, traceSeen}
+use Rattle.proof_sanity.specs.Entered.{entering, enteringRows, enteringSeen}
 use Rattle.proof_sanity.specs.Timed.{timed, timedRows, timedSeen, heardBy}
 use Rattle.proof_sanity.specs.Forgetting.{setState, setAndCrash, keptWhole, setAndCrashSeen, setAndStore, setAndStoreSeen}
 
@@ -72,6 +73,10 @@ head-alone = refl
 pub timed-trace-is : traceFrom simulatorPlan 5 emptyWorld timed ≡ timedSeen
 unfolding openTrace timed timedRows timedSeen
 timed-trace-is = refl
+
+pub entering-trace-is : traceFrom simulatorPlan 5 emptyWorld entering ≡ enteringSeen
+unfolding openTrace entering enteringRows enteringSeen
+entering-trace-is = refl
 
 pub heard-then : heardBy (after timed 15 .servers 0) ≡ 20
 unfolding openTrace timed heardBy

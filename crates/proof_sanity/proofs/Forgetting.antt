@@ -5,7 +5,7 @@
 --     crash-provisos, not-explained     the server that recovers to the founding state
 --     store-provisos, store-completed, store-recovers, checkpoint-not-explained     the one that forgets the checkpoint
 -- Assumes nothing.
-use Prim.Native.Nat.{ℕ, zero, suc, _+_}
+use Prim.Native.Nat.{ℕ, zero, suc}
 use mathlib.Core.Bool.{true}
 use mathlib.Core.Path.{_≡_, refl, sym, ap, _∙_, subst}
 use mathlib.Core.List.{List, [], _∷_, List·Memᴰ, List·Memᴰ·head, List·Memᴰ·tail}
@@ -13,11 +13,12 @@ use mathlib.Core.Logic.{_↔_}
 use mathlib.Core.Option.{Option, none, some}
 use native.Mathlib.Omega.{arith}
 use lib.Dec.{lit<}
+use lib.IntN.{pos}
 use Rattle.model.specs.declared.Command.{Command}
 use Rattle.model.specs.declared.Request.{Request}
 use Rattle.model.specs.declared.Packet.the-variants.{Requested}
 use Rattle.model.specs.declared.Received.the-variants.{Completed}
-use Rattle.model.specs.Numbers.{half, signed, flip, le32At, signedAt, zeros3At}
+use Rattle.model.specs.Numbers.{signed, flip, le32At, signedAt, zeros3At}
 use Rattle.model.specs.Tables.{rows, bytesOf, every}
 use Rattle.model.specs.Plan.{planEntryOf, planEntryBytes, planOf, planBytes, entryAt}
 use Rattle.model.specs.Rules.{argumentRange, inArguments, argumentOk}
@@ -32,7 +33,6 @@ use Rattle.model.specs.Calls.{sync}
 use Rattle.model.specs.Clients.{placeOf, callAt, receiveOf}
 use Rattle.model.specs.Simulator.{simulatorPlan}
 use Rattle.model_laws.specs.Opened.{openNumbers, openPackets, openClients}
-use Rattle.model.specs.Limits.{valid, invalid}
 use Rattle.claim.specs.World.{Event, call, outside, receive, nothingStored, Server, nothing, crashed, emptyWorld, run}
 use Rattle.claim.specs.Provisos.{At, Provisos}
 use Rattle.claim.specs.Claim.{commandAt, readingAt, Executes, SurvivesAt, Completes, SurvivesBy, HolderBy, ExplainedBy, Account, recoveredBy, stateGiven, finalState}
@@ -48,38 +48,38 @@ parsed = refl
 
 -- ---- the sequential specification
 
--- value 40, quality 0
-abbrev isSet : ReadingZ
-isSet = readingMeant (record { value = half + 40; quality = valid })
+-- point 5 has the value 40; its quality is by the version of set's rule
+abbrev IsSet : Values → Type 0
+IsSet b = b 5 .value ≡ pos 40
 
-entered-set : (b : Values) (v : Version) → entered (planOf simulatorPlan) b (record { version = v; command = setting }) 5 ≡ isSet
+entered-set : (b : Values) (v : Version) → IsSet (entered (planOf simulatorPlan) b (record { version = v; command = setting }))
 unfolding simulatorPlan rows bytesOf flip le32At signedAt planEntryOf planEntryBytes planOf planBytes entryAt signed readingMeant entered answerZ afterZ ruleZ setZ inRangeZ entryZ
 entered-set b v = refl
 
-entered-marked : (b : Values) (m : Marked) → m .command ≡ setting → entered (planOf simulatorPlan) b m 5 ≡ isSet
+entered-marked : (b : Values) (m : Marked) → m .command ≡ setting → IsSet (entered (planOf simulatorPlan) b m)
 entered-marked b m e =
-    subst (λ (k : Command). entered (planOf simulatorPlan) b (record { version = m .version; command = k }) 5 ≡ isSet) (sym e) (entered-set b (m .version))
+    subst (λ (k : Command). IsSet (entered (planOf simulatorPlan) b (record { version = m .version; command = k }))) (sym e) (entered-set b (m .version))
 
 -- every part of an entry is the command
 abbrev Sets : OrderEntry → Type 0
 Sets o = (m : Marked) → List·Memᴰ m (parts o) → m .command ≡ setting
 
-with-set : (b : Values) (o : OrderEntry) → Sets o → valuesWith (planOf simulatorPlan) b o 5 ≡ isSet
+with-set : (b : Values) (o : OrderEntry) → Sets o → IsSet (valuesWith (planOf simulatorPlan) b o)
 unfolding valuesWith parts
 with-set b (single m) h = entered-marked b m (h m (List·Memᴰ·head refl))
 
-stays-set : (os : List OrderEntry) → ((o : OrderEntry) → List·Memᴰ o os → Sets o) → (b : Values) → b 5 ≡ isSet → valuesAfter (planOf simulatorPlan) b os 5 ≡ isSet
+stays-set : (os : List OrderEntry) → ((o : OrderEntry) → List·Memᴰ o os → Sets o) → (b : Values) → IsSet b → IsSet (valuesAfter (planOf simulatorPlan) b os)
 unfolding valuesAfter
 stays-set [] h b e = e
 stays-set (o ∷ os) h b e = stays-set os (λ x i. h x (List·Memᴰ·tail i)) (valuesWith (planOf simulatorPlan) b o) (with-set b o (h o (List·Memᴰ·head refl)))
 
 first-set : (x : OrderEntry) (os : List OrderEntry) → ((o : OrderEntry) → List·Memᴰ o (x ∷ os) → Sets o) → (b : Values)
-    → valuesAfter (planOf simulatorPlan) b (x ∷ os) 5 ≡ isSet
+    → IsSet (valuesAfter (planOf simulatorPlan) b (x ∷ os))
 unfolding valuesAfter
 first-set x os h b = stays-set os (λ o j. h o (List·Memᴰ·tail j)) (valuesWith (planOf simulatorPlan) b x) (with-set b x (h x (List·Memᴰ·head refl)))
 
 pub crash-values : {os : List OrderEntry} {o : OrderEntry} → List·Memᴰ o os → ((x : OrderEntry) → List·Memᴰ x os → Sets x) → (b : Values)
-    → valuesAfter (planOf simulatorPlan) b os 5 ≡ isSet
+    → IsSet (valuesAfter (planOf simulatorPlan) b os)
 crash-values (List·Memᴰ·head {x = x} {xs = xs} e) h b = first-set x xs h b
 crash-values (List·Memᴰ·tail {x = x} {xs = xs} i) h b = first-set x xs h b
 
@@ -92,9 +92,9 @@ at-home : entryAt (planOf simulatorPlan) 5 .home ≡ 0
 unfolding simulatorPlan rows bytesOf flip le32At signedAt planEntryOf planEntryBytes planOf planBytes entryAt
 at-home = refl
 
-quality-lost : readingMeant (readingAt (pointAt (founded (planOf simulatorPlan) 0) 5)) .quality ≡ invalid
-unfolding simulatorPlan rows bytesOf flip le32At signedAt planEntryOf planEntryBytes planOf planBytes readingMeant readingAt pointAt founded foundedPoint
-quality-lost = refl
+value-lost : readingMeant (readingAt (pointAt (founded (planOf simulatorPlan) 0) 5)) .value ≡ pos 0
+unfolding simulatorPlan rows bytesOf flip le32At signedAt planEntryOf planEntryBytes planOf planBytes readingMeant readingAt pointAt founded foundedPoint signed
+value-lost = refl
 
 -- ---- schedules that begin with the set: `rs` and `x` are what is seen of the rest
 
@@ -149,7 +149,7 @@ module _ (es : List Event) (rs : List Seen) (x : Ended) (is : traceFrom simulato
           home = λ z. at-home;
         }
 
-    -- whatever order has just the surviving commands: the value and quality at the holder are not the order's
+    -- whatever order has just the surviving commands: the value at the holder is not the order's
     pub values-broken : (order : List OrderEntry) → ((e : OrderEntry) → SurvivesBy simulatorPlan told e ↔ List·Memᴰ e order)
         → readingMeant (readingAt (pointAt (founded (planOf simulatorPlan) 0) 5)) ≡ valuesAfter (planOf simulatorPlan) (opened (planOf simulatorPlan)) order 5 → ⊥
     unfolding readingMeant parts
@@ -157,8 +157,9 @@ module _ (es : List Event) (rs : List Seen) (x : Ended) (is : traceFrom simulato
         let m : Marked = markedBy today setting in
         let i : List·Memᴰ (single m) order = s (single m) .0 (record { part = m; among = List·Memᴰ·head refl; at = 4; survives = set-survives kept }) in
         let h : (o : OrderEntry) → List·Memᴰ o order → Sets o = λ o j. own o (s o .1 j) in
-        let q = ap (λ (y : ReadingZ). y .quality) (e ∙ crash-values i h (opened (planOf simulatorPlan))) in
-        omega (arith, q, quality-lost)
+        let q : pos 0 ≡ pos 40 = sym value-lost ∙ ap (λ (y : ReadingZ). y .value) e ∙ crash-values i h (opened (planOf simulatorPlan)) in
+        let z : _≡_ {A = ℕ} 0 40 = cc in
+        omega arith
       where
         own : (o : OrderEntry) → SurvivesBy simulatorPlan told o → Sets o
         own (single n) S k (List·Memᴰ·head q) =

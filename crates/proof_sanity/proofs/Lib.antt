@@ -5,3 +5,4 @@ pub mod Traced
 pub mod Computed
 pub mod Forgetting
 pub mod Timed
+pub mod Entered

@@ -297,11 +297,15 @@ once-marked a b e h (List·Memᴰ·head p) (List·Memᴰ·tail j) = absurd (apar
 once-marked a b e h (List·Memᴰ·tail i) (List·Memᴰ·head q) = absurd (apart a b e h i q)
 once-marked a b e (one-more h k) (List·Memᴰ·tail i) (List·Memᴰ·tail j) = once-marked a b e k i j
 
--- in every order that explains the schedule, both steps past the end have the mark of the program that executed them: with another mark it explains nothing
+-- in every order that explains a schedule, a command that survives has the mark of the program that executed it: with another mark it explains nothing
+pub mark-kept : (es : List Event) (order : List OrderEntry) → Explains simulatorPlan es order → (m : Marked) → single m ∈ order
+    → (n : ℕ) (k : Marked) → SurvivesAt es n k → m .command ≡ k .command → m .version ≡ k .version
+unfolding parts
+mark-kept es order E m i n k s e = once-marked m k e (E .once) i (E .survivors (single k) .0 (record { part = k; among = List·Memᴰ·head refl; at = n; survives = s }))
+
+-- so have both steps past the end
 pub marks-kept : (order : List OrderEntry) → Explains simulatorPlan schedule order → (m : Marked) → single m ∈ order
     → (m .command ≡ farCommand 4 → m .version ≡ first) × (m .command ≡ farCommand 5 → m .version ≡ second)
-unfolding parts
-marks-kept order E m i = (kept 47 (markedBy before (farCommand 4)) stayed-survives, kept 52 (markedBy today (farCommand 5)) stopped-survives)
-  where
-    kept : (n : ℕ) (k : Marked) → SurvivesAt schedule n k → m .command ≡ k .command → m .version ≡ k .version
-    kept n k s e = once-marked m k e (E .once) i (E .survivors (single k) .0 (record { part = k; among = List·Memᴰ·head refl; at = n; survives = s }))
+marks-kept order E m i =
+    let kept = mark-kept schedule order E m i in
+    (kept 47 (markedBy before (farCommand 4)) stayed-survives, kept 52 (markedBy today (farCommand 5)) stopped-survives)

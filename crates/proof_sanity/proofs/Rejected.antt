@@ -33,7 +33,7 @@ use Rattle.model.specs.declared.Packet.the-variants.{Malformed, Requested, Resu
 use Rattle.model.specs.Choice.{refuse, reply, append, isPassed, unlessRefused}
 use Rattle.model.specs.Refusals
 use Rattle.model.specs.Numbers.{word}
-use Rattle.model.specs.Limits.{lastServer, clientCount, stateSize, headSize, checkpointSize, resultSize, executedSize, setOp, carriedOut, valid}
+use Rattle.model.specs.Limits.{lastServer, clientCount, stateSize, headSize, checkpointSize, resultSize, executedSize, setOp, carriedOut, byHand}
 use Rattle.model.specs.Tables.{written, keep}
 use Rattle.model.specs.Plan.{planOk, planOf, entryAt, inRange}
 use Rattle.model.specs.Rules.{ruleOf, setRule}
@@ -285,14 +285,14 @@ same-packet : (p p′ : ResultPacket) → Resulted p ≡ Resulted p′ → p ≡
 same-packet p p′ e = cc
 
 set-rule : (st : State) (q : Request) → q .command .op ≡ setOp → inRange (entryAt (st .plan) (q .command .point)) (q .command .argument) ≡ true
-    → executedFor today st q .result ≡ record { outcome = carriedOut; value = q .command .argument; quality = valid; time = st .heard }
+    → executedFor today st q .result ≡ record { outcome = carriedOut; value = q .command .argument; quality = byHand; time = st .heard }
 unfolding executedFor timeFor withTime resultFor ruleOf setRule
 set-rule st q o i = rw (o, i)
 
--- a set of a value in range is answered with outcome 0, that value, quality 0 and the heard time of its execution
+-- a set of a value in range is answered with outcome 0, that value, quality 2 and the heard time of its execution
 pub set-result : {state log out : List ℕ} → Ready state log out → (b : List ℕ) (q : Request) → Asks b q → requestOf today state log b out .answer ≡ answerOf Refusals.noRefusal 0
     → q .command .op ≡ setOp → inRange (entryAt (load state .plan) (q .command .point)) (q .command .argument) ≡ true
-    → Served b q (record { outcome = carriedOut; value = q .command .argument; quality = valid; time = load state .heard }) out (requestOf today state log b out .state)
+    → Served b q (record { outcome = carriedOut; value = q .command .argument; quality = byHand; time = load state .heard }) out (requestOf today state log b out .state)
     (requestOf today state log b out .log)
 set-result {state} {log} {out} R b q A z o i =
     subst (λ (y : CommandResult). Served b q y out (requestOf today state log b out .state) (requestOf today state log b out .log)) (set-rule (load state) q o i) (served-own R b q A z)

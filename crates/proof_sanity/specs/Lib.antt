@@ -3,3 +3,4 @@ pub mod Trace
 pub mod Moved
 pub mod Forgetting
 pub mod Timed
+pub mod Entered

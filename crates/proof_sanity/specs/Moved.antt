@@ -23,7 +23,7 @@ use Rattle.model.specs.declared.Point.{Point}
 use Rattle.model.specs.Choice.{pick}
 use Rattle.model.specs.Versions.{Versions, first, today}
 use Rattle.model.specs.Numbers.{half}
-use Rattle.model.specs.Limits.{stateSize, headSize, checkpointSize, greatestImage, resultSize, receiptSize, refusalSize, noticeKind, setOp, stepOp, carriedOut, outOfRange, stopped, valid}
+use Rattle.model.specs.Limits.{stateSize, headSize, checkpointSize, greatestImage, resultSize, receiptSize, refusalSize, noticeKind, setOp, stepOp, carriedOut, outOfRange, stopped, byHand}
 use Rattle.model.specs.Packets.{requestBytes, resultBytes, receiptBytes, noticeBytes, grantBytes}
 use Rattle.model.specs.Images.{Image, imageBytes}
 use Rattle.model.specs.Tables.{written}
@@ -54,14 +54,14 @@ abbrev pub stepping : Command
 stepping = stepCommand 1
 
 abbrev pub settingResult : CommandResult
-settingResult = record { outcome = carriedOut; value = half + 40; quality = valid; time = 0 }
+settingResult = record { outcome = carriedOut; value = half + 40; quality = byHand; time = 0 }
 
 -- the first is executed before the notice of time 20, the others after it
 abbrev pub stepTime : ℕ → ℕ
 stepTime c = pick (eqb c 1) 0 20
 
 abbrev pub stepResult : ℕ → CommandResult
-stepResult c = record { outcome = carriedOut; value = half + (40 + c); quality = valid; time = stepTime c }
+stepResult c = record { outcome = carriedOut; value = half + (40 + c); quality = byHand; time = stepTime c }
 
 abbrev pub steppingResult : CommandResult
 steppingResult = stepResult 1
@@ -71,10 +71,10 @@ abbrev pub farCommand : ℕ → Command
 farCommand c = record { client = 2; call = c; op = stepOp; point = 5; argument = half + 1000 }
 
 abbrev pub stayedResult : CommandResult
-stayedResult = record { outcome = outOfRange; value = half + 43; quality = valid; time = 0 }
+stayedResult = record { outcome = outOfRange; value = half + 43; quality = byHand; time = 0 }
 
 abbrev pub stoppedResult : CommandResult
-stoppedResult = record { outcome = stopped; value = half + 1000; quality = valid; time = 20 }
+stoppedResult = record { outcome = stopped; value = half + 1000; quality = byHand; time = 20 }
 
 -- a program from before the second versions, and before times of execution
 abbrev pub before : Versions
@@ -116,7 +116,7 @@ movedImage =
       moveNumber = 1;
       heard = 0;
       value = half + 41;
-      quality = valid;
+      quality = byHand;
       floors = record { client = 1; floor = 1 } ∷ record { client = 2; floor = 1 } ∷ [];
       entries =
           record { client = 1; call = 1; op = setOp; argument = half + 40; result = settingResult }
@@ -348,10 +348,10 @@ rowsSeen =
 -- server 0 has released the point, server 1 holds it, taken before its checkpoint; both with move number 1
 abbrev pub giverPoint : Point
 giverPoint =
-    record { status = releasedStatus; quality = valid; destination = 1; value = half + 41; moveNumber = 1; takenMove = 0; giveEnd = 80; takeEnd = 0 }
+    record { status = releasedStatus; quality = byHand; destination = 1; value = half + 41; moveNumber = 1; takenMove = 0; giveEnd = 80; takeEnd = 0 }
 
 abbrev pub takerPoint : Point
-takerPoint = record { status = held; quality = valid; destination = 0; value = half + 1000; moveNumber = 1; takenMove = 1; giveEnd = 0; takeEnd = headSize }
+takerPoint = record { status = held; quality = byHand; destination = 0; value = half + 1000; moveNumber = 1; takenMove = 1; giveEnd = 0; takeEnd = headSize }
 
 unfoldable pub traceSeen : Trace
 traceSeen =

@@ -13,7 +13,7 @@ use Rattle.model.specs.declared.Notice.{Notice}
 use Rattle.model.specs.declared.Request.{Request}
 use Rattle.model.specs.declared.Point.{Point}
 use Rattle.model.specs.Numbers.{half}
-use Rattle.model.specs.Limits.{resultSize, noticeKind, readOp, stepOp, valid}
+use Rattle.model.specs.Limits.{resultSize, noticeKind, readOp, stepOp, byHand}
 use Rattle.model.specs.Packets.{requestBytes, resultBytes, noticeBytes, grantBytes}
 use Rattle.model.specs.Images.{Image, imageBytes}
 use Rattle.model.specs.States.{load, held, given}
@@ -45,7 +45,7 @@ timedImage =
       moveNumber = 1;
       heard = 20;
       value = half + 42;
-      quality = valid;
+      quality = byHand;
       floors = record { client = 2; floor = 1 } ∷ [];
       entries =
           record { client = 2; call = 1; op = stepOp; argument = half + 1; result = stepResult 1 }
@@ -144,10 +144,10 @@ timedRows =
 
 -- server 0 has given the point, server 1 holds it, and has heard of a later time than the steps noted
 abbrev pub timedGiven : Point
-timedGiven = record { status = given; quality = valid; destination = 1; value = half + 42; moveNumber = 1; takenMove = 0; giveEnd = 120; takeEnd = 0 }
+timedGiven = record { status = given; quality = byHand; destination = 1; value = half + 42; moveNumber = 1; takenMove = 0; giveEnd = 120; takeEnd = 0 }
 
 abbrev pub timedHeld : Point
-timedHeld = record { status = held; quality = valid; destination = 0; value = half + 42; moveNumber = 1; takenMove = 1; giveEnd = 0; takeEnd = 120 }
+timedHeld = record { status = held; quality = byHand; destination = 0; value = half + 42; moveNumber = 1; takenMove = 1; giveEnd = 0; takeEnd = 120 }
 
 unfoldable pub timedSeen : Trace
 timedSeen = record { rows = timedRows; end = record { first = up nothingStored timedGiven 20; second = up nothingStored timedHeld 40 } }

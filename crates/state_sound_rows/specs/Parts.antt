@@ -1,17 +1,17 @@
 -- Parts of the rule of soundness that have a function of their own.
 -- Assumes nothing.
-use Prim.Native.Nat.{ℕ, suc, _+_, _*_}
-use mathlib.Core.Bool.{Bool, _&&_, _||_, not}
+use Prim.Native.Nat.{ℕ, suc, _*_}
+use mathlib.Core.Bool.{Bool, _&&_, not}
 use mathlib.Core.List.{List}
-use lib.Dec.{eqb, leb}
+use lib.Dec.{eqb, leb, ltb}
 use Rattle.model.specs.declared.PlanEntry.{PlanEntry}
 use Rattle.model.specs.declared.Point.{Point}
 use Rattle.model.specs.Choice.{pick}
-use Rattle.model.specs.Numbers.{le32At, zeros3At, startsWith}
+use Rattle.model.specs.Numbers.{byteAt, le32At, zeros3At, startsWith}
 use Rattle.model.specs.Tables.{rows, everyRow}
 use Rattle.model.specs.Plan.{planEntryOf, planRowOk, inRange}
 use Rattle.model.specs.States.{clientsIn, recordsIn, stateMagic, absent, held, releasedStatus, pointRow, pointOf, endsInOrder, notGiven, absentOk, pointOk, pointsOk, pointRowOk}
-use Rattle.model.specs.Limits.{clientCount, recordCount, headSize, valid, invalid, lastQuality, lastServer, planRow, pointCount}
+use Rattle.model.specs.Limits.{clientCount, recordCount, headSize, lastQuality, lastServer, planRow, pointCount}
 
 -- the magic, the zero bytes and the counts of the head
 unfoldable pub headFramed : List ℕ → Bool
@@ -44,20 +44,21 @@ statusAndEnds server size e x =
 unfoldable pub fieldsIn : PlanEntry → Point → Bool
 fieldsIn e x = leb (x .status) releasedStatus && (leb (x .quality) lastQuality && (leb (x .destination) lastServer && inRange e (x .value)))
 
--- the first four bytes of a held point, by its quality
-abbrev pub heldValid : ℕ
-heldValid = held + 256 * valid
-
-abbrev pub heldInvalid : ℕ
-heldInvalid = held + 256 * invalid
+-- the first four bytes of a held point are a number below this: behind the status comes a quality, destination and zero byte are 0
+abbrev pub heldHeads : ℕ
+heldHeads = 256 * suc lastQuality
 
 -- a row begins as that of a held point
 unfoldable pub heldHead : List ℕ → Bool
-heldHead q = eqb (le32At q 0) heldValid || eqb (le32At q 0) heldInvalid
+heldHead q = ltb (le32At q 0) heldHeads && eqb (byteAt q 0) held
+
+-- the latest move of a held point whose destination is 0
+unfoldable pub stillHeld : Point → Bool
+stillHeld x = eqb (x .moveNumber) (x .takenMove) && eqb (x .giveEnd) 0
 
 -- what is left to test of a point that begins so
 unfoldable pub heldRest : ℕ → ℕ → PlanEntry → Point → Bool
-heldRest server size e x = (inRange e (x .value) && heldMove x) && origin server size e x
+heldRest server size e x = (inRange e (x .value) && stillHeld x) && origin server size e x
 
 -- ---- the rows of plan and points
 

@@ -17,7 +17,7 @@ ghost use Rattle.model.specs.Tables.{rows, every, zeros};
 ghost use Rattle.model.specs.Images.{floorOfBytes, floorOk, clientsAscend};
 ghost use Rattle.model.specs.States.{held, pointRow, endsInOrder, notGiven, absentOk, pointOk, keepsRecords, pointRowOk, stateFramed, stateEnd, stateHead};
 ghost use Rattle.model.specs.Limits.{floorRow, planRow, pointCount, planSize};
-ghost use Rattle.state_sound_rows.specs.Parts.{headFramed, isEnd, heldMove, givenMove, origin, statusAndEnds, fieldsIn, heldHead, heldRest, rowOk, rowsOk};
+ghost use Rattle.state_sound_rows.specs.Parts.{headFramed, isEnd, heldMove, givenMove, origin, statusAndEnds, fieldsIn, heldHead, stillHeld, heldRest, rowOk, rowsOk};
 
 // ---- zeros
 
@@ -192,18 +192,25 @@ fn point_row_ok(s: &[u8], k: usize) -> bool
     format_numbers::zero_at(s, k + constants::POINT_ZERO)
 }
 
-// The first four bytes of a held point, by its quality.
-const HELD_VALID: u32 = constants::HELD as u32 + 256 * constants::VALID as u32;
+// The first four bytes of a held point are a number below this: behind the status comes a quality, destination and
+// zero byte are 0.
+const HELD_HEADS: u32 = 256 * (constants::LAST_QUALITY as u32 + 1);
 
-const HELD_INVALID: u32 = constants::HELD as u32 + 256 * constants::INVALID as u32;
-
-// The point from k begins as a held one: status, quality, destination and zero byte are told by one word.
+// The point from k begins as a held one: quality, destination and zero byte are told by one word.
 fn held_head(s: &[u8], k: usize) -> bool
     requires { ⌜ k + pointRow ≤ length (now s) ⌝ }
     ensures { λ r. ⌜ r ≡ heldHead (drop k (now (s .entry))) ⌝ }
 {
     let head = format_numbers::read_u32(s, k);
-    (head == HELD_VALID) | (head == HELD_INVALID)
+    let status = s[k];
+    (head < HELD_HEADS) & (status == constants::HELD)
+}
+
+// Held: neither moved since its take, nor given.
+fn still_held(x: Point) -> bool
+    ensures { λ r. ⌜ r ≡ stillHeld x ⌝ }
+{
+    (x.moveNumber == x.takenMove) & (x.giveEnd == 0)
 }
 
 // What is left to test of a point that begins so.
@@ -211,7 +218,7 @@ fn held_rest(server: u8, size: u64, e: PlanEntry, x: Point) -> bool
     ensures { λ r. ⌜ r ≡ heldRest server size e x ⌝ }
 {
     let value = format_numbers::in_range(e, x.value);
-    let held = held_ok(x);
+    let held = still_held(x);
     if !(value & held) {
         return false;
     }

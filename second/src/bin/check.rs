@@ -2,7 +2,7 @@
 //! Arguments: number of schedules (10,000), seed, and 1 for servers that are
 //! renewed in the schedule, 2 for a lock and its gates, 3 for checkpoints, each
 //! server beside a shadow without them, or 4 for times, with checkpoints and with the
-//! last renewal of each server, beside shadows too.
+//! last two renewals of each server, beside shadows too.
 
 use second::schedule::{
     generate, generate_checkpoints, generate_lock, generate_renewed, generate_timed, Renewed,
@@ -78,8 +78,12 @@ fn check_one(schedule: Renewed, seed: u64, shadow: bool) -> Option<Counts> {
 fn check_lock(seed: u64) -> Option<Counts> {
     let schedule = generate_lock(seed);
     let found = run_lock(&schedule, Options::default());
-    if found.demand3.is_err() || found.both_away() {
-        println!("schedule {seed}: {:?}, {:?}", found.demand3, found.orders);
+    if found.demand3.is_err() || found.both_away() || found.wrong_opening.is_some() {
+        let (orders, opening) = (found.orders, found.wrong_opening);
+        println!(
+            "schedule {seed}: {:?}, {orders:?}, {opening:?}",
+            found.demand3
+        );
         let options = Options {
             trace: true,
             ..Options::default()

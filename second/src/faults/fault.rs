@@ -28,12 +28,20 @@ pub enum Fault {
     StepLosesQuality,
     /// A part to the nearest rounds every exact half up.
     PartHalfUp,
+    /// A step on a value by hand makes it valid.
+    StepLosesByHand,
+    /// A report in range counts as by hand.
+    ReportByHand,
     /// A take does not raise the heard time; recovery does.
     TakeWithoutHeard,
     /// An opening does not need a read of the other gate.
     OtherGateNotRead,
     /// An opening needs that read, whatever its value.
     OtherGateValueNotTested,
+    /// An opening needs the other gate as measured; by hand is not enough.
+    GateByHandRefused,
+    /// An opening's levels may be by hand.
+    LevelByHandTaken,
     /// An opening's reads may be older than the last set or part.
     ReadsOfAnyAge,
     /// They may be older than one of the other gate.

@@ -1,5 +1,5 @@
-//! The faults of request 2: around a controller's issue, around what a
-//! successor's start looks at, and around the office's renew.
+//! The faults of requests 2 and 7 at a lock: around a controller's issue, around what
+//! a successor's start looks at, and around the office's renew.
 
 use super::Fault;
 use crate::answer::Refusal;
@@ -8,7 +8,7 @@ use crate::client::Made;
 use crate::leases::{Lease, LeaseManager};
 use crate::lock::Proviso;
 use crate::packet::{GRANT_LEN, WINDOW};
-use crate::rule::{Op, VALID};
+use crate::rule::{Op, BY_HAND, INVALID, VALID};
 use std::ops::{Deref, DerefMut};
 
 /// A controller, or one with a fault around its issue; the other calls are its own.
@@ -72,6 +72,14 @@ impl FaultyChamber {
                     read.value = 0;
                 }
             }
+            (Some(Fault::GateByHandRefused), Some(gate)) => {
+                read_by_hand_as(INVALID, &mut view.reads[other_gate(gate)]);
+            }
+            (Some(Fault::LevelByHandTaken), Some(gate)) => {
+                for level in levels_beside(gate) {
+                    read_by_hand_as(VALID, &mut view.reads[level]);
+                }
+            }
             (Some(Fault::ReadsOfAnyAge), _) => view.moved = 0,
             (Some(Fault::SinceOwnGateOnly), Some(gate)) => view.moved = self.gate_moved[gate],
             (Some(Fault::PartNoOpening), Some(gate)) if op == Op::Part as u32 => {
@@ -102,6 +110,13 @@ fn all_read(view: &mut Chamber, gate: usize) {
     view.reads[other_gate(gate)] = closed_at(1);
     for level in levels_beside(gate) {
         view.reads[level] = closed_at(2);
+    }
+}
+
+/// A value by hand counts as one of another quality.
+fn read_by_hand_as(quality: u8, read: &mut Option<LatestRead>) {
+    if let Some(read) = read.as_mut().filter(|r| r.quality == BY_HAND) {
+        read.quality = quality;
     }
 }
 

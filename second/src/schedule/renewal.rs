@@ -45,6 +45,14 @@ impl Renewed {
         self
     }
 
+    /// The same steps, with no server past so many renewals by the end.
+    pub fn up_to(mut self, renewals: usize) -> Renewed {
+        let never = self.schedule.steps.len();
+        let places = self.places.iter_mut();
+        places.for_each(|places| places[renewals..].fill(never));
+        self
+    }
+
     /// All servers renewed at random places.
     pub(super) fn renew_all(&mut self, random: &mut Random) {
         for _ in 0..self.schedule.cabinets {
@@ -117,13 +125,14 @@ fn tell_programs_apart(steps: &mut [Step], random: &mut Random) {
 }
 
 /// A part near an end, one at an exact half in a range of the plans, any part,
-/// or a step that often goes past an end.
+/// a set, or a step that often goes past an end.
 fn by_version(random: &mut Random) -> (u8, i32) {
     let part = |argument| (Op::Part as u8, argument);
     match random.below(20) {
         0..=2 => part(*random.pick(&[0, 10, 990, 1000])),
         3..=6 => part(*random.pick(&[5, 15, 25, 50, 75, 150, 985, 995])),
-        7..=10 => part(random.between(0, 1000)),
+        7..=9 => part(random.between(0, 1000)),
+        10..=12 => (Op::Set as u8, random.between(-5, 60)),
         _ => {
             let arguments = [-1, 1, -30, 30, -2000, 2000, 0, i32::MIN, i32::MAX];
             (Op::Step as u8, *random.pick(&arguments))

@@ -8,8 +8,8 @@ use crate::rule::Op;
 /// Most leases of the schedule are as much longer.
 const LONG: u32 = 500;
 
-/// The schedule of the seed, with checkpoints, with clients that go, and with the last
-/// renewal of each server: programs before the third made no checkpoints.
+/// The schedule of the seed, with checkpoints, with clients that go, and with the last two
+/// renewals of each server: programs before the third made no checkpoints.
 pub fn generate_timed(seed: u64) -> Renewed {
     let mut schedule = generate_checkpoints(seed);
     let mut random = Random::new(seed.rotate_left(16));
@@ -22,12 +22,14 @@ pub fn generate_timed(seed: u64) -> Renewed {
     renewed(&schedule, &mut random)
 }
 
-/// Each server runs the third program up to one of three random places, then today's.
+/// Each server runs the third program up to one of four random places, the fourth up to
+/// another, then today's.
 fn renewed(schedule: &Schedule, random: &mut Random) -> Renewed {
     let mut renewed = Renewed::today(schedule);
     renewed.renew_all(random);
     for places in &mut renewed.places {
-        *places = [0, 0, *random.pick(places)];
+        let (early, late) = places.split_at(2);
+        *places = [0, 0, *random.pick(early), *random.pick(late)];
     }
     renewed
 }

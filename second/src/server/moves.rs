@@ -10,6 +10,7 @@ use crate::program::{Form, Program};
 use crate::record::{
     write_give, write_release, write_take_head, Give, Release, GIVE_LEN, RELEASE_LEN, TAKE_HEAD_LEN,
 };
+use crate::rule::Rules;
 
 impl Server {
     // Give.
@@ -143,8 +144,8 @@ impl Server {
         self.take_by(Program::TODAY, state_len, log, image)
     }
 
-    /// Take as the given program answers it: an outcome that it does not know is
-    /// outside its range, and an image of a later form is none.
+    /// Take as the given program answers it: an outcome or a quality that it does not
+    /// know is outside its range, and an image of a later form is none.
     pub fn take_by(
         &mut self,
         program: Program,
@@ -163,10 +164,8 @@ impl Server {
         bytes: &[u8],
     ) -> Result<(), Refusal> {
         self.test_state(state_len, log)?;
-        let known = program.rules.outcome_max();
         let image = parse_image(bytes, &self.plan)
-            .filter(|image| program.reads(image.form))
-            .filter(|image| image.records().all(|r| r.outcome <= known))
+            .filter(|image| program.reads(image.form) && known(program.rules, image))
             .ok_or(Refusal::Malformed)?;
         self.test_take(&image)?;
         self.test_space(log, TAKE_HEAD_LEN + bytes.len())?;
@@ -270,6 +269,13 @@ impl Server {
             _ => Err(Refusal::NotHeld),
         }
     }
+}
+
+/// Whether these rules know every outcome and quality of the image.
+fn known(rules: Rules, image: &Image) -> bool {
+    let (outcome, quality) = (rules.outcome_max(), rules.quality_max());
+    let mut records = image.records();
+    image.head.quality <= quality && records.all(|r| r.outcome <= outcome && r.quality <= quality)
 }
 
 fn point_number(point: u32) -> Result<u8, Refusal> {

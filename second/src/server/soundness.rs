@@ -5,7 +5,7 @@ use crate::image::CLIENTS_MAX;
 use crate::packet::{cabinet_ok, WINDOW};
 use crate::plan::{Entry, POINTS};
 use crate::record::HEAD_LEN;
-use crate::rule::{INVALID, OUTCOME_MAX};
+use crate::rule::{INVALID, OUTCOME_MAX, QUALITY_MAX};
 
 impl Server {
     /// Every field in range and every limit kept.
@@ -23,7 +23,9 @@ impl Server {
     fn points_sound(&self) -> bool {
         let entries = self.plan.entries.iter();
         self.points.iter().zip(entries).all(|(point, entry)| {
-            entry.contains(point.value) && point.quality <= 1 && self.hold_sound(point, entry)
+            entry.contains(point.value)
+                && point.quality <= QUALITY_MAX
+                && self.hold_sound(point, entry)
         })
     }
 
@@ -92,7 +94,7 @@ impl Server {
         usize::from(r.point) < POINTS
             && r.op.accepts(r.argument)
             && r.outcome <= OUTCOME_MAX
-            && r.quality <= 1
+            && r.quality <= QUALITY_MAX
             && r.end <= self.length
             && self.plan.entry(r.point).contains(r.value)
             && matches!(self.point(r.point).hold, Hold::Held | Hold::Given { .. })

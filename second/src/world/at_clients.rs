@@ -58,6 +58,7 @@ impl World<'_> {
         let answer = desk.issue(u32::from(op), u32::from(point), argument);
         assert!(answer.is_ok() || *desk == before, "a refusal leaves a desk");
         self.tally(&answer);
+        self.compare_opening(index, (op, point, argument), answer.err());
         let made = answer.map(|packet| {
             self.count_issue(index, op, argument);
             self.commands.push(Command {

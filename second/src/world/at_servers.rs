@@ -5,9 +5,9 @@ use crate::answer::Answer;
 use crate::bytes::get_u32;
 use crate::image::{image_max, IMAGE_MAGIC, IMAGE_MAGIC_UNTIMED};
 use crate::packet::{result_len, NOTICE, RECEIPT, RECEIPT_LEN, REQUEST};
-use crate::program::Program;
+use crate::program::{Form, Program};
 use crate::record::{executed_len, parse_executed, Executed};
-use crate::rule::{apply_by, Op, PartRule, Rules, STOPPED};
+use crate::rule::{apply_by, Op, PartRule, Rules, BY_HAND, STOPPED};
 use crate::schedule::{Flaw, Mark, Party, Which};
 
 impl World<'_> {
@@ -85,16 +85,21 @@ impl World<'_> {
         let rounded_differently = self.rounded_differently(&record);
         let counts = &mut self.counts;
         counts.executed += 1;
-        counts.executed_old += u64::from(program == Program::FIRST);
-        counts.executed_between += u64::from(program == Program::SECOND);
-        counts.executed_untimed += u64::from(program == Program::THIRD);
+        for (executed, by) in counts.executed_by.iter_mut().zip(Program::ALL) {
+            *executed += u64::from(by == program);
+        }
         match (record.op, record.outcome) {
             (Op::Step, 1) => counts.steps_refused += 1,
             (Op::Step, STOPPED) => counts.steps_stopped += 1,
             (Op::Part, _) if rounded_differently => match program.rules.part {
                 PartRule::Down => counts.parts_down += 1,
-                PartRule::Nearest => counts.parts_up += 1,
+                _ => counts.parts_up += 1,
             },
+            _ => {}
+        }
+        match (record.op, record.outcome) {
+            (Op::Set | Op::Part, 0) if record.quality == BY_HAND => counts.by_hand += 1,
+            (Op::Step, _) if record.quality == BY_HAND => counts.steps_by_hand += 1,
             _ => {}
         }
     }
@@ -107,11 +112,11 @@ impl World<'_> {
         parse_executed(&c.log[from..end]).expect("an executed record")
     }
 
-    /// Whether the two versions of part's rule differ for the record's argument.
+    /// Whether the ways to round a part differ for the record's argument.
     fn rounded_differently(&self, record: &Executed) -> bool {
         let entry = self.schedule.plan.entry(record.point);
         let part = |rules| apply_by(rules, Op::Part, record.argument, entry, 0, 0);
-        record.op == Op::Part && part(Rules::BETWEEN) != part(Rules::TODAY)
+        record.op == Op::Part && part(Rules::BETWEEN) != part(Rules::NEAREST)
     }
 
     /// Keeps the packet written, if any; answers its number or 0.
@@ -244,7 +249,10 @@ impl World<'_> {
                 let gate = self.lock.is_some_and(|l| l.is_gate(image[4]));
                 self.counts.gate_takes += u64::from(gate);
                 self.counts.takes_across += u64::from(self.program(source) != program);
-                self.counts.takes_untimed += u64::from(untimed && program == Program::TODAY);
+                let timed = program.form == Form::Timed;
+                self.counts.takes_untimed += u64::from(untimed && timed);
+                let taken = self.point_at(usize::from(image[5]), image[4]);
+                self.counts.takes_by_hand += u64::from(taken.quality == BY_HAND);
             }
             1 if untimed || image.starts_with(&IMAGE_MAGIC) => self.counts.images_too_new += 1,
             _ => {}

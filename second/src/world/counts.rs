@@ -1,19 +1,22 @@
 //! What happened in a schedule or in many.
 
+use crate::program::Program;
+
 #[derive(Clone, Copy, PartialEq, Eq, Debug, Default)]
 pub struct Counts {
     pub steps: u64,
     pub executed: u64,
-    /// Executions by the programs before today's.
-    pub executed_old: u64,
-    pub executed_between: u64,
-    pub executed_untimed: u64,
+    /// Executions by each program, in the order of time.
+    pub executed_by: [u64; Program::ALL.len()],
     /// Steps past an end, by the old rule and by today's.
     pub steps_refused: u64,
     pub steps_stopped: u64,
-    /// Parts that the two rules round differently, by the old one and by today's.
+    /// Parts that the rules round differently, by the old one and by those since.
     pub parts_down: u64,
     pub parts_up: u64,
+    /// Sets and parts that gave a value by hand, and steps that left one by hand.
+    pub by_hand: u64,
+    pub steps_by_hand: u64,
     pub lost: u64,
     pub completed: u64,
     pub repeats: u64,
@@ -29,12 +32,15 @@ pub struct Counts {
     pub takes: u64,
     /// Takes from a server that runs another program at the time.
     pub takes_across: u64,
-    /// Images without times taken by today's program.
+    /// Images without times taken by programs with them.
     pub takes_untimed: u64,
-    /// Images refused for an outcome or a form that the taker's program does not know.
+    /// Images of points by hand taken.
+    pub takes_by_hand: u64,
+    /// Images refused for an outcome, a quality or a form that the taker's program does not
+    /// know.
     pub images_too_new: u64,
     /// Results in the form without time, results with a time above 0, and results in today's
-    /// form of commands that earlier programs executed.
+    /// form of commands that programs without times executed.
     pub results_untimed: u64,
     pub results_timed: u64,
     pub results_from_untimed: u64,
@@ -69,7 +75,7 @@ pub struct Storing {
     pub crashed_stored: u64,
     /// Surviving executions whose records checkpoints replaced.
     pub replaced: u64,
-    /// Recoveries by today's program from a checkpoint without times.
+    /// Recoveries by programs with times from a checkpoint without them.
     pub from_untimed: u64,
     /// Completion records shown as executed record, image entry and checkpoint entry.
     pub inspected: [u64; 3],
@@ -85,9 +91,7 @@ impl Storing {
         self.crashed_stored += other.crashed_stored;
         self.replaced += other.replaced;
         self.from_untimed += other.from_untimed;
-        for (sum, n) in self.inspected.iter_mut().zip(other.inspected) {
-            *sum += n;
-        }
+        add_each(&mut self.inspected, &other.inspected);
     }
 }
 
@@ -95,13 +99,13 @@ impl Counts {
     pub fn add(&mut self, other: &Counts) {
         self.steps += other.steps;
         self.executed += other.executed;
-        self.executed_old += other.executed_old;
-        self.executed_between += other.executed_between;
-        self.executed_untimed += other.executed_untimed;
+        add_each(&mut self.executed_by, &other.executed_by);
         self.steps_refused += other.steps_refused;
         self.steps_stopped += other.steps_stopped;
         self.parts_down += other.parts_down;
         self.parts_up += other.parts_up;
+        self.by_hand += other.by_hand;
+        self.steps_by_hand += other.steps_by_hand;
         self.lost += other.lost;
         self.completed += other.completed;
         self.repeats += other.repeats;
@@ -113,6 +117,7 @@ impl Counts {
         self.takes += other.takes;
         self.takes_across += other.takes_across;
         self.takes_untimed += other.takes_untimed;
+        self.takes_by_hand += other.takes_by_hand;
         self.images_too_new += other.images_too_new;
         self.results_untimed += other.results_untimed;
         self.results_timed += other.results_timed;
@@ -128,8 +133,12 @@ impl Counts {
         self.late_refused += other.late_refused;
         self.gate_takes += other.gate_takes;
         self.storing.add(&other.storing);
-        for (sum, n) in self.refusals.iter_mut().zip(other.refusals) {
-            *sum += n;
-        }
+        add_each(&mut self.refusals, &other.refusals);
+    }
+}
+
+fn add_each(sums: &mut [u64], numbers: &[u64]) {
+    for (sum, n) in sums.iter_mut().zip(numbers) {
+        *sum += n;
     }
 }

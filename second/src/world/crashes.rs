@@ -3,7 +3,7 @@
 use super::{Phase, World};
 use crate::checkpoint::CHECKPOINT_MAGIC_UNTIMED;
 use crate::faults::Fault;
-use crate::program::Program;
+use crate::program::Form;
 use crate::schedule::{Flaw, Keep, Party};
 use crate::server::Server;
 
@@ -120,7 +120,7 @@ impl World<'_> {
             self.cabinets[cabinet].phase = Phase::Running;
             self.last = cabinet;
             let untimed = checkpoint.is_some_and(|c| c.starts_with(&CHECKPOINT_MAGIC_UNTIMED));
-            let from_untimed = untimed && program == Program::TODAY;
+            let from_untimed = untimed && program.form == Form::Timed;
             self.counts.storing.from_untimed += u64::from(from_untimed);
         }
         self.note(|| {

@@ -14,7 +14,7 @@ use crate::faults::{seen, Fault, FaultyChamber};
 use crate::lock::{check_order, check_orders, GateSeats, Gates, Proviso, Seat, Survivor};
 use crate::packet::{parse_notice, parse_request, GRANT, NOTICE, REQUEST};
 use crate::plan::POINTS;
-use crate::rule::{Op, VALID};
+use crate::rule::Op;
 use crate::schedule::{Flaw, LockSchedule, Manner, Party, Which};
 use crate::sequential::SequentialSpec;
 use crate::server::{Hold, Server};
@@ -26,6 +26,8 @@ pub struct LockRun {
     /// real time and each point's sequence.
     pub order: Gates,
     pub orders: Gates,
+    /// Place of the first opening whose answer is not as its conditions ask.
+    pub wrong_opening: Option<u32>,
     pub counts: Counts,
     pub trace: Vec<String>,
 }
@@ -56,6 +58,7 @@ pub fn run_lock(lock: &LockSchedule, options: Options) -> LockRun {
         demand3: world.check().and_then(|()| world.check_sequence()),
         order,
         orders,
+        wrong_opening: world.wrong_opening,
         counts: world.counts,
         trace: world.trace,
     }
@@ -286,8 +289,7 @@ fn next_toward(
     let since = match (manner, chamber.reads[other]) {
         (Manner::OtherUnread, _) => chamber.moved,
         (_, Some(r)) if r.call > chamber.moved => {
-            let closed = (r.value, r.quality) == (0, VALID);
-            if !closed && manner != Manner::OtherNotClosed {
+            if !r.is_closed() && manner != Manner::OtherNotClosed {
                 return (other, close);
             }
             r.call
@@ -299,8 +301,8 @@ fn next_toward(
     match (level(one), level(two)) {
         (None, _) => (one, read),
         (_, None) => (two, read),
-        (Some(a), _) if a.quality != VALID => (one, read),
-        (_, Some(b)) if b.quality != VALID => (two, read),
+        (Some(a), _) if !a.is_valid_level() => (one, read),
+        (_, Some(b)) if !b.is_valid_level() => (two, read),
         (Some(a), Some(b)) if a.value.abs_diff(b.value) > LEVELS_APART => (one, read),
         _ => (gate, opening),
     }

@@ -55,13 +55,11 @@ pub fn effect(outcome: u8, value: i32, quality: u8) -> Effect {
     }
 }
 
-/// By its number in the paper.
-/// Two programs between which the rule of one op changed execute every other op alike.
-pub fn assert_differ_only_in(changed: Op, one: Rules, other: Rules) {
-    let ops = (0..=Op::Part as u8).filter_map(Op::from_byte);
-    for op in ops.filter(|&op| op != changed) {
+/// Two programs between which the rules of these ops changed execute every other op alike.
+pub fn assert_differ_only_in(changed: &[Op], one: Rules, other: Rules) {
+    for op in ops().filter(|op| !changed.contains(op)) {
         for argument in (-1200..=1200).filter(|&a| op.accepts(a)) {
-            for quality in [0, 1] {
+            for quality in 0..=2 {
                 let by = |rules| apply_by(rules, op, argument, &RANGE, 40, quality);
                 assert_eq!(by(one), by(other));
                 assert_eq!(apply(op, argument, &RANGE, 40, quality), by(Rules::TODAY));
@@ -70,6 +68,11 @@ pub fn assert_differ_only_in(changed: Op, one: Rules, other: Rules) {
     }
 }
 
+pub fn ops() -> impl Iterator<Item = Op> {
+    (0..=Op::Part as u8).filter_map(Op::from_byte)
+}
+
+/// By its number in the paper.
 pub fn refusal(number: u32) -> Refusal {
     Refusal::ALL[number as usize - 1]
 }
@@ -97,7 +100,7 @@ impl Rig {
     /// A cabinet whose state is not sound.
     pub fn unsound() -> Rig {
         let mut rig = Rig::new(0, 500);
-        rig.server.points[3].quality = 2;
+        rig.server.points[3].quality = 3;
         rig
     }
 
@@ -195,18 +198,25 @@ impl Rig {
     }
 
     /// The point and its records of one client, given to cabinet 1 in each program's form
-    /// and taken there by that program; the taker is as `check` says, and recovers from its
-    /// log.
+    /// and taken there by that program, or refused if the qualities are later than it; the
+    /// taker is as `check` says, and recovers from its log.
     pub fn move_to_each_program(&mut self, point: u32, records: usize, check: impl Fn(&mut Rig)) {
         self.give(0, point, 1);
         self.sync_all();
+        let greatest = self.server.records.iter().map(|r| r.quality).max();
         for program in Program::ALL {
             let written = 48 + 8 + moved_len(program.form) * records;
             let image = self.expect(0, written, |s, log, out| {
                 s.image_as(program.form, STATE_LEN, log, point, out)
             });
             let mut taker = Rig::new(1, 2000);
-            taker.expect(0, 0, |s, log, _| s.take_by(program, STATE_LEN, log, &image));
+            let unknown = greatest > Some(program.rules.quality_max());
+            taker.expect(u32::from(unknown), 0, |s, log, _| {
+                s.take_by(program, STATE_LEN, log, &image)
+            });
+            if unknown {
+                continue;
+            }
             taker.sync_all();
             check(&mut taker);
             let mut recovered = Server::new();

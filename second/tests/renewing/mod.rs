@@ -5,8 +5,9 @@
 use crate::common::plan;
 use second::checker::{check, check_marked, Violation};
 use second::faults::Fault;
+use second::program::Program;
 use second::rule::Rules;
-use second::schedule::{Call, Flaw, Keep, Mark, Party, Renewed, Schedule, Step, Which};
+use second::schedule::{Call, Flaw, Keep, Mark, Party, Places, Renewed, Schedule, Step, Which};
 use second::world::{run_renewed, Options, World};
 
 /// Schedules in which a fault is found at the latest.
@@ -90,27 +91,45 @@ pub fn schedule(calls: &Calls) -> Schedule {
 
 /// Server 0 is renewed after each list of calls but the last; server 1 runs today's
 /// program.
-pub fn renewed_after(lists: [&Calls; 4]) -> Renewed {
-    let [first, second, third, _] = lists.map(|calls| calls.iter().map(Vec::len).sum::<usize>());
+pub fn renewed_after(lists: [&Calls; Program::ALL.len()]) -> Renewed {
+    let mut places = vec![Places::default(); 2];
+    let mut steps = 0;
+    for (place, calls) in places[0].iter_mut().zip(lists) {
+        steps += calls.iter().map(Vec::len).sum::<usize>();
+        *place = steps;
+    }
     Renewed {
         schedule: schedule(&lists.concat()),
-        places: vec![[first, first + second, first + second + third], [0; 3]],
+        places,
     }
+}
+
+/// Server 0 is renewed between the calls, from the program past so many renewals to today's.
+fn renewed_once(past: usize, before: &Calls, after: &Calls) -> Renewed {
+    let mut lists: [&Calls; Program::ALL.len()] = [&[]; Program::ALL.len()];
+    lists[past] = before;
+    lists[Program::ALL.len() - 1] = after;
+    renewed_after(lists)
 }
 
 /// Server 0 is renewed between the calls, from the first program to today's.
 pub fn renewed_between(before: &Calls, after: &Calls) -> Renewed {
-    renewed_after([before, &[], &[], after])
+    renewed_once(0, before, after)
 }
 
 /// The same from the second program to today's.
 pub fn renewed_from_second(before: &Calls, after: &Calls) -> Renewed {
-    renewed_after([&[], before, &[], after])
+    renewed_once(1, before, after)
 }
 
 /// The same from the third program to today's.
 pub fn renewed_from_third(before: &Calls, after: &Calls) -> Renewed {
-    renewed_after([&[], &[], before, after])
+    renewed_once(2, before, after)
+}
+
+/// The same from the fourth program to today's.
+pub fn renewed_from_fourth(before: &Calls, after: &Calls) -> Renewed {
+    renewed_once(3, before, after)
 }
 
 /// The same schedule with server 1 past so many renewals alone, from the start on.
@@ -149,6 +168,14 @@ pub fn results(world: &World) -> Vec<Option<(u8, i32)>> {
     let effects = world.commands().into_iter().map(|c| c.completed);
     effects
         .map(|e| e.map(|(_, effect)| (effect.outcome, effect.value)))
+        .collect()
+}
+
+/// The qualities of the same results.
+pub fn qualities(world: &World) -> Vec<Option<u8>> {
+    let effects = world.commands().into_iter().map(|c| c.completed);
+    effects
+        .map(|e| e.map(|(_, effect)| effect.quality))
         .collect()
 }
 

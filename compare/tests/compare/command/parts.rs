@@ -12,7 +12,7 @@ use second::packet::{write_request, Request, RESULT_LEN};
 use second::plan::{write_plan, Entry, Plan, POINTS};
 use second::random::Random;
 use second::record::{write_executed, Executed, EXECUTED_LEN, HEAD_LEN};
-use second::rule::Op;
+use second::rule::{Op, BY_HAND};
 use std::cmp::Ordering;
 
 pub const EXACT: &str = "part: exact";
@@ -167,7 +167,7 @@ impl Parts {
         self.pair.compare(last, Answer::DONE);
     }
 
-    /// Record and point have this value, valid, on both sides.
+    /// Record and point have this value, by hand, on both sides.
     fn gave(&self, request: &Request, entry: &Entry, value: i32) {
         let record = write_executed(&Executed {
             op: request.op,
@@ -178,7 +178,7 @@ impl Parts {
             done: request.done,
             argument: request.argument,
             value,
-            quality: 0,
+            quality: BY_HAND,
             time: 0,
         });
         let at = self.pair.length() - EXECUTED_LEN;
@@ -194,7 +194,7 @@ impl Parts {
         ] {
             let logged = &log[at..at + EXECUTED_LEN];
             assert!(
-                logged == record && state == (value, 0),
+                logged == record && state == (value, BY_HAND),
                 "{program}: {request:?}, {entry:?}: {value} is due, the state has {state:?}, \
                  the log {logged:02x?}"
             );
