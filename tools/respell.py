@@ -12,6 +12,8 @@ import re
 import sys
 
 ROOT = os.path.join(os.path.dirname(os.path.realpath(__file__)), "..")
+# Four fields of the model's structs, in code too.
+FIELDS = re.compile(r"\b(moveNumber|takenMove|giveEnd|takeEnd)\b")
 TOKEN = re.compile(r"[^\s(){}\[\];,.\"`⟦⟧‹›|]+")
 
 
@@ -91,6 +93,8 @@ def main():
                 own.update({k: v for k, v in within.get(of, {}).items() if k in names})
             turn = in_source if name.endswith(".rt") else turned
             text = turn(turn(text, own), everywhere)
+            if name.endswith(".rt"):
+                text = FIELDS.sub(lambda m: everywhere[m.group(0)], text)
             if text != before:
                 with open(path, "w", encoding="utf-8") as f:
                     f.write(text)

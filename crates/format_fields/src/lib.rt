@@ -113,7 +113,7 @@ pub fn receipt_at(packet: &[u8]) -> Receipt
     Receipt {
         point: packet[constants::RECEIPT_POINT],
         server: packet[constants::RECEIPT_SERVER],
-        moveNumber: format_numbers::read_u32(packet, constants::RECEIPT_MOVE),
+        move_number: format_numbers::read_u32(packet, constants::RECEIPT_MOVE),
     }
 }
 

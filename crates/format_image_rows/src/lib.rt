@@ -105,7 +105,7 @@ pub fn head_from(s: &[u8]) -> ImageHead
         point: s[constants::IMAGE_POINT],
         destination: s[constants::IMAGE_DESTINATION],
         source: s[constants::IMAGE_SOURCE],
-        moveNumber: format_numbers::read_u32(s, constants::IMAGE_MOVE),
+        move_number: format_numbers::read_u32(s, constants::IMAGE_MOVE),
         heard: format_numbers::read_u32(s, constants::IMAGE_HEARD),
         value: format_numbers::read_signed(s, constants::PARTS_START),
         quality: s[constants::IMAGE_QUALITY],

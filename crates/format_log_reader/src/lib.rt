@@ -79,7 +79,7 @@ fn give_at(s: &[u8]) -> Give
     Give {
         point: s[constants::GIVE_POINT],
         destination: s[constants::GIVE_DESTINATION],
-        moveNumber: format_numbers::read_u32(s, constants::GIVE_MOVE),
+        move_number: format_numbers::read_u32(s, constants::GIVE_MOVE),
     }
 }
 
@@ -95,7 +95,7 @@ fn release_at(s: &[u8]) -> Release
 {
     Release {
         point: s[constants::RELEASE_POINT],
-        moveNumber: format_numbers::read_u32(s, constants::RELEASE_MOVE),
+        move_number: format_numbers::read_u32(s, constants::RELEASE_MOVE),
     }
 }
 

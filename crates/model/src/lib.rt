@@ -83,7 +83,7 @@ pub struct RefusalPacket {
 pub struct Receipt {
     pub point: u8,
     pub server: u8,
-    pub moveNumber: u32,
+    pub move_number: u32,
 }
 
 // Packet 5, and log record 2 (gone).
@@ -128,14 +128,14 @@ pub struct Executed {
 pub struct Give {
     pub point: u8,
     pub destination: u8,
-    pub moveNumber: u32,
+    pub move_number: u32,
 }
 
 // Log record 5. `move_number` is the give's.
 #[derive(Drop)]
 pub struct Release {
     pub point: u8,
-    pub moveNumber: u32,
+    pub move_number: u32,
 }
 
 // ---- images
@@ -163,7 +163,7 @@ pub struct ImageHead {
     pub point: u8,
     pub destination: u8,
     pub source: u8,
-    pub moveNumber: u32,
+    pub move_number: u32,
     pub heard: u32,
     pub value: u32,
     pub quality: u8,
@@ -182,10 +182,10 @@ pub struct Point {
     pub quality: u8,
     pub destination: u8,
     pub value: u32,
-    pub moveNumber: u32,
-    pub takenMove: u32,
-    pub giveEnd: u64,
-    pub takeEnd: u64,
+    pub move_number: u32,
+    pub taken_move: u32,
+    pub give_end: u64,
+    pub take_end: u64,
 }
 
 // A completion record. `end` is the end of the log record that brought it.

@@ -74,8 +74,8 @@ fn gave_point(g: Give, end: u64, x: Point) -> Point
     Point {
         status: constants::GIVEN,
         destination: g.destination,
-        moveNumber: g.move_number,
-        giveEnd: end,
+        move_number: g.move_number,
+        give_end: end,
         ..x
     }
 }

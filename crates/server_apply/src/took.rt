@@ -25,10 +25,10 @@ fn took_point(h: ImageHead, end: u64) -> Point
         quality: h.quality,
         destination: 0,
         value: h.value,
-        moveNumber: h.move_number,
-        takenMove: h.move_number,
-        giveEnd: 0,
-        takeEnd: end,
+        move_number: h.move_number,
+        taken_move: h.move_number,
+        give_end: 0,
+        take_end: end,
     }
 }
 

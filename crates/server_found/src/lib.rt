@@ -46,10 +46,10 @@ fn founded_point(e: PlanEntry, server: u8) -> Point
         quality: constants::INVALID,
         destination: 0,
         value: e.fallback,
-        moveNumber: 0,
-        takenMove: 0,
-        giveEnd: 0,
-        takeEnd: 0,
+        move_number: 0,
+        taken_move: 0,
+        give_end: 0,
+        take_end: 0,
     }
 }
 

@@ -25,7 +25,7 @@ fn receipt_made(s: &[u8], point: u8, out: &mut [u8]) -> Answer
     let receipt = Receipt {
         point,
         server: state::server_of(s),
-        moveNumber: x.taken_move,
+        move_number: x.taken_move,
     };
     format_packet_writer::write_receipt(out, receipt);
     server_decide::made(constants::RECEIPT_SIZE_U32)

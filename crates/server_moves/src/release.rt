@@ -25,7 +25,7 @@ fn release_done(s: &mut [u8], log: &mut [u8], point: u8) -> Answer
     let x = state::point_at(s, point);
     let release = Release {
         point,
-        moveNumber: x.move_number,
+        move_number: x.move_number,
     };
     format_log_writer::append_release(log, size as usize, release);
     server_apply::apply_released(s, release, size + constants::RELEASE_SIZE_U64);

@@ -87,7 +87,7 @@ fn head_for(s: &[u8], point: u8, entries: u32) -> ImageHead
         point,
         destination: x.destination,
         source: state::server_of(s),
-        moveNumber: x.move_number,
+        move_number: x.move_number,
         heard: state::heard_of(s),
         value: x.value,
         quality: x.quality,

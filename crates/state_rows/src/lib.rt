@@ -69,10 +69,10 @@ pub fn point_from(s: &[u8], k: usize) -> Point
         quality: s[k + constants::POINT_QUALITY],
         destination: s[k + constants::POINT_DESTINATION],
         value: format_numbers::read_signed(s, k + constants::POINT_VALUE),
-        moveNumber: format_numbers::read_u32(s, k + constants::POINT_MOVE),
-        takenMove: format_numbers::read_u32(s, k + constants::POINT_TAKEN),
-        giveEnd: format_numbers::read_u64(s, k + constants::POINT_GIVE_END),
-        takeEnd: format_numbers::read_u64(s, k + constants::POINT_TAKE_END),
+        move_number: format_numbers::read_u32(s, k + constants::POINT_MOVE),
+        taken_move: format_numbers::read_u32(s, k + constants::POINT_TAKEN),
+        give_end: format_numbers::read_u64(s, k + constants::POINT_GIVE_END),
+        take_end: format_numbers::read_u64(s, k + constants::POINT_TAKE_END),
     }
 }
 
