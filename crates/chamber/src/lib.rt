@@ -1,6 +1,8 @@
 // The lock chamber controller: start, issue, resend, receive. Values in and values out; every value of the struct is
 // taken. A gate is opened only after reads, in this order and since the last set or part: the other gate 0 and valid,
 // then its own two levels valid and at most 5 apart.
+#![tactic(auto)]
+
 ghost use Rattle.std.specs.Prelude.{◌≡◌, ◌<◌, get_or, set};
 ghost use Rattle.model.specs.Tables.{every};
 ghost use Rattle.model.specs.Clients.{no_client};

@@ -1,5 +1,7 @@
 // The lock chamber controller for a host program in C: numbers, structs with C's layout, byte slices. A signed number
 // is in two's complement here. The controller is given and returned by value.
+#![tactic(auto)]
+
 ghost use Rattle.std.specs.Prelude.{◌≡◌};
 ghost use Rattle.model.specs.Numbers.{flip};
 ghost use Rattle.model.specs.Clients.{start_number};
@@ -14,21 +16,21 @@ use model::{Started, constants};
 
 // number: 0 or the refusal's.
 #[repr(C)]
-#[derive(Drop)]
+#[derive(Clone, Copy)]
 pub struct ChamberStartReply {
     pub chamber: Chamber,
     pub number: u32,
 }
 
 #[repr(C)]
-#[derive(Drop)]
+#[derive(Clone, Copy)]
 pub struct ChamberSendReply {
     pub chamber: Chamber,
     pub reply: SendReply,
 }
 
 #[repr(C)]
-#[derive(Drop)]
+#[derive(Clone, Copy)]
 pub struct ChamberReceiveReply {
     pub chamber: Chamber,
     pub reply: ReceiveReply,

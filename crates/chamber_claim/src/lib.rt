@@ -1,5 +1,7 @@
 // The lock chamber controller's types: plain data, no logic. What they mean stands in specs/, with the theorem: at no
 // place in the order are both gates away from 0.
+#![tactic(auto)]
+
 use model::{Client, Received, Sent, Started};
 
 // The number of points of a lock: two gates, three levels.
@@ -7,7 +9,7 @@ pub const LOCK_POINTS: usize = 5;
 
 // The points of a lock. The upper gate stands between levels 1 and 2, the lower between 2 and 3.
 #[repr(C)]
-#[derive(Drop)]
+#[derive(Clone, Copy)]
 pub struct LockPoints {
     pub upper: u8,
     pub lower: u8,
@@ -18,7 +20,7 @@ pub struct LockPoints {
 
 // A point's latest completed read; call 0: none yet.
 #[repr(C)]
-#[derive(Drop)]
+#[derive(Clone, Copy)]
 pub struct LatestRead {
     pub call: u32,
     pub value: u32,
@@ -27,7 +29,7 @@ pub struct LatestRead {
 
 // moved: the call number of the last set or part issued, 0: none. reads: by role, in the order of the points.
 #[repr(C)]
-#[derive(Drop)]
+#[derive(Clone, Copy)]
 pub struct Chamber {
     pub client: Client,
     pub points: LockPoints,
@@ -35,19 +37,19 @@ pub struct Chamber {
     pub reads: [LatestRead; LOCK_POINTS],
 }
 
-#[derive(Drop)]
+#[derive(Clone, Copy)]
 pub struct ChamberStart {
     pub chamber: Chamber,
     pub answer: Started,
 }
 
-#[derive(Drop)]
+#[derive(Clone, Copy)]
 pub struct ChamberSend {
     pub chamber: Chamber,
     pub answer: Sent,
 }
 
-#[derive(Drop)]
+#[derive(Clone, Copy)]
 pub struct ChamberReceive {
     pub chamber: Chamber,
     pub answer: Received,

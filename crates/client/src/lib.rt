@@ -1,6 +1,8 @@
 // The client (paper: desk): start, issue, resend, receive. Values in and values out; every value of the struct is
 // taken. Each operation is made of what it changes (the next number or the lease end, and what stands at one place), so
 // that one who is lent a client stores that alone.
+#![tactic(auto)]
+
 ghost use Rattle.std.specs.Prelude.{◌≡◌, ◌&&◌, ◌<◌, leb, ltb, length, set};
 ghost use Rattle.model.specs.Choice.{pick};
 ghost use Rattle.model.specs.Limits.{last32, call_window};
@@ -18,7 +20,7 @@ use model::{
 // ---- what an operation changes
 
 // A started client's numbers: it has no open calls. number: 0 or the refusal's.
-#[derive(Drop)]
+#[derive(Clone, Copy)]
 pub struct StartFields {
     pub client: u32,
     pub lease: u32,
@@ -27,7 +29,7 @@ pub struct StartFields {
 }
 
 // The next number, and what stands at the place of the one before.
-#[derive(Drop)]
+#[derive(Clone, Copy)]
 pub struct SendChange {
     pub next: u32,
     pub call: OpenCall,
@@ -35,7 +37,7 @@ pub struct SendChange {
 }
 
 // The lease end, and what stands at the place of the packet's call.
-#[derive(Drop)]
+#[derive(Clone, Copy)]
 pub struct ReceiveChange {
     pub lease: u32,
     pub call: OpenCall,

@@ -1,5 +1,7 @@
 // The client and the lease manager for a host program in C: numbers, structs with C's layout, byte slices. A signed
 // number is in two's complement here.
+#![tactic(auto)]
+
 ghost use Rattle.std.specs.Prelude.{◌≡◌, ◌<◌};
 ghost use Rattle.model.specs.declared.Received.TheVariants.{NotReceived};
 ghost use Rattle.model.specs.Numbers.{flip};
@@ -19,7 +21,7 @@ use model::{
 
 // number: 0 or the refusal's.
 #[repr(C)]
-#[derive(Drop)]
+#[derive(Clone, Copy)]
 pub struct StartReply {
     pub client: Client,
     pub number: u32,
@@ -27,7 +29,7 @@ pub struct StartReply {
 
 // number: 0 or the refusal's. call: the request's. length: of the request in packet. Both are 0 where refused.
 #[repr(C)]
-#[derive(Drop)]
+#[derive(Clone, Copy)]
 pub struct SendReply {
     pub number: u32,
     pub call: u32,
@@ -38,7 +40,7 @@ pub struct SendReply {
 // number: 0 or the refusal's. kind: 7 a result in either form, with its time; 3 a refusal, its number in refusal; 6 a
 // grant, its end in lease.
 #[repr(C)]
-#[derive(Drop)]
+#[derive(Clone, Copy)]
 pub struct ReceiveReply {
     pub number: u32,
     pub kind: u32,
@@ -54,7 +56,7 @@ pub struct ReceiveReply {
 
 // number: 0 or the refusal's. kind: 6 a grant, 5 a notice. length: of it in packet. Both are 0 where refused.
 #[repr(C)]
-#[derive(Drop)]
+#[derive(Clone, Copy)]
 pub struct LeaseReply {
     pub number: u32,
     pub kind: u32,
@@ -66,21 +68,21 @@ pub struct LeaseReply {
 // in a lease manager time, the latest client number, what stands at one place, and whether the ended leases are cleared
 // before
 
-#[derive(Drop)]
+#[derive(Clone, Copy)]
 pub struct Sending {
     pub next: u32,
     pub call: OpenCall,
     pub reply: SendReply,
 }
 
-#[derive(Drop)]
+#[derive(Clone, Copy)]
 pub struct Receiving {
     pub lease: u32,
     pub call: OpenCall,
     pub reply: ReceiveReply,
 }
 
-#[derive(Drop)]
+#[derive(Clone, Copy)]
 pub struct Leasing {
     pub ended: bool,
     pub time: u32,
@@ -316,7 +318,7 @@ fn stored_value(m: LeaseManager, change: Leasing) -> LeaseManager
 
 // Always a place. Since it might be the number, which lies over op, point, the padding behind them and the argument,
 // the compiler takes these as a word.
-#[derive(Drop)]
+#[derive(Clone, Copy)]
 enum Slot {
     Number(u64),
     Place(OpenCall),

@@ -1,5 +1,7 @@
 // The dispatcher above a server: no_waiting, enqueue, serve. Values in and values out; every value of the struct is
 // taken. Requests wait in the order they came, at most one of each client, at most 32.
+#![tactic(auto)]
+
 ghost use Rattle.std.specs.Prelude.{◌≡◌, [], ◌∷◌, ◌++◌, ◌≤◌, ◌<◌, length, take, drop};
 ghost use Rattle.model.specs.Tables.{index_of};
 ghost use Rattle.model.specs.Versions.{today};

@@ -1,5 +1,7 @@
 // The dispatcher's types: plain data, no logic. What they mean stands in specs/, with the theorem: a waiting request is
 // handed to its server by one of the next 32 servings.
+#![tactic(auto)]
+
 use model::{Answer, Request};
 
 // The requests that may wait at a time.
@@ -9,7 +11,7 @@ pub const WAITING_PLACES_U32: u32 = WAITING_PLACES as u32;
 
 // The first count requests wait, first come first.
 #[repr(C)]
-#[derive(Drop)]
+#[derive(Clone, Copy)]
 pub struct Dispatcher {
     pub count: u32,
     pub requests: [Request; WAITING_PLACES],
@@ -17,14 +19,14 @@ pub struct Dispatcher {
 
 // What enqueue answers: the dispatcher after it, and 0 or the refusal's number.
 #[repr(C)]
-#[derive(Drop)]
+#[derive(Clone, Copy)]
 pub struct Enqueued {
     pub dispatcher: Dispatcher,
     pub number: u32,
 }
 
 // What serve answers: the dispatcher after it, and the answer as request's.
-#[derive(Drop)]
+#[derive(Clone, Copy)]
 pub struct Served {
     pub dispatcher: Dispatcher,
     pub answer: Answer,

@@ -1,10 +1,12 @@
 // The plan, and the rule of each op on a point's value and quality. A signed number x of 32 bits is kept as x + 2^31.
+#![tactic(auto)]
+
 ghost use Rattle.std.specs.Prelude.{◌≡◌, true, ◌+◌, ◌-◌, ◌%◌, ◌≤◌, length, drop};
 ghost use Rattle.model.specs.Choice.{pick};
 ghost use Rattle.model.specs.Numbers.{half, nearest};
 ghost use Rattle.model.specs.Plan.{plan_entry_of, plan_entry_ok, plan_row_ok, plan_ok};
 ghost use Rattle.model.specs.Versions.{second, third};
-ghost use Rattle.model.specs.Rules.{same, result, sum_in_range, end_past, past_end, set_rule, step_rule, report_rule, fault_rule, part_rule, argument_ok};
+ghost use Rattle.model.specs.Rules.{same, command_result, sum_in_range, end_past, past_end, set_rule, step_rule, report_rule, fault_rule, part_rule, argument_ok};
 ghost use Rattle.model.specs.Limits.{plan_row, part_op, whole_part, carried_out};
 ghost use Rattle.format_commands.specs.Results.{checked_rule};
 
@@ -15,7 +17,7 @@ use model::{CommandResult, PlanEntry, Reading, constants};
 // The entry in the 16 bytes from at.
 pub fn plan_entry(s: &[u8], at: usize) -> PlanEntry
     requires { at + plan_row ≤ length s.now }
-    ensures* { λ x. ⌜ x ≡ plan_entry_of (drop at s.now) ⌝ }
+    ensures { result ≡ plan_entry_of (drop at s.now) }
 {
     PlanEntry {
         low: format_numbers::read_signed(s, at),
@@ -27,7 +29,7 @@ pub fn plan_entry(s: &[u8], at: usize) -> PlanEntry
 
 // low <= fallback <= high, and the home is a server.
 fn plan_entry_ok(e: PlanEntry) -> bool
-    ensures* { λ x. ⌜ x ≡ plan_entry_ok e ⌝ }
+    ensures { result ≡ plan_entry_ok e }
 {
     (e.home <= constants::LAST_SERVER) & ((e.low <= e.fallback) & (e.fallback <= e.high))
 }
@@ -35,7 +37,7 @@ fn plan_entry_ok(e: PlanEntry) -> bool
 // The 16 bytes from at are an entry.
 pub fn plan_row_ok(s: &[u8], at: usize) -> bool
     requires { at + plan_row ≤ length s.now }
-    ensures* { λ x. ⌜ x ≡ plan_row_ok (drop at s.now) ⌝ }
+    ensures { result ≡ plan_row_ok (drop at s.now) }
 {
     let zeros = format_numbers::zeros3_at(s, at + constants::PLAN_ZEROS);
     let entry = plan_entry_ok(plan_entry(s, at));
@@ -44,7 +46,7 @@ pub fn plan_row_ok(s: &[u8], at: usize) -> bool
 
 // The bytes are a plan.
 pub fn plan_ok(s: &[u8]) -> bool
-    ensures* { λ x. ⌜ x ≡ plan_ok s.now ⌝ }
+    ensures { result ≡ plan_ok s.now }
 {
     if s.len() != constants::POINT_COUNT * constants::PLAN_ROW {
         return false;
@@ -63,14 +65,14 @@ pub fn plan_ok(s: &[u8]) -> bool
 
 // whole - part, or 0 where part is the greater.
 fn minus(whole: u64, part: u64) -> u64
-    ensures* { λ x. ⌜ x ≡ whole - part ⌝ }
+    ensures { result ≡ whole - part }
 {
     if part <= whole { whole - part } else { 0 }
 }
 
 // Outcome, value and quality; a rule knows no time.
 fn result_of(outcome: u8, v: u32, quality: u8) -> CommandResult
-    ensures* { λ x. ⌜ x ≡ result outcome v quality ⌝ }
+    ensures { result ≡ command_result outcome v quality }
 {
     CommandResult {
         outcome,
@@ -82,7 +84,7 @@ fn result_of(outcome: u8, v: u32, quality: u8) -> CommandResult
 
 // An outcome, and no change.
 fn unchanged(outcome: u8, reading: Reading) -> CommandResult
-    ensures* { λ x. ⌜ x ≡ same outcome reading ⌝ }
+    ensures { result ≡ same outcome reading }
 {
     CommandResult {
         outcome,
@@ -94,7 +96,7 @@ fn unchanged(outcome: u8, reading: Reading) -> CommandResult
 
 // v + argument is in range.
 fn sum_in_range(e: PlanEntry, v: u32, argument: u32) -> bool
-    ensures* { λ x. ⌜ x ≡ sum_in_range e v argument ⌝ }
+    ensures { result ≡ sum_in_range e v argument }
 {
     let low = e.low as u64;
     let high = e.high as u64;
@@ -105,14 +107,14 @@ fn sum_in_range(e: PlanEntry, v: u32, argument: u32) -> bool
 // v + argument, where it is in range.
 fn sum(e: PlanEntry, v: u32, argument: u32) -> u32
     requires { sum_in_range e v argument ≡ true }
-    ensures* { λ x. ⌜ x ≡ v + argument - half ⌝ }
+    ensures { result ≡ v + argument - half }
 {
     (v as u64 + argument as u64 - constants::HALF_U64) as u32
 }
 
 // A value that was set is by hand.
 fn set_rule(e: PlanEntry, argument: u32, reading: Reading) -> CommandResult
-    ensures* { λ x. ⌜ x ≡ set_rule second e argument reading ⌝ }
+    ensures { result ≡ set_rule second e argument reading }
 {
     if format_numbers::in_range(e, argument) {
         result_of(constants::CARRIED_OUT, argument, constants::BY_HAND)
@@ -123,7 +125,7 @@ fn set_rule(e: PlanEntry, argument: u32, reading: Reading) -> CommandResult
 
 // The end of the range that v + argument is past.
 fn end_past(e: PlanEntry, v: u32, argument: u32) -> u32
-    ensures* { λ x. ⌜ x ≡ end_past e v argument ⌝ }
+    ensures { result ≡ end_past e v argument }
 {
     let low = e.low as u64;
     let sum = v as u64 + argument as u64;
@@ -136,9 +138,9 @@ fn end_past(e: PlanEntry, v: u32, argument: u32) -> u32
 
 // v + argument, where it is in range; else the end that it is past, outcome 4.
 fn step_valid(e: PlanEntry, argument: u32, reading: Reading) -> CommandResult
-    ensures* { λ x. ⌜ x ≡ pick (sum_in_range e reading.value argument)
+    ensures { result ≡ pick (sum_in_range e reading.value argument)
         (result carried_out (reading.value + argument - half) reading.quality)
-        (past_end second e argument reading) ⌝ }
+        (past_end second e argument reading) }
 {
     let v = reading.value;
     let quality = reading.quality;
@@ -152,7 +154,7 @@ fn step_valid(e: PlanEntry, argument: u32, reading: Reading) -> CommandResult
 // What a step of a valid value gives is found before the quality is looked at: a choice, and no jump that a processor
 // guesses.
 fn step_rule(e: PlanEntry, argument: u32, reading: Reading) -> CommandResult
-    ensures* { λ x. ⌜ x ≡ step_rule second e argument reading ⌝ }
+    ensures { result ≡ step_rule second e argument reading }
 {
     let next = step_valid(e, argument, reading);
     let quality = reading.quality;
@@ -165,7 +167,7 @@ fn step_rule(e: PlanEntry, argument: u32, reading: Reading) -> CommandResult
 
 // A value in range is a measurement: valid.
 fn report_rule(e: PlanEntry, argument: u32, reading: Reading) -> CommandResult
-    ensures* { λ x. ⌜ x ≡ report_rule e argument reading ⌝ }
+    ensures { result ≡ report_rule e argument reading }
 {
     if format_numbers::in_range(e, argument) {
         result_of(constants::CARRIED_OUT, argument, constants::VALID)
@@ -175,14 +177,14 @@ fn report_rule(e: PlanEntry, argument: u32, reading: Reading) -> CommandResult
 }
 
 fn fault_rule(e: PlanEntry) -> CommandResult
-    ensures* { λ x. ⌜ x ≡ fault_rule e ⌝ }
+    ensures { result ≡ fault_rule e }
 {
     result_of(constants::FELL_BACK, e.fallback, constants::INVALID)
 }
 
 // 1 of an odd number, 0 of an even one.
 fn last_bit(value: u64) -> u64
-    ensures* { λ x. ⌜ x ≡ value % 2 ⌝ }
+    ensures { result ≡ value % 2 }
 {
     value & 1
 }
@@ -190,7 +192,7 @@ fn last_bit(value: u64) -> u64
 // low + parts / 1000, the quotient to the nearest, an exact half to the even one. What is left of parts is found by a
 // product, without a second division.
 fn part_value(low: u32, parts: u64) -> u64
-    ensures* { λ x. ⌜ x ≡ low + nearest parts whole_part ⌝ }
+    ensures { result ≡ low + nearest parts whole_part }
 {
     let from = low as u64;
     let quotient = parts / constants::WHOLE_PART_U64;
@@ -207,7 +209,7 @@ fn part_value(low: u32, parts: u64) -> u64
 // A part of the range is by hand.
 fn part_rule(e: PlanEntry, argument: u32) -> CommandResult
     requires { argument_ok part_op argument ≡ true }
-    ensures* { λ x. ⌜ x ≡ part_rule third e argument ⌝ }
+    ensures { result ≡ part_rule third e argument }
 {
     let span = minus(e.high as u64, e.low as u64);
     let parts = minus(argument as u64, constants::HALF_U64);
@@ -218,7 +220,7 @@ fn part_rule(e: PlanEntry, argument: u32) -> CommandResult
 // A command's result: outcome, and value and quality after it. An argument outside its op's range changes nothing,
 // outcome 1; set, step and report take any.
 pub fn checked_rule(e: PlanEntry, op: u8, argument: u32, reading: Reading) -> CommandResult
-    ensures* { λ x. ⌜ x ≡ checked_rule e op argument reading ⌝ }
+    ensures { result ≡ checked_rule e op argument reading }
 {
     match op {
         constants::READ_OP => {

@@ -1,4 +1,6 @@
 // The fields of the packets: their places and ranges.
+#![tactic(auto)]
+
 ghost use Rattle.std.specs.Prelude.{◌≡◌, ◌≤◌, length};
 ghost use Rattle.model.specs.Limits.{request_size, refusal_size, receipt_size, notice_size, grant_size};
 ghost use Rattle.model.specs.Packets.{result_size_of, request_at, result_at, refusal_at, receipt_at, notice_at, grant_at};

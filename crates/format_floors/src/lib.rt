@@ -1,5 +1,7 @@
 // A row of a table of floors, client and floor in 8 bytes, at its place in a slice: read, stored and tested. Images and
 // a server's state have such a table.
+#![tactic(auto)]
+
 ghost use Rattle.std.specs.Prelude.{◌≡◌, ◌+◌, ◌*◌, ◌≤◌, length, drop, ltb};
 ghost use Rattle.model.specs.Limits.{floor_row};
 ghost use Rattle.model.specs.Tables.{written};

@@ -1,5 +1,7 @@
 // The reader of moving images: the test of every rule but the one on values, which needs the plan; that one; rows by
 // number. An image inside a take record is read from its place: the log's part from there is passed.
+#![tactic(auto)]
+
 ghost use Rattle.std.specs.Prelude.{◌≡◌, ◌+◌, ◌-◌, ◌*◌, ◌≤◌, length, drop, true};
 ghost use Rattle.model.specs.Tables.{rows, every};
 ghost use Rattle.model.specs.Limits.{least_image, floor_row};
@@ -12,7 +14,7 @@ use model::constants::{FLOOR_ROW, LEAST_IMAGE};
 use model::{ImageEntry, ImageHead, PlanEntry};
 
 // What the reader finds: an image's head, or that the bytes are no image.
-#[derive(Drop)]
+#[derive(Clone, Copy)]
 pub enum ImageRead {
     Malformed,
     Head(ImageHead),

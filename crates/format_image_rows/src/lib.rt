@@ -1,5 +1,7 @@
 // Completion records and head of a moving image at their places in a slice, and the tests of one record, of two
 // neighbours and of the head. Its floors are read and tested by `format_floors`.
+#![tactic(auto)]
+
 ghost use Rattle.std.specs.Prelude.{◌≡◌, ◌+◌, ◌*◌, ◌/◌, ◌≤◌, ◌<◌, length, drop};
 ghost use Rattle.model.specs.Limits.{least_image, first_entry_row};
 ghost use Rattle.model.specs.Numbers.{word, starts_with};

@@ -1,5 +1,7 @@
 // The writer of moving images: head, floors and completion records, each at its place. Bytes past what is written are
 // kept.
+#![tactic(auto)]
+
 ghost use Rattle.std.specs.Prelude.{◌≡◌, ◌+◌, ◌*◌, ◌≤◌, true, length};
 ghost use Rattle.model.specs.Limits.{image_pairs, parts_start, least_image, floor_row, entry_row, client_count, record_count};
 ghost use Rattle.model.specs.Tables.{rows, bytes_of, written};

@@ -1,4 +1,6 @@
 // The log's head, and where its records end.
+#![tactic(auto)]
+
 ghost use Rattle.std.specs.Prelude.{◌≡◌, ◌≤◌, length};
 ghost use Rattle.model.specs.Limits.{head_size};
 ghost use Rattle.model.specs.Logs.{head_server, head_ok, spans, within, take_extent, extent_of};
@@ -9,7 +11,7 @@ ghost use Rattle.format_log_ends.specs.Walked.{log_end, end_from};
 use model::{LogEnd, constants};
 
 // Where a record ends: its layout is broken, it is incomplete, or it spans that many bytes, all there.
-#[derive(Drop)]
+#[derive(Clone, Copy)]
 pub enum Extent {
     Off,
     Cut,

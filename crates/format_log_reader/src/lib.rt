@@ -1,4 +1,6 @@
 // What a whole record of the log says; `format_log_ends` tells where it ends.
+#![tactic(auto)]
+
 ghost use Rattle.std.specs.Prelude.{◌≡◌, ◌+◌, ◌*◌, ◌≤◌, ◌<◌, length};
 ghost use Rattle.model.specs.Choice.{pick};
 ghost use Rattle.model.specs.Numbers.{word};
@@ -13,14 +15,14 @@ ghost use Rattle.format_log_reader.specs.Answers.{executed_from, gone_from, give
 use model::{Command, CommandResult, Executed, Give, Notice, Release, constants};
 
 // A part of the log: len bytes from a place.
-#[derive(Drop)]
+#[derive(Clone, Copy)]
 pub struct Span {
     pub from: usize,
     pub len: usize,
 }
 
 // What a whole record says; a take's image stays at its place in the log.
-#[derive(Drop)]
+#[derive(Clone, Copy)]
 pub enum Record {
     Broken,
     Executed(Executed),

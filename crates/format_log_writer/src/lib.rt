@@ -1,4 +1,6 @@
 // The log's head and its records as they are written: a record behind the log's last one.
+#![tactic(auto)]
+
 ghost use Rattle.std.specs.Prelude.{◌≡◌, ◌+◌, ◌≤◌, true, length};
 ghost use Rattle.model.specs.Tables.{written};
 ghost use Rattle.model.specs.Images.{image_head_of, image_at, image_ok};

@@ -1,5 +1,7 @@
 // Numbers in a slice of bytes, and fields in their ranges. Numbers are little-endian; a signed number x of 32 bits is
 // x + 2^31 inside and two's complement in a slice.
+#![tactic(auto)]
+
 ghost use Rattle.std.specs.Prelude.{◌≡◌, true, ◌+◌, ◌*◌, ◌≤◌, ◌<◌, max, length};
 ghost use Rattle.model.specs.Numbers.{join32, word, le32_at, le32, le64_at, le64, signed_at, signed32, flip, zero_at, zeros3_at, quad, starts_with, byte_at};
 ghost use Rattle.model.specs.Tables.{written};

@@ -1,4 +1,6 @@
 // The parsers of the packets: one of each kind, whose caller has read the kind, and one of any.
+#![tactic(auto)]
+
 ghost use Rattle.std.specs.Prelude.{◌≡◌};
 ghost use Rattle.model.specs.Choice.{pick};
 ghost use Rattle.model.specs.declared.Packet.TheVariants.{Malformed};

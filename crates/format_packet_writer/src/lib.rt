@@ -1,4 +1,6 @@
 // The packets as they are written, into the front of a lent slice and by value. Bytes past a packet are kept.
+#![tactic(auto)]
+
 ghost use Rattle.std.specs.Prelude.{◌≡◌, true, ◌≤◌, length};
 ghost use Rattle.model.specs.Tables.{written};
 ghost use Rattle.model.specs.Limits.{notice_kind, request_size, result_size, refusal_size, receipt_size, notice_size, grant_size};

@@ -2,6 +2,8 @@
 // checkpoint and right behind it its tail, as examples/card.c has them. A line has client, call, and the bytes that
 // hold the record in the checkpoint or in the tail. A card of 65,536 bytes or more is not read whole, and answered with
 // a line on standard error.
+#![tactic(auto)]
+
 ghost use Rattle.std.specs.Prelude.{◌≡◌, ◌≤◌, ◌<◌, length};
 ghost use Rattle.io.specs.Counts.{IsPrefixLen};
 ghost use Rattle.model.specs.Limits.{record_count, state_size};

@@ -2,6 +2,8 @@
 // bits: the low 32 bits are 0 or the refusal's number, the high 32 bits the number of bytes written to the output; log
 // end, over a log alone, answers a number and an end of 64 bits, and inspect a place. And the calls of the dispatcher
 // above a server (include/mantelorris_dispatcher.h): given and returned by value.
+#![tactic(auto)]
+
 ghost use Rattle.std.specs.Prelude.{◌≡◌, []};
 ghost use Rattle.model.specs.Versions.{today};
 ghost use Rattle.model.specs.Operations.{word_of, found_of, request_of, fetch_of, sync_of, notice_of, give_of, image_of, take_of, receipt_of, release_of, recover_of, log_end_of};
@@ -204,7 +206,7 @@ pub extern "C" fn mantelorris_inspect(
 
 // What serve gives C: the dispatcher after it, and the answer in one word.
 #[repr(C)]
-#[derive(Drop)]
+#[derive(Clone, Copy)]
 pub struct ServeReply {
     pub dispatcher: Dispatcher,
     pub answer: u64,

@@ -1,5 +1,7 @@
 // The lease manager (paper: lease office): open, renew, query. Values in and values out; every value of the struct is
 // taken. A call is what it changes, so that a lent manager is read in place, and only what changes is stored.
+#![tactic(auto)]
+
 ghost use Rattle.std.specs.Prelude.{◌≡◌, false, ◌||◌, ◌<◌, eqb, leb, length};
 ghost use Rattle.model.specs.Leases.{time_at, ended_at, running_at, span_ok, manager, open_of, renew_of, query_of};
 ghost use Rattle.model.specs.Limits.{lease_count};
@@ -10,7 +12,7 @@ use model::{Grant, Lease, LeaseAnswer, LeaseManager, Notice, Told, constants};
 
 // What a call changes: time, the latest client number, and what stands at one place. ended: the ended leases are
 // cleared before.
-#[derive(Drop)]
+#[derive(Clone, Copy)]
 pub struct LeaseChange {
     pub ended: bool,
     pub time: u32,
@@ -22,7 +24,7 @@ pub struct LeaseChange {
 
 // Who is to be granted a lease, and at which place: the end that it has there, and the latest number then. refusal: 0,
 // or why not.
-#[derive(Drop)]
+#[derive(Clone, Copy)]
 pub struct Holder {
     pub place: usize,
     pub refusal: u32,
@@ -32,7 +34,7 @@ pub struct Holder {
 }
 
 // Where a client's lease stands, and its end.
-#[derive(Drop)]
+#[derive(Clone, Copy)]
 pub struct Found {
     pub place: usize,
     pub end: u32,

@@ -41,19 +41,19 @@ unfoldable pub argument_ok : ℕ → ℕ → Bool
 argument_ok op a = in_arguments (argument_range op) a
 
 -- outcome n, value v, quality q; a rule knows no clock: the server that executes writes the time in
-abbrev pub result : ℕ → ℕ → ℕ → CommandResult
-result n v q = record { outcome = n; value = v; quality = q; time = 0 }
+abbrev pub command_result : ℕ → ℕ → ℕ → CommandResult
+command_result n v q = record { outcome = n; value = v; quality = q; time = 0 }
 
 -- outcome n, no change
 abbrev pub same : ℕ → Reading → CommandResult
-same n r = result n r.value r.quality
+same n r = command_result n r.value r.quality
 
 -- value + a is in range
 unfoldable pub sum_in_range : PlanEntry → ℕ → ℕ → Bool
 sum_in_range e v a = leb (e.low + half) (v + a) && leb (v + a) (e.high + half)
 
 unfoldable pub set_rule : Version → PlanEntry → ℕ → Reading → CommandResult
-set_rule n e a r = pick (in_range e a) (result carried_out a (set_quality n)) (same out_of_range r)
+set_rule n e a r = pick (in_range e a) (command_result carried_out a (set_quality n)) (same out_of_range r)
 
 -- the end of the range that value + a is past
 abbrev pub end_past : PlanEntry → ℕ → ℕ → ℕ
@@ -62,20 +62,20 @@ end_past e v a = pick (leb (e.low + half) (v + a)) e.high e.low
 -- a step past an end: by the first version nothing changes, by the second the value is put at that end
 abbrev pub past_end : Version → PlanEntry → ℕ → Reading → CommandResult
 past_end first e a r = same out_of_range r
-past_end second e a r = result stopped (end_past e r.value a) r.quality
-past_end third e a r = result stopped (end_past e r.value a) r.quality
+past_end second e a r = command_result stopped (end_past e r.value a) r.quality
+past_end third e a r = command_result stopped (end_past e r.value a) r.quality
 
 unfoldable pub step_rule : Version → PlanEntry → ℕ → Reading → CommandResult
 step_rule n e a r =
     pick (eqb r.quality invalid) (same on_invalid r)
-    (pick (sum_in_range e r.value a) (result carried_out (r.value + a - half) r.quality) (past_end n e a r))
+    (pick (sum_in_range e r.value a) (command_result carried_out (r.value + a - half) r.quality) (past_end n e a r))
 
 -- a value that was measured: valid by every version
 unfoldable pub report_rule : PlanEntry → ℕ → Reading → CommandResult
-report_rule e a r = pick (in_range e a) (result carried_out a valid) (result fell_back e.fallback invalid)
+report_rule e a r = pick (in_range e a) (command_result carried_out a valid) (command_result fell_back e.fallback invalid)
 
 unfoldable pub fault_rule : PlanEntry → CommandResult
-fault_rule e = result fell_back e.fallback invalid
+fault_rule e = command_result fell_back e.fallback invalid
 
 -- the quotient of m by n: by the first version rounded down, by the second to the nearest
 abbrev pub rounded : Version → ℕ → ℕ → ℕ
@@ -84,7 +84,7 @@ rounded second m n = nearest m n
 rounded third m n = nearest m n
 
 unfoldable pub part_rule : Version → PlanEntry → ℕ → CommandResult
-part_rule n e a = result carried_out (e.low + rounded n ((e.high - e.low) * (a - half)) whole_part) (part_quality n)
+part_rule n e a = command_result carried_out (e.low + rounded n ((e.high - e.low) * (a - half)) whole_part) (part_quality n)
 
 -- by the version of the op's rule; another op is refused before (malformed)
 unfoldable pub rule_of : Version → PlanEntry → ℕ → ℕ → Reading → CommandResult

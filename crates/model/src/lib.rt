@@ -1,11 +1,13 @@
 // The kernel's types: plain data, no logic. What they mean stands in specs/.
 // A signed number x of 32 bits is kept as x + 2^31, unsigned, in every field.
+#![tactic(auto)]
+
 pub mod constants;
 
 // ---- plan and commands
 
 // One point's entry of the plan.
-#[derive(Drop)]
+#[derive(Clone, Copy)]
 pub struct PlanEntry {
     pub low: u32,
     pub high: u32,
@@ -14,14 +16,14 @@ pub struct PlanEntry {
 }
 
 // The arguments that an op takes.
-#[derive(Drop)]
+#[derive(Clone, Copy)]
 pub struct ArgumentRange {
     pub least: u32,
     pub greatest: u32,
 }
 
 // A point's value and quality: 0 valid, 1 invalid.
-#[derive(Drop)]
+#[derive(Clone, Copy)]
 pub struct Reading {
     pub value: u32,
     pub quality: u8,
@@ -29,7 +31,7 @@ pub struct Reading {
 
 // What a command answers: its outcome, the point's value and quality after it, and the heard time of the server that
 // executed it. The time is 0 where it was read from a form without one.
-#[derive(Drop)]
+#[derive(Clone, Copy)]
 pub struct CommandResult {
     pub outcome: u8,
     pub value: u32,
@@ -39,7 +41,7 @@ pub struct CommandResult {
 
 // A command with its id: client and call.
 #[repr(C)]
-#[derive(Drop)]
+#[derive(Clone, Copy)]
 pub struct Command {
     pub client: u32,
     pub call: u32,
@@ -52,7 +54,7 @@ pub struct Command {
 
 // Packet 1. `lease` is the lease end.
 #[repr(C)]
-#[derive(Drop)]
+#[derive(Clone, Copy)]
 pub struct Request {
     pub command: Command,
     pub done: u32,
@@ -60,7 +62,7 @@ pub struct Request {
 }
 
 // Packet 7, or 2, which has no time.
-#[derive(Drop)]
+#[derive(Clone, Copy)]
 pub struct ResultPacket {
     pub client: u32,
     pub call: u32,
@@ -70,7 +72,7 @@ pub struct ResultPacket {
 }
 
 // Packet 3.
-#[derive(Drop)]
+#[derive(Clone, Copy)]
 pub struct RefusalPacket {
     pub refusal: u8,
     pub point: u8,
@@ -79,7 +81,7 @@ pub struct RefusalPacket {
 }
 
 // Packet 4. `server` is the taker.
-#[derive(Drop)]
+#[derive(Clone, Copy)]
 pub struct Receipt {
     pub point: u8,
     pub server: u8,
@@ -87,21 +89,21 @@ pub struct Receipt {
 }
 
 // Packet 5, and log record 2 (gone).
-#[derive(Drop)]
+#[derive(Clone, Copy)]
 pub struct Notice {
     pub client: u32,
     pub time: u32,
 }
 
 // Packet 6. `lease` is the lease end.
-#[derive(Drop)]
+#[derive(Clone, Copy)]
 pub struct Grant {
     pub client: u32,
     pub lease: u32,
 }
 
 // What a parser finds: a request, a result in either form, or one of the other four; or that the bytes are none.
-#[derive(Drop)]
+#[derive(Clone, Copy)]
 pub enum Packet {
     Malformed,
     Requested(Request),
@@ -115,7 +117,7 @@ pub enum Packet {
 // ---- log records (gone is a Notice; a take is the image, read from its place in the log)
 
 // Log record 6, or 1, which has no time.
-#[derive(Drop)]
+#[derive(Clone, Copy)]
 pub struct Executed {
     pub command: Command,
     pub done: u32,
@@ -124,7 +126,7 @@ pub struct Executed {
 }
 
 // Log record 3.
-#[derive(Drop)]
+#[derive(Clone, Copy)]
 pub struct Give {
     pub point: u8,
     pub destination: u8,
@@ -132,7 +134,7 @@ pub struct Give {
 }
 
 // Log record 5. `move_number` is the give's.
-#[derive(Drop)]
+#[derive(Clone, Copy)]
 pub struct Release {
     pub point: u8,
     pub move_number: u32,
@@ -141,14 +143,14 @@ pub struct Release {
 // ---- images
 
 // A client with its floor: a row of an image and of a server's state.
-#[derive(Drop)]
+#[derive(Clone, Copy)]
 pub struct Floor {
     pub client: u32,
     pub floor: u32,
 }
 
 // A completion record in an image: a command on the image's point, and its result.
-#[derive(Drop)]
+#[derive(Clone, Copy)]
 pub struct ImageEntry {
     pub client: u32,
     pub call: u32,
@@ -158,7 +160,7 @@ pub struct ImageEntry {
 }
 
 // The fields of an image outside its two tables, with the numbers of their rows.
-#[derive(Drop)]
+#[derive(Clone, Copy)]
 pub struct ImageHead {
     pub point: u8,
     pub destination: u8,
@@ -176,7 +178,7 @@ pub struct ImageHead {
 
 // A point at a server. `status`: 0 absent, 1 held, 2 given, 3 released. `taken_move` is the latest taken move number (0:
 // never taken); `give_end` and `take_end` are the log ends of the latest give and take (0: none).
-#[derive(Drop)]
+#[derive(Clone, Copy)]
 pub struct Point {
     pub status: u8,
     pub quality: u8,
@@ -189,7 +191,7 @@ pub struct Point {
 }
 
 // A completion record. `end` is the end of the log record that brought it.
-#[derive(Drop)]
+#[derive(Clone, Copy)]
 pub struct Completion {
     pub command: Command,
     pub result: CommandResult,
@@ -197,7 +199,7 @@ pub struct Completion {
 }
 
 // The answer of a server's call: the refusal's number, 0 for none, and the bytes written to the output.
-#[derive(Drop)]
+#[derive(Clone, Copy)]
 pub struct Answer {
     pub refusal: u32,
     pub wrote: u32,
@@ -206,7 +208,7 @@ pub struct Answer {
 // The answer of the first walk over a log: the refusal's number, 0 for none, and the end of the last whole record (0
 // where refused).
 #[repr(C)]
-#[derive(Drop)]
+#[derive(Clone, Copy)]
 pub struct LogEnd {
     pub refusal: u32,
     pub end: u64,
@@ -216,7 +218,7 @@ pub struct LogEnd {
 // entry of an image in the log, 3 an entry of the checkpoint; from start to end of the tail (1, 2) or of the checkpoint
 // (3). All 0 but the number where refused.
 #[repr(C)]
-#[derive(Drop)]
+#[derive(Clone, Copy)]
 pub struct Place {
     pub refusal: u32,
     pub source: u32,
@@ -228,7 +230,7 @@ pub struct Place {
 
 // An open call; call 0 is a free place.
 #[repr(C)]
-#[derive(Drop)]
+#[derive(Clone, Copy)]
 pub struct OpenCall {
     pub call: u32,
     pub op: u8,
@@ -238,7 +240,7 @@ pub struct OpenCall {
 
 // A client: its number, lease end, next call number, and the open calls, each at the place call mod 16.
 #[repr(C)]
-#[derive(Drop)]
+#[derive(Clone, Copy)]
 pub struct Client {
     pub client: u32,
     pub lease: u32,
@@ -247,21 +249,21 @@ pub struct Client {
 }
 
 // What start answers.
-#[derive(Drop)]
+#[derive(Clone, Copy)]
 pub enum Started {
     NotStarted(u32),
     Running,
 }
 
 // What issue and resend answer.
-#[derive(Drop)]
+#[derive(Clone, Copy)]
 pub enum Sent {
     NotSent(u32),
     Asked(Request),
 }
 
 // What receive answers.
-#[derive(Drop)]
+#[derive(Clone, Copy)]
 pub enum Received {
     NotReceived(u32),
     // a result: its call is closed
@@ -272,19 +274,19 @@ pub enum Received {
     Extended(Grant),
 }
 
-#[derive(Drop)]
+#[derive(Clone, Copy)]
 pub struct StartAnswer {
     pub client: Client,
     pub answer: Started,
 }
 
-#[derive(Drop)]
+#[derive(Clone, Copy)]
 pub struct SendAnswer {
     pub client: Client,
     pub answer: Sent,
 }
 
-#[derive(Drop)]
+#[derive(Clone, Copy)]
 pub struct ReceiveAnswer {
     pub client: Client,
     pub answer: Received,
@@ -294,7 +296,7 @@ pub struct ReceiveAnswer {
 
 // A lease; client 0 is a free place. `lease` is its end.
 #[repr(C)]
-#[derive(Drop)]
+#[derive(Clone, Copy)]
 pub struct Lease {
     pub client: u32,
     pub lease: u32,
@@ -302,7 +304,7 @@ pub struct Lease {
 
 // `issued` is the latest client number granted.
 #[repr(C)]
-#[derive(Drop)]
+#[derive(Clone, Copy)]
 pub struct LeaseManager {
     pub time: u32,
     pub issued: u32,
@@ -310,14 +312,14 @@ pub struct LeaseManager {
 }
 
 // What open, renew and query answer.
-#[derive(Drop)]
+#[derive(Clone, Copy)]
 pub enum Told {
     NotTold(u32),
     ByGrant(Grant),
     ByNotice(Notice),
 }
 
-#[derive(Drop)]
+#[derive(Clone, Copy)]
 pub struct LeaseAnswer {
     pub manager: LeaseManager,
     pub answer: Told,

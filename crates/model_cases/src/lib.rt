@@ -1,1 +1,2 @@
 // Worked cases of docs/REFERENCE.md, computed by the definitions of `model`. No code.
+#![tactic(auto)]

@@ -14,7 +14,7 @@ use Rattle.model.specs.Versions.{Version, first, second, third, set_quality, par
 use Rattle.model.specs.Limits.{last_outcome, last_quality, whole_part, read_op, set_op, step_op, report_op, fault_op, part_op, carried_out, out_of_range, on_invalid, fell_back, stopped, valid, invalid}
 use Rattle.model.specs.Plan.{in_range, plan_entry_ok}
 use Rattle.model.specs.Packets.{outcome_ok}
-use Rattle.model.specs.Rules.{rounded, result, same, sum_in_range, past_end, set_rule, step_rule, report_rule, fault_rule, part_rule, rule_of, argument_ok}
+use Rattle.model.specs.Rules.{rounded, command_result, same, sum_in_range, past_end, set_rule, step_rule, report_rule, fault_rule, part_rule, rule_of, argument_ok}
 use Rattle.model_laws.proofs.Tests.{choose}
 use Rattle.model_laws.specs.Results.{ResultOk}
 use Rattle.model_laws.proofs.Bounds.{range_bounds, sum_bounds, part_bounds, part_between, entry_ordered}
@@ -30,7 +30,7 @@ part-quality second = omega arith
 part-quality third = omega arith
 
 module _ (e : PlanEntry) where
-  result_ok_lem : (n v q : ℕ) → n ≤ last_outcome → q ≤ last_quality → e.low ≤ v → v ≤ e.high → ResultOk e (result n v q)
+  result_ok_lem : (n v q : ℕ) → n ≤ last_outcome → q ≤ last_quality → e.low ≤ v → v ≤ e.high → ResultOk e (command_result n v q)
   unfolding in_range outcome_ok
   result_ok_lem n v q a b c d =
       record {
@@ -43,16 +43,16 @@ module _ (e : PlanEntry) where
     unchanged_ok : (n : ℕ) → n ≤ last_outcome → ResultOk e (same n r)
     unchanged_ok n h = let b = range_bounds e r.value within in result_ok_lem n r.value r.quality h quality b.0 b.1
 
-    fallback-ok : ResultOk e (result fell_back e.fallback invalid)
+    fallback-ok : ResultOk e (command_result fell_back e.fallback invalid)
     fallback-ok = let b = entry_ordered e ok in result_ok_lem fell_back e.fallback invalid (omega arith) (omega arith) b.0 b.1
 
-    stored_ok : (q : ℕ) → q ≤ last_quality → in_range e a ≡ true → ResultOk e (result carried_out a q)
+    stored_ok : (q : ℕ) → q ≤ last_quality → in_range e a ≡ true → ResultOk e (command_result carried_out a q)
     stored_ok q k h = let b = range_bounds e a h in result_ok_lem carried_out a q (omega arith) k b.0 b.1
 
     end-ok : ResultOk e (past_end second e a r)
     end-ok =
         let b = entry_ordered e ok in
-        choose (λ (v : ℕ). ResultOk e (result stopped v r.quality)) (leb (e.low + half) (r.value + a))
+        choose (λ (v : ℕ). ResultOk e (command_result stopped v r.quality)) (leb (e.low + half) (r.value + a))
         (λ h. result_ok_lem stopped e.high r.quality (omega arith) quality (omega arith) (omega arith))
         (λ h. result_ok_lem stopped e.low r.quality (omega arith) quality (omega arith) (omega arith))
 

@@ -1,4 +1,6 @@
 // One log record applied to a state's buffer: what replay does with it, for the operations and for recovery alike.
+#![tactic(auto)]
+
 pub mod took;
 
 ghost use Rattle.std.specs.Prelude.{◌≡◌, ◌≤◌};

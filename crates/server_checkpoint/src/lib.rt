@@ -1,5 +1,7 @@
 // Checkpoint: what a server knows, without places of its log, and the head of the tail that follows; the state then
 // starts from them.
+#![tactic(auto)]
+
 ghost use Rattle.std.specs.Prelude.{◌≡◌, ℕ, ◌≤◌, List, length};
 ghost use Rattle.model.specs.Limits.{head_size, checkpoint_size};
 ghost use Rattle.model.specs.Versions.{today};

@@ -1,6 +1,8 @@
 // The tests of each call of a server, on values: the refusal's number, 0 if it is not refused; and the answer by it.
 // They stand in the order of docs/REFERENCE.md; those of lent memory (2, 19) come before. Recovery asks the same
 // functions.
+#![tactic(auto)]
+
 ghost use Rattle.std.specs.Prelude.{◌≡◌, ◌&&◌, ◌||◌, not, leb};
 ghost use Rattle.model.specs.Limits.{client_count, executed_size};
 ghost use Rattle.model.specs.Images.{not_known};

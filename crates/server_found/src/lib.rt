@@ -1,4 +1,6 @@
 // Found: a server's first state, and the head of its log.
+#![tactic(auto)]
+
 ghost use Rattle.std.specs.Prelude.{◌≡◌, true, [], map, ◌+◌, ◌*◌, ◌≤◌, ◌<◌, eqb, length, drop};
 ghost use Rattle.model.specs.Choice.{pick};
 ghost use Rattle.model.specs.Limits.{point_count, plan_size, plan_row};

@@ -1,4 +1,6 @@
 // The memory that is lent to every call of a server: its tests, which come first, and the space left in the log.
+#![tactic(auto)]
+
 ghost use Rattle.std.specs.Prelude.{◌≡◌, ◌≤◌, length};
 ghost use Rattle.model.specs.States.{load, state_end};
 ghost use Rattle.model.specs.Operations.{unfit, lent_refusal, free_in};

@@ -23,7 +23,7 @@ use state_records::Found;
 use state_rows::state;
 
 // What is decided on a request.
-#[derive(Drop)]
+#[derive(Clone, Copy)]
 pub enum Decision {
     // the refusal's number
     Refuse(u32),

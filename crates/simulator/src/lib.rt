@@ -1,4 +1,6 @@
 // The simulator (paper: the yard): a schedule's text in, the answers' text out.
+#![tactic(auto)]
+
 pub mod at_client;
 pub mod at_server;
 pub mod delivery;
@@ -24,7 +26,7 @@ const STORE: usize = packets::ROW * MOST_LINES as usize;
 pub const PAGE: usize = write_reply::REPLY_ROOM * MOST_LINES as usize;
 
 // What one line of the text leaves.
-#[derive(Drop)]
+#[derive(Clone, Copy)]
 pub struct Turn {
     pub memory: Memory,
     pub reply: Reply,

@@ -1,5 +1,7 @@
 // The simulator for C: a schedule's text in, the answers' text out, and one word of 64 bits: the low 32 bits are 0 or
 // the refusal's number, the high 32 bits the number of bytes written.
+#![tactic(auto)]
+
 ghost use Rattle.std.specs.Prelude.{◌≡◌};
 ghost use Rattle.model.specs.Operations.{word_of};
 ghost use Rattle.simulator.specs.Run.{simulate_of};

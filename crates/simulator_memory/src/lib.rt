@@ -1,5 +1,7 @@
 // The simulator's memory beside its servers: the packets made, the clients, and what a line's work leaves of both. The
 // packets by number, and what a call makes of them, have a module each.
+#![tactic(auto)]
+
 pub mod outcome;
 pub mod packets;
 
@@ -10,28 +12,28 @@ use model::Client;
 use simulator_text::Reply;
 
 // Where a packet stands.
-#[derive(Drop)]
+#[derive(Clone, Copy)]
 pub enum Place {
     Nowhere,
     Row(u32),
 }
 
 // What a call leaves: the count of packets made, and the line's answer.
-#[derive(Drop)]
+#[derive(Clone, Copy)]
 pub struct Made {
     pub count: u32,
     pub reply: Reply,
 }
 
 // What a line leaves of a client.
-#[derive(Drop)]
+#[derive(Clone, Copy)]
 pub struct ClientMade {
     pub client: Client,
     pub made: Made,
 }
 
 // The memory beside the lent slices: the clients, and the count of packets made.
-#[derive(Drop)]
+#[derive(Clone, Copy)]
 pub struct Memory {
     pub client0: Client,
     pub client1: Client,
@@ -39,7 +41,7 @@ pub struct Memory {
 }
 
 // What a step leaves.
-#[derive(Drop)]
+#[derive(Clone, Copy)]
 pub struct Stepped {
     pub memory: Memory,
     pub reply: Reply,

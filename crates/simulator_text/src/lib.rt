@@ -1,6 +1,8 @@
 // The simulator's text (paper: the yard): a line of a schedule read as a value, and an answer written; no line is run
 // here. The values of both, and the bytes at which a text falls apart; to read a number or a line, and to write an
 // answer, has a module each.
+#![tactic(auto)]
+
 pub mod read_line;
 pub mod read_number;
 pub mod write_reply;
@@ -14,7 +16,7 @@ pub const MOST_LINES: u32 = 60;
 // ---- lines and answers
 
 // What a line asks of a server.
-#[derive(Drop)]
+#[derive(Clone, Copy)]
 pub enum ServerLine {
     // d: the packet's number
     Deliver(u32),
@@ -31,7 +33,7 @@ pub enum ServerLine {
 }
 
 // What a line asks of a client.
-#[derive(Drop)]
+#[derive(Clone, Copy)]
 pub enum ClientLine {
     // i: op, point, argument (x + 2^31)
     Issue(u32, u32, u32),
@@ -42,7 +44,7 @@ pub enum ClientLine {
 }
 
 // A line: the number of the server or client that it calls, and what it asks.
-#[derive(Drop)]
+#[derive(Clone, Copy)]
 pub enum Line {
     Unreadable,
     AtServer(u32, ServerLine),
@@ -50,7 +52,7 @@ pub enum Line {
 }
 
 // What a line answers: number or 0, packet made or 0, value received (x + 2^31).
-#[derive(Drop)]
+#[derive(Clone, Copy)]
 pub struct Reply {
     pub number: u32,
     pub made: u32,
@@ -58,7 +60,7 @@ pub struct Reply {
 }
 
 // A number that was read, or that there is none.
-#[derive(Drop)]
+#[derive(Clone, Copy)]
 pub enum Number {
     Nothing,
     Is(u32),

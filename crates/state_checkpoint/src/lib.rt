@@ -1,5 +1,7 @@
 // A server's checkpoint, written from its state in the form with times: the head with the pairs, then the four parts.
 // Plan and clients are the state's bytes; a row of a point or of a completion record is the front of the state's row.
+#![tactic(auto)]
+
 ghost use Rattle.std.specs.Prelude.{◌≡◌, true, ◌++◌, ◌+◌, ◌*◌, ◌≤◌, length, take};
 ghost use Rattle.model.specs.Limits.{client_count, record_count, pair_size, checkpoint_pairs, checkpoint_head, checkpoint_record, checkpoint_size};
 ghost use Rattle.model.specs.Numbers.{le32, quad};

@@ -1,5 +1,7 @@
 // The clients' table of a server's state, changed in place: a client's floor raised, a client removed, an image's
 // floors merged; and how many clients there would be after merging.
+#![tactic(auto)]
+
 pub mod floors;
 pub mod rows;
 

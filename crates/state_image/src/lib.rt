@@ -1,6 +1,8 @@
 // The image of a point, written from a server's tables.
 // Each completion record on the point has its own slot (see `floors`), and the order of slots is that of the image: so
 // the records are put at their slots and then written slot by slot.
+#![tactic(auto)]
+
 ghost use Rattle.std.specs.Prelude.{◌≡◌, ◌+◌, ◌*◌, ◌≤◌, length, drop};
 ghost use Rattle.model.specs.Limits.{last_point, greatest_image, record_count, entry_row};
 ghost use Rattle.model.specs.Tables.{written};

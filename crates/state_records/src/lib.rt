@@ -1,5 +1,7 @@
 // The completion records' table of a server's state, in order of arrival: a record found by its id, records added, and
 // those kept that a rule lets stay. What a change leaves is the bytes of the changed state.
+#![tactic(auto)]
+
 use state_clients::floors;
 
 pub mod ids;
@@ -22,14 +24,14 @@ use model::{Command, Completion, ImageEntry, ImageHead};
 use state_rows::state;
 
 // What a search finds.
-#[derive(Drop)]
+#[derive(Clone, Copy)]
 pub enum Found {
     Nothing,
     At(Completion),
 }
 
 // Which records stay.
-#[derive(Drop)]
+#[derive(Clone, Copy)]
 pub enum Rule {
     // of a client only calls from a floor on
     OverFloor(u32, u32),

@@ -1,5 +1,7 @@
 // A server's state from its checkpoint: the bytes of the state that the checkpoint keeps, with every place of the log
 // at 8.
+#![tactic(auto)]
+
 ghost use Rattle.std.specs.Prelude.{◌≡◌, true, ◌+◌, ◌*◌, ◌/◌, ◌≤◌, ◌<◌, eqb, leb, length, take, drop};
 ghost use Rattle.model.specs.Choice.{pick};
 ghost use Rattle.model.specs.Limits.{head_size, point_count, client_count, record_count, floor_row, checkpoint_head, checkpoint_point, checkpoint_record};

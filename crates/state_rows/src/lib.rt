@@ -1,6 +1,8 @@
 // A server's state in its buffer: the counts of its head, and the rows of its tables, each at its place. The plan's
 // entries are read by `format_commands`, the clients' rows by `format_floors`. The module `state` reads and stores the
 // parts of a state.
+#![tactic(auto)]
+
 pub mod state;
 
 ghost use Rattle.std.specs.Prelude.{◌≡◌, ◌+◌, ◌-◌, ◌≤◌, length, drop, replicate};

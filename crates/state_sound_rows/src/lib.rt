@@ -1,4 +1,6 @@
 // Tests of the parts of a server's state buffer, each at its place: the head, the plan with the points, the clients.
+#![tactic(auto)]
+
 ghost use Rattle.std.specs.Prelude.{◌≡◌, suc, ◌+◌, ◌*◌, ◌≤◌, length, drop, eqb};
 ghost use Rattle.model.specs.Choice.{pick};
 ghost use Rattle.model.specs.Tables.{rows, every, zeros};

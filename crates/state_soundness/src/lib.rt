@@ -1,5 +1,7 @@
 // The soundness test of a server's state buffer: a call on a buffer that fails it answers 19. One pass over each table;
 // that no id stands twice is tested by the slots of the completion records.
+#![tactic(auto)]
+
 ghost use Rattle.std.specs.Prelude.{◌≡◌, true, ◌+◌, ◌*◌, ◌≤◌, length, drop, replicate};
 ghost use Rattle.model.specs.Limits.{floor_row, client_count, record_count};
 ghost use Rattle.model.specs.Tables.{rows};

@@ -1,6 +1,8 @@
 // The program `yard`: a schedule on standard input, its answers on standard output. The work is `simulator::simulate`,
 // which is proved; here bytes are read and written. An input of more than 65,536 bytes is answered where its first 60
 // lines end within them, since later lines are not read; else it says so on standard error and answers nothing.
+#![tactic(auto)]
+
 ghost use Rattle.std.specs.Prelude.{◌≡◌, ◌+◌, ◌*◌, length};
 ghost use Rattle.model.specs.Simulator.{most_lines};
 ghost use Rattle.model.specs.Letters.{reply_room};

@@ -5,7 +5,7 @@ use Prim.Native.Nat.{ℕ, ◌+◌, ◌-◌}
 use Rattle.format_numbers.proofs.Picks.{yes_call, no_call_lem}
 use Rattle.model.specs.Numbers.{half}
 use Rattle.model.specs.Limits.{carried_out, stopped}
-use Rattle.model.specs.Rules.{result, end_past}
+use Rattle.model.specs.Rules.{command_result, end_past}
 use borrow.Author.Rules.{rules}
 use Rattle.format_commands.proofs.step_valid.Statement.{statement}
 use Rattle.format_commands.proofs.step_valid.Tie as tie
@@ -17,17 +17,17 @@ returns : tie.Need-returns
 returns c =
     let start = c.before.before.before.before.args in
     let q = start.reading.quality in
-    let e : c.result-of.result ≡ result carried_out c.before.sum.result q = c.result-of.ensures in
+    let e : c.result-of.result ≡ command_result carried_out c.before.sum.result q = c.result-of.ensures in
     let v : c.before.sum.result ≡ start.reading.value + start.argument - half = c.before.sum.ensures in
-    yes_call _ c.before.before.before.sum-in-range.ensures c.before.before.if1.true (e ∙ ap (λ (n : ℕ). result carried_out n q) v)
+    yes_call _ c.before.before.before.sum-in-range.ensures c.before.before.if1.true (e ∙ ap (λ (n : ℕ). command_result carried_out n q) v)
 
 returns-2 : tie.Need-returns-2
 returns-2 c =
     let start = c.before.before.before.before.args in
     let q = start.reading.quality in
-    let e : c.result-of2.result ≡ result stopped c.before.end-past.result q = c.result-of2.ensures in
+    let e : c.result-of2.result ≡ command_result stopped c.before.end-past.result q = c.result-of2.ensures in
     let v : c.before.end-past.result ≡ end_past start.e start.reading.value start.argument = c.before.end-past.ensures in
-    no_call_lem _ c.before.before.before.sum-in-range.ensures c.before.before.if1.false (e ∙ ap (λ (n : ℕ). result stopped n q) v)
+    no_call_lem _ c.before.before.before.sum-in-range.ensures c.before.before.if1.false (e ∙ ap (λ (n : ℕ). command_result stopped n q) v)
 
 pub step-valid-spec : {M : Type 1} → statement M
 step-valid-spec =
