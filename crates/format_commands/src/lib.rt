@@ -139,7 +139,7 @@ fn end_past(e: PlanEntry, v: u32, argument: u32) -> u32
 // v + argument, where it is in range; else the end that it is past, outcome 4.
 fn step_valid(e: PlanEntry, argument: u32, reading: Reading) -> CommandResult
     ensures { result ≡ pick (sum_in_range e reading.value argument)
-        (result carried_out (reading.value + argument - half) reading.quality)
+        (command_result carried_out (reading.value + argument - half) reading.quality)
         (past_end second e argument reading) }
 {
     let v = reading.value;

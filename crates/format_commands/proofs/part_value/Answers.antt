@@ -1,0 +1,42 @@
+-- What is left to show of `format_commands::part_value`.
+use Prim.Native.Nat.{ℕ, ◌+◌, ◌-◌, ◌*◌, ◌/◌, ◌%◌, ◌≤◌, ◌<◌}
+use mathlib.Core.Path.{◌≡◌}
+use native.Mathlib.Omega.{arith}
+use borrow.Author.Tests.{lt-ltb, le-ltb}
+use Rattle.model.specs.Numbers.{nearest}
+use Rattle.model.specs.Limits.{whole_part}
+use borrow.Author.Rules.{rules}
+use Rattle.format_commands.proofs.part_value.Goals as goal
+
+module _ (low m odd : ℕ) (e : odd ≡ m / whole_part % 2) where
+  up : whole_part < 2 * (m - whole_part * (m / whole_part)) + odd → low + m / whole_part + 1 ≡ low + nearest m whole_part
+  unfolding nearest
+  up h = rw (lt-ltb whole_part (2 * (m % whole_part) + m / whole_part % 2) (omega arith)) (omega arith)
+
+  down : 2 * (m - whole_part * (m / whole_part)) + odd ≤ whole_part → low + m / whole_part ≡ low + nearest m whole_part
+  unfolding nearest
+  down h = rw (le-ltb whole_part (2 * (m % whole_part) + m / whole_part % 2) (omega arith))
+
+pub overflow_mul-rest : goal.overflow_mul-rest
+overflow_mul-rest c = omega arith
+
+pub overflow_sub-rest : goal.overflow_sub-rest
+overflow_sub-rest c = omega arith
+
+pub overflow_add-down : goal.overflow_add-down
+overflow_add-down c = omega arith
+
+pub overflow_mul-rest-2 : goal.overflow_mul-rest-2
+overflow_mul-rest-2 c = omega arith
+
+pub overflow_add-rest : goal.overflow_add-rest
+overflow_add-rest c = omega arith
+
+pub overflow_add-result : goal.overflow_add-result
+overflow_add-result c = omega arith
+
+pub returns-then-rest-odd-gt-WHOLE_PART_U64 : goal.returns-then-rest-odd-gt-WHOLE_PART_U64
+returns-then-rest-odd-gt-WHOLE_PART_U64 c = up _ _ _ c.last_bit-odd.ensures c.if-rest-odd-gt-WHOLE_PART_U64.true
+
+pub returns-else-rest-odd-gt-WHOLE_PART_U64 : goal.returns-else-rest-odd-gt-WHOLE_PART_U64
+returns-else-rest-odd-gt-WHOLE_PART_U64 c = down _ _ _ c.last_bit-odd.ensures c.if-rest-odd-gt-WHOLE_PART_U64.false
