@@ -73,6 +73,7 @@ module _ {A : Type 0} (t : A → Bool) where
       go : (b : Bool) → t y ≡ b → Split t x ys → Split t x (y ∷ ys)
       go true k s = absurd (all_member (λ z. t z ≡ true → ⊥) (o.0 k) m h)
       go false k s = record { front = y ∷ s.front; rest = s.rest; same = ap (λ (l : List A). y ∷ l) s.same; index = rw k (ap suc s.index) }
+  once-split {x = x} [] m h o = elim m [ ]
 
   pub split_below : {x : A} (xs : List A) → Split t x xs → index_of t xs < length xs
   split_below {x} xs s = let l = ap length s.same ∙ length-append s.front (x ∷ s.rest) in omega (arith, s.index, l)
@@ -155,6 +156,7 @@ taken-from p end (e ∷ es) r (Memᴰ.head q) = record { entry = e; member = Mem
 taken-from p end (e ∷ es) r (Memᴰ.tail m) =
     let k = taken-from p end es r m in
     record { entry = k.entry; member = Memᴰ.tail k.member; same = k.same }
+taken-from p end [] r m = elim m [ ]
 
 -- ---- one more record
 

@@ -298,6 +298,7 @@ module _ (start : State) (es : List Entry) (checkpoint tail : List ℕ) (x c : �
 from_member : {e : Entry} (k : ℕ) (es : List Entry) → EntriesFrom k es → Memᴰ e es → record_fits e.item
 from_member k (y ∷ es) f (mathlib.Core.List.Memᴰ.head q) = subst (λ (j : Entry). record_fits j.item) (sym q) f.0.fits
 from_member k (y ∷ es) f (mathlib.Core.List.Memᴰ.tail m) = from_member y.end es f.1 m
+from_member {e = e} k [] f m = elim m [ ]
 
 row_tells : (timed : Bool) (r : Completion) → CompletionFits r → TimeFits timed r.result.time → r.end ≡ head_size
     → completion_of (record_whole (checkpoint_record_of timed) (record_front (checkpoint_record_of timed) r)) ≡ r
