@@ -4,7 +4,6 @@ use native.Mathlib.Omega.{arith}
 use Rattle.model.specs.Limits.{set_op, step_op, report_op}
 use Rattle.model.specs.Rules.{rule_of, argument_range}
 use Rattle.format_commands.proofs.Checked.{inside, outside, other, any_argument}
-use borrow.Author.Rules.{rules}
 use Rattle.format_commands.proofs.checked_rule.Goals as goal
 
 pub part_rule-requires : goal.part_rule-requires

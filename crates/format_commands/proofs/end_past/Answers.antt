@@ -1,6 +1,5 @@
 -- What is left to show of `format_commands::end_past`.
 use Rattle.format_numbers.proofs.Picks.{picks}
-use borrow.Author.Rules.{rules}
 use Rattle.format_commands.proofs.end_past.Goals as goal
 
 pub returns-then-low-sum : goal.returns-then-low-sum

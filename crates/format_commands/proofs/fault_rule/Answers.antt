@@ -1,6 +1,5 @@
 -- What is left to show of `format_commands::fault_rule`.
 use Rattle.model.specs.Rules.{fault_rule}
-use borrow.Author.Rules.{rules}
 use Rattle.format_commands.proofs.fault_rule.Goals as goal
 
 pub returns : goal.returns

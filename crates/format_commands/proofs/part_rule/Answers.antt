@@ -2,7 +2,6 @@
 use Rattle.model_laws.proofs.Bounds.{part_scaled, nearest-most}
 use native.Mathlib.Omega.{arith}
 use Rattle.model.specs.Rules.{part_rule}
-use borrow.Author.Rules.{rules}
 use Rattle.format_commands.proofs.part_rule.Goals as goal
 
 pub overflow_mul-span : goal.overflow_mul-span

@@ -5,7 +5,6 @@ use native.Mathlib.Omega.{arith}
 use borrow.Author.Tests.{lt-ltb, le-ltb}
 use Rattle.model.specs.Numbers.{nearest}
 use Rattle.model.specs.Limits.{whole_part}
-use borrow.Author.Rules.{rules}
 use Rattle.format_commands.proofs.part_value.Goals as goal
 
 module _ (low m odd : ℕ) (e : odd ≡ m / whole_part % 2) where

@@ -1,6 +1,5 @@
 -- What is left to show of `format_commands::plan_entry`.
 use Rattle.format_commands.proofs.Plan.{plan-entry-at}
-use borrow.Author.Rules.{rules}
 use Rattle.format_commands.proofs.plan_entry.Goals as goal
 
 pub returns : goal.returns

@@ -1,13 +1,7 @@
 -- What is left to show of `format_commands::plan_ok`.
 use borrow.Author.Rules.{rules}
-use Prim.Native.Nat.{◌≤◌, ◌-◌}
-use mathlib.Core.Path.{◌≡◌, sym, ◌∙◌}
-use lib.ListN.{length}
-use borrow.Author.Tests.{not-true, not-false}
-use Rattle.format_commands.proofs.Plan.{rows_from, plan-long, plan-goes, plan_stops, plan_ends}
-use Rattle.model.specs.Tables.{every_row}
-use Rattle.model.specs.Limits.{plan_row, plan_size, point_count}
-use Rattle.model.specs.Plan.{plan_row_ok}
+use mathlib.Core.Path.{sym, ◌∙◌}
+use Rattle.format_commands.proofs.Plan.{plan-long, plan-goes, plan_stops, plan_ends}
 use Rattle.format_commands.proofs.plan_ok.Goals as goal
 
 pub returns-then-s : goal.returns-then-s
@@ -17,7 +11,7 @@ pub returns-then-not-plan_row_ok : goal.returns-then-not-plan_row_ok
 returns-then-not-plan_row_ok c =
     let at = c.loop-i in
     plan_stops c.args.s.now at.i at.invariant.2 at.invariant.0 c.loop-i-test.true
-    (sym c.plan_row_ok.ensures ∙ not-true c.plan_row_ok.result c.if-not-plan_row_ok.true)
+    (sym c.plan_row_ok.ensures ∙ c.if-not-plan_row_ok.true)
 
 pub loop-i-preserved : goal.loop-i-preserved
 loop-i-preserved c =
@@ -25,7 +19,7 @@ loop-i-preserved c =
       at.invariant.0,
       search rules,
       plan-goes c.args.s.now at.i at.invariant.2 c.loop-i-test.true
-          (sym c.plan_row_ok.ensures ∙ not-false c.plan_row_ok.result c.if-not-plan_row_ok.false),
+          (sym c.plan_row_ok.ensures ∙ c.if-not-plan_row_ok.false),
     )
 
 pub returns : goal.returns

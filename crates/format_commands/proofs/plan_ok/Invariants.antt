@@ -1,10 +1,8 @@
 -- The invariants of `format_commands::plan_ok`.
-use borrow.Author.Rules.{rules}
 use Prim.Native.Nat.{◌≤◌, ◌-◌}
-use mathlib.Core.Path.{◌≡◌, sym, ◌∙◌}
+use mathlib.Core.Path.{◌≡◌}
 use lib.ListN.{length}
-use borrow.Author.Tests.{not-true, not-false}
-use Rattle.format_commands.proofs.Plan.{rows_from, plan-long, plan-goes, plan_stops, plan_ends}
+use Rattle.format_commands.proofs.Plan.{rows_from}
 use Rattle.model.specs.Tables.{every_row}
 use Rattle.model.specs.Limits.{plan_row, plan_size, point_count}
 use Rattle.model.specs.Plan.{plan_row_ok}

@@ -1,7 +1,6 @@
 -- What is left to show of `format_commands::plan_row_ok`.
 use Rattle.model.specs.Plan.{plan_row_ok}
 use Rattle.model_laws.proofs.Numbers.{zeros3_drop}
-use borrow.Author.Rules.{rules}
 use Rattle.format_commands.proofs.plan_row_ok.Goals as goal
 
 pub returns : goal.returns

@@ -1,7 +1,6 @@
 -- What is left to show of `format_commands::report_rule`.
 use Rattle.format_numbers.proofs.Picks.{picks}
 use Rattle.model.specs.Rules.{report_rule}
-use borrow.Author.Rules.{rules}
 use Rattle.format_commands.proofs.report_rule.Goals as goal
 
 pub returns-then-in_range : goal.returns-then-in_range

@@ -1,7 +1,6 @@
 -- What is left to show of `format_commands::step_rule`.
 use Rattle.format_numbers.proofs.Picks.{picks}
 use Rattle.model.specs.Rules.{step_rule}
-use borrow.Author.Rules.{rules}
 use Rattle.format_commands.proofs.step_rule.Goals as goal
 
 pub returns-then-quality-eq-INVALID : goal.returns-then-quality-eq-INVALID

@@ -5,7 +5,6 @@ use Rattle.format_numbers.proofs.Picks.{yes_call, no_call_lem}
 use Rattle.model.specs.Numbers.{half}
 use Rattle.model.specs.Limits.{carried_out, stopped}
 use Rattle.model.specs.Rules.{command_result, end_past}
-use borrow.Author.Rules.{rules}
 use Rattle.format_commands.proofs.step_valid.Goals as goal
 
 pub sum-requires : goal.sum-requires

@@ -1,7 +1,6 @@
 -- What is left to show of `format_commands::sum`.
 use native.Mathlib.Omega.{arith}
 use Rattle.model_laws.proofs.Bounds.{sum_bounds}
-use borrow.Author.Rules.{rules}
 use Rattle.format_commands.proofs.sum.Goals as goal
 
 pub overflow_sub-result : goal.overflow_sub-result
