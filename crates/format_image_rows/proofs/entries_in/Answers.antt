@@ -1,7 +1,6 @@
 -- What is left to show of `format_image_rows::entries_in`.
 use mathlib.Core.Path.{refl}
 use Rattle.model.specs.Images.{entry_row_of}
-use borrow.Author.Rules.{rules}
 use Rattle.format_image_rows.proofs.entries_in.Goals as goal
 
 pub returns-then-timed : goal.returns-then-timed

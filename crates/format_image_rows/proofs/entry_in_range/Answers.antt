@@ -1,6 +1,5 @@
 -- What is left to show of `format_image_rows::entry_in_range`.
 use Rattle.model.specs.Images.{entry_in_range}
-use borrow.Author.Rules.{rules}
 use Rattle.format_image_rows.proofs.entry_in_range.Goals as goal
 
 pub returns : goal.returns

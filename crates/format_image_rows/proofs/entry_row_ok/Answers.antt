@@ -2,7 +2,6 @@
 use mathlib.Core.Path.{sym, ◌∙◌}
 use Rattle.model_laws.proofs.Numbers.{zero-drop}
 use Rattle.model.specs.Images.{entry_row_ok}
-use borrow.Author.Rules.{rules}
 use Rattle.format_image_rows.proofs.entry_row_ok.Goals as goal
 
 pub returns : goal.returns

@@ -1,6 +1,5 @@
 -- What is left to show of `format_image_rows::framed`.
 use Rattle.model.specs.Images.{image_framed}
-use borrow.Author.Rules.{rules}
 use Rattle.format_image_rows.proofs.framed.Goals as goal
 
 pub returns : goal.returns

@@ -1,6 +1,5 @@
 -- What is left to show of `format_image_rows::head_from`.
 use Rattle.model.specs.Images.{image_head_of}
-use borrow.Author.Rules.{rules}
 use Rattle.format_image_rows.proofs.head_from.Goals as goal
 
 pub returns : goal.returns

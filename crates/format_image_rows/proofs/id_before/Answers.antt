@@ -1,7 +1,6 @@
 -- What is left to show of `format_image_rows::id_before`.
 use Rattle.format_image_rows.specs.Order.{entry_before}
 use Rattle.model.specs.Images.{id_before}
-use borrow.Author.Rules.{rules}
 use Rattle.format_image_rows.proofs.id_before.Goals as goal
 
 pub returns : goal.returns

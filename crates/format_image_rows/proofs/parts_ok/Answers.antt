@@ -2,7 +2,6 @@
 use native.Mathlib.Omega.{arith}
 use Rattle.model.specs.Images.{image_parts}
 use Rattle.model_laws.proofs.Images.{width-most}
-use borrow.Author.Rules.{rules}
 use Rattle.format_image_rows.proofs.parts_ok.Goals as goal
 
 pub overflow_mul-entries : goal.overflow_mul-entries
