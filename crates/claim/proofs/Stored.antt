@@ -4,7 +4,7 @@
 --     survives-reach           what survives is kept by every later crash, what a checkpoint replaced included
 --     tail_needs_checkpoint    recovery from checkpoint and tail needs a stored checkpoint
 -- Assumes nothing.
-use Prim.Native.Nat.{ℕ, suc, ◌+◌, ◌-◌, ◌≤◌, ◌<◌}
+use Prim.Native.Nat.{ℕ, suc, ◌+◌, ◌≤◌, ◌<◌}
 use mathlib.Core.Path.{◌≡◌, refl, subst}
 use mathlib.Core.List.{List, []}
 use native.Mathlib.Omega.{arith}

@@ -29,7 +29,7 @@ use Rattle.model_laws.proofs.Clients.{ReceiveCase, receive_case}
 use Rattle.model_laws.proofs.Clients as Clients
 use Rattle.model_laws.proofs.Tests.{impossible}
 use Rattle.claim.specs.World.{Event, running, after}
-use Rattle.claim.specs.Claim.{◌∈◌, Once, none_left, one_more, Before, first, later, command_at, Account, ExplainedBy, Explains, Completes, SurvivesAt, Notes, Tells}
+use Rattle.claim.specs.Claim.{◌∈◌, Once, none_left, one_more, Before, first, later, command_at, Account, ExplainedBy, Explains, Completes, Notes, Tells}
 use Rattle.claim.specs.Times.{TimesOf}
 use Rattle.claim.proofs.Clients.{at_once}
 use Rattle.claim.proofs.Completed.{completed}
@@ -52,6 +52,7 @@ once-same (one_more {e = e} {es = es} f o) a b k m i j ka mb x c = go (Memᴰ.ca
 not-before_itself : {order : List OrderEntry} → Once order → (a : OrderEntry) (m : Marked) → m ∈ parts a → Before a a order → ⊥
 not-before_itself (one_more f o) a m i (first j) = f a m m j i i refl refl
 not-before_itself (one_more f o) a m i (later b) = not-before_itself o a m i b
+not-before_itself none_left a m i b = elim b [ ]
 
 in_single : (m : Marked) → m ∈ parts (single m)
 unfolding parts
