@@ -1,0 +1,17 @@
+-- What is left to show of `server_decide::image_refusal`.
+use Rattle.server_decide.proofs.Nots.{yes_not, no_not}
+use Rattle.format_numbers.proofs.Picks.{picks}
+use Rattle.model.specs.Decisions.{image_refusal}
+use Rattle.server_decide.proofs.image_refusal.Goals as goal
+
+pub returns-then-not-is_given : goal.returns-then-not-is_given
+unfolding image_refusal
+returns-then-not-is_given c = search (picks, yes_not, no_not) depth 24
+
+pub returns-then-not-is_synced : goal.returns-then-not-is_synced
+unfolding image_refusal
+returns-then-not-is_synced c = search (picks, yes_not, no_not) depth 24
+
+pub returns : goal.returns
+unfolding image_refusal
+returns c = search (picks, yes_not, no_not) depth 24
