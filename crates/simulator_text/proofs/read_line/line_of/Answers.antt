@@ -1,0 +1,14 @@
+-- What is left to show of `simulator_text::read_line::line_of`.
+use Rattle.simulator_text.proofs.Fields.{fields-last, fields-parts}
+use mathlib.Core.Path.{refl}
+use Rattle.model.specs.Simulator.{numbers_from, line_by, line_with, line_of_fields, line_of}
+use Rattle.simulator_text.proofs.read_line.line_of.Goals as goal
+
+pub returns-then-end-s : goal.returns-then-end-s
+unfolding line_of line_of_fields
+returns-then-end-s c =
+    rw (fields-parts _ _ c.find-end.ensures.0 c.if-end-s.true, ← c.letter_in-letter.ensures, ← c.numbers_in-n.ensures) c.line_by.ensures
+
+pub returns : goal.returns
+unfolding line_of line_of_fields line_with numbers_from line_by
+returns c = rw (fields-last _ _ c.find-end.ensures.0 c.if-end-s.false) refl
