@@ -5,7 +5,7 @@
 --     passed, refused-same        a command that is issued, or refused
 --     again-same, heard-same, ended_chamber    the controller after a resend and a receive
 -- Assumes nothing.
-use Prim.Native.Nat.{ℕ, zero, ◌<◌, ◌≤◌}
+use Prim.Native.Nat.{ℕ, ◌<◌, ◌≤◌}
 use mathlib.Core.Path.{◌≡◌, refl, sym, ◌∙◌, ap}
 use mathlib.Core.Bool.{Bool, true, false, ◌&&◌, ◌||◌, not}
 use mathlib.Core.List.{List, [], ◌∷◌}
