@@ -4,12 +4,13 @@
 // a line on standard error.
 #![tactic(auto)]
 
-ghost use Rattle.std.specs.Prelude.{◌≡◌, ◌≤◌, ◌<◌, length};
-ghost use Rattle.io.specs.Counts.{IsPrefixLen};
+ghost use Rattle.std.specs.Prelude.{◌≡◌, ◌≤◌, ◌<◌, length, take, IfOk};
 ghost use Rattle.model.specs.Limits.{record_count, state_size};
 
 use model::{Answer, constants};
 use state_rows::state;
+use std::io;
+use std::io::Read;
 
 // Bytes that are read at most.
 const LONGEST: usize = 65536;
@@ -22,43 +23,47 @@ fn state_buffer() -> [u8; constants::STATE_SIZE]
 
 // Where the checkpoint ends, by its last pair: within the card.
 fn checkpoint_end(card: &[u8]) -> usize
-    ensures { IsPrefixLen result card.now }
+    ensures bound { result ≤ length card.now }
+    ensures prefix { result ≡ length (take result card.now) }
 {
     if card.len() < constants::CHECKPOINT_HEAD {
-        return io::count(0, card);
+        return 0;
     }
     let start = format_numbers::read_u32(card, constants::CHECKPOINT_RECORDS_PAIR) as usize;
     let length = format_numbers::read_u32(card, constants::CHECKPOINT_RECORDS_LENGTH) as usize;
-    io::count((start + length) as isize, card)
+    (start + length).min(card.len())
 }
 
-fn write_byte(b: u8) {
-    io::write_all(1, b" ");
-    io::print_hex(1, b as u64, 2);
+fn write_byte(rt: &impl Print, b: u8) -> io::Result<()> {
+    print!(rt; " {b:02x}")
 }
 
-fn write_bytes(part: &[u8]) {
+fn write_bytes(rt: &impl Print, part: &[u8]) -> io::Result<()> {
     let mut i = 0;
     while i < part.len() {
-        write_byte(part[i]);
+        write_byte(rt, part[i])?;
         i += 1;
     }
+    Ok(())
 }
 
 // The completion record in row i of the state.
-fn write_record<'a>(s: &[u8], checkpoint: &'a [u8], tail: &'a [u8], i: usize)
+fn write_record<'a>(
+    rt: &impl Print,
+    s: &[u8],
+    checkpoint: &'a [u8],
+    tail: &'a [u8],
+    i: usize,
+) -> io::Result<()>
     requires { (length s.now ≡ state_size) × (i < record_count) }
 {
     let k = constants::RECORDS_START + constants::RECORD_ROW * i;
     let client = format_numbers::read_u32(s, k);
     let call = format_numbers::read_u32(s, k + constants::RECORD_CALL);
-    io::print_decimal(1, client as u64);
-    io::write_all(1, b" ");
-    io::print_decimal(1, call as u64);
-    io::write_all(1, b":");
+    print!(rt; "{client} {call}:")?;
     let part = server_inspect::shown::shown(s, checkpoint, tail, client, call);
-    write_bytes(part);
-    io::write_all(1, b"\n");
+    write_bytes(rt, part)?;
+    println!(rt)
 }
 
 fn record_count(s: &[u8]) -> usize
@@ -73,22 +78,27 @@ fn record_count(s: &[u8]) -> usize
     }
 }
 
-fn write_records<'a>(s: &[u8], checkpoint: &'a [u8], tail: &'a [u8])
+fn write_records<'a>(
+    rt: &impl Print,
+    s: &[u8],
+    checkpoint: &'a [u8],
+    tail: &'a [u8],
+) -> io::Result<()>
     requires { length s.now ≡ state_size }
 {
     let n = record_count(s);
     let mut i = 0;
     while i < n {
-        write_record(s, checkpoint, tail, i);
+        write_record(rt, s, checkpoint, tail, i)?;
         i += 1;
     }
+    Ok(())
 }
 
 // The state is that of the last whole record, as after a power cut.
-fn inspect(card: &[u8]) {
+fn inspect(rt: &(impl Print + Eprint), card: &[u8]) -> io::Result<()> {
     if card.len() == LONGEST {
-        io::write_all(2, b"inspector: a card of 65536 bytes or more\n");
-        return;
+        return eprintln!(rt; "inspector: a card of 65536 bytes or more");
     }
     let end = checkpoint_end(card);
     let checkpoint = &card[..end];
@@ -98,14 +108,34 @@ fn inspect(card: &[u8]) {
         &mut s, checkpoint, tail,
     );
     if answer.refusal != constants::NO_REFUSAL {
-        io::write_all(2, b"inspector: no checkpoint with its tail\n");
-        return;
+        return eprintln!(rt; "inspector: no checkpoint with its tail");
     }
-    write_records(&s, checkpoint, tail);
+    write_records(rt, &s, checkpoint, tail)
 }
 
-fn main() {
-    let mut card = io::large_buffer();
-    let n = io::read_full(0, &mut card);
-    inspect(&card[..n]);
+fn card_buffer() -> [u8; LONGEST]
+    ensures { length result ≡ 65536 }
+{
+    [0; LONGEST]
+}
+
+// Reads until card is full or the input ends, and returns how many bytes it put at its start.
+fn read_full(input: &mut impl Read, card: &mut [u8]) -> io::Result<usize>
+    ensures { IfOk result (λ n. n ≤ length card.new) }
+{
+    let mut done = 0;
+    while done < card.len() {
+        let n = input.read(&mut card[done..])?;
+        if n == 0 {
+            break;
+        }
+        done += n;
+    }
+    Ok(done)
+}
+
+fn main(rt: HostRuntime) -> io::Result<()> {
+    let mut card = card_buffer();
+    let n = read_full(&mut rt.stdin(), &mut card)?;
+    inspect(&rt, &card[..n])
 }

@@ -3,12 +3,14 @@
 // lines end within them, since later lines are not read; else it says so on standard error and answers nothing.
 #![tactic(auto)]
 
-ghost use Rattle.std.specs.Prelude.{◌≡◌, ◌+◌, ◌*◌, length};
+ghost use Rattle.std.specs.Prelude.{◌≡◌, ◌≤◌, ◌+◌, ◌*◌, length, IfOk};
 ghost use Rattle.model.specs.Simulator.{most_lines};
 ghost use Rattle.model.specs.Letters.{reply_room};
 ghost use Rattle.yard.specs.Input.{longest, holds_all};
 
 use model::Answer;
+use std::io;
+use std::io::Read;
 
 // Bytes of an input that is read whole.
 const LONGEST: usize = 65536;
@@ -34,20 +36,41 @@ fn holds_all(s: &[u8]) -> bool
     (s.len() <= LONGEST) | simulator_text::is_closed(s)
 }
 
+// The page's bytes that an answer wrote.
+fn written(reply: Answer, page: &[u8]) -> usize
+    ensures { result ≤ length page.now }
+{
+    (reply.wrote as usize).min(page.len())
+}
+
 // Writes the answers of a text.
-fn answer(text: &[u8]) {
+fn answer(rt: &(impl Print + Eprint), text: &[u8]) -> io::Result<()> {
     if !holds_all(text) {
-        io::write_all(2, b"yard: the first 60 lines have more than 65536 bytes\n");
-        return;
+        return eprintln!(rt; "yard: the first 60 lines have more than 65536 bytes");
     }
     let mut out = page();
     let reply: Answer = simulator::simulate(text, &mut out);
-    let n = io::count(reply.wrote as isize, &out);
-    io::write_all(1, &out[..n]);
+    let n = written(reply, &out);
+    rt.write_all(&out[..n])
 }
 
-fn main() {
+// Reads until text is full or the input ends, and returns how many bytes it put at its start.
+fn read_full(input: &mut impl Read, text: &mut [u8]) -> io::Result<usize>
+    ensures { IfOk result (λ n. n ≤ length text.new) }
+{
+    let mut done = 0;
+    while done < text.len() {
+        let n = input.read(&mut text[done..])?;
+        if n == 0 {
+            break;
+        }
+        done += n;
+    }
+    Ok(done)
+}
+
+fn main(rt: HostRuntime) -> io::Result<()> {
     let mut text = buffer();
-    let n = io::read_full(0, &mut text);
-    answer(&text[..n]);
+    let n = read_full(&mut rt.stdin(), &mut text)?;
+    answer(&rt, &text[..n])
 }
