@@ -346,11 +346,11 @@ module _ (plan : Plan) (Made : Packet → Type 0) (hon : Honest plan Made) where
 
   pub keeps : (c : ℕ) (s : State) (r : LogRecord) (t : ℕ) → ((p : ℕ) (d : Execution) → Memᴰ d (s.points p).past → d.at < t) → Ascends s.floors → Written plan c s Made r
       → StateOk plan Made s → StateOk plan Made (apply_record s r t)
-  keeps c s r t old asc (I.executing v q x made isheld lease floor nil is) sok = executed-ok s v q t x sok made isheld lease floor nil is asc old
-  keeps c s r t old asc (I.going x time made) sok = gone-ok s x time t made sok
-  keeps c s r t old asc (I.giving p d isheld) sok = gave-ok s p d _ t isheld sok
-  keeps c s r t old asc (I.taking i made _ _ _) sok = took-ok s i t sok made asc
-  keeps c s r t old asc (I.freeing p d m made g le) sok = freed-ok s p _ t sok
+  keeps c s r t earlier asc (I.executing v q x made isheld lease floor nil is) sok = executed-ok s v q t x sok made isheld lease floor nil is asc earlier
+  keeps c s r t earlier asc (I.going x time made) sok = gone-ok s x time t made sok
+  keeps c s r t earlier asc (I.giving p d isheld) sok = gave-ok s p d _ t isheld sok
+  keeps c s r t earlier asc (I.taking i made _ _ _) sok = took-ok s i t sok made asc
+  keeps c s r t earlier asc (I.freeing p d m made g le) sok = freed-ok s p _ t sok
 
   pub founding-ok : (c : ℕ) → StateOk plan Made (founding plan c)
   unfolding founding founded_point value_after

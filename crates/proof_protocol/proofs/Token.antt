@@ -15,7 +15,6 @@ use borrow.Author.Tests.{eqb-true, eqb-false}
 use Rattle.model.specs.Versions.{Version}
 use Rattle.model.specs.Plan.{entry_at}
 use Rattle.model.specs.declared.Command.{Command}
-use Rattle.model.specs.Choice.{pick}
 use Rattle.proof_protocol.specs.Servers.{Plan, Result, Execution, Image, Entry, Completion, Point, State, Holding, executed_point, gave_point, took_point, freed_point, replay, Packet, image_for}
 use Rattle.proof_protocol.specs.Servers as S
 use Rattle.proof_protocol.specs.Allowed.{Written, Given}

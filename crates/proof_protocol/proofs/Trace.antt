@@ -100,7 +100,7 @@ run-allowed plan w (c ∷ cs) (I.then a r) (suc n) h = run-allowed plan (step w 
 pub run_take : {plan : Plan} {w : World} {cs : List Change} (n : ℕ) → Run plan w cs → Run plan w (take n cs)
 run_take zero r = I.ended
 run_take (suc n) I.ended = I.ended
-run_take (suc n) (I.then a r) = I.then a (run_take n r)
+run_take {w = w} (suc n) (I.then {c = c} a r) = I.then a (run_take {w = step w c} n r)
 
 found_at : {A : Type 0} (l : List A) (n : ℕ) (a z : A) → get_elem? l n ≡ some a → (n < length l) × (get_or l n z ≡ a)
 found_at [] n a z e = let y : ◌≡◌ {A = ℕ} 0 1 = cc in absurd (omega arith)
