@@ -39,10 +39,8 @@ fn write_byte(rt: &impl Print, b: u8) -> io::Result<()> {
 }
 
 fn write_bytes(rt: &impl Print, part: &[u8]) -> io::Result<()> {
-    let mut i = 0;
-    while i < part.len() {
-        write_byte(rt, part[i])?;
-        i += 1;
+    for b in part {
+        write_byte(rt, *b)?;
     }
     Ok(())
 }
@@ -87,10 +85,8 @@ fn write_records<'a>(
     requires { length s.now ≡ state_size }
 {
     let n = record_count(s);
-    let mut i = 0;
-    while i < n {
+    for i in 0..n {
         write_record(rt, s, checkpoint, tail, i)?;
-        i += 1;
     }
     Ok(())
 }
