@@ -77,6 +77,7 @@ sort_in : (x : ImageEntry) (es : List ImageEntry) → Memᴰ x es → Memᴰ x (
 unfolding sort_entries
 sort_in x (e ∷ es) (Memᴰ.head q) = insert_in x e (sort_entries es) (Memᴰ.head q)
 sort_in x (e ∷ es) (Memᴰ.tail m) = insert_in x e (sort_entries es) (Memᴰ.tail (sort_in x es m))
+sort_in x [] m = elim m [ ]
 
 all_from : {A : Type 0} (P : A → Type 0) (xs : List A) → ((x : A) → Memᴰ x xs → P x) → All P xs
 all_from P [] h = tt

@@ -20,7 +20,6 @@ use Rattle.model.specs.declared.Give.{Give}
 use Rattle.model.specs.declared.Release.{Release}
 use Rattle.model.specs.declared.Point.{Point}
 use Rattle.model.specs.declared.Completion.{Completion}
-use Rattle.model.specs.declared.Packet.{Packet}
 use Rattle.model.specs.declared.Packet.TheVariants.{Resulted, Receipted}
 use Rattle.model.specs.Choice.{pick}
 use Rattle.model.specs.Numbers.{word}
@@ -30,7 +29,7 @@ use Rattle.model.specs.Plan.{entry_at}
 use Rattle.model.specs.Sequential.{reading_meant, result_meant}
 use Rattle.model.specs.Packets.{command_ok, outcome_ok, id_ok, request_ok, result_ok, result_bytes, receipt_ok, receipt_bytes, packet_bytes}
 use Rattle.model.specs.Images.{image_bytes, floor_of}
-use Rattle.model.specs.Logs.{LogRecord, executed}
+use Rattle.model.specs.Logs.{LogRecord}
 use Rattle.model.specs.States.{State, point_at, held, given, is_id, released_status}
 use Rattle.model.specs.Decisions.{timed_by, find, result_of_record, result_for, with_time, executed_for, is_on_point, entry_of_record, sort_entries, image_for}
 use Rattle.model_laws.proofs.Meaning.{rule_tie}
