@@ -1,0 +1,13 @@
+-- The invariants of `format_image_writer::write_floors`.
+use Prim.Native.Nat.{◌-◌}
+use borrow.Author.Rules.{rules}
+use Rattle.model_laws.proofs.Images.{floor_codec}
+use Rattle.format_image_writer.proofs.Runs.{Copied, copied_start, copied_next, copied_end}
+use Rattle.model.specs.Limits.{least_image}
+use Rattle.format_image_writer.proofs.write_floors.Given as goal
+
+abbrev pub invariant-loop-i : goal.invariant-loop-i
+invariant-loop-i l = Copied floor_codec least_image l.initial.out l.table l.out l.n l.i
+
+abbrev pub decreases-loop-i : goal.decreases-loop-i
+decreases-loop-i l = l.n - l.i

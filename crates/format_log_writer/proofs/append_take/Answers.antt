@@ -1,0 +1,14 @@
+-- What is left to show of `format_log_writer::append_take`.
+use native.Mathlib.Omega.{arith}
+use Rattle.format_log_writer.proofs.Writing.{ok-most, took-back}
+use borrow.Author.Rules.{rules}
+use Rattle.format_log_writer.proofs.append_take.Goals as goal
+
+pub overflow_cast-image : goal.overflow_cast-image
+overflow_cast-image c = omega (arith, ok-most _ c.requires.0)
+
+pub returns : goal.returns
+returns c =
+    let args = c.args in
+    rw (c.copy_bytes.ensures, c.append_take_head.ensures)
+    (took-back args.log.now args.at args.image.now (λ i. (c.shared_slice_known-1.given i).fits) c.requires.0)
