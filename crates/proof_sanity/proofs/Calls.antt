@@ -88,7 +88,7 @@ packet_read st S r G =
     let o = outcome_fits r.result.outcome r.result.quality G.outcome in
     let v : r.result.value < word = omega (arith, G.value.high, (sound-entry st S r.command.point c.point).fits) in
     packet-back (Resulted p) ok
-    (record { outcome = omega (arith, o.0); point = omega (arith, c.point); quality = omega (arith, o.1); client = G.client-fits; call = G.Call-fits; value = v; time = G.time })
+    (record { outcome = omega (arith, o.0); point = omega (arith, c.point); quality = omega (arith, o.1); client = G.client-fits; call = G.call_fits; value = v; time = G.time })
   where
     ok : result_ok (result_of_record true r) ≡ true
     ok =

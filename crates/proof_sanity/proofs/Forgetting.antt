@@ -169,6 +169,8 @@ module _ (es : List Event) (rs : List Seen) (x : Ended) (is : trace_from simulat
           where
             sole : {y : Marked} → Memᴰ y (n ∷ []) → y ≡ n
             sole (mathlib.Core.List.Memᴰ.head p) = p
+            sole {y = y} (mathlib.Core.List.Memᴰ.tail m) = elim m [ ]
+        own (single n) S k (mathlib.Core.List.Memᴰ.tail m) = elim m [ ]
 
     no_order : (order : List OrderEntry) → ExplainedBy simulator_plan told order → ⊥
     no_order order E = values_broken order E.survivors (E.values 5 0 (founded (plan_of simulator_plan) 0) (lit< tt) holder)

@@ -325,16 +325,16 @@ from-kept c k [] f l = refl
 from-kept c k (e ∷ es) f l =
     rw (le-leb e.end c (omega (arith, from_low e.end es f.1, l))) (ap (λ (y : List Entry). e ∷ y) (from-kept c e.end es f.1 l))
 
-replay_on : (st : State) (es fs : List Entry) → replay_from st (es ++ fs) ≡ replay_from (replay_from st es) fs
+replay_on : (s : State) (es fs : List Entry) → replay_from s (es ++ fs) ≡ replay_from (replay_from s es) fs
 unfolding replay_from
-replay_on st [] fs = refl
-replay_on st (e ∷ es) fs = replay_on (apply st e) es fs
+replay_on s [] fs = refl
+replay_on s (e ∷ es) fs = replay_on (apply s e) es fs
 
 -- replay does not depend on the mark
-replay-mark : (m : ℕ) (st : State) (es : List Entry) → replay_from (with_mark m st) es ≡ with_mark m (replay_from st es)
+replay-mark : (m : ℕ) (s : State) (es : List Entry) → replay_from (with_mark m s) es ≡ with_mark m (replay_from s es)
 unfolding replay_from apply
-replay-mark m st [] = refl
-replay-mark m st (e ∷ es) = ap (λ (y : State). replay_from y es) (apply-mark e.item e.end m st) ∙ replay-mark m (apply st e) es
+replay-mark m s [] = refl
+replay-mark m s (e ∷ es) = ap (λ (y : State). replay_from y es) (apply-mark e.item e.end m s) ∙ replay-mark m (apply s e) es
 
 module _ (plan : List PlanEntry) (n : ℕ) (g : GoodPlan plan) (h : n ≤ last_server) where
   abbrev start : Start (founded plan n)
