@@ -16,7 +16,7 @@ use Rattle.model.specs.Limits.{head_size}
 use Rattle.model.specs.Plan.{plan_of}
 use Rattle.model.specs.Tables.{written}
 use Rattle.model.specs.Logs.{Entry, head_bytes, entries_bytes}
-use Rattle.model.specs.States.{State, load, sound, state_end}
+use Rattle.model.specs.States.{State, load, state_end}
 use Rattle.model.specs.Apply.{founded, replay_from, with_mark}
 use Rattle.model.specs.Versions.{Versions}
 use Rattle.model.specs.Decisions.{Decided, timed_by}
@@ -45,7 +45,6 @@ use Rattle.model_invariants.proofs.TailCalls.{checkpoint_elim}
 use Rattle.claim.specs.World.{with_server, lent_state, lent_log}
 use Rattle.claim.specs.World as B
 use Rattle.claim.specs.RecordWorld as R
-use Rattle.safety.specs.Holds.{Holds}
 use Rattle.safety.specs.Alike.{LocalAlike, stored as storedState, Continues, RunningAlike, ServerAlike, nothing, running, storing, crashed, Both}
 use Rattle.safety.proofs.Facts.{held, holds-sound, holds-size}
 use Rattle.safety.proofs.Crashes.{holds_kept}

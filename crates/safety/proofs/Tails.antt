@@ -4,7 +4,7 @@
 --     cut-continues            a crash cuts the tail and the whole log alike
 --     recovered-shown, recovered-some, synced-shown     what a crashed server, and the synced part of a log, come to
 -- Assumes nothing.
-use Prim.Native.Nat.{ℕ, ◌+◌, ◌-◌, ◌≤◌}
+use Prim.Native.Nat.{ℕ, ◌+◌, ◌≤◌}
 use mathlib.Core.Path.{◌≡◌, refl, sym, ◌∙◌, ap}
 use mathlib.Core.Bool.{Bool, true, false}
 use mathlib.Core.List.{List, [], ◌∷◌, ◌++◌, append-nil}
