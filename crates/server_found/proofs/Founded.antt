@@ -3,7 +3,7 @@
 --     Pointed, pointed-..           a loop that stores the points of a plan
 --     founded-runs                  head, plan, points and the two empty tables, one behind the other, are the founded state
 -- Assumes nothing.
-use Prim.Native.Nat.{ℕ, ◌+◌, ◌-◌, ◌*◌, ◌≤◌, ◌<◌}
+use Prim.Native.Nat.{ℕ, ◌+◌, ◌*◌, ◌≤◌, ◌<◌}
 use mathlib.Core.Path.{◌≡◌, refl, sym, ap, ◌∙◌}
 use mathlib.Core.Bool.{Bool, true, false, not, ◌||◌, false≢true}
 use mathlib.Core.List.{List, [], ◌++◌, map, map-append, append-nil}
