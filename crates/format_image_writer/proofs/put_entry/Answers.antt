@@ -7,7 +7,6 @@ use Rattle.model.specs.Images.{image_entry_bytes}
 use Rattle.model.specs.Numbers.{le32, signed32, quad}
 use Rattle.model_laws.specs.Runs.{last, run, stored_by, bytes_by}
 use Rattle.model_laws.proofs.Written.{runs-stored}
-use borrow.Author.Rules.{rules}
 use Rattle.format_image_writer.proofs.put_entry.Goals as goal
 
 pub returns : goal.returns

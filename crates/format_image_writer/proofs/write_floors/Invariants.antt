@@ -1,8 +1,7 @@
 -- The invariants of `format_image_writer::write_floors`.
 use Prim.Native.Nat.{◌-◌}
-use borrow.Author.Rules.{rules}
 use Rattle.model_laws.proofs.Images.{floor_codec}
-use Rattle.format_image_writer.proofs.Runs.{Copied, copied_start, copied_next, copied_end}
+use Rattle.format_image_writer.proofs.Runs.{Copied}
 use Rattle.model.specs.Limits.{least_image}
 use Rattle.format_image_writer.proofs.write_floors.Given as goal
 

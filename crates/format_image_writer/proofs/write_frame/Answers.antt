@@ -1,7 +1,6 @@
 -- What is left to show of `format_image_writer::write_frame`.
 use Rattle.model_laws.proofs.Written.{written-sets}
 use Rattle.format_image_writer.specs.Heads.{frame_bytes}
-use borrow.Author.Rules.{rules}
 use Rattle.format_image_writer.proofs.write_frame.Goals as goal
 
 pub returns : goal.returns

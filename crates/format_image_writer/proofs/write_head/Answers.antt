@@ -1,6 +1,5 @@
 -- What is left to show of `format_image_writer::write_head`.
 use Rattle.format_image_writer.proofs.Runs.{head-written}
-use borrow.Author.Rules.{rules}
 use Rattle.format_image_writer.proofs.write_head.Goals as goal
 
 pub returns : goal.returns

@@ -1,7 +1,6 @@
 -- What is left to show of `format_image_writer::write_pairs`.
 use Rattle.model_laws.proofs.Written.{written-sets}
 use Rattle.format_image_writer.specs.Heads.{pair_bytes}
-use borrow.Author.Rules.{rules}
 use Rattle.format_image_writer.proofs.write_pairs.Goals as goal
 
 pub returns : goal.returns
