@@ -7,18 +7,18 @@
 -- Assumes nothing.
 use mathlib.Core.Path.{◌≡◌, refl, sym}
 use mathlib.Core.Bool.{Bool, true, false}
-use mathlib.Core.List.{List, [], ◌∷◌}
+use mathlib.Core.List.{List}
 use Prim.Native.Nat.{ℕ, ◌≤◌}
 use native.Mathlib.Omega.{arith}
 use lib.Dec.{eqb}
 use lib.ListN.{length}
 use borrow.Author.Tests.{le-ltb, eqb-true}
-use denote.Enum.Declared.{tag_of}
-use types.Run.{OneOf, miss}
 use Rattle.model.specs.declared.Client.{Client}
+use Rattle.model.specs.declared.Grant.{Grant}
 use Rattle.model.specs.declared.Packet.{Packet}
+use Rattle.model.specs.declared.RefusalPacket.{RefusalPacket}
+use Rattle.model.specs.declared.ResultPacket.{ResultPacket}
 use Rattle.model.specs.declared.Packet.TheVariants.{Malformed, Requested, Resulted, Refused, Receipted, Noticed, Granted}
-use Rattle.model.specs.contracts.Packet.{the_type}
 use Rattle.model.specs.Refusals.{malformed}
 use Rattle.model.specs.Numbers.{byte_at, le32_at}
 use Rattle.model.specs.Limits.{request_kind, first_result_kind, result_kind, refusal_kind, receipt_kind, notice_kind, grant_kind, refusal_size, grant_size}
@@ -38,7 +38,7 @@ start-same (Receipted r) = refl
 start-same (Noticed n) = refl
 start-same (Granted g) = refl
 
-pub not-grant : (p : Packet) → OneOf (0 ∷ 1 ∷ 2 ∷ 3 ∷ 4 ∷ 5 ∷ []) (tag_of the_type p) → start_with p ≡ not_started
+pub not-grant : (p : Packet) → ((g : Grant) → p ≡ Granted g → ⊥) → start_with p ≡ not_started
 unfolding start_with
 not-grant Malformed h = refl
 not-grant (Requested q) h = refl
@@ -46,17 +46,18 @@ not-grant (Resulted r) h = refl
 not-grant (Refused r) h = refl
 not-grant (Receipted r) h = refl
 not-grant (Noticed n) h = refl
-not-grant (Granted g) h = absurd (miss (0 ∷ 1 ∷ 2 ∷ 3 ∷ 4 ∷ 5 ∷ []) 6 tt h)
+not-grant (Granted g) h = absurd (h g refl)
 
-pub not_taken : (d : Client) (p : Packet) → OneOf (0 ∷ 1 ∷ 4 ∷ 5 ∷ []) (tag_of the_type p) → receive_with d p ≡ not_received d malformed
+pub not_taken : (d : Client) (p : Packet) → ((r : ResultPacket) → p ≡ Resulted r → ⊥) → ((r : RefusalPacket) → p ≡ Refused r → ⊥) → ((g : Grant) → p ≡ Granted g → ⊥)
+    → receive_with d p ≡ not_received d malformed
 unfolding receive_with
-not_taken d Malformed h = refl
-not_taken d (Requested q) h = refl
-not_taken d (Resulted r) h = absurd (miss (0 ∷ 1 ∷ 4 ∷ 5 ∷ []) 2 tt h)
-not_taken d (Refused r) h = absurd (miss (0 ∷ 1 ∷ 4 ∷ 5 ∷ []) 3 tt h)
-not_taken d (Receipted r) h = refl
-not_taken d (Noticed n) h = refl
-not_taken d (Granted g) h = absurd (miss (0 ∷ 1 ∷ 4 ∷ 5 ∷ []) 6 tt h)
+not_taken d Malformed h2 h3 h6 = refl
+not_taken d (Requested q) h2 h3 h6 = refl
+not_taken d (Resulted r) h2 h3 h6 = absurd (h2 r refl)
+not_taken d (Refused r) h2 h3 h6 = absurd (h3 r refl)
+not_taken d (Receipted r) h2 h3 h6 = refl
+not_taken d (Noticed n) h2 h3 h6 = refl
+not_taken d (Granted g) h2 h3 h6 = absurd (h6 g refl)
 
 -- a packet of one kind is malformed, or has its kind's length
 whole_case : (P : Packet → Type 0) (b : List ℕ) (kind : ℕ) (ok : Bool) (p : Packet) → P Malformed → (length b ≡ packet_length kind → P p) → P (whole b kind ok p)

@@ -1,0 +1,6 @@
+-- What is left to show of `client::not_received`.
+use Rattle.client.proofs.Answers.{not-received}
+use Rattle.client.proofs.not_received.Goals as goal
+
+pub returns : goal.returns
+returns c = search not-received
