@@ -1,7 +1,6 @@
 -- What is left to show of `format_log_writer::append_executed`.
 use Rattle.model.specs.Logs.{record_bytes, executed_bytes}
 use Rattle.model_laws.proofs.Written.{tail-back}
-use borrow.Author.Rules.{rules}
 use Rattle.format_log_writer.proofs.append_executed.Goals as goal
 
 pub returns : goal.returns

@@ -1,7 +1,6 @@
 -- What is left to show of `format_log_writer::append_give`.
 use Rattle.model.specs.Logs.{record_bytes, give_bytes}
 use Rattle.model_laws.proofs.Written.{tail-back}
-use borrow.Author.Rules.{rules}
 use Rattle.format_log_writer.proofs.append_give.Goals as goal
 
 pub returns : goal.returns

@@ -3,7 +3,6 @@ use Rattle.model.specs.Packets.{notice_bytes}
 use Rattle.model.specs.Logs.{record_bytes}
 use Rattle.model.specs.Limits.{gone_kind}
 use Rattle.model_laws.proofs.Written.{tail-back}
-use borrow.Author.Rules.{rules}
 use Rattle.format_log_writer.proofs.append_gone.Goals as goal
 
 pub returns : goal.returns

@@ -1,7 +1,6 @@
 -- What is left to show of `format_log_writer::append_take`.
 use native.Mathlib.Omega.{arith}
 use Rattle.format_log_writer.proofs.Writing.{ok-most, took-back}
-use borrow.Author.Rules.{rules}
 use Rattle.format_log_writer.proofs.append_take.Goals as goal
 
 pub overflow_cast-image : goal.overflow_cast-image

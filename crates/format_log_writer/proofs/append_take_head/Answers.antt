@@ -1,7 +1,6 @@
 -- What is left to show of `format_log_writer::append_take_head`.
 use Rattle.format_log_writer.specs.Fronts.{take_front}
 use Rattle.model_laws.proofs.Written.{tail-back}
-use borrow.Author.Rules.{rules}
 use Rattle.format_log_writer.proofs.append_take_head.Goals as goal
 
 pub returns : goal.returns

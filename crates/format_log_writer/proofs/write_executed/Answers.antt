@@ -2,7 +2,6 @@
 use Rattle.model.specs.Packets.{time_bytes}
 use Rattle.model.specs.Logs.{executed_kind_of, executed_bytes}
 use Rattle.model_laws.proofs.Written.{written-sets}
-use borrow.Author.Rules.{rules}
 use Rattle.format_log_writer.proofs.write_executed.Goals as goal
 
 pub returns : goal.returns

@@ -1,7 +1,6 @@
 -- What is left to show of `format_log_writer::write_release`.
 use Rattle.model.specs.Logs.{release_bytes}
 use Rattle.model_laws.proofs.Written.{written-sets}
-use borrow.Author.Rules.{rules}
 use Rattle.format_log_writer.proofs.write_release.Goals as goal
 
 pub returns : goal.returns

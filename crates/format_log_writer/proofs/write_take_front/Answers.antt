@@ -1,7 +1,6 @@
 -- What is left to show of `format_log_writer::write_take_front`.
 use Rattle.format_log_writer.specs.Fronts.{take_front}
 use Rattle.model_laws.proofs.Written.{written-sets}
-use borrow.Author.Rules.{rules}
 use Rattle.format_log_writer.proofs.write_take_front.Goals as goal
 
 pub returns : goal.returns
