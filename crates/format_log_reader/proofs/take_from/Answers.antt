@@ -1,0 +1,7 @@
+-- What is left to show of `format_log_reader::take_from`.
+use Rattle.format_log_reader.specs.Answers.{take_from}
+use Rattle.format_log_reader.proofs.take_from.Goals as goal
+
+pub returns : goal.returns
+unfolding take_from
+returns c = cc
