@@ -60,4 +60,4 @@ house:
 
 #: removes all that was made; what was proved must be proved again
 clean:
-	@rm -rf target dist second/target compare/target tests/schedules/target
+	@rm -rf target dist crates/*/out second/target compare/target tests/schedules/target

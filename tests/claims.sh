@@ -5,7 +5,7 @@ set -eu
 cd "$(dirname "$0")/.."
 folder=$(mktemp -d)
 trap 'rm -rf "$folder"' EXIT
-tar -c --exclude=target --exclude=dist --exclude=.git . | tar -x -C "$folder"
+tar -c --exclude=target --exclude=dist --exclude=out --exclude=.git . | tar -x -C "$folder"
 cd "$folder"
 tools/claims.py >/dev/null || { echo "claims.py fails without an edit"; exit 1; }
 tried=0

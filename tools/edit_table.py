@@ -1,7 +1,7 @@
 #!/usr/bin/env python3
-"""edit_table.py [--check | --logs]: writes docs/EDITS.md, the must-fail edits and the fact that each shows, from the edits' first lines (# subject, subject: fact). Fails where an edit has no such
+"""edit_table.py [--check | --log FILE]: writes docs/EDITS.md, the must-fail edits and the fact that each shows, from the edits' first lines (# subject, subject: fact). Fails where an edit has no such
 line, or where a call of include/*.h that has arguments is the subject of fewer than two edits: a contract rules out two wrong programs at least. --check also fails if the stored
-table is not the one made now. --logs, behind a run of rt ci: fails where the prover refused an edit because a name was missing in it or in a proof, and not for a fact."""
+table is not the one made now. --log FILE, of what rt ci printed: fails where the prover refused an edit because a name was missing in it or in a proof, and not for a fact, where an edit is bad or was not tried, and where one has no line."""
 import collections, glob, os, re, sys
 from progress import listed
 
@@ -21,19 +21,24 @@ def calls():
     return [m[1] for m in re.finditer(r'^(?!static|    )[\w ]+?[ *]mantelorris_(\w+)\((?!void\))[^{};()]*\);', text, flags=re.M)]
 
 
-def misfits():
-    """the edits in whose log a name is missing: such an edit shows nothing"""
-    misfit = re.compile(r': error: .*(is not in scope|that can be named from here)')
-    logs = sorted(glob.glob('target/must-fail/*/*/.log'))
-    bad = ['%s: %s' % (os.path.dirname(log), m[0][9:]) for log in logs if (m := misfit.search(open(log, encoding='utf-8', errors='replace').read()))]
-    print('\n'.join(bad) if bad else '%d logs, no name missing in any' % len(logs))
-    return 1 if bad or not logs else 0
+MISFIT = re.compile(r'is not in scope|that can be named from here|only because a proof file names what the edit took away|: (?:BAD EDIT|NOT TRIED)')
+
+
+def misfits(log):
+    """the edits of whose refusal rt says that a name is missing: such an edit shows nothing; and those of which it says nothing"""
+    said = dict(re.findall(r'^rt: must-fail ([\w/.-]+): (.*)$', open(log, encoding='utf-8', errors='replace').read(), flags=re.M))
+    every = ['%s/%s' % (crate, os.path.basename(path)) for crate in listed() for path in sorted(glob.glob('crates/%s/must-fail/*.edit' % crate))]
+    bad = ['%s: %s' % (edit, said[edit]) for edit in every if edit in said and MISFIT.search('%s: %s' % (edit, said[edit]))]
+    bad += ['%s: rt ci says nothing of it' % edit for edit in every if edit not in said]
+    print('\n'.join(bad) if bad else '%d edits, no name missing in any' % len(every))
+    return 1 if bad or not every else 0
 
 
 def main():
+    given = [os.path.abspath(path) for path in sys.argv[2:]]
     os.chdir(os.path.join(os.path.dirname(os.path.abspath(__file__)), '..'))
-    if sys.argv[1:] == ['--logs']:
-        sys.exit(misfits())
+    if sys.argv[1:2] == ['--log']:
+        sys.exit(misfits(given[0]))
     rows, shown, bad = [], collections.Counter(), []
     for crate in listed():
         for path in sorted(glob.glob('crates/%s/must-fail/*.edit' % crate)):

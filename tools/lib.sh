@@ -1,7 +1,7 @@
 #!/usr/bin/env bash
 # tools/lib.sh: dist/ with libmantelorris.a (server, client, lease manager and lock chamber controller in one archive), the headers and a pkg-config file. The archive is made of the
 # proved crates' own static libraries.
-# tools/lib.sh --target aarch64: the same in dist/aarch64/, for 64-bit Arm. That archive is made of the modules that the static libraries were made of (tools/staticlib.sh), by the kit's own compiler.
+# tools/lib.sh --target aarch64: the same in dist/aarch64/, for 64-bit Arm: the same proved crates, built for that processor by the kit's own compiler.
 # tools/lib.sh [--target TARGET] install PREFIX [DESTDIR]: and copies them below DESTDIR and PREFIX, with files for pkg-config and CMake that find what lies beside them: the tree may be moved.
 set -eu
 here=$PWD
@@ -28,37 +28,23 @@ if [ "${1:-}" = install ]; then
 fi
 # 1: another kit: said, and the library is made and proved by that one
 tools/kit.sh >/dev/null || [ $? = 1 ] || exit 1
-tools/staticlib.sh kernel client_c chamber_c
+libraries='kernel client_exports chamber_c'
+tools/staticlib.sh --target "$target" $libraries
+case $target in
+  x86-64) from=target/staticlib archiver=ar ;;
+  aarch64) from=target/staticlib/aarch64 archiver=$(tools/kit.sh --home)/toolchain/bin/llvm-ar ;;
+esac
 version=$(sed -nE 's/^#define MANTELORRIS_VERSION_(MAJOR|MINOR) ([0-9]+)$/\2/p' include/mantelorris.h | paste -sd .)
 mkdir -p "$dist"
-work=$(mktemp -d)
 # made beside the old one and renamed: a program that is being linked finds an archive at every moment
 made=$dist/made.$$.a
-trap 'rm -rf "$made" "$work"' EXIT
+trap 'rm -f "$made"' EXIT
 
-no_arm() {
-  echo "no library for aarch64: $1" >&2
-  exit 1
-}
-
-# The words for the compiler are the kit's own for x86-64, but for the processor.
-arm_archive() {
-  local tools name
-  tools=$(tools/kit.sh --home)/on/$(uname -m)/toolchain/bin
-  "$tools/clang" --print-targets 2>/dev/null | grep -q '^ *aarch64 ' || no_arm "the kit's compiler, $tools/clang, is not there or does not know this processor"
-  for name in kernel client_c chamber_c; do
-    [ -s "target/staticlib/$name.bc" ] || no_arm "this kit calls its compiler in a way that tools/staticlib.sh does not know, and no module of $name was kept"
-    "$tools/clang" --target=aarch64-unknown-linux-gnu -march=armv8-a -ffunction-sections -fdata-sections -mllvm -trap-unreachable -mllvm -no-trap-after-noreturn --no-default-config \
-      -no-canonical-prefixes -c -x ir "target/staticlib/$name.bc" -o "$work/$name.o" -fPIC -O3 2>"$work/said" || { cat "$work/said" >&2; no_arm "the kit's compiler refuses $name"; }
-  done
-  (cd "$work" && "$tools/llvm-ar" rcsD made.a kernel.o client_c.o chamber_c.o) && cp "$work/made.a" "$made"
-}
-
-if [ $target = aarch64 ]; then
-  arm_archive
-else
-  printf 'CREATE %s\nADDLIB target/staticlib/libkernel.a\nADDLIB target/staticlib/libclient_c.a\nADDLIB target/staticlib/libchamber_c.a\nSAVE\nEND\n' "$made" | ar -M
-fi
+{
+  echo "CREATE $made"
+  for name in $libraries; do echo "ADDLIB $from/lib$name.a"; done
+  printf 'SAVE\nEND\n'
+} | "$archiver" -M
 mv -f "$made" "$dist/libmantelorris.a"
 cp include/*.h "$dist/"
 

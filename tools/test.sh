@@ -11,22 +11,6 @@ failed=0
 logs=$(mktemp -d)
 trap 'rm -rf "$logs"' EXIT
 
-# A check of a crate copies thousands of small files to the folder for temporary files: memory, where there is room and programs may run there.
-memory_for_files() {
-  [ -z "${TMPDIR:-}" ] && [ -w /dev/shm ] && [ "$(df --output=avail -k /dev/shm | tail -n 1)" -gt 4000000 ] || return 0
-  local folder
-  folder=$(mktemp -d /dev/shm/mantelorris.XXXXXX) || return 0
-  # programs are run as another user
-  chmod 711 "$folder"
-  if cp /bin/true "$folder/try" 2>/dev/null && "$folder/try"; then
-    trap 'rm -rf "$logs" "'"$folder"'"' EXIT
-    export TMPDIR=$folder
-  else
-    rm -rf "$folder"
-  fi
-}
-memory_for_files
-
 # part NAME: runs the command that follows, and says how it went; its output is kept in $logs/NAME and shown if it fails
 part() {
   local name=$1 start=$SECONDS
@@ -43,7 +27,7 @@ count() { if [ "$1" = 0 ]; then passed=$((passed + 1)); else failed=$((failed + 
 
 part kit tools/kit.sh; count $?
 command -v rt >/dev/null || { echo "0 passed, 1 failed"; exit 1; }
-part format rt fmt --check; count $?
+part format tools/format.sh; count $?
 part simulator-cases tools/simulator_cases.py --check; count $?
 part pictures tools/picture.py --check; count $?
 part guide-pictures tools/guide_pictures.py --check; count $?
@@ -61,17 +45,18 @@ part changelog tools/changelog.py --check; count $?
 part page tools/page.py --check; count $?
 part words tests/words.sh; count $?
 
-# the toolchain's verdict, its lines as they come; what it counted is counted here, and it fails with its exit status too
+# the toolchain's verdict, its lines as they come; what it counted is counted here, a bad must-fail edit as a failure, and it fails with its exit status too
 echo "== rt ci"
 start=$SECONDS
-PROGRESS_LOG=$logs/rt-ci tools/progress.py rt ci
-verdict=$?
-echo "   $([ $verdict = 0 ] && echo ok || echo FAILED: rt ci), $((SECONDS - start)) s"
-read -r good bad < <(sed -nE 's/^([0-9]+) passed, ([0-9]+) failed$/\1 \2/p' "$logs/rt-ci" | tail -n 1) || { good=0; bad=1; }
+rt ci 2>&1 | tee "$logs/rt-ci" | tools/progress.py ci
+verdict=${PIPESTATUS[0]}
+read -r good bad < <(tools/counted.sh "$logs/rt-ci" "$verdict")
+echo "   $([ "$verdict" = 0 ] && [ "$bad" = 0 ] && echo ok || echo FAILED: rt ci), $((SECONDS - start)) s"
 passed=$((passed + good))
 failed=$((failed + bad))
-[ $verdict = 0 ] || [ "$bad" != 0 ] || failed=$((failed + 1))
-part edit-reasons tools/edit_table.py --logs; count $?
+part edit-reasons tools/edit_table.py --log "$logs/rt-ci"; count $?
+# what it proved and left is taken below, and not proved once more
+[ "$verdict" != 0 ] || tools/built.py --passed
 
 # tests PACKAGE WORDS..: the tests of a cargo package, each counted; one that hangs fails
 tests() {

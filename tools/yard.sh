@@ -11,5 +11,6 @@ if [ $# -gt 0 ]; then
   [ -f "$schedule" ] && [ -r "$schedule" ] || { echo "no schedule: $1 is not a file that can be read" >&2; exit 2; }
 fi
 echo "== proving the program yard, and what it rests on"
-tools/progress.py rt check yard
+tools/kit.sh >/dev/null || [ $? = 1 ]
+tools/built.py program yard
 [ $# -eq 0 ] || target/bin/yard <"$schedule" >"$(within "$2")"

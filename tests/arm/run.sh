@@ -112,7 +112,7 @@ nm -g --defined-only "$work/record.o" | awk '$2 == "T" { print $3, "real_" $3 }'
 in_headers=$(grep -ohE '^(uint64_t|struct \w+) mantelorris_\w+\(' include/*.h | grep -oE 'mantelorris_\w+\(' | tr -d '(' | sort -u)
 [ "$in_headers" = "$(cut -d ' ' -f 1 "$work/names" | sort)" ] || { echo "tests/arm/calls.h does not have the calls of the headers"; exit 1; }
 mkdir -p target/arm/lib
-for name in kernel client_c chamber_c; do
+for name in kernel client_exports chamber_c; do
   objcopy --redefine-syms="$work/names" "target/staticlib/lib$name.a" "$work/lib$name.a"
   [ $name != kernel ] || ar r "$work/lib$name.a" "$work/record.o"
   cmp -s "$work/lib$name.a" "target/arm/lib/lib$name.a" || cp "$work/lib$name.a" target/arm/lib/

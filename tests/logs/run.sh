@@ -5,7 +5,7 @@
 set -euo pipefail
 cd "$(dirname "$0")/../.."
 tools/staticlib.sh >/dev/null
-built() { cc -std=c11 -O1 -Wall -Wextra -Werror -Iinclude "tests/logs/$1.c" target/staticlib/libkernel.a target/staticlib/libclient_c.a -o "target/${1}_logs"; }
+built() { cc -std=c11 -O1 -Wall -Wextra -Werror -Iinclude "tests/logs/$1.c" target/staticlib/libkernel.a target/staticlib/libclient_exports.a -o "target/${1}_logs"; }
 if [ "${1:-}" = --write ]; then
   built write
   mkdir "$2"
