@@ -1,0 +1,9 @@
+-- What is left to show of `client_c::store_change`.
+use mathlib.Core.Path.{refl}
+use Rattle.model.specs.Leases.{manager}
+use Rattle.leases.specs.Changes.{kept_at, stored}
+use Rattle.client_c.proofs.store_change.Goals as goal
+
+pub returns : goal.returns
+unfolding stored kept_at manager
+returns c = rw c.if-change.false refl
