@@ -4,6 +4,7 @@ counted: 46<!--=events-->. Each must be what is counted now, each mark must name
 exits non-zero; --write puts in what is counted. tools/claims.py asks the same."""
 import glob, os, re, sys
 import callers
+from progress import listed
 
 os.chdir(os.path.join(os.path.dirname(os.path.abspath(__file__)), '..'))
 MARKED = re.compile(r'([\w,-]+)<!--=([\w.-]+)-->')
@@ -33,16 +34,16 @@ def versions():
     """of each op whose rule has had more than one: versions.OP, how many; by the versions that Versions.today gives"""
     path = 'crates/model/specs/Versions.antt'
     order = constructors(path, 'Version')
-    return {'versions.' + op: order.index(version) + 1 for op, version in matches(r'eqb op (\w+)Op\) (\w+)', path)}
+    return {'versions.' + op: order.index(version) + 1 for op, version in matches(r'eqb op (\w+)_op\) (\w+)', path)}
 
 
 def counted():
-    world, calls, crates = 'crates/claim/specs/World.antt', 'crates/model/specs/Calls.antt', dict(matches(r'^(\w+):(.*)$', 'crates.txt'))
+    world, calls, crates = 'crates/claim/specs/World.antt', 'crates/model/specs/Calls.antt', listed()
     events = set(constructors(world, 'Event') + constructors(world, 'OutsideCall') + constructors(calls, 'OperationOf') + constructors(calls, 'Inquiry'))
     return {
         'sentences': len(matches(r'^- \*\*R\d+\*\* ', 'docs/REFERENCE.md')),
         'crates': len(crates),
-        'kernel-imports': len(crates['kernel'].split()),
+        'kernel-imports': len(crates['kernel']),
         'edits': len(glob.glob('crates/*/must-fail/*.edit')),
         'mutations': len(glob.glob('crates/proof_mutations/must-fail/*.edit')),
         'refusals': len(matches(r'^    X\((\w+), \d+,', 'include/mantelorris.h')),
@@ -50,7 +51,7 @@ def counted():
         'event-calls': len(events - {'call', 'inquire', 'store', 'crash', 'outside'}),
         'events': in_list('crates/proof_sanity/specs/Moved.antt', 'schedule'),
         'lock-events': in_list('crates/chamber_safety/specs/Handed.antt', 'handed'),
-        'queue-events': in_list('crates/dispatch_safety/specs/Queued.antt', 'queuedEvents'),
+        'queue-events': in_list('crates/dispatch_safety/specs/Queued.antt', 'queued_events'),
         'cases': in_list('crates/model_cases/specs/Table.antt', 'cases'),
         'libraries': len(matches(r'\|\| set -- (.*)$', 'tools/staticlib.sh')[0].split()),
         'exceptions': len(callers.ALLOWED),

@@ -3,13 +3,14 @@
 proofs name of another. An arrow that follows from others is left out; in a layer a crate rests on later ones only. Fails if crates.txt lists a crate that is not named, or lacks one that is, or if an import goes up, or
 from what is claimed and proved into code; --check also fails if the stored picture is not the one made now."""
 import glob, os, re, sys
+import progress
 
 os.chdir(os.path.join(os.path.dirname(os.path.abspath(__file__)), '..'))
 PICTURE = 'docs/pictures/house.svg'
 
 # the layers from top to bottom, on the left the product, on the right what is claimed and proved of it; a crate belongs to the first whose test it passes
 PRODUCT = [
-    ('programs and C interfaces', lambda n: n in ('yard', 'inspector', 'kernel', 'client_c') or n.endswith('_c')),
+    ('programs and C interfaces', lambda n: n in ('yard', 'inspector', 'kernel', 'client_exports') or n.endswith('_c')),
     ('products above the kernel', lambda n: n in ('chamber', 'dispatch')),
     ('simulator', lambda n: n.startswith('simulator')),
     ('parties beside the server', lambda n: n in ('client', 'leases')),
@@ -27,12 +28,7 @@ BASE = [('model: what is promised, and its laws', lambda n: n.startswith('model'
 
 
 def listed():
-    crates = {}
-    for line in open('crates.txt', encoding='utf-8'):
-        if ':' in line and not line.startswith('#'):
-            name, rest = line.split(':', 1)
-            crates[name.strip()] = set(rest.split())
-    return crates
+    return {name: set(rests) for name, rests in progress.listed().items()}
 
 
 def imports(name, crates):
@@ -42,7 +38,7 @@ def imports(name, crates):
         if not path.endswith(('.rt', '.antt')):
             continue
         text = open(path, encoding='utf-8').read()
-        found |= set(re.findall(r'Rattle·(\w+)[.·]', text))
+        found |= set(re.findall(r'(?<![\w.])Rattle\.(\w+)\.', text))
         if path.endswith('.rt'):
             code = re.sub(r'//[^\n]*', '', text)
             found |= set(re.findall(r'(?<![\w:.])(\w+)::', code))

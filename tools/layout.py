@@ -31,10 +31,10 @@ def long_lines(path, lines):
 
 
 def stands(name, text):
-    """a name stands in a text by itself; an operator, _+_, by its signs"""
-    for part in [p for p in name.split('_') if p] if name.startswith('_') or name.endswith('_') else [name]:
+    """a name stands in a text by itself; an operator, ◌+◌, by its signs"""
+    for part in [p for p in name.split('◌') if p] or [name]:
         if re.match(r'\w', part):
-            if not re.search(r'(?<![\w·′-])%s(?![\w·′-])' % re.escape(part), text):
+            if not re.search(r"(?<![\w'-])%s(?![\w'-])" % re.escape(part), text):
                 return False
         elif part not in text:
             return False

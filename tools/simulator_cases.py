@@ -16,19 +16,18 @@ def listed(name, what, text):
 out = """-- Schedules of the simulator and their answers, as text: `paper` is the paper's whole case. Written by tools/simulator_cases.py from
 -- tests/yard/.
 -- Assumes nothing.
-use Prim.Native.Nat.{ℕ}
-use mathlib.Core.List.{List, [], _∷_, _++_}
+use Rattle.std.specs.Prelude.{ℕ, List, [], ◌∷◌, ◌++◌}
 """
 names = [os.path.basename(path)[:-3] for path in sorted(glob.glob('tests/yard/*.in'))]
 for name in names:
     given, due = (open('tests/yard/%s.%s' % (name, end), 'rb').read() for end in ('in', 'out'))
-    out += '\n' + listed(name + 'Schedule', 'tests/yard/%s.in' % name, given) + '\n' + listed(name + 'Answers', 'tests/yard/%s.out' % name, due)
+    out += '\n' + listed(name + '_schedule', 'tests/yard/%s.in' % name, given) + '\n' + listed(name + '_answers', 'tests/yard/%s.out' % name, due)
 target = 'crates/model_cases/specs/Schedules.antt'
 if '--check' in sys.argv:
     same = os.path.exists(target) and open(target).read() == out
     print(target, 'is up to date' if same else 'is not what tools/simulator_cases.py writes: run it')
     proofs = open('crates/model_cases/proofs/SimulatorCases.antt').read()
-    missing = [name for name in names if 'answersOf %sSchedule ≡ %sAnswers' % (name, name) not in proofs]
+    missing = [name for name in names if 'answers_of %s_schedule ≡ %s_answers' % (name, name) not in proofs]
     print('SimulatorCases.antt has no theorem for: ' + ' '.join(missing) if missing else 'each of %d schedules has its theorem' % len(names))
     sys.exit(0 if same and not missing else 1)
 open(target, 'w').write(out)
