@@ -12,7 +12,7 @@ overflow_mul-entries c =
 pub overflow_add-result : goal.overflow_add-result
 overflow_add-result c =
     let h = c.args.h in
-    rw (c.entry_width.ensures, c.entries_start-records.ensures) (omega (arith, width-most h h.entries, c.struct_known-2-1))
+    rw (c.entry_width.ensures, c.entries_start-records.ensures) (omega (arith, width-most h h.entries))
 
 pub returns : goal.returns
 unfolding image_parts

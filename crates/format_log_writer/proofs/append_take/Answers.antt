@@ -10,4 +10,4 @@ pub returns : goal.returns
 returns c =
     let args = c.args in
     rw (c.copy_bytes.ensures, c.append_take_head.ensures)
-    (took-back args.log.now args.at args.image.now (λ i. (c.shared_slice_known-1.given i).fits) c.requires.0)
+    (took-back args.log.now args.at args.image.now (λ i. (c.type_inv.image i).fits) c.requires.0)
