@@ -1,8 +1,7 @@
 -- Every exit of an operation: what the calls before it found, and that it is the definition's answer.
 --     and-true       a test joined with true is itself
 --     at_inside      what stands inside a list does not depend on the default
---     not-asked, not_completed      an answer of another kind leaves moved, and the reads
---     is-running     the answer of a start that is not refused
+--     not_completed      an answer of another kind leaves the reads
 --     issue_bad, issue_open, issue_unsafe, issue-passed
 -- Assumes nothing.
 use mathlib.Core.Path.{◌≡◌, refl}
@@ -12,24 +11,16 @@ use Prim.Native.Nat.{ℕ, zero, suc, ◌≤◌, ◌<◌}
 use native.Mathlib.Nat.{not-suc-le-zero, le_of_suc-le-suc}
 use lib.ListN.{length, get_or}
 use borrow.Author.Tests.{lt-ltb, le-ltb}
-use denote.Enum.Declared.{tag_of}
-use types.Run.{OneOf, miss}
-use Rattle.model.specs.declared.Started.{Started}
-use Rattle.model.specs.declared.Started.TheVariants.{NotStarted, Running}
-use Rattle.model.specs.declared.Sent.{Sent}
-use Rattle.model.specs.declared.Sent.TheVariants.{NotSent, Asked}
 use Rattle.model.specs.declared.Received.{Received}
+use Rattle.model.specs.declared.ResultPacket.{ResultPacket}
 use Rattle.model.specs.declared.Received.TheVariants.{NotReceived, Completed, Denied, Extended}
 use Rattle.model.specs.declared.SendAnswer.{SendAnswer}
-use Rattle.model.specs.contracts.Started as started
-use Rattle.model.specs.contracts.Sent as sent
-use Rattle.model.specs.contracts.Received as received
 use Rattle.model.specs.Packets.{command_ok}
 use Rattle.model.specs.Refusals.{malformed, window_full, not_safe}
 use Rattle.model.specs.Clients.{first_open, issue_of}
 use Rattle.chamber_claim.specs.declared.Chamber.{Chamber}
 use Rattle.chamber_claim.specs.declared.ChamberSend.{ChamberSend}
-use Rattle.chamber_claim.specs.Chamber.{role_in, op_ok, is_opening, may_open, moved_by, reads_by, not_sent_in, sent_in, issue_in}
+use Rattle.chamber_claim.specs.Chamber.{role_in, op_ok, is_opening, may_open, reads_by, not_sent_in, sent_in, issue_in}
 
 pub and-true : (t : Bool) → (t && true) ≡ t
 and-true true = refl
@@ -40,21 +31,12 @@ at_inside [] i d e h = absurd (not-suc-le-zero h)
 at_inside (x ∷ xs) zero d e h = refl
 at_inside (x ∷ xs) (suc i) d e h = at_inside xs i d e (le_of_suc-le-suc h)
 
-pub not-asked : (ch : Chamber) (op : ℕ) (a : Sent) → OneOf (0 ∷ []) (tag_of sent.the_type a) → moved_by ch op a ≡ ch.moved
-unfolding moved_by
-not-asked ch op (NotSent n) h = refl
-not-asked ch op (Asked q) h = absurd (miss (0 ∷ []) 1 tt h)
-
-pub not_completed : (ch : Chamber) (a : Received) → OneOf (0 ∷ 2 ∷ 3 ∷ []) (tag_of received.the_type a) → reads_by ch a ≡ ch.reads
+pub not_completed : (ch : Chamber) (a : Received) → ((r : ResultPacket) → a ≡ Completed r → ⊥) → reads_by ch a ≡ ch.reads
 unfolding reads_by
 not_completed ch (NotReceived n) h = refl
-not_completed ch (Completed r) h = absurd (miss (0 ∷ 2 ∷ 3 ∷ []) 1 tt h)
+not_completed ch (Completed r) h = absurd (h r refl)
 not_completed ch (Denied r) h = refl
 not_completed ch (Extended g) h = refl
-
-pub is-running : (a : Started) → OneOf (1 ∷ []) (tag_of started.the_type a) → a ≡ Running
-is-running (NotStarted n) h = absurd (miss (1 ∷ []) 0 tt h)
-is-running Running h = refl
 
 -- ---- issue: i is the point's role; u, v, first, o and m are what the calls answer
 

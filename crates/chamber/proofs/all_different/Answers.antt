@@ -1,21 +1,15 @@
--- `chamber::all_different` meets its contract.
--- Assumes nothing.
+-- What is left to show of `chamber::all_different`.
 use mathlib.Core.Path.{◌≡◌, refl}
 use mathlib.Core.Bool.{true, ◌&&◌}
 use Prim.Native.Nat.{ℕ}
 use Rattle.model.specs.Tables.{every}
 use Rattle.chamber.proofs.Answers.{and-true}
 use Rattle.chamber_claim.specs.Chamber.{all_different, is_other}
-use Rattle.chamber.proofs.all_different.Statement.{statement}
-use Rattle.chamber.proofs.all_different.Tie as tie
+use Rattle.chamber.proofs.all_different.Goals as goal
 
-returns : tie.Need-returns
+pub returns : goal.returns
 unfolding every is_other all_different
 returns c =
-    let middle = c.before.before.before.before.before in
-    let s = middle.before.before.before.before.before.args.points in
+    let s = c.args.points in
     let last : (p : ℕ) → (is_other p s.level3 && true) ≡ is_other p s.level3 = λ p. and-true (is_other p s.level3) in
     rw (last s.upper, last s.lower, last s.level1, last s.level2, last s.level2) refl
-
-pub all-different-spec : {M : Type 1} → statement M
-all-different-spec = tie.close (tie.spec returns)
