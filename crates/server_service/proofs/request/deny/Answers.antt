@@ -1,0 +1,7 @@
+-- What is left to show of `server_service::request::deny`.
+use mathlib.Core.Path.{refl}
+use borrow.Author.Rules.{rules}
+use Rattle.server_service.proofs.request.deny.Goals as goal
+
+pub returns : goal.returns
+returns c = (refl, c.write_refusal.ensures)

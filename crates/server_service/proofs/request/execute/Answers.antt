@@ -1,0 +1,8 @@
+-- What is left to show of `server_service::request::execute`.
+use mathlib.Core.Path.{◌∙◌}
+use borrow.Author.Rules.{rules}
+use Rattle.server_service.proofs.request.execute.Goals as goal
+
+pub returns : goal.returns
+returns c =
+    (c.made.ensures, c.apply_executed.ensures ∙ rw c.size_of-size.ensures, c.append_executed.ensures ∙ rw c.size_of-size.ensures)

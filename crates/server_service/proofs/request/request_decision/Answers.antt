@@ -1,0 +1,29 @@
+-- What is left to show of `server_service::request::request_decision`.
+use mathlib.Core.Path.{refl, ◌∙◌}
+use Rattle.model.specs.States.{load}
+use Rattle.server_service.proofs.Requests.{request-decided, request-point, refused_by, passed_by, on_none, on_at}
+use borrow.Author.Rules.{rules}
+use Rattle.server_service.proofs.request.request_decision.Goals as goal
+
+pub point_at-x-requires : goal.point_at-x-requires
+point_at-x-requires c = (c.requires.0.long, request-point c.args.q c.requires.1)
+
+pub returns-then-refusal-ne0 : goal.returns-then-refusal-ne0
+returns-then-refusal-ne0 c =
+    let start = c.args in
+    refused_by _ (c.request_refusal-refusal.ensures ∙ rw (c.point_at-x.ensures, c.heard_of-heard.ensures, c.floor_in-floor.ensures))
+    (request-decided (load start.s.now) start.q start.free) c.if-refusal-ne0.true refl
+
+pub returns-in-Nothing : goal.returns-in-Nothing
+returns-in-Nothing c =
+    let start = c.args in
+    passed_by _ (c.request_refusal-refusal.ensures ∙ rw (c.point_at-x.ensures, c.heard_of-heard.ensures, c.floor_in-floor.ensures))
+    (request-decided (load start.s.now) start.q start.free) c.if-refusal-ne0.false
+    (on_none (load start.s.now) start.free start.q c.find-found.ensures c.in-Nothing.is c.new_decision.ensures)
+
+pub returns-in-At : goal.returns-in-At
+returns-in-At c =
+    let start = c.args in
+    passed_by _ (c.request_refusal-refusal.ensures ∙ rw (c.point_at-x.ensures, c.heard_of-heard.ensures, c.floor_in-floor.ensures))
+    (request-decided (load start.s.now) start.q start.free) c.if-refusal-ne0.false
+    (on_at (load start.s.now) start.free start.q c.find-found.ensures _ c.in-At.is c.held_decision.ensures)

@@ -1,0 +1,21 @@
+-- What is left to show of `server_service::sync::sync`.
+use mathlib.Core.Path.{sym, ◌∙◌}
+use mathlib.Core.List.{[]}
+use Rattle.server_memory.proofs.Settled.{by_refused, by_passed, passed-canonical}
+use Rattle.server_service.proofs.Chains.{sync-is}
+use borrow.Author.Rules.{rules}
+use Rattle.server_service.proofs.sync.sync.Goals as goal
+
+pub returns-then-refusal-ne0 : goal.returns-then-refusal-ne0
+returns-then-refusal-ne0 c =
+    let a = c.args in
+    by_refused a.s.now a.log.now [] _ c.lent_refusal-refusal.ensures c.if-refusal-ne0.true c.refused.ensures ∙ sym (sync-is a.s.now a.log.now a.mark)
+
+pub synced-requires : goal.synced-requires
+synced-requires c =
+    passed-canonical _ _ _ _ c.lent_refusal-refusal.ensures c.if-refusal-ne0.false (λ i. (c.slice_known-1.given i).fits)
+
+pub returns : goal.returns
+returns c =
+    let a = c.args in
+    by_passed a.s.now a.log.now [] _ c.lent_refusal-refusal.ensures c.if-refusal-ne0.false (c.synced.ensures a.log.now) ∙ sym (sync-is a.s.now a.log.now a.mark)
