@@ -1,0 +1,19 @@
+-- What is left to show of `server_replay::executed::executed_follows`.
+use Rattle.model.specs.Decisions.{follows}
+use Rattle.server_replay.proofs.Rooms.{executed-space}
+use Rattle.server_replay.proofs.executed.executed_follows.Goals as goal
+
+pub returns : goal.returns
+unfolding follows
+returns c =
+    rw (
+      executed-space,
+      c.in_range-in_range.ensures,
+      c.new_refusal-new.ensures,
+      c.request_refusal-asked.ensures,
+      c.clients_of-clients.ensures,
+      c.is_missing-fresh.ensures,
+      c.floor_in-floor.ensures,
+      c.entry_at-e.ensures,
+      c.point_at-x.ensures,
+    )
