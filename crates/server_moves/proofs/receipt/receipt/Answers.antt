@@ -1,0 +1,30 @@
+-- What is left to show of `server_moves::receipt::receipt`.
+use native.Mathlib.Omega.{arith}
+use mathlib.Core.Path.{sym, ◌∙◌}
+use Rattle.server_memory.proofs.Settled.{by_refused, by_passed}
+use Rattle.server_moves.proofs.Chains.{receipt-is, place_ready}
+use borrow.Author.Rules.{rules}
+use Rattle.server_moves.proofs.receipt.receipt.Goals as goal
+
+pub returns-then-refusal-ne0 : goal.returns-then-refusal-ne0
+returns-then-refusal-ne0 c =
+    let a = c.args in
+    by_refused a.s.now a.log.now a.out.now _ c.place_number-refusal.ensures c.if-refusal-ne0.true c.refused.ensures
+    ∙ sym (receipt-is a.s.now a.log.now a.point a.out.now)
+
+pub overflow_cast-point : goal.overflow_cast-point
+overflow_cast-point c =
+    let a = c.args in
+    omega (arith, (place_ready a.s.now a.log.now a.point c.place_number-refusal.ensures c.if-refusal-ne0.false).1)
+
+pub receipt_made-requires : goal.receipt_made-requires
+receipt_made-requires c =
+    let a = c.args in
+    let r = place_ready a.s.now a.log.now a.point c.place_number-refusal.ensures c.if-refusal-ne0.false in
+    (omega (arith, r.0.long), r.1, r.0.room)
+
+pub returns : goal.returns
+returns c =
+    let a = c.args in
+    by_passed a.s.now a.log.now a.out.now _ c.place_number-refusal.ensures c.if-refusal-ne0.false (c.receipt_made.ensures a.log.now)
+    ∙ sym (receipt-is a.s.now a.log.now a.point a.out.now)
