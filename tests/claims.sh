@@ -33,7 +33,7 @@ due 'docs/DECISIONS.md: eleven of server-calls, and there are' docs/DECISIONS.md
 due 'docs/SAFETY.md: nothing counts happenings' docs/SAFETY.md 's/<!--=events-->/<!--=happenings-->/'
 due 'docs/SAFETY.md: a mark without a figure' docs/SAFETY.md 's/[0-9]+<!--=events-->/ <!--=events-->/'
 due 'lock-events: there are' docs/SAFETY.md 's/<!--=lock-events-->//'
-due 'versions.report: there are 2, and no document says so' crates/model/specs/Versions.antt 's/eqb op stepOp/eqb op reportOp/'
+due 'versions.report: there are 2, and no document says so' crates/model/specs/Versions.antt 's/eqb op step_op/eqb op report_op/'
 due 'of events, and there are' crates/proof_sanity/specs/Moved.antt 's/^    ∷ store 1$/&\n&/'
 due 'of libraries, and there are' tools/staticlib.sh 's/\|\| set -- /&simulator_c /'
 due 'of exceptions, and there are' tools/callers.py 's/"leases::renew", //'

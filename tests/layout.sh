@@ -15,10 +15,10 @@ line() { printf "%*s" "$1" '' | tr ' ' "$2"; }
 
 cat >crates/small/src/lib.rt <<CODE
 // $(line 117 c)
-ghost use lib.ListN.{length$(line 100 ' ')};
+ghost use Rattle.std.specs.Prelude.{◌<◌, length$(line 100 ' ')};
 
 pub fn first<'a>(s: &'a [u8], mut k: usize, d: &mut Client, other: [u8; 4]) -> u8
-    requires { ⌜ k < length (now s) ⌝ }
+    requires { k < length s.now }
 {
     s[k]
 }
@@ -30,7 +30,7 @@ fn second(
     v
 }
 CODE
-printf -- '-- %s\nuse lib.ListN.{length}\n\ntwice s = length s\n' "$(line 197 c)" >crates/small/specs/Lib.antt
+printf -- '-- %s\nuse Rattle.std.specs.Prelude.{◌+◌, length}\n\ntwice s = length s + length s\n' "$(line 197 c)" >crates/small/specs/Lib.antt
 printf 'returns c = c%s .pre\n' "$(for _ in 1 2 3 4 5 6 7 8 9; do printf ' .before'; done)" >crates/small/proofs/first/Proof.antt
 tools/layout.py >said || { cat said; echo "layout.py fails without an edit"; exit 1; }
 tried=0
@@ -50,7 +50,8 @@ code=crates/small/src/lib.rt
 due ':1: 121 characters' $code '1s/c$/cc/'
 due ':1: 201 characters' crates/small/specs/Lib.antt '1s/c$/cc/'
 due ':1: ten or more .before in a row' crates/small/proofs/first/Proof.antt 's/ .pre/ .before&/'
-due ': length of lib.ListN is not used' crates/small/specs/Lib.antt 's/ = length/ = size/'
+due ': length of Rattle.std.specs.Prelude is not used' crates/small/specs/Lib.antt 's/length s/size s/g'
+due ': ◌+◌ of Rattle.std.specs.Prelude is not used' crates/small/specs/Lib.antt 's/ \+ / - /'
 due ':4: first: k is u32; the letter is usize' $code 's/mut k: usize/mut k: u32/'
 due ':4: first: s is [u32]; the letter is [u8]' $code "s/'a \[u8\]/'a [u32]/"
 due ':4: first: d is Chamber; the letter is Client' $code 's/mut Client/mut Chamber/'

@@ -13,15 +13,44 @@ ALLOWED = {
 }
 
 HEAD = re.compile(r"^(?P<indent> *)(?P<pub>pub )?(?P<extern>extern \"C\" )?fn (?P<name>\w+)", re.M)
-USE = re.compile(r"^use ([\w:]+);", re.M)
+USE = re.compile(r"^use ([^;]+);", re.M)
+CONTRACT = re.compile(r"^ +(?:requires|ensures|measure|invariant)\b[^{;\n]*\{", re.M)
 CALL = re.compile(r"(?<![\w:.])((?:\w+::)*)(\w+)\s*\(")
+
+
+def behind(text, at):
+    """The place behind the brace that closes the one at this place."""
+    depth = 0
+    for i in range(at, len(text)):
+        depth += (text[i] == "{") - (text[i] == "}")
+        if depth == 0:
+            return i + 1
+    return len(text)
 
 
 def code_of(path):
     """The text of a source file without comments, ghost lines and contracts."""
-    text = re.sub(r"//.*", "", path.read_text())
-    text = re.sub(r"^ghost use .*;$", "", text, flags=re.M)
-    return re.sub(r"^ +(requires|ensures|measure|invariant)\b[^{]*\{.*?⌝ \}$", "", text, flags=re.M | re.S)
+    text = re.sub(r"//.*", "", path.read_text(encoding="utf-8"))
+    text = re.sub(r"^ghost use [^;]*;$", "", text, flags=re.M)
+    while contract := CONTRACT.search(text):
+        text = text[: contract.start()] + text[behind(text, contract.end() - 1) :]
+    return text
+
+
+def brought(tree, above=()):
+    """What a use item brings, by name: {a, b::c} opened."""
+    path, _, group = tree.partition("{")
+    parts = (*above, *[p for p in path.strip().split("::") if p])
+    if not group:
+        return {parts[-1]: parts} if parts else {}
+    depth, begun, found, inside = 0, 0, {}, group.strip().removesuffix("}") + ","
+    for i, sign in enumerate(inside):
+        depth += (sign == "{") - (sign == "}")
+        if sign == "," and depth == 0:
+            if inside[begun:i].strip():
+                found.update(brought(inside[begun:i].strip(), parts))
+            begun = i + 1
+    return found
 
 
 def module_of(path):
@@ -61,7 +90,7 @@ def main():
     public, called = {}, {}
     for path in FILES:
         text, module = code_of(path), module_of(path)
-        uses = {u.split("::")[-1]: tuple(u.split("::")) for u in USE.findall(text)}
+        uses = {name: parts for tree in USE.findall(text) for name, parts in brought(tree).items()}
         for name, is_public, is_root, body in functions_of(text):
             here = (*module, name)
             if is_public and not is_root:

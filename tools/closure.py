@@ -49,7 +49,7 @@ def main():
     every = [d for f in files for d in definitions(f)]
     named = {}
     for d in every:
-        for part in {d.name, *d.name.split('_')} - {''}:
+        for part in {d.name, *d.name.split('◌')} - {''}:
             named.setdefault(part, []).append(d)
         for line in d.lines[1:] if d.fields else ():
             m = re.match(r'\s+(?:pub )?([^\s:]+) :', line)

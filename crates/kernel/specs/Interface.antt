@@ -6,9 +6,9 @@ use Rattle.model.specs.Checkpoints.{AfterCheckpoint}
 use Rattle.dispatch_claim.specs.declared.Dispatcher.{Dispatcher}
 use Rattle.dispatch_claim.specs.Dispatcher.{AfterServe}
 
--- the interface's version, major × 65,536 + minor: 1.8
+-- the interface's version, major × 65,536 + minor: 1.7
 abbrev pub version : ℕ
-version = 65544
+version = 65543
 
 pub record Returned : Type 0 where
   pub answer : ℕ

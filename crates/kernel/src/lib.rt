@@ -1,7 +1,7 @@
 // The C interface: the calls of a server over its lent slices (include/mantelorris.h). Each answers one word of 64
 // bits: the low 32 bits are 0 or the refusal's number, the high 32 bits the number of bytes written to the output; log
 // end, over a log alone, answers a number and an end of 64 bits, and inspect a place. And the calls of the dispatcher
-// above a server (include/mantelorris_dispatcher.h): given and returned by value.
+// above a server, in no header yet: given and returned by value.
 #![tactic(auto)]
 
 ghost use Rattle.std.specs.Prelude.{◌≡◌, []};
@@ -15,7 +15,7 @@ use dispatch_claim::{Dispatcher, Enqueued};
 use model::{Answer, LogEnd, Place, constants};
 
 // The interface's version, major * 65,536 + minor.
-const VERSION: u32 = 65544;
+const VERSION: u32 = 65543;
 
 #[unsafe(no_mangle)]
 pub extern "C" fn mantelorris_version() -> u32
