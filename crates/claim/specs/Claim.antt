@@ -1,5 +1,5 @@
 -- Demand 3: after every schedule there is one order of all surviving commands, each once, that explains every result and every
--- final value, in real_time order.
+-- final value, in real-time order.
 -- Assumes nothing.
 use Rattle.std.specs.Prelude.{ℕ, suc, ◌+◌, ◌≤◌, ◌<◌, ◌≡◌, ◌↔◌}
 use mathlib.Core.List.{List, [], ◌∷◌, Memᴰ}

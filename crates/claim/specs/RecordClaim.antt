@@ -1,5 +1,5 @@
 -- Demand 3 over states and log records: after every schedule there is one order of all surviving commands, each once, that explains every
--- result and every final value, in real_time order. The clauses are those of Claim.
+-- result and every final value, in real-time order. The clauses are those of Claim.
 -- Assumes nothing.
 use Rattle.std.specs.Prelude.{ℕ, ◌≡◌, List, []}
 use Rattle.std.proofs.Math.Option.{Option, none, some}

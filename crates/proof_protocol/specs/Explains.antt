@@ -1,5 +1,5 @@
 -- Demand 3 over the abstract world: one order of all surviving commands, each once, explains every result and every final value, in
--- real_time order. By construction of the world: packets and images are only those made, there is one plan, a server is founded
+-- real-time order. By construction of the world: packets and images are only those made, there is one plan, a server is founded
 -- once, a crash keeps at least the synced records, recovery uses what is kept, a client number starts one client, once.
 -- Assumes nothing.
 use Rattle.std.specs.Prelude.{ℕ, suc, ◌≤◌, ◌<◌, ◌≡◌, true, List, [], ◌∷◌, ◌↔◌, length, take}

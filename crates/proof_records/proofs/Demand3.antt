@@ -1,5 +1,5 @@
 -- Demand 3 over states and log records: after every schedule there is one order of all surviving commands, each once, that explains every
--- result and every final value, in real_time order.
+-- result and every final value, in real-time order.
 --     holder_there             the holder of a point
 --     told-there, times-here   results told, and their times
 --     explains_here            what explains the run explains the schedule

@@ -1,5 +1,5 @@
 -- Demand 3: after every schedule there is one order of all surviving commands, each once, that explains every result and every
--- final value, in real_time order. Bytes refine records, and records refine the protocol.
+-- final value, in real-time order. Bytes refine records, and records refine the protocol.
 -- And the fence: a command is executed only after it was issued, and a client fenced off from a point executes nothing on it any more.
 -- And times of execution: two results of one id have one time, and a client receives that of the command that it completes.
 --     demand3
