@@ -1,0 +1,5 @@
+-- What is left to show of `chamber_c::mantelorris_chamber_resend`.
+use Rattle.chamber_c.proofs.mantelorris_chamber_resend.Goals as goal
+
+pub returns : goal.returns
+returns c = cc

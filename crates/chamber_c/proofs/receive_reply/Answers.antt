@@ -1,0 +1,7 @@
+-- What is left to show of `chamber_c::receive_reply`.
+use Rattle.chamber_c.specs.Replies.{receive_reply_in}
+use Rattle.chamber_c.proofs.receive_reply.Goals as goal
+
+pub returns : goal.returns
+unfolding receive_reply_in
+returns c = cc

@@ -1,0 +1,7 @@
+-- What is left to show of `chamber_c::send_reply`.
+use Rattle.chamber_c.specs.Replies.{send_reply_in}
+use Rattle.chamber_c.proofs.send_reply.Goals as goal
+
+pub returns : goal.returns
+unfolding send_reply_in
+returns c = cc
