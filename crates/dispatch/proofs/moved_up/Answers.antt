@@ -1,0 +1,22 @@
+-- What is left to show of `dispatch::moved_up`.
+use Prim.Native.Nat.{◌≤◌, ◌-◌}
+use mathlib.Core.Path.{◌≡◌, refl}
+use native.Mathlib.Omega.{arith}
+use lib.ListN.{length}
+use borrow.Author.Rules.{rules}
+use Rattle.dispatch_claim.specs.Dispatcher.{places, no_request}
+use Rattle.dispatch.proofs.Places.{moved_by, moved-next, moved-end}
+use Rattle.dispatch.proofs.moved_up.Goals as goal
+
+pub loop-i-init : goal.loop-i-init
+loop-i-init c = (search rules, omega arith, refl)
+
+pub loop-i-preserved : goal.loop-i-preserved
+loop-i-preserved c =
+    let l = c.loop-i in (l.invariant.0, omega arith, moved-next c.args.requests no_request l.i l.invariant.2 (omega arith))
+
+pub returns : goal.returns
+returns c =
+    let l = c.loop-i in
+    let e : l.i ≡ 31 = omega arith in
+    rw c.no_request-free.ensures (moved-end c.args.requests no_request 31 (rw e at l.invariant.2) l.invariant.0)
