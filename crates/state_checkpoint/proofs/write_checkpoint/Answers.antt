@@ -17,6 +17,6 @@ returns c =
         c.records_in-k.ensures,
         c.clients_in-n.ensures,
       )
-          (checkpoint-runs s (λ i. (c.shared_slice_known-1.given i).fits) c.requires.0 c.args.checkpoint.now),
-      rw (c.records_in-k.ensures, c.clients_in-n.ensures) (checkpoint-size s (λ i. (c.shared_slice_known-1.given i).fits) c.requires.0),
+          (checkpoint-runs s (λ i. (c.type_inv.s i).fits) c.requires.0 c.args.checkpoint.now),
+      rw (c.records_in-k.ensures, c.clients_in-n.ensures) (checkpoint-size s (λ i. (c.type_inv.s i).fits) c.requires.0),
     )

@@ -4,4 +4,4 @@ use Rattle.state_checkpoint.proofs.write_plan.Goals as goal
 
 pub returns : goal.returns
 returns c =
-    rw (c.copy_part.ensures, plan-part c.args.s.now (λ i. (c.shared_slice_known-1.given i).fits) c.requires.0)
+    rw (c.copy_part.ensures, plan-part c.args.s.now (λ i. (c.type_inv.s i).fits) c.requires.0)

@@ -5,4 +5,4 @@ use Rattle.state_checkpoint.proofs.write_records.Goals as goal
 pub returns : goal.returns
 returns c =
     rw (c.copy_fronts.ensures, c.records_in-k.ensures)
-    (records-written c.args.s.now (λ i. (c.shared_slice_known-1.given i).fits) c.requires.0 c.args.checkpoint.now c.args.from)
+    (records-written c.args.s.now (λ i. (c.type_inv.s i).fits) c.requires.0 c.args.checkpoint.now c.args.from)

@@ -12,7 +12,7 @@ raise-requires c =
 pub loop-i-preserved : goal.loop-i-preserved
 loop-i-preserved c =
     merging_next c.requires.0 c.args.image.now c.args.n c.requires.2 c.loop-i.invariant c.loop-i-test.true c.floor_from-f.ensures
-    (λ i. (c.shared_slice_known-1.given i).fits) c.raise.ensures
+    (λ i. (c.type_inv.image i).fits) c.raise.ensures
 
 pub returns : goal.returns
 returns c =

@@ -12,13 +12,13 @@ loop-i-init c =
 
 pub offset_bounds-slots-k : goal.offset_bounds-slots-k
 offset_bounds-slots-k c =
-    let fits = slot_fits c.args.s.now (λ i. (c.shared_slice_known-1.given i).fits) c.requires (c.loop-i.i - 1) (omega (arith, c.loop-i.invariant.below, c.loop-i-test.true))
+    let fits = slot_fits c.args.s.now (λ i. (c.type_inv.s i).fits) c.requires (c.loop-i.i - 1) (omega (arith, c.loop-i.invariant.below, c.loop-i-test.true))
     c.completion_from-r.ensures c.clients_in-n.ensures c.slot_of-k.ensures in
     omega (arith, fits)
 
 pub bounds-slots-k : goal.bounds-slots-k
 bounds-slots-k c =
-    slot_fits c.args.s.now (λ i. (c.shared_slice_known-1.given i).fits) c.requires (c.loop-i.i - 1) (omega (arith, c.loop-i.invariant.below, c.loop-i-test.true))
+    slot_fits c.args.s.now (λ i. (c.type_inv.s i).fits) c.requires (c.loop-i.i - 1) (omega (arith, c.loop-i.invariant.below, c.loop-i-test.true))
     c.completion_from-r.ensures c.clients_in-n.ensures c.slot_of-k.ensures
 
 pub loop-i-preserved-then-r-point : goal.loop-i-preserved-then-r-point

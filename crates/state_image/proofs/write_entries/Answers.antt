@@ -63,5 +63,5 @@ loop-k-preserved c =
 
 pub returns : goal.returns
 returns c =
-    let b : Bytes c.args.s.now = λ i. (c.shared_slice_known-1.given i).fits in
+    let b : Bytes c.args.s.now = λ i. (c.type_inv.s i).fits in
     entries-done c.args.point c.args.s.now c.requires.0 c.clients_in-n.ensures c.point_slots-slots.ensures b c.loop-k.invariant c.loop-k-test.false

@@ -1,7 +1,6 @@
 -- What is left to show of `state_records::append`.
 use mathlib.Core.Path.{◌∙◌}
 use Rattle.state_records.proofs.Whole.{record_added}
-use borrow.Author.Rules.{rules}
 use Rattle.state_records.proofs.append.Goals as goal
 
 pub returns : goal.returns

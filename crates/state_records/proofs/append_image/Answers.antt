@@ -4,7 +4,6 @@ use Rattle.model.specs.States.{load}
 use Rattle.state_records.specs.Rules.{brought}
 use Rattle.state_records.proofs.Whole.{records_added}
 use native.Mathlib.Omega.{arith}
-use borrow.Author.Rules.{rules}
 use Rattle.state_records.proofs.append_image.Goals as goal
 
 pub returns : goal.returns

@@ -1,7 +1,5 @@
 -- What is left to show of `state_records::compact`.
-use Prim.Native.Nat.{◌-◌}
-use borrow.Author.Rules.{rules}
-use Rattle.state_records.proofs.Loops.{Compacting, compact_start, compact_stays, compact_room, compact_next, compact_end}
+use Rattle.state_records.proofs.Loops.{compact_start, compact_stays, compact_room, compact_next, compact_end}
 use Rattle.state_records.proofs.compact.Goals as goal
 
 pub loop-i-init : goal.loop-i-init

@@ -1,7 +1,6 @@
 -- The invariants of `state_records::compact`.
 use Prim.Native.Nat.{◌-◌}
-use borrow.Author.Rules.{rules}
-use Rattle.state_records.proofs.Loops.{Compacting, compact_start, compact_stays, compact_room, compact_next, compact_end}
+use Rattle.state_records.proofs.Loops.{Compacting}
 use Rattle.state_records.proofs.compact.Given as goal
 
 abbrev pub invariant-loop-i : goal.invariant-loop-i

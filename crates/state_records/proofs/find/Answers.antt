@@ -1,12 +1,6 @@
 -- What is left to show of `state_records::find`.
-use Prim.Native.Nat.{◌-◌, ◌≤◌}
 use mathlib.Core.Path.{sym, ◌∙◌}
-use lib.ListN.{drop}
-use borrow.Author.Rules.{rules}
-use Rattle.model.specs.Limits.{record_count}
-use Rattle.model.specs.Tables.{rows}
-use Rattle.model.specs.States.{records_start, record_row, completion_of, is_id}
-use Rattle.model_laws.specs.Sought.{Sought}
+use Rattle.model.specs.States.{records_start, record_row, completion_of}
 use Rattle.model_laws.proofs.Searches.{row_next}
 use Rattle.state_records.proofs.Search.{counted, few, find_hit, find_none}
 use Rattle.state_records.proofs.find.Goals as goal

@@ -2,14 +2,11 @@
 use Prim.Native.Nat.{◌-◌, ◌≤◌}
 use mathlib.Core.Bool.{not}
 use lib.ListN.{drop}
-use borrow.Author.Rules.{rules}
 use Rattle.model.specs.Limits.{record_count}
 use Rattle.model.specs.Tables.{rows}
 use Rattle.model.specs.States.{load, records_start, record_row, completion_of}
 use Rattle.model_laws.specs.Sought.{Sought}
-use Rattle.model_laws.proofs.Searches.{sought_start, row_hit, row_next, row_none}
-use Rattle.state_records.specs.Rules.{stays_by, front}
-use Rattle.state_records.proofs.Search.{counted, few}
+use Rattle.state_records.specs.Rules.{stays_by}
 use Rattle.state_records.proofs.front.Given as goal
 
 abbrev pub invariant-loop-i : goal.invariant-loop-i

@@ -1,5 +1,4 @@
 -- What is left to show of `state_records::is_past`.
-use borrow.Author.Rules.{rules}
 use Rattle.state_records.proofs.Search.{four_past}
 use Rattle.state_records.proofs.is_past.Goals as goal
 

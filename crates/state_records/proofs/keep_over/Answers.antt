@@ -1,7 +1,6 @@
 -- What is left to show of `state_records::keep_over`.
 use Rattle.state_records.specs.Rules.{stays_by}
 use Rattle.state_records.proofs.Kept.{over-kept}
-use borrow.Author.Rules.{rules}
 use Rattle.state_records.proofs.keep_over.Goals as goal
 
 pub returns-then-floor-old : goal.returns-then-floor-old

@@ -1,6 +1,5 @@
 -- What is left to show of `state_records::keep_records`.
 use mathlib.Core.Path.{◌∙◌}
-use borrow.Author.Rules.{rules}
 use Rattle.model.specs.States.{load}
 use Rattle.state_records.specs.Rules.{kept_by}
 use Rattle.state_records.proofs.Whole.{records-kept}

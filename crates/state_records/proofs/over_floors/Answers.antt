@@ -1,5 +1,4 @@
 -- What is left to show of `state_records::over_floors`.
-use borrow.Author.Rules.{rules}
 use Rattle.state_records.proofs.Kept.{clients-within, floor-stays}
 use Rattle.state_records.proofs.over_floors.Goals as goal
 

@@ -1,12 +1,5 @@
 -- What is left to show of `state_records::pass`.
-use Prim.Native.Nat.{◌-◌, ◌≤◌}
-use lib.ListN.{drop}
 use native.Mathlib.Omega.{arith}
-use borrow.Author.Rules.{rules}
-use Rattle.model.specs.Limits.{record_count}
-use Rattle.model.specs.Tables.{rows}
-use Rattle.model.specs.States.{records_start, record_row, completion_of, is_id}
-use Rattle.model_laws.specs.Sought.{Sought}
 use Rattle.model_laws.proofs.Searches.{sought_start}
 use mathlib.Core.Bool.{not}
 use mathlib.Core.Path.{ap}

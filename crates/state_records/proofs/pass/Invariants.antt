@@ -1,14 +1,10 @@
 -- The invariants of `state_records::pass`.
 use Prim.Native.Nat.{◌-◌, ◌≤◌}
 use lib.ListN.{drop}
-use native.Mathlib.Omega.{arith}
-use borrow.Author.Rules.{rules}
 use Rattle.model.specs.Limits.{record_count}
 use Rattle.model.specs.Tables.{rows}
 use Rattle.model.specs.States.{records_start, record_row, completion_of, is_id}
 use Rattle.model_laws.specs.Sought.{Sought}
-use Rattle.model_laws.proofs.Searches.{sought_start}
-use Rattle.state_records.proofs.Search.{few, find_eight}
 use Rattle.state_records.proofs.pass.Given as goal
 
 abbrev pub invariant-loop-i : goal.invariant-loop-i

@@ -1,11 +1,9 @@
 -- What is left to show of `state_records::put_entries`.
-use Prim.Native.Nat.{◌+◌, ◌-◌, ◌*◌, ◌≤◌}
+use Prim.Native.Nat.{◌+◌, ◌*◌, ◌≤◌}
 use native.Mathlib.Omega.{arith}
 use lib.ListN.{length}
-use borrow.Author.Rules.{rules}
 use Rattle.model.specs.Images.{entry_row_of}
-use Rattle.model.specs.Apply.{taken_record}
-use Rattle.state_records.proofs.Loops.{entry_inside, Adding, adding_start, adding_stays, adding_room, adding_next, adding_end}
+use Rattle.state_records.proofs.Loops.{entry_inside, adding_start, adding_stays, adding_room, adding_next, adding_end}
 use Rattle.state_records.proofs.put_entries.Goals as goal
 use Rattle.state_records.proofs.put_entries.Goals.{In-loop-i}
 
@@ -31,9 +29,6 @@ pub put_kept-j-requires : goal.put_kept-j-requires
 put_kept-j-requires c =
     adding_room c.loop-i.invariant c.loop-i-test.true (rw c.entry_at-k.ensures at c.entry_from-entry.ensures)
     c.taken_record-r.ensures c.over_floors-stay.ensures
-
-pub overflow_add-i : goal.overflow_add-i
-overflow_add-i c = let known = c.struct_known-1.given in search (rules, known)
 
 pub loop-i-preserved : goal.loop-i-preserved
 loop-i-preserved c =

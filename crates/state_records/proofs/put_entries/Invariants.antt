@@ -1,11 +1,7 @@
 -- The invariants of `state_records::put_entries`.
-use Prim.Native.Nat.{◌+◌, ◌-◌, ◌*◌, ◌≤◌}
-use native.Mathlib.Omega.{arith}
-use lib.ListN.{length}
-use borrow.Author.Rules.{rules}
-use Rattle.model.specs.Images.{entry_row_of}
+use Prim.Native.Nat.{◌-◌}
 use Rattle.model.specs.Apply.{taken_record}
-use Rattle.state_records.proofs.Loops.{entry_inside, Adding, adding_start, adding_stays, adding_room, adding_next, adding_end}
+use Rattle.state_records.proofs.Loops.{Adding}
 use Rattle.state_records.proofs.put_entries.Given as goal
 
 abbrev pub invariant-loop-i : goal.invariant-loop-i

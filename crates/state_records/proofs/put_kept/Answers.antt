@@ -2,8 +2,6 @@
 use Prim.Native.Nat.{◌<◌}
 use mathlib.Core.Path.{refl}
 use native.Mathlib.Omega.{arith}
-use borrow.Author.Tests.{not-true, not-false}
-use borrow.Author.Rules.{rules}
 use Rattle.model.specs.Limits.{record_count}
 use Rattle.state_records.proofs.put_kept.Goals as goal
 use Rattle.state_records.proofs.put_kept.Goals.{Else-not-stay}

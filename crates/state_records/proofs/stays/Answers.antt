@@ -1,5 +1,4 @@
 -- What is left to show of `state_records::stays`.
-use borrow.Author.Rules.{rules}
 use Rattle.model.specs.Apply.{stays_over, is_of_other, is_on_other}
 use Rattle.state_records.specs.Rules.{stays_by}
 use Rattle.state_records.proofs.stays.Goals as goal

@@ -14,7 +14,7 @@ returns-then-not-plan_row_ok c = search chain depth 24
 pub returns-then-held_head : goal.returns-then-held_head
 returns-then-held_head c =
     let a = c.args in
-    held_row a.server a.size c.plan_entry-e.result (drop a.k a.s.now) (bytes_drop a.k a.s.now (λ i. (c.shared_slice_known-1.given i).fits))
+    held_row a.server a.size c.plan_entry-e.result (drop a.k a.s.now) (bytes_drop a.k a.s.now (λ i. (c.type_inv.s i).fits))
     (sym c.held_head.ensures ∙ c.if-held_head.true) (drop a.j a.s.now) c.plan_entry-e.ensures
     (sym c.plan_row_ok.ensures ∙ c.if-not-plan_row_ok.false) (rw c.point_from-x.ensures at c.held_rest.ensures)
 

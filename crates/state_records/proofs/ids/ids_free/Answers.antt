@@ -1,15 +1,12 @@
 -- What is left to show of `state_records::ids::ids_free`.
-use Prim.Native.Nat.{◌+◌, ◌-◌, ◌*◌, ◌≤◌}
+use Prim.Native.Nat.{◌+◌, ◌*◌, ◌≤◌}
 use mathlib.Core.Path.{◌∙◌, ap}
 use mathlib.Core.Bool.{not}
 use native.Mathlib.Omega.{arith}
-use borrow.Author.Rules.{rules}
-use lib.ListN.{length, drop}
-use Rattle.model.specs.Tables.{rows, every}
+use lib.ListN.{length}
 use Rattle.model.specs.Images.{image_entry_of, image_at, entry_row_of}
-use Rattle.model.specs.States.{load}
 use Rattle.model.specs.Decisions.{free_for}
-use Rattle.model_laws.proofs.Loops.{Open, row_test, every_open, open_next, open_false, open_true}
+use Rattle.model_laws.proofs.Loops.{every_open, open_next, open_false, open_true}
 use Rattle.state_records.proofs.Loops.{entry_inside}
 use Rattle.state_records.proofs.ids.ids_free.Goals as goal
 use Rattle.state_records.proofs.ids.ids_free.Goals.{In-loop-i}

@@ -1,15 +1,11 @@
 -- The invariants of `state_records::ids::ids_free`.
-use Prim.Native.Nat.{◌+◌, ◌-◌, ◌*◌, ◌≤◌}
-use mathlib.Core.Path.{◌∙◌}
-use native.Mathlib.Omega.{arith}
-use borrow.Author.Rules.{rules}
-use lib.ListN.{length, drop}
+use Prim.Native.Nat.{◌-◌}
+use lib.ListN.{drop}
 use Rattle.model.specs.Tables.{rows, every}
-use Rattle.model.specs.Images.{image_entry_of, image_at, entry_row_of}
+use Rattle.model.specs.Images.{image_entry_of}
 use Rattle.model.specs.States.{load}
 use Rattle.model.specs.Decisions.{free_for}
-use Rattle.model_laws.proofs.Loops.{Open, row_test, every_open, open_next, open_false, open_true}
-use Rattle.state_records.proofs.Loops.{entry_inside}
+use Rattle.model_laws.proofs.Loops.{Open, row_test}
 use Rattle.state_records.proofs.ids.ids_free.Given as goal
 
 abbrev pub invariant-loop-i : goal.invariant-loop-i

@@ -1,6 +1,5 @@
 -- What is left to show of `state_records::ids::is_free`.
 use Rattle.state_records.proofs.Unheld.{free-nothing, free-at}
-use borrow.Author.Rules.{rules}
 use Rattle.state_records.proofs.ids.is_free.Goals as goal
 
 pub returns-in-Nothing : goal.returns-in-Nothing

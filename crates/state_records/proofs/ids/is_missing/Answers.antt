@@ -1,6 +1,5 @@
 -- What is left to show of `state_records::ids::is_missing`.
 use mathlib.Core.Path.{sym, ◌∙◌}
-use borrow.Author.Rules.{rules}
 use Rattle.model.specs.Decisions.{is_none}
 use Rattle.state_records.proofs.Search.{found_none, found_at}
 use Rattle.state_records.proofs.ids.is_missing.Goals as goal
