@@ -1,4 +1,4 @@
-//! Names the folder of the static libraries: MANTELORRIS_STATICLIB, or where `rt staticlib` writes them. Compiles the plain passes in C
+//! Names the folder of the static libraries: MANTELORRIS_STATICLIB, or where tools/staticlib.sh puts them. Compiles the plain passes in C
 //! that the benchmark holds the proved code to, with `cc -O3`.
 
 use std::env;

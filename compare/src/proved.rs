@@ -1,4 +1,4 @@
-//! The proved client and lease manager, from the static library client_c: structs
+//! The proved client and lease manager, from the static library client_exports: structs
 //! and functions of include/mantelorris_client.h.
 
 #[repr(C)]
@@ -82,7 +82,7 @@ pub struct LeaseReply {
 mod c {
     use super::{Client, LeaseManager, LeaseReply, ReceiveReply, SendReply, StartReply};
 
-    #[link(name = "client_c", kind = "static")]
+    #[link(name = "client_exports", kind = "static")]
     extern "C" {
         pub fn mantelorris_start(packet: *const u8, length: usize) -> StartReply;
         pub fn mantelorris_issue(

@@ -1,4 +1,4 @@
-//! Names the folder of the static libraries: MANTELORRIS_STATICLIB, or where `rt staticlib` writes them.
+//! Names the folder of the static libraries: MANTELORRIS_STATICLIB, or where tools/staticlib.sh puts them.
 
 use std::env;
 use std::path::{Path, PathBuf};
