@@ -249,23 +249,6 @@ struct mantelorris_log_end_reply {
 MANTELORRIS_HAS_SIZE(struct mantelorris_log_end_reply, 16);
 MANTELORRIS_HAS_OFFSET(struct mantelorris_log_end_reply, end, 8);
 
-/* MANTELORRIS_GIVES stands before a call that gives a struct of more than 16 bytes. The library gets the place for it as its first argument. So does C on
- * x86-64: there these are the library's own functions. C on Arm gives the place in another register: there each is an inline function over the library's,
- * which C has as name_at; to the linker the library's function is name, and the inline one, where a compiler does not put it into its caller, name_inline. */
-#if defined(__aarch64__)
-#define MANTELORRIS_GIVES static inline
-#define MANTELORRIS_PLACED(reply, name, arguments, ...) \
-    reply *name##_at(reply *place, __VA_ARGS__) __asm__(#name); \
-    MANTELORRIS_GIVES reply name(__VA_ARGS__) __asm__(#name "_inline"); \
-    MANTELORRIS_GIVES reply name(__VA_ARGS__) { \
-        reply given; \
-        name##_at arguments; \
-        return given; \
-    }
-#else
-#define MANTELORRIS_GIVES
-#endif
-
 /* the end of a log's last whole record; the log slice is exactly what was kept */
 struct mantelorris_log_end_reply mantelorris_log_end(const uint8_t *log, size_t log_length);
 
@@ -287,16 +270,8 @@ MANTELORRIS_HAS_OFFSET(struct mantelorris_place, start, 8);
 MANTELORRIS_HAS_OFFSET(struct mantelorris_place, end, 16);
 
 /* where the completion record of client and call lies; tail is the log that the state records */
-MANTELORRIS_GIVES
 struct mantelorris_place mantelorris_inspect(const uint8_t *state, size_t state_length, const uint8_t *checkpoint, size_t checkpoint_length,
                                              const uint8_t *tail, size_t tail_length, uint32_t client, uint32_t call);
-#if defined(__aarch64__)
-MANTELORRIS_PLACED(struct mantelorris_place, mantelorris_inspect,
-                   (&given, state, state_length, checkpoint, checkpoint_length, tail, tail_length, client, call),
-                   const uint8_t *state, size_t state_length, const uint8_t *checkpoint, size_t checkpoint_length, const uint8_t *tail,
-                   size_t tail_length, uint32_t client, uint32_t call)
-#endif
-
 /* its first byte; a null pointer where refused. It has place.end - place.start bytes */
 static inline const uint8_t *mantelorris_shown(struct mantelorris_place place, const uint8_t *checkpoint, const uint8_t *tail) {
     if (place.number) return 0;

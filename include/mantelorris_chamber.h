@@ -81,50 +81,11 @@ struct mantelorris_chamber_receive_reply {
 };
 
 /* packet: the grant of a new client number; start one controller with it, once */
-MANTELORRIS_GIVES
 struct mantelorris_chamber_start_reply mantelorris_chamber_start(const uint8_t *packet, size_t length, uint32_t upper, uint32_t lower,
                                                                  uint32_t level1, uint32_t level2, uint32_t level3);
-MANTELORRIS_GIVES
 struct mantelorris_chamber_send_reply mantelorris_chamber_issue(struct mantelorris_chamber chamber, uint32_t op, uint32_t point, int32_t argument);
-MANTELORRIS_GIVES
 struct mantelorris_chamber_send_reply mantelorris_chamber_resend(struct mantelorris_chamber chamber, uint32_t call);
-MANTELORRIS_GIVES
 struct mantelorris_chamber_receive_reply mantelorris_chamber_receive(struct mantelorris_chamber chamber, const uint8_t *packet, size_t length);
-
-#if defined(__aarch64__)
-MANTELORRIS_PLACED(struct mantelorris_chamber_start_reply, mantelorris_chamber_start,
-                   (&given, packet, length, upper, lower, level1, level2, level3),
-                   const uint8_t *packet, size_t length, uint32_t upper, uint32_t lower, uint32_t level1, uint32_t level2, uint32_t level3)
-
-/* The library reads a controller that it is given by value from the caller's stack, where C on x86-64 puts it. C on Arm would give its address; on the
- * stack it puts, in words of 8 bytes, what comes after the eight arguments that have a register. So each of these has the place, seven words in registers,
- * 0 where it needs fewer, and then the controller's 35 words. */
-#define MANTELORRIS_SEVEN(W, i) W((i)), W((i) + 1), W((i) + 2), W((i) + 3), W((i) + 4), W((i) + 5), W((i) + 6)
-#define MANTELORRIS_WORDS(W) \
-    MANTELORRIS_SEVEN(W, 0), MANTELORRIS_SEVEN(W, 7), MANTELORRIS_SEVEN(W, 14), MANTELORRIS_SEVEN(W, 21), MANTELORRIS_SEVEN(W, 28)
-#define MANTELORRIS_WORD_TYPE(i) uint64_t
-#define MANTELORRIS_WORD(i) words[i]
-#define MANTELORRIS_WITH_CHAMBER(reply, name, first, second, third, ...) \
-    reply *name##_at(reply *place, MANTELORRIS_SEVEN(MANTELORRIS_WORD_TYPE, 0), MANTELORRIS_WORDS(MANTELORRIS_WORD_TYPE)) __asm__(#name); \
-    MANTELORRIS_GIVES reply name(struct mantelorris_chamber chamber, __VA_ARGS__) __asm__(#name "_inline"); \
-    MANTELORRIS_GIVES reply name(struct mantelorris_chamber chamber, __VA_ARGS__) { \
-        uint64_t words[35] = {0}; \
-        reply given; \
-        __builtin_memcpy(words, &chamber, sizeof chamber); \
-        name##_at(&given, first, second, third, 0, 0, 0, 0, MANTELORRIS_WORDS(MANTELORRIS_WORD)); \
-        return given; \
-    }
-MANTELORRIS_WITH_CHAMBER(struct mantelorris_chamber_send_reply, mantelorris_chamber_issue, op, point, (uint32_t)argument,
-                         uint32_t op, uint32_t point, int32_t argument)
-MANTELORRIS_WITH_CHAMBER(struct mantelorris_chamber_send_reply, mantelorris_chamber_resend, call, 0, 0, uint32_t call)
-MANTELORRIS_WITH_CHAMBER(struct mantelorris_chamber_receive_reply, mantelorris_chamber_receive, (uintptr_t)packet, length, 0,
-                         const uint8_t *packet, size_t length)
-#undef MANTELORRIS_WITH_CHAMBER
-#undef MANTELORRIS_WORD
-#undef MANTELORRIS_WORD_TYPE
-#undef MANTELORRIS_WORDS
-#undef MANTELORRIS_SEVEN
-#endif
 
 /* ---- the same three with the controller in its place: it becomes the one that the call returns, so that no older one is left */
 

@@ -64,13 +64,9 @@ struct mantelorris_receive_reply {
     uint32_t time;
 };
 
-MANTELORRIS_GIVES
 struct mantelorris_start_reply mantelorris_start(const uint8_t *packet, size_t length);
-MANTELORRIS_GIVES
 struct mantelorris_send_reply mantelorris_issue(struct mantelorris_client *client, uint32_t op, uint32_t point, int32_t argument);
-MANTELORRIS_GIVES
 struct mantelorris_send_reply mantelorris_resend(struct mantelorris_client *client, uint32_t call);
-MANTELORRIS_GIVES
 struct mantelorris_receive_reply mantelorris_receive(struct mantelorris_client *client, const uint8_t *packet, size_t length);
 
 struct mantelorris_lease {
@@ -93,13 +89,9 @@ struct mantelorris_lease_reply {
 };
 
 /* time 0, no leases */
-MANTELORRIS_GIVES
 struct mantelorris_lease_manager mantelorris_leases(void);
-MANTELORRIS_GIVES
 struct mantelorris_lease_reply mantelorris_open(struct mantelorris_lease_manager *manager, uint32_t time, uint32_t span);
-MANTELORRIS_GIVES
 struct mantelorris_lease_reply mantelorris_renew(struct mantelorris_lease_manager *manager, uint32_t client, uint32_t time, uint32_t span);
-MANTELORRIS_GIVES
 struct mantelorris_lease_reply mantelorris_query(struct mantelorris_lease_manager *manager, uint32_t client, uint32_t time);
 
 /* the layouts that the library has */
@@ -124,29 +116,6 @@ MANTELORRIS_HAS_SIZE(struct mantelorris_lease_manager, 264);
 MANTELORRIS_HAS_OFFSET(struct mantelorris_lease_manager, leases, 8);
 MANTELORRIS_HAS_SIZE(struct mantelorris_lease_reply, 24);
 MANTELORRIS_HAS_OFFSET(struct mantelorris_lease_reply, packet, 12);
-
-#if defined(__aarch64__)
-MANTELORRIS_PLACED(struct mantelorris_start_reply, mantelorris_start, (&given, packet, length), const uint8_t *packet, size_t length)
-MANTELORRIS_PLACED(struct mantelorris_send_reply, mantelorris_issue, (&given, client, op, point, argument),
-                   struct mantelorris_client *client, uint32_t op, uint32_t point, int32_t argument)
-MANTELORRIS_PLACED(struct mantelorris_send_reply, mantelorris_resend, (&given, client, call), struct mantelorris_client *client, uint32_t call)
-MANTELORRIS_PLACED(struct mantelorris_receive_reply, mantelorris_receive, (&given, client, packet, length),
-                   struct mantelorris_client *client, const uint8_t *packet, size_t length)
-MANTELORRIS_PLACED(struct mantelorris_lease_reply, mantelorris_open, (&given, manager, time, span),
-                   struct mantelorris_lease_manager *manager, uint32_t time, uint32_t span)
-MANTELORRIS_PLACED(struct mantelorris_lease_reply, mantelorris_renew, (&given, manager, client, time, span),
-                   struct mantelorris_lease_manager *manager, uint32_t client, uint32_t time, uint32_t span)
-MANTELORRIS_PLACED(struct mantelorris_lease_reply, mantelorris_query, (&given, manager, client, time),
-                   struct mantelorris_lease_manager *manager, uint32_t client, uint32_t time)
-
-struct mantelorris_lease_manager *mantelorris_leases_at(struct mantelorris_lease_manager *place) __asm__("mantelorris_leases");
-MANTELORRIS_GIVES struct mantelorris_lease_manager mantelorris_leases(void) __asm__("mantelorris_leases_inline");
-MANTELORRIS_GIVES struct mantelorris_lease_manager mantelorris_leases(void) {
-    struct mantelorris_lease_manager given;
-    mantelorris_leases_at(&given);
-    return given;
-}
-#endif
 
 #ifdef __cplusplus
 }
