@@ -1,6 +1,5 @@
 -- What is left to show of `server_memory::free_in`.
 use Rattle.model.specs.Operations.{free_in}
-use borrow.Author.Rules.{rules}
 use Rattle.server_memory.proofs.free_in.Goals as goal
 
 pub returns : goal.returns

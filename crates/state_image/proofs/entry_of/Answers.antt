@@ -1,7 +1,6 @@
 -- What is left to show of `state_image::entry_of`.
 use mathlib.Core.Path.{refl}
 use Rattle.model.specs.Decisions.{entry_of_record}
-use borrow.Author.Rules.{rules}
 use Rattle.state_image.proofs.entry_of.Goals as goal
 
 pub returns : goal.returns

@@ -1,6 +1,5 @@
 -- What is left to show of `state_image::head_for`.
 use Rattle.state_image.proofs.Joined.{head_of}
-use borrow.Author.Rules.{rules}
 use Rattle.state_image.proofs.head_for.Goals as goal
 
 pub returns : goal.returns

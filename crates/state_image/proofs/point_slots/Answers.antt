@@ -1,8 +1,7 @@
 -- What is left to show of `state_image::point_slots`.
 use Prim.Native.Nat.{◌-◌}
 use native.Mathlib.Omega.{arith}
-use borrow.Author.Rules.{rules}
-use Rattle.state_image.proofs.Picking.{Filling, fill_start, fill_skip, fill_put, fill_end, slot_fits}
+use Rattle.state_image.proofs.Picking.{fill_start, fill_skip, fill_put, fill_end, slot_fits}
 use Rattle.state_image.proofs.point_slots.Goals as goal
 
 pub loop-i-init : goal.loop-i-init

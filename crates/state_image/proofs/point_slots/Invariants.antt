@@ -1,8 +1,5 @@
 -- The invariants of `state_image::point_slots`.
-use Prim.Native.Nat.{◌-◌}
-use native.Mathlib.Omega.{arith}
-use borrow.Author.Rules.{rules}
-use Rattle.state_image.proofs.Picking.{Filling, fill_start, fill_skip, fill_put, fill_end, slot_fits}
+use Rattle.state_image.proofs.Picking.{Filling}
 use Rattle.state_image.proofs.point_slots.Given as goal
 
 abbrev pub invariant-loop-i : goal.invariant-loop-i

@@ -1,14 +1,12 @@
 -- What is left to show of `state_image::write_entries`.
-use Prim.Native.Nat.{◌-◌, ◌*◌, ◌<◌}
+use Prim.Native.Nat.{◌<◌}
 use mathlib.Core.Bool.{true}
 use native.Mathlib.Omega.{arith}
-use lib.ListN.{take}
-use borrow.Author.Rules.{rules}
 use Rattle.model.specs.States.{load}
-use Rattle.model.specs.Limits.{call_window, record_count}
+use Rattle.model.specs.Limits.{record_count}
 use Rattle.model_laws.specs.Bytes.{Bytes}
 use Rattle.model_laws.proofs.Images.{entry_codec}
-use Rattle.state_image.proofs.Writing.{Walking, walk_start}
+use Rattle.state_image.proofs.Writing.{walk_start}
 use Rattle.state_image.proofs.Joined.{slot_most, next_skip, next-put, next-room, entries-done}
 use Rattle.state_image.proofs.write_entries.Goals as goal
 use Rattle.state_image.proofs.write_entries.Goals.{Then-slot-ne0}
