@@ -1,0 +1,94 @@
+-- What is left to show of `server_recover::replay::replay_record`.
+use Prim.Native.Nat.{ℕ, ◌+◌}
+use mathlib.Core.Path.{◌≡◌}
+use mathlib.Core.Bool.{Bool}
+use mathlib.Core.List.{List}
+use mathlib.Core.Option.{some}
+use native.Mathlib.Omega.{arith}
+use lib.ListN.{drop}
+use Rattle.model.specs.Logs.{LogRecord, record_at}
+use Rattle.format_log_reader.specs.declared.Span.{Span}
+use Rattle.format_log_reader.specs.declared.Record.{Record}
+use Rattle.format_log_reader.specs.declared.Record.TheVariants.{Took}
+use Rattle.format_log_reader.specs.Answers.{record_means}
+use Rattle.format_log_ends.proofs.Ends.{from_inside}
+use Rattle.server_replay.specs.Standing.{Ready, ReplayedBy}
+use Rattle.server_recover.specs.Remaining.{RecordReplayedBy}
+use Rattle.server_recover.proofs.Steps.{ImagePart, said, ready, image-part, broken_by, replayed_by}
+use borrow.Author.Rules.{rules}
+use Rattle.server_recover.proofs.replay.replay_record.Goals as goal
+use Rattle.server_recover.proofs.replay.replay_record.Goals.{After-record_at-found}
+
+says : (c : After-record_at-found) {r : Record} → c.record_at-found.result ≡ r → record_at (drop c.args.at c.args.log.now) ≡ record_means c.args.log.now r
+says c e = let a = c.args in said a.log.now a.at a.n c.record_at-found.ensures e
+
+ready_at : (c : After-record_at-found) (r : LogRecord) → record_at (drop c.args.at c.args.log.now) ≡ some r → Ready c.args.s.now r (c.args.at + c.args.n)
+ready_at c r q =
+    ready c.args.s.now c.args.log.now c.args.at c.args.n r c.requires.0 (search rules) c.requires.1 q
+
+image-at : (c : After-record_at-found) {p : Span} → c.record_at-found.result ≡ Took p → ImagePart c.args.log.now c.args.at c.args.n p
+image-at c e =
+    image-part c.args.log.now c.args.at c.args.n c.record_at-found.ensures e (from_inside _ _ _ c.requires.1)
+
+replayed-at : (c : After-record_at-found) (r : LogRecord) {t : Bool} {s' : List ℕ} → record_at (drop c.args.at c.args.log.now) ≡ some r → ReplayedBy r (c.args.at + c.args.n) c.args.s.now s' t
+    → RecordReplayedBy (record_at (drop c.args.at c.args.log.now)) (c.args.at + c.args.n) c.args.s.now s' t
+replayed-at c r q e = let a = c.args in replayed_by a.s.now a.log.now a.at (c.args.at + c.args.n) r q e
+
+-- ---- the needs
+
+pub overflow_add-end : goal.overflow_add-end
+overflow_add-end c = omega (arith, from_inside _ _ _ c.requires.1)
+
+pub replay_executed-requires : goal.replay_executed-requires
+unfolding record_means
+replay_executed-requires c = ready_at (goal.at.replay_executed-requires c).After-record_at-found _ (says (goal.at.replay_executed-requires c).After-record_at-found c.in-Executed.is)
+
+pub replay_gone-requires : goal.replay_gone-requires
+unfolding record_means
+replay_gone-requires c = ready_at (goal.at.replay_gone-requires c).After-record_at-found _ (says (goal.at.replay_gone-requires c).After-record_at-found c.in-Gone.is)
+
+pub replay_gave-requires : goal.replay_gave-requires
+unfolding record_means
+replay_gave-requires c = ready_at (goal.at.replay_gave-requires c).After-record_at-found _ (says (goal.at.replay_gave-requires c).After-record_at-found c.in-Gave.is)
+
+pub overflow_add-span : goal.overflow_add-span
+overflow_add-span c = omega (arith, (image-at (goal.at.overflow_add-span c).After-record_at-found c.in-Took.is).to)
+
+pub replay_image-requires : goal.replay_image-requires
+replay_image-requires c =
+    let i = image-at (goal.at.replay_image-requires c).After-record_at-found c.in-Took.is in
+    (i.from, i.to, ready_at (goal.at.replay_image-requires c).After-record_at-found _ i.says, i.ok)
+
+pub replay_released-requires : goal.replay_released-requires
+unfolding record_means
+replay_released-requires c = ready_at (goal.at.replay_released-requires c).After-record_at-found _ (says (goal.at.replay_released-requires c).After-record_at-found c.in-Released.is)
+
+pub returns-in-Broken : goal.returns-in-Broken
+unfolding record_means
+returns-in-Broken c =
+    let a = c.args in
+    broken_by a.s.now a.log.now a.at (c.args.at + c.args.n) (says (goal.at.returns-in-Broken c).After-record_at-found c.in-Broken.is)
+
+pub returns-in-Executed : goal.returns-in-Executed
+unfolding record_means
+returns-in-Executed c =
+    replayed-at (goal.at.returns-in-Executed c).After-record_at-found _ (says (goal.at.returns-in-Executed c).After-record_at-found c.in-Executed.is) c.replay_executed.ensures
+
+pub returns-in-Gone : goal.returns-in-Gone
+unfolding record_means
+returns-in-Gone c =
+    replayed-at (goal.at.returns-in-Gone c).After-record_at-found _ (says (goal.at.returns-in-Gone c).After-record_at-found c.in-Gone.is) c.replay_gone.ensures
+
+pub returns-in-Gave : goal.returns-in-Gave
+unfolding record_means
+returns-in-Gave c =
+    replayed-at (goal.at.returns-in-Gave c).After-record_at-found _ (says (goal.at.returns-in-Gave c).After-record_at-found c.in-Gave.is) c.replay_gave.ensures
+
+pub returns-in-Took : goal.returns-in-Took
+returns-in-Took c =
+    replayed-at (goal.at.returns-in-Took c).After-record_at-found _ (image-at (goal.at.returns-in-Took c).After-record_at-found c.in-Took.is).says c.replay_image.ensures
+
+pub returns-in-Released : goal.returns-in-Released
+unfolding record_means
+returns-in-Released c =
+    replayed-at (goal.at.returns-in-Released c).After-record_at-found _ (says (goal.at.returns-in-Released c).After-record_at-found c.in-Released.is) c.replay_released.ensures
