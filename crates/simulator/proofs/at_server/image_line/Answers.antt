@@ -1,0 +1,6 @@
+-- What is left to show of `simulator::at_server::image_line`.
+use borrow.Author.Rules.{rules}
+use Rattle.simulator.proofs.at_server.image_line.Goals as goal
+
+pub returns : goal.returns
+returns c = rw (← c.blank_image-out.ensures) c.image_to.ensures

@@ -1,0 +1,9 @@
+-- What is left to show of `simulator::at_server::receipt_line`.
+use Rattle.simulator.proofs.Deliveries.{served_by_lem}
+use Rattle.model.specs.Simulator.{room}
+use borrow.Author.Rules.{rules}
+use Rattle.simulator.proofs.at_server.receipt_line.Goals as goal
+
+pub returns : goal.returns
+unfolding room
+returns c = served_by_lem _ c.receipt-answer.ensures c.called.ensures

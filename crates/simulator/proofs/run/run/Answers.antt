@@ -1,0 +1,53 @@
+-- What is left to show of `simulator::run::run`.
+use Rattle.simulator.proofs.Runs.{Running, running-start, running-next, running-end, ready, test-left, test_right}
+use native.Mathlib.Omega.{arith}
+use mathlib.Core.Path.{◌≡◌, refl, ◌∙◌}
+use Prim.Native.Nat.{suc, ◌-◌}
+use lib.ListN.{length}
+use Rattle.model.specs.Simulator.{most_lines}
+use Rattle.simulator.specs.Whole.{simulator_in}
+use Rattle.simulator.proofs.run.run.Goals as goal
+
+pub loop-number-init : goal.loop-number-init
+loop-number-init c = let p = c.requires in (running-start _ _ _ _ p.pages p.none, refl, refl, refl, refl, refl, refl)
+
+pub run_line-turn-requires : goal.run_line-turn-requires
+run_line-turn-requires c =
+    let l = c.loop-number in
+    let u = l.invariant.0 in
+    let e = c.loop-number-test.true in
+    let s = c.args in
+    let k = test-left l.number l.at (length s.text.now) e in
+    let p = c.requires in (
+      ready _ _ _ s.s0.now s.s1.now s.store.now _ l.number p.first p.second p.rows l.invariant.2 l.invariant.4 l.invariant.6 u.packets k,
+      test_right l.number l.at (length s.text.now) e,
+      omega (arith, u.wrote, u.long, u.least, k),
+    )
+
+pub overflow_add-number : goal.overflow_add-number
+overflow_add-number c = omega (arith, c.loop-number.invariant.0.most)
+
+pub loop-number-smaller : goal.loop-number-smaller
+loop-number-smaller c =
+    let l = c.loop-number in
+    omega (arith, l.invariant.0.most, test-left l.number l.at (length c.args.text.now) c.loop-number-test.true)
+
+pub loop-number-preserved : goal.loop-number-preserved
+loop-number-preserved c =
+    let r = c.run_line-turn in
+    let l = c.loop-number in
+    let n = length c.args.text.now in
+    let e = c.loop-number-test.true in
+    let k = r.auto in
+    let v = l.invariant in (
+      running-next _ _ _ _ _ _ _ _ v.0 (test-left l.number l.at n e) (test_right l.number l.at n e) r.ensures,
+      k.page ∙ v.1,
+      k.s0 ∙ v.2,
+      k.log0 ∙ v.3,
+      k.s1 ∙ v.4,
+      k.log1 ∙ v.5,
+      k.store ∙ v.6,
+    )
+
+pub returns : goal.returns
+returns c = running-end _ _ _ _ _ _ _ _ c.loop-number.invariant.0 c.loop-number-test.false
