@@ -1,0 +1,7 @@
+-- What is left to show of `kernel::mantelorris_sync`.
+use Rattle.kernel.proofs.Words.{returned_in}
+use borrow.Author.Rules.{rules}
+use Rattle.kernel.proofs.mantelorris_sync.Goals as goal
+
+pub returns : goal.returns
+returns c = returned_in c.word_of.ensures c.sync.ensures
