@@ -1,5 +1,4 @@
 -- What is left to show of `dispatch::client_waits`.
-use borrow.Author.Rules.{rules}
 use Rattle.dispatch.proofs.Places.{count_most}
 use Rattle.dispatch.proofs.Answers.{waits-is}
 use Rattle.dispatch.proofs.client_waits.Goals as goal

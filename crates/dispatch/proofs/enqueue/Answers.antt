@@ -1,5 +1,4 @@
 -- What is left to show of `dispatch::enqueue`.
-use mathlib.Core.Path.{◌∙◌}
 use borrow.Enum.Refused.{opened}
 use Rattle.dispatch.proofs.Answers.{not-request, is-request}
 use Rattle.dispatch.proofs.enqueue.Goals as goal

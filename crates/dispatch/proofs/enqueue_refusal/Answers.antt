@@ -1,6 +1,5 @@
 -- What is left to show of `dispatch::enqueue_refusal`.
 use Rattle.format_numbers.proofs.Picks.{picks}
-use borrow.Author.Rules.{rules}
 use Rattle.dispatch_claim.specs.Dispatcher.{enqueue_refusal}
 use Rattle.dispatch.proofs.enqueue_refusal.Goals as goal
 

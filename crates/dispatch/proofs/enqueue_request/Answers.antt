@@ -1,5 +1,4 @@
 -- What is left to show of `dispatch::enqueue_request`.
-use borrow.Author.Rules.{rules}
 use Rattle.dispatch.proofs.Answers.{room, not-taken_in, taken_in_lem}
 use Rattle.dispatch.proofs.enqueue_request.Goals as goal
 

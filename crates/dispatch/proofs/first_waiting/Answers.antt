@@ -1,6 +1,5 @@
 -- What is left to show of `dispatch::first_waiting`.
 use mathlib.Core.Path.{refl}
-use borrow.Author.Rules.{rules}
 use Rattle.dispatch_claim.specs.Dispatcher.{first_waiting}
 use Rattle.dispatch.proofs.first_waiting.Goals as goal
 

@@ -1,11 +1,9 @@
 -- What is left to show of `dispatch::moved_up`.
-use Prim.Native.Nat.{◌≤◌, ◌-◌}
 use mathlib.Core.Path.{◌≡◌, refl}
 use native.Mathlib.Omega.{arith}
-use lib.ListN.{length}
 use borrow.Author.Rules.{rules}
-use Rattle.dispatch_claim.specs.Dispatcher.{places, no_request}
-use Rattle.dispatch.proofs.Places.{moved_by, moved-next, moved-end}
+use Rattle.dispatch_claim.specs.Dispatcher.{no_request}
+use Rattle.dispatch.proofs.Places.{moved-next, moved-end}
 use Rattle.dispatch.proofs.moved_up.Goals as goal
 
 pub loop-i-init : goal.loop-i-init

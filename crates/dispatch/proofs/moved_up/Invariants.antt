@@ -1,11 +1,9 @@
 -- The invariants of `dispatch::moved_up`.
 use Prim.Native.Nat.{◌≤◌, ◌-◌}
-use mathlib.Core.Path.{◌≡◌, refl}
-use native.Mathlib.Omega.{arith}
+use mathlib.Core.Path.{◌≡◌}
 use lib.ListN.{length}
-use borrow.Author.Rules.{rules}
-use Rattle.dispatch_claim.specs.Dispatcher.{places, no_request}
-use Rattle.dispatch.proofs.Places.{moved_by, moved-next, moved-end}
+use Rattle.dispatch_claim.specs.Dispatcher.{places}
+use Rattle.dispatch.proofs.Places.{moved_by}
 use Rattle.dispatch.proofs.moved_up.Given as goal
 
 abbrev pub invariant-loop-i : goal.invariant-loop-i

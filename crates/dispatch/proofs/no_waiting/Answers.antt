@@ -1,6 +1,5 @@
 -- What is left to show of `dispatch::no_waiting`.
 use mathlib.Core.Path.{refl}
-use borrow.Author.Rules.{rules}
 use Rattle.dispatch_claim.specs.Dispatcher.{no_waiting}
 use Rattle.dispatch.proofs.no_waiting.Goals as goal
 

@@ -1,13 +1,9 @@
 -- The invariants of `dispatch::place_of`.
 use Prim.Native.Nat.{◌-◌}
 use mathlib.Core.Path.{◌≡◌}
-use native.Mathlib.Omega.{arith}
 use lib.ListN.{length, take}
-use borrow.Author.Rules.{rules}
 use Rattle.model_laws.specs.Sought.{Sought}
-use Rattle.model_laws.proofs.Searches.{sought_start}
 use Rattle.dispatch_claim.specs.Dispatcher.{places, is_of}
-use Rattle.dispatch.proofs.Places.{place_hit, place-next, place_none}
 use Rattle.dispatch.proofs.place_of.Given as goal
 
 abbrev pub invariant-loop-i : goal.invariant-loop-i

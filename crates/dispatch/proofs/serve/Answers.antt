@@ -1,5 +1,4 @@
 -- What is left to show of `dispatch::serve`.
-use borrow.Author.Rules.{rules}
 use Rattle.dispatch.proofs.Answers.{serve-none, serve-first}
 use Rattle.dispatch.proofs.serve.Goals as goal
 

@@ -1,6 +1,5 @@
 -- What is left to show of `dispatch::with_last`.
 use mathlib.Core.Path.{refl}
-use borrow.Author.Rules.{rules}
 use Rattle.dispatch_claim.specs.Dispatcher.{with_last}
 use Rattle.dispatch.proofs.with_last.Goals as goal
 

@@ -1,7 +1,6 @@
 -- What is left to show of `dispatch::without_first`.
 use mathlib.Core.Path.{refl}
 use native.Mathlib.Omega.{arith}
-use borrow.Author.Rules.{rules}
 use Rattle.dispatch_claim.specs.Dispatcher.{shifted}
 use Rattle.dispatch.proofs.Places.{count-least}
 use Rattle.dispatch.proofs.without_first.Goals as goal

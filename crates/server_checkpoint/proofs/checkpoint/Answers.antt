@@ -1,6 +1,5 @@
 -- What is left to show of `server_checkpoint::checkpoint`.
 use Rattle.server_checkpoint.proofs.Passed.{by_refused, by_passed, passed-done}
-use borrow.Author.Rules.{rules}
 use Rattle.server_checkpoint.proofs.checkpoint.Goals as goal
 
 pub returns-then-refusal-ne0 : goal.returns-then-refusal-ne0

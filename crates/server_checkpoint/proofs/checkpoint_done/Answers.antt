@@ -1,7 +1,6 @@
 -- What is left to show of `server_checkpoint::checkpoint_done`.
 use native.Mathlib.Omega.{arith}
 use Rattle.server_checkpoint.proofs.Taken.{taken_framed, taken}
-use borrow.Author.Rules.{rules}
 use Rattle.server_checkpoint.proofs.checkpoint_done.Goals as goal
 
 pub restore-requires : goal.restore-requires

@@ -1,7 +1,6 @@
 -- What is left to show of `server_checkpoint::checkpoint_refusal`.
 use Rattle.server_memory.proofs.Settled.{passed-long}
 use Rattle.server_checkpoint.proofs.Passed.{tail-short, lent-refused, last-test}
-use borrow.Author.Rules.{rules}
 use Rattle.server_checkpoint.proofs.checkpoint_refusal.Goals as goal
 
 pub returns-then-tails-lt-HEAD_SIZE : goal.returns-then-tails-lt-HEAD_SIZE

@@ -1,5 +1,4 @@
 -- What is left to show of `server_inspect::place::checkpoint_bad`.
-use borrow.Author.Rules.{rules}
 use Rattle.server_inspect.proofs.Refusing.{bad_empty, bad_other}
 use Rattle.server_inspect.proofs.place.checkpoint_bad.Goals as goal
 

@@ -2,7 +2,6 @@
 use mathlib.Core.Path.{sym}
 use native.Mathlib.Omega.{arith}
 use lib.Seq.{length-take-le}
-use borrow.Author.Rules.{rules}
 use Rattle.server_memory.proofs.Settled.{passed-fit, passed-long}
 use Rattle.server_inspect.proofs.Refusing.{lent-refused, logged_by, front_by}
 use Rattle.server_inspect.proofs.place.place.Goals as goal

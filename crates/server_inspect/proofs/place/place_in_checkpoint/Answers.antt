@@ -1,7 +1,6 @@
 -- What is left to show of `server_inspect::place::place_in_checkpoint`.
 use mathlib.Core.Path.{◌∙◌}
 use native.Mathlib.Omega.{arith}
-use borrow.Author.Rules.{rules}
 use Rattle.model.specs.Checkpoints.{records_of}
 use Rattle.model_laws.proofs.Fronts.{record-width}
 use Rattle.model_laws.proofs.Checkpoints.{framed_is}

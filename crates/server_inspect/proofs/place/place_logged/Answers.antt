@@ -1,5 +1,4 @@
 -- What is left to show of `server_inspect::place::place_logged`.
-use borrow.Author.Rules.{rules}
 use Rattle.state_rows.proofs.Chains.{canonical-sound}
 use Rattle.format_log_ends.proofs.Walked.{log-end-found}
 use Rattle.server_inspect.proofs.Refusing.{logged-head, later-refused, later-found, walk-passed, place_ready}

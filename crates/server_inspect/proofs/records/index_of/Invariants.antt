@@ -1,14 +1,8 @@
 -- The invariants of `server_inspect::records::index_of`.
 use Prim.Native.Nat.{◌-◌}
-use mathlib.Core.Path.{sym, ◌∙◌}
-use native.Mathlib.Omega.{arith}
 use lib.ListN.{drop}
-use borrow.Author.Rules.{rules}
 use Rattle.model.specs.Tables.{rows}
-use Rattle.model.specs.Checkpoints.{fronts}
 use Rattle.model_laws.specs.Sought.{Sought}
-use Rattle.model_laws.proofs.Tables.{row_in}
-use Rattle.model_laws.proofs.Searches.{sought_start, row_hit, row_next, row_none}
 use Rattle.server_inspect.specs.Places.{is_row_id}
 use Rattle.server_inspect.proofs.records.index_of.Given as goal
 

@@ -1,5 +1,4 @@
 -- What is left to show of `server_inspect::records::is_row_id`.
-use borrow.Author.Rules.{rules}
 use Rattle.server_inspect.proofs.Rows.{row_id}
 use Rattle.server_inspect.proofs.records.is_row_id.Goals as goal
 

@@ -1,10 +1,9 @@
 -- What is left to show of `server_inspect::records::latest_in`.
-use Prim.Native.Nat.{◌-◌}
 use native.Mathlib.Omega.{arith}
 use Rattle.model_laws.proofs.Ends.{spans-least}
 use Rattle.format_log_ends.proofs.Ends.{from-spans, from_inside}
 use Rattle.format_log_ends.proofs.Walked.{whole_before}
-use Rattle.server_inspect.proofs.Latest.{Walking, walking_start, walking_next, walking_done}
+use Rattle.server_inspect.proofs.Latest.{walking_start, walking_next, walking_done}
 use Rattle.server_inspect.proofs.records.latest_in.Goals as goal
 
 pub loop-at-init : goal.loop-at-init

@@ -1,7 +1,6 @@
 -- What is left to show of `server_inspect::records::latest_of`.
 use mathlib.Core.Path.{◌∙◌}
 use native.Mathlib.Omega.{arith}
-use borrow.Author.Rules.{rules}
 use Rattle.model.specs.Checkpoints.{latest_of}
 use Rattle.format_log_reader.specs.Answers.{record_means}
 use Rattle.format_log_ends.proofs.Ends.{from_inside}

@@ -1,7 +1,6 @@
 -- What is left to show of `server_inspect::records::place_executed`.
 use mathlib.Core.Path.{◌∙◌}
 use Rattle.model.specs.Checkpoints.{latest_of}
-use borrow.Author.Rules.{rules}
 use Rattle.server_inspect.proofs.records.place_executed.Goals as goal
 
 pub place_at-requires : goal.place_at-requires

@@ -1,10 +1,6 @@
 -- What is left to show of `server_inspect::records::place_in_image`.
-use Prim.Native.Nat.{◌+◌, ◌*◌, ◌≤◌}
 use mathlib.Core.Path.{refl}
 use native.Mathlib.Omega.{arith}
-use lib.ListN.{length}
-use borrow.Author.Rules.{rules}
-use Rattle.model.specs.Images.{entry_row_of}
 use Rattle.model_laws.proofs.Images.{row_least, entries-within}
 use Rattle.format_image_reader.proofs.Whole.{ok-least, ok-size}
 use Rattle.server_inspect.proofs.Latest.{image-place}

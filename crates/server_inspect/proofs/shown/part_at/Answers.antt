@@ -1,5 +1,4 @@
 -- What is left to show of `server_inspect::shown::part_at`.
-use borrow.Author.Rules.{rules}
 use borrow.Author.Tests.{eq-eqb, ne_eqb}
 use Rattle.model.specs.Checkpoints.{in_checkpoint}
 use Rattle.server_inspect.specs.Inspected.{part_of}

@@ -1,5 +1,4 @@
 -- What is left to show of `server_inspect::shown::shown`.
-use borrow.Author.Rules.{rules}
 use Rattle.model.specs.Checkpoints.{shown_of}
 use Rattle.server_inspect.specs.Inspected.{part_of}
 use Rattle.server_inspect.proofs.Placed.{inspect_inside}

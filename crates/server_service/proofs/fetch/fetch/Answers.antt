@@ -2,7 +2,6 @@
 use mathlib.Core.Path.{sym, ◌∙◌}
 use Rattle.server_memory.proofs.Settled.{by_refused, by_passed, passed-fit, passed-canonical}
 use Rattle.server_service.proofs.Chains.{fetch-is}
-use borrow.Author.Rules.{rules}
 use Rattle.server_service.proofs.fetch.fetch.Goals as goal
 
 pub returns-then-refusal-ne0 : goal.returns-then-refusal-ne0

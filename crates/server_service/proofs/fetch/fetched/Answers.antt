@@ -3,7 +3,6 @@ use mathlib.Core.Path.{refl, ◌∙◌}
 use Rattle.model.specs.Decisions.{result_of_record}
 use Rattle.server_memory.proofs.Settled.{by_refused, by_passed, replied}
 use Rattle.server_service.proofs.Chains.{fetch-none, fetch-at}
-use borrow.Author.Rules.{rules}
 use Rattle.server_service.proofs.fetch.fetched.Goals as goal
 
 pub returns-then-refusal-ne0 : goal.returns-then-refusal-ne0

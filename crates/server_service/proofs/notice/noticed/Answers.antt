@@ -7,7 +7,6 @@ use Rattle.model.specs.Apply.{apply_record}
 use Rattle.model.specs.Operations.{free_in}
 use Rattle.server_memory.proofs.Settled.{by_refused, by_passed, appended}
 use Rattle.server_service.proofs.Chains.{notice_by, notice-room}
-use borrow.Author.Rules.{rules}
 use Rattle.server_service.proofs.notice.noticed.Goals as goal
 
 pub returns-then-refusal-ne0 : goal.returns-then-refusal-ne0

@@ -1,7 +1,6 @@
 -- What is left to show of `server_service::reply::reply`.
 use mathlib.Core.Path.{◌∙◌}
 use Rattle.model.specs.Decisions.{result_of_record}
-use borrow.Author.Rules.{rules}
 use Rattle.server_service.proofs.reply.reply.Goals as goal
 
 pub write_result-requires : goal.write_result-requires

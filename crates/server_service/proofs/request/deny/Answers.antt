@@ -1,6 +1,5 @@
 -- What is left to show of `server_service::request::deny`.
 use mathlib.Core.Path.{refl}
-use borrow.Author.Rules.{rules}
 use Rattle.server_service.proofs.request.deny.Goals as goal
 
 pub returns : goal.returns

@@ -1,6 +1,5 @@
 -- What is left to show of `server_service::request::execute`.
 use mathlib.Core.Path.{◌∙◌}
-use borrow.Author.Rules.{rules}
 use Rattle.server_service.proofs.request.execute.Goals as goal
 
 pub returns : goal.returns

@@ -2,7 +2,6 @@
 use Rattle.model.specs.States.{load}
 use Rattle.model.specs.Decisions.{executed_for, with_time, time_for}
 use Rattle.server_service.proofs.Requests.{request-point, executed-is}
-use borrow.Author.Rules.{rules}
 use Rattle.server_service.proofs.request.executed_for.Goals as goal
 
 pub entry_at-e-requires : goal.entry_at-e-requires

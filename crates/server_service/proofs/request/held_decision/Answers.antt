@@ -5,7 +5,6 @@ use Rattle.model.specs.Decisions.{held_refusal}
 use Rattle.model.specs.States.{load}
 use Rattle.server_service.specs.Decisions.{decided}
 use Rattle.server_service.proofs.Requests.{held-decided, refused_by, passed_by}
-use borrow.Author.Rules.{rules}
 use Rattle.server_service.proofs.request.held_decision.Goals as goal
 
 pub returns-then-refusal-ne0 : goal.returns-then-refusal-ne0

@@ -3,7 +3,6 @@ use mathlib.Core.Path.{refl, ◌∙◌}
 use Rattle.model.specs.States.{load}
 use Rattle.server_service.specs.Decisions.{decided}
 use Rattle.server_service.proofs.Requests.{new_decided, refused_by, passed_by}
-use borrow.Author.Rules.{rules}
 use Rattle.server_service.proofs.request.new_decision.Goals as goal
 
 pub returns-then-refusal-ne0 : goal.returns-then-refusal-ne0

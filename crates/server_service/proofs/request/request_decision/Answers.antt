@@ -2,7 +2,6 @@
 use mathlib.Core.Path.{refl, ◌∙◌}
 use Rattle.model.specs.States.{load}
 use Rattle.server_service.proofs.Requests.{request-decided, request-point, refused_by, passed_by, on_none, on_at}
-use borrow.Author.Rules.{rules}
 use Rattle.server_service.proofs.request.request_decision.Goals as goal
 
 pub point_at-x-requires : goal.point_at-x-requires

@@ -10,7 +10,6 @@ use Rattle.model_invariants.proofs.Loaded.{loaded_sound}
 use Rattle.state_rows.proofs.Chains.{canonical-sound}
 use Rattle.server_service.proofs.Requests.{denied, answered, executes}
 use Rattle.server_service.proofs.Passed.{request-number, request-space, request-timed, request-place, request-room}
-use borrow.Author.Rules.{rules}
 use Rattle.server_service.proofs.request.requested.Goals as goal
 
 pub free_in-free-requires : goal.free_in-free-requires

@@ -3,7 +3,6 @@ use mathlib.Core.Path.{sym, ◌∙◌}
 use mathlib.Core.List.{[]}
 use Rattle.server_memory.proofs.Settled.{by_refused, by_passed, passed-canonical}
 use Rattle.server_service.proofs.Chains.{sync-is}
-use borrow.Author.Rules.{rules}
 use Rattle.server_service.proofs.sync.sync.Goals as goal
 
 pub returns-then-refusal-ne0 : goal.returns-then-refusal-ne0

@@ -4,7 +4,6 @@ use mathlib.Core.List.{[]}
 use Rattle.model.specs.Decisions.{on_sync}
 use Rattle.server_memory.proofs.Settled.{by_refused, by_passed}
 use Rattle.server_service.proofs.Chains.{sync-done}
-use borrow.Author.Rules.{rules}
 use Rattle.server_service.proofs.sync.synced.Goals as goal
 
 pub returns-then-refusal-ne0 : goal.returns-then-refusal-ne0
