@@ -1,6 +1,5 @@
 -- What is left to show of `simulator::answers`.
 use native.Mathlib.Omega.{arith}
-use borrow.Author.Rules.{rules}
 use Rattle.simulator.proofs.answers.Goals as goal
 
 pub run_new-requires : goal.run_new-requires

@@ -1,7 +1,6 @@
 -- What is left to show of `simulator::hand_over`.
 use Rattle.simulator.proofs.Runs.{kept_back, handed-over}
 use native.Mathlib.Omega.{arith}
-use borrow.Author.Rules.{rules}
 use Rattle.simulator.proofs.hand_over.Goals as goal
 
 pub returns-then-out-n : goal.returns-then-out-n

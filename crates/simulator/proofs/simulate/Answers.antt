@@ -1,7 +1,6 @@
 -- What is left to show of `simulator::simulate`.
 use Rattle.simulator.proofs.Runs.{simulate_is}
 use native.Mathlib.Omega.{arith}
-use borrow.Author.Rules.{rules}
 use Rattle.simulator.proofs.simulate.Goals as goal
 
 pub answers-n-requires : goal.answers-n-requires

@@ -2,7 +2,6 @@
 use Rattle.simulator.proofs.Receptions.{issue_sendable, resend_sendable}
 use native.Mathlib.Omega.{arith}
 use Rattle.simulator.specs.Attended.{client_ran}
-use borrow.Author.Rules.{rules}
 use Rattle.simulator.proofs.at_client.client_step.Goals as goal
 
 pub send_line-requires : goal.send_line-requires

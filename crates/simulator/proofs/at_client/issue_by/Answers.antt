@@ -2,7 +2,6 @@
 use Rattle.model_laws.proofs.Clients.{past-byte}
 use Rattle.model_laws.proofs.Tests.{both-fit}
 use native.Mathlib.Omega.{arith}
-use borrow.Author.Rules.{rules}
 use Rattle.simulator.proofs.at_client.issue_by.Goals as goal
 
 pub returns-then-op-point : goal.returns-then-op-point

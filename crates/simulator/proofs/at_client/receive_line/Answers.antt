@@ -2,7 +2,6 @@
 use Rattle.simulator.proofs.Receptions.{receive-none, receive-made}
 use Rattle.simulator_memory.proofs.Rows.{filled_row}
 use native.Mathlib.Omega.{arith}
-use borrow.Author.Rules.{rules}
 use Rattle.simulator.proofs.at_client.receive_line.Goals as goal
 
 pub returns-in_default : goal.returns-in_default

@@ -1,7 +1,6 @@
 -- What is left to show of `simulator::at_client::receive_row`.
 use Rattle.simulator.proofs.Receptions.{receive_by}
 use mathlib.Core.Path.{refl}
-use borrow.Author.Rules.{rules}
 use Rattle.simulator.proofs.at_client.receive_row.Goals as goal
 
 pub returns : goal.returns

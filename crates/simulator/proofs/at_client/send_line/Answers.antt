@@ -1,7 +1,6 @@
 -- What is left to show of `simulator::at_client::send_line`.
 use Rattle.simulator.proofs.Receptions.{send_by}
 use mathlib.Core.Path.{refl}
-use borrow.Author.Rules.{rules}
 use Rattle.simulator.proofs.at_client.send_line.Goals as goal
 
 pub returns : goal.returns

@@ -4,7 +4,6 @@ use native.Mathlib.Omega.{arith}
 use Prim.Native.Nat.{◌≤◌}
 use lib.ListN.{length}
 use Rattle.simulator_memory.proofs.Rows.{lesser_most}
-use borrow.Author.Rules.{rules}
 use Rattle.simulator.proofs.at_server.cut_line.Goals as goal
 
 pub returns-then-is_outside : goal.returns-then-is_outside

@@ -1,6 +1,5 @@
 -- What is left to show of `simulator::at_server::give_line`.
 use Rattle.simulator.proofs.Deliveries.{served_by_lem}
-use borrow.Author.Rules.{rules}
 use Rattle.simulator.proofs.at_server.give_line.Goals as goal
 
 pub returns : goal.returns

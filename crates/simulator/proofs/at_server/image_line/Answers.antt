@@ -1,5 +1,4 @@
 -- What is left to show of `simulator::at_server::image_line`.
-use borrow.Author.Rules.{rules}
 use Rattle.simulator.proofs.at_server.image_line.Goals as goal
 
 pub returns : goal.returns

@@ -1,6 +1,5 @@
 -- What is left to show of `simulator::at_server::image_to`.
 use Rattle.simulator.proofs.Deliveries.{served_by_lem}
-use borrow.Author.Rules.{rules}
 use Rattle.simulator.proofs.at_server.image_to.Goals as goal
 
 pub returns : goal.returns

@@ -1,7 +1,6 @@
 -- What is left to show of `simulator::at_server::server_step`.
 use Rattle.simulator.proofs.Cuts.{cut-served}
 use Rattle.simulator.specs.Server.{server_ran}
-use borrow.Author.Rules.{rules}
 use Rattle.simulator.proofs.at_server.server_step.Goals as goal
 
 pub returns-in-Deliver : goal.returns-in-Deliver

@@ -1,5 +1,4 @@
 -- What is left to show of `simulator::delivery::by_request`.
-use borrow.Author.Rules.{rules}
 use Rattle.simulator.proofs.delivery.by_request.Goals as goal
 
 pub returns : goal.returns

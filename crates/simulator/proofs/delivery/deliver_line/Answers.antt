@@ -2,7 +2,6 @@
 use Rattle.simulator.proofs.Deliveries.{deliver_nowhere, deliver-made, told-served}
 use Rattle.simulator_memory.proofs.Rows.{filled_row}
 use mathlib.Core.Path.{◌∙◌}
-use borrow.Author.Rules.{rules}
 use Rattle.simulator.proofs.delivery.deliver_line.Goals as goal
 
 pub returns-in_default : goal.returns-in_default

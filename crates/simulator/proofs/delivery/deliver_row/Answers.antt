@@ -2,7 +2,6 @@
 use Rattle.simulator.proofs.Deliveries.{by_request_lem, by_release_lem, by_take_lem, by_none, told-served}
 use mathlib.Core.Path.{◌∙◌}
 use native.Mathlib.Omega.{arith}
-use borrow.Author.Rules.{rules}
 use Rattle.simulator.proofs.delivery.deliver_row.Goals as goal
 
 pub returns-in-1 : goal.returns-in-1

@@ -1,6 +1,5 @@
 -- What is left to show of `simulator::delivery::first_byte`.
 use Rattle.simulator.proofs.Deliveries.{byte-none}
-use borrow.Author.Rules.{rules}
 use Rattle.simulator.proofs.delivery.first_byte.Goals as goal
 
 pub returns : goal.returns

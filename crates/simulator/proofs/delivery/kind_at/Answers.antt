@@ -1,5 +1,4 @@
 -- What is left to show of `simulator::delivery::kind_at`.
-use borrow.Author.Rules.{rules}
 use Rattle.simulator.proofs.delivery.kind_at.Goals as goal
 
 pub returns : goal.returns

@@ -1,6 +1,5 @@
 -- What is left to show of `simulator::delivery::release_line`.
 use Rattle.simulator.proofs.Deliveries.{served_by_lem}
-use borrow.Author.Rules.{rules}
 use Rattle.simulator.proofs.delivery.release_line.Goals as goal
 
 pub returns : goal.returns

@@ -1,7 +1,6 @@
 -- What is left to show of `simulator::delivery::request_line`.
 use Rattle.simulator.proofs.Deliveries.{served_by_lem}
 use Rattle.model.specs.Simulator.{room}
-use borrow.Author.Rules.{rules}
 use Rattle.simulator.proofs.delivery.request_line.Goals as goal
 
 pub returns : goal.returns

@@ -1,11 +1,8 @@
 -- What is left to show of `simulator::run::run`.
-use Rattle.simulator.proofs.Runs.{Running, running-start, running-next, running-end, ready, test-left, test_right}
+use Rattle.simulator.proofs.Runs.{running-start, running-next, running-end, ready, test-left, test_right}
 use native.Mathlib.Omega.{arith}
-use mathlib.Core.Path.{◌≡◌, refl, ◌∙◌}
-use Prim.Native.Nat.{suc, ◌-◌}
+use mathlib.Core.Path.{refl, ◌∙◌}
 use lib.ListN.{length}
-use Rattle.model.specs.Simulator.{most_lines}
-use Rattle.simulator.specs.Whole.{simulator_in}
 use Rattle.simulator.proofs.run.run.Goals as goal
 
 pub loop-number-init : goal.loop-number-init

@@ -1,7 +1,6 @@
 -- The invariants of `simulator::run::run`.
-use Rattle.simulator.proofs.Runs.{Running, running-start, running-next, running-end, ready, test-left, test_right}
-use native.Mathlib.Omega.{arith}
-use mathlib.Core.Path.{◌≡◌, refl, ◌∙◌}
+use Rattle.simulator.proofs.Runs.{Running}
+use mathlib.Core.Path.{◌≡◌}
 use Prim.Native.Nat.{suc, ◌-◌}
 use lib.ListN.{length}
 use Rattle.model.specs.Simulator.{most_lines}

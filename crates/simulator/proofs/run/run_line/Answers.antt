@@ -1,7 +1,6 @@
 -- What is left to show of `simulator::run::run_line`.
 use Rattle.simulator.proofs.Runs.{part_length, turned}
 use native.Mathlib.Omega.{arith}
-use borrow.Author.Rules.{rules}
 use Rattle.simulator.proofs.run.run_line.Goals as goal
 
 pub overflow_add-end : goal.overflow_add-end

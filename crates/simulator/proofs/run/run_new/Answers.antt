@@ -1,6 +1,5 @@
 -- What is left to show of `simulator::run::run_new`.
 use native.Mathlib.Omega.{arith}
-use borrow.Author.Rules.{rules}
 use Rattle.simulator.proofs.run.run_new.Goals as goal
 
 pub new_simulator-memory-requires : goal.new_simulator-memory-requires

@@ -1,6 +1,5 @@
 -- What is left to show of `simulator::start::new_server`.
 use Rattle.simulator.proofs.News.{all_zeros, new_server}
-use borrow.Author.Rules.{rules}
 use Rattle.simulator.proofs.start.new_server.Goals as goal
 
 pub returns : goal.returns

@@ -2,7 +2,6 @@
 use mathlib.Core.Path.{refl}
 use Rattle.model.specs.Simulator.{new_simulator}
 use Rattle.simulator_memory.specs.Store.{packets_in}
-use borrow.Author.Rules.{rules}
 use Rattle.simulator.proofs.start.new_simulator.Goals as goal
 
 pub returns : goal.returns

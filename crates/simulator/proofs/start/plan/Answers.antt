@@ -1,8 +1,6 @@
 -- What is left to show of `simulator::start::plan`.
-use Rattle.simulator.proofs.Plans.{Planned, planned-start, planned-next, planned-end}
+use Rattle.simulator.proofs.Plans.{planned-start, planned-next, planned-end}
 use native.Mathlib.Omega.{arith}
-use Prim.Native.Nat.{◌-◌}
-use Rattle.model.specs.Limits.{plan_size}
 use borrow.Author.Rules.{rules}
 use Rattle.simulator.proofs.start.plan.Goals as goal
 

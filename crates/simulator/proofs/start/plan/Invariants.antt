@@ -1,9 +1,7 @@
 -- The invariants of `simulator::start::plan`.
-use Rattle.simulator.proofs.Plans.{Planned, planned-start, planned-next, planned-end}
-use native.Mathlib.Omega.{arith}
+use Rattle.simulator.proofs.Plans.{Planned}
 use Prim.Native.Nat.{◌-◌}
 use Rattle.model.specs.Limits.{plan_size}
-use borrow.Author.Rules.{rules}
 use Rattle.simulator.proofs.start.plan.Given as goal
 
 abbrev pub invariant-loop-i : goal.invariant-loop-i

@@ -1,6 +1,5 @@
 -- What is left to show of `simulator::step::client_line`.
 use Rattle.simulator.proofs.Ran.{first-client, second-client, no_such_client, same_count}
-use borrow.Author.Rules.{rules}
 use Rattle.simulator.proofs.step.client_line.Goals as goal
 
 pub returns-then-number-eq0 : goal.returns-then-number-eq0

@@ -1,6 +1,5 @@
 -- What is left to show of `simulator::step::server_line`.
 use Rattle.simulator.proofs.Ran.{first-server, second-server, no_such_server, same_count}
-use borrow.Author.Rules.{rules}
 use Rattle.simulator.proofs.step.server_line.Goals as goal
 
 pub returns-then-number-eq0 : goal.returns-then-number-eq0

@@ -1,6 +1,5 @@
 -- What is left to show of `simulator::step::step`.
 use Rattle.simulator.proofs.Ran.{no_line, same_count}
-use borrow.Author.Rules.{rules}
 use Rattle.simulator.proofs.step.step.Goals as goal
 
 pub returns-in-Unreadable : goal.returns-in-Unreadable
