@@ -3,7 +3,6 @@ use native.Mathlib.Omega.{arith}
 use Rattle.server_moves.proofs.Chains.{give_settled}
 use mathlib.Core.Path.{ap}
 use Rattle.model.specs.declared.Point.{Point}
-use borrow.Author.Rules.{rules}
 use Rattle.server_moves.proofs.give.give_done.Goals as goal
 
 pub overflow_add-g : goal.overflow_add-g

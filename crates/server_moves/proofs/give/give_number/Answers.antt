@@ -5,7 +5,6 @@ use Rattle.format_numbers.proofs.Picks.{yes_call, no_call_lem}
 use Rattle.server_memory.proofs.Settled.{passed-fit, passed-long}
 use Rattle.server_moves.specs.Numbers.{give_number}
 use Rattle.server_moves.proofs.Chains.{first_no, first_yes, places-good}
-use borrow.Author.Rules.{rules}
 use Rattle.server_moves.proofs.give.give_number.Goals as goal
 
 pub returns-then-refusal-ne0 : goal.returns-then-refusal-ne0

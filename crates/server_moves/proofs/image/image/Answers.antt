@@ -4,7 +4,6 @@ use mathlib.Core.Path.{sym, ◌∙◌}
 use Rattle.model_laws.proofs.States.{sound-is}
 use Rattle.server_memory.proofs.Settled.{by_refused, by_passed}
 use Rattle.server_moves.proofs.Chains.{image-is, place_ready}
-use borrow.Author.Rules.{rules}
 use Rattle.server_moves.proofs.image.image.Goals as goal
 
 pub returns-then-refusal-ne0 : goal.returns-then-refusal-ne0

@@ -3,7 +3,6 @@ use native.Mathlib.Omega.{arith}
 use mathlib.Core.Path.{◌∙◌}
 use Rattle.server_memory.proofs.Settled.{by_refused, by_passed}
 use Rattle.server_moves.proofs.Chains.{image-done, image-most}
-use borrow.Author.Rules.{rules}
 use Rattle.server_moves.proofs.image.image_made.Goals as goal
 
 pub returns-then-refusal-ne0 : goal.returns-then-refusal-ne0

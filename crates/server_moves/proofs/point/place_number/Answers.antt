@@ -4,7 +4,6 @@ use borrow.Author.Tests.{lt-ltb, le-ltb}
 use Rattle.format_numbers.proofs.Picks.{yes, no}
 use Rattle.server_moves.specs.Numbers.{place_number}
 use Rattle.server_moves.proofs.Chains.{first_no, first_yes}
-use borrow.Author.Rules.{rules}
 use Rattle.server_moves.proofs.point.place_number.Goals as goal
 
 pub returns-then-refusal-ne0 : goal.returns-then-refusal-ne0

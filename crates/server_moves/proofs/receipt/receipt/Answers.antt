@@ -3,7 +3,6 @@ use native.Mathlib.Omega.{arith}
 use mathlib.Core.Path.{sym, ◌∙◌}
 use Rattle.server_memory.proofs.Settled.{by_refused, by_passed}
 use Rattle.server_moves.proofs.Chains.{receipt-is, place_ready}
-use borrow.Author.Rules.{rules}
 use Rattle.server_moves.proofs.receipt.receipt.Goals as goal
 
 pub returns-then-refusal-ne0 : goal.returns-then-refusal-ne0

@@ -2,7 +2,6 @@
 use mathlib.Core.Path.{◌∙◌}
 use Rattle.server_memory.proofs.Settled.{by_refused, by_passed}
 use Rattle.server_moves.proofs.Chains.{receipt-done}
-use borrow.Author.Rules.{rules}
 use Rattle.server_moves.proofs.receipt.receipt_made.Goals as goal
 
 pub returns-then-refusal-ne0 : goal.returns-then-refusal-ne0

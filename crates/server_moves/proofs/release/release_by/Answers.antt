@@ -3,7 +3,6 @@ use mathlib.Core.Path.{sym, ◌∙◌}
 use mathlib.Core.List.{[]}
 use Rattle.server_memory.proofs.Settled.{by_refused, by_passed}
 use Rattle.server_moves.proofs.Chains.{release-chain, release-room}
-use borrow.Author.Rules.{rules}
 use Rattle.server_moves.proofs.release.release_by.Goals as goal
 
 pub returns-then-refusal-ne0 : goal.returns-then-refusal-ne0

@@ -1,6 +1,5 @@
 -- What is left to show of `server_moves::release::release_done`.
 use Rattle.server_moves.proofs.Chains.{release_settled}
-use borrow.Author.Rules.{rules}
 use Rattle.server_moves.proofs.release.release_done.Goals as goal
 
 pub returns : goal.returns

@@ -4,7 +4,6 @@ use Rattle.model.specs.Packets.{as_receipt}
 use Rattle.model.specs.Operations.{settle}
 use Rattle.model.specs.Decisions.{or_malformed, on_release}
 use Rattle.server_moves.specs.Numbers.{Placed}
-use borrow.Author.Rules.{rules}
 use Rattle.server_moves.proofs.release.release_on.Goals as goal
 
 pub release_by-requires : goal.release_by-requires

@@ -3,7 +3,6 @@ use mathlib.Core.Path.{sym, ◌∙◌}
 use mathlib.Core.List.{[]}
 use Rattle.server_memory.proofs.Settled.{by_refused, by_passed}
 use Rattle.server_moves.proofs.Taken.{take-chain, take_ready}
-use borrow.Author.Rules.{rules}
 use Rattle.server_moves.proofs.take.take_by.Goals as goal
 
 pub returns-then-refusal-ne0 : goal.returns-then-refusal-ne0

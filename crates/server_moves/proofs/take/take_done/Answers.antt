@@ -1,7 +1,6 @@
 -- What is left to show of `server_moves::take::take_done`.
 use native.Mathlib.Omega.{arith}
 use Rattle.server_moves.proofs.Taken.{take-room, take_bounds, take_settled}
-use borrow.Author.Rules.{rules}
 use Rattle.server_moves.proofs.take.take_done.Goals as goal
 
 pub append_take-requires : goal.append_take-requires
