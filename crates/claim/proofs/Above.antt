@@ -145,8 +145,12 @@ in_left A B K =
       part_of = λ p. p.0;
       seen = λ w p o. elim o [ inl a ↦ a | inr b ↦ K.kernel (B.event_of w p.1 b) ];
       begins = refl;
-      same-event = λ w p o. elim o as (λ (x : A.Outer ⊎ B.Outer). A.event_of w p.0 (elim x [ inl a ↦ a | inr b ↦ K.kernel (B.event_of w p.1 b) ]) ≡ (both A B).event_of w p x) [ inl a ↦ refl | inr b ↦ K.is w p.0 (B.event_of w p.1 b) ];
-      same_parts = λ w p o. elim o as (λ (x : A.Outer ⊎ B.Outer). A.parts_after w p.0 (elim x [ inl a ↦ a | inr b ↦ K.kernel (B.event_of w p.1 b) ]) ≡ ((both A B).parts_after w p x).0) [ inl a ↦ refl | inr b ↦ K.leaves w p.0 (B.event_of w p.1 b) ];
+      same-event = λ w p o. elim o as (λ (x : A.Outer ⊎ B.Outer). A.event_of w p.0 (elim x [ inl a ↦ a | inr b ↦ K.kernel (B.event_of w p.1 b) ]) ≡ (both A B).event_of w p x) [
+        | inl a ↦ refl
+        | inr b ↦ K.is w p.0 (B.event_of w p.1 b)
+      ];
+      same_parts = λ w p o. elim o as (λ (x : A.Outer ⊎ B.Outer). A.parts_after w p.0 (elim x [ inl a ↦ a | inr b ↦ K.kernel (B.event_of w p.1 b) ]) ≡
+          ((both A B).parts_after w p x).0) [ inl a ↦ refl | inr b ↦ K.leaves w p.0 (B.event_of w p.1 b) ];
     }
 
 pub in_right : (A B : Product) → Open B → Within (both A B) B
@@ -155,8 +159,12 @@ in_right A B K =
       part_of = λ p. p.1;
       seen = λ w p o. elim o [ inl a ↦ K.kernel (A.event_of w p.0 a) | inr b ↦ b ];
       begins = refl;
-      same-event = λ w p o. elim o as (λ (x : A.Outer ⊎ B.Outer). B.event_of w p.1 (elim x [ inl a ↦ K.kernel (A.event_of w p.0 a) | inr b ↦ b ]) ≡ (both A B).event_of w p x) [ inl a ↦ K.is w p.1 (A.event_of w p.0 a) | inr b ↦ refl ];
-      same_parts = λ w p o. elim o as (λ (x : A.Outer ⊎ B.Outer). B.parts_after w p.1 (elim x [ inl a ↦ K.kernel (A.event_of w p.0 a) | inr b ↦ b ]) ≡ ((both A B).parts_after w p x).1) [ inl a ↦ K.leaves w p.1 (A.event_of w p.0 a) | inr b ↦ refl ];
+      same-event = λ w p o. elim o as (λ (x : A.Outer ⊎ B.Outer). B.event_of w p.1 (elim x [ inl a ↦ K.kernel (A.event_of w p.0 a) | inr b ↦ b ]) ≡ (both A B).event_of w p x) [
+        | inl a ↦ K.is w p.1 (A.event_of w p.0 a)
+        | inr b ↦ refl
+      ];
+      same_parts = λ w p o. elim o as (λ (x : A.Outer ⊎ B.Outer). B.parts_after w p.1 (elim x [ inl a ↦ K.kernel (A.event_of w p.0 a) | inr b ↦ b ]) ≡
+          ((both A B).parts_after w p x).1) [ inl a ↦ K.leaves w p.1 (A.event_of w p.0 a) | inr b ↦ refl ];
     }
 
 -- call 0 is never open

@@ -34,7 +34,8 @@ ok-least s p e = leb-true least_image (length s) (tested s (sym p ∙ e)).least
 pub ok-size : (s : List ℕ) {h : ImageHead} → image_ok s ≡ true → h ≡ image_head_of s → length_by h ≤ length s
 ok-size s {h} e p = parts-size h s refl (rw p (tested s e).parts)
 
-pub last-test : (s : List ℕ) {f b : Bool} {h : ImageHead} → least_image ≤ length s → length s ≤ greatest_of (starts_with s image_magic) → f ≡ image_framed s → f ≡ true → h ≡ image_head_of s → b ≡ body_ok h s
+pub last-test : (s : List ℕ) {f b : Bool} {h : ImageHead} → least_image ≤ length s → length s ≤ greatest_of (starts_with s image_magic) → f ≡ image_framed s → f ≡ true → h ≡ image_head_of s
+    → b ≡ body_ok h s
     → b ≡ image_ok s
 unfolding image_ok body_ok rows_ok
 last-test s l g p e q r =

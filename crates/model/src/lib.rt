@@ -176,8 +176,8 @@ pub struct ImageHead {
 
 // ---- a server's state (paper: cabinet), rows of the lent buffer
 
-// A point at a server. `status`: 0 absent, 1 held, 2 given, 3 released. `taken_move` is the latest taken move number (0:
-// never taken); `give_end` and `take_end` are the log ends of the latest give and take (0: none).
+// A point at a server. `status`: 0 absent, 1 held, 2 given, 3 released. `taken_move` is the latest taken move number
+// (0: never taken); `give_end` and `take_end` are the log ends of the latest give and take (0: none).
 #[derive(Clone, Copy)]
 pub struct Point {
     pub status: u8,

@@ -175,7 +175,8 @@ module _ (start : State) (first : Place) (x c : ℕ) where
     unfolding apply_executed completion latest_of record_size
     executed-standing y h r m k l = go (eqb y.command.client x && eqb y.command.call c) refl (Memᴰ.append_cases st.records (keep_member _ _ m))
       where
-        new : r ≡ completion y (st.size + executed_size_of y.timed) → Found start first (es ++ (entry_for st (executed y) ∷ [])) r (place_at in_record (last_end head_size es) (executed_size_of y.timed))
+        new : r ≡ completion y (st.size + executed_size_of y.timed)
+            → Found start first (es ++ (entry_for st (executed y) ∷ [])) r (place_at in_record (last_end head_size es) (executed_size_of y.timed))
         new q =
             let n : r.end ≡ st.size + executed_size_of y.timed = ap (λ (i : Completion). i.end) q in
             in_log es [] y (ap (λ (i : ℕ). es ++ (record { item = executed y; end = i } ∷ [])) (sym n)) F (sym (ap (λ (i : Completion). i.command) q)) (sym (ap (λ (i : Completion). i.result) q))
@@ -208,7 +209,8 @@ module _ (start : State) (first : Place) (x c : ℕ) where
 
     took-here : (i : Image) → EntriesAscending i.entries → (r : Completion) → Taken i.point (st.size + record_size (took i)) i.entries r → r.command.client ≡ x → r.command.call ≡ c
         → (index_of (is_entry_id x c) i.entries < length i.entries)
-        × Found start first (es ++ (entry_for st (took i) ∷ [])) r (place_at in_image (entries_at es i + entry_width (image_head i) * index_of (is_entry_id x c) i.entries) (entry_width (image_head i)))
+        × Found start first (es ++ (entry_for st (took i) ∷ [])) r
+        (place_at in_image (entries_at es i + entry_width (image_head i) * index_of (is_entry_id x c) i.entries) (entry_width (image_head i)))
     unfolding taken_record entry_of_record
     took-here i a r T k l =
         let t = is_entry_id x c in

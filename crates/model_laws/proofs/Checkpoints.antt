@@ -62,7 +62,8 @@ pub record Framed (s : List ℕ) : Type 0 where
 
 abbrev framed_tests : List ℕ → List Test
 framed_tests s =
-    le checkpoint_head (length s) ∷ flag (starts_with s checkpoint_magic || starts_with s first_checkpoint_magic) ∷ eq (le32_at s 12) plan_part ∷ eq (le32_at s 16) plan_size ∷ eq (le32_at s 20) points_part
+    le checkpoint_head (length s) ∷ flag (starts_with s checkpoint_magic || starts_with s first_checkpoint_magic) ∷ eq (le32_at s 12) plan_part ∷ eq (le32_at s 16) plan_size
+    ∷ eq (le32_at s 20) points_part
     ∷ eq (le32_at s 24) (checkpoint_point * point_count) ∷ eq (le32_at s 28) clients_part ∷ eq (le32_at s 32) (floor_row * clients_of s) ∷ eq (le32_at s 36) (records_part (clients_of s))
     ∷ eq (le32_at s 40) (record_width s * records_of s) ∷ le (clients_of s) client_count ∷ le (records_of s) record_count
     ∷ le (records_part (clients_of s) + record_width s * records_of s) (length s) ∷ []

@@ -362,8 +362,10 @@ pub tested : (b : List ℕ) → image_ok b ≡ true → Tested b
 unfolding image_ok
 tested b e =
     let p = facts
-    (flag (leb least_image (length b)) ∷ flag (leb (length b) (greatest_of (starts_with b image_magic))) ∷ flag (image_framed b) ∷ flag (image_head_ok (image_head_of b)) ∷ flag (image_parts (image_head_of b) b)
-    ∷ flag (every_row entry_row_ok (entry_width (image_head_of b)) (image_head_of b).entries (drop (entries_start (image_head_of b).floors) b)) ∷ flag (image_tables_ok (image_at (image_head_of b) b)) ∷ []) e in
+    (flag (leb least_image (length b)) ∷ flag (leb (length b) (greatest_of (starts_with b image_magic))) ∷ flag (image_framed b) ∷ flag (image_head_ok (image_head_of b))
+    ∷ flag (image_parts (image_head_of b) b)
+    ∷ flag (every_row entry_row_ok (entry_width (image_head_of b)) (image_head_of b).entries (drop (entries_start (image_head_of b).floors) b))
+    ∷ flag (image_tables_ok (image_at (image_head_of b) b)) ∷ []) e in
     record { least = p 0; most = p 1; framed = p 2; head = p 3; parts = p 4; zero-bytes = p 5; tables = p 6 }
 
 pub tested_most : (b : List ℕ) → Tested b → length b ≤ greatest_image

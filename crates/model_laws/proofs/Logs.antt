@@ -76,8 +76,10 @@ head-take n t c h =
 pub head_bytes_lem : (n : ℕ) → n < 256 → Bytes (head_bytes n)
 unfolding head_bytes
 head_bytes_lem n h =
-    bytes_run (log_magic ∷ quad n 0 0 0 ∷ [])
-    (bytes-quad (byte_at log_magic 0) (byte_at log_magic 1) (byte_at log_magic 2) (byte_at log_magic 3) (lit< tt) (lit< tt) (lit< tt) (lit< tt), (bytes-quad n 0 0 0 h (lit< tt) (lit< tt) (lit< tt), tt))
+    bytes_run (log_magic ∷ quad n 0 0 0 ∷ []) (
+      bytes-quad (byte_at log_magic 0) (byte_at log_magic 1) (byte_at log_magic 2) (byte_at log_magic 3) (lit< tt) (lit< tt) (lit< tt) (lit< tt),
+      (bytes-quad n 0 0 0 h (lit< tt) (lit< tt) (lit< tt), tt),
+    )
 
 pub head-again : (s : List ℕ) → head_ok s ≡ true → head_bytes (head_server s) ≡ take head_size s
 unfolding head_ok head_bytes head_server
@@ -392,7 +394,8 @@ module _ (s : List ℕ) (h : Bytes s) (m : ℕ) (ext : extent_of s ≡ spans m) 
       found-kind (executed_codec true) executed (zeros3_at s 25) executed_ok (rw k at ext) (and_both (eqb (byte_at s 0) executed_kind) (zeros3_at s 25) (eq-eqb (byte_at s 0) executed_kind k))
       (executed-is true)
   found-executed false k =
-      found-kind (executed_codec false) executed (zeros3_at s 25) executed_ok (rw k at ext) (and_both (eqb (byte_at s 0) first_executed_kind) (zeros3_at s 25) (eq-eqb (byte_at s 0) first_executed_kind k))
+      found-kind (executed_codec false) executed (zeros3_at s 25) executed_ok (rw k at ext)
+      (and_both (eqb (byte_at s 0) first_executed_kind) (zeros3_at s 25) (eq-eqb (byte_at s 0) first_executed_kind k))
       (executed-is false)
 
   found_form : (timed : Bool) → byte_at s 0 ≡ executed_kind_of timed → executed_parsed timed s ≡ some r → IsRecord s m r
@@ -414,7 +417,8 @@ module _ (s : List ℕ) (h : Bytes s) (m : ℕ) (ext : extent_of s ≡ spans m) 
   found-released : byte_at s 0 ≡ release_kind → ((zero_at s 2 && zero_at s 3) && release_ok (release_at s)) ≡ true → IsRecord s m (released (release_at s))
   unfolding record_bytes record_size extent_of
   found-released k =
-      found-kind release_codec released (zero_at s 2 && zero_at s 3) release_ok (rw k at ext) (and_both (eqb (byte_at s 0) release_kind) (zero_at s 2 && zero_at s 3) (eq-eqb (byte_at s 0) release_kind k))
+      found-kind release_codec released (zero_at s 2 && zero_at s 3) release_ok (rw k at ext)
+      (and_both (eqb (byte_at s 0) release_kind) (zero_at s 2 && zero_at s 3) (eq-eqb (byte_at s 0) release_kind k))
       (λ a o f n l e. record { ok = o; fits = f; size = n; whole = l; same = e })
 
   found-took : byte_at s 0 ≡ take_kind → zeros3_at s 1 ≡ true → (i : Image) → parse_image (take (le32_at s 4) (drop take_head s)) ≡ some i → IsRecord s m (took i)

@@ -133,12 +133,24 @@ bytes-written (a ∷ s) zero (v ∷ vs) h b = bytes-cons v (written s zero vs) (
 pub le32-written-below : (s : List ℕ) (i : ℕ) (vs : List ℕ) (k : ℕ) → k + 4 ≤ i → le32_at (written s i vs) k ≡ le32_at s k
 unfolding le32_at
 le32-written-below s i vs k h =
-    rw (get_or-written-below s i vs k (omega arith), get_or-written-below s i vs (k + 1) (omega arith), get_or-written-below s i vs (k + 2) (omega arith), get_or-written-below s i vs (k + 3) (omega arith))
+    rw (
+      get_or-written-below s i vs k (omega arith),
+      get_or-written-below s i vs (k + 1) (omega arith),
+      get_or-written-below s i vs (k + 2) (omega arith),
+      get_or-written-below s i vs (k + 3)
+          (omega arith),
+    )
 
 pub le32-written-past : (s : List ℕ) (i : ℕ) (vs : List ℕ) (k : ℕ) → i + length vs ≤ k → le32_at (written s i vs) k ≡ le32_at s k
 unfolding le32_at
 le32-written-past s i vs k h =
-    rw (get_or-written-past s i vs k (omega arith), get_or-written-past s i vs (k + 1) (omega arith), get_or-written-past s i vs (k + 2) (omega arith), get_or-written-past s i vs (k + 3) (omega arith))
+    rw (
+      get_or-written-past s i vs k (omega arith),
+      get_or-written-past s i vs (k + 1) (omega arith),
+      get_or-written-past s i vs (k + 2) (omega arith),
+      get_or-written-past s i vs (k + 3)
+          (omega arith),
+    )
 
 pub le64-written-below : (s : List ℕ) (i : ℕ) (vs : List ℕ) (k : ℕ) → k + 8 ≤ i → le64_at (written s i vs) k ≡ le64_at s k
 unfolding le64_at

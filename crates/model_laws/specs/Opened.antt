@@ -49,7 +49,8 @@ unfolding Packets.time_at time_bytes result_kind_of result_size_of
 open_forms = tt
 
 unfoldable pub open_packet_fields : Opens
-unfolding open_forms packet_length id_ok done_ok command_ok outcome_ok request_at request_ok request_bytes result_at result_ok result_bytes refusal_at refusal_ok refusal_bytes receipt_at receipt_ok receipt_bytes
+unfolding open_forms packet_length id_ok done_ok command_ok outcome_ok request_at request_ok request_bytes result_at result_ok result_bytes
+    refusal_at refusal_ok refusal_bytes receipt_at receipt_ok receipt_bytes
 open_packet_fields = tt
 
 unfoldable pub open_packet_parsers : Opens
@@ -66,7 +67,8 @@ unfolding entry_row_of greatest_of image_magic_of floor_of_bytes floor_bytes ima
 open_image_rows = tt
 
 unfoldable pub open_images : Opens
-unfolding open_image_rows image_head image_head_of image_at image_framed image_parts image_head_ok entry_row_ok image_tables_ok image_ok parse_image entry_in_range image_in_range image_length image_head_bytes image_bytes
+unfolding open_image_rows image_head image_head_of image_at image_framed image_parts image_head_ok entry_row_ok image_tables_ok image_ok parse_image
+    entry_in_range image_in_range image_length image_head_bytes image_bytes
 open_images = tt
 
 -- Logs: records, a log
@@ -84,7 +86,8 @@ unfolding point_at is_held is_given is_synced is_id point_of point_bytes complet
 open_layout = tt
 
 unfoldable pub open_states : Opens
-unfolding open_layout end_ok ends_in_order not_given origin_ok absent_ok held_ok given_ok status_ok point_ok points_ok keeps_records completion_ok ids_differ ends_from state_framed point_row_ok state_ok sound
+unfolding open_layout end_ok ends_in_order not_given origin_ok absent_ok held_ok given_ok status_ok point_ok points_ok keeps_records completion_ok
+    ids_differ ends_from state_framed point_row_ok state_ok sound
 open_states = tt
 
 -- Apply: parts, whole records
@@ -98,7 +101,8 @@ open_apply = tt
 
 -- Decisions: of requests, of the other calls
 unfoldable pub open_requests : Opens
-unfolding or_malformed find time_for timed_by with_time request_refusal result_of_record same_command held_refusal on_held result_for executed_for new_refusal on_new on_id decide_request denying on_request
+unfolding or_malformed find time_for timed_by with_time request_refusal result_of_record same_command held_refusal on_held result_for executed_for
+    new_refusal on_new on_id decide_request denying on_request
 open_requests = tt
 
 unfoldable pub open_moves : Opens
@@ -106,7 +110,8 @@ unfolding places_bad give_refusal on_give is_on_point entry_of_record insert_ent
 open_moves = tt
 
 unfoldable pub open_decisions : Opens
-unfolding open_requests open_moves fetch_refusal on_fetched on_fetch sync_refusal on_sync notice_refusal decide_notice on_notice receipt_refusal on_receipt release_refusal decide_release on_release is_none follows
+unfolding open_requests open_moves fetch_refusal on_fetched on_fetch sync_refusal on_sync notice_refusal decide_notice on_notice receipt_refusal
+    on_receipt release_refusal decide_release on_release is_none follows
 open_decisions = tt
 
 -- Operations: what they share, the calls
@@ -134,7 +139,8 @@ open_leases = tt
 
 -- Sequential
 unfoldable pub open_sequential : Opens
-unfolding entry_z reading_meant result_meant after_z in_range_z quotient_down quotient_nearest read_z set_z past_end_z step_z report_z fault_z rounded_z part_z rule_z opened answer_z entered values_with values_after
+unfolding entry_z reading_meant result_meant after_z in_range_z quotient_down quotient_nearest read_z set_z past_end_z step_z report_z fault_z
+    rounded_z part_z rule_z opened answer_z entered values_with values_after
 open_sequential = tt
 
 -- Simulator: its parts and steps, lines, answers
@@ -143,7 +149,8 @@ unfolding simulator_plan simulator_server simulator_client new_simulator server_
 open_simulator_steps = tt
 
 unfoldable pub open_simulator_lines : Opens
-unfolding is_digit digits_from at_most number_in negative positive argument_in fields_from letter_in letter_line line_by field_in and_then numbers_from line_with line_of_fields line_of end_line lines_from lines_of
+unfolding is_digit digits_from at_most number_in negative positive argument_in fields_from letter_in letter_line line_by field_in and_then
+    numbers_from line_with line_of_fields line_of end_line lines_from lines_of
 open_simulator_lines = tt
 
 unfoldable pub open_simulator : Opens

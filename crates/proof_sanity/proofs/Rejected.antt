@@ -157,7 +157,8 @@ own-result {state} {log} {out} R b q A z =
 
 -- two ids are answered with two packets, whenever and wherever they are
 pub own-results_differ : {state log out state' log' out' : List ℕ} → Ready state log out → Ready state' log' out' → (b b' : List ℕ) (q q' : Request)
-    → Asks b q → Asks b' q' → (request_of today state log b out).answer ≡ answer_of Refusals.no_refusal result_size → (request_of today state' log' b' out').answer ≡ answer_of Refusals.no_refusal result_size
+    → Asks b q → Asks b' q' → (request_of today state log b out).answer ≡ answer_of Refusals.no_refusal result_size
+    → (request_of today state' log' b' out').answer ≡ answer_of Refusals.no_refusal result_size
     → (q.command.client ≡ q'.command.client → q.command.call ≡ q'.command.call → ⊥)
     → take result_size (request_of today state log b out).out ≢ take result_size (request_of today state' log' b' out').out
 unfolding result_of_record

@@ -38,7 +38,8 @@ module _ (s c : List ℕ) (h : Bytes s) (d : Sound s) (l : checkpoint_size ≤ l
   unfolding timed_by
   back = state-checkpoint today s c h (is-sound s d) l
 
-  pub taken : (t g : List ℕ) {n m : ℕ} {r : Answer} {s' t' : List ℕ} → n ≡ length (checkpoint_bytes true (load s)) → r ≡ answer_of no_refusal n → s' ≡ written s 0 (restored_bytes c') → m ≡ (load s).server
+  pub taken : (t g : List ℕ) {n m : ℕ} {r : Answer} {s' t' : List ℕ} → n ≡ length (checkpoint_bytes true (load s)) → r ≡ answer_of no_refusal n → s' ≡ written s 0 (restored_bytes c')
+      → m ≡ (load s).server
       → t' ≡ written t 0 (head_bytes m) → after_checkpoint r s' g c' t' ≡ checkpoint_taken s g c t
   unfolding checkpoint_taken
   taken t g size answer state server tail = rw (answer, size, state, tail, server, q, back)

@@ -68,7 +68,8 @@ pointed-next {n} {s₀} {t} {s} {s'} {i} o h q =
     let f : PlanEntry → Point = founded_point n in
     let es : List PlanEntry = rows plan_entry_of plan_row i t in
     let x : Point = f (plan_entry_of (drop (plan_row * i) t)) in
-    let l : length (bytes_of point_bytes (map f es)) ≡ point_row * i = length-bytes_of point_codec (map f es) ∙ ap (λ (k : ℕ). point_row * k) (length-map es f ∙ length-rows plan_entry_of plan_row i t) in
+    let l : length (bytes_of point_bytes (map f es)) ≡ point_row * i = length-bytes_of point_codec (map f es)
+    ∙ ap (λ (k : ℕ). point_row * k) (length-map es f ∙ length-rows plan_entry_of plan_row i t) in
     let one : bytes_of point_bytes (map f es) ++ point_bytes x ≡ bytes_of point_bytes (map f (rows plan_entry_of plan_row (i + 1) t)) =
     rw (rows_snoc plan_entry_of plan_row i t, map-append, bytes_of-append, bytes_of-one) in
     record {

@@ -57,7 +57,8 @@ module _ (s log out : List ℕ) where
   fetch-none client call p q e = rw (e, found_none (find client call (load s).records) (sym q ∙ p))
 
   pub fetch-at : (client call : ℕ) {f : Found} (x : Completion) → f ≡ found_of (find client call (load s).records) → f ≡ At x
-      → {a : After} → a ≡ settle s log out (unless_refused (fetch_refusal (load s).mark x) (reply (result_bytes (result_of_record true x)))) → a ≡ settle s log out (on_fetch today (load s) client call)
+      → {a : After} → a ≡ settle s log out (unless_refused (fetch_refusal (load s).mark x) (reply (result_bytes (result_of_record true x))))
+      → a ≡ settle s log out (on_fetch today (load s) client call)
   unfolding on_fetch on_fetched timed_by
   fetch-at client call x p q e = e ∙ ap (settle s log out) (sym (ap (on_fetched today (load s)) (found_at (find client call (load s).records) x (sym q ∙ p))))
 

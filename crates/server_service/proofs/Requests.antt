@@ -123,7 +123,8 @@ other-packet st free (Granted q) h = refl
 
 module _ (s log out : List ℕ) where
   module _ (packet : List ℕ) where
-    pub request-is : request_of today s log packet out ≡ settle s log out (unless_refused (lent_refusal s log (length out) result_size) (on_request today (load s) (free_in s log) (parse_packet packet)))
+    pub request-is : request_of today s log packet out ≡ settle s log out
+        (unless_refused (lent_refusal s log (length out) result_size) (on_request today (load s) (free_in s log) (parse_packet packet)))
     unfolding request_of lent result_size_of timed_by
     request-is = refl
 

@@ -37,7 +37,8 @@ module _ (p : ℕ) (s : List ℕ) (b : Bytes s) (S : Sound s) (l : p ≤ last_po
   module _ (out : List ℕ) (r : greatest_image ≤ length out) where
     pub stored-part : take (image_length (image_for today (load s) p)) (written out 0 (image_bytes (image_for today (load s) p))) ≡ image_bytes (image_for today (load s) p)
     stored-part =
-        ap (λ (n : ℕ). take n (written out 0 (image_bytes (image_for today (load s) p)))) (sym (zero-add (length (image_bytes (image_for today (load s) p))) ∙ image-length (image_for today (load s) p)))
+        ap (λ (n : ℕ). take n (written out 0 (image_bytes (image_for today (load s) p))))
+        (sym (zero-add (length (image_bytes (image_for today (load s) p))) ∙ image-length (image_for today (load s) p)))
         ∙ take-written-run out 0 (image_bytes (image_for today (load s) p)) (omega (arith, r, image_few, image-length (image_for today (load s) p)))
 
     pub image-parsed : parse_image (take (image_length (image_for today (load s) p)) (written out 0 (image_bytes (image_for today (load s) p)))) ≡ some (image_for today (load s) p)
@@ -45,7 +46,8 @@ module _ (p : ℕ) (s : List ℕ) (b : Bytes s) (S : Sound s) (l : p ≤ last_po
         ap parse_image stored-part
         ∙ image-back (image_for today (load s) p) (image-fits (image_for today (load s) p) image-sound) (image-well (image_for today (load s) p) image-sound)
 
-    pub image-answered : read_of (parse_image (take (image_length (image_for today (load s) p)) (written out 0 (image_bytes (image_for today (load s) p))))) ≡ Head (image_head (image_for today (load s) p))
+    pub image-answered : read_of (parse_image (take (image_length (image_for today (load s) p)) (written out 0 (image_bytes (image_for today (load s) p))))) ≡ Head
+        (image_head (image_for today (load s) p))
     unfolding read_of
     image-answered = rw image-parsed
 

@@ -163,7 +163,8 @@ module _ {timed : Bool} {f : ImageEntry → Completion} {image : List ℕ} {w k 
 
   one_more : {r : Completion} {e : ImageEntry} → e ≡ image_entry_of timed (drop (k + w * i) image) → r ≡ f e → some-rows (i + 1) ≡ some-rows i ++ (r ∷ [])
   one_more {r} {e} p q =
-      let row : rows (image_entry_of timed) w (i + 1) (drop k image) ≡ rows (image_entry_of timed) w i (drop k image) ++ (e ∷ []) = rows_snoc (image_entry_of timed) w i (drop k image) ∙ rw (drop-drop, p) in
+      let row : rows (image_entry_of timed) w (i + 1) (drop k image) ≡ rows (image_entry_of timed) w i (drop k image) ++ (e ∷ []) = rows_snoc (image_entry_of timed) w i (drop k image)
+      ∙ rw (drop-drop, p) in
       ap (map f) row ∙ map-append f (rows (image_entry_of timed) w i (drop k image)) (e ∷ []) ∙ rw q
 
   -- those of the first i + 1 that stay are among those of all that stay
@@ -188,7 +189,8 @@ module _ {timed : Bool} {f : ImageEntry → Completion} {image : List ℕ} {w k 
       (o.long, row_free t r (v ∙ rw (same-floors o.kept o.clients)) (omega (arith, more, fewer h, o.room, o.kept.count)))
 
   pub adding_next : {r : Completion} {e : ImageEntry} {u : Bool} {s' : List ℕ} {j' : ℕ} → i < m → e ≡ image_entry_of timed (drop (k + w * i) image) → r ≡ f e
-      → u ≡ stays_over_floors (load s).floors r → s' ≡ pick u (written s (records_start + record_row * j) (completion_bytes r)) s → j' ≡ pick u (j + 1) j → Adding timed f image w k s₀ b m s' (i + 1) j'
+      → u ≡ stays_over_floors (load s).floors r → s' ≡ pick u (written s (records_start + record_row * j) (completion_bytes r)) s → j' ≡ pick u (j + 1) j
+      → Adding timed f image w k s₀ b m s' (i + 1) j'
   adding_next {r} {e} {u} {s'} {j'} h p q v x y =
       let next : Gathered completion_codec t records_start b s₀ (some-rows i ++ (r ∷ [])) s' j' =
       gathered_next completion_codec t o.kept r u (v ∙ rw (same-floors o.kept o.clients)) x y in

@@ -111,7 +111,8 @@ module _ (x c : ℕ) (s : List ℕ) (n : ℕ) {i : ℕ} (o : Sought (is_id x c) 
   size : length rs ≡ n
   size = length-rows completion_of record_row n (drop records_start s)
 
-  pub find_hit : {r : Completion} → (load s).records ≡ rs → i < n → is_id x c (completion_of (drop (records_start + record_row * i) s)) ≡ true → r ≡ completion_of (drop (records_start + record_row * i) s)
+  pub find_hit : {r : Completion} → (load s).records ≡ rs → i < n → is_id x c (completion_of (drop (records_start + record_row * i) s)) ≡ true
+      → r ≡ completion_of (drop (records_start + record_row * i) s)
       → At r ≡ found_of (find x c (load s).records)
   unfolding found_of
   find_hit {r} a h q e =

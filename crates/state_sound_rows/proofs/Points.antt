@@ -157,7 +157,8 @@ module _ {server size j k : ℕ} {y : Bool} {s : List ℕ} {n i : ℕ} (o : Poin
     step =
         o.rest
         ∙ rw (every_row-cons plan_row_ok plan_row s j i n h, every_row-cons point_row_ok point_row s k i n h, rows-cons plan_entry_of plan_row s j i n h, rows-cons point_of point_row s k i n h, p)
-        (firsts (plan_row_ok plan-at) (point_row_ok point_at_lem) (point_ok server size (plan_entry_of plan-at) (point_of point_at_lem)) (every_row plan_row_ok plan_row (n - (i + 1)) (drop (j + plan_row * (i + 1)) s))
+        (firsts (plan_row_ok plan-at) (point_row_ok point_at_lem) (point_ok server size (plan_entry_of plan-at) (point_of point_at_lem))
+        (every_row plan_row_ok plan_row (n - (i + 1)) (drop (j + plan_row * (i + 1)) s))
         (every_row point_row_ok point_row (n - (i + 1)) (drop (k + point_row * (i + 1)) s))
         (points_ok server size (rows plan_entry_of plan_row (n - (i + 1)) (drop (j + plan_row * (i + 1)) s)) (rows point_of point_row (n - (i + 1)) (drop (k + point_row * (i + 1)) s))))
 

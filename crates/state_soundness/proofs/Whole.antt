@@ -44,4 +44,5 @@ sound-parts s =
     (moved (every_row plan_row_ok plan_row point_count (drop state_head s)) (every_row point_row_ok point_row point_count (drop points_start s)) (leb (byte_at s 4) last_server)
     (leb head_size (le64_at s 32)) (leb (le64_at s 32) (le64_at s 24))
     (points_ok (byte_at s 4) (le64_at s 24) (rows plan_entry_of plan_row point_count (drop state_head s)) (rows point_of point_row point_count (drop points_start s)))
-    (every floor_ok (rows floor_of_bytes floor_row (clients_in s) (drop floors_start s)) && (clients_ascend (rows floor_of_bytes floor_row (clients_in s) (drop floors_start s)) && records_ok (load s))))
+    (every floor_ok (rows floor_of_bytes floor_row (clients_in s) (drop floors_start s))
+    && (clients_ascend (rows floor_of_bytes floor_row (clients_in s) (drop floors_start s)) && records_ok (load s))))

@@ -14,7 +14,9 @@ take_point-requires c = (
 
 pub returns : goal.returns
 returns c =
-    took-done c.requires.0 c.args.image.now (search rules) c.args.h c.args.end c.requires.3 c.requires.4 (record { point = omega arith; quality = omega arith; value = omega arith; move_number = omega arith; heard = omega arith; size = omega arith })
-    (tabled_stage c.requires.0 c.args.image.now (search rules) c.args.h c.args.end c.requires.3 c.requires.4 (record { point = omega arith; quality = omega arith; value = omega arith; move_number = omega arith; heard = omega arith; size = omega arith })
+    took-done c.requires.0 c.args.image.now (search rules) c.args.h c.args.end c.requires.3 c.requires.4
+    (record { point = omega arith; quality = omega arith; value = omega arith; move_number = omega arith; heard = omega arith; size = omega arith })
+    (tabled_stage c.requires.0 c.args.image.now (search rules) c.args.h c.args.end c.requires.3 c.requires.4
+    (record { point = omega arith; quality = omega arith; value = omega arith; move_number = omega arith; heard = omega arith; size = omega arith })
     c.take_tables.ensures)
     c.take_point.ensures

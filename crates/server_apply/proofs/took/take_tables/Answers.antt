@@ -32,5 +32,6 @@ append_image-requires c =
 
 pub returns : goal.returns
 returns c =
-    taken-done c.requires.0 c.args.image.now (search rules) c.args.h c.args.end c.requires.2 c.requires.3 (third (goal.at.returns c).After-drop_records) (record { point = omega arith; quality = omega arith; value = omega arith; move_number = omega arith; heard = omega arith; size = omega arith })
+    taken-done c.requires.0 c.args.image.now (search rules) c.args.h c.args.end c.requires.2 c.requires.3 (third (goal.at.returns c).After-drop_records)
+    (record { point = omega arith; quality = omega arith; value = omega arith; move_number = omega arith; heard = omega arith; size = omega arith })
     c.append_image.ensures

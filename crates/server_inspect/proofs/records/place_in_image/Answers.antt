@@ -10,13 +10,28 @@ pub head_from-h-requires : goal.head_from-h-requires
 head_from-h-requires c = ok-least c.args.image.now refl c.requires.0
 
 pub index_of-i-requires : goal.index_of-i-requires
-index_of-i-requires c = ((entries-within c.head_from-h.result (ok-size c.args.image.now c.requires.0 c.head_from-h.ensures) c.entry_width-width.ensures c.entries_start-at.ensures).1, omega (arith, (entries-within c.head_from-h.result (ok-size c.args.image.now c.requires.0 c.head_from-h.ensures) c.entry_width-width.ensures c.entries_start-at.ensures).0, row_least c.head_from-h.result.timed))
+index_of-i-requires c = (
+  (entries-within c.head_from-h.result (ok-size c.args.image.now c.requires.0 c.head_from-h.ensures) c.entry_width-width.ensures c.entries_start-at.ensures).1,
+  omega (
+    arith,
+    (entries-within c.head_from-h.result (ok-size c.args.image.now c.requires.0 c.head_from-h.ensures) c.entry_width-width.ensures c.entries_start-at.ensures).0,
+    row_least c.head_from-h.result.timed,
+  ),
+)
 
 pub overflow_add-from : goal.overflow_add-from
-overflow_add-from c = omega (arith, (entries-within c.head_from-h.result (ok-size c.args.image.now c.requires.0 c.head_from-h.ensures) c.entry_width-width.ensures c.entries_start-at.ensures).1, c.requires.1)
+overflow_add-from c = omega (
+  arith,
+  (entries-within c.head_from-h.result (ok-size c.args.image.now c.requires.0 c.head_from-h.ensures) c.entry_width-width.ensures c.entries_start-at.ensures).1,
+  c.requires.1,
+)
 
 pub place_of-requires : goal.place_of-requires
-place_of-requires c = omega (arith, (entries-within c.head_from-h.result (ok-size c.args.image.now c.requires.0 c.head_from-h.ensures) c.entry_width-width.ensures c.entries_start-at.ensures).1, c.requires.1)
+place_of-requires c = omega (
+  arith,
+  (entries-within c.head_from-h.result (ok-size c.args.image.now c.requires.0 c.head_from-h.ensures) c.entry_width-width.ensures c.entries_start-at.ensures).1,
+  c.requires.1,
+)
 
 pub returns : goal.returns
 returns c =

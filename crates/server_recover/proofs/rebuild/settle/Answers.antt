@@ -17,8 +17,10 @@ pub overflow_add-end : goal.overflow_add-end
 overflow_add-end c = omega (arith, c.records_of.ensures, (c.requires.2 c.if-not-done.false).fits.records-count)
 
 pub copy_part-requires : goal.copy_part-requires
-copy_part-requires c =
-    (omega (arith, c.records_of.ensures, (c.requires.2 c.if-not-done.false).fits.records-count, c.requires.1), omega (arith, c.records_of.ensures, (c.requires.2 c.if-not-done.false).fits.records-count, c.requires.0))
+copy_part-requires c = (
+  omega (arith, c.records_of.ensures, (c.requires.2 c.if-not-done.false).fits.records-count, c.requires.1),
+  omega (arith, c.records_of.ensures, (c.requires.2 c.if-not-done.false).fits.records-count, c.requires.0),
+)
 
 pub returns : goal.returns
 returns c =
