@@ -1,6 +1,5 @@
 -- What is left to show of `format_fields::grant_at`.
 use Rattle.model.specs.Packets.{grant_at}
-use borrow.Author.Rules.{rules}
 use Rattle.format_fields.proofs.grant_at.Goals as goal
 
 pub returns : goal.returns

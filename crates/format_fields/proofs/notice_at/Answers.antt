@@ -1,6 +1,5 @@
 -- What is left to show of `format_fields::notice_at`.
 use Rattle.model.specs.Packets.{notice_at}
-use borrow.Author.Rules.{rules}
 use Rattle.format_fields.proofs.notice_at.Goals as goal
 
 pub returns : goal.returns

@@ -1,6 +1,5 @@
 -- What is left to show of `format_fields::refusal_ok`.
 use Rattle.model.specs.Packets.{refusal_ok}
-use borrow.Author.Rules.{rules}
 use Rattle.format_fields.proofs.refusal_ok.Goals as goal
 
 pub returns : goal.returns

@@ -1,6 +1,5 @@
 -- What is left to show of `format_fields::request_ok`.
 use Rattle.model.specs.Packets.{request_ok}
-use borrow.Author.Rules.{rules}
 use Rattle.format_fields.proofs.request_ok.Goals as goal
 
 pub returns : goal.returns

@@ -1,6 +1,5 @@
 -- What is left to show of `format_fields::result_ok`.
 use Rattle.model.specs.Packets.{result_ok}
-use borrow.Author.Rules.{rules}
 use Rattle.format_fields.proofs.result_ok.Goals as goal
 
 pub returns : goal.returns

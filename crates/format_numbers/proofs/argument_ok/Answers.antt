@@ -2,7 +2,6 @@
 use native.Mathlib.Omega.{arith}
 use Rattle.model.specs.Rules.{argument_ok, argument_range}
 use Rattle.format_numbers.proofs.Past.{no_arguments}
-use borrow.Author.Rules.{rules}
 use Rattle.format_numbers.proofs.argument_ok.Goals as goal
 
 pub returns-in-0 : goal.returns-in-0

@@ -1,6 +1,5 @@
 -- What is left to show of `format_numbers::command_ok`.
 use Rattle.model.specs.Packets.{command_ok}
-use borrow.Author.Rules.{rules}
 use Rattle.format_numbers.proofs.command_ok.Goals as goal
 
 pub returns : goal.returns

@@ -1,13 +1,8 @@
 -- The invariants of `format_numbers::copy_bytes`.
-use Prim.Native.Nat.{ℕ, ◌≤◌, ◌-◌}
-use mathlib.Core.Path.{◌≡◌, sym, ap, ◌∙◌}
-use mathlib.Core.List.{List}
-use native.Mathlib.Omega.{arith}
+use Prim.Native.Nat.{◌≤◌, ◌-◌}
+use mathlib.Core.Path.{◌≡◌}
 use lib.ListN.{length, take}
-use lib.Seq.{take_all}
 use Rattle.model.specs.Tables.{written}
-use Rattle.model_laws.proofs.Written.{written_none, length-written}
-use Rattle.format_numbers.proofs.Copies.{copy_step}
 use Rattle.format_numbers.proofs.copy_bytes.Given as goal
 
 abbrev pub invariant-loop-i : goal.invariant-loop-i

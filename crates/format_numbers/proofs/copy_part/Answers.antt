@@ -4,7 +4,6 @@ use mathlib.Core.Path.{◌≡◌}
 use native.Mathlib.Omega.{arith}
 use Rattle.model_laws.proofs.Written.{tail-back}
 use Rattle.model_laws.specs.Bytes.{part}
-use borrow.Author.Rules.{rules}
 use Rattle.format_numbers.proofs.copy_part.Goals as goal
 
 pub returns : goal.returns

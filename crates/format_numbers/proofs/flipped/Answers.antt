@@ -1,7 +1,6 @@
 -- What is left to show of `format_numbers::flipped`.
 use Rattle.model.specs.Numbers.{flip}
 use native.Mathlib.Omega.{arith}
-use borrow.Author.Rules.{rules}
 use Rattle.format_numbers.proofs.flipped.Goals as goal
 
 pub returns-then-v-lt-HALF : goal.returns-then-v-lt-HALF

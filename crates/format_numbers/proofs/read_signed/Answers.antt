@@ -1,6 +1,5 @@
 -- What is left to show of `format_numbers::read_signed`.
 use Rattle.model.specs.Numbers.{signed_at}
-use borrow.Author.Rules.{rules}
 use Rattle.format_numbers.proofs.read_signed.Goals as goal
 
 pub returns : goal.returns

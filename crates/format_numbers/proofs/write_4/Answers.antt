@@ -1,9 +1,6 @@
 -- What is left to show of `format_numbers::write_4`.
 use Rattle.model_laws.proofs.Written.{written-sets}
 use native.Mathlib.Numerals.{towards_suc}
-use lib.ListN.{length-set}
-use native.Mathlib.Omega.{arith}
-use borrow.Author.Rules.{rules}
 use Rattle.format_numbers.proofs.write_4.Goals as goal
 
 pub returns : goal.returns

@@ -1,5 +1,4 @@
 -- What is left to show of `format_numbers::write_signed`.
-use borrow.Author.Rules.{rules}
 use Rattle.format_numbers.proofs.write_signed.Goals as goal
 
 pub returns : goal.returns

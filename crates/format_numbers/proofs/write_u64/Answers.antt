@@ -3,7 +3,6 @@ use mathlib.Core.Path.{sym}
 use Prim.Native.Nat.{◌/◌, ◌%◌}
 use Rattle.model_laws.proofs.Written.{written-append}
 use Rattle.model.specs.Numbers.{le32, le64, word}
-use borrow.Author.Rules.{rules}
 use Rattle.format_numbers.proofs.write_u64.Goals as goal
 
 pub returns : goal.returns

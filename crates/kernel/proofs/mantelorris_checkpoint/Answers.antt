@@ -1,6 +1,5 @@
 -- What is left to show of `kernel::mantelorris_checkpoint`.
 use Rattle.kernel.proofs.Words.{checkpoint_in}
-use borrow.Author.Rules.{rules}
 use Rattle.kernel.proofs.mantelorris_checkpoint.Goals as goal
 
 pub returns : goal.returns

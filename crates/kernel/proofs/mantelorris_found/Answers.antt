@@ -1,6 +1,5 @@
 -- What is left to show of `kernel::mantelorris_found`.
 use Rattle.kernel.proofs.Words.{returned_in}
-use borrow.Author.Rules.{rules}
 use Rattle.kernel.proofs.mantelorris_found.Goals as goal
 
 pub returns : goal.returns

@@ -1,6 +1,5 @@
 -- What is left to show of `kernel::mantelorris_recover_checkpoint`.
 use Rattle.kernel.proofs.Words.{returned_in}
-use borrow.Author.Rules.{rules}
 use Rattle.kernel.proofs.mantelorris_recover_checkpoint.Goals as goal
 
 pub returns : goal.returns

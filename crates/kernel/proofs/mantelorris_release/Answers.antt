@@ -1,6 +1,5 @@
 -- What is left to show of `kernel::mantelorris_release`.
 use Rattle.kernel.proofs.Words.{returned_in}
-use borrow.Author.Rules.{rules}
 use Rattle.kernel.proofs.mantelorris_release.Goals as goal
 
 pub returns : goal.returns

@@ -1,6 +1,5 @@
 -- What is left to show of `kernel::mantelorris_serve`.
 use Rattle.kernel.proofs.Words.{served_in}
-use borrow.Author.Rules.{rules}
 use Rattle.kernel.proofs.mantelorris_serve.Goals as goal
 
 pub returns : goal.returns
