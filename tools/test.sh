@@ -92,7 +92,6 @@ in_c() {
   part earlier-logs tests/logs/run.sh; count $?
   part power-cuts tests/c/power.py; count $?
   grep -E '^(seed|[0-9]+ starts|line:)' "$logs/power-cuts" | sed 's/^/   /'
-  part card-reader tests/c/reader.py; count $?
   part plant tests/c/plant.py; count $?
   grep -E '^(seed|starts)' "$logs/plant" | sed 's/^/   /'
   part guide tests/c/guide.py; count $?
@@ -112,6 +111,9 @@ for name in compared in_c; do
   passed=$((passed + more))
   failed=$((failed + wrong))
 done
+
+# with nothing beside it: it holds the reader to a second of processor time
+part card-reader tests/c/reader.py; count $?
 
 echo "== all: $((SECONDS - began)) s"
 # for make dist: what was said last, and of which commit
