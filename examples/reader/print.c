@@ -21,8 +21,14 @@ static void put(const char *bytes, size_t count) {
     filled += count;
 }
 
+/* most are short: byte by byte, without their length */
 static void put_text(const char *string) {
-    put(string, strlen(string));
+    while (*string) {
+        size_t at = filled;
+        while (*string && at < sizeof buffer) buffer[at++] = *string++;
+        filled = at;
+        if (at == sizeof buffer) flush();
+    }
 }
 
 /* with blanks in front of it, up to this width */

@@ -31,7 +31,7 @@ def told(what, wrong):
 
 def built(name, sources, more=()):
     out = os.path.join(WORK, name)
-    subprocess.run(['cc', '-std=c11', '-O2', '-Wall', '-Wextra', '-Werror', *more, '-I' + DIST, '-Iexamples', *sources, DIST + '/libmantelorris.a', '-o', out], check=True)
+    subprocess.run(['cc', '-std=c11', '-O3', '-Wall', '-Wextra', '-Werror', *more, '-I' + DIST, '-Iexamples', *sources, DIST + '/libmantelorris.a', '-o', out], check=True)
     return out
 
 
