@@ -14,7 +14,7 @@ PRODUCT = [
     ('products above the kernel', lambda n: n in ('chamber', 'dispatch')),
     ('simulator', lambda n: n.startswith('simulator')),
     ('parties beside the server', lambda n: n in ('client', 'leases')),
-    ('server: calls, decisions, changes', lambda n: n.startswith('server_')),
+    ('server: calls, decisions, changes', lambda n: n.startswith('server_') or n == 'refusals'),
     ('state: tables in the lent buffer', lambda n: n.startswith('state_')),
     ('format: packets, images, log', lambda n: n.startswith('format_')),
 ]

@@ -1,0 +1,2 @@
+-- Laws of refusals and outcomes that callers cite.
+pub mod Numbers

@@ -1,0 +1,2 @@
+-- What the contracts of `refusals`, and those above it, cite beside `model`.
+pub mod Numbers
