@@ -10,6 +10,7 @@ use mathlib.Core.Path.{◌≡◌, refl, sym, ◌∙◌}
 use mathlib.Core.Bool.{Bool, true, false}
 use mathlib.Core.List.{List, [], ◌∷◌}
 use native.Mathlib.Omega.{arith}
+use Rattle.std.specs.Prelude.{Some, None}
 use lib.ListN.{length}
 use lib.Dec.{leb}
 use borrow.Author.Tests.{leb-true, le-leb}
@@ -20,7 +21,6 @@ use Rattle.model.specs.Images.{image_magic, greatest_of, image_head_of, image_at
 use Rattle.model_laws.proofs.Tests.{joined_all, choose}
 use Rattle.model_laws.proofs.Images.{tested, tested_most, placed, floor-count, entry-count, head-same}
 use Rattle.model_laws.proofs.Windows.{image-entries}
-use Rattle.format_image_reader.specs.declared.ImageRead.TheVariants.{Malformed, Head}
 use Rattle.format_image_reader.specs.Answers.{body_ok, read_of}
 use Rattle.format_image_reader.specs.Walks.{rows_ok}
 use Rattle.model_laws.proofs.Ands.{go, go_test}
@@ -41,11 +41,11 @@ unfolding image_ok body_ok rows_ok
 last-test s l g p e q r =
     go_test (le-leb least_image (length s) l) (go_test (le-leb (length s) (greatest_of (starts_with s image_magic)) g) (go p e (rw q at r)))
 
-pub read_malformed : (s : List ℕ) {u : Bool} → u ≡ image_ok s → u ≡ false → Malformed ≡ read_of (parse_image s)
+pub read_malformed : (s : List ℕ) {u : Bool} → u ≡ image_ok s → u ≡ false → None ≡ read_of (parse_image s)
 unfolding parse_image read_of
 read_malformed s p e = rw (sym p ∙ e)
 
-pub read_head : (s : List ℕ) {u : Bool} {h : ImageHead} → u ≡ image_ok s → u ≡ true → h ≡ image_head_of s → Head h ≡ read_of (parse_image s)
+pub read_head : (s : List ℕ) {u : Bool} {h : ImageHead} → u ≡ image_ok s → u ≡ true → h ≡ image_head_of s → Some h ≡ read_of (parse_image s)
 unfolding parse_image read_of
 read_head s p e q = rw (sym p ∙ e, head-same, q)
 
@@ -84,16 +84,16 @@ is_read s h e p =
       entries = omega arith;
     }
 
-pub read_ok : (s : List ℕ) (h : ImageHead) → Head h ≡ read_of (parse_image s) → IsRead s h
+pub read_ok : (s : List ℕ) (h : ImageHead) → Some h ≡ read_of (parse_image s) → IsRead s h
 unfolding parse_image read_of
 read_ok s h =
-    choose (λ o. Head h ≡ read_of o → IsRead s h) (image_ok s)
+    choose (λ o. Some h ≡ read_of o → IsRead s h) (image_ok s)
     (λ ok e. let q : h ≡ image_head (image_at (image_head_of s) s) = cc in is_read s h ok (q ∙ head-same (image_head_of s) s))
     (λ no e. let z : ◌≡◌ {A = ℕ} 0 1 = cc in absurd (omega arith))
 
-pub read_none : (s : List ℕ) → Malformed ≡ read_of (parse_image s) → image_ok s ≡ false
+pub read_none : (s : List ℕ) → None ≡ read_of (parse_image s) → image_ok s ≡ false
 unfolding parse_image read_of
 read_none s =
-    choose (λ o. Malformed ≡ read_of o → image_ok s ≡ false) (image_ok s)
+    choose (λ o. None ≡ read_of o → image_ok s ≡ false) (image_ok s)
     (λ ok e. let z : ◌≡◌ {A = ℕ} 0 1 = cc in absurd (omega arith))
     (λ no e. no)

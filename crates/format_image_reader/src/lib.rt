@@ -13,13 +13,6 @@ ghost use Rattle.format_image_reader.specs.Walks.{floors_in, floor_step, floors_
 use model::constants::{FLOOR_ROW, LEAST_IMAGE};
 use model::{ImageEntry, ImageHead, PlanEntry};
 
-// What the reader finds: an image's head, or that the bytes are no image.
-#[derive(Clone, Copy)]
-pub enum ImageRead {
-    Malformed,
-    Head(ImageHead),
-}
-
 // ---- floors
 
 // The floor from k, before the left floors behind it: client and floor are from 1, and the next client is greater.
@@ -198,14 +191,14 @@ pub fn image_ok(s: &[u8]) -> bool
     body_ok(s, h)
 }
 
-// The head of a well-formed image.
-pub fn image_read(s: &[u8]) -> ImageRead
+// The head of a well-formed image; none where the bytes are no image.
+pub fn image_read(s: &[u8]) -> Option<ImageHead>
     ensures { result ≡ read_of (parse_image s.now) }
 {
     if !image_ok(s) {
-        return ImageRead::Malformed;
+        return None;
     }
-    ImageRead::Head(format_image_rows::head_from(s))
+    Some(format_image_rows::head_from(s))
 }
 
 // ---- values in the point's range

@@ -11,6 +11,7 @@ use mathlib.Core.List.{List, []}
 use mathlib.Core.Option.{some}
 use native.Mathlib.Omega.{arith}
 use lib.ListN.{length}
+use Rattle.std.specs.Prelude.{Some, None}
 use Rattle.model.specs.declared.Answer.{Answer}
 use Rattle.model.specs.declared.ImageHead.{ImageHead}
 use Rattle.model.specs.Choice.{append, unless_refused}
@@ -36,7 +37,6 @@ use Rattle.model_invariants.proofs.Loaded.{loaded_sound}
 use Rattle.model_invariants.proofs.Formats.{parsed-image}
 use Rattle.state_rows.proofs.Chains.{canonical-sound}
 use Rattle.server_memory.specs.Memory.{Fit}
-use Rattle.format_image_reader.specs.declared.ImageRead.TheVariants.{Malformed, Head}
 use Rattle.format_image_reader.specs.Answers.{read_of}
 use Rattle.format_image_reader.proofs.Whole.{read_ok, read_none}
 use Rattle.server_moves.specs.Taking.{Taking}
@@ -46,16 +46,16 @@ module _ (s log b : List ℕ) where
   unfolding take_of lent
   take-is = refl
 
-  pub take-malformed : Malformed ≡ read_of (parse_image b) → {r : Answer} → r ≡ answer_of malformed 0 → after r s log [] ≡ settle s log [] (on_take (load s) (free_in s log) (parse_image b))
+  pub take-malformed : None ≡ read_of (parse_image b) → {r : Answer} → r ≡ answer_of malformed 0 → after r s log [] ≡ settle s log [] (on_take (load s) (free_in s log) (parse_image b))
   unfolding parse_image on_take or_malformed settle
   take-malformed e q = rw (read_none b e, q)
 
   module _ (h : ImageHead) where
-    parsed : Head h ≡ read_of (parse_image b) → parse_image b ≡ some (image_at h b)
+    parsed : Some h ≡ read_of (parse_image b) → parse_image b ≡ some (image_at h b)
     unfolding parse_image
     parsed e = let k = read_ok b h e in rw (k.ok, k.head)
 
-    pub take_read : Head h ≡ read_of (parse_image b) → on_take (load s) (free_in s log) (parse_image b) ≡ decide_take (load s) (free_in s log) (image_at h b)
+    pub take_read : Some h ≡ read_of (parse_image b) → on_take (load s) (free_in s log) (parse_image b) ≡ decide_take (load s) (free_in s log) (image_at h b)
     unfolding on_take or_malformed
     take_read e = rw (parsed e)
 
@@ -66,7 +66,7 @@ module _ (s log b : List ℕ) where
         let c = every (image_entry_ok i.point i.floors) i.entries && ids_ascend i.entries in
         and_left (clients_ascend i.floors) c (and_right a (clients_ascend i.floors && c) e)
 
-    pub taking : Fit s log 0 0 → Bytes s → Bytes b → Head h ≡ read_of (parse_image b) → Taking s log b h
+    pub taking : Fit s log 0 0 → Bytes s → Bytes b → Some h ≡ read_of (parse_image b) → Taking s log b h
     unfolding image_at
     taking F w v e =
         let k = read_ok b h e in

@@ -10,7 +10,6 @@ ghost use Rattle.model.specs.Operations.{after, settle, free_in, take_of};
 ghost use Rattle.server_memory.specs.Memory.{settled_by};
 ghost use Rattle.server_moves.specs.Taking.{Taking};
 
-use format_image_reader::ImageRead;
 use model::{Answer, ImageHead, constants};
 use state_records::ids;
 use state_rows::state;
@@ -95,7 +94,7 @@ pub fn take(s: &mut [u8], log: &mut [u8], image: &[u8]) -> Answer
     }
     let read = format_image_reader::image_read(image);
     match read {
-        ImageRead::Malformed => server_decide::refused(constants::MALFORMED),
-        ImageRead::Head(h) => take_by(s, log, image, h),
+        None => server_decide::refused(constants::MALFORMED),
+        Some(h) => take_by(s, log, image, h),
     }
 }

@@ -11,6 +11,7 @@ use mathlib.Core.Option.{some}
 use native.Mathlib.Omega.{arith}
 use native.Mathlib.Nat.{zero-add}
 use lib.ListN.{length, take}
+use Rattle.std.specs.Prelude.{Some}
 use Rattle.model.specs.Limits.{last_point, greatest_image}
 use Rattle.model.specs.Tables.{written}
 use Rattle.model.specs.Images.{image_bytes, image_length, parse_image, image_head}
@@ -23,7 +24,6 @@ use Rattle.model_laws.proofs.Written.{take-written-run}
 use Rattle.model_laws.proofs.Images.{greatest-most, image-length, image-back, image-is}
 use Rattle.model_invariants.specs.Sound.{GoodImage}
 use Rattle.model_invariants.proofs.Images.{image-good, image-well, image-fits, image-short}
-use Rattle.format_image_reader.specs.declared.ImageRead.TheVariants.{Head}
 use Rattle.format_image_reader.specs.Answers.{read_of}
 use Rattle.state_image.proofs.Picking.{tables}
 
@@ -46,7 +46,7 @@ module _ (p : ℕ) (s : List ℕ) (b : Bytes s) (S : Sound s) (l : p ≤ last_po
         ap parse_image stored-part
         ∙ image-back (image_for today (load s) p) (image-fits (image_for today (load s) p) image-sound) (image-well (image_for today (load s) p) image-sound)
 
-    pub image-answered : read_of (parse_image (take (image_length (image_for today (load s) p)) (written out 0 (image_bytes (image_for today (load s) p))))) ≡ Head
+    pub image-answered : read_of (parse_image (take (image_length (image_for today (load s) p)) (written out 0 (image_bytes (image_for today (load s) p))))) ≡ Some
         (image_head (image_for today (load s) p))
     unfolding read_of
     image-answered = rw image-parsed

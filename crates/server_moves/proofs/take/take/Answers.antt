@@ -18,19 +18,19 @@ take_by-requires c =
     let a = c.args in
     taking a.s.now a.log.now a.image.now _ (passed-fit _ _ _ _ c.lent_refusal-refusal.ensures c.if-refusal-ne0.false) (search rules)
     (search rules)
-    (sym c.in-Head.is ∙ c.image_read-read.ensures)
+    (sym c.in-Some.is ∙ c.image_read-read.ensures)
 
-pub returns-in-Malformed : goal.returns-in-Malformed
-returns-in-Malformed c =
+pub returns-in-None : goal.returns-in-None
+returns-in-None c =
     let a = c.args in
     by_passed a.s.now a.log.now [] _ c.lent_refusal-refusal.ensures c.if-refusal-ne0.false
-    (take-malformed a.s.now a.log.now a.image.now (sym c.in-Malformed.is ∙ c.image_read-read.ensures) c.refused-in-Malformed.ensures)
+    (take-malformed a.s.now a.log.now a.image.now (sym c.in-None.is ∙ c.image_read-read.ensures) c.refused-in-None.ensures)
     ∙ sym (take-is a.s.now a.log.now a.image.now)
 
-pub returns-in-Head : goal.returns-in-Head
-returns-in-Head c =
+pub returns-in-Some : goal.returns-in-Some
+returns-in-Some c =
     let a = c.args in
     by_passed a.s.now a.log.now [] _ c.lent_refusal-refusal.ensures c.if-refusal-ne0.false
     (c.take_by.ensures ∙ sym (ap (settle a.s.now a.log.now []) (take_read a.s.now a.log.now
-    a.image.now _ (sym c.in-Head.is ∙ c.image_read-read.ensures))))
+    a.image.now _ (sym c.in-Some.is ∙ c.image_read-read.ensures))))
     ∙ sym (take-is a.s.now a.log.now a.image.now)
