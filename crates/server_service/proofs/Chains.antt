@@ -13,6 +13,7 @@ use lib.Dec.{eqb, ltb}
 use borrow.Author.Tests.{ltb-false}
 use denote.Enum.Declared.{tag_of}
 use types.Run.{OneOf, miss}
+use Rattle.std.specs.Prelude.{Option, None, Some}
 use Rattle.model.specs.declared.Answer.{Answer}
 use Rattle.model.specs.declared.Notice.{Notice}
 use Rattle.model.specs.declared.Completion.{Completion}
@@ -30,8 +31,6 @@ use Rattle.model.specs.Decisions.{timed_by, or_malformed, find, result_of_record
 use Rattle.model.specs.Operations.{After, answer_of, after, settle, stored, free_in, lent_refusal, lent, sync_of, fetch_of, notice_of}
 use Rattle.model.specs.Limits.{result_size, gone_size}
 use Rattle.model.specs.Refusals.{unknown, log_full, malformed, no_refusal}
-use Rattle.state_records.specs.declared.Found.{Found}
-use Rattle.state_records.specs.declared.Found.TheVariants.{Nothing, At}
 use Rattle.state_records.specs.Rules.{found_of}
 use Rattle.state_records.proofs.Search.{found_none, found_at}
 
@@ -51,12 +50,12 @@ module _ (s log out : List ℕ) where
   unfolding fetch_of lent result_size_of timed_by
   fetch-is client call = refl
 
-  pub fetch-none : (client call : ℕ) {f : Found} → f ≡ found_of (find client call (load s).records) → f ≡ Nothing → {r : Answer} → r ≡ answer_of unknown 0
+  pub fetch-none : (client call : ℕ) {f : Option Completion} → f ≡ found_of (find client call (load s).records) → f ≡ None → {r : Answer} → r ≡ answer_of unknown 0
       → after r s log out ≡ settle s log out (on_fetch today (load s) client call)
   unfolding settle on_fetch on_fetched
   fetch-none client call p q e = rw (e, found_none (find client call (load s).records) (sym q ∙ p))
 
-  pub fetch-at : (client call : ℕ) {f : Found} (x : Completion) → f ≡ found_of (find client call (load s).records) → f ≡ At x
+  pub fetch-at : (client call : ℕ) {f : Option Completion} (x : Completion) → f ≡ found_of (find client call (load s).records) → f ≡ Some x
       → {a : After} → a ≡ settle s log out (unless_refused (fetch_refusal (load s).mark x) (reply (result_bytes (result_of_record true x))))
       → a ≡ settle s log out (on_fetch today (load s) client call)
   unfolding on_fetch on_fetched timed_by

@@ -14,6 +14,7 @@ use lib.ListN.{length}
 use denote.Enum.Declared.{tag_of}
 use types.Run.{OneOf, miss}
 use lib.Dec.{leb}
+use Rattle.std.specs.Prelude.{Option, None, Some}
 use Rattle.model.specs.declared.Answer.{Answer}
 use Rattle.model.specs.declared.PlanEntry.{PlanEntry}
 use Rattle.model.specs.declared.Point.{Point}
@@ -43,8 +44,6 @@ use Rattle.model_laws.proofs.Commands.{CommandParts, command-parts}
 use Rattle.format_commands.specs.Results.{checked_rule}
 use Rattle.model_invariants.specs.Sound.{GoodRequest}
 use Rattle.model_laws.proofs.Refused.{unless_passed, unless_refused_lem}
-use Rattle.state_records.specs.declared.Found.{Found}
-use Rattle.state_records.specs.declared.Found.TheVariants.{Nothing, At}
 use Rattle.state_records.specs.Rules.{found_of}
 use Rattle.state_records.proofs.Search.{found_none, found_at}
 use Rattle.server_memory.proofs.Settled.{replied, appended}
@@ -100,12 +99,12 @@ module _ (d : Decided) {e : Decided} {n m : ℕ} (p : n ≡ m) (q : e ≡ unless
   pub passed_by : n ≡ no_refusal → {r : Decided} → r ≡ d → r ≡ e
   passed_by h k = k ∙ sym (q ∙ unless_passed m d (sym p ∙ h))
 
-module _ (st : State) (free : ℕ) (q : Request) {f : Found} (p : f ≡ found_of (find q.command.client q.command.call st.records)) where
-  pub on_none : f ≡ Nothing → {d : Decided} → d ≡ on_new today st free q → d ≡ on_id today st free q (find q.command.client q.command.call st.records)
+module _ (st : State) (free : ℕ) (q : Request) {f : Option Completion} (p : f ≡ found_of (find q.command.client q.command.call st.records)) where
+  pub on_none : f ≡ None → {d : Decided} → d ≡ on_new today st free q → d ≡ on_id today st free q (find q.command.client q.command.call st.records)
   unfolding on_id
   on_none h k = k ∙ rw (found_none (find q.command.client q.command.call st.records) (sym h ∙ p))
 
-  pub on_at : (x : Completion) → f ≡ At x → {d : Decided} → d ≡ on_held today st q x → d ≡ on_id today st free q (find q.command.client q.command.call st.records)
+  pub on_at : (x : Completion) → f ≡ Some x → {d : Decided} → d ≡ on_held today st q x → d ≡ on_id today st free q (find q.command.client q.command.call st.records)
   unfolding on_id
   on_at x h k = k ∙ rw (found_at (find q.command.client q.command.call st.records) x (sym h ∙ p))
 

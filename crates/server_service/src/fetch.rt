@@ -9,7 +9,6 @@ ghost use Rattle.state_rows.specs.Canonical.{Canonical};
 ghost use Rattle.server_memory.specs.Memory.{SettledBeside};
 
 use model::{Answer, constants};
-use state_records::Found;
 use state_rows::state;
 
 // Once the tests of lent memory are passed: 17 none held; 7 not synced; else the result packet.
@@ -20,8 +19,8 @@ fn fetched(s: &[u8], client: u32, call: u32, out: &mut [u8]) -> Answer
 {
     let found = state_records::find(s, client, call);
     match found {
-        Found::Nothing => server_decide::refused(constants::UNKNOWN),
-        Found::At(r) => {
+        None => server_decide::refused(constants::UNKNOWN),
+        Some(r) => {
             let mark = state::mark_of(s);
             let refusal = server_decide::fetch_refusal(mark, r);
             if refusal != 0 {

@@ -19,7 +19,6 @@ ghost use Rattle.server_service.specs.Decisions.{decided, refusal_for, requested
 use model::{
     Answer, CommandResult, Completion, Executed, Packet, Reading, RefusalPacket, Request, constants,
 };
-use state_records::Found;
 use state_rows::state;
 
 // What is decided on a request.
@@ -107,8 +106,8 @@ fn request_decision(s: &[u8], free: usize, q: Request) -> Decision
     }
     let found = state_records::find(s, q.command.client, q.command.call);
     match found {
-        Found::Nothing => new_decision(s, floor, free, q),
-        Found::At(r) => held_decision(s, q, r),
+        None => new_decision(s, floor, free, q),
+        Some(r) => held_decision(s, q, r),
     }
 }
 

@@ -4,26 +4,27 @@
 --     all_records, counted, few                      the records, by their count
 --     find_eight                                     the loop over groups of eight
 --     find_hit, find_none                            what the loop over the others finds
---     found_none, found_at                           what the answer says
+--     found_none, found_at, missing                  what the answer says
 -- Assumes nothing.
 use Prim.Native.Nat.{ℕ, suc, ◌+◌, ◌*◌, ◌≤◌, ◌<◌}
 use mathlib.Core.Path.{◌≡◌, refl, sym, ap, ◌∙◌, subst}
 use mathlib.Core.Bool.{Bool, true, false, ◌&&◌, ◌||◌, not}
 use mathlib.Core.List.{List, [], ◌∷◌}
-use mathlib.Core.Option.{Option, none, some}
+use mathlib.Core.Option.{Option as Maybe, none, some}
 use native.Mathlib.Omega.{arith}
 use native.Mathlib.Nat.{add-zero, add_assoc}
 use lib.ListN.{length, drop, get_or}
 use lib.Seq.{drop-drop}
 use lib.Dec.{eqb}
 use borrow.Author.Tests.{eqb-true, eqb-false, eq-eqb, ne_eqb, not-false}
+use Rattle.std.specs.Prelude.{Option, None, Some, is_some}
 use Rattle.model.specs.declared.Completion.{Completion}
 use Rattle.model.specs.Choice.{pick}
 use Rattle.model.specs.Numbers.{word, le32_at, le64_at}
 use Rattle.model.specs.Limits.{record_count}
 use Rattle.model.specs.Tables.{rows, every, index_of}
 use Rattle.model.specs.States.{load, completion_of, is_id, records_in, record_row, records_start}
-use Rattle.model.specs.Decisions.{find}
+use Rattle.model.specs.Decisions.{find, is_none as none_found}
 use Rattle.model_laws.specs.Bytes.{Bytes}
 use Rattle.model_laws.specs.Sought.{Sought}
 use Rattle.model_laws.proofs.Tests.{and_left, and_right}
@@ -32,7 +33,6 @@ use Rattle.model_laws.proofs.Tables.{length-rows, get_d_rows}
 use Rattle.model_laws.proofs.Searches.{row_hit, row_none, row_run}
 use Rattle.state_rows.specs.Canonical.{Canonical}
 use Rattle.state_rows.proofs.Access.{records-count}
-use Rattle.state_records.specs.declared.Found.TheVariants.{Nothing, At}
 use Rattle.state_records.specs.Rules.{found_of}
 
 -- two numbers of 32 bits as one of 64
@@ -113,14 +113,14 @@ module _ (x c : ℕ) (s : List ℕ) (n : ℕ) {i : ℕ} (o : Sought (is_id x c) 
 
   pub find_hit : {r : Completion} → (load s).records ≡ rs → i < n → is_id x c (completion_of (drop (records_start + record_row * i) s)) ≡ true
       → r ≡ completion_of (drop (records_start + record_row * i) s)
-      → At r ≡ found_of (find x c (load s).records)
+      → Some r ≡ found_of (find x c (load s).records)
   unfolding found_of
   find_hit {r} a h q e =
       let k : i ≡ index_of (is_id x c) rs = row_hit completion_of record_row records_start n s o h q in
       let row : get_or rs i (completion_of []) ≡ r = rw (get_d_rows completion_of record_row n (drop records_start s) i (completion_of []) h, drop-drop) (sym e) in
       rw (a, find_in x c rs (completion_of []) (omega (arith, size)), ← k, row)
 
-  pub find_none : (load s).records ≡ rs → n ≤ i → Nothing ≡ found_of (find x c (load s).records)
+  pub find_none : (load s).records ≡ rs → n ≤ i → None ≡ found_of (find x c (load s).records)
   unfolding found_of
   find_none a h = let k : n ≡ index_of (is_id x c) rs = row_none completion_of record_row records_start n s o h in rw (a, find-out x c rs (omega (arith, size)))
 
@@ -137,12 +137,19 @@ module _ (x c : ℕ) (s : List ℕ) (n : ℕ) {i : ℕ} (o : Sought (is_id x c) 
 
 -- ---- a search's answer
 
-pub found_none : (o : Option Completion) → Nothing ≡ found_of o → o ≡ none
+pub found_none : (o : Maybe Completion) → None ≡ found_of o → o ≡ none
 unfolding found_of
 found_none none e = refl
-found_none (some r) e = let z : ◌≡◌ {A = ℕ} 0 1 = cc in absurd (omega arith)
+found_none (some r) e = cc
 
-pub found_at : (o : Option Completion) (x : Completion) → At x ≡ found_of o → o ≡ some x
+pub found_at : (o : Maybe Completion) (x : Completion) → Some x ≡ found_of o → o ≡ some x
 unfolding found_of
-found_at none x e = let z : ◌≡◌ {A = ℕ} 0 1 = cc in absurd (omega arith)
+found_at none x e = cc
 found_at (some r) x e = let m : r ≡ x = cc in ap some m
+
+pub missing : (o : Maybe Completion) (b : Bool) {f : Option Completion} → f ≡ found_of o → is_some f ≡ not b → b ≡ none_found o
+unfolding found_of none_found
+missing none true e h = refl
+missing none false e h = cc
+missing (some r) true e h = cc
+missing (some r) false e h = refl

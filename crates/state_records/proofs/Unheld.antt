@@ -5,9 +5,10 @@ use Prim.Native.Nat.{ℕ}
 use mathlib.Core.Path.{◌≡◌, refl, sym, ap, ◌∙◌}
 use mathlib.Core.Bool.{Bool, true, false, ◌&&◌, ◌||◌, not}
 use mathlib.Core.List.{List, [], ◌∷◌}
-use mathlib.Core.Option.{Option, none, some}
+use mathlib.Core.Option.{Option as Maybe, none, some}
 use lib.Dec.{eqb}
 use borrow.Author.Tests.{eqb-true}
+use Rattle.std.specs.Prelude.{Option, None, Some}
 use Rattle.model.specs.declared.Completion.{Completion}
 use Rattle.model.specs.declared.ImageEntry.{ImageEntry}
 use Rattle.model.specs.Choice.{pick}
@@ -17,13 +18,11 @@ use Rattle.model.specs.Decisions.{find, free_for}
 use Rattle.model_laws.specs.Bytes.{All}
 use Rattle.model_laws.proofs.Tests.{and_left, and_right}
 use Rattle.model_invariants.specs.Sound.{Other, Distinct}
-use Rattle.state_records.specs.declared.Found.{Found}
-use Rattle.state_records.specs.declared.Found.TheVariants.{Nothing, At}
 use Rattle.state_records.specs.Rules.{found_of}
 use Rattle.state_records.proofs.Search.{found_none, found_at}
 
 -- what a search says of the point p
-unfoldable free_by : ℕ → Option Completion → Bool
+unfoldable free_by : ℕ → Maybe Completion → Bool
 free_by p none = true
 free_by p (some r) = eqb r.command.point p
 
@@ -64,11 +63,11 @@ module _ (p : ℕ) (e : ImageEntry) where
       go true k ih = rw (others_free r rs k d.0) (and-true (eqb r.command.point p))
       go false k ih = ih
 
-  module _ (rs : List Completion) (d : Distinct rs) {f : Found} (q : f ≡ found_of (find e.client e.call rs)) where
-    pub free-nothing : f ≡ Nothing → true ≡ free_for p rs e
+  module _ (rs : List Completion) (d : Distinct rs) {f : Option Completion} (q : f ≡ found_of (find e.client e.call rs)) where
+    pub free-nothing : f ≡ None → true ≡ free_for p rs e
     unfolding free_for free_by
     free-nothing n = sym (free_by_lem rs d ∙ ap (free_by p) (found_none (find e.client e.call rs) (sym n ∙ q)))
 
-    pub free-at : {r : Completion} → f ≡ At r → eqb r.command.point p ≡ free_for p rs e
+    pub free-at : {r : Completion} → f ≡ Some r → eqb r.command.point p ≡ free_for p rs e
     unfolding free_for free_by
     free-at {r} n = sym (free_by_lem rs d ∙ ap (free_by p) (found_at (find e.client e.call rs) r (sym n ∙ q)))

@@ -1,7 +1,7 @@
 -- What a search of the completion records answers, and which of them a rule lets stay.
 -- Assumes nothing.
-use Rattle.std.specs.Prelude.{ℕ, ◌+◌, ◌*◌, ◌≤◌, ◌≡◌, Bool, ◌&&◌, not, List, map, length}
-use Rattle.std.proofs.Math.Option.{Option, none, some}
+use Rattle.std.specs.Prelude.{ℕ, ◌+◌, ◌*◌, ◌≤◌, ◌≡◌, Bool, ◌&&◌, not, List, map, length, Option, None, Some}
+use Rattle.std.proofs.Math.Option.{Option as Maybe, none, some}
 use Rattle.model.specs.declared.Floor.{Floor}
 use Rattle.model.specs.declared.ImageHead.{ImageHead}
 use Rattle.model.specs.declared.Completion.{Completion}
@@ -10,14 +10,13 @@ use Rattle.model.specs.Tables.{bytes_of, keep, index_of, written}
 use Rattle.model.specs.Images.{image_at}
 use Rattle.model.specs.States.{State, load, records_start, record_row, completion_bytes}
 use Rattle.model.specs.Apply.{stays_over, stays_over_floors, is_of_other, is_on_other, taken_record}
-use Rattle.state_records.specs.declared.Found.{Found}
-use Rattle.state_records.specs.declared.Found.TheVariants.{Nothing, At}
 use Rattle.state_records.specs.declared.Rule.{Rule}
 use Rattle.state_records.specs.declared.Rule.TheVariants.{OverFloor, OfOther, OnOther, Beside}
 
-unfoldable pub found_of : Option Completion → Found
-found_of none = Nothing
-found_of (some r) = At r
+-- the model's answer as the code's
+unfoldable pub found_of : Maybe Completion → Option Completion
+found_of none = None
+found_of (some r) = Some r
 
 -- a record stays, by a rule and the floors of the state
 unfoldable pub stays_by : Rule → List Floor → Completion → Bool

@@ -9,7 +9,6 @@ ghost use Rattle.model_invariants.specs.Sound.{Distinct};
 ghost use Rattle.state_rows.specs.Canonical.{Canonical};
 ghost use Rattle.model.specs.Decisions.{find, is_none};
 
-use crate::Found;
 use model::{ImageEntry, ImageHead};
 
 // No completion record has the id.
@@ -17,11 +16,7 @@ pub fn is_missing(s: &[u8], client: u32, call: u32) -> bool
     requires { Canonical s.now }
     ensures { result ≡ is_none (find client call (load s.now).records) }
 {
-    let found = crate::find(s, client, call);
-    match found {
-        Found::Nothing => true,
-        Found::At(r) => false,
-    }
+    crate::find(s, client, call).is_none()
 }
 
 // An id is held for no other point.
@@ -31,8 +26,8 @@ fn is_free(s: &[u8], point: u8, entry: ImageEntry) -> bool
 {
     let found = crate::find(s, entry.client, entry.call);
     match found {
-        Found::Nothing => true,
-        Found::At(r) => r.command.point == point,
+        None => true,
+        Some(r) => r.command.point == point,
     }
 }
 

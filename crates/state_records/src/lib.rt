@@ -23,13 +23,6 @@ use model::constants::{FLOORS_START, RECORD_ROW, RECORDS_START, WORD};
 use model::{Command, Completion, ImageEntry, ImageHead};
 use state_rows::state;
 
-// What a search finds.
-#[derive(Clone, Copy)]
-pub enum Found {
-    Nothing,
-    At(Completion),
-}
-
 // Which records stay.
 #[derive(Clone, Copy)]
 pub enum Rule {
@@ -87,19 +80,18 @@ fn pass(s: &[u8], n: usize, client: u32, call: u32) -> usize
 }
 
 // The completion record of an id.
-pub fn find(s: &[u8], client: u32, call: u32) -> Found
+pub fn find(s: &[u8], client: u32, call: u32) -> Option<Completion>
     requires { Canonical s.now }
     ensures { result ≡ found_of (find client call (load s.now).records) }
 {
     let n = state::records_of(s);
-    let mut i = pass(s, n, client, call);
-    while i < n {
+    let first = pass(s, n, client, call);
+    for i in first..n {
         if is_id(s, RECORDS_START + RECORD_ROW * i, client, call) {
-            return Found::At(state_rows::completion_from(s, RECORDS_START + RECORD_ROW * i));
+            return Some(state_rows::completion_from(s, RECORDS_START + RECORD_ROW * i));
         }
-        i += 1;
     }
-    Found::Nothing
+    None
 }
 
 // ---- what stays

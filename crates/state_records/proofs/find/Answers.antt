@@ -6,7 +6,7 @@ use Rattle.state_records.proofs.Search.{counted, few, find_hit, find_none}
 use Rattle.state_records.proofs.find.Goals as goal
 
 pub loop-i-init : goal.loop-i-init
-loop-i-init c = (few c.requires c.records_of-n.ensures, c.pass-i.ensures)
+loop-i-init c = (few c.requires c.records_of-n.ensures, c.pass-first.ensures)
 
 pub returns-then-is_id : goal.returns-then-is_id
 returns-then-is_id c =

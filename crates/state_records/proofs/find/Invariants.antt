@@ -1,5 +1,5 @@
 -- The invariants of `state_records::find`.
-use Prim.Native.Nat.{◌-◌, ◌≤◌}
+use Prim.Native.Nat.{◌≤◌}
 use lib.ListN.{drop}
 use Rattle.model.specs.Limits.{record_count}
 use Rattle.model.specs.Tables.{rows}
@@ -9,6 +9,3 @@ use Rattle.state_records.proofs.find.Given as goal
 
 abbrev pub invariant-loop-i : goal.invariant-loop-i
 invariant-loop-i l = (l.n ≤ record_count) × Sought (is_id l.client l.call) (rows completion_of record_row l.n (drop records_start l.s)) l.i
-
-abbrev pub decreases-loop-i : goal.decreases-loop-i
-decreases-loop-i l = l.n - l.i

@@ -13,16 +13,16 @@ returns-then-refusal-ne0 c =
     refused_by _ (c.request_refusal-refusal.ensures ∙ rw (c.point_at-x.ensures, c.heard_of-heard.ensures, c.floor_in-floor.ensures))
     (request-decided (load start.s.now) start.q start.free) c.if-refusal-ne0.true refl
 
-pub returns-in-Nothing : goal.returns-in-Nothing
-returns-in-Nothing c =
+pub returns-in-None : goal.returns-in-None
+returns-in-None c =
     let start = c.args in
     passed_by _ (c.request_refusal-refusal.ensures ∙ rw (c.point_at-x.ensures, c.heard_of-heard.ensures, c.floor_in-floor.ensures))
     (request-decided (load start.s.now) start.q start.free) c.if-refusal-ne0.false
-    (on_none (load start.s.now) start.free start.q c.find-found.ensures c.in-Nothing.is c.new_decision.ensures)
+    (on_none (load start.s.now) start.free start.q c.find-found.ensures c.in-None.is c.new_decision.ensures)
 
-pub returns-in-At : goal.returns-in-At
-returns-in-At c =
+pub returns-in-Some : goal.returns-in-Some
+returns-in-Some c =
     let start = c.args in
     passed_by _ (c.request_refusal-refusal.ensures ∙ rw (c.point_at-x.ensures, c.heard_of-heard.ensures, c.floor_in-floor.ensures))
     (request-decided (load start.s.now) start.q start.free) c.if-refusal-ne0.false
-    (on_at (load start.s.now) start.free start.q c.find-found.ensures _ c.in-At.is c.held_decision.ensures)
+    (on_at (load start.s.now) start.free start.q c.find-found.ensures _ c.in-Some.is c.held_decision.ensures)

@@ -1,13 +1,8 @@
 -- What is left to show of `state_records::ids::is_missing`.
-use mathlib.Core.Path.{sym, ◌∙◌}
-use Rattle.model.specs.Decisions.{is_none}
-use Rattle.state_records.proofs.Search.{found_none, found_at}
+use Rattle.model.specs.Decisions.{find}
+use Rattle.model.specs.States.{load}
+use Rattle.state_records.proofs.Search.{missing}
 use Rattle.state_records.proofs.ids.is_missing.Goals as goal
 
-pub returns-in-Nothing : goal.returns-in-Nothing
-unfolding is_none
-returns-in-Nothing c = rw (found_none _ (sym c.in-Nothing.is ∙ c.find-found.ensures))
-
-pub returns-in-At : goal.returns-in-At
-unfolding is_none
-returns-in-At c = rw (found_at _ _ (sym c.in-At.is ∙ c.find-found.ensures))
+pub returns : goal.returns
+returns c = let a = c.args in missing (find a.client a.call (load a.s.now).records) _ c.find.ensures c.is_none.ensures
