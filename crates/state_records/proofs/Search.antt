@@ -1,7 +1,7 @@
 -- The search for an id among the completion records.
 --     id-there                                       the id of a row, by its eight bytes
 --     four_past                                      none of four rows has the id
---     all_records, counted, few                      the records, by their count
+--     all_records, counted                           the records, by their count
 --     find_eight                                     the loop over groups of eight
 --     find_hit, find_none                            what the loop over the others finds
 --     found_none, found_at, missing                  what the answer says
@@ -21,7 +21,6 @@ use Rattle.std.specs.Prelude.{Option, None, Some, is_some}
 use Rattle.model.specs.declared.Completion.{Completion}
 use Rattle.model.specs.Choice.{pick}
 use Rattle.model.specs.Numbers.{word, le32_at, le64_at}
-use Rattle.model.specs.Limits.{record_count}
 use Rattle.model.specs.Tables.{rows, every, index_of}
 use Rattle.model.specs.States.{load, completion_of, is_id, records_in, record_row, records_start}
 use Rattle.model.specs.Decisions.{find, is_none as none_found}
@@ -74,13 +73,10 @@ pub all_records : (s : List ℕ) (n : ℕ) → n ≡ records_in s → (load s).r
 unfolding load
 all_records s n e = rw e
 
--- the records as rows, by their count; and how many they are
+-- the records as rows, by their count
 module _ {s : List ℕ} {n : ℕ} (w : Canonical s) (e : n ≡ length (load s).records) where
   pub counted : (load s).records ≡ rows completion_of record_row n (drop records_start s)
   counted = all_records s n (e ∙ records-count s)
-
-  pub few : n ≤ record_count
-  few = omega (arith, w.few_records, records-count s)
 
 -- the first that has the id is the one that is found
 module _ (x c : ℕ) where
@@ -125,10 +121,10 @@ module _ (x c : ℕ) (s : List ℕ) (n : ℕ) {i : ℕ} (o : Sought (is_id x c) 
   find_none a h = let k : n ≡ index_of (is_id x c) rs = row_none completion_of record_row records_start n s o h in rw (a, find-out x c rs (omega (arith, size)))
 
   -- none of eight has it
-  pub find_eight : i + 8 ≤ n → {a b : Bool} → a ≡ every (λ r. not (is_id x c r)) (rows completion_of record_row 4 (drop (records_start + record_row * i) s))
+  pub find_eight : i + 8 ≤ n → {j : ℕ} → j ≡ i + 8 → {a b : Bool} → a ≡ every (λ r. not (is_id x c r)) (rows completion_of record_row 4 (drop (records_start + record_row * i) s))
       → b ≡ every (λ r. not (is_id x c r)) (rows completion_of record_row 4 (drop (records_start + record_row * i + 4 * record_row) s))
-      → not (a && b) ≡ false → Sought (is_id x c) rs (i + 8)
-  find_eight h {a} {b} p q t =
+      → not (a && b) ≡ false → Sought (is_id x c) rs j
+  find_eight h e {a} {b} p q t =
       let both : (a && b) ≡ true = not-false (a && b) t in
       let at : records_start + record_row * i + 4 * record_row ≡ records_start + record_row * (i + 4) = omega arith in
       let one : Sought (is_id x c) rs (i + 4) = row_run completion_of record_row records_start n s o 4 (omega arith) (sym p ∙ and_left a b both) in

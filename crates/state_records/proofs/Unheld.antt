@@ -1,14 +1,14 @@
 -- An id held for no other point, by a search: in a table where no id stands twice, the record that is found decides.
---     free-nothing, free-at
+--     free_found
 -- Assumes nothing.
 use Prim.Native.Nat.{ℕ}
-use mathlib.Core.Path.{◌≡◌, refl, sym, ap, ◌∙◌}
+use mathlib.Core.Path.{◌≡◌, refl, sym, subst, ◌∙◌}
 use mathlib.Core.Bool.{Bool, true, false, ◌&&◌, ◌||◌, not}
 use mathlib.Core.List.{List, [], ◌∷◌}
 use mathlib.Core.Option.{Option as Maybe, none, some}
 use lib.Dec.{eqb}
 use borrow.Author.Tests.{eqb-true}
-use Rattle.std.specs.Prelude.{Option, None, Some}
+use Rattle.std.specs.Prelude.{Option, MatchOption, IsTrue}
 use Rattle.model.specs.declared.Completion.{Completion}
 use Rattle.model.specs.declared.ImageEntry.{ImageEntry}
 use Rattle.model.specs.Choice.{pick}
@@ -19,7 +19,6 @@ use Rattle.model_laws.specs.Bytes.{All}
 use Rattle.model_laws.proofs.Tests.{and_left, and_right}
 use Rattle.model_invariants.specs.Sound.{Other, Distinct}
 use Rattle.state_records.specs.Rules.{found_of}
-use Rattle.state_records.proofs.Search.{found_none, found_at}
 
 -- what a search says of the point p
 unfoldable free_by : ℕ → Maybe Completion → Bool
@@ -63,11 +62,14 @@ module _ (p : ℕ) (e : ImageEntry) where
       go true k ih = rw (others_free r rs k d.0) (and-true (eqb r.command.point p))
       go false k ih = ih
 
-  module _ (rs : List Completion) (d : Distinct rs) {f : Option Completion} (q : f ≡ found_of (find e.client e.call rs)) where
-    pub free-nothing : f ≡ None → true ≡ free_for p rs e
-    unfolding free_for free_by
-    free-nothing n = sym (free_by_lem rs d ∙ ap (free_by p) (found_none (find e.client e.call rs) (sym n ∙ q)))
+  -- by what a test P says of the record that is found
+  free_at : (o : Maybe Completion) {f : Option Completion} {b : Bool} (P : Completion → Type 0) → f ≡ found_of o
+      → ((r : Completion) → P r → b ≡ eqb r.command.point p) → MatchOption f (IsTrue b) P → b ≡ free_by p o
+  unfolding found_of free_by
+  free_at none {b = b} P q w m = let at : Option Completion → Type 0 = λ o. MatchOption o (IsTrue b) P in subst at q m
+  free_at (some r) {b = b} P q w m = let at : Option Completion → Type 0 = λ o. MatchOption o (IsTrue b) P in w r (subst at q m)
 
-    pub free-at : {r : Completion} → f ≡ Some r → eqb r.command.point p ≡ free_for p rs e
-    unfolding free_for free_by
-    free-at {r} n = sym (free_by_lem rs d ∙ ap (free_by p) (found_at (find e.client e.call rs) r (sym n ∙ q)))
+  pub free_found : (rs : List Completion) → Distinct rs → {f : Option Completion} {b : Bool} (P : Completion → Type 0) → f ≡ found_of (find e.client e.call rs)
+      → ((r : Completion) → P r → b ≡ eqb r.command.point p) → MatchOption f (IsTrue b) P → b ≡ free_for p rs e
+  unfolding free_for
+  free_found rs d P q w m = free_at (find e.client e.call rs) P q w m ∙ sym (free_by_lem rs d)

@@ -24,11 +24,7 @@ fn is_free(s: &[u8], point: u8, entry: ImageEntry) -> bool
     requires { Canonical s.now × Distinct (load s.now).records }
     ensures { result ≡ free_for point (load s.now).records entry }
 {
-    let found = crate::find(s, entry.client, entry.call);
-    match found {
-        None => true,
-        Some(r) => r.command.point == point,
-    }
+    crate::find(s, entry.client, entry.call).is_none_or(|r| r.command.point == point)
 }
 
 // Each id of an image with the head h.
@@ -40,14 +36,12 @@ pub fn ids_free(s: &[u8], image: &[u8], h: ImageHead) -> bool
     let entries = h.entries as usize;
     let width = format_image_rows::entry_width(h);
     let at = format_image_rows::entries_start(h.floors);
-    let mut i = 0;
-    while i < entries {
+    for i in 0..entries {
         let k = format_image_rows::entry_at(at, width, i);
         let entry = format_image_rows::entry_from(image, k, h.timed);
         if !is_free(s, h.point, entry) {
             return false;
         }
-        i += 1;
     }
     true
 }

@@ -23,7 +23,8 @@ use model::constants::{FLOORS_START, RECORD_ROW, RECORDS_START, WORD};
 use model::{Command, Completion, ImageEntry, ImageHead};
 use state_rows::state;
 
-// Which records stay.
+// Which records stay. An enum and no closure: no plainer, since `Beside` reads the floors of the state whose rows move,
+// so that a closure would be lent the state at each row, and each rule would have passes of its own.
 #[derive(Clone, Copy)]
 pub enum Rule {
     // of a client only calls from a floor on
@@ -66,17 +67,16 @@ fn pass(s: &[u8], n: usize, client: u32, call: u32) -> usize
     ensures { Sought (is_id client call) (rows completion_of record_row n
         (drop records_start s.now)) result }
 {
-    let mut i = 0;
-    while i + 8 <= n {
+    for group in 0..n / 8 {
+        let i = 8 * group;
         let k = RECORDS_START + RECORD_ROW * i;
         let first = is_past(s, k, client, call);
         let second = is_past(s, k + 4 * RECORD_ROW, client, call);
         if !(first & second) {
             return i;
         }
-        i += 8;
     }
-    i
+    n / 8 * 8
 }
 
 // The completion record of an id.
@@ -138,13 +138,11 @@ fn front(s: &[u8], rule: Rule, n: usize) -> usize
     requires { Canonical s.now × (n ≡ length (load s.now).records) }
     ensures { result ≡ front (stays_by rule (load s.now).floors) (load s.now).records }
 {
-    let mut i = 0;
-    while i < n {
+    for i in 0..n {
         let r = state_rows::completion_from(s, RECORDS_START + RECORD_ROW * i);
         if !stays(s, rule, r) {
             return i;
         }
-        i += 1;
     }
     n
 }
@@ -155,13 +153,11 @@ fn compact(s: &mut [u8], rule: Rule, n: usize) -> usize
     ensures { CompactedBy rule n s.old s.new result }
 {
     let first = front(s, rule, n);
-    let mut i = first;
     let mut j = first;
-    while i < n {
+    for i in first..n {
         let r = state_rows::completion_from(s, RECORDS_START + RECORD_ROW * i);
         let stay = stays(s, rule, r);
         j = put_kept(s, stay, j, r);
-        i += 1;
     }
     j
 }
@@ -231,15 +227,13 @@ fn put_entries(s: &mut [u8], n: usize, image: &[u8], h: ImageHead, end: u64) -> 
     let entries = h.entries as usize;
     let width = format_image_rows::entry_width(h);
     let at = format_image_rows::entries_start(h.floors);
-    let mut i = 0;
     let mut j = n;
-    while i < entries {
+    for i in 0..entries {
         let k = format_image_rows::entry_at(at, width, i);
         let entry = format_image_rows::entry_from(image, k, h.timed);
         let r = taken_record(h.point, end, entry);
         let stay = over_floors(s, r);
         j = put_kept(s, stay, j, r);
-        i += 1;
     }
     j
 }

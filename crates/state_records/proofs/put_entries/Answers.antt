@@ -16,9 +16,6 @@ pub loop-i-init : goal.loop-i-init
 loop-i-init c =
     rw (c.entry_width-width.ensures, c.entries_start-at.ensures) (adding_start c.args.h c.args.end c.requires.0 c.requires.2)
 
-pub entry_at-k-requires : goal.entry_at-k-requires
-entry_at-k-requires c = omega (arith, row-there (goal.at.entry_at-k-requires c).In-loop-i)
-
 pub entry_from-entry-requires : goal.entry_from-entry-requires
 entry_from-entry-requires c = omega (arith, c.entry_at-k.ensures, row-there (goal.at.entry_from-entry-requires c).In-loop-i)
 

@@ -19,9 +19,6 @@ row-there c = entry_inside c.args.h c.requires.2 c.entry_width-width.ensures c.e
 pub loop-i-init : goal.loop-i-init
 loop-i-init c = every_open (image_entry_of _) _ _ (free_for _ _) _ _
 
-pub entry_at-k-requires : goal.entry_at-k-requires
-entry_at-k-requires c = omega (arith, row-there (goal.at.entry_at-k-requires c).In-loop-i)
-
 pub entry_from-entry-requires : goal.entry_from-entry-requires
 entry_from-entry-requires c = omega (arith, c.entry_at-k.ensures, row-there (goal.at.entry_from-entry-requires c).In-loop-i)
 

@@ -1,5 +1,4 @@
 -- The invariants of `state_records::ids::ids_free`.
-use Prim.Native.Nat.{◌-◌}
 use lib.ListN.{drop}
 use Rattle.model.specs.Tables.{rows, every}
 use Rattle.model.specs.Images.{image_entry_of}
@@ -12,6 +11,3 @@ abbrev pub invariant-loop-i : goal.invariant-loop-i
 invariant-loop-i l =
     Open (row_test (image_entry_of l.h.timed) (free_for l.h.point (load l.s).records)) l.width l.at
     (every (free_for l.h.point (load l.s).records) (rows (image_entry_of l.h.timed) l.width l.entries (drop l.at l.image))) l.image l.entries l.i
-
-abbrev pub decreases-loop-i : goal.decreases-loop-i
-decreases-loop-i l = l.entries - l.i

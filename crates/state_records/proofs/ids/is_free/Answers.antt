@@ -1,11 +1,8 @@
 -- What is left to show of `state_records::ids::is_free`.
-use Rattle.state_records.proofs.Unheld.{free-nothing, free-at}
+use Rattle.std.proofs.Common.{rules}
+use Rattle.state_records.proofs.Unheld.{free_found}
 use Rattle.state_records.proofs.ids.is_free.Goals as goal
 
-pub returns-in-None : goal.returns-in-None
-returns-in-None c =
-    free-nothing c.args.point c.args.entry _ c.requires.1 c.find-found.ensures c.in-None.is
-
-pub returns-in-Some : goal.returns-in-Some
-returns-in-Some c =
-    free-at c.args.point c.args.entry _ c.requires.1 c.find-found.ensures c.in-Some.is
+pub returns : goal.returns
+returns c =
+    free_found c.args.point c.args.entry _ c.requires.1 _ c.find.ensures (λ r h. search rules) c.is_none_or.ensures
