@@ -1,15 +1,16 @@
 -- Refusals by their numbers.
 --     number-least, number-most, number-some     a refusal's number is of 1 to 21, and not 0
---     by_err, by_ok     the number that a call promises, where its outcome is known
+--     exit                                       what the exit of a `?` returns
 -- Assumes nothing.
-use Prim.Native.Nat.{ℕ, ◌≤◌}
-use mathlib.Core.Path.{◌≡◌, sym, ap, ◌∙◌}
+use Prim.Native.Nat.{◌≤◌}
+use mathlib.Core.Path.{◌≡◌, ap}
 use native.Mathlib.Omega.{arith}
 use Rattle.std.specs.Prelude.{Result, Ok, Err}
+use Rattle.std.specs.Result.{IsErrAnd}
 use Rattle.model.specs.Refusals.{no_refusal, already_waiting}
 use Rattle.refusals.specs.declared.Refusal.{Refusal}
 use Rattle.refusals.specs.declared.Refusal.TheVariants.{Malformed, TooShort, NotHeld, LeaseOver, UnderFloor, OtherCommand, NotSynced, ClientsFull, LogFull, BadMark, WrongDestination, OldMove, AlreadyHeld, BadLog, WindowFull, NumbersOut, Unknown, LeasesFull, Unsound, NotSafe, AlreadyWaiting}
-use Rattle.refusals.specs.Numbers.{number_of, refusal_of}
+use Rattle.refusals.specs.Numbers.{number_of}
 
 pub number-least : (e : Refusal) → 1 ≤ number_of e
 number-least Malformed = omega arith
@@ -60,11 +61,7 @@ number-most AlreadyWaiting = omega arith
 pub number-some : (e : Refusal) → number_of e ≡ no_refusal → ⊥
 number-some e z = omega (arith, number-least e)
 
--- ---- the number m that a call promises of its outcome r
-
-module _ {A : Type 0} {r : Result A Refusal} {m : ℕ} (p : refusal_of r ≡ m) where
-  pub by_err : {e : Refusal} → r ≡ Err e → number_of e ≡ m
-  by_err w = sym (ap refusal_of w) ∙ p
-
-  pub by_ok : {x : A} → r ≡ Ok x → m ≡ no_refusal
-  by_ok w = sym p ∙ ap refusal_of w
+-- the exit of a `?`: what it returns
+pub exit : {A E : Type 0} (r : Result A E) {y : E} → IsErrAnd r (λ x. x ≡ y) → r ≡ Err y
+exit (Ok x) h = absurd h
+exit (Err x) h = ap Err h

@@ -1,4 +1,4 @@
-// The tests of each call of a server, on values: the refusal's number, 0 if it is not refused; and the answer by it.
+// The tests of each call of a server, on values: the refusal, if it is refused; and the answer by its number.
 // They stand in the order of docs/REFERENCE.md; those of lent memory (2, 19) come before. Recovery asks the same
 // functions.
 #![tactic(auto)]
@@ -10,15 +10,15 @@ ghost use Rattle.model.specs.States.{is_held, is_given, is_synced};
 ghost use Rattle.model.specs.Decisions.{same_command, request_refusal, held_refusal, new_refusal, fetch_refusal, sync_refusal, notice_refusal, places_bad, give_refusal, image_refusal, receipt_refusal, release_refusal, take_refusal};
 ghost use Rattle.model.specs.Operations.{answer_of, found_refusal, recover_refusal};
 ghost use Rattle.model.specs.Checkpoints.{recover_tail_refusal};
+ghost use Rattle.refusals.specs.Numbers.{refusal_of};
 ghost use Rattle.server_decide.specs.Lists.{checkpoint_tests, inspect_tests};
 
 use model::constants::{
-    ALREADY_HELD, BAD_LOG, BAD_MARK, CLIENT_COUNT, CLIENTS_FULL, EXECUTED_SIZE, GIVE_SIZE, GIVEN,
-    GONE_SIZE, HEAD_SIZE, HELD, LAST_32, LAST_POINT, LAST_SERVER, LEASE_OVER, LOG_FULL, MALFORMED,
-    NO_REFUSAL, NOT_HELD, NOT_SYNCED, NUMBERS_OUT, OLD_MOVE, OTHER_COMMAND, RELEASE_SIZE,
-    STATE_SIZE, TOO_SHORT, UNDER_FLOOR, UNKNOWN, WRONG_DESTINATION,
+    CLIENT_COUNT, EXECUTED_SIZE, GIVE_SIZE, GIVEN, GONE_SIZE, HEAD_SIZE, HELD, LAST_32, LAST_POINT,
+    LAST_SERVER, NO_REFUSAL, RELEASE_SIZE, STATE_SIZE,
 };
 use model::{Answer, Completion, Point, Request};
+use refusals::Refusal;
 
 // ---- single tests
 
@@ -74,206 +74,206 @@ pub fn places_bad(point: u32, destination: u32) -> bool
 // ---- found and recover, by the lengths of the lent slices
 
 // 2 state, or log under 8 bytes; 1 bad plan or server number.
-pub fn found_refusal(states: usize, logs: usize, good: bool, server: u32) -> u32
-    ensures { result ≡ found_refusal states logs good server }
+pub fn found_refusal(states: usize, logs: usize, good: bool, server: u32) -> Result<(), Refusal>
+    ensures { refusal_of result ≡ found_refusal states logs good server }
 {
     if (states < STATE_SIZE) | (logs < HEAD_SIZE) {
-        return TOO_SHORT;
+        return Err(Refusal::TooShort);
     }
     if !good | ((LAST_SERVER as u32) < server) {
-        return MALFORMED;
+        return Err(Refusal::Malformed);
     }
-    NO_REFUSAL
+    Ok(())
 }
 
 // 2 state; 1 bad plan.
-pub fn recover_refusal(states: usize, good: bool) -> u32
-    ensures { result ≡ recover_refusal states good }
+pub fn recover_refusal(states: usize, good: bool) -> Result<(), Refusal>
+    ensures { refusal_of result ≡ recover_refusal states good }
 {
     if states < STATE_SIZE {
-        return TOO_SHORT;
+        return Err(Refusal::TooShort);
     }
     if !good {
-        return MALFORMED;
+        return Err(Refusal::Malformed);
     }
-    NO_REFUSAL
+    Ok(())
 }
 
 // From checkpoint and tail: 2 state.
-pub fn recover_checkpoint_refusal(states: usize) -> u32
-    ensures { result ≡ recover_tail_refusal states }
+pub fn recover_checkpoint_refusal(states: usize) -> Result<(), Refusal>
+    ensures { refusal_of result ≡ recover_tail_refusal states }
 {
     if states < STATE_SIZE {
-        return TOO_SHORT;
+        return Err(Refusal::TooShort);
     }
-    NO_REFUSAL
+    Ok(())
 }
 
 // ---- checkpoint and inspect
 
 // 7 records not synced.
-pub fn checkpoint_refusal(mark: u64, size: u64) -> u32
-    ensures { result ≡ checkpoint_tests mark size }
+pub fn checkpoint_refusal(mark: u64, size: u64) -> Result<(), Refusal>
+    ensures { refusal_of result ≡ checkpoint_tests mark size }
 {
     if mark < size {
-        return NOT_SYNCED;
+        return Err(Refusal::NotSynced);
     }
-    NO_REFUSAL
+    Ok(())
 }
 
 // 14 a bad checkpoint, or a tail that the first walk refuses; 17 the state lacks the id.
-pub fn inspect_refusal(bad: bool, off: bool, lacks: bool) -> u32
-    ensures { result ≡ inspect_tests bad off lacks }
+pub fn inspect_refusal(bad: bool, off: bool, lacks: bool) -> Result<(), Refusal>
+    ensures { refusal_of result ≡ inspect_tests bad off lacks }
 {
     if bad | off {
-        return BAD_LOG;
+        return Err(Refusal::BadLog);
     }
     if lacks {
-        return UNKNOWN;
+        return Err(Refusal::Unknown);
     }
-    NO_REFUSAL
+    Ok(())
 }
 
 // ---- requests
 
 // 3 point not held; 4 the lease is over; 5 call under the floor.
-pub fn request_refusal(x: Point, over: bool, floor: u32, call: u32) -> u32
-    ensures { result ≡ request_refusal x over floor call }
+pub fn request_refusal(x: Point, over: bool, floor: u32, call: u32) -> Result<(), Refusal>
+    ensures { refusal_of result ≡ request_refusal x over floor call }
 {
     if !is_held(x) {
-        return NOT_HELD;
+        return Err(Refusal::NotHeld);
     }
     if over {
-        return LEASE_OVER;
+        return Err(Refusal::LeaseOver);
     }
     if call < floor {
-        return UNDER_FLOOR;
+        return Err(Refusal::UnderFloor);
     }
-    NO_REFUSAL
+    Ok(())
 }
 
 // An id that is held: 6 with another op, point or argument; 7 not synced.
-pub fn held_refusal(mark: u64, q: Request, completion: Completion) -> u32
-    ensures { result ≡ held_refusal mark q completion }
+pub fn held_refusal(mark: u64, q: Request, completion: Completion) -> Result<(), Refusal>
+    ensures { refusal_of result ≡ held_refusal mark q completion }
 {
     if !same_command(completion, q) {
-        return OTHER_COMMAND;
+        return Err(Refusal::OtherCommand);
     }
     if !is_synced(mark, completion.end) {
-        return NOT_SYNCED;
+        return Err(Refusal::NotSynced);
     }
-    NO_REFUSAL
+    Ok(())
 }
 
 // One that is not held: 8 client not known and 32 known; 9 log lacks 32 bytes.
-pub fn new_refusal(floor: u32, clients: usize, free: usize) -> u32
-    ensures { result ≡ new_refusal floor clients free executed_size }
+pub fn new_refusal(floor: u32, clients: usize, free: usize) -> Result<(), Refusal>
+    ensures { refusal_of result ≡ new_refusal floor clients free executed_size }
 {
     if no_place(floor, clients) {
-        return CLIENTS_FULL;
+        return Err(Refusal::ClientsFull);
     }
     if free < EXECUTED_SIZE {
-        return LOG_FULL;
+        return Err(Refusal::LogFull);
     }
-    NO_REFUSAL
+    Ok(())
 }
 
 // ---- fetch, sync, notice
 
 // 7 not synced.
-pub fn fetch_refusal(mark: u64, completion: Completion) -> u32
-    ensures { result ≡ fetch_refusal mark completion }
+pub fn fetch_refusal(mark: u64, completion: Completion) -> Result<(), Refusal>
+    ensures { refusal_of result ≡ fetch_refusal mark completion }
 {
     if !is_synced(mark, completion.end) {
-        return NOT_SYNCED;
+        return Err(Refusal::NotSynced);
     }
-    NO_REFUSAL
+    Ok(())
 }
 
 // 10 below the present mark or above the log's length.
-pub fn sync_refusal(present: u64, size: u64, mark: u64) -> u32
-    ensures { result ≡ sync_refusal present size mark }
+pub fn sync_refusal(present: u64, size: u64, mark: u64) -> Result<(), Refusal>
+    ensures { refusal_of result ≡ sync_refusal present size mark }
 {
     if (mark < present) | (size < mark) {
-        return BAD_MARK;
+        return Err(Refusal::BadMark);
     }
-    NO_REFUSAL
+    Ok(())
 }
 
 // 17 client not known; 9.
-pub fn notice_refusal(floor: u32, free: usize) -> u32
-    ensures { result ≡ notice_refusal floor free }
+pub fn notice_refusal(floor: u32, free: usize) -> Result<(), Refusal>
+    ensures { refusal_of result ≡ notice_refusal floor free }
 {
     if not_known(floor) {
-        return UNKNOWN;
+        return Err(Refusal::Unknown);
     }
     if free < GONE_SIZE {
-        return LOG_FULL;
+        return Err(Refusal::LogFull);
     }
-    NO_REFUSAL
+    Ok(())
 }
 
 // ---- moves
 
 // 3; 11 destination is this server; 16 move number at its greatest; 9.
-pub fn give_refusal(x: Point, server: u8, free: usize, destination: u32) -> u32
-    ensures { result ≡ give_refusal x server free destination }
+pub fn give_refusal(x: Point, server: u8, free: usize, destination: u32) -> Result<(), Refusal>
+    ensures { refusal_of result ≡ give_refusal x server free destination }
 {
     if !is_held(x) {
-        return NOT_HELD;
+        return Err(Refusal::NotHeld);
     }
     if destination == server as u32 {
-        return WRONG_DESTINATION;
+        return Err(Refusal::WrongDestination);
     }
     if LAST_32 <= x.move_number {
-        return NUMBERS_OUT;
+        return Err(Refusal::NumbersOut);
     }
     if free < GIVE_SIZE {
-        return LOG_FULL;
+        return Err(Refusal::LogFull);
     }
-    NO_REFUSAL
+    Ok(())
 }
 
 // 3 not given, or released; 7 give not synced.
-pub fn image_refusal(x: Point, mark: u64) -> u32
-    ensures { result ≡ image_refusal x mark }
+pub fn image_refusal(x: Point, mark: u64) -> Result<(), Refusal>
+    ensures { refusal_of result ≡ image_refusal x mark }
 {
     if !is_given(x) {
-        return NOT_HELD;
+        return Err(Refusal::NotHeld);
     }
     if !is_synced(mark, x.give_end) {
-        return NOT_SYNCED;
+        return Err(Refusal::NotSynced);
     }
-    NO_REFUSAL
+    Ok(())
 }
 
 // 3 never taken; 7 latest take not synced.
-pub fn receipt_refusal(x: Point, mark: u64) -> u32
-    ensures { result ≡ receipt_refusal x mark }
+pub fn receipt_refusal(x: Point, mark: u64) -> Result<(), Refusal>
+    ensures { refusal_of result ≡ receipt_refusal x mark }
 {
     if x.taken_move == 0 {
-        return NOT_HELD;
+        return Err(Refusal::NotHeld);
     }
     if !is_synced(mark, x.take_end) {
-        return NOT_SYNCED;
+        return Err(Refusal::NotSynced);
     }
-    NO_REFUSAL
+    Ok(())
 }
 
 // 3 the point is not given, or no longer; 12 a receipt of an earlier move; 9.
-pub fn release_refusal(x: Point, free: usize, moved: u32) -> u32
-    ensures { result ≡ release_refusal x free moved }
+pub fn release_refusal(x: Point, free: usize, moved: u32) -> Result<(), Refusal>
+    ensures { refusal_of result ≡ release_refusal x free moved }
 {
     if !is_given(x) {
-        return NOT_HELD;
+        return Err(Refusal::NotHeld);
     }
     if moved < x.move_number {
-        return OLD_MOVE;
+        return Err(Refusal::OldMove);
     }
     if free < RELEASE_SIZE {
-        return LOG_FULL;
+        return Err(Refusal::LogFull);
     }
-    NO_REFUSAL
+    Ok(())
 }
 
 // 13 point held here, or an id held for another point.
@@ -296,28 +296,28 @@ pub fn take_refusal(
     merged: usize,
     free: usize,
     need: usize,
-) -> u32
-    ensures { result ≡ take_refusal x server destination number ranged ids merged free need }
+) -> Result<(), Refusal>
+    ensures { refusal_of result ≡ take_refusal x server destination number ranged ids merged free need }
 {
     if !ranged {
-        return MALFORMED;
+        return Err(Refusal::Malformed);
     }
-    if !(destination == server) {
-        return WRONG_DESTINATION;
+    if destination != server {
+        return Err(Refusal::WrongDestination);
     }
     if number <= x.move_number {
-        return OLD_MOVE;
+        return Err(Refusal::OldMove);
     }
     if is_kept(x, ids) {
-        return ALREADY_HELD;
+        return Err(Refusal::AlreadyHeld);
     }
     if CLIENT_COUNT < merged {
-        return CLIENTS_FULL;
+        return Err(Refusal::ClientsFull);
     }
     if free < need {
-        return LOG_FULL;
+        return Err(Refusal::LogFull);
     }
-    NO_REFUSAL
+    Ok(())
 }
 
 // ---- answers

@@ -1,6 +1,6 @@
 -- A call's refusals, carried out.
 --     lent-fit                          what holds where neither is given
---     settle-refused, settle-passed     a decision by a number; by_refused, by-passed: where the number came from a call
+--     settle-refused, settle-passed     a decision by a number; by_refused, by_passed: in the arms of a call's `?`
 --     unfit_yes, unfit_no, long_enough     the tests in code
 --     passed-fit, passed-long, passed-canonical     what they leave known
 --     replied, appended                 what a call answers that is not refused
@@ -13,7 +13,8 @@ use native.Mathlib.Omega.{arith}
 use lib.ListN.{length}
 use lib.Dec.{ltb}
 use borrow.Author.Tests.{ne_eqb, ltb-false}
-use Rattle.model.specs.declared.Answer.{Answer}
+use Rattle.std.specs.Prelude.{Result}
+use Rattle.std.specs.Result.{IsErrAnd}
 use Rattle.model.specs.declared.ResultPacket.{ResultPacket}
 use Rattle.model.specs.Choice.{pick, reply, append, unless_refused}
 use Rattle.model.specs.Tables.{written}
@@ -25,6 +26,9 @@ use Rattle.model.specs.States.{load, sound, state_end}
 use Rattle.model.specs.Decisions.{Decided}
 use Rattle.model.specs.Operations.{After, after, answer_of, short, unfit, settle, stored, lent_refusal}
 use Rattle.model.specs.Refusals.{too_short, unsound, no_refusal}
+use Rattle.refusals.specs.declared.Refusal.{Refusal}
+use Rattle.refusals.specs.Numbers.{number_of, answered}
+use Rattle.refusals.proofs.Numbers.{number-some, exit}
 use Rattle.model_laws.specs.Bytes.{Bytes}
 use Rattle.state_rows.specs.Canonical.{Canonical}
 use Rattle.state_rows.proofs.Chains.{canonical-sound}
@@ -69,20 +73,21 @@ long_enough s n need e = omega (arith, ltb-false (length s) state_size (or_left 
     or_left true b e = e
     or_left false b e = refl
 
--- ---- a number from a call
+-- ---- the arms of the `?` on a call that promises the number m
 
-module _ (state log out : List ℕ) (d : Decided) {n m : ℕ} (p : n ≡ m) where
-  pub by_refused : (n ≡ no_refusal → ⊥) → {r : Answer} → r ≡ answer_of n 0 → after r state log out ≡ settle state log out (unless_refused m d)
-  by_refused h {r} e = rw (e, ← p) (sym (settle-refused state log out d n h))
+module _ (state log out : List ℕ) (d : Decided) {m : ℕ} where
+  -- it gave the refusal e, and so does r
+  pub by_refused : (e : Refusal) → number_of e ≡ m → (r : Result ℕ Refusal) → IsErrAnd r (λ x. x ≡ e) → after (answered r) state log out ≡ settle state log out (unless_refused m d)
+  by_refused e p r h = rw (exit r h, ← p) (sym (settle-refused state log out d (number_of e) (number-some e)))
 
-  pub by_passed : n ≡ no_refusal → {a : After} → a ≡ settle state log out d → a ≡ settle state log out (unless_refused m d)
-  by_passed h {a} e = e ∙ sym (settle-passed state log out d m (sym p ∙ h))
+  pub by_passed : no_refusal ≡ m → {a : After} → a ≡ settle state log out d → a ≡ settle state log out (unless_refused m d)
+  by_passed p h = h ∙ sym (settle-passed state log out d m (sym p))
 
 -- ---- once the tests of lent memory are passed
 
-module _ (s log : List ℕ) (k need : ℕ) {n : ℕ} (p : n ≡ lent_refusal s log k need) (z : n ≡ no_refusal) where
+module _ (s log : List ℕ) (k need : ℕ) (p : no_refusal ≡ lent_refusal s log k need) where
   pub passed-fit : Fit s log k need
-  passed-fit = lent-fit s log k need (sym p ∙ z)
+  passed-fit = lent-fit s log k need (sym p)
 
   pub passed-long : state_end ≤ length s
   passed-long = omega (arith, passed-fit.long)
@@ -93,12 +98,12 @@ module _ (s log : List ℕ) (k need : ℕ) {n : ℕ} (p : n ≡ lent_refusal s l
 -- ---- what a call answers that is not refused
 
 module _ (s log out : List ℕ) where
-  pub replied : (p : ResultPacket) → p.timed ≡ true → {r : Answer} {o : List ℕ} → r ≡ answer_of no_refusal result_size → o ≡ written out 0 (result_bytes p)
-      → after r s log o ≡ settle s log out (reply (result_bytes p))
+  pub replied : (p : ResultPacket) → p.timed ≡ true → {n : ℕ} {o : List ℕ} → n ≡ result_size → o ≡ written out 0 (result_bytes p)
+      → after (answer_of no_refusal n) s log o ≡ settle s log out (reply (result_bytes p))
   unfolding settle result_bytes time_bytes
   replied p z e q = rw (e, q, z)
 
-  pub appended : (x : LogRecord) {r : Answer} {t l : List ℕ} → t ≡ stored s (apply_record x ((load s).size + record_size x) (load s))
-      → l ≡ written log (load s).size (record_bytes x) → r ≡ answer_of no_refusal 0 → after r t l out ≡ settle s log out (append x)
+  pub appended : (x : LogRecord) {t l : List ℕ} → t ≡ stored s (apply_record x ((load s).size + record_size x) (load s))
+      → l ≡ written log (load s).size (record_bytes x) → after (answer_of no_refusal 0) t l out ≡ settle s log out (append x)
   unfolding settle
-  appended x p q e = rw (p, q, e)
+  appended x p q = rw (p, q)

@@ -4,8 +4,10 @@
 ghost use Rattle.std.specs.Prelude.{◌≡◌, ◌≤◌, length};
 ghost use Rattle.model.specs.States.{load, state_end};
 ghost use Rattle.model.specs.Operations.{unfit, lent_refusal, free_in};
+ghost use Rattle.refusals.specs.Numbers.{refusal_of};
 
-use model::constants::{NO_REFUSAL, STATE_SIZE, TOO_SHORT, UNSOUND};
+use model::constants::STATE_SIZE;
+use refusals::Refusal;
 use state_rows::state;
 
 // 19: the state is not sound, or the log slice is shorter than its recorded length.
@@ -20,17 +22,17 @@ fn is_unfit(s: &[u8], log: &[u8]) -> bool
     (log.len() as u64) < size
 }
 
-// 2 state or output too short; 19; 0 if neither is given. The output has n bytes, of which need are asked.
-pub fn lent_refusal(s: &[u8], log: &[u8], n: usize, need: usize) -> u32
-    ensures { result ≡ lent_refusal s.now log.now n need }
+// 2 state or output too short; 19. The output has n bytes, of which need are asked.
+pub fn lent_refusal(s: &[u8], log: &[u8], n: usize, need: usize) -> Result<(), Refusal>
+    ensures { refusal_of result ≡ lent_refusal s.now log.now n need }
 {
     if (s.len() < STATE_SIZE) | (n < need) {
-        return TOO_SHORT;
+        return Err(Refusal::TooShort);
     }
     if is_unfit(s, log) {
-        return UNSOUND;
+        return Err(Refusal::Unsound);
     }
-    NO_REFUSAL
+    Ok(())
 }
 
 // The space left in the log.

@@ -1,21 +1,16 @@
 -- What is left to show of `server_decide::found_refusal`.
-use Rattle.server_decide.proofs.Nots.{yes_not, no_not}
 use Rattle.format_numbers.proofs.Picks.{picks}
 use Rattle.model.specs.Operations.{found_refusal}
-use borrow.Author.Rules.{rules}
 use Rattle.server_decide.proofs.found_refusal.Goals as goal
 
 pub returns-then-states-logs : goal.returns-then-states-logs
 unfolding found_refusal
-returns-then-states-logs c = search (picks, yes_not, no_not) depth 24
-
-pub overflow_cast-t-8 : goal.overflow_cast-t-8
-overflow_cast-t-8 c = search rules
+returns-then-states-logs c = search picks depth 24
 
 pub returns-then-good-server : goal.returns-then-good-server
 unfolding found_refusal
-returns-then-good-server c = search (picks, yes_not, no_not) depth 24
+returns-then-good-server c = search picks depth 24
 
 pub returns : goal.returns
 unfolding found_refusal
-returns c = search (picks, yes_not, no_not) depth 24
+returns c = search picks depth 24

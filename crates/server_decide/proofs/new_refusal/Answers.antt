@@ -1,11 +1,7 @@
 -- What is left to show of `server_decide::new_refusal`.
 use Rattle.format_numbers.proofs.Picks.{picks}
 use Rattle.model.specs.Decisions.{new_refusal}
-use borrow.Author.Rules.{rules}
 use Rattle.server_decide.proofs.new_refusal.Goals as goal
-
-pub no_place-requires : goal.no_place-requires
-no_place-requires c = search rules
 
 pub returns-then-no_place : goal.returns-then-no_place
 unfolding new_refusal

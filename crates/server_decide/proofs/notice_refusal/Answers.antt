@@ -1,11 +1,7 @@
 -- What is left to show of `server_decide::notice_refusal`.
 use Rattle.format_numbers.proofs.Picks.{picks}
 use Rattle.model.specs.Decisions.{notice_refusal}
-use borrow.Author.Rules.{rules}
 use Rattle.server_decide.proofs.notice_refusal.Goals as goal
-
-pub not_known-requires : goal.not_known-requires
-not_known-requires c = search rules
 
 pub returns-then-not_known : goal.returns-then-not_known
 unfolding notice_refusal

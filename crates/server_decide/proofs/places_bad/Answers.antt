@@ -3,12 +3,6 @@ use Rattle.model.specs.Decisions.{places_bad}
 use borrow.Author.Rules.{rules}
 use Rattle.server_decide.proofs.places_bad.Goals as goal
 
-pub overflow_cast-result : goal.overflow_cast-result
-overflow_cast-result c = search rules
-
-pub overflow_cast-result-2 : goal.overflow_cast-result-2
-overflow_cast-result-2 c = search rules
-
 pub returns : goal.returns
 unfolding places_bad
 returns c = search rules

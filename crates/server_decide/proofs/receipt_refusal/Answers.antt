@@ -6,7 +6,7 @@ use Rattle.server_decide.proofs.receipt_refusal.Goals as goal
 
 pub returns-then-x-eq0 : goal.returns-then-x-eq0
 unfolding receipt_refusal
-returns-then-x-eq0 c = search (picks, yes_not, no_not) depth 24
+returns-then-x-eq0 c = search picks depth 24
 
 pub returns-then-not-is_synced : goal.returns-then-not-is_synced
 unfolding receipt_refusal

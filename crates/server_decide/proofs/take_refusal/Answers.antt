@@ -1,7 +1,7 @@
 -- What is left to show of `server_decide::take_refusal`.
 use mathlib.Core.Path.{refl, ap}
 use mathlib.Core.Bool.{not}
-use borrow.Author.Tests.{lt-leb, lt-ltb, le-ltb, eq-eqb}
+use borrow.Author.Tests.{lt-leb, lt-ltb, le-ltb, eq-eqb, ne_eqb, le-leb}
 use Rattle.format_numbers.proofs.Picks.{yes, no, yes_call, no_call_lem, picks}
 use Rattle.server_decide.proofs.Nots.{yes_not, no_not}
 use Rattle.model.specs.Decisions.{take_refusal}
@@ -12,19 +12,22 @@ pub returns-then-not-ranged : goal.returns-then-not-ranged
 unfolding take_refusal
 returns-then-not-ranged c = search (picks, yes_not, no_not) depth 24
 
-pub returns-then-not-destination-server : goal.returns-then-not-destination-server
+pub returns-then-destination-server : goal.returns-then-destination-server
 unfolding take_refusal
-returns-then-not-destination-server c = search (picks, yes_not, no_not) depth 24
+returns-then-destination-server c =
+    no malformed (ap not c.if-not-ranged.false) (yes _ (ap not (ne_eqb _ _ c.if-destination-server.true)) refl)
 
 pub returns-then-number-x : goal.returns-then-number-x
 unfolding take_refusal
-returns-then-number-x c = search (picks, yes_not, no_not) depth 24
+returns-then-number-x c =
+    no malformed (ap not c.if-not-ranged.false)
+    (no wrong_destination (ap not (eq-eqb _ _ c.if-destination-server.false)) (yes _ (le-leb _ _ c.if-number-x.true) refl))
 
 pub returns-then-is_kept : goal.returns-then-is_kept
 unfolding take_refusal
 returns-then-is_kept c =
     no malformed (ap not c.if-not-ranged.false)
-    (no wrong_destination (ap not (eq-eqb _ _ c.if-not-destination-server.false))
+    (no wrong_destination (ap not (eq-eqb _ _ c.if-destination-server.false))
     (no old_move (lt-leb _ _ c.if-number-x.false)
     (yes_call _ c.is_kept.ensures c.if-is_kept.true refl)))
 
@@ -32,7 +35,7 @@ pub returns-then-merged-gt-CLIENT_COUNT : goal.returns-then-merged-gt-CLIENT_COU
 unfolding take_refusal
 returns-then-merged-gt-CLIENT_COUNT c =
     no malformed (ap not c.if-not-ranged.false)
-    (no wrong_destination (ap not (eq-eqb _ _ c.if-not-destination-server.false))
+    (no wrong_destination (ap not (eq-eqb _ _ c.if-destination-server.false))
     (no old_move (lt-leb _ _ c.if-number-x.false)
     (no_call_lem already_held c.is_kept.ensures c.if-is_kept.false (yes _ (lt-ltb _ _ c.if-merged-gt-CLIENT_COUNT.true) refl))))
 
@@ -40,7 +43,7 @@ pub returns-then-free-need : goal.returns-then-free-need
 unfolding take_refusal
 returns-then-free-need c =
     no malformed (ap not c.if-not-ranged.false)
-    (no wrong_destination (ap not (eq-eqb _ _ c.if-not-destination-server.false))
+    (no wrong_destination (ap not (eq-eqb _ _ c.if-destination-server.false))
     (no old_move (lt-leb _ _ c.if-number-x.false)
     (no_call_lem already_held c.is_kept.ensures c.if-is_kept.false (no clients_full (le-ltb _ _ c.if-merged-gt-CLIENT_COUNT.false) (yes _ (lt-ltb _ _ c.if-free-need.true) refl)))))
 
@@ -48,6 +51,6 @@ pub returns : goal.returns
 unfolding take_refusal
 returns c =
     no malformed (ap not c.if-not-ranged.false)
-    (no wrong_destination (ap not (eq-eqb _ _ c.if-not-destination-server.false))
+    (no wrong_destination (ap not (eq-eqb _ _ c.if-destination-server.false))
     (no old_move (lt-leb _ _ c.if-number-x.false)
     (no_call_lem already_held c.is_kept.ensures c.if-is_kept.false (no clients_full (le-ltb _ _ c.if-merged-gt-CLIENT_COUNT.false) (no log_full (le-ltb _ _ c.if-free-need.false) refl)))))
