@@ -72,10 +72,8 @@ fn put_points(s: &mut [u8], plan: &[u8], server: u8)
         ≡ written s.old points_start
         (bytes_of point_bytes (map (founded_point server) (plan_of plan.now))) }
 {
-    let mut i = 0;
-    while i < POINT_COUNT {
+    for i in 0..POINT_COUNT {
         put_founded(s, plan, server, i);
-        i += 1;
     }
 }
 
