@@ -1,5 +1,7 @@
-// The log's head, and where its records end.
+// The log's head, and where its records end; whole: its records, one behind the other.
 #![tactic(auto)]
+
+pub mod whole;
 
 ghost use Rattle.std.specs.Prelude.{◌≡◌, ◌≤◌, length};
 ghost use Rattle.model.specs.Limits.{head_size};

@@ -11,6 +11,8 @@ use mathlib.Core.Bool.{true}
 use mathlib.Core.List.{List, []}
 use mathlib.Core.Option.{Option, none, some}
 use native.Mathlib.Omega.{arith}
+use denote.Ref.{Bor}
+use Rattle.std.specs.Prelude.{Some, None}
 use lib.ListN.{length, drop}
 use lib.Dec.{ltb}
 use borrow.Rule.Slice.PartAt.{part_count}
@@ -37,9 +39,11 @@ use Rattle.format_log_reader.specs.declared.Record.TheVariants.{Took}
 use Rattle.format_log_reader.specs.declared.Record.TheVariants.{Executed as Performed}
 use Rattle.format_log_reader.specs.Answers.{image_in, span_in, record_means, ImagePlaced, Parsed}
 use Rattle.format_log_ends.specs.Answers.{extent_from}
-use Rattle.format_log_ends.specs.Walked.{end_at, end_from, ends_from}
+use Rattle.format_log_ends.specs.Walked.{ends_from}
+use Rattle.format_log_ends.specs.declared.whole.Records.{Records}
+use Rattle.format_log_ends.specs.Records.{Ahead, Stepped, from_head}
 use Rattle.format_log_ends.proofs.Ends.{from-spans, from_inside}
-use Rattle.format_log_ends.proofs.Walked.{ends_from-spans, ends_reached, end_after}
+use Rattle.format_log_ends.proofs.Walked.{ends_from-spans, ends_reached}
 use Rattle.server_inspect.specs.Places.{is_row_id, place_in_image, latest_from}
 use Rattle.server_inspect.proofs.Rows.{among}
 
@@ -118,19 +122,29 @@ module _ (x c : ℕ) (log : List ℕ) (at : ℕ) (found : Place) where
       on none = refl
       on (some es) = refl
 
--- the walk is at a place, with a place found: the last end is the same from there, and so is what will be found
-pub record Walking (x c : ℕ) (log : List ℕ) (end : ℕ) (first : Place) (at : ℕ) (found : Place) : Type 0 where
-  pub last : end_from log at ≡ end_at end
-  pub same : latest_from x c log head_size first ≡ latest_from x c log at found
+-- the walk is at a place of the log, with a place found: what will be found is the same from there
+pub record Walking (x c : ℕ) (log : List ℕ) (first : Place) (w : Records) (found : Place) : Type 0 where
+  pub of : w.log.now ≡ log
+  pub same : latest_from x c log head_size first ≡ latest_from x c log w.at found
 
-module _ {x c : ℕ} {log : List ℕ} {end : ℕ} {first : Place} where
-  pub walking_start : end_from log head_size ≡ end_at end → Walking x c log end first head_size first
-  walking_start e = record { last = e; same = refl }
+module _ {x c : ℕ} {log : List ℕ} {first : Place} {w : Records} where
+  pub walking_start : {end : ℕ} → from_head log end w → Walking x c log first w first
+  walking_start e = record { of = e.0; same = rw e.1 }
 
-  module _ {at : ℕ} {found : Place} (o : Walking x c log end first at found) where
-    pub walking_next : {n : ℕ} {r : Place} → extent_from log at ≡ spans n → r ≡ latest_of x c at (record_at (drop at log)) found → Walking x c log end first (at + n) r
-    walking_next {n} {r} e q =
-        record { last = end_after log at end o.last n e; same = o.same ∙ latest-next x c log at found n e ∙ ap (latest_from x c log (at + n)) (sym q) }
+  module _ {found : Place} (o : Walking x c log first w found) where
+    module _ {at n : ℕ} {w' : Records} (s : Stepped w (Some (at, n)) w') where
+      pub walking_spans : extent_from log at ≡ spans n
+      walking_spans = rw o.of at s.1
 
-    pub walking_done : end ≤ at → found ≡ latest_from x c log head_size first
-    walking_done h = sym (o.same ∙ latest-done x c log at found (ends_reached log at end o.last h))
+      pub walking_next : {r : Place} → r ≡ latest_of x c at (record_at (drop at log)) found → Walking x c log first w' r
+      walking_next {r} q = record {
+        of = ap (λ (b : Bor (List ℕ)). b.now) s.3 ∙ o.of;
+        same =
+            o.same
+            ∙ ap (λ (k : ℕ). latest_from x c log k found) (sym s.0)
+            ∙ latest-next x c log at found n walking_spans
+            ∙ rw (s.2, q);
+      }
+
+    pub walking_done : Ahead w → {w' : Records} → Stepped w None w' → found ≡ latest_from x c log head_size first
+    walking_done a s = sym (o.same ∙ latest-done x c log w.at found (ends_reached log w.at w.end (rw o.of at a) s.0))

@@ -13,6 +13,7 @@ ghost use Rattle.format_log_ends.specs.Answers.{extent_from};
 ghost use Rattle.format_log_ends.specs.Walked.{end_at, end_from};
 ghost use Rattle.server_inspect.specs.Places.{is_row_id, place_in_image, latest_from};
 
+use format_log_ends::whole::whole_records;
 use format_log_reader::Record;
 use model::{Executed, Place, constants};
 
@@ -46,12 +47,10 @@ pub fn index_of(s: &[u8], at: usize, width: usize, n: usize, client: u32, call: 
     requires { (at + width * n ≤ length s.now) × (8 ≤ width) }
     ensures { result ≡ index_of (is_row_id client call) (fronts width n (drop at s.now)) }
 {
-    let mut i = 0;
-    while i < n {
+    for i in 0..n {
         if is_row_id(s, at + width * i, client, call) {
             return i;
         }
-        i += 1;
     }
     n
 }
@@ -133,12 +132,9 @@ pub fn latest_in(log: &[u8], end: usize, client: u32, call: u32, first: Place) -
     requires { end_from log.now head_size ≡ end_at end }
     ensures { result ≡ latest_from client call log.now head_size first }
 {
-    let mut at = constants::HEAD_SIZE;
     let mut found = first;
-    while at < end {
-        let n = format_log_ends::size_at(log, at);
+    for (at, n) in whole_records(log, end) {
         found = latest_of(log, at, n, client, call, found);
-        at += n;
     }
     found
 }

@@ -10,6 +10,8 @@ use mathlib.Core.Bool.{Bool, true, false, false≢true}
 use mathlib.Core.List.{List}
 use mathlib.Core.Option.{Option, none, some}
 use native.Mathlib.Omega.{arith}
+use denote.Ref.{Bor}
+use Rattle.std.specs.Prelude.{Some, None}
 use lib.ListN.{length, drop}
 use Rattle.model.specs.Numbers.{word}
 use Rattle.model.specs.Images.{image_ok}
@@ -29,10 +31,11 @@ use Rattle.format_log_reader.specs.declared.Span.{Span}
 use Rattle.format_log_reader.specs.declared.Record.{Record}
 use Rattle.format_log_reader.specs.declared.Record.TheVariants.{Took}
 use Rattle.format_log_ends.specs.Answers.{extent_from}
-use Rattle.format_log_ends.specs.Walked.{end_at, end_from}
+use Rattle.format_log_ends.specs.declared.whole.Records.{Records}
+use Rattle.format_log_ends.specs.Records.{Ahead, Stepped, from_head}
 use Rattle.format_log_reader.specs.Answers.{image_in, span_in, record_means, ImagePlaced, Parsed}
 use Rattle.format_log_ends.proofs.Ends.{from-spans, from_inside}
-use Rattle.format_log_ends.proofs.Walked.{ends_reached, end_after}
+use Rattle.format_log_ends.proofs.Walked.{ends_reached}
 use Rattle.server_replay.specs.Standing.{Ready, replayed}
 use Rattle.server_replay.proofs.Rooms.{ready_standing}
 use Rattle.server_recover.specs.Remaining.{remaining, image_between, record_follows, record_replayed, RecordReplayedBy, StandsAt, Ended}
@@ -132,25 +135,41 @@ module _ (s log : List ℕ) (at n : ℕ) (e : extent_from log at ≡ spans n) {t
 
 -- ---- all steps
 
--- the buffer s₀ became s, at a place of the log: the last end is the same from there, and so is the state that is recovered
-pub record On (log s₀ s : List ℕ) (end at : ℕ) : Type 0 where
-  pub stands : StandsAt s at
+-- the buffer s₀ became s, at a place of the log: the state that is recovered is the same from there
+pub record On (log s₀ s : List ℕ) (w : Records) : Type 0 where
+  pub of : w.log.now ≡ log
+  pub stands : StandsAt s w.at
   pub long : length s ≡ length s₀
-  pub last : end_from log at ≡ end_at end
-  pub same : remaining log head_size (load s₀) ≡ remaining log at (load s)
+  pub same : remaining log head_size (load s₀) ≡ remaining log w.at (load s)
 
-pub on_start : (log s : List ℕ) (end : ℕ) → StandsAt s head_size → end_from log head_size ≡ end_at end → On log s s end head_size
-on_start log s end w e = record { stands = w; long = refl; last = e; same = refl }
+module _ {log : List ℕ} {w : Records} where
+  pub on_start : (s : List ℕ) {end : ℕ} → StandsAt s head_size → from_head log end w → On log s s w
+  on_start s a e = record { of = e.0; stands = rw e.1 a; long = refl; same = rw e.1 }
 
-module _ {log s₀ s : List ℕ} {end at : ℕ} (o : On log s₀ s end at) where
-  pub on_done : end ≤ at → Ended log head_size (load s₀) s true
-  on_done h = record { found = (o.stands.standing, o.same ∙ remaining-done log at (load s) (ends_reached log at end o.last h)) }
+  module _ {s₀ s : List ℕ} (o : On log s₀ s w) where
+    pub on_done : Ahead w → {w' : Records} → Stepped w None w' → Ended log head_size (load s₀) s true
+    on_done a e =
+        record { found = (o.stands.standing, o.same ∙ remaining-done log w.at (load s) (ends_reached log w.at w.end (rw o.of at a) e.0)) }
 
-  module _ {n : ℕ} (e : extent_from log at ≡ spans n) {s' : List ℕ} {t : Bool} (d : RecordReplayedBy (record_at (drop at log)) (at + n) s s' t) where
-    pub on_stop : t ≡ false → Ended log head_size (load s₀) s' false
-    on_stop p = record { found = o.same ∙ stops s log at n e d.0 p }
+    module _ {at n : ℕ} {w' : Records} (e : Stepped w (Some (at, n)) w') where
+      pub on_place : StandsAt s at
+      on_place = rw e.0 o.stands
 
-    pub on_next : Bytes log → length log < word * word → t ≡ true → length s' ≡ length s → On log s₀ s' end (at + n)
-    on_next b z p l =
-        let g : Goes log at s s' (at + n) = goes s log at n e d.0 o.stands b z p d.1 in
-        record { stands = g.stands; long = l ∙ o.long; last = end_after log at end o.last n e; same = o.same ∙ g.same }
+      pub on_spans : extent_from log at ≡ spans n
+      on_spans = rw o.of at e.1
+
+      same_here : remaining log head_size (load s₀) ≡ remaining log at (load s)
+      same_here = rw e.0 o.same
+
+      module _ {s' : List ℕ} {t : Bool} (d : RecordReplayedBy (record_at (drop at log)) (at + n) s s' t) where
+        pub on_stop : t ≡ false → Ended log head_size (load s₀) s' false
+        on_stop p = record { found = same_here ∙ stops s log at n on_spans d.0 p }
+
+        pub on_next : Bytes log → length log < word * word → t ≡ true → length s' ≡ length s → On log s₀ s' w'
+        on_next b z p l =
+            let g : Goes log at s s' (at + n) = goes s log at n on_spans d.0 on_place b z p d.1 in record {
+              of = ap (λ (b : Bor (List ℕ)). b.now) e.3 ∙ o.of;
+              stands = rw e.2 g.stands;
+              long = l ∙ o.long;
+              same = same_here ∙ g.same ∙ ap (λ (k : ℕ). remaining log k (load s')) (sym e.2);
+            }

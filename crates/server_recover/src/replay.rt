@@ -10,8 +10,8 @@ ghost use Rattle.format_log_ends.specs.Walked.{end_at, end_from};
 ghost use Rattle.server_replay.specs.Standing.{Ready, ReplayedBy};
 ghost use Rattle.server_recover.specs.Remaining.{image_between, RecordReplayedBy, StandsAt, Ended};
 
+use format_log_ends::whole::whole_records;
 use format_log_reader::Record;
-use model::constants;
 
 // A take of the image between two places of the log.
 fn replay_image(s: &mut [u8], log: &[u8], from: usize, to: usize, end: u64) -> bool
@@ -46,13 +46,10 @@ pub fn replay_log(s: &mut [u8], log: &[u8], end: usize) -> bool
     requires { StandsAt s.old head_size × (end_from log.now head_size ≡ end_at end) }
     ensures { Ended log.now head_size (load s.old) s.new result }
 {
-    let mut at = constants::HEAD_SIZE;
-    while at < end {
-        let n = format_log_ends::size_at(log, at);
+    for (at, n) in whole_records(log, end) {
         if !replay_record(s, log, at, n) {
             return false;
         }
-        at += n;
     }
     true
 }

@@ -1,5 +1,4 @@
 -- The invariants of `server_inspect::records::index_of`.
-use Prim.Native.Nat.{◌-◌}
 use lib.ListN.{drop}
 use Rattle.model.specs.Tables.{rows}
 use Rattle.model_laws.specs.Sought.{Sought}
@@ -8,6 +7,3 @@ use Rattle.server_inspect.proofs.records.index_of.Given as goal
 
 abbrev pub invariant-loop-i : goal.invariant-loop-i
 invariant-loop-i l = Sought (is_row_id l.client l.call) (rows (λ r. r) l.width l.n (drop l.at l.s)) l.i
-
-abbrev pub decreases-loop-i : goal.decreases-loop-i
-decreases-loop-i l = l.n - l.i

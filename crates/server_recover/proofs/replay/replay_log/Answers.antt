@@ -1,35 +1,31 @@
 -- What is left to show of `server_recover::replay::replay_log`.
 use native.Mathlib.Omega.{arith}
 use borrow.Author.Rules.{rules}
-use Rattle.model_laws.proofs.Ends.{spans-least}
-use Rattle.format_log_ends.proofs.Ends.{from-spans, from_inside}
-use Rattle.format_log_ends.proofs.Walked.{whole_before}
-use Rattle.server_recover.proofs.Steps.{on_start, on_done, on_stop, on_next}
+use Rattle.server_recover.proofs.Steps.{on_start, on_done, on_place, on_spans, on_stop, on_next}
 use Rattle.server_recover.proofs.replay.replay_log.Goals as goal
 
 pub loop-at-init : goal.loop-at-init
-loop-at-init c = on_start _ _ _ c.requires.0 c.requires.1
-
-pub size_at-n-requires : goal.size_at-n-requires
-size_at-n-requires c = whole_before _ _ _ c.loop-at.invariant.last (omega arith)
+loop-at-init c = record {
+  ahead = search rules;
+  finite = search rules;
+  on = rw c.into_iter-at-iterator.ensures.into_iter_gives (on_start _ c.requires.0 c.whole_records-at-items.ensures);
+}
 
 pub replay_record-requires : goal.replay_record-requires
-replay_record-requires c = (c.loop-at.invariant.stands, c.size_at-n.ensures)
+replay_record-requires c =
+    (on_place c.loop-at.invariant.on c.in-Some.ensures.steps, on_spans c.loop-at.invariant.on c.in-Some.ensures.steps)
 
 pub returns-then-not-replay_record : goal.returns-then-not-replay_record
 returns-then-not-replay_record c =
-    on_stop c.loop-at.invariant c.size_at-n.ensures c.replay_record.ensures c.if-not-replay_record.true
-
-pub overflow_add-at : goal.overflow_add-at
-overflow_add-at c = omega (arith, from_inside _ _ _ c.size_at-n.ensures)
-
-pub loop-at-smaller : goal.loop-at-smaller
-loop-at-smaller c = omega (arith, spans-least _ _ (from-spans _ _ _ c.size_at-n.ensures))
+    on_stop c.loop-at.invariant.on c.in-Some.ensures.steps c.replay_record.ensures c.if-not-replay_record.true
 
 pub loop-at-preserved : goal.loop-at-preserved
-loop-at-preserved c =
-    on_next c.loop-at.invariant c.size_at-n.ensures c.replay_record.ensures
-    (search rules) (omega arith) c.if-not-replay_record.false (search rules)
+loop-at-preserved c = record {
+  ahead = search rules;
+  finite = search rules;
+  on = on_next c.loop-at.invariant.on c.in-Some.ensures.steps c.replay_record.ensures
+      (search rules) (omega arith) c.if-not-replay_record.false (search rules);
+}
 
 pub returns : goal.returns
-returns c = on_done c.loop-at.invariant (omega arith)
+returns c = on_done c.loop-at.invariant.on c.loop-at.invariant.ahead c.in-None.ensures.steps
