@@ -1,6 +1,6 @@
 -- The places of a lease manager.
 --     run_step, run_end                       the running leases, place after place
---     clear-not, none-step, none_end          no place must be cleared
+--     clear-not, none-more                    no place must be cleared
 --     place_end, place_under                  what stands there is the client's lease
 --     place_full, place-free                  client 0 has the first free place
 --     place_new, place-extended               what is stored there
@@ -20,6 +20,7 @@ use Rattle.model.specs.Choice.{pick}
 use Rattle.model.specs.Tables.{every, index_of}
 use Rattle.model.specs.Leases.{no_lease, ended_at, running_at, lease_end, is_taken, with_new_lease, extended}
 use Rattle.model_laws.proofs.Tests.{or_left, or_right}
+use Rattle.std.proofs.lemmas.List.{map_push}
 use Rattle.leases.specs.Changes.{lease_place}
 
 -- ---- the running leases
@@ -51,19 +52,11 @@ clear-not now l {u} e n = rw (← e) (go u (eqb l.client 0) (eqb l.lease 0) refl
     go true true false p q n = absurd (false≢true (sym n))
     go true false b p q n = absurd (false≢true (sym n))
 
-pub none-step : (now : ℕ) (ls : List Lease) (i : ℕ) (found e : Bool) → i < length ls
-    → (found ≡ false → running_at now ls ≡ take i ls ++ running_at now (drop i ls))
-    → (e ≡ false → ended_at now (get_or ls i no_lease) ≡ get_or ls i no_lease)
-    → (found || e) ≡ false → running_at now ls ≡ take (i + 1) ls ++ running_at now (drop (i + 1) ls)
+-- one more lease
+pub none-more : (now : ℕ) (ls : List Lease) {l : Lease} {found e r : Bool} → r ≡ (found || e) → (e ≡ false → ended_at now l ≡ l)
+    → (found ≡ false → running_at now ls ≡ ls) → r ≡ false → running_at now (ls ++ (l ∷ [])) ≡ ls ++ (l ∷ [])
 unfolding running_at
-none-step now ls i found e h p q n =
-    let before = p (or_left found e n) in
-    let here = q (or_right found e n) in
-    rw (before, add-one, take-suc ls i no_lease h, drop-cons ls i no_lease h, here, append_snoc) refl
-
-pub none_end : (now : ℕ) (ls : List Lease) (i : ℕ) → length ls ≤ i → running_at now ls ≡ take i ls ++ running_at now (drop i ls) → running_at now ls ≡ ls
-unfolding running_at
-none_end now ls i h p = rw (p, take_all i ls h, drop_of_length-le ls h, append-nil) refl
+none-more now ls {l} {found} {e} is here before n = let none = rw is at n in rw (map_push (ended_at now) ls l, before (or_left found e none), here (or_right found e none)) refl
 
 -- ---- what stands there
 

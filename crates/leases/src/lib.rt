@@ -74,12 +74,8 @@ fn running_at(now: u32, ls: [Lease; LEASE_COUNT]) -> [Lease; LEASE_COUNT]
     ensures { result ≡ running_at now ls }
 {
     let mut out = ls;
-    let mut i: usize = 0;
-    while i < LEASE_COUNT {
-        let lease = out[i];
-        let held = ended_at(now, lease);
-        out[i] = held;
-        i += 1;
+    for lease in &mut out {
+        *lease = ended_at(now, *lease);
     }
     out
 }
@@ -88,15 +84,7 @@ fn running_at(now: u32, ls: [Lease; LEASE_COUNT]) -> [Lease; LEASE_COUNT]
 fn some_ended(now: u32, ls: [Lease; LEASE_COUNT]) -> bool
     ensures { (result ≡ false → running_at now ls ≡ ls) × (length ls ≡ lease_count) }
 {
-    let mut found = false;
-    let mut i: usize = 0;
-    while i < LEASE_COUNT {
-        let lease = ls[i];
-        let ended = must_clear(now, lease);
-        found = found | ended;
-        i += 1;
-    }
-    found
+    ls.iter().fold(false, |found, lease| found | must_clear(now, *lease))
 }
 
 // The place of the client's lease and its end, past the last and 0 where it has none; of client 0, the first free
