@@ -1,6 +1,8 @@
 -- The places of a lease manager.
 --     run_step, run_end                       the running leases, place after place
 --     clear-not, none-more                    no place must be cleared
+--     place_by, place_some                    the first place that is found
+--     none_there, none_runs, one_runs         the client's lease runs, or does not
 --     place_end, place_under                  what stands there is the client's lease
 --     place_full, place-free                  client 0 has the first free place
 --     place_new, place-extended               what is stored there
@@ -11,17 +13,20 @@ use mathlib.Core.List.{List, [], ◌∷◌, ◌++◌, append-nil}
 use Prim.Native.Nat.{ℕ, suc, ◌+◌, ◌≤◌, ◌<◌}
 use native.Mathlib.Omega.{arith}
 use native.Mathlib.Numerals.{add-one}
-use lib.Dec.{eqb, leb}
-use lib.ListN.{length, get_or, set, take, drop, drop_of_length-le}
-use lib.Seq.{drop-cons, take-suc, take-suc-set, drop-set-lt, append_snoc, take_all}
-use borrow.Author.Tests.{eqb-true}
+use lib.Dec.{eqb, leb, ltb}
+use lib.ListN.{length, get_or, set, take, drop, drop_of_length-le, get_or-eq_default}
+use lib.Seq.{drop-cons, take-suc-set, drop-set-lt, append_snoc, take_all}
+use borrow.Author.Tests.{eqb-true, ne_eqb, ltb-true, ltb-false}
 use Rattle.model.specs.declared.Lease.{Lease}
 use Rattle.model.specs.Choice.{pick}
 use Rattle.model.specs.Tables.{every, index_of}
 use Rattle.model.specs.Leases.{no_lease, ended_at, running_at, lease_end, is_taken, with_new_lease, extended}
 use Rattle.model_laws.proofs.Tests.{or_left, or_right}
 use Rattle.std.proofs.lemmas.List.{map_push}
-use Rattle.leases.specs.Changes.{lease_place}
+use Rattle.std.proofs.lemmas.List.Recursion.{is_position_or_len}
+use Rattle.std.specs.List.{position, position_or_len}
+use Rattle.std.proofs.Common.{Some, None, cond}
+use Rattle.leases.specs.Changes.{lease_place, place_in, end_at, lease_at}
 
 -- ---- the running leases
 
@@ -60,8 +65,59 @@ none-more now ls {l} {found} {e} is here before n = let none = rw is at n in rw 
 
 -- ---- what stands there
 
-pub place_end : (x : ℕ) (ls : List Lease) → lease_end x ls ≡ (get_or ls (lease_place x ls) no_lease).lease
-unfolding lease_end lease_place index_of
+-- the first place found is the same
+place-found : (x : ℕ) (ls : List Lease) → lease_place x ls ≡ position_or_len (λ l. eqb l.client x) ls
+unfolding lease_place index_of
+place-found x = is_position_or_len (lease_place x) (λ l. eqb l.client x) refl (λ l ls. go (eqb l.client x) (lease_place x ls))
+  where
+    go : (b : Bool) (n : ℕ) → pick b 0 (suc n) ≡ cond b 0 (1 + n)
+    go true n = refl
+    go false n = omega arith
+
+pub place_by : (x : ℕ) (ls : List Lease) → position (λ l. eqb l.client x) ls ≡ place_in x ls
+unfolding place_in
+place_by x ls = rw (place-found x ls) (go (ltb (position_or_len (λ l. eqb l.client x) ls) (length ls)))
+  where
+    go : (b : Bool) → cond b (Some (position_or_len (λ l. eqb l.client x) ls)) None ≡ pick b (Some (position_or_len (λ l. eqb l.client x) ls)) None
+    go true = refl
+    go false = refl
+
+pub place_some : (x : ℕ) (ls : List Lease) {i : ℕ} → Some i ≡ place_in x ls → (i ≡ lease_place x ls) × (i < length ls)
+unfolding place_in
+place_some x ls {i} = go (ltb (lease_place x ls) (length ls)) refl
+  where
+    go : (b : Bool) → ltb (lease_place x ls) (length ls) ≡ b → Some i ≡ pick b (Some (lease_place x ls)) None → (i ≡ lease_place x ls) × (i < length ls)
+    go true p q = let e : i ≡ lease_place x ls = cc in (e, rw e (ltb-true _ _ p))
+    go false p q = absurd (cc)
+
+-- the client's lease does not run, or runs
+none-end : (x : ℕ) (ls : List Lease) → None ≡ place_in x ls → end_at x ls ≡ 0
+unfolding place_in end_at
+none-end x ls = go (ltb (lease_place x ls) (length ls)) refl
+  where
+    go : (b : Bool) → ltb (lease_place x ls) (length ls) ≡ b → None ≡ pick b (Some (lease_place x ls)) None → (get_or ls (lease_place x ls) no_lease).lease ≡ 0
+    go true p q = absurd (cc)
+    go false p q = ap (λ l. l.lease) (get_or-eq_default ls no_lease {n = lease_place x ls} (ltb-false _ _ p))
+
+end_by : (x : ℕ) (ls : List Lease) {i : ℕ} → Some i ≡ place_in x ls → end_at x ls ≡ (get_or ls i no_lease).lease
+unfolding end_at
+end_by x ls at = ap (λ (j : ℕ). (get_or ls j no_lease).lease) (sym (place_some x ls at).0)
+
+pub none_there : (x : ℕ) (ls : List Lease) → None ≡ place_in x ls → None ≡ lease_at x ls
+unfolding lease_at
+none_there x ls none = rw (none-end x ls none) refl
+
+pub none_runs : (x : ℕ) (ls : List Lease) {i : ℕ} → Some i ≡ place_in x ls → (get_or ls i no_lease).lease ≡ 0 → None ≡ lease_at x ls
+unfolding lease_at
+none_runs x ls at e = rw (end_by x ls at ∙ e) refl
+
+pub one_runs : (x : ℕ) (ls : List Lease) {i : ℕ} → Some i ≡ place_in x ls → ((get_or ls i no_lease).lease ≡ 0 → ⊥)
+    → Some (record { place = i; end = (get_or ls i no_lease).lease }) ≡ lease_at x ls
+unfolding lease_at
+one_runs x ls at n = rw (end_by x ls at, ne_eqb _ _ n, ← (place_some x ls at).0) refl
+
+pub place_end : (x : ℕ) (ls : List Lease) → lease_end x ls ≡ end_at x ls
+unfolding lease_end end_at lease_place index_of
 place_end x [] = refl
 place_end x (l ∷ ls) = go (eqb l.client x) (place_end x ls)
   where
@@ -70,8 +126,8 @@ place_end x (l ∷ ls) = go (eqb l.client x) (place_end x ls)
     go true e = refl
     go false e = e
 
-pub place_under : (x : ℕ) (ls : List Lease) → ((get_or ls (lease_place x ls) no_lease).lease ≡ 0 → ⊥) → lease_place x ls < length ls
-unfolding lease_place index_of
+pub place_under : (x : ℕ) (ls : List Lease) → (end_at x ls ≡ 0 → ⊥) → lease_place x ls < length ls
+unfolding end_at lease_place index_of
 place_under x [] n = absurd (n refl)
 place_under x (l ∷ ls) n = go (eqb l.client x) n (place_under x ls)
   where

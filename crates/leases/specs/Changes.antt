@@ -1,7 +1,7 @@
 -- What a call changes of a lease manager, and the answer that it makes: time, the latest client number, what stands at one place, and
 -- whether the leases that have ended are cleared before.
 -- Assumes nothing.
-use Rattle.std.specs.Prelude.{ℕ, ◌+◌, ◌<◌, max, ◌≡◌, Bool, false, ◌||◌, List, eqb, ltb, get_or, set}
+use Rattle.std.specs.Prelude.{ℕ, ◌+◌, ◌<◌, max, ◌≡◌, Bool, false, ◌||◌, List, Option, Some, None, Result, Ok, Err, eqb, ltb, length, get_or, set}
 use Rattle.model.specs.declared.Lease.{Lease}
 use Rattle.model.specs.declared.LeaseManager.{LeaseManager}
 use Rattle.model.specs.declared.LeaseAnswer.{LeaseAnswer}
@@ -11,7 +11,9 @@ use Rattle.model.specs.Choice.{pick}
 use Rattle.model.specs.Tables.{index_of}
 use Rattle.model.specs.Leases.{no_lease, time_at, running_at, span_ok, manager}
 use Rattle.model.specs.Limits.{last32, lease_count}
-use Rattle.model.specs.Refusals.{no_refusal, malformed, leases_full, unknown, numbers_out}
+use Rattle.refusals.specs.declared.Refusal.{Refusal}
+use Rattle.refusals.specs.declared.Refusal.TheVariants.{Malformed, NumbersOut, Unknown, LeasesFull}
+use Rattle.refusals.specs.Numbers.{number_of}
 use Rattle.leases.specs.declared.LeaseChange.{LeaseChange}
 use Rattle.leases.specs.declared.Holder.{Holder}
 use Rattle.leases.specs.declared.Found.{Found}
@@ -20,15 +22,29 @@ use Rattle.leases.specs.declared.Found.{Found}
 unfoldable pub lease_place : ℕ → List Lease → ℕ
 lease_place x ls = index_of (λ l. eqb l.client x) ls
 
--- and the lease's end
-unfoldable pub lease_at : ℕ → List Lease → Found
-lease_at x ls = record { place = lease_place x ls; end = (get_or ls (lease_place x ls) no_lease).lease }
+-- the same place, none past the last
+unfoldable pub place_in : ℕ → List Lease → Option ℕ
+place_in x ls = pick (ltb (lease_place x ls) (length ls)) (Some (lease_place x ls)) None
+
+-- the end of the client's lease, 0 where none runs
+unfoldable pub end_at : ℕ → List Lease → ℕ
+end_at x ls = (get_or ls (lease_place x ls) no_lease).lease
+
+-- the client's running lease
+unfoldable pub lease_at : ℕ → List Lease → Option Found
+lease_at x ls = pick (eqb (end_at x ls) 0) None (Some (record { place = lease_place x ls; end = end_at x ls }))
 
 -- ---- what is changed
 
 -- the leases that are left before one is stored
 unfoldable pub kept_at : LeaseManager → Bool → ℕ → List Lease
 kept_at m ended now = pick ended (running_at now m.leases) m.leases
+
+-- ls are the leases that run at a time; ended: they are not the manager's
+pub record RunningAt (m : LeaseManager) (now : ℕ) (ls : List Lease) (ended : Bool) : Type 0 where
+  pub running : ls ≡ running_at now m.leases
+  pub kept : kept_at m ended now ≡ ls
+  pub long : length ls ≡ lease_count
 
 unfoldable pub stored : LeaseManager → Bool → ℕ → ℕ → ℕ → Lease → LeaseManager
 stored m ended time issued i l = manager time issued (set (kept_at m ended time) i l)
@@ -45,35 +61,29 @@ Changes m c a = (c.place < lease_count) × (answered m c ≡ a)
 unfoldable pub no_change : LeaseManager → ℕ → LeaseChange
 no_change m n = record { ended = false; time = m.time; issued = m.issued; place = 0; lease = get_or m.leases 0 no_lease; answer = NotTold n }
 
--- 18 where all places are taken
-unfoldable pub no_place : ℕ → ℕ
-no_place i = pick (ltb i lease_count) no_refusal leases_full
+-- a new client, at the first free place; 18 where all are taken
+abbrev pub holder_at : LeaseManager → Option ℕ → Result Holder Refusal
+holder_at m None = Err LeasesFull
+holder_at m (Some i) = Ok (record { place = i; issued = m.issued + 1; client = m.issued + 1; end = 0 })
 
--- 17 where no lease runs
-unfoldable pub not_running : ℕ → ℕ
-not_running e = pick (eqb e 0) unknown no_refusal
+unfoldable pub new_holder : LeaseManager → List Lease → Result Holder Refusal
+new_holder m ls = holder_at m (place_in 0 ls)
 
--- a new client, at the first free place
-unfoldable pub new_holder : LeaseManager → List Lease → Holder
-new_holder m ls =
-    let i = lease_place 0 ls in
-    record { place = i; refusal = no_place i; issued = m.issued + 1; client = m.issued + 1; end = 0 }
+-- the client x, at the place of its lease; 17 where none runs
+abbrev pub holder_by : LeaseManager → ℕ → Option Found → Result Holder Refusal
+holder_by m x None = Err Unknown
+holder_by m x (Some f) = Ok (record { place = f.place; issued = m.issued; client = x; end = f.end })
 
--- the client x, at the place of its lease
-unfoldable pub holder_of : LeaseManager → ℕ → List Lease → Holder
-holder_of m x ls =
-    let i = lease_place x ls in
-    let e = (get_or ls i no_lease).lease in
-    record { place = i; refusal = not_running e; issued = m.issued; client = x; end = e }
+unfoldable pub holder_of : LeaseManager → ℕ → List Lease → Result Holder Refusal
+holder_of m x ls = holder_by m x (lease_at x ls)
 
-unfoldable pub grant_to : LeaseManager → Holder → Bool → ℕ → ℕ → LeaseChange
+-- the lease of a holder, with the later end
+unfoldable pub grant_to : LeaseManager → Holder → Bool → ℕ → ℕ → Result LeaseChange Refusal
 grant_to m h ended t span =
     let now = time_at m t in
     let e = max h.end (now + span) in
-    pick (span_ok span)
-    (pick (eqb h.refusal 0)
-    (pick (ltb last32 h.issued || (ltb last32 h.client || ltb last32 (now + span))) (no_change m numbers_out)
-    (record {
+    pick (ltb last32 h.issued || (ltb last32 h.client || ltb last32 (now + span))) (Err NumbersOut)
+    (Ok (record {
       ended = ended;
       time = now;
       issued = h.issued;
@@ -81,12 +91,23 @@ grant_to m h ended t span =
       lease = record { client = h.client; lease = e };
       answer = ByGrant (record { client = h.client; lease = e });
     }))
-    (no_change m h.refusal))
-    (no_change m malformed)
 
-unfoldable pub told_end : ℕ → ℕ → ℕ → Told
-told_end x now e = pick (eqb e 0) (ByNotice (record { client = x; time = now })) (ByGrant (record { client = x; lease = e }))
+abbrev pub granted_with : LeaseManager → Result Holder Refusal → Bool → ℕ → ℕ → Result LeaseChange Refusal
+granted_with m (Ok h) ended t span = grant_to m h ended t span
+granted_with m (Err e) ended t span = Err e
+
+unfoldable pub granted_to : LeaseManager → Result Holder Refusal → Bool → ℕ → ℕ → Result LeaseChange Refusal
+granted_to m h ended t span = pick (span_ok span) (granted_with m h ended t span) (Err Malformed)
+
+-- the change, or none where it is refused
+abbrev pub or_refused : LeaseManager → Result LeaseChange Refusal → LeaseChange
+or_refused m (Ok c) = c
+or_refused m (Err e) = no_change m (number_of e)
+
+abbrev pub told_end : ℕ → ℕ → Option Found → Told
+told_end x now None = ByNotice (record { client = x; time = now })
+told_end x now (Some f) = ByGrant (record { client = x; lease = f.end })
 
 unfoldable pub query_among : LeaseManager → List Lease → Bool → ℕ → ℕ → LeaseChange
 query_among m ls ended x now =
-    record { ended = ended; time = now; issued = m.issued; place = 0; lease = get_or ls 0 no_lease; answer = told_end x now (get_or ls (lease_place x ls) no_lease).lease }
+    record { ended = ended; time = now; issued = m.issued; place = 0; lease = get_or ls 0 no_lease; answer = told_end x now (lease_at x ls) }

@@ -2,13 +2,16 @@
 // taken. A call is what it changes, so that a lent manager is read in place, and only what changes is stored.
 #![tactic(auto)]
 
-ghost use Rattle.std.specs.Prelude.{◌≡◌, false, ◌||◌, ◌<◌, eqb, leb, length};
-ghost use Rattle.model.specs.Leases.{time_at, ended_at, running_at, span_ok, manager, open_of, renew_of, query_of};
+ghost use Rattle.std.specs.Prelude.{◌≡◌, Bool, false, ◌||◌, ◌<◌, List, eqb, leb, length};
+ghost use Rattle.model.specs.declared.Lease.{Lease};
+ghost use Rattle.model.specs.Leases.{time_at, ended_at, running_at, span_ok, open_of, renew_of, query_of};
 ghost use Rattle.model.specs.Limits.{lease_count};
-ghost use Rattle.leases.specs.Changes.{lease_at, kept_at, stored, answered, Changes, no_change, no_place, not_running, new_holder, holder_of, grant_to, told_end, query_among};
+ghost use Rattle.refusals.specs.Numbers.{number_of};
+ghost use Rattle.leases.specs.Changes.{place_in, lease_at, kept_at, RunningAt, stored, answered, Changes, no_change, new_holder, holder_of, granted_to, or_refused, told_end, query_among};
 
 use model::constants::LEASE_COUNT;
 use model::{Grant, Lease, LeaseAnswer, LeaseManager, Notice, Told, constants};
+use refusals::Refusal;
 
 // What a call changes: time, the latest client number, and what stands at one place. ended: the ended leases are
 // cleared before.
@@ -22,18 +25,16 @@ pub struct LeaseChange {
     pub answer: Told,
 }
 
-// Who is to be granted a lease, and at which place: the end that it has there, and the latest number then. refusal: 0,
-// or why not.
+// Who is to be granted a lease, and at which place: the end that it has there, and the latest number then.
 #[derive(Clone, Copy)]
 pub struct Holder {
     pub place: usize,
-    pub refusal: u32,
     pub issued: u64,
     pub client: u64,
     pub end: u32,
 }
 
-// Where a client's lease stands, and its end.
+// Where a client's running lease stands, and its end.
 #[derive(Clone, Copy)]
 pub struct Found {
     pub place: usize,
@@ -84,26 +85,27 @@ fn running_at(now: u32, ls: [Lease; LEASE_COUNT]) -> [Lease; LEASE_COUNT]
 fn some_ended(now: u32, ls: [Lease; LEASE_COUNT]) -> bool
     ensures { (result ≡ false → running_at now ls ≡ ls) × (length ls ≡ lease_count) }
 {
-    ls.iter().fold(false, |found, lease| found | must_clear(now, *lease))
+    ls.iter()
+        .fold(false, |found, lease| found | must_clear(now, *lease))
 }
 
-// The place of the client's lease and its end, past the last and 0 where it has none; of client 0, the first free
-// place.
-fn lease_at(client: u32, ls: [Lease; LEASE_COUNT]) -> Found
+// The place of the client's lease; of client 0, the first free place.
+fn place_in(client: u32, ls: [Lease; LEASE_COUNT]) -> Option<usize>
+    ensures { result ≡ place_in client ls }
+{
+    ls.iter().position(|lease| lease.client == client)
+}
+
+// The client's running lease: what has ended has the end 0.
+fn lease_at(client: u32, ls: [Lease; LEASE_COUNT]) -> Option<Found>
     ensures { result ≡ lease_at client ls }
 {
-    let mut i: usize = 0;
-    while i < LEASE_COUNT {
-        let lease = ls[i];
-        if lease.client == client {
-            return Found {
-                place: i,
-                end: lease.lease,
-            };
-        }
-        i += 1;
+    let place = place_in(client, ls)?;
+    let end = ls[place].lease;
+    if end == 0 {
+        return None;
     }
-    Found { place: i, end: 0 }
+    Some(Found { place, end })
 }
 
 // ---- what the operations are made of
@@ -120,25 +122,30 @@ fn span_ok(span: u32) -> bool
     (1 <= span) & (span <= constants::LONGEST_SPAN)
 }
 
-fn manager(time: u32, issued: u32, ls: [Lease; LEASE_COUNT]) -> LeaseManager
-    ensures { result ≡ manager time issued ls }
-{
-    LeaseManager {
-        time,
-        issued,
-        leases: ls,
-    }
-}
-
 // The leases that are left before one is stored.
 fn kept_at(m: LeaseManager, ended: bool, now: u32) -> [Lease; LEASE_COUNT]
     ensures { result ≡ kept_at m ended now }
 {
-    let held = m.leases;
     if ended {
-        return running_at(now, held);
+        return running_at(now, m.leases);
     }
-    held
+    m.leases
+}
+
+// What is made of the leases that run. ended: whether they are not those of the manager, since some have ended.
+fn among_running<A, F: FnOnce([Lease; LEASE_COUNT], bool) -> A>(
+    m: LeaseManager,
+    now: u32,
+    make: F,
+) -> A
+    requires { F.IsAlwaysCallable make }
+    ensures { (ls : List Lease) × (ended : Bool) × RunningAt m now ls ended × F.post make ls ended result }
+{
+    let held = m.leases;
+    if some_ended(now, held) {
+        return make(running_at(now, held), true);
+    }
+    make(held, false)
 }
 
 // The manager with what changes.
@@ -153,112 +160,107 @@ pub fn stored(
     requires { place < lease_count }
     ensures { result ≡ stored m ended time issued place lease }
 {
-    let mut ls = kept_at(m, ended, time);
-    ls[place] = lease;
-    manager(time, issued, ls)
+    let mut leases = kept_at(m, ended, time);
+    leases[place] = lease;
+    LeaseManager {
+        time,
+        issued,
+        leases,
+    }
 }
 
 // A refused call changes nothing.
-fn no_change(m: LeaseManager, number: u32) -> LeaseChange
-    ensures { result ≡ no_change m number }
+fn no_change(m: LeaseManager, refusal: Refusal) -> LeaseChange
+    ensures { result ≡ no_change m (number_of refusal) }
 {
-    let held = m.leases;
-    let lease = held[0];
     LeaseChange {
         ended: false,
         time: m.time,
         issued: m.issued,
         place: 0,
-        lease,
-        answer: Told::NotTold(number),
+        lease: m.leases[0],
+        answer: Told::NotTold(refusal.number()),
     }
 }
 
-// 18 where all places are taken.
-fn no_place(place: usize) -> u32
-    ensures { result ≡ no_place place }
-{
-    if place < LEASE_COUNT {
-        return constants::NO_REFUSAL;
-    }
-    constants::LEASES_FULL
-}
-
-// 17 where no lease runs.
-fn no_lease(end: u32) -> u32
-    ensures { result ≡ not_running end }
-{
-    if end == 0 {
-        return constants::UNKNOWN;
-    }
-    constants::NO_REFUSAL
-}
-
-fn new_holder(m: LeaseManager, ls: [Lease; LEASE_COUNT]) -> Holder
+// A new client, at the first free place: 18 where all are taken.
+fn new_holder(m: LeaseManager, ls: [Lease; LEASE_COUNT]) -> Result<Holder, Refusal>
     ensures { result ≡ new_holder m ls }
 {
-    let found = lease_at(0, ls);
+    let place = place_in(0, ls).ok_or(Refusal::LeasesFull)?;
     let next = m.issued as u64 + 1;
-    Holder {
-        place: found.place,
-        refusal: no_place(found.place),
+    Ok(Holder {
+        place,
         issued: next,
         client: next,
         end: 0,
-    }
+    })
 }
 
-fn holder_of(m: LeaseManager, client: u32, ls: [Lease; LEASE_COUNT]) -> Holder
+// The client, at the place of its lease: 17 where none runs.
+fn holder_of(m: LeaseManager, client: u32, ls: [Lease; LEASE_COUNT]) -> Result<Holder, Refusal>
     ensures { result ≡ holder_of m client ls }
 {
-    let found = lease_at(client, ls);
-    Holder {
+    let found = lease_at(client, ls).ok_or(Refusal::Unknown)?;
+    Ok(Holder {
         place: found.place,
-        refusal: no_lease(found.end),
         issued: m.issued as u64,
         client: client as u64,
         end: found.end,
-    }
+    })
 }
 
 // Open and renew: 1 a span outside 1 to 86,400; the holder's refusal; 16 a number or an end past 32 bits. The later end
 // holds.
-fn grant_to(m: LeaseManager, holder: Holder, ended: bool, time: u32, span: u32) -> LeaseChange
-    ensures { result ≡ grant_to m holder ended time span }
+fn granted_to(
+    m: LeaseManager,
+    holder: Result<Holder, Refusal>,
+    ended: bool,
+    time: u32,
+    span: u32,
+) -> Result<LeaseChange, Refusal>
+    ensures { result ≡ granted_to m holder ended time span }
 {
     if !span_ok(span) {
-        return no_change(m, constants::MALFORMED);
+        return Err(Refusal::Malformed);
     }
-    if !(holder.refusal == 0) {
-        return no_change(m, holder.refusal);
-    }
+    let holder = holder?;
     let now = time_at(m, time);
     let end = now as u64 + span as u64;
     if (constants::LAST_32_U64 < holder.issued)
         | ((constants::LAST_32_U64 < holder.client) | (constants::LAST_32_U64 < end))
     {
-        return no_change(m, constants::NUMBERS_OUT);
+        return Err(Refusal::NumbersOut);
     }
     let client = holder.client as u32;
     let lease = format_numbers::greater(holder.end, end as u32);
-    LeaseChange {
+    Ok(LeaseChange {
         ended,
         time: now,
         issued: holder.issued as u32,
         place: holder.place,
         lease: Lease { client, lease },
         answer: Told::ByGrant(Grant { client, lease }),
-    }
+    })
+}
+
+fn or_refused(m: LeaseManager, granted: Result<LeaseChange, Refusal>) -> LeaseChange
+    ensures { result ≡ or_refused m granted }
+{
+    granted.unwrap_or_else(|refusal| no_change(m, refusal))
 }
 
 // A grant, or a notice where no lease runs.
-fn told_end(client: u32, now: u32, end: u32) -> Told
-    ensures { result ≡ told_end client now end }
+fn told_end(client: u32, now: u32, found: Option<Found>) -> Told
+    ensures { result ≡ told_end client now found }
 {
-    if end == 0 {
-        return Told::ByNotice(Notice { client, time: now });
+    match found {
+        None => Told::ByNotice(Notice { client, time: now }),
+        Some(running) => Told::ByGrant(Grant {
+            client,
+            lease: running.end,
+        }),
     }
-    Told::ByGrant(Grant { client, lease: end })
 }
 
 fn query_among(
@@ -270,16 +272,13 @@ fn query_among(
 ) -> LeaseChange
     ensures { result ≡ query_among m ls ended client now }
 {
-    let found = lease_at(client, ls);
-    let lease = ls[0];
-    let told = told_end(client, now, found.end);
     LeaseChange {
         ended,
         time: now,
         issued: m.issued,
         place: 0,
-        lease,
-        answer: told,
+        lease: ls[0],
+        answer: told_end(client, now, lease_at(client, ls)),
     }
 }
 
@@ -289,26 +288,28 @@ fn query_among(
 pub fn open_change(m: LeaseManager, time: u32, span: u32) -> LeaseChange
     ensures { Changes m result (open_of m time span) }
 {
-    let now = time_at(m, time);
-    let held = m.leases;
-    if some_ended(now, held) {
-        let ls = running_at(now, held);
-        return grant_to(m, new_holder(m, ls), true, time, span);
-    }
-    grant_to(m, new_holder(m, held), false, time, span)
+    let granted = among_running(
+        m,
+        time_at(m, time),
+        |ls, ended|
+            ensures { result ≡ granted_to m (new_holder m ls) ended time span }
+        { granted_to(m, new_holder(m, ls), ended, time, span) },
+    );
+    or_refused(m, granted)
 }
 
 // Renew (client, time, span): 1; 17 no running lease; 16.
 pub fn renew_change(m: LeaseManager, client: u32, time: u32, span: u32) -> LeaseChange
     ensures { Changes m result (renew_of m client time span) }
 {
-    let now = time_at(m, time);
-    let held = m.leases;
-    if some_ended(now, held) {
-        let ls = running_at(now, held);
-        return grant_to(m, holder_of(m, client, ls), true, time, span);
-    }
-    grant_to(m, holder_of(m, client, held), false, time, span)
+    let granted = among_running(
+        m,
+        time_at(m, time),
+        |ls, ended|
+            ensures { result ≡ granted_to m (holder_of m client ls) ended time span }
+        { granted_to(m, holder_of(m, client, ls), ended, time, span) },
+    );
+    or_refused(m, granted)
 }
 
 // Query: 17 a number that was never given out; else a grant or, where no lease runs, a notice with the manager's time.
@@ -316,15 +317,16 @@ pub fn query_change(m: LeaseManager, client: u32, time: u32) -> LeaseChange
     ensures { Changes m result (query_of m client time) }
 {
     if (client == 0) | (m.issued < client) {
-        return no_change(m, constants::UNKNOWN); // never issued
+        return no_change(m, Refusal::Unknown); // never issued
     }
     let now = time_at(m, time);
-    let held = m.leases;
-    if some_ended(now, held) {
-        let ls = running_at(now, held);
-        return query_among(m, ls, true, client, now);
-    }
-    query_among(m, held, false, client, now)
+    among_running(
+        m,
+        now,
+        |ls, ended|
+            ensures { result ≡ query_among m ls ended client now }
+        { query_among(m, ls, ended, client, now) },
+    )
 }
 
 // ---- the operations, by value
@@ -334,39 +336,34 @@ fn answered(m: LeaseManager, change: LeaseChange) -> LeaseAnswer
     requires { change.place < lease_count }
     ensures { result ≡ answered m change }
 {
-    let lease = change.lease;
-    let answer = change.answer;
     let next = stored(
         m,
         change.ended,
         change.time,
         change.issued,
         change.place,
-        lease,
+        change.lease,
     );
     LeaseAnswer {
         manager: next,
-        answer,
+        answer: change.answer,
     }
 }
 
 pub fn open_lease(m: LeaseManager, time: u32, span: u32) -> LeaseAnswer
     ensures { result ≡ open_of m time span }
 {
-    let change = open_change(m, time, span);
-    answered(m, change)
+    answered(m, open_change(m, time, span))
 }
 
 pub fn renew(m: LeaseManager, client: u32, time: u32, span: u32) -> LeaseAnswer
     ensures { result ≡ renew_of m client time span }
 {
-    let change = renew_change(m, client, time, span);
-    answered(m, change)
+    answered(m, renew_change(m, client, time, span))
 }
 
 pub fn query(m: LeaseManager, client: u32, time: u32) -> LeaseAnswer
     ensures { result ≡ query_of m client time }
 {
-    let change = query_change(m, client, time);
-    answered(m, change)
+    answered(m, query_change(m, client, time))
 }
