@@ -139,9 +139,9 @@ module _ {x : ℕ} {s : List ℕ} {n j : ℕ} (o : Seek x s n j) where
   unfolding leading
   seek_stop {f} h p q = sym (o.rest ∙ rw (rows-cons floor_of_bytes floor_row s least_image j n h, ← p, le-ltb f.client x q) (omega arith))
 
-  pub seek_end : n ≤ j → j ≡ leading x (floors_in s n)
+  pub seek_end : n ≤ j → n ≡ leading x (floors_in s n)
   unfolding leading rows
-  seek_end h = let e : n - j ≡ 0 = omega arith in sym (o.rest ∙ rw e (omega arith))
+  seek_end h = let e : n - j ≡ 0 = omega arith in sym (o.rest ∙ rw e (omega (arith, o.within)))
 
 -- ---- the floor of index j
 

@@ -33,14 +33,7 @@ fn floors_ok(s: &[u8], n: usize) -> bool
     requires { entries_start n ≤ length s.now }
     ensures { result ≡ floors_ok (floors_in s.now n) }
 {
-    let mut i = 0;
-    while i < n {
-        if !floor_step(s, LEAST_IMAGE + FLOOR_ROW * i, n - (i + 1)) {
-            return false;
-        }
-        i += 1;
-    }
-    true
+    (0..n).all(|i| floor_step(s, LEAST_IMAGE + FLOOR_ROW * i, n - (i + 1)))
 }
 
 // How many of n floors have a client below this one, where the first `below` have.
@@ -48,15 +41,13 @@ fn next_floor(s: &[u8], n: usize, client: u32, below: usize) -> usize
     requires { (entries_start n ≤ length s.now) × (below ≤ leading client (floors_in s.now n)) }
     ensures { result ≡ leading client (floors_in s.now n) }
 {
-    let mut j = below;
-    while j < n {
+    for j in below..n {
         let f = format_floors::floor_from(s, LEAST_IMAGE + FLOOR_ROW * j);
         if client <= f.client {
             return j;
         }
-        j += 1;
     }
-    j
+    n
 }
 
 // The floor of the client, where the floor of index j is its own; else 0.
@@ -128,9 +119,8 @@ fn entries_ok(
     ensures { result ≡ entries_ok timed point (floors_in s.now n) width entries
         (drop at s.now) }
 {
-    let mut i = 0;
     let mut j = 0;
-    while i < entries {
+    for i in 0..entries {
         let k = format_image_rows::entry_at(at, width, i);
         let entry = format_image_rows::entry_from(s, k, timed);
         j = next_floor(s, n, entry.client, j);
@@ -138,7 +128,6 @@ fn entries_ok(
         if !entry_step(s, point, floor, timed, width, k, entries - (i + 1)) {
             return false;
         }
-        i += 1;
     }
     true
 }
@@ -216,15 +205,10 @@ fn entries_in_range(
     ensures { result ≡ every (entry_in_range e)
         (rows (image_entry_of timed) width entries (drop at s.now)) }
 {
-    let mut i = 0;
-    while i < entries {
+    (0..entries).all(|i| {
         let k = format_image_rows::entry_at(at, width, i);
-        if !format_image_rows::entry_in_range(s, e, k, timed) {
-            return false;
-        }
-        i += 1;
-    }
-    true
+        format_image_rows::entry_in_range(s, e, k, timed)
+    })
 }
 
 // The values of an image that was read with the head h.

@@ -1,4 +1,4 @@
 -- Laws that the proofs of `format_numbers` cite.
 pub mod Past
 pub mod Picks
-pub mod Copies
+pub mod Chains

@@ -73,7 +73,7 @@ pub fn write_magic(s: &mut [u8], magic: [u8; 4])
     ensures { s.new
         ≡ written s.old 0 (quad (byte_at magic 0) (byte_at magic 1) (byte_at magic 2) (byte_at magic 3)) }
 {
-    write_4(s, 0, magic[0], magic[1], magic[2], magic[3]);
+    copy_bytes(s, &magic);
 }
 
 // Stores v in the 4 bytes from at.
@@ -152,11 +152,7 @@ pub fn copy_bytes(out: &mut [u8], src: &[u8])
     requires { length src.now ≤ length out.old }
     ensures { out.new ≡ written out.old 0 src.now }
 {
-    let mut i = 0;
-    while i < src.len() {
-        out[i] = src[i];
-        i += 1;
-    }
+    out[..src.len()].copy_from_slice(src);
 }
 
 // n bytes of src from a place, to a place of out.
@@ -171,10 +167,7 @@ pub fn copy_part(out: &mut [u8], to: usize, src: &[u8], from: usize, n: usize)
 pub fn greater(v: u32, other: u32) -> u32
     ensures { result ≡ max v other }
 {
-    if v < other {
-        return other;
-    }
-    v
+    v.max(other)
 }
 
 // ---- fields in their ranges
@@ -183,7 +176,7 @@ pub fn greater(v: u32, other: u32) -> u32
 fn in_arguments(range: ArgumentRange, argument: u32) -> bool
     ensures { result ≡ in_arguments range argument }
 {
-    (range.least <= argument) & (argument <= range.greatest)
+    (range.least..=range.greatest).contains(&argument)
 }
 
 // The argument lies in its op's range; an op past the last has none. With a literal index the table stays in memory;
@@ -234,5 +227,5 @@ pub fn outcome_ok(outcome: u8, quality: u8) -> bool
 pub fn in_range(e: PlanEntry, v: u32) -> bool
     ensures { result ≡ in_range e v }
 {
-    (e.low <= v) & (v <= e.high)
+    (e.low..=e.high).contains(&v)
 }

@@ -1,21 +1,31 @@
 -- What is left to show of `format_image_reader::floors_ok`.
-use mathlib.Core.Path.{ap}
+use Prim.Native.Nat.{ℕ, ◌+◌, ◌-◌, ◌*◌}
+use mathlib.Core.Path.{refl, ap}
 use mathlib.Core.Bool.{not}
-use Rattle.format_image_reader.specs.Walks.{floor_step}
-use Rattle.model_laws.proofs.Loops.{walk-next, walk-false, walk-true}
+use mathlib.Core.List.{List}
+use native.Mathlib.Omega.{arith}
+use lib.ListN.{drop}
+use borrow.Author.Rules.{rules}
+use borrow.Author.Tests.{tests}
+use Rattle.model.specs.Images.{floor_of_bytes, floor_ok, clients_ascend}
+use Rattle.model.specs.Limits.{floor_row, least_image}
+use Rattle.model_laws.proofs.Loops.{Walk, row_test, walk-next, walk-false, walk-true}
+use Rattle.format_numbers.proofs.Chains.{Steps, all_walked}
+use Rattle.format_image_reader.specs.Walks.{floor_step, floors_ok, floors_in}
 use Rattle.format_image_reader.proofs.Tables.{floors_ordered, floors-start}
 use Rattle.format_image_reader.proofs.floors_ok.Goals as goal
 
-pub loop-i-init : goal.loop-i-init
-loop-i-init c = floors-start _ _
-
-pub returns-then-not-floor_step : goal.returns-then-not-floor_step
+steps : (s : List ℕ) (n : ℕ) → Steps n (floors_ok (floors_in s n)) (λ i. floor_step (n - (i + 1)) (drop (least_image + floor_row * i) s))
+    (Walk floor_of_bytes clients_ascend (row_test floor_of_bytes floor_ok) floor_row least_image (floors_ok (floors_in s n)) s n)
 unfolding floor_step
-returns-then-not-floor_step c = walk-false c.loop-i.invariant floors_ordered c.loop-i-test.true c.floor_step.ensures (ap not c.if-not-floor_step.true)
-
-pub loop-i-preserved : goal.loop-i-preserved
-unfolding floor_step
-loop-i-preserved c = walk-next c.loop-i.invariant floors_ordered c.loop-i-test.true c.floor_step.ensures (ap not c.if-not-floor_step.false)
+steps s n =
+    record {
+      start = floors-start s n;
+      next = λ i o h e. walk-next o floors_ordered h refl (ap not e);
+      stop = λ i o h e. walk-false o floors_ordered h refl (ap not e);
+      end = λ o. walk-true o floors_ordered (omega arith);
+    }
 
 pub returns : goal.returns
-returns c = walk-true c.loop-i.invariant floors_ordered c.loop-i-test.false
+returns c =
+    all_walked (steps c.args.s.now c.args.n) _ _ _ c.all.ensures.ran (cc) (λ i q k. search (rules, tests)) (λ i q k. search (rules, tests))

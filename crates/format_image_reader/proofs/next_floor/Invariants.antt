@@ -1,10 +1,6 @@
 -- The invariants of `format_image_reader::next_floor`.
-use Prim.Native.Nat.{◌-◌}
 use Rattle.format_image_reader.proofs.Tables.{Seek}
 use Rattle.format_image_reader.proofs.next_floor.Given as goal
 
 abbrev pub invariant-loop-j : goal.invariant-loop-j
 invariant-loop-j l = Seek l.client l.s l.n l.j
-
-abbrev pub decreases-loop-j : goal.decreases-loop-j
-decreases-loop-j l = l.n - l.j
