@@ -2,7 +2,7 @@
 --     Holds                         it is the state of the first buffer, with the table fs
 --     holds-start, holds-next       the first buffer; a change
 --     holds-set, holds-add, holds-drop     what the calls of `client_rows` leave
---     holds-canonical, holds-floors, holds-length     what a call needs
+--     holds-canonical, holds-floors     what a call needs
 --     all_set, all_take, all_drop             a property of all rows
 -- Assumes nothing.
 use Prim.Native.Nat.{ℕ, zero, suc, ◌≤◌, ◌<◌}
@@ -19,7 +19,7 @@ use Rattle.model_laws.specs.Fits.{FloorFits, StateFits}
 use Rattle.model_laws.specs.Layout.{with_floors}
 use Rattle.model_laws.proofs.Tables.{all_append}
 use Rattle.state_rows.specs.Canonical.{Canonical}
-use Rattle.state_rows.proofs.Chains.{stored_same, stored-stored, length-stored, load_stored, canonical-stored, fits-floors}
+use Rattle.state_rows.proofs.Chains.{stored_same, stored-stored, load_stored, canonical-stored, fits-floors}
 
 module _ {A : Type 0} (P : A → Type 0) where
   pub all_set : (xs : List A) (i : ℕ) (x : A) → All P xs → P x → All P (set xs i x)
@@ -70,9 +70,6 @@ module _ {s₀ : List ℕ} (w : Canonical s₀) where
 
     pub holds-floors : (load s).floors ≡ fs
     holds-floors = ap (λ (x : State). x.floors) holds-load ∙ its-floors (load s₀) fs
-
-    pub holds-length : length s ≡ length s₀
-    holds-length = ap length o.same ∙ length-stored s₀ (with_floors fs (load s₀))
 
     pub holds-next : {s' : List ℕ} (gs : List Floor) → s' ≡ stored s (with_floors gs (load s)) → All FloorFits gs → length gs ≤ client_count → Holds s₀ s' gs
     holds-next {s'} gs e a h =

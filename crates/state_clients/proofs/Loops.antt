@@ -53,9 +53,9 @@ pub is_below : {f g : Floor} {x : ℕ} → f ≡ g → f.client < x → not (ltb
 is_below {f} {g} {x} p q = rw (← p, lt-ltb f.client x q)
 
 -- the client of an index
-pub is-behind : (x i : ℕ) (fs : List Floor) → length fs ≤ i → false ≡ is_at x i fs
+pub is-behind : (x i : ℕ) (fs : List Floor) {n : ℕ} → n ≡ length fs → n ≤ i → ltb i n ≡ is_at x i fs
 unfolding is_at
-is-behind x i fs h = rw (le-ltb i (length fs) h)
+is-behind x i fs {n} e h = rw (← e, le-ltb i n h)
 
 pub is-there : (x i : ℕ) (fs : List Floor) {f : Floor} → i < length fs → f ≡ get_or fs i no_floor → eqb f.client x ≡ is_at x i fs
 unfolding is_at
@@ -78,14 +78,15 @@ module _ {s₀ : List ℕ} (w : Canonical s₀) where
       pub moving_read : Canonical s × (j - 1 < length (load s).floors)
       moving_read = (holds-canonical w o.holds, rw (holds-floors w o.holds, Floors.moved_length n (load s₀).floors e j) (omega (arith, o.high)))
 
-      pub moving_write : Canonical s × (j < length (load s).floors)
+      pub moving_write : Canonical s × (j - 1 + 1 < length (load s).floors)
       moving_write = (holds-canonical w o.holds, rw (holds-floors w o.holds, Floors.moved_length n (load s₀).floors e j) (omega (arith, o.high)))
 
-      pub moving_next : {f : Floor} {s' : List ℕ} → f ≡ get_or (load s).floors (j - 1) no_floor → s' ≡ stored s (with_floors (set (load s).floors j f) (load s)) → Moving s₀ i n s' (j - 1)
+      pub moving_next : {f : Floor} {s' : List ℕ} → f ≡ get_or (load s).floors (j - 1) no_floor → s' ≡ stored s (with_floors (set (load s).floors (j - 1 + 1) f) (load s)) → Moving s₀ i n s' (j - 1)
       moving_next {f} {s'} p q =
           let gs : List Floor = (load s₀).floors in
           let k : ℕ = j - 1 in
           let up : j ≡ suc k = omega arith in
+          let last : k + 1 ≡ j = omega arith in
           let row : f ≡ get_or gs k no_floor =
           p
           ∙ ap (λ (x : List Floor). get_or x k no_floor) (holds-floors w o.holds)
@@ -94,10 +95,7 @@ module _ {s₀ : List ℕ} (w : Canonical s₀) where
           let fit : FloorFits f = rw row (all_get_d FloorFits gs k no_floor w.fits.floors (omega (arith, o.high))) in
           let all : set (moved_up j n gs) j f ≡ moved_up k n gs =
           ap (λ (m : ℕ). set (moved_up m n gs) m f) up ∙ ap (λ (x : Floor). set (moved_up (suc k) n gs) (suc k) x) row ∙ Floors.moved-next n gs e k (omega (arith, o.high)) in
-          record { low = omega arith; high = omega (arith, o.high); holds = rw (← all) (holds-set w o.holds j q fit) }
-
-    pub moving_end : {i j : ℕ} {s : List ℕ} → Moving s₀ i n s j → j ≤ i → s ≡ stored s₀ (with_floors (moved_up i n (load s₀).floors) (load s₀))
-    moving_end {i} {j} {s} o h = let q : i ≡ j = omega (arith, o.low) in rw q o.holds.same
+          record { low = omega arith; high = omega (arith, o.high); holds = rw (← all) (holds-set w o.holds j (rw last at q) fit) }
 
 -- ---- a row entered
 
@@ -247,9 +245,6 @@ module _ {s₀ : List ℕ} (w : Canonical s₀) where
           high = omega (arith, o.high);
           holds = rw (← take-take (n - 1) n (load s₀).floors (omega arith)) (holds-drop w o.holds (n - 1) e);
         }
-
-    pub cutting-end : n ≤ k → s ≡ stored s₀ (with_floors (take k (load s₀).floors) (load s₀))
-    cutting-end h = let e : k ≡ n = omega (arith, o.low) in rw e o.holds.same
 
 -- ---- a client removed
 

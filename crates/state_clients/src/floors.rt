@@ -14,13 +14,11 @@ pub fn client_place(s: &[u8], at: usize, n: usize, client: u32) -> usize
     requires { at + floor_row * n ≤ length s.now }
     ensures { result ≡ place_of client (rows floor_of_bytes floor_row n (drop at s.now)) }
 {
-    let mut i = 0;
-    while i < n {
+    for i in 0..n {
         let f = format_floors::floor_from(s, at + FLOOR_ROW * i);
         if f.client == client {
             return i;
         }
-        i += 1;
     }
     n
 }
@@ -30,11 +28,11 @@ pub fn floor_at(s: &[u8], at: usize, n: usize, i: usize) -> u32
     requires { at + floor_row * n ≤ length s.now }
     ensures { result ≡ (get_or (rows floor_of_bytes floor_row n (drop at s.now)) i no_floor).floor }
 {
-    if n <= i {
-        return 0;
+    if i < n {
+        format_floors::floor_from(s, at + FLOOR_ROW * i).floor
+    } else {
+        0
     }
-    let f = format_floors::floor_from(s, at + FLOOR_ROW * i);
-    f.floor
 }
 
 // The floor of the client among n floors from at, 0 where it has none.
@@ -50,10 +48,7 @@ pub fn floor_of(s: &[u8], at: usize, n: usize, client: u32) -> u32
 pub fn call_above(call: u32, floor: u32) -> usize
     ensures { result ≡ call - floor }
 {
-    if call < floor {
-        return 0;
-    }
-    (call - floor) as usize
+    call.saturating_sub(floor) as usize
 }
 
 // The slot of a client's call, 16 for each of n floors from at.

@@ -28,15 +28,13 @@ fn place(s: &[u8], client: u32) -> usize
     ensures { result ≡ ordered_place client (load s.now).floors }
 {
     let n = state::clients_of(s);
-    let mut i = 0;
-    while i < n {
+    for i in 0..n {
         let f = rows::row(s, i);
         if client <= f.client {
             return i;
         }
-        i += 1;
     }
-    i
+    n
 }
 
 // The client of index i is this one.
@@ -44,12 +42,7 @@ fn is_at(s: &[u8], i: usize, client: u32) -> bool
     requires { Canonical s.now }
     ensures { result ≡ is_at client i (load s.now).floors }
 {
-    let n = state::clients_of(s);
-    if n <= i {
-        return false;
-    }
-    let f = rows::row(s, i);
-    f.client == client
+    i < state::clients_of(s) && rows::row(s, i).client == client
 }
 
 // The client is known.
@@ -87,11 +80,9 @@ fn move_up(s: &mut [u8], i: usize, n: usize)
     ensures { s.new ≡ stored s.old
         (with_floors (moved_up i n (load s.old).floors) (load s.old)) }
 {
-    let mut j = n;
-    while i < j {
-        let f = rows::row(s, j - 1);
-        rows::set_row(s, j, f);
-        j -= 1;
+    for j in (i..n).rev() {
+        let f = rows::row(s, j);
+        rows::set_row(s, j + 1, f);
     }
 }
 
@@ -119,14 +110,7 @@ pub fn raise(s: &mut [u8], client: u32, floor: u32)
         raise_at(s, i, client, floor);
         return;
     }
-    insert(
-        s,
-        i,
-        Floor {
-            client: client,
-            floor: floor,
-        },
-    );
+    insert(s, i, Floor { client, floor });
 }
 
 // ---- a client removed
@@ -137,11 +121,9 @@ fn pack(s: &mut [u8], client: u32) -> usize
     ensures { PackedBut client s.old s.new result }
 {
     let n = state::clients_of(s);
-    let mut i = 0;
     let mut j = 0;
-    while i < n {
+    for i in 0..n {
         let f = rows::row(s, i);
-        i += 1;
         if f.client != client {
             rows::set_row(s, j, f);
             j += 1;
@@ -156,9 +138,7 @@ fn cut(s: &mut [u8], k: usize)
     ensures { s.new ≡ stored s.old
         (with_floors (take k (load s.old).floors) (load s.old)) }
 {
-    let mut n = state::clients_of(s);
-    while k < n {
-        n -= 1;
+    for n in (k..state::clients_of(s)).rev() {
         rows::drop_row(s, n);
     }
 }
@@ -182,11 +162,9 @@ pub fn merge(s: &mut [u8], image: &[u8], n: usize)
     ensures { s.new ≡ stored s.old
         (with_floors (merged_by image.now n s.old) (load s.old)) }
 {
-    let mut i = 0;
-    while i < n {
+    for i in 0..n {
         let f = format_floors::floor_from(image, LEAST_IMAGE + FLOOR_ROW * i);
         raise(s, f.client, f.floor);
-        i += 1;
     }
 }
 
@@ -197,10 +175,8 @@ pub fn merged_count(s: &[u8], image: &[u8], n: usize) -> usize
     ensures { result ≡ length (merged_by image.now n s.now) }
 {
     let mut count = state::clients_of(s);
-    let mut i = 0;
-    while i < n {
+    for i in 0..n {
         let f = format_floors::floor_from(image, LEAST_IMAGE + FLOOR_ROW * i);
-        i += 1;
         if !is_known(s, f.client) {
             count += 1;
         }

@@ -1,5 +1,5 @@
 -- What is left to show of `state_clients::cut`.
-use Rattle.state_clients.proofs.Loops.{cutting-start, cutting-drop, cutting-next, cutting-end}
+use Rattle.state_clients.proofs.Loops.{cutting-start, cutting-drop, cutting-next}
 use Rattle.state_clients.proofs.cut.Goals as goal
 
 pub loop-n-init : goal.loop-n-init
@@ -13,7 +13,3 @@ drop_row-requires c =
 pub loop-n-preserved : goal.loop-n-preserved
 loop-n-preserved c =
     cutting-next c.requires.0 c.loop-n.invariant c.loop-n-test.true c.drop_row.ensures
-
-pub returns : goal.returns
-returns c =
-    cutting-end c.requires.0 c.loop-n.invariant c.loop-n-test.false

@@ -4,6 +4,3 @@ use Rattle.state_clients.proofs.cut.Given as goal
 
 abbrev pub invariant-loop-n : goal.invariant-loop-n
 invariant-loop-n l = Cutting l.initial.s l.k l.s l.n
-
-abbrev pub decreases-loop-n : goal.decreases-loop-n
-decreases-loop-n l = l.n

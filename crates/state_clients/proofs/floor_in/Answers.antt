@@ -1,9 +1,6 @@
 -- What is left to show of `state_clients::floor_in`.
-use Rattle.state_clients.proofs.Own.{floors-within, floor-own}
+use Rattle.state_clients.proofs.Own.{floor-own}
 use Rattle.state_clients.proofs.floor_in.Goals as goal
-
-pub floor_of-requires : goal.floor_of-requires
-floor_of-requires c = floors-within c.args.s.now c.requires c.clients_of-n.ensures
 
 pub returns : goal.returns
 returns c = floor-own c.args.s.now c.args.client c.clients_of-n.ensures c.floor_of.ensures

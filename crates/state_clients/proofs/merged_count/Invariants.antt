@@ -1,11 +1,7 @@
 -- The invariants of `state_clients::merged_count`.
-use Prim.Native.Nat.{◌-◌}
 use Rattle.model.specs.States.{load}
 use Rattle.state_clients.proofs.Loops.{Counting}
 use Rattle.state_clients.proofs.merged_count.Given as goal
 
 abbrev pub invariant-loop-i : goal.invariant-loop-i
 invariant-loop-i l = Counting (load l.s).floors l.image l.n l.count l.i
-
-abbrev pub decreases-loop-i : goal.decreases-loop-i
-decreases-loop-i l = l.n - l.i

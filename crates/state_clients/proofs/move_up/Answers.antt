@@ -1,5 +1,5 @@
 -- What is left to show of `state_clients::move_up`.
-use Rattle.state_clients.proofs.Loops.{moving_start, moving_read, moving_write, moving_next, moving_end}
+use Rattle.state_clients.proofs.Loops.{moving_start, moving_read, moving_write, moving_next}
 use Rattle.state_clients.proofs.move_up.Goals as goal
 
 pub loop-j-init : goal.loop-j-init
@@ -16,7 +16,3 @@ set_row-requires c =
 pub loop-j-preserved : goal.loop-j-preserved
 loop-j-preserved c =
     moving_next c.requires.0 c.requires.1 c.loop-j.invariant c.loop-j-test.true c.row-f.ensures c.set_row.ensures
-
-pub returns : goal.returns
-returns c =
-    moving_end c.requires.0 c.requires.1 c.loop-j.invariant c.loop-j-test.false

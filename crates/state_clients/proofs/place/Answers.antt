@@ -1,13 +1,11 @@
 -- What is left to show of `state_clients::place`.
+use mathlib.Core.Path.{◌≡◌}
 use native.Mathlib.Omega.{arith}
-use Rattle.model_laws.proofs.Searches.{sought_start, sought_hit, sought_next, sought_none}
+use Rattle.model_laws.proofs.Searches.{sought_hit, sought_next, sought_none}
 use Rattle.state_clients.specs.Places.{no_floor}
 use Rattle.state_clients.specs.Ordered.{ordered_place}
 use Rattle.state_clients.proofs.Loops.{not-below, is_below}
 use Rattle.state_clients.proofs.place.Goals as goal
-
-pub loop-i-init : goal.loop-i-init
-loop-i-init c = sought_start _ _
 
 pub returns-then-client-f : goal.returns-then-client-f
 unfolding ordered_place
@@ -20,4 +18,6 @@ loop-i-preserved c =
 
 pub returns : goal.returns
 unfolding ordered_place
-returns c = sought_none c.loop-i.invariant (omega arith)
+returns c =
+    let all : c.clients_of-n.result ≡ c.loop-i.i = omega (arith, c.loop-i.invariant.below) in
+    rw all (sought_none c.loop-i.invariant (omega arith))

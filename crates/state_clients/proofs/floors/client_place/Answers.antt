@@ -1,13 +1,10 @@
 -- What is left to show of `state_clients::floors::client_place`.
 use Rattle.model.specs.Limits.{floor_row}
 use Rattle.model.specs.Images.{floor_of_bytes}
-use Rattle.model_laws.proofs.Searches.{sought_start, row_hit, row_next, row_none}
+use Rattle.model_laws.proofs.Searches.{row_hit, row_next, row_none}
 use Rattle.state_clients.specs.Places.{place_of}
 use Rattle.state_clients.proofs.Search.{is-client, not-client}
 use Rattle.state_clients.proofs.floors.client_place.Goals as goal
-
-pub loop-i-init : goal.loop-i-init
-loop-i-init c = sought_start _ _
 
 pub returns-then-f-client : goal.returns-then-f-client
 unfolding place_of

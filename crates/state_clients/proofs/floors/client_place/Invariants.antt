@@ -1,5 +1,4 @@
 -- The invariants of `state_clients::floors::client_place`.
-use Prim.Native.Nat.{◌-◌}
 use lib.ListN.{drop}
 use lib.Dec.{eqb}
 use Rattle.model.specs.Limits.{floor_row}
@@ -10,6 +9,3 @@ use Rattle.state_clients.proofs.floors.client_place.Given as goal
 
 abbrev pub invariant-loop-i : goal.invariant-loop-i
 invariant-loop-i l = Sought (λ f. eqb f.client l.client) (rows floor_of_bytes floor_row l.n (drop l.at l.s)) l.i
-
-abbrev pub decreases-loop-i : goal.decreases-loop-i
-decreases-loop-i l = l.n - l.i
