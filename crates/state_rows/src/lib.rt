@@ -151,9 +151,5 @@ pub fn clear(s: &mut [u8], from: usize, to: usize)
     requires { (from ≤ to) × (to ≤ length s.old) }
     ensures { s.new ≡ written s.old from (replicate (to - from) 0) }
 {
-    let mut k = from;
-    while k < to {
-        s[k] = 0;
-        k += 1;
-    }
+    s[from..to].fill(0);
 }
