@@ -1,15 +1,15 @@
 -- Laws of the plan: the test as a loop makes it, and what it says of the entries.
 --     plan-entry-at     an entry from a place on, by its fields' places
---     plan-long, plan-rows, plan_stops, plan-goes, plan_ends     the test of a plan, as a loop makes it
+--     plan-long, plan_steps     the test of a plan, row by row
 --     plan-length       a plan has 64 entries
 --     entry_of_plan     an entry of a plan, by its place
 --     plan-entries      each entry of a plan that passed the test is as it should be
 --     entry-ok          a lookup in entries that are as they should be gives one, past the end too
 --     plan-entry-fits   its numbers fit 32 bits
 -- Assumes nothing.
-use Prim.Native.Nat.{ℕ, zero, suc, ◌+◌, ◌*◌, ◌-◌, ◌<◌, ◌≤◌}
-use mathlib.Core.Path.{◌≡◌, refl, sym, ap, ◌∙◌}
-use mathlib.Core.Bool.{Bool, true, false, ◌&&◌}
+use Prim.Native.Nat.{ℕ, zero, suc, ◌+◌, ◌*◌, ◌<◌}
+use mathlib.Core.Path.{◌≡◌, refl, ap}
+use mathlib.Core.Bool.{true, false, ◌&&◌, not}
 use mathlib.Core.List.{List, [], ◌∷◌}
 use native.Mathlib.Omega.{arith}
 use borrow.Author.Tests.{eq-eqb, ne_eqb}
@@ -24,7 +24,9 @@ use Rattle.model.specs.Limits.{plan_row, plan_size, point_count}
 use Rattle.model.specs.Plan.{plan_entry_of, plan_entry_ok, plan_row_ok, plan_ok, plan_of, entry_at, no_entry}
 use Rattle.model_laws.proofs.Tests.{and_left, and_right, and_both}
 use Rattle.model_laws.proofs.Numbers.{signed-drop, signed_below}
-use Rattle.model_laws.proofs.Tables.{every_row-cons, length-rows, get_d_rows}
+use Rattle.model_laws.proofs.Tables.{length-rows, get_d_rows}
+use Rattle.model_laws.proofs.Loops.{Open, open_next, open_false, open_true}
+use Rattle.format_numbers.proofs.Chains.{Steps}
 
 pub plan-entry-at : (s : List ℕ) (at : ℕ)
     → plan_entry_of (drop at s) ≡ record { low = signed_at s at; high = signed_at s (at + 4); fallback = signed_at s (at + 8); home = get_or s (at + 12) 0 }
@@ -35,26 +37,16 @@ pub plan-long : (s : List ℕ) → (length s ≡ plan_size → ⊥) → false �
 unfolding plan_ok
 plan-long s h = rw (ne_eqb (length s) plan_size h)
 
--- what the rows from index i on pass, once those before it have passed
-abbrev pub rows_from : List ℕ → ℕ → Bool
-rows_from s i = every_row plan_row_ok plan_row (point_count - i) (drop (plan_row * i) s)
-
-plan-rows : (s : List ℕ) (i : ℕ) → i < point_count → rows_from s i ≡ (plan_row_ok (drop (plan_row * i) s) && rows_from s (i + 1))
-plan-rows s i h = simp zero-add at (every_row-cons plan_row_ok plan_row s 0 i point_count h)
-
-module _ (s : List ℕ) (i : ℕ) (e : every_row plan_row_ok plan_row point_count s ≡ rows_from s i) where
-  pub plan-goes : i < point_count → plan_row_ok (drop (plan_row * i) s) ≡ true → every_row plan_row_ok plan_row point_count s ≡ rows_from s (i + 1)
-  plan-goes h k = e ∙ plan-rows s i h ∙ ap (λ (t : Bool). t && rows_from s (i + 1)) k
-
-  pub plan_stops : length s ≡ plan_size → i < point_count → plan_row_ok (drop (plan_row * i) s) ≡ false → false ≡ plan_ok s
-  unfolding plan_ok
-  plan_stops l h k = rw (eq-eqb (length s) plan_size l) (sym (e ∙ plan-rows s i h ∙ ap (λ (t : Bool). t && rows_from s (i + 1)) k))
-
-  pub plan_ends : length s ≡ plan_size → point_count ≤ i → true ≡ plan_ok s
-  unfolding plan_ok every_row
-  plan_ends l h =
-      let n : point_count - i ≡ 0 = omega arith in
-      rw (eq-eqb (length s) plan_size l) (sym (e ∙ ap (λ (k : ℕ). every_row plan_row_ok plan_row k (drop (plan_row * i) s)) n))
+pub plan_steps : (s : List ℕ) → length s ≡ plan_size
+    → Steps point_count (plan_ok s) (λ i. plan_row_ok (drop (plan_row * i) s)) (Open plan_row_ok plan_row 0 (plan_ok s) s point_count)
+unfolding plan_ok
+plan_steps s l =
+    record {
+      start = record { below = omega arith; rest = rw (eq-eqb (length s) plan_size l) };
+      next = λ i o h e. open_next o h (rw zero-add) (ap not e);
+      stop = λ i o h e. open_false o h (rw zero-add) (ap not e);
+      end = λ o. open_true o (omega arith);
+    }
 
 -- ---- the entries
 

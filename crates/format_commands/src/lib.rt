@@ -51,24 +51,10 @@ pub fn plan_ok(s: &[u8]) -> bool
     if s.len() != constants::POINT_COUNT * constants::PLAN_ROW {
         return false;
     }
-    let mut i = 0;
-    while i < constants::POINT_COUNT {
-        if !plan_row_ok(s, constants::PLAN_ROW * i) {
-            return false;
-        }
-        i += 1;
-    }
-    true
+    (0..constants::POINT_COUNT).all(|i| plan_row_ok(s, constants::PLAN_ROW * i))
 }
 
 // ---- the rule of each op
-
-// whole - part, or 0 where part is the greater.
-fn minus(whole: u64, part: u64) -> u64
-    ensures { result ≡ whole - part }
-{
-    if part <= whole { whole - part } else { 0 }
-}
 
 // Outcome, value and quality; a rule knows no time.
 fn result_of(outcome: u8, v: u32, quality: u8) -> CommandResult
@@ -211,8 +197,8 @@ fn part_rule(e: PlanEntry, argument: u32) -> CommandResult
     requires { argument_ok part_op argument ≡ true }
     ensures { result ≡ part_rule third e argument }
 {
-    let span = minus(e.high as u64, e.low as u64);
-    let parts = minus(argument as u64, constants::HALF_U64);
+    let span = (e.high as u64).saturating_sub(e.low as u64);
+    let parts = (argument as u64).saturating_sub(constants::HALF_U64);
     let value = part_value(e.low, span * parts);
     result_of(constants::CARRIED_OUT, value as u32, constants::BY_HAND)
 }

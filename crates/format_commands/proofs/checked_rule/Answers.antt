@@ -1,13 +1,10 @@
 -- What is left to show of `format_commands::checked_rule`.
-use mathlib.Core.Path.{refl, sym, ◌∙◌}
+use mathlib.Core.Path.{refl, sym}
 use native.Mathlib.Omega.{arith}
 use Rattle.model.specs.Limits.{set_op, step_op, report_op}
 use Rattle.model.specs.Rules.{rule_of, argument_range}
 use Rattle.format_commands.proofs.Checked.{inside, outside, other, any_argument}
 use Rattle.format_commands.proofs.checked_rule.Goals as goal
-
-pub part_rule-requires : goal.part_rule-requires
-part_rule-requires c = sym c.argument_ok-in-5.ensures ∙ c.if-argument_ok-3.true
 
 pub returns-then-argument_ok : goal.returns-then-argument_ok
 unfolding rule_of

@@ -4,13 +4,10 @@ use native.Mathlib.Omega.{arith}
 use Rattle.model.specs.Rules.{part_rule}
 use Rattle.format_commands.proofs.part_rule.Goals as goal
 
-pub overflow_mul-span : goal.overflow_mul-span
-overflow_mul-span c = omega (arith, part_scaled c.minus-span.result _ c.minus-parts.ensures c.requires)
-
 pub overflow_cast-value : goal.overflow_cast-value
 overflow_cast-value c =
-    let most = nearest-most _ c.minus-span.result (part_scaled c.minus-span.result _ c.minus-parts.ensures c.requires) in
-    omega (arith, most, c.minus-span.ensures)
+    let most = nearest-most _ c.saturating_sub-span.result (part_scaled c.saturating_sub-span.result _ c.saturating_sub-parts.ensures c.requires) in
+    omega (arith, most, c.saturating_sub-span.ensures)
 
 pub returns : goal.returns
 unfolding part_rule

@@ -16,24 +16,6 @@ module _ (low m odd : ℕ) (e : odd ≡ m / whole_part % 2) where
   unfolding nearest
   down h = rw (le-ltb whole_part (2 * (m % whole_part) + m / whole_part % 2) (omega arith))
 
-pub overflow_mul-rest : goal.overflow_mul-rest
-overflow_mul-rest c = omega arith
-
-pub overflow_sub-rest : goal.overflow_sub-rest
-overflow_sub-rest c = omega arith
-
-pub overflow_add-down : goal.overflow_add-down
-overflow_add-down c = omega arith
-
-pub overflow_mul-rest-2 : goal.overflow_mul-rest-2
-overflow_mul-rest-2 c = omega arith
-
-pub overflow_add-rest : goal.overflow_add-rest
-overflow_add-rest c = omega arith
-
-pub overflow_add-result : goal.overflow_add-result
-overflow_add-result c = omega arith
-
 pub returns-then-rest-odd-gt-WHOLE_PART_U64 : goal.returns-then-rest-odd-gt-WHOLE_PART_U64
 returns-then-rest-odd-gt-WHOLE_PART_U64 c = up _ _ _ c.last_bit-odd.ensures c.if-rest-odd-gt-WHOLE_PART_U64.true
 

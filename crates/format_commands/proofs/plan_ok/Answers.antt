@@ -1,26 +1,14 @@
 -- What is left to show of `format_commands::plan_ok`.
+use native.Mathlib.Omega.{arith}
 use borrow.Author.Rules.{rules}
-use mathlib.Core.Path.{sym, ◌∙◌}
-use Rattle.format_commands.proofs.Plan.{plan-long, plan-goes, plan_stops, plan_ends}
+use borrow.Author.Tests.{tests}
+use Rattle.format_numbers.proofs.Chains.{all_walked}
+use Rattle.format_commands.proofs.Plan.{plan-long, plan_steps}
 use Rattle.format_commands.proofs.plan_ok.Goals as goal
 
 pub returns-then-s : goal.returns-then-s
 returns-then-s c = plan-long c.args.s.now c.if-s.true
 
-pub returns-then-not-plan_row_ok : goal.returns-then-not-plan_row_ok
-returns-then-not-plan_row_ok c =
-    let at = c.loop-i in
-    plan_stops c.args.s.now at.i at.invariant.2 at.invariant.0 c.loop-i-test.true
-    (sym c.plan_row_ok.ensures ∙ c.if-not-plan_row_ok.true)
-
-pub loop-i-preserved : goal.loop-i-preserved
-loop-i-preserved c =
-    let at = c.loop-i in (
-      at.invariant.0,
-      search rules,
-      plan-goes c.args.s.now at.i at.invariant.2 c.loop-i-test.true
-          (sym c.plan_row_ok.ensures ∙ c.if-not-plan_row_ok.false),
-    )
-
 pub returns : goal.returns
-returns c = plan_ends c.args.s.now c.loop-i.i c.loop-i.invariant.2 c.loop-i.invariant.0 c.loop-i-test.false
+returns c =
+    all_walked (plan_steps c.args.s.now (omega (arith, c.if-s.false))) _ _ _ c.all.ensures.ran (cc) (λ i q k. search (rules, tests)) (λ i q k. search (rules, tests))
