@@ -14,7 +14,6 @@ use borrow.Author.Tests.{ltb-false}
 use denote.Enum.Declared.{tag_of}
 use types.Run.{OneOf, miss}
 use Rattle.std.specs.Prelude.{Option, None, Some}
-use Rattle.model.specs.declared.Answer.{Answer}
 use Rattle.model.specs.declared.Notice.{Notice}
 use Rattle.model.specs.declared.Completion.{Completion}
 use Rattle.model.specs.declared.Packet.{Packet}
@@ -39,9 +38,9 @@ module _ (s log : List ℕ) where
   unfolding sync_of lent
   sync-is m = refl
 
-  pub sync-done : (m : ℕ) {r : Answer} {t : List ℕ} → t ≡ stored s (with_mark m (load s)) → r ≡ answer_of no_refusal 0 → after r t log [] ≡ settle s log [] (marks m)
+  pub sync-done : (m : ℕ) {t : List ℕ} → t ≡ stored s (with_mark m (load s)) → after (answer_of no_refusal 0) t log [] ≡ settle s log [] (marks m)
   unfolding settle
-  sync-done m p q = rw (p, q)
+  sync-done m p = rw p
 
 -- ---- fetch
 
@@ -50,10 +49,10 @@ module _ (s log out : List ℕ) where
   unfolding fetch_of lent result_size_of timed_by
   fetch-is client call = refl
 
-  pub fetch-none : (client call : ℕ) {f : Option Completion} → f ≡ found_of (find client call (load s).records) → f ≡ None → {r : Answer} → r ≡ answer_of unknown 0
-      → after r s log out ≡ settle s log out (on_fetch today (load s) client call)
+  pub fetch-none : (client call : ℕ) {f : Option Completion} → f ≡ found_of (find client call (load s).records) → f ≡ None
+      → after (answer_of unknown 0) s log out ≡ settle s log out (on_fetch today (load s) client call)
   unfolding settle on_fetch on_fetched
-  fetch-none client call p q e = rw (e, found_none (find client call (load s).records) (sym q ∙ p))
+  fetch-none client call p q = rw (found_none (find client call (load s).records) (sym q ∙ p))
 
   pub fetch-at : (client call : ℕ) {f : Option Completion} (x : Completion) → f ≡ found_of (find client call (load s).records) → f ≡ Some x
       → {a : After} → a ≡ settle s log out (unless_refused (fetch_refusal (load s).mark x) (reply (result_bytes (result_of_record true x))))
@@ -74,9 +73,9 @@ other-packet st free (Noticed n) h = absurd (miss (0 ∷ 1 ∷ 2 ∷ 3 ∷ 4 ∷
 other-packet st free (Granted q) h = refl
 
 -- 0 where the log has space for a gone record
-pub notice-room : (floor free : ℕ) {m : ℕ} → m ≡ notice_refusal floor free → m ≡ no_refusal → gone_size ≤ free
+pub notice-room : (floor free : ℕ) → no_refusal ≡ notice_refusal floor free → gone_size ≤ free
 unfolding notice_refusal
-notice-room floor free p z = go (eqb floor 0) (ltb free gone_size) refl (sym p ∙ z)
+notice-room floor free p = go (eqb floor 0) (ltb free gone_size) refl (sym p)
   where
     go : (a b : Bool) → ltb free gone_size ≡ b → pick {A = ℕ} a unknown (pick b log_full no_refusal) ≡ no_refusal → gone_size ≤ free
     go true b q e = absurd (omega (arith, e))
@@ -95,10 +94,10 @@ module _ (s log : List ℕ) where
     unfolding notice_of lent
     notice-is = refl
 
-    pub notice-other : {p : Packet} {r : Answer} → p ≡ parse_packet packet → OneOf (0 ∷ 1 ∷ 2 ∷ 3 ∷ 4 ∷ 6 ∷ []) (tag_of the_type p) → r ≡ answer_of malformed 0
-        → after r s log [] ≡ settle s log [] (on_notice (load s) (free_in s log) (parse_packet packet))
+    pub notice-other : {p : Packet} → p ≡ parse_packet packet → OneOf (0 ∷ 1 ∷ 2 ∷ 3 ∷ 4 ∷ 6 ∷ []) (tag_of the_type p)
+        → after (answer_of malformed 0) s log [] ≡ settle s log [] (on_notice (load s) (free_in s log) (parse_packet packet))
     unfolding settle
-    notice-other {p} e h q = rw (q, ← e, other-packet (load s) (free_in s log) p h)
+    notice-other {p} e h = rw (← e, other-packet (load s) (free_in s log) p h)
 
     pub notice-one : (n : Notice) {p : Packet} {a : After} → p ≡ parse_packet packet → p ≡ Noticed n → a ≡ settle s log [] (decide_notice (load s) (free_in s log) n)
         → a ≡ settle s log [] (on_notice (load s) (free_in s log) (parse_packet packet))

@@ -12,6 +12,9 @@ use mathlib.Core.Option.{Option, none, some}
 use native.Mathlib.Omega.{arith}
 use lib.ListN.{length}
 use lib.Dec.{leb, ltb}
+use Rattle.std.specs.Prelude.{Result, Ok, Err}
+use Rattle.refusals.specs.declared.Refusal.{Refusal}
+use Rattle.refusals.specs.Numbers.{number_of}
 use Rattle.model.specs.declared.Request.{Request}
 use Rattle.model.specs.declared.Executed.{Executed}
 use Rattle.model.specs.declared.Completion.{Completion}
@@ -35,7 +38,7 @@ use Rattle.model_invariants.proofs.Kept.{decided-good, decided-sound}
 use Rattle.server_apply.specs.Room.{Room}
 use Rattle.server_apply.proofs.Rooms.{room_of_lem}
 use Rattle.server_service.specs.declared.request.Decision.{Decision}
-use Rattle.server_service.specs.declared.request.Decision.TheVariants.{Refuse, Execute}
+use Rattle.server_service.specs.declared.request.Decision.TheVariants.{Execute}
 use Rattle.server_service.specs.Decisions.{decided}
 
 -- ---- refusals
@@ -79,14 +82,14 @@ small-request st free q =
     (small-if (leb q.lease st.heard) lease_over _ (omega arith) (small-if (ltb q.command.call (floor_of q.command.client st.floors)) under_floor 0 (omega arith) (omega arith))))
     (small-id st free q (find q.command.client q.command.call st.records))
 
-module _ (st : State) (free : ℕ) (q : Request) {d : Decision} (p : decided d ≡ decide_request today st free q) where
-  pub request-number : (n : ℕ) → d ≡ Refuse n → n ≤ log_full
+module _ (st : State) (free : ℕ) (q : Request) {d : Result Decision Refusal} (p : decided d ≡ decide_request today st free q) where
+  pub request-number : (e : Refusal) → d ≡ Err e → number_of e ≤ log_full
   unfolding decided
-  request-number n h = small-request st free q n (sym p ∙ rw h)
+  request-number e h = small-request st free q (number_of e) (sym p ∙ rw h)
 
   -- ---- executions
 
-  module _ (x : Executed) (h : d ≡ Execute x) where
+  module _ (x : Executed) (h : d ≡ Ok (Execute x)) where
     appends : decide_request today st free q ≡ append (executed x)
     unfolding decided
     appends = sym p ∙ rw h

@@ -1,10 +1,11 @@
 -- A request as a chain of refusals, and what it does at the chain's end.
 --     request-point, request-argument     what a well-formed request keeps
 --     executed-is                         the result of its execution, from what was read
---     held-decided, new_decided, request-decided     what is decided, by its number; refused_by, passed-by: where that came from a call
+--     held-decided, new_decided, request-decided     what is decided, by its number; refused_by, passed_by: in the arms of a call's `?`
 --     on_none, on_at                      by what a search found
 --     request-is, request-other, request-one     the whole call
---     denied, answered, executes          what is carried out
+--     denied_by                           refused before its packet is known
+--     denies, replies, executes           what is carried out
 -- Assumes nothing.
 use Prim.Native.Nat.{ℕ, ◌+◌, ◌≤◌}
 use mathlib.Core.Path.{◌≡◌, refl, sym, ap, ◌∙◌}
@@ -14,8 +15,8 @@ use lib.ListN.{length}
 use denote.Enum.Declared.{tag_of}
 use types.Run.{OneOf, miss}
 use lib.Dec.{leb}
-use Rattle.std.specs.Prelude.{Option, None, Some}
-use Rattle.model.specs.declared.Answer.{Answer}
+use Rattle.std.specs.Prelude.{Option, None, Some, Result, Ok, Err}
+use Rattle.std.specs.Result.{IsErrAnd}
 use Rattle.model.specs.declared.PlanEntry.{PlanEntry}
 use Rattle.model.specs.declared.Point.{Point}
 use Rattle.model.specs.declared.CommandResult.{CommandResult}
@@ -39,6 +40,10 @@ use Rattle.model.specs.Apply.{apply_record, apply_executed}
 use Rattle.model.specs.Decisions.{Decided, timed_by, or_malformed, find, result_of_record, result_for, executed_for, request_refusal, held_refusal, new_refusal, on_held, on_new, on_id, decide_request, denying, on_request}
 use Rattle.model.specs.Operations.{After, answer_of, after, settle, stored, free_in, lent_refusal, lent, request_of}
 use Rattle.model.specs.Refusals.{malformed, no_refusal}
+use Rattle.refusals.specs.declared.Refusal.{Refusal}
+use Rattle.refusals.specs.declared.Denied.{Denied}
+use Rattle.refusals.specs.Numbers.{number_of, denied, request_answered}
+use Rattle.refusals.proofs.Numbers.{number-some, exit}
 use Rattle.model_laws.proofs.Tests.{and_left}
 use Rattle.model_laws.proofs.Commands.{CommandParts, command-parts}
 use Rattle.format_commands.specs.Results.{checked_rule}
@@ -46,9 +51,9 @@ use Rattle.model_invariants.specs.Sound.{GoodRequest}
 use Rattle.model_laws.proofs.Refused.{unless_passed, unless_refused_lem}
 use Rattle.state_records.specs.Rules.{found_of}
 use Rattle.state_records.proofs.Search.{found_none, found_at}
-use Rattle.server_memory.proofs.Settled.{replied, appended}
+use Rattle.server_memory.proofs.Settled.{settle-refused, replied, appended}
 use Rattle.server_service.specs.declared.request.Decision.{Decision}
-use Rattle.server_service.specs.declared.request.Decision.TheVariants.{Refuse, Reply, Execute}
+use Rattle.server_service.specs.declared.request.Decision.TheVariants.{Reply, Execute}
 use Rattle.server_service.specs.Decisions.{decided, refusal_for}
 
 -- ---- a well-formed request
@@ -91,13 +96,14 @@ module _ (st : State) (q : Request) where
   unfolding decide_request
   request-decided free = refl
 
-module _ (d : Decided) {e : Decided} {n m : ℕ} (p : n ≡ m) (q : e ≡ unless_refused m d) where
-  pub refused_by : (n ≡ no_refusal → ⊥) → {r : Decision} → r ≡ Refuse n → decided r ≡ e
+-- in the arms of the `?` on a call that promises the number m: it gave the refusal y, and so does r; or it passed
+module _ (d : Decided) {e : Decided} {m : ℕ} (q : e ≡ unless_refused m d) where
+  pub refused_by : (y : Refusal) → number_of y ≡ m → (r : Result Decision Refusal) → IsErrAnd r (λ x. x ≡ y) → decided r ≡ e
   unfolding decided
-  refused_by h k = rw k (sym (q ∙ ap (λ (j : ℕ). unless_refused j d) (sym p) ∙ unless_refused_lem n d h))
+  refused_by y p r h = rw (exit r h) (sym (q ∙ ap (λ (j : ℕ). unless_refused j d) (sym p) ∙ unless_refused_lem (number_of y) d (number-some y)))
 
-  pub passed_by : n ≡ no_refusal → {r : Decided} → r ≡ d → r ≡ e
-  passed_by h k = k ∙ sym (q ∙ unless_passed m d (sym p ∙ h))
+  pub passed_by : no_refusal ≡ m → {r : Decided} → r ≡ d → r ≡ e
+  passed_by p k = k ∙ sym (q ∙ unless_passed m d (sym p))
 
 module _ (st : State) (free : ℕ) (q : Request) {f : Option Completion} (p : f ≡ found_of (find q.command.client q.command.call st.records)) where
   pub on_none : f ≡ None → {d : Decided} → d ≡ on_new today st free q → d ≡ on_id today st free q (find q.command.client q.command.call st.records)
@@ -127,32 +133,37 @@ module _ (s log out : List ℕ) where
     unfolding request_of lent result_size_of timed_by
     request-is = refl
 
-    pub request-other : {p : Packet} {r : Answer} → p ≡ parse_packet packet → OneOf (0 ∷ 2 ∷ 3 ∷ 4 ∷ 5 ∷ 6 ∷ []) (tag_of the_type p) → r ≡ answer_of malformed 0
-        → after r s log out ≡ settle s log out (on_request today (load s) (free_in s log) (parse_packet packet))
+    pub request-other : {p : Packet} → p ≡ parse_packet packet → OneOf (0 ∷ 2 ∷ 3 ∷ 4 ∷ 5 ∷ 6 ∷ []) (tag_of the_type p)
+        → after (answer_of malformed 0) s log out ≡ settle s log out (on_request today (load s) (free_in s log) (parse_packet packet))
     unfolding settle
-    request-other {p} e h q = rw (q, ← e, other-packet (load s) (free_in s log) p h)
+    request-other {p} e h = rw (← e, other-packet (load s) (free_in s log) p h)
 
     pub request-one : (q : Request) {p : Packet} {a : After} → p ≡ parse_packet packet → p ≡ Requested q
         → a ≡ settle s log out (denying q (decide_request today (load s) (free_in s log) q)) → a ≡ settle s log out (on_request today (load s) (free_in s log) (parse_packet packet))
     unfolding on_request or_malformed as_request
     request-one q e h k = rw (← e, h) k
 
+  -- in the error arm of the `?` on a call that promises the number m: it gave the refusal e, and r is it without a packet
+  pub denied_by : (d : Decided) {m : ℕ} (e : Refusal) → number_of e ≡ m → (r : Result ℕ Denied) → IsErrAnd r (λ x. x ≡ denied e 0)
+      → after (request_answered r) s log out ≡ settle s log out (unless_refused m d)
+  denied_by d e p r h = rw (exit r h, ← p) (sym (settle-refused s log out d (number_of e) (number-some e)))
+
   -- what is carried out, by what was decided
-  module _ (q : Request) {d : Decision} {e : Decided} (p : decided d ≡ e) where
-    pub denied : (n : ℕ) → d ≡ Refuse n → {r : Answer} {o : List ℕ} → r ≡ answer_of n refusal_size → o ≡ written out 0 (refusal_bytes (refusal_for n q))
-        → after r s log o ≡ settle s log out (denying q e)
+  module _ (q : Request) {d : Result Decision Refusal} {e : Decided} (p : decided d ≡ e) where
+    pub denies : (y : Refusal) → d ≡ Err y → {r : Denied} {o : List ℕ} → r ≡ denied y refusal_size → o ≡ written out 0 (refusal_bytes (refusal_for (number_of y) q))
+        → after (request_answered (Err r)) s log o ≡ settle s log out (denying q e)
     unfolding decided denying settle refusal_bytes
-    denied n h a b = rw (← p, h, a, b)
+    denies y h a b = rw (← p, h, a, b)
 
-    pub answered : (x : Completion) → d ≡ Reply x → {r : Answer} {o : List ℕ} → r ≡ answer_of no_refusal result_size → o ≡ written out 0 (result_bytes (result_of_record true x))
-        → after r s log o ≡ settle s log out (denying q e)
+    pub replies : (x : Completion) → d ≡ Ok (Reply x) → {n : ℕ} {o : List ℕ} → n ≡ result_size → o ≡ written out 0 (result_bytes (result_of_record true x))
+        → after (answer_of no_refusal n) s log o ≡ settle s log out (denying q e)
     unfolding decided denying result_of_record
-    answered x h a b = rw (← p, h) (replied s log out (result_of_record true x) refl a b)
+    replies x h a b = rw (← p, h) (replied s log out (result_of_record true x) refl a b)
 
-    pub executes : (x : Executed) → d ≡ Execute x → x.timed ≡ true → {r : Answer} {t l : List ℕ} → r ≡ answer_of no_refusal 0
+    pub executes : (x : Executed) → d ≡ Ok (Execute x) → x.timed ≡ true → {t l : List ℕ}
         → t ≡ stored s (apply_executed x ((load s).size + executed_size) (load s)) → l ≡ written log (load s).size (record_bytes (executed x))
-        → after r t l out ≡ settle s log out (denying q e)
+        → after (answer_of no_refusal 0) t l out ≡ settle s log out (denying q e)
     unfolding decided denying apply_record record_size executed_size_of
-    executes x h z a b c =
+    executes x h z b c =
         rw (← p, h)
-        (appended s log out (executed x) (b ∙ ap (λ (n : ℕ). stored s (apply_executed x ((load s).size + n) (load s))) (sym (ap executed_size_of z))) c a)
+        (appended s log out (executed x) (b ∙ ap (λ (n : ℕ). stored s (apply_executed x ((load s).size + n) (load s))) (sym (ap executed_size_of z))) c)

@@ -4,9 +4,8 @@ ghost use Rattle.model.specs.Limits.{result_size};
 ghost use Rattle.model.specs.Tables.{written};
 ghost use Rattle.model.specs.Packets.{result_bytes};
 ghost use Rattle.model.specs.Decisions.{result_of_record};
-ghost use Rattle.model.specs.Operations.{answer_of};
 
-use model::{Answer, Completion, ResultPacket, constants};
+use model::{Completion, ResultPacket, constants};
 
 // The result packet of a completion record.
 fn result_of(completion: Completion) -> ResultPacket
@@ -22,12 +21,12 @@ fn result_of(completion: Completion) -> ResultPacket
     }
 }
 
-// A held result: its packet, written to the output.
-pub fn reply(out: &mut [u8], completion: Completion) -> Answer
+// A held result: its packet, written to the output, and how many bytes it has.
+pub fn reply(out: &mut [u8], completion: Completion) -> u32
     requires { result_size ≤ length out.old }
-    ensures { (result ≡ answer_of 0 result_size)
+    ensures { (result ≡ result_size)
         × (out.new ≡ written out.old 0 (result_bytes (result_of_record true completion))) }
 {
     format_packet_writer::write_result(out, result_of(completion));
-    server_decide::made(constants::RESULT_SIZE_U32)
+    constants::RESULT_SIZE_U32
 }

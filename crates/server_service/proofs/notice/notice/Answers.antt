@@ -6,28 +6,28 @@ use Rattle.server_service.proofs.Chains.{notice-is, notice-other, notice-one}
 use borrow.Enum.Refused.{opened}
 use Rattle.server_service.proofs.notice.notice.Goals as goal
 
-pub returns-then-refusal-ne0 : goal.returns-then-refusal-ne0
-returns-then-refusal-ne0 c =
+pub returns-in_err-lent_refusal : goal.returns-in_err-lent_refusal
+returns-in_err-lent_refusal c =
     let start = c.args in
-    by_refused start.s.now start.log.now [] _ c.lent_refusal-refusal.ensures c.if-refusal-ne0.true c.refused.ensures ∙ sym
+    by_refused start.s.now start.log.now [] _ _ c.in_err-lent_refusal.ensures _ c.from_residual.ensures.1 ∙ sym
     (notice-is start.s.now start.log.now start.packet.now)
 
 pub returns-in_default : goal.returns-in_default
 returns-in_default c =
     let start = c.args in
-    by_passed start.s.now start.log.now [] _ c.lent_refusal-refusal.ensures c.if-refusal-ne0.false
-    (notice-other start.s.now start.log.now start.packet.now c.parse_packet-parsed.ensures (opened c.in_default.in_default-own.keys2) c.refused-in_default.ensures)
+    by_passed start.s.now start.log.now [] _ c.in_ok-lent_refusal.ensures
+    (notice-other start.s.now start.log.now start.packet.now c.parse_packet-parsed.ensures (opened c.in_default.in_default-own.keys2))
     ∙ sym (notice-is start.s.now start.log.now start.packet.now)
 
 pub noticed-requires : goal.noticed-requires
 noticed-requires c = (
-  passed-canonical _ _ _ _ c.lent_refusal-refusal.ensures c.if-refusal-ne0.false (λ i. (c.slice_known-1.given i).fits),
-  (passed-fit _ _ _ _ c.lent_refusal-refusal.ensures c.if-refusal-ne0.false).logged,
+  passed-canonical _ _ _ _ c.in_ok-lent_refusal.ensures (λ i. (c.slice_known-1.given i).fits),
+  (passed-fit _ _ _ _ c.in_ok-lent_refusal.ensures).logged,
 )
 
 pub returns : goal.returns
 returns c =
     let start = c.args in
-    by_passed start.s.now start.log.now [] _ c.lent_refusal-refusal.ensures c.if-refusal-ne0.false
+    by_passed start.s.now start.log.now [] _ c.in_ok-lent_refusal.ensures
     (notice-one start.s.now start.log.now start.packet.now _ c.parse_packet-parsed.ensures c.in-Noticed.is c.noticed.ensures)
     ∙ sym (notice-is start.s.now start.log.now start.packet.now)

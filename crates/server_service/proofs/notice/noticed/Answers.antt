@@ -9,23 +9,23 @@ use Rattle.server_memory.proofs.Settled.{by_refused, by_passed, appended}
 use Rattle.server_service.proofs.Chains.{notice_by, notice-room}
 use Rattle.server_service.proofs.notice.noticed.Goals as goal
 
-pub returns-then-refusal-ne0 : goal.returns-then-refusal-ne0
-returns-then-refusal-ne0 c =
+pub returns-in_err-notice_refusal : goal.returns-in_err-notice_refusal
+returns-in_err-notice_refusal c =
     let start = c.args in
     notice_by start.s.now start.log.now start.notice
-    (by_refused start.s.now start.log.now [] _ (c.notice_refusal-refusal.ensures ∙ rw (c.floor_in-floor.ensures, c.free_in-free.ensures)) c.if-refusal-ne0.true
-    c.refused.ensures)
+    (by_refused start.s.now start.log.now [] _ _ (c.in_err-notice_refusal.ensures ∙ rw (c.floor_in-floor.ensures, c.free_in-free.ensures)) _
+    c.from_residual.ensures.1)
 
 pub append_gone-requires : goal.append_gone-requires
 unfolding free_in
 append_gone-requires c =
-    omega (arith, c.requires.1, c.free_in-free.ensures, c.size_of-size.ensures, notice-room _ _ c.notice_refusal-refusal.ensures c.if-refusal-ne0.false)
+    omega (arith, c.requires.1, c.free_in-free.ensures, c.size_of-size.ensures, notice-room _ _ c.in_ok-notice_refusal.ensures)
 
 pub returns : goal.returns
 unfolding record_size apply_record
 returns c =
     let start = c.args in
     notice_by start.s.now start.log.now start.notice
-    (by_passed start.s.now start.log.now [] _ (c.notice_refusal-refusal.ensures ∙ rw (c.floor_in-floor.ensures, c.free_in-free.ensures)) c.if-refusal-ne0.false
+    (by_passed start.s.now start.log.now [] _ (c.in_ok-notice_refusal.ensures ∙ rw (c.floor_in-floor.ensures, c.free_in-free.ensures))
     (appended start.s.now start.log.now [] (gone start.notice) (c.apply_gone.ensures ∙ rw c.size_of-size.ensures)
-    (c.append_gone.ensures ∙ rw c.size_of-size.ensures) c.made.ensures))
+    (c.append_gone.ensures ∙ rw c.size_of-size.ensures)))

@@ -1,5 +1,5 @@
 -- What is left to show of `server_service::reply::reply`.
-use mathlib.Core.Path.{◌∙◌}
+use mathlib.Core.Path.{refl, ◌∙◌}
 use Rattle.model.specs.Decisions.{result_of_record}
 use Rattle.server_service.proofs.reply.reply.Goals as goal
 
@@ -9,4 +9,4 @@ write_result-requires c = (c.requires, rw c.result_of.ensures)
 
 pub returns : goal.returns
 returns c =
-    (c.made.ensures, c.write_result.ensures ∙ rw c.result_of.ensures)
+    (refl, c.write_result.ensures ∙ rw c.result_of.ensures)

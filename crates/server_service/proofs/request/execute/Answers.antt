@@ -4,4 +4,4 @@ use Rattle.server_service.proofs.request.execute.Goals as goal
 
 pub returns : goal.returns
 returns c =
-    (c.made.ensures, c.apply_executed.ensures ∙ rw c.size_of-size.ensures, c.append_executed.ensures ∙ rw c.size_of-size.ensures)
+    (c.apply_executed.ensures ∙ rw c.size_of-size.ensures, c.append_executed.ensures ∙ rw c.size_of-size.ensures)

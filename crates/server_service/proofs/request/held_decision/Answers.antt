@@ -7,15 +7,15 @@ use Rattle.server_service.specs.Decisions.{decided}
 use Rattle.server_service.proofs.Requests.{held-decided, refused_by, passed_by}
 use Rattle.server_service.proofs.request.held_decision.Goals as goal
 
-pub returns-then-refusal-ne0 : goal.returns-then-refusal-ne0
-returns-then-refusal-ne0 c =
+pub returns-in_err-held_refusal : goal.returns-in_err-held_refusal
+returns-in_err-held_refusal c =
     let start = c.args in
-    refused_by _ (c.held_refusal-refusal.ensures ∙ ap (λ (mark : ℕ). held_refusal mark start.q start.completion) c.mark_of-mark.ensures)
-    (held-decided (load start.s.now) start.q start.completion) c.if-refusal-ne0.true refl
+    refused_by _ (held-decided (load start.s.now) start.q start.completion) _
+    (c.in_err-held_refusal.ensures ∙ ap (λ (mark : ℕ). held_refusal mark start.q start.completion) c.mark_of-mark.ensures) _ c.from_residual.ensures.1
 
 pub returns : goal.returns
 unfolding decided
 returns c =
     let start = c.args in
-    passed_by _ (c.held_refusal-refusal.ensures ∙ ap (λ (mark : ℕ). held_refusal mark start.q start.completion) c.mark_of-mark.ensures)
-    (held-decided (load start.s.now) start.q start.completion) c.if-refusal-ne0.false refl
+    passed_by _ (held-decided (load start.s.now) start.q start.completion)
+    (c.in_ok-held_refusal.ensures ∙ ap (λ (mark : ℕ). held_refusal mark start.q start.completion) c.mark_of-mark.ensures) refl

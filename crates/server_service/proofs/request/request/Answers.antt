@@ -1,27 +1,27 @@
 -- What is left to show of `server_service::request::request`.
 use mathlib.Core.Path.{sym, ◌∙◌}
-use Rattle.server_memory.proofs.Settled.{by_refused, by_passed, passed-fit}
+use Rattle.server_memory.proofs.Settled.{by_passed, passed-fit}
 use Rattle.model_invariants.proofs.Formats.{parsed-request}
-use Rattle.server_service.proofs.Requests.{request-is, request-other, request-one}
+use Rattle.server_service.proofs.Requests.{denied_by, request-is, request-other, request-one}
 use borrow.Enum.Refused.{opened}
 use Rattle.server_service.proofs.request.request.Goals as goal
 
-pub returns-then-refusal-ne0 : goal.returns-then-refusal-ne0
-returns-then-refusal-ne0 c =
+pub returns-in_err-lent_refusal : goal.returns-in_err-lent_refusal
+returns-in_err-lent_refusal c =
     let start = c.args in
-    by_refused start.s.now start.log.now start.out.now _ c.lent_refusal-refusal.ensures c.if-refusal-ne0.true c.refused.ensures
+    denied_by start.s.now start.log.now start.out.now _ _ c.in_err-lent_refusal.ensures _ c.from_residual.ensures.1
     ∙ sym (request-is start.s.now start.log.now start.out.now start.packet.now)
 
 pub returns-in_default : goal.returns-in_default
 returns-in_default c =
     let start = c.args in
-    by_passed start.s.now start.log.now start.out.now _ c.lent_refusal-refusal.ensures c.if-refusal-ne0.false
-    (request-other start.s.now start.log.now start.out.now start.packet.now c.parse_packet-parsed.ensures (opened c.in_default.in_default-own.keys2) c.refused-in_default.ensures)
-    ∙ sym (request-is start.s.now start.log.now start.out.now start.packet.now)
+    rw c.into.ensures (by_passed start.s.now start.log.now start.out.now _ c.in_ok-lent_refusal.ensures
+    (request-other start.s.now start.log.now start.out.now start.packet.now c.parse_packet-parsed.ensures (opened c.in_default.in_default-own.keys2))
+    ∙ sym (request-is start.s.now start.log.now start.out.now start.packet.now))
 
 pub requested-requires : goal.requested-requires
 requested-requires c = (
-  passed-fit _ _ _ _ c.lent_refusal-refusal.ensures c.if-refusal-ne0.false,
+  passed-fit _ _ _ _ c.in_ok-lent_refusal.ensures,
   parsed-request c.args.packet.now _ (λ i. (c.shared_slice_known-1.given i).fits)
       (sym c.parse_packet-parsed.ensures ∙ c.in-Requested.is),
 )
@@ -29,6 +29,6 @@ requested-requires c = (
 pub returns : goal.returns
 returns c =
     let start = c.args in
-    by_passed start.s.now start.log.now start.out.now _ c.lent_refusal-refusal.ensures c.if-refusal-ne0.false
+    by_passed start.s.now start.log.now start.out.now _ c.in_ok-lent_refusal.ensures
     (request-one start.s.now start.log.now start.out.now start.packet.now _ c.parse_packet-parsed.ensures c.in-Requested.is c.requested.ensures)
     ∙ sym (request-is start.s.now start.log.now start.out.now start.packet.now)
