@@ -20,10 +20,8 @@ fn or_words(s: &[u8], at: usize, n: usize) -> u32
     ensures { eqb result 0 ≡ zeros (4 * n) (drop at s.now) }
 {
     let mut acc = 0;
-    let mut i = 0;
-    while i < n {
+    for i in 0..n {
         acc |= format_numbers::read_u32(s, at + 4 * i);
-        i += 1;
     }
     acc
 }
@@ -242,12 +240,10 @@ pub fn points_ok(s: &[u8], plan: usize, at: usize, server: u8, size: u64) -> boo
     requires { (plan + plan_size ≤ length s.now) × (at + point_row * point_count ≤ length s.now) }
     ensures { result ≡ rows_ok server size (drop plan s.now) (drop at s.now) }
 {
-    let mut i = 0;
-    while i < POINT_COUNT {
+    for i in 0..POINT_COUNT {
         if !row_ok(s, plan + PLAN_ROW * i, at + POINT_ROW * i, server, size) {
             return false;
         }
-        i += 1;
     }
     true
 }
@@ -266,12 +262,10 @@ pub fn floors_ok(s: &[u8], at: usize, n: usize) -> bool
     requires { at + floor_row * n ≤ length s.now }
     ensures { result ≡ every floor_ok (rows floor_of_bytes floor_row n (drop at s.now)) }
 {
-    let mut i = 0;
-    while i < n {
+    for i in 0..n {
         if !format_floors::floor_ok(s, at + FLOOR_ROW * i) {
             return false;
         }
-        i += 1;
     }
     true
 }
@@ -281,12 +275,10 @@ pub fn clients_ascend(s: &[u8], at: usize, n: usize) -> bool
     requires { at + floor_row * n ≤ length s.now }
     ensures { result ≡ clients_ascend (rows floor_of_bytes floor_row n (drop at s.now)) }
 {
-    let mut i = 0;
-    while i + 1 < n {
+    for i in 0..n.saturating_sub(1) {
         if !format_floors::client_before(s, at + FLOOR_ROW * i) {
             return false;
         }
-        i += 1;
     }
     true
 }

@@ -10,6 +10,3 @@ use Rattle.state_sound_rows.proofs.clients_ascend.Given as goal
 
 abbrev pub invariant-loop-i : goal.invariant-loop-i
 invariant-loop-i l = Open client_before floor_row l.at (clients_ascend (rows floor_of_bytes floor_row l.n (drop l.at l.s))) l.s (l.n - 1) l.i
-
-abbrev pub decreases-loop-i : goal.decreases-loop-i
-decreases-loop-i l = l.n - l.i
