@@ -1,16 +1,19 @@
 -- Refusals by their numbers.
 --     number-least, number-most, number-some     a refusal's number is of 1 to 21, and not 0
+--     ok-passed                                  whether tests are passed
 --     exit                                       what the exit of a `?` returns
 -- Assumes nothing.
 use Prim.Native.Nat.{◌≤◌}
-use mathlib.Core.Path.{◌≡◌, ap}
+use mathlib.Core.Path.{◌≡◌, refl, sym, ap}
 use native.Mathlib.Omega.{arith}
+use lib.Dec.{eqb}
+use borrow.Author.Tests.{ne_eqb}
 use Rattle.std.specs.Prelude.{Result, Ok, Err}
-use Rattle.std.specs.Result.{IsErrAnd}
+use Rattle.std.specs.Result.{IsErrAnd, is_ok}
 use Rattle.model.specs.Refusals.{no_refusal, already_waiting}
 use Rattle.refusals.specs.declared.Refusal.{Refusal}
 use Rattle.refusals.specs.declared.Refusal.TheVariants.{Malformed, TooShort, NotHeld, LeaseOver, UnderFloor, OtherCommand, NotSynced, ClientsFull, LogFull, BadMark, WrongDestination, OldMove, AlreadyHeld, BadLog, WindowFull, NumbersOut, Unknown, LeasesFull, Unsound, NotSafe, AlreadyWaiting}
-use Rattle.refusals.specs.Numbers.{number_of}
+use Rattle.refusals.specs.Numbers.{number_of, refusal_of}
 
 pub number-least : (e : Refusal) → 1 ≤ number_of e
 number-least Malformed = omega arith
@@ -60,6 +63,11 @@ number-most AlreadyWaiting = omega arith
 
 pub number-some : (e : Refusal) → number_of e ≡ no_refusal → ⊥
 number-some e z = omega (arith, number-least e)
+
+-- whether tests are passed
+pub ok-passed : {A : Type 0} (o : Result A Refusal) → is_ok o ≡ eqb (refusal_of o) no_refusal
+ok-passed (Ok x) = refl
+ok-passed (Err e) = sym (ne_eqb (number_of e) no_refusal (number-some e))
 
 -- the exit of a `?`: what it returns
 pub exit : {A E : Type 0} (r : Result A E) {y : E} → IsErrAnd r (λ x. x ≡ y) → r ≡ Err y

@@ -8,7 +8,7 @@ ghost use Rattle.state_rows.specs.Canonical.{Canonical};
 ghost use Rattle.server_replay.specs.Standing.{Ready, ReplayedBy};
 
 use model::Executed;
-use model::constants::{EXECUTED_SIZE, NO_REFUSAL};
+use model::constants::EXECUTED_SIZE;
 use state_records::ids;
 use state_rows::state;
 
@@ -24,7 +24,7 @@ fn executed_follows(s: &[u8], execution: Executed) -> bool
     let asked = server_decide::request_refusal(x, false, floor, execution.command.call);
     let new = server_decide::new_refusal(floor, clients, EXECUTED_SIZE);
     let in_range = format_numbers::in_range(e, execution.result.value);
-    (asked == NO_REFUSAL) & (fresh & ((new == NO_REFUSAL) & in_range))
+    asked.is_ok() & (fresh & (new.is_ok() & in_range))
 }
 
 pub fn replay_executed(s: &mut [u8], execution: Executed, end: u64) -> bool

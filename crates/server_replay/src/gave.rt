@@ -8,7 +8,7 @@ ghost use Rattle.state_rows.specs.Canonical.{Canonical};
 ghost use Rattle.server_replay.specs.Standing.{Ready, ReplayedBy};
 
 use model::Give;
-use model::constants::{GIVE_SIZE, NO_REFUSAL};
+use model::constants::GIVE_SIZE;
 use state_rows::state;
 
 fn gave_follows(s: &[u8], g: Give) -> bool
@@ -17,8 +17,8 @@ fn gave_follows(s: &[u8], g: Give) -> bool
 {
     let x = state::point_at(s, g.point);
     let server = state::server_of(s);
-    let refusal = server_decide::give_refusal(x, server, GIVE_SIZE, g.destination as u32);
-    (refusal == NO_REFUSAL) & (g.move_number as u64 == x.move_number as u64 + 1)
+    let given = server_decide::give_refusal(x, server, GIVE_SIZE, g.destination as u32);
+    given.is_ok() & (g.move_number as u64 == x.move_number as u64 + 1)
 }
 
 pub fn replay_gave(s: &mut [u8], g: Give, end: u64) -> bool

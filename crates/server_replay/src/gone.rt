@@ -7,14 +7,14 @@ ghost use Rattle.state_rows.specs.Canonical.{Canonical};
 ghost use Rattle.server_replay.specs.Standing.{Ready, ReplayedBy};
 
 use model::Notice;
-use model::constants::{GONE_SIZE, NO_REFUSAL};
+use model::constants::GONE_SIZE;
 
 fn gone_follows(s: &[u8], notice: Notice) -> bool
     requires { Canonical s.now }
     ensures { result ≡ follows (load s.now) (gone notice) }
 {
     let floor = state_clients::floor_in(s, notice.client);
-    server_decide::notice_refusal(floor, GONE_SIZE) == NO_REFUSAL
+    server_decide::notice_refusal(floor, GONE_SIZE).is_ok()
 }
 
 pub fn replay_gone(s: &mut [u8], notice: Notice, end: u64) -> bool

@@ -8,7 +8,7 @@ ghost use Rattle.state_rows.specs.Canonical.{Canonical};
 ghost use Rattle.server_replay.specs.Standing.{Ready, ReplayedBy};
 
 use model::Release;
-use model::constants::{NO_REFUSAL, RELEASE_SIZE};
+use model::constants::RELEASE_SIZE;
 use state_rows::state;
 
 fn released_follows(s: &[u8], release: Release) -> bool
@@ -16,8 +16,8 @@ fn released_follows(s: &[u8], release: Release) -> bool
     ensures { result ≡ follows (load s.now) (released release) }
 {
     let x = state::point_at(s, release.point);
-    let refusal = server_decide::release_refusal(x, RELEASE_SIZE, release.move_number);
-    (refusal == NO_REFUSAL) & (release.move_number == x.move_number)
+    let given = server_decide::release_refusal(x, RELEASE_SIZE, release.move_number);
+    given.is_ok() & (release.move_number == x.move_number)
 }
 
 pub fn replay_released(s: &mut [u8], release: Release, end: u64) -> bool

@@ -9,7 +9,6 @@ ghost use Rattle.server_replay.specs.Standing.{Standing, Ready, ReplayedBy};
 ghost use Rattle.server_replay.specs.Imaged.{Imaged};
 
 use model::ImageHead;
-use model::constants::NO_REFUSAL;
 use state_records::ids;
 use state_rows::state;
 
@@ -26,7 +25,7 @@ fn took_follows(s: &[u8], image: &[u8], h: ImageHead) -> bool
     let ranged = format_image_reader::values_in_range(image, h, e);
     let unheld = ids::ids_free(s, image, h);
     let merged = state_clients::merged_count(s, image, h.floors as usize);
-    let refusal = server_decide::take_refusal(
+    let taken = server_decide::take_refusal(
         x,
         server,
         h.destination,
@@ -37,7 +36,7 @@ fn took_follows(s: &[u8], image: &[u8], h: ImageHead) -> bool
         0,
         0,
     );
-    refusal == NO_REFUSAL
+    taken.is_ok()
 }
 
 // ---- the record

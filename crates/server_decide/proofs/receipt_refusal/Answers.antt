@@ -10,7 +10,7 @@ returns-then-x-eq0 c = search picks depth 24
 
 pub returns-then-not-is_synced : goal.returns-then-not-is_synced
 unfolding receipt_refusal
-returns-then-not-is_synced c = search (picks, yes_not, no_not) depth 24
+returns-then-not-is_synced c = search (picks, yes_not) depth 24
 
 pub returns : goal.returns
 unfolding receipt_refusal

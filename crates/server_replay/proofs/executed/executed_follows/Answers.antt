@@ -1,5 +1,6 @@
 -- What is left to show of `server_replay::executed::executed_follows`.
 use Rattle.model.specs.Decisions.{follows}
+use Rattle.refusals.proofs.Numbers.{ok-passed}
 use Rattle.server_replay.proofs.Rooms.{executed-space}
 use Rattle.server_replay.proofs.executed.executed_follows.Goals as goal
 
@@ -9,7 +10,11 @@ returns c =
     rw (
       executed-space,
       c.in_range-in_range.ensures,
+      c.is_ok-2.ensures.value,
+      ok-passed c.new_refusal-new.result,
       c.new_refusal-new.ensures,
+      c.is_ok.ensures.value,
+      ok-passed c.request_refusal-asked.result,
       c.request_refusal-asked.ensures,
       c.clients_of-clients.ensures,
       c.is_missing-fresh.ensures,
