@@ -106,10 +106,8 @@ pub fn write_floors(out: &mut [u8], table: &[u8], n: usize)
     ensures { out.new ≡ written out.old least_image
         (bytes_of floor_bytes (rows floor_of_bytes floor_row n table.now)) }
 {
-    let mut i = 0;
-    while i < n {
+    for i in 0..n {
         let f = format_floors::floor_from(table, FLOOR_ROW * i);
         format_floors::put_floor(out, LEAST_IMAGE + FLOOR_ROW * i, f);
-        i += 1;
     }
 }

@@ -1,6 +1,6 @@
 -- The slots of a point in a sound buffer, walked: the image's entries.
 --     slots_count, slot_most                 how many slots, and what they hold
---     next_skip, next-put, next-room, entries-done     the loop over them
+--     next-put, next-room, entries-done     the loop over them
 --     head_of                                the head, by its fields
 -- Assumes nothing.
 use Prim.Native.Nat.{ℕ, ◌+◌, ◌-◌, ◌*◌, ◌≤◌, ◌<◌}
@@ -29,7 +29,7 @@ use Rattle.state_image.specs.Slots.{no_record, point_slots, entry_in, entries_in
 use Rattle.state_image.proofs.Order.{entries-take}
 use Rattle.state_image.proofs.Filled.{slots_length, slots_most, slots_past, slots_sorted}
 use Rattle.state_image.proofs.Picking.{tables, length-floors, length-records, record-at}
-use Rattle.state_image.proofs.Writing.{Walking, walk_skip, walk_put, walk-room, walk_end}
+use Rattle.state_image.proofs.Writing.{Walking, walk_put, walk-room, walk_end}
 
 module _ (p : ℕ) (s : List ℕ) (S : Sound s) {n : ℕ} (q : n ≡ clients_in s) {t : List ℕ} (e : t ≡ point_slots (load s) p) where
   slots_all : length t ≡ record_count
@@ -39,35 +39,25 @@ module _ (p : ℕ) (s : List ℕ) (S : Sound s) {n : ℕ} (q : n ≡ clients_in 
   pub slots_count : length (take (call_window * n) t) ≡ call_window * n
   slots_count = length-take-le (call_window * n) t (omega (arith, slots_all, S.few_clients))
 
-  slot_at : (k : ℕ) → k < call_window * n → get_or (take (call_window * n) t) k 0 ≡ get_or t k 0
-  slot_at k l = get_or-take (call_window * n) t k 0 l
-
-  pub slot_most : (k : ℕ) → get_or t k 0 ≤ records_in s
+  pub slot_most : (k : ℕ) → k < length (take (call_window * n) t) → get_or (take (call_window * n) t) k 0 ≤ records_in s
   unfolding point_slots
-  slot_most k = rw e (omega (arith, slots_most p (load s).floors 0 (load s).records k, length-records s))
+  slot_most k l =
+      rw (get_or-take (call_window * n) t k 0 (omega (arith, slots_count)), e)
+      (omega (arith, slots_most p (load s).floors 0 (load s).records k, length-records s))
 
   slot_entry : (v : ℕ) → v ≢ 0 → v ≤ records_in s → {x : ImageEntry} → x ≡ entry_of_record (completion_of (drop (records_start + record_row * (v - 1)) s)) → x ≡ entry_in (load s).records v
   unfolding entry_in
   slot_entry v z l x = x ∙ ap entry_of_record (sym (record-at s (v - 1) (omega arith)))
 
-  module _ {at : ℕ} {s₀ s₁ : List ℕ} {k j : ℕ} (o : Walking (entry_codec true) (load s).records (take (call_window * n) t) at s₀ k j s₁) (l : k < call_window * n) where
-    short : k < length (take (call_window * n) t)
-    short = omega (arith, slots_count)
+  module _ {at : ℕ} {s₀ s₁ : List ℕ} {k j : ℕ} (o : Walking (entry_codec true) (load s).records (take (call_window * n) t) at s₀ k j s₁) (l : k < length (take (call_window * n) t))
+      (z : get_or (take (call_window * n) t) k 0 ≢ 0) where
+    pub next-room : j < call_window * n
+    next-room = omega (arith, slots_count, walk-room o l z)
 
-    pub next_skip : get_or t k 0 ≡ 0 → Walking (entry_codec true) (load s).records (take (call_window * n) t) at s₀ (k + 1) j s₁
-    next_skip z = walk_skip o short (slot_at k l ∙ z)
-
-    other : get_or t k 0 ≢ 0 → get_or (take (call_window * n) t) k 0 ≢ 0
-    other z y = z (sym (slot_at k l) ∙ y)
-
-    pub next-room : get_or t k 0 ≢ 0 → j < call_window * n
-    next-room z = omega (arith, slots_count, walk-room o short (other z))
-
-    pub next-put : get_or t k 0 ≢ 0 → {x : ImageEntry} → x ≡ entry_of_record (completion_of (drop (records_start + record_row * (get_or t k 0 - 1)) s)) → {s₂ : List ℕ}
+    pub next-put : {x : ImageEntry} → x ≡ entry_of_record (completion_of (drop (records_start + record_row * (get_or (take (call_window * n) t) k 0 - 1)) s)) → {s₂ : List ℕ}
         → s₂ ≡ written s₁ (at + entry_row * j) (image_entry_bytes true x) → Walking (entry_codec true) (load s).records (take (call_window * n) t) at s₀ (k + 1) (j + 1) s₂
     unfolding entry_row_of
-    next-put z {x} y w =
-        walk_put o short (other z) (slot_entry (get_or t k 0) z (slot_most k) y ∙ ap (entry_in (load s).records) (sym (slot_at k l))) w
+    next-put {x} y w = walk_put o l z (slot_entry (get_or (take (call_window * n) t) k 0) z (slot_most k l) y) w
 
   entries-image : Bytes s → entries_in (load s).records (take (call_window * n) t) ≡ (image_for today (load s) p).entries
   unfolding point_slots image_for
@@ -79,9 +69,9 @@ module _ (p : ℕ) (s : List ℕ) (S : Sound s) {n : ℕ} (q : n ≡ clients_in 
       ∙ slots_sorted p (load s).floors T.clients (load s).records T.ascending 0 (load s).records (λ (j : ℕ). ap (λ (i : ℕ). get_or (load s).records i no_record) (zero-add j)) T.windows
       T.ids
 
-  pub entries-done : Bytes s → {at : ℕ} {s₀ s₁ : List ℕ} {k j : ℕ} → Walking (entry_codec true) (load s).records (take (call_window * n) t) at s₀ k j s₁ → call_window * n ≤ k
+  pub entries-done : Bytes s → {at : ℕ} {s₀ s₁ : List ℕ} {k j : ℕ} → Walking (entry_codec true) (load s).records (take (call_window * n) t) at s₀ k j s₁ → length (take (call_window * n) t) ≤ k
       → (s₁ ≡ written s₀ at (bytes_of (image_entry_bytes true) (image_for today (load s) p).entries)) × (j ≡ length (image_for today (load s) p).entries)
-  entries-done b o l = rw (← entries-image b) (walk_end o (omega (arith, slots_count)))
+  entries-done b o l = rw (← entries-image b) (walk_end o l)
 
 -- ---- the head
 

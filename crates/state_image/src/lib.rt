@@ -27,9 +27,7 @@ fn point_slots(s: &[u8], point: u8) -> [u16; constants::RECORD_COUNT]
 {
     let n = state_rows::clients_in(s) as usize;
     let mut slots = [0; constants::RECORD_COUNT];
-    let mut i = state_rows::records_in(s) as usize;
-    while 0 < i {
-        i -= 1;
+    for i in (0..state_rows::records_in(s) as usize).rev() {
         let r = state_rows::completion_from(s, RECORDS_START + RECORD_ROW * i);
         if r.command.point == point {
             let k = floors::slot_of(s, FLOORS_START, n, r.command.client, r.command.call);
@@ -62,11 +60,10 @@ fn write_entries(out: &mut [u8], at: usize, s: &[u8], point: u8) -> usize
 {
     let n = state_rows::clients_in(s) as usize;
     let slots = point_slots(s, point);
+    let held = &slots[..CALL_WINDOW * n];
     let mut j = 0;
-    let mut k = 0;
-    while k < CALL_WINDOW * n {
-        let slot = slots[k] as usize;
-        k += 1;
+    for slot in held {
+        let slot = *slot as usize;
         if slot != 0 {
             let entry = entry_of(s, slot - 1);
             format_image_writer::put_entry(out, at + ENTRY_ROW * j, entry);

@@ -1,5 +1,4 @@
 -- The invariants of `format_image_writer::write_floors`.
-use Prim.Native.Nat.{◌-◌}
 use Rattle.model_laws.proofs.Images.{floor_codec}
 use Rattle.format_image_writer.proofs.Runs.{Copied}
 use Rattle.model.specs.Limits.{least_image}
@@ -7,6 +6,3 @@ use Rattle.format_image_writer.proofs.write_floors.Given as goal
 
 abbrev pub invariant-loop-i : goal.invariant-loop-i
 invariant-loop-i l = Copied floor_codec least_image l.initial.out l.table l.out l.n l.i
-
-abbrev pub decreases-loop-i : goal.decreases-loop-i
-decreases-loop-i l = l.n - l.i
