@@ -5,7 +5,7 @@
 --     serve-none, serve-first        a serving
 -- Assumes nothing.
 use Prim.Native.Nat.{ℕ, ◌<◌}
-use mathlib.Core.Path.{◌≡◌, refl, sym, ◌∙◌}
+use mathlib.Core.Path.{◌≡◌, refl, sym}
 use mathlib.Core.List.{List, [], ◌∷◌}
 use mathlib.Core.Option.{none}
 use native.Mathlib.Omega.{arith}
@@ -25,6 +25,9 @@ use Rattle.model.specs.Tables.{index_of}
 use Rattle.model.specs.Versions.{today}
 use Rattle.model.specs.Packets.{parse_packet, as_request, request_bytes}
 use Rattle.model.specs.Operations.{answer_of, after, settle, request_of}
+use Rattle.refusals.specs.declared.Refusal.{Refusal}
+use Rattle.refusals.specs.Numbers.{number_of}
+use Rattle.refusals.proofs.Numbers.{number-some}
 use Rattle.model_laws.proofs.Refused.{passing}
 use Rattle.dispatch_claim.specs.declared.Dispatcher.{Dispatcher}
 use Rattle.dispatch_claim.specs.declared.Enqueued.{Enqueued}
@@ -39,18 +42,18 @@ waits-is d client many at long =
 
 -- ---- enqueue
 
-module _ (d : Dispatcher) (q : Request) {n : ℕ} (e : n ≡ enqueue_refusal d q) where
-  pub room : n ≡ no_refusal → d.count < places
+module _ (d : Dispatcher) (q : Request) where
+  pub room : no_refusal ≡ enqueue_refusal d q → d.count < places
   unfolding enqueue_refusal
-  room h = let p = sym e ∙ h in search passing depth 12
+  room e = let p = sym e in search passing depth 12
 
-  pub not-taken_in : (n ≡ no_refusal → ⊥) → enqueued d n ≡ enqueue_request d q
+  pub not-taken_in : (y : Refusal) → number_of y ≡ enqueue_refusal d q → {n : ℕ} → n ≡ number_of y → enqueued d n ≡ enqueue_request d q
   unfolding enqueue_request
-  not-taken_in h = rw (← e, ne_eqb _ _ h) refl
+  not-taken_in y e k = rw (k, ← e, ne_eqb (number_of y) no_refusal (number-some y)) refl
 
-  pub taken_in_lem : n ≡ no_refusal → {next : Dispatcher} → next ≡ with_last d q → enqueued next no_refusal ≡ enqueue_request d q
+  pub taken_in_lem : no_refusal ≡ enqueue_refusal d q → {next : Dispatcher} → next ≡ with_last d q → enqueued next no_refusal ≡ enqueue_request d q
   unfolding enqueue_request
-  taken_in_lem h k = rw (← e, eq-eqb _ _ h, k) refl
+  taken_in_lem e k = rw (← e, k) refl
 
 none_other : (p : Packet) → OneOf (0 ∷ 2 ∷ 3 ∷ 4 ∷ 5 ∷ 6 ∷ []) (tag_of the_type p) → as_request p ≡ none
 unfolding as_request

@@ -5,11 +5,13 @@
 ghost use Rattle.std.specs.Prelude.{◌≡◌, [], ◌∷◌, ◌++◌, ◌≤◌, ◌<◌, length, take, drop};
 ghost use Rattle.model.specs.Tables.{index_of};
 ghost use Rattle.model.specs.Versions.{today};
+ghost use Rattle.refusals.specs.Numbers.{refusal_of};
 ghost use Rattle.dispatch_claim.specs.Dispatcher.{places, no_request, no_waiting, waiting_count, is_of, waits, enqueue_refusal, with_last};
 ghost use Rattle.dispatch_claim.specs.Dispatcher.{enqueue_request, enqueue_of, first_waiting, shifted, serve_of, after_serve};
 
 use dispatch_claim::{Dispatcher, Enqueued, Served, WAITING_PLACES, WAITING_PLACES_U32};
 use model::{Command, Packet, Request, constants};
+use refusals::Refusal;
 
 // ---- the places
 
@@ -81,16 +83,16 @@ fn client_waits(dispatcher: Dispatcher, client: u32) -> bool
 // ---- enqueue
 
 // 21 its client waits already; 8 all places are taken.
-fn enqueue_refusal(dispatcher: Dispatcher, q: Request) -> u32
-    ensures { result ≡ enqueue_refusal dispatcher q }
+fn enqueue_refusal(dispatcher: Dispatcher, q: Request) -> Result<(), Refusal>
+    ensures { refusal_of result ≡ enqueue_refusal dispatcher q }
 {
     if client_waits(dispatcher, q.command.client) {
-        return constants::ALREADY_WAITING;
+        return Err(Refusal::AlreadyWaiting);
     }
     if WAITING_PLACES_U32 <= dispatcher.count {
-        return constants::CLIENTS_FULL;
+        return Err(Refusal::ClientsFull);
     }
-    constants::NO_REFUSAL
+    Ok(())
 }
 
 fn with_last(dispatcher: Dispatcher, q: Request) -> Dispatcher
@@ -109,17 +111,15 @@ fn with_last(dispatcher: Dispatcher, q: Request) -> Dispatcher
 fn enqueue_request(dispatcher: Dispatcher, q: Request) -> Enqueued
     ensures { result ≡ enqueue_request dispatcher q }
 {
-    let refusal = enqueue_refusal(dispatcher, q);
-    if refusal != 0 {
-        return Enqueued {
+    match enqueue_refusal(dispatcher, q) {
+        Ok(()) => Enqueued {
+            dispatcher: with_last(dispatcher, q),
+            number: constants::NO_REFUSAL,
+        },
+        Err(refusal) => Enqueued {
             dispatcher,
-            number: refusal,
-        };
-    }
-    let next = with_last(dispatcher, q);
-    Enqueued {
-        dispatcher: next,
-        number: constants::NO_REFUSAL,
+            number: refusal.number(),
+        },
     }
 }
 
@@ -131,7 +131,7 @@ pub fn enqueue(dispatcher: Dispatcher, packet: &[u8]) -> Enqueued
     let Packet::Requested(q) = parsed else {
         return Enqueued {
             dispatcher,
-            number: constants::MALFORMED,
+            number: Refusal::Malformed.number(),
         };
     };
     enqueue_request(dispatcher, q)
@@ -181,15 +181,16 @@ pub fn serve(dispatcher: Dispatcher, s: &mut [u8], log: &mut [u8], out: &mut [u8
         ≡ serve_of today dispatcher s.old log.old out.old }
 {
     if dispatcher.count == 0 {
-        let answer = server_decide::refused(constants::UNKNOWN);
-        return Served { dispatcher, answer };
+        return Served {
+            dispatcher,
+            answer: refusals::answer(Err(Refusal::Unknown)),
+        };
     }
     let q = first_waiting(dispatcher);
     let packet = format_packet_writer::request_packet(q);
-    let answer = server_service::request::request(s, log, &packet, out);
-    let next = without_first(dispatcher);
+    let outcome = server_service::request::request(s, log, &packet, out);
     Served {
-        dispatcher: next,
-        answer,
+        dispatcher: without_first(dispatcher),
+        answer: refusals::request_answer(outcome),
     }
 }
