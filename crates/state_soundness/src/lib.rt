@@ -89,12 +89,10 @@ fn hints_of(s: &[u8], n: usize) -> [u8; 256]
         (drop floors_start s.now)) }
 {
     let mut hints = [0u8; 256];
-    let mut i = 0;
-    while i < n {
+    for i in 0..n {
         let f = format_floors::floor_from(s, FLOORS_START + FLOOR_ROW * i);
         let j = (f.client % 256) as usize;
         hints[j] = i as u8;
-        i += 1;
     }
     hints
 }
@@ -113,10 +111,9 @@ fn records_ok(s: &[u8], n: usize, count: usize, size: u64) -> bool
     ensures { result ≡ records_ok (load s.now) }
 {
     let hints = hints_of(s, n);
-    let mut marks = [0u8; RECORD_COUNT];
+    let mut marks = [false; RECORD_COUNT];
     let mut last = constants::HEAD_SIZE_U64;
-    let mut i = 0;
-    while i < count {
+    for i in 0..count {
         let k = RECORDS_START + RECORD_ROW * i;
         let end = end_in(s, k);
         if end < last {
@@ -127,12 +124,11 @@ fn records_ok(s: &[u8], n: usize, count: usize, size: u64) -> bool
         if RECORD_COUNT <= slot {
             return false;
         }
-        if marks[slot] != 0 {
+        if marks[slot] {
             return false;
         }
-        marks[slot] = 1;
+        marks[slot] = true;
         last = end;
-        i += 1;
     }
     true
 }

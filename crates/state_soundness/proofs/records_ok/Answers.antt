@@ -13,13 +13,13 @@ pub returns-then-slot-ge-RECORD_COUNT : goal.returns-then-slot-ge-RECORD_COUNT
 returns-then-slot-ge-RECORD_COUNT c =
     pass_bad c.loop-i.invariant c.loop-i-test.true c.end_in-end.ensures c.if-end-last.false c.record_slot-slot.ensures c.requires.3 c.requires.1 c.if-slot-ge-RECORD_COUNT.true
 
-pub returns-then-marks-slot-ne0 : goal.returns-then-marks-slot-ne0
-returns-then-marks-slot-ne0 c =
-    pass_seen c.loop-i.invariant c.loop-i-test.true c.end_in-end.ensures c.if-end-last.false c.record_slot-slot.ensures c.if-slot-ge-RECORD_COUNT.false c.if-marks-slot-ne0.true
+pub returns-then-marks-slot : goal.returns-then-marks-slot
+returns-then-marks-slot c =
+    pass_seen c.loop-i.invariant c.loop-i-test.true c.end_in-end.ensures c.if-end-last.false c.record_slot-slot.ensures c.if-slot-ge-RECORD_COUNT.false c.if-marks-slot.true
 
 pub loop-i-preserved : goal.loop-i-preserved
 loop-i-preserved c =
-    pass_next c.loop-i.invariant c.loop-i-test.true c.end_in-end.ensures c.if-end-last.false c.record_slot-slot.ensures c.if-slot-ge-RECORD_COUNT.false c.if-marks-slot-ne0.false
+    pass_next c.loop-i.invariant c.loop-i-test.true c.end_in-end.ensures c.if-end-last.false c.record_slot-slot.ensures c.if-slot-ge-RECORD_COUNT.false c.if-marks-slot.false
 
 pub returns : goal.returns
 returns c = pass_end c.loop-i.invariant c.loop-i-test.false
