@@ -1,5 +1,5 @@
 -- The pass over the completion records. The loop keeps `Pass`: the records from i on and the marks decide the answer x.
---     pass_start, pass_next, pass_fell, pass_bad, pass_seen, pass_end     the loop starts, goes on, stops at a record whose end fell, that
+--     pass_start, pass_next, pass_fell, pass_bad, pass_slot, pass_seen, pass_end     the loop starts, goes on, stops at a record whose end fell, that
 --                                                              fails or that has an id of an earlier one, ends
 -- Assumes nothing.
 use Prim.Native.Nat.{ℕ, ◌+◌, ◌-◌, ◌*◌, ◌≤◌, ◌<◌}
@@ -10,6 +10,7 @@ use native.Mathlib.Omega.{arith}
 use native.Mathlib.Nat.{sub-zero}
 use lib.ListN.{length, get_or, set, drop, replicate, length-set, length-replicate}
 use borrow.Author.Tests.{lt-leb, le-leb}
+use Rattle.std.specs.Prelude.{None, Some}
 use Rattle.model.specs.declared.Completion.{Completion}
 use Rattle.model.specs.Choice.{pick}
 use Rattle.model.specs.Tables.{rows, every}
@@ -58,21 +59,21 @@ pass_start s {m} b a h c =
     }
 
 -- a tested slot, taken apart
-tested_ok : (st : State) (r : Completion) {slot : ℕ} → slot ≡ tested_slot st r → slot < record_count → (completion_ok st r ≡ true) × (slot ≡ slot_in st r)
+tested_ok : (st : State) (r : Completion) {slot : ℕ} → Some slot ≡ tested_slot st r → (completion_ok st r ≡ true) × (slot ≡ slot_in st r)
 unfolding tested_slot
-tested_ok st r {slot} e h = step (completion_ok st r) e
+tested_ok st r {slot} e = step (completion_ok st r) e
   where
-    step : (b : Bool) → slot ≡ pick b (slot_in st r) record_count → (b ≡ true) × (slot ≡ slot_in st r)
-    step true q = (refl, q)
-    step false q = absurd (omega arith)
+    step : (b : Bool) → Some slot ≡ pick b (Some (slot_in st r)) None → (b ≡ true) × (slot ≡ slot_in st r)
+    step true q = let same : slot ≡ slot_in st r = cc in (refl, same)
+    step false q = cc
 
-tested_bad : (st : State) → length st.floors ≤ client_count → (r : Completion) {slot : ℕ} → slot ≡ tested_slot st r → record_count ≤ slot → completion_ok st r ≡ false
+tested_bad : (st : State) (r : Completion) → None ≡ tested_slot st r → completion_ok st r ≡ false
 unfolding tested_slot
-tested_bad st f r {slot} e h = step (completion_ok st r) refl e
+tested_bad st r e = step (completion_ok st r) e
   where
-    step : (b : Bool) → completion_ok st r ≡ b → slot ≡ pick b (slot_in st r) record_count → b ≡ false
-    step true p q = absurd (omega (arith, slot_few st f r p))
-    step false p q = refl
+    step : (b : Bool) → None ≡ pick b (Some (slot_in st r)) None → b ≡ false
+    step true q = cc
+    step false q = refl
 
 -- one record of the pass
 module _ (st : State) {last end : ℕ} (marks : List Bool) (r : Completion) (rs : List Completion) (u : end ≡ r.end) where
@@ -107,13 +108,16 @@ module _ {s : List ℕ} {m : ℕ} {x : Bool} {marks : List Bool} {last i : ℕ} 
     pub pass_fell : end < last → false ≡ x
     pass_fell l = sym (opened ∙ fell_step (load s) marks first more u l)
 
-    module _ (l : last ≤ end) {slot : ℕ} (p : slot ≡ tested_slot (load s) (completion_of (drop (records_start + record_row * i) s))) where
-      pub pass_bad : {n : ℕ} → n ≡ clients_in s → n ≤ client_count → record_count ≤ slot → false ≡ x
-      pass_bad a f g = sym (opened ∙ bad_step (load s) marks first more u (tested_bad (load s) (few s a f) first p g) l)
+    module _ (l : last ≤ end) where
+      pub pass_bad : None ≡ tested_slot (load s) (completion_of (drop (records_start + record_row * i) s)) → false ≡ x
+      pass_bad p = sym (opened ∙ bad_step (load s) marks first more u (tested_bad (load s) first p) l)
 
-      module _ (g : slot < record_count) where
+      module _ {slot : ℕ} (p : Some slot ≡ tested_slot (load s) (completion_of (drop (records_start + record_row * i) s))) where
+        pub pass_slot : {n : ℕ} → n ≡ clients_in s → n ≤ client_count → slot < length marks
+        pass_slot a f = let t = tested_ok (load s) first p in omega (arith, slot_few (load s) (few s a f) first t.0, t.1, o.long)
+
         stepped : x ≡ (not (get_or marks slot false) && records_pass (load s) end (set marks slot true) more)
-        stepped = let t = tested_ok (load s) first p g in opened ∙ good-step (load s) marks first more u t.0 t.1 l
+        stepped = let t = tested_ok (load s) first p in opened ∙ good-step (load s) marks first more u t.0 t.1 l
 
         pub pass_seen : get_or marks slot false ≡ true → false ≡ x
         pass_seen q = sym (stepped ∙ rw q)

@@ -1,6 +1,6 @@
 -- One pass over the completion records: each passes its test and finds its slot free. A record's slot stands for its id.
 -- Assumes nothing.
-use Rattle.std.specs.Prelude.{ℕ, suc, ◌+◌, ◌%◌, ◌≤◌, ◌≡◌, Bool, true, false, ◌&&◌, not, List, [], ◌∷◌, length, get_or, set, drop, leb}
+use Rattle.std.specs.Prelude.{ℕ, suc, ◌+◌, ◌%◌, ◌≤◌, ◌≡◌, Bool, true, false, ◌&&◌, not, List, [], ◌∷◌, length, get_or, set, drop, leb, Option, None, Some}
 use Rattle.model.specs.declared.Floor.{Floor}
 use Rattle.model.specs.declared.Completion.{Completion}
 use Rattle.model.specs.Choice.{pick}
@@ -28,9 +28,9 @@ at_point_ok size st r =
 unfoldable pub slot_in : State → Completion → ℕ
 slot_in st r = slot_of st.floors r.command.client r.command.call
 
--- the slot of a record that passes its test, else the number of slots
-unfoldable pub tested_slot : State → Completion → ℕ
-tested_slot st r = pick (completion_ok st r) (slot_in st r) record_count
+-- the slot of a record that passes its test
+unfoldable pub tested_slot : State → Completion → Option ℕ
+tested_slot st r = pick (completion_ok st r) (Some (slot_in st r)) None
 
 -- the slot of r is not marked
 unfoldable pub is_free : State → List Bool → Completion → Bool

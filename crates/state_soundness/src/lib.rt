@@ -62,21 +62,21 @@ fn at_point_ok(s: &[u8], size: u64, r: Completion) -> bool
     state_sound_rows::keeps_records(x)
 }
 
-// The slot of the record from k, 512 where it does not pass its test.
-fn record_slot(s: &[u8], n: usize, size: u64, hint: usize, k: usize) -> usize
+// The slot of the record from k, if it passes its test.
+fn record_slot(s: &[u8], n: usize, size: u64, hint: usize, k: usize) -> Option<usize>
     requires { RecordPlaced s.now n size k }
     ensures { result ≡ tested_slot (load s.now) (completion_of (drop k s.now)) }
 {
     let r = state_rows::completion_from(s, k);
     if !at_point_ok(s, size, r) {
-        return RECORD_COUNT;
+        return None;
     }
     let i = place_by(s, n, r.command.client, hint);
     let floor = floors::floor_at(s, FLOORS_START, n, i);
     if !format_floors::in_window(floor, r.command.call) {
-        return RECORD_COUNT;
+        return None;
     }
-    constants::CALL_WINDOW * i + floors::call_above(r.command.call, floor)
+    Some(constants::CALL_WINDOW * i + floors::call_above(r.command.call, floor))
 }
 
 // ---- all completion records
@@ -120,10 +120,9 @@ fn records_ok(s: &[u8], n: usize, count: usize, size: u64) -> bool
             return false;
         }
         let j = (format_numbers::read_u32(s, k) % 256) as usize;
-        let slot = record_slot(s, n, size, hints[j] as usize, k);
-        if RECORD_COUNT <= slot {
+        let Some(slot) = record_slot(s, n, size, hints[j] as usize, k) else {
             return false;
-        }
+        };
         if marks[slot] {
             return false;
         }
