@@ -37,10 +37,9 @@ fn no_request() -> Request
 pub fn no_waiting() -> Dispatcher
     ensures { result ≡ no_waiting }
 {
-    let free = no_request();
     Dispatcher {
         count: 0,
-        requests: [free; WAITING_PLACES],
+        requests: [no_request(); WAITING_PLACES],
     }
 }
 
@@ -54,30 +53,14 @@ fn waiting_count(dispatcher: Dispatcher) -> u32
     WAITING_PLACES_U32
 }
 
-// The first of so many places with a request of this client; their number where none has one.
-fn place_of(requests: [Request; WAITING_PLACES], count: u32, client: u32) -> u32
-    requires { count ≤ places }
-    ensures { (result ≡ index_of (is_of client) (take count requests)) × (length requests ≡ places) }
-{
-    let mut i = 0u32;
-    while i < count {
-        let q = requests[i as usize];
-        if q.command.client == client {
-            return i;
-        }
-        i += 1;
-    }
-    i
-}
-
 // A request of this client waits.
 fn client_waits(dispatcher: Dispatcher, client: u32) -> bool
     ensures { result ≡ waits dispatcher client }
 {
-    let count = waiting_count(dispatcher);
-    let requests = dispatcher.requests;
-    let place = place_of(requests, count, client);
-    place < count
+    let count = waiting_count(dispatcher) as usize;
+    dispatcher.requests[..count]
+        .iter()
+        .any(|q| q.command.client == client)
 }
 
 // ---- enqueue
@@ -142,8 +125,7 @@ pub fn enqueue(dispatcher: Dispatcher, packet: &[u8]) -> Enqueued
 fn first_waiting(dispatcher: Dispatcher) -> Request
     ensures { result ≡ first_waiting dispatcher }
 {
-    let requests = dispatcher.requests;
-    requests[0]
+    dispatcher.requests[0]
 }
 
 // All move one place to the front; the last place is free.
@@ -151,14 +133,8 @@ fn moved_up(requests: [Request; WAITING_PLACES]) -> [Request; WAITING_PLACES]
     ensures { result ≡ drop 1 requests ++ (no_request ∷ []) }
 {
     let mut moved = requests;
-    let mut i: usize = 0;
-    while i < LAST_PLACE {
-        let q = requests[i + 1];
-        moved[i] = q;
-        i += 1;
-    }
-    let free = no_request();
-    moved[LAST_PLACE] = free;
+    moved[..LAST_PLACE].copy_from_slice(&requests[1..]);
+    moved[LAST_PLACE] = no_request();
     moved
 }
 
@@ -166,12 +142,9 @@ fn without_first(dispatcher: Dispatcher) -> Dispatcher
     requires { 1 ≤ dispatcher.count }
     ensures { result ≡ shifted dispatcher }
 {
-    let count = waiting_count(dispatcher);
-    let requests = dispatcher.requests;
-    let moved = moved_up(requests);
     Dispatcher {
-        count: count - 1,
-        requests: moved,
+        count: waiting_count(dispatcher) - 1,
+        requests: moved_up(dispatcher.requests),
     }
 }
 
