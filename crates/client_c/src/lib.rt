@@ -194,8 +194,8 @@ enum Slot {
     Place(OpenCall),
 }
 
-// A free place in words, without a gap: start stores sixteen bytes at a time. Tried, and slower: field by field, past the
-// padding, it takes half as long again.
+// A free place in words, without a gap: start stores sixteen bytes at a time. Tried, and slower: field by field, past
+// the padding, it takes half as long again.
 fn whole_place() -> OpenCall
     ensures { result ≡ no_call }
 {
