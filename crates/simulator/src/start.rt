@@ -38,7 +38,7 @@ fn new_server(s: &mut [u8], log: &mut [u8], number: u32)
     state_rows::clear(s, 0, states);
     state_rows::clear(log, 0, logs);
     let table = plan();
-    server_found::found(s, log, &table, number);
+    let _ = server_found::found(s, log, &table, number);
 }
 
 fn new_client(number: u32) -> Client
