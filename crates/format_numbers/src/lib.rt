@@ -135,12 +135,15 @@ pub fn starts_with(s: &[u8], magic: [u8; 4]) -> bool
     (s[0] == magic[0]) & ((s[1] == magic[1]) & ((s[2] == magic[2]) & (s[3] == magic[3])))
 }
 
-// All bytes of src, from the front of out.
+// All bytes of src, from the front of out. No copy_from_slice: its copy calls memmove, and the library needs no C function
+// but memcpy and memset.
 pub fn copy_bytes(out: &mut [u8], src: &[u8])
     requires { length src.now ≤ length out.old }
     ensures { out.new ≡ written out.old 0 src.now }
 {
-    out[..src.len()].copy_from_slice(src);
+    for i in 0..src.len() {
+        out[i] = src[i];
+    }
 }
 
 // n bytes of src from a place, to a place of out.
