@@ -135,8 +135,8 @@ pub fn starts_with(s: &[u8], magic: [u8; 4]) -> bool
     (s[0] == magic[0]) & ((s[1] == magic[1]) & ((s[2] == magic[2]) & (s[3] == magic[3])))
 }
 
-// All bytes of src, from the front of out. No copy_from_slice: its copy calls memmove, and the library needs no C function
-// but memcpy and memset.
+// All bytes of src, from the front of out. No copy_from_slice: its copy calls memmove, and the library needs no C
+// function but memcpy and memset.
 pub fn copy_bytes(out: &mut [u8], src: &[u8])
     requires { length src.now ≤ length out.old }
     ensures { out.new ≡ written out.old 0 src.now }
