@@ -18,7 +18,7 @@ use lib.ListN.{length, length-map}
 use lib.Seq.{set-get_or}
 use borrow.Author.Tests.{eqb-false, le-ltb, ltb-true, ltb-false}
 use Rattle.std.proofs.Common.{Result, Err}
-use Rattle.refusals.specs.declared.Refusal.{Refusal}
+use Rattle.model.specs.declared.Refusal.{Refusal}
 use Rattle.model.specs.declared.Lease.{Lease}
 use Rattle.model.specs.declared.LeaseManager.{LeaseManager}
 use Rattle.model.specs.declared.Told.TheVariants.{ByGrant}

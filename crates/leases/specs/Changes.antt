@@ -11,8 +11,8 @@ use Rattle.model.specs.Choice.{pick}
 use Rattle.model.specs.Tables.{index_of}
 use Rattle.model.specs.Leases.{no_lease, time_at, running_at, span_ok, manager}
 use Rattle.model.specs.Limits.{last32, lease_count}
-use Rattle.refusals.specs.declared.Refusal.{Refusal}
-use Rattle.refusals.specs.declared.Refusal.TheVariants.{Malformed, NumbersOut, Unknown, LeasesFull}
+use Rattle.model.specs.declared.Refusal.{Refusal}
+use Rattle.model.specs.declared.Refusal.TheVariants.{Malformed, NumbersOut, Unknown, LeasesFull}
 use Rattle.refusals.specs.Numbers.{number_of}
 use Rattle.leases.specs.declared.LeaseChange.{LeaseChange}
 use Rattle.leases.specs.declared.Holder.{Holder}
