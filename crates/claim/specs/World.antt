@@ -170,7 +170,7 @@ crash_at c n (crashed k kept mark) w = with_server c (crashed k (take n kept) ma
 -- ---- clients
 
 unfoldable pub starts_as : {S : Type 0} → StartAnswer → WorldOf S → WorldOf S
-starts_as a w = elim a.answer [ Err n ↦ w | Ok tt ↦ with_client a.client.client a.client w ]
+starts_as a w = elim a.answer [ Err e ↦ w | Ok tt ↦ with_client a.client.client a.client w ]
 
 unfoldable pub starts_on : {S : Type 0} → Option (List ℕ) → WorldOf S → WorldOf S
 starts_on none w = w
