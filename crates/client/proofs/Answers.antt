@@ -5,7 +5,7 @@
 --     resend_open, resend-unknown
 --     not-received, result_own, result-unknown, refusal-own, refusal-unknown, grant-later, grant-unknown
 -- Assumes nothing.
-use mathlib.Core.Path.{◌≡◌, refl, ap, ◌∙◌, sym}
+use mathlib.Core.Path.{◌≡◌, refl, ap, ◌∙◌, sym, subst}
 use mathlib.Core.Bool.{Bool, true, false, ◌&&◌}
 use Prim.Native.Nat.{ℕ, ◌+◌, ◌≤◌, ◌<◌}
 use native.Mathlib.Omega.{arith}
@@ -21,19 +21,19 @@ use Rattle.model.specs.declared.OpenCall.{OpenCall}
 use Rattle.model.specs.declared.Client.{Client}
 use Rattle.model.specs.declared.Request.{Request}
 use Rattle.model.specs.declared.SendAnswer.{SendAnswer}
-use Rattle.model.specs.declared.ReceiveAnswer.{ReceiveAnswer}
 use Rattle.model.specs.declared.ResultPacket.{ResultPacket}
 use Rattle.model.specs.declared.RefusalPacket.{RefusalPacket}
 use Rattle.model.specs.declared.Grant.{Grant}
+use Rattle.model.specs.declared.Packet.{Packet}
+use Rattle.model.specs.declared.Packet.TheVariants.{Resulted, Refused, Granted}
 use Rattle.model.specs.declared.Sent.TheVariants.{NotSent, Asked}
 use Rattle.model.specs.declared.Received.TheVariants.{NotReceived, Completed, Denied, Extended}
-use Rattle.model.specs.Choice.{pick}
 use Rattle.model.specs.Packets.{command_ok}
 use Rattle.model.specs.Clients.{no_call, place_of, call_at, is_open, first_open, with_calls, new_call, with_call, request_for, not_sent, sent, issue_of, resend_of}
-use Rattle.model.specs.Clients.{with_lease, closed, is_own, not_received, receive_result, receive_refusal, receive_grant}
+use Rattle.model.specs.Clients.{with_lease, closed, is_own, not_received, receive_result, receive_refusal, receive_grant, receive_with}
 use Rattle.model.specs.Refusals.{unknown, malformed, window_full, numbers_out}
 use Rattle.model.specs.Limits.{call_window, last32}
-use Rattle.client.specs.Changes.{request_with, issued, received}
+use Rattle.client.specs.Changes.{request_with, OfCall, issued, received}
 
 pub same-call : (d : Client) (c : ℕ) {k : OpenCall} → k ≡ call_at d c → set d.calls (place_of c) k ≡ d.calls
 unfolding call_at
@@ -104,32 +104,31 @@ pub not-received : (d : Client) (c n : ℕ) {k : OpenCall} → k ≡ call_at d c
 unfolding received not_received
 not-received d c n at = rw (same-call d c at) refl
 
-module _ (d : Client) (r : ResultPacket) {u : Bool} (tested : u ≡ is_own d r.client r.call r.point) where
-  pub result_own : u ≡ true → (k : OpenCall) {l : OpenCall} → l ≡ pick true no_call k
-      → received d r.call (record { lease = d.lease; call = l; answer = Completed r }) ≡ receive_result d r
-  unfolding receive_result received closed with_calls
-  result_own is k made = rw (← tested, is, made) refl
+module _ (d : Client) (c : ℕ) {p : Packet} (of : OfCall c p) {k : OpenCall} (at : k ≡ call_at d c) where
+  pub result_own : (r : ResultPacket) → p ≡ Resulted r → true ≡ is_own d r.client r.call r.point → {l : OpenCall} → l ≡ no_call
+      → received d c (record { lease = d.lease; call = l; answer = Completed r }) ≡ receive_with d p
+  unfolding receive_with receive_result received closed with_calls
+  result_own r is own made = rw (subst (OfCall c) is of, is, ← own, made) refl
 
-  pub result-unknown : u ≡ false → {a : ReceiveAnswer} → a ≡ not_received d unknown → a ≡ receive_result d r
-  unfolding receive_result
-  result-unknown is e = rw (← tested, is) e
+  pub refusal-own : (r : RefusalPacket) → p ≡ Refused r → true ≡ is_own d r.client r.call r.point
+      → received d c (record { lease = d.lease; call = k; answer = Denied r }) ≡ receive_with d p
+  unfolding receive_with receive_refusal received
+  refusal-own r is own = rw (is, ← own, same-call d c at) refl
 
-module _ (d : Client) (r : RefusalPacket) {u : Bool} (tested : u ≡ is_own d r.client r.call r.point) where
-  pub refusal-own : u ≡ true → {k : OpenCall} → k ≡ call_at d r.call → {l : OpenCall} → l ≡ pick false no_call k
-      → received d r.call (record { lease = d.lease; call = l; answer = Denied r }) ≡ receive_refusal d r
-  unfolding receive_refusal received
-  refusal-own is at made = rw (← tested, is, same-call d r.call (made ∙ at)) refl
+  pub grant-later : (g : Grant) → p ≡ Granted g → (eqb g.client d.client && leb d.lease g.lease) ≡ true
+      → received d c (record { lease = g.lease; call = k; answer = Extended g }) ≡ receive_with d p
+  unfolding receive_with receive_grant received with_lease
+  grant-later g is later = rw (is, later, same-call d c at) refl
 
-  pub refusal-unknown : u ≡ false → {a : ReceiveAnswer} → a ≡ not_received d unknown → a ≡ receive_refusal d r
-  unfolding receive_refusal
-  refusal-unknown is e = rw (← tested, is) e
+module _ (d : Client) {p : Packet} where
+  pub result-unknown : (r : ResultPacket) → p ≡ Resulted r → false ≡ is_own d r.client r.call r.point → not_received d unknown ≡ receive_with d p
+  unfolding receive_with receive_result
+  result-unknown r is own = rw (is, ← own) refl
 
-module _ (d : Client) (g : Grant) where
-  pub grant-later : (eqb g.client d.client && leb d.lease g.lease) ≡ true → (c : ℕ) {k : OpenCall} → k ≡ call_at d c
-      → received d c (record { lease = g.lease; call = k; answer = Extended g }) ≡ receive_grant d g
-  unfolding receive_grant received with_lease
-  grant-later is c at = rw (is, same-call d c at) refl
+  pub refusal-unknown : (r : RefusalPacket) → p ≡ Refused r → false ≡ is_own d r.client r.call r.point → not_received d unknown ≡ receive_with d p
+  unfolding receive_with receive_refusal
+  refusal-unknown r is own = rw (is, ← own) refl
 
-  pub grant-unknown : (eqb g.client d.client && leb d.lease g.lease) ≡ false → {a : ReceiveAnswer} → a ≡ not_received d unknown → a ≡ receive_grant d g
-  unfolding receive_grant
-  grant-unknown is e = rw is e
+  pub grant-unknown : (g : Grant) → p ≡ Granted g → (eqb g.client d.client && leb d.lease g.lease) ≡ false → not_received d unknown ≡ receive_with d p
+  unfolding receive_with receive_grant
+  grant-unknown g is later = rw (is, later) refl

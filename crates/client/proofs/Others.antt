@@ -1,6 +1,5 @@
 -- A packet of another kind than a call takes: start takes a grant, receive a result, a refusal or a grant.
 --     not-grant, not_taken
---     start-same      what start answers is made of its numbers
 --     start-other, start-grant      start takes a packet whose kind and length are a grant's, and parses it as one
 --     of_call      a result and a refusal are of the call that stands in their bytes
 --     receive-same      receive takes a packet as a client parses it
@@ -25,18 +24,8 @@ use Rattle.model.specs.Limits.{request_kind, first_result_kind, result_kind, ref
 use Rattle.model.specs.Packets.{packet_length, result_kind_of, result_at, refusal_at, whole}
 use Rattle.model.specs.Packets.{parse_request, parse_result, parse_refusal, parse_receipt, parse_notice, parse_grant, parse_packet}
 use Rattle.model_laws.proofs.Tests.{choose}
-use Rattle.client.specs.Changes.{start_fields, started_by, start_answer, packet_call, client_packet, OfCall}
-use Rattle.model.specs.Clients.{not_started, start_number, start_with, start_of, not_received, receive_with, receive_of}
-
-pub start-same : (p : Packet) → start_answer (start_fields (start_with p)) ≡ start_with p
-unfolding start_answer started_by start_fields start_with start_number
-start-same Malformed = refl
-start-same (Requested q) = refl
-start-same (Resulted r) = refl
-start-same (Refused r) = refl
-start-same (Receipted r) = refl
-start-same (Noticed n) = refl
-start-same (Granted g) = refl
+use Rattle.client.specs.Changes.{packet_call, client_packet, OfCall}
+use Rattle.model.specs.Clients.{not_started, start_with, start_of, not_received, receive_with, receive_of}
 
 pub not-grant : (p : Packet) → ((g : Grant) → p ≡ Granted g → ⊥) → start_with p ≡ not_started
 unfolding start_with

@@ -1,41 +1,31 @@
 -- What an operation changes of a client, and the answer that it makes: the next number or the lease end, and what stands at one place.
 -- Assumes nothing.
-use Rattle.std.specs.Prelude.{ℕ, ◌≡◌, true, false, List, eqb, ltb, length, set, replicate}
+use Rattle.std.specs.Prelude.{ℕ, ◌≡◌, true, false, List, Result, Ok, Err, eqb, ltb, length, set, replicate}
 use Rattle.model.specs.declared.OpenCall.{OpenCall}
 use Rattle.model.specs.declared.Client.{Client}
 use Rattle.model.specs.declared.Request.{Request}
 use Rattle.model.specs.declared.Packet.{Packet}
 use Rattle.model.specs.declared.Packet.TheVariants.{Malformed, Requested, Resulted, Refused, Receipted, Noticed, Granted}
-use Rattle.model.specs.declared.Started.{Started}
 use Rattle.model.specs.declared.Started.TheVariants.{NotStarted, Running}
 use Rattle.model.specs.declared.StartAnswer.{StartAnswer}
 use Rattle.model.specs.declared.SendAnswer.{SendAnswer}
 use Rattle.model.specs.declared.ReceiveAnswer.{ReceiveAnswer}
 use Rattle.model.specs.Choice.{pick}
 use Rattle.model.specs.Numbers.{byte_at, le32_at}
-use Rattle.model.specs.Refusals.{no_refusal}
 use Rattle.model.specs.Limits.{call_window, first_result_kind, refusal_kind, grant_kind, result_kind, refusal_size}
 use Rattle.model.specs.Packets.{parse_result, parse_refusal, parse_grant}
-use Rattle.model.specs.Clients.{no_call, place_of, with_calls, start_number}
+use Rattle.model.specs.Clients.{no_call, no_client, place_of, with_calls}
+use Rattle.refusals.specs.declared.Refusal.{Refusal}
+use Rattle.refusals.specs.Numbers.{number_of}
 use Rattle.client.specs.declared.StartFields.{StartFields}
 use Rattle.client.specs.declared.SendChange.{SendChange}
 use Rattle.client.specs.declared.ReceiveChange.{ReceiveChange}
 
--- the numbers of a start; its open calls are none
-unfoldable pub start_fields : StartAnswer → StartFields
-start_fields a = record { client = a.client.client; lease = a.client.lease; next = a.client.next; number = start_number a.answer }
-
--- 0 or the refusal's number
-unfoldable pub started_by : ℕ → Started
-started_by n = pick (eqb n no_refusal) Running (NotStarted n)
-
--- the answer of a start with these numbers
-unfoldable pub start_answer : StartFields → StartAnswer
-start_answer s =
-    record {
-      client = record { client = s.client; lease = s.lease; next = s.next; calls = replicate call_window no_call };
-      answer = started_by s.number;
-    }
+-- the answer of a start with these numbers; its open calls are none
+abbrev pub start_by : Result StartFields Refusal → StartAnswer
+start_by (Ok s) =
+    record { client = record { client = s.client; lease = s.lease; next = s.next; calls = replicate call_window no_call }; answer = Running }
+start_by (Err e) = record { client = no_client; answer = NotStarted (number_of e) }
 
 -- the packet of an open call, with this done
 unfoldable pub request_with : Client → OpenCall → ℕ → Request

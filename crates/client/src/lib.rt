@@ -3,29 +3,28 @@
 // that one who is lent a client stores that alone.
 #![tactic(auto)]
 
-ghost use Rattle.std.specs.Prelude.{◌≡◌, ◌&&◌, ◌<◌, leb, ltb, length, set};
-ghost use Rattle.model.specs.Choice.{pick};
+ghost use Rattle.std.specs.Prelude.{◌≡◌, ◌<◌, length, set};
 ghost use Rattle.model.specs.Limits.{last32, call_window};
 ghost use Rattle.model.specs.Clients.{no_call, place_of, call_at, least_open, first_open, not_sent, not_received};
-ghost use Rattle.model.specs.Clients.{with_calls, with_call, start_with, start_of, issue_of, resend_of};
-ghost use Rattle.model.specs.Clients.{is_own, receive_result, receive_refusal, receive_grant, receive_with, receive_of};
-ghost use Rattle.client.specs.Changes.{start_fields, started_by, start_answer, request_with, packet_call, client_packet, OfCall, issued, received};
+ghost use Rattle.model.specs.Clients.{with_call, start_with, start_of, issue_of, resend_of, is_own, receive_with, receive_of};
+ghost use Rattle.refusals.specs.Numbers.{number_of};
+ghost use Rattle.client.specs.Changes.{start_by, request_with, packet_call, client_packet, OfCall, issued, received};
 
 use model::constants::{CALL_WINDOW, GRANT_SIZE, REFUSAL_SIZE};
 use model::{
-    Client, Command, Grant, OpenCall, Packet, ReceiveAnswer, Received, RefusalPacket, Request,
-    ResultPacket, SendAnswer, Sent, StartAnswer, Started, constants,
+    Client, Command, OpenCall, Packet, ReceiveAnswer, Received, Request, SendAnswer, Sent,
+    StartAnswer, Started, constants,
 };
+use refusals::Refusal;
 
 // ---- what an operation changes
 
-// A started client's numbers: it has no open calls. number: 0 or the refusal's.
-#[derive(Clone, Copy)]
+// A started client's numbers: it has no open calls.
+#[derive(Clone, Copy, Default)]
 pub struct StartFields {
     pub client: u32,
     pub lease: u32,
     pub next: u32,
-    pub number: u32,
 }
 
 // The next number, and what stands at the place of the one before.
@@ -66,49 +65,25 @@ pub fn place_of(c: u32) -> usize
 pub fn call_at(d: Client, c: u32) -> OpenCall
     ensures { result ≡ call_at d c }
 {
-    let ks = d.calls;
-    let i = place_of(c);
-    ks[i]
-}
-
-fn lesser(opened: OpenCall, least: u32) -> u32
-    ensures { result ≡ pick (leb 1 opened.call && ltb opened.call least) opened.call least }
-{
-    if (1 <= opened.call) & (opened.call < least) {
-        return opened.call;
-    }
-    least
+    d.calls[place_of(c)]
 }
 
 fn least_open(next: u32, ks: [OpenCall; CALL_WINDOW]) -> u32
     ensures { (result ≡ least_open next ks) × (length ks ≡ call_window) }
 {
-    let mut least = next;
-    let mut i: usize = 0;
-    while i < CALL_WINDOW {
-        let opened = ks[i];
-        least = lesser(opened, least);
-        i += 1;
-    }
-    least
+    ks.iter().fold(next, |least, opened| {
+        if (1 <= opened.call) & (opened.call < least) {
+            opened.call
+        } else {
+            least
+        }
+    })
 }
 
 pub fn first_open(d: Client) -> u32
     ensures { (result ≡ first_open d) × (length d.calls ≡ call_window) }
 {
-    let ks = d.calls;
-    least_open(d.next, ks)
-}
-
-fn with_calls(d: Client, next: u32, ks: [OpenCall; CALL_WINDOW]) -> Client
-    ensures { result ≡ with_calls d next ks }
-{
-    Client {
-        client: d.client,
-        lease: d.lease,
-        next,
-        calls: ks,
-    }
+    least_open(d.next, d.calls)
 }
 
 // The open calls with this one at the place of the call c.
@@ -116,8 +91,7 @@ fn placed(ks: [OpenCall; CALL_WINDOW], c: u32, opened: OpenCall) -> [OpenCall; C
     ensures { result ≡ set ks (place_of c) opened }
 {
     let mut out = ks;
-    let i = place_of(c);
-    out[i] = opened;
+    out[place_of(c)] = opened;
     out
 }
 
@@ -140,23 +114,17 @@ fn request_with(d: Client, opened: OpenCall, done: u32) -> Request
 
 // ---- start
 
-fn started(packet: Packet) -> StartFields
-    ensures { result ≡ start_fields (start_with packet) }
+fn started(packet: Packet) -> Result<StartFields, Refusal>
+    ensures { start_by result ≡ start_with packet }
 {
     let Packet::Granted(grant) = packet else {
-        return StartFields {
-            client: 0,
-            lease: 0,
-            next: 0,
-            number: constants::MALFORMED,
-        };
+        return Err(Refusal::Malformed);
     };
-    StartFields {
+    Ok(StartFields {
         client: grant.client,
         lease: grant.lease,
         next: 1,
-        number: constants::NO_REFUSAL,
-    }
+    })
 }
 
 // A grant, parsed; any other packet is malformed to start.
@@ -173,11 +141,10 @@ fn parse_start(packet: &[u8]) -> Packet
 }
 
 // Start: 1 not a grant. The next number is 1.
-pub fn start_fields(packet: &[u8]) -> StartFields
-    ensures { result ≡ start_fields (start_of packet.now) }
+pub fn start_fields(packet: &[u8]) -> Result<StartFields, Refusal>
+    ensures { start_by result ≡ start_of packet.now }
 {
-    let parsed = parse_start(packet);
-    started(parsed)
+    started(parse_start(packet))
 }
 
 // ---- issue, resend: opened is what stands at the call's place
@@ -191,19 +158,17 @@ fn first_with(d: Client, old: OpenCall, opened: OpenCall, first: u32) -> u32
     if (old.call == 0) & (1 <= opened.call) {
         return first;
     }
-    let ks = d.calls;
-    let out = placed(ks, opened.call, opened);
-    least_open(d.next + 1, out)
+    least_open(d.next + 1, placed(d.calls, opened.call, opened))
 }
 
-fn not_issued(d: Client, opened: OpenCall, refusal: u32) -> SendChange
+pub fn not_issued(d: Client, opened: OpenCall, refusal: Refusal) -> SendChange
     requires { opened ≡ call_at d d.next }
-    ensures { issued d result ≡ not_sent d refusal }
+    ensures { issued d result ≡ not_sent d (number_of refusal) }
 {
     SendChange {
         next: d.next,
         call: opened,
-        answer: Sent::NotSent(refusal),
+        answer: Sent::NotSent(refusal.number()),
     }
 }
 
@@ -213,14 +178,14 @@ pub fn issue_change(d: Client, opened: OpenCall, op: u8, point: u8, argument: u3
     ensures { issued d result ≡ issue_of d op point argument }
 {
     if !format_numbers::command_ok(op, point, argument) {
-        return not_issued(d, opened, constants::MALFORMED);
+        return not_issued(d, opened, Refusal::Malformed);
     }
     let first = first_open(d);
     if first as u64 + constants::CALL_WINDOW_U64 <= d.next as u64 {
-        return not_issued(d, opened, constants::WINDOW_FULL);
+        return not_issued(d, opened, Refusal::WindowFull);
     }
     if constants::LAST_32 <= d.next {
-        return not_issued(d, opened, constants::NUMBERS_OUT);
+        return not_issued(d, opened, Refusal::NumbersOut);
     }
     let call = OpenCall {
         call: d.next,
@@ -246,7 +211,7 @@ pub fn resend_answer(d: Client, opened: OpenCall, c: u32) -> Sent
         let q = request_with(d, opened, first_open(d));
         return Sent::Asked(q);
     }
-    Sent::NotSent(constants::UNKNOWN)
+    Sent::NotSent(Refusal::Unknown.number())
 }
 
 // ---- receive: opened is what stands at the place of c, which is the call of a packet that has one
@@ -285,80 +250,41 @@ fn is_own(d: Client, opened: OpenCall, client: u32, call: u32, point: u8) -> boo
     (client == d.client) & (((1 <= call) & (opened.call == call)) & (opened.point == point))
 }
 
-fn not_received(d: Client, opened: OpenCall, c: u32, refusal: u32) -> ReceiveChange
+fn not_received(d: Client, opened: OpenCall, c: u32, refusal: Refusal) -> ReceiveChange
     requires { opened ≡ call_at d c }
-    ensures { received d c result ≡ not_received d refusal }
+    ensures { received d c result ≡ not_received d (number_of refusal) }
 {
     ReceiveChange {
         lease: d.lease,
         call: opened,
-        answer: Received::NotReceived(refusal),
+        answer: Received::NotReceived(refusal.number()),
     }
 }
 
 // Only a result closes its call.
-fn left_open(opened: OpenCall, closes: bool) -> OpenCall
-    ensures { result ≡ pick closes no_call opened }
-{
-    if closes {
-        return no_call();
-    }
-    opened
-}
-
-fn result_change(d: Client, opened: OpenCall, packet: ResultPacket) -> ReceiveChange
-    requires { opened ≡ call_at d packet.call }
-    ensures { received d packet.call result ≡ receive_result d packet }
-{
-    if is_own(d, opened, packet.client, packet.call, packet.point) {
-        let call = left_open(opened, true);
-        return ReceiveChange {
-            lease: d.lease,
-            call,
-            answer: Received::Completed(packet),
-        };
-    }
-    not_received(d, opened, packet.call, constants::UNKNOWN)
-}
-
-fn refusal_change(d: Client, opened: OpenCall, packet: RefusalPacket) -> ReceiveChange
-    requires { opened ≡ call_at d packet.call }
-    ensures { received d packet.call result ≡ receive_refusal d packet }
-{
-    if is_own(d, opened, packet.client, packet.call, packet.point) {
-        let call = left_open(opened, false);
-        return ReceiveChange {
-            lease: d.lease,
-            call,
-            answer: Received::Denied(packet),
-        };
-    }
-    not_received(d, opened, packet.call, constants::UNKNOWN)
-}
-
-fn grant_change(d: Client, opened: OpenCall, c: u32, grant: Grant) -> ReceiveChange
-    requires { opened ≡ call_at d c }
-    ensures { received d c result ≡ receive_grant d grant }
-{
-    if (grant.client == d.client) & (d.lease <= grant.lease) {
-        return ReceiveChange {
-            lease: grant.lease,
-            call: opened,
-            answer: Received::Extended(grant),
-        };
-    }
-    not_received(d, opened, c, constants::UNKNOWN)
-}
-
 fn taken(d: Client, opened: OpenCall, c: u32, packet: Packet) -> ReceiveChange
     requires { (opened ≡ call_at d c) × OfCall c packet }
     ensures { received d c result ≡ receive_with d packet }
 {
-    match packet {
-        Packet::Resulted(completed) => result_change(d, opened, completed),
-        Packet::Refused(denied) => refusal_change(d, opened, denied),
-        Packet::Granted(grant) => grant_change(d, opened, c, grant),
-        _ => not_received(d, opened, c, constants::MALFORMED),
+    let (lease, call, answer) = match packet {
+        Packet::Resulted(r) if is_own(d, opened, r.client, r.call, r.point) => {
+            (d.lease, no_call(), Received::Completed(r))
+        }
+        Packet::Refused(r) if is_own(d, opened, r.client, r.call, r.point) => {
+            (d.lease, opened, Received::Denied(r))
+        }
+        Packet::Granted(grant) if (grant.client == d.client) & (d.lease <= grant.lease) => {
+            (grant.lease, opened, Received::Extended(grant))
+        }
+        Packet::Resulted(_) | Packet::Refused(_) | Packet::Granted(_) => {
+            return not_received(d, opened, c, Refusal::Unknown);
+        }
+        _ => return not_received(d, opened, c, Refusal::Malformed),
+    };
+    ReceiveChange {
+        lease,
+        call,
+        answer,
     }
 }
 
@@ -368,85 +294,66 @@ pub fn receive_change(d: Client, opened: OpenCall, packet: &[u8]) -> ReceiveChan
     requires { opened ≡ call_at d (packet_call packet.now) }
     ensures { received d (packet_call packet.now) result ≡ receive_of d packet.now }
 {
-    let parsed = client_packet(packet);
-    taken(d, opened, packet_call(packet), parsed)
+    taken(d, opened, packet_call(packet), client_packet(packet))
 }
 
 // ---- the operations, by value
 
-fn started_by(number: u32) -> Started
-    ensures { result ≡ started_by number }
+pub fn start(packet: &[u8]) -> StartAnswer
+    ensures { result ≡ start_of packet.now }
 {
-    if number == constants::NO_REFUSAL {
-        return Started::Running;
-    }
-    Started::NotStarted(number)
-}
-
-fn start_answer(fields: StartFields) -> StartAnswer
-    ensures { result ≡ start_answer fields }
-{
-    let none = no_call();
-    let answer = started_by(fields.number);
+    let started = start_fields(packet);
+    let fields = started.unwrap_or_default();
     StartAnswer {
         client: Client {
             client: fields.client,
             lease: fields.lease,
             next: fields.next,
-            calls: [none; CALL_WINDOW],
+            calls: [no_call(); CALL_WINDOW],
         },
-        answer,
+        answer: match started {
+            Ok(_) => Started::Running,
+            Err(refusal) => Started::NotStarted(refusal.number()),
+        },
     }
-}
-
-pub fn start(packet: &[u8]) -> StartAnswer
-    ensures { result ≡ start_of packet.now }
-{
-    let fields = start_fields(packet);
-    start_answer(fields)
 }
 
 pub fn issue(d: Client, op: u8, point: u8, argument: u32) -> SendAnswer
     ensures { result ≡ issue_of d op point argument }
 {
-    let opened = call_at(d, d.next);
-    let change = issue_change(d, opened, op, point, argument);
-    let ks = d.calls;
-    let call = change.call;
-    let out = placed(ks, d.next, call);
-    let after = with_calls(d, change.next, out);
-    let answer = change.answer;
+    let change = issue_change(d, call_at(d, d.next), op, point, argument);
+    let calls = placed(d.calls, d.next, change.call);
     SendAnswer {
-        client: after,
-        answer,
+        client: Client {
+            next: change.next,
+            calls,
+            ..d
+        },
+        answer: change.answer,
     }
 }
 
 pub fn resend(d: Client, c: u32) -> SendAnswer
     ensures { result ≡ resend_of d c }
 {
-    let opened = call_at(d, c);
-    let answer = resend_answer(d, opened, c);
-    SendAnswer { client: d, answer }
+    SendAnswer {
+        client: d,
+        answer: resend_answer(d, call_at(d, c), c),
+    }
 }
 
 pub fn receive(d: Client, packet: &[u8]) -> ReceiveAnswer
     ensures { result ≡ receive_of d packet.now }
 {
     let c = packet_call(packet);
-    let opened = call_at(d, c);
-    let change = receive_change(d, opened, packet);
-    let ks = d.calls;
-    let call = change.call;
-    let out = placed(ks, c, call);
-    let answer = change.answer;
+    let change = receive_change(d, call_at(d, c), packet);
+    let calls = placed(d.calls, c, change.call);
     ReceiveAnswer {
         client: Client {
-            client: d.client,
             lease: change.lease,
-            next: d.next,
-            calls: out,
+            calls,
+            ..d
         },
-        answer,
+        answer: change.answer,
     }
 }

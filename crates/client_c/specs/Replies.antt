@@ -1,29 +1,20 @@
 -- What the host program in C is given for each answer: the refusal's number, and the values or the packet of its case.
 -- Assumes nothing.
-use Rattle.std.specs.Prelude.{ℕ, ◌-◌, ◌<◌, ◌≡◌, List, ◌++◌, length, set, replicate}
+use Rattle.std.specs.Prelude.{ℕ, ◌-◌, ◌<◌, ◌≡◌, List, ◌++◌, length, replicate}
 use Rattle.model.specs.declared.Sent.{Sent}
 use Rattle.model.specs.declared.Sent.TheVariants.{NotSent, Asked}
 use Rattle.model.specs.declared.Told.{Told}
 use Rattle.model.specs.declared.Told.TheVariants.{NotTold, ByGrant, ByNotice}
 use Rattle.model.specs.declared.Received.{Received}
 use Rattle.model.specs.declared.StartAnswer.{StartAnswer}
-use Rattle.model.specs.declared.SendAnswer.{SendAnswer}
-use Rattle.model.specs.declared.LeaseAnswer.{LeaseAnswer}
-use Rattle.model.specs.declared.LeaseManager.{LeaseManager}
-use Rattle.model.specs.declared.Client.{Client}
 use Rattle.model.specs.Numbers.{flip}
-use Rattle.model.specs.Limits.{call_window, lease_count, request_size, grant_size, grant_kind, notice_kind}
-use Rattle.model.specs.Clients.{place_of, with_calls, receive_of, start_number, send_number, sent_bytes, receive_number, brought}
+use Rattle.model.specs.Limits.{call_window, request_size, grant_size, grant_kind, notice_kind}
+use Rattle.model.specs.Clients.{place_of, start_number, send_number, sent_bytes, receive_number, brought}
 use Rattle.model.specs.Leases.{told_number, told_bytes}
 use Rattle.client.specs.Changes.{packet_call}
-use Rattle.leases.specs.declared.LeaseChange.{LeaseChange}
-use Rattle.leases.specs.Changes.{stored}
 use Rattle.client_c.specs.declared.StartReply.{StartReply}
 use Rattle.client_c.specs.declared.SendReply.{SendReply}
 use Rattle.client_c.specs.declared.ReceiveReply.{ReceiveReply}
-use Rattle.client_c.specs.declared.Sending.{Sending}
-use Rattle.client_c.specs.declared.Receiving.{Receiving}
-use Rattle.client_c.specs.declared.Leasing.{Leasing}
 use Rattle.client_c.specs.declared.LeaseReply.{LeaseReply}
 
 -- bytes, and zeros after them up to n
@@ -40,10 +31,6 @@ sent_call (Asked q) = q.command.call
 
 unfoldable pub send_reply : Sent → SendReply
 send_reply a = record { number = send_number a; call = sent_call a; length = length (sent_bytes a); packet = filled request_size (sent_bytes a) }
-
--- the reply is this answer's, and the client with what changes stored in it is the answer's client
-abbrev pub Sends : Client → Sending → SendAnswer → Type 0
-Sends d r a = (r.reply ≡ send_reply a.answer) × (with_calls d r.next (set d.calls (place_of d.next) r.call) ≡ a.client)
 
 -- what it brings, a value in two's complement
 unfoldable pub receive_reply : Received → ReceiveReply
@@ -66,12 +53,6 @@ receive_reply a =
 abbrev pub Placed : List ℕ → ℕ → Type 0
 Placed b i = (i ≡ place_of (packet_call b)) × (i < call_window)
 
--- the reply is the answer's, and the client with what changes stored in it is the answer's client
-abbrev pub Receives : Client → List ℕ → Receiving → Type 0
-Receives d b r =
-    (r.reply ≡ receive_reply (receive_of d b).answer)
-    × (record { client = d.client; lease = r.lease; next = d.next; calls = set d.calls (place_of (packet_call b)) r.call } ≡ (receive_of d b).client)
-
 -- the kind of what the lease manager gives
 unfoldable pub told_kind : Told → ℕ
 told_kind (NotTold n) = 0
@@ -80,14 +61,3 @@ told_kind (ByNotice n) = notice_kind
 
 unfoldable pub lease_reply : Told → LeaseReply
 lease_reply a = record { number = told_number a; kind = told_kind a; length = length (told_bytes a); packet = filled grant_size (told_bytes a) }
-
-abbrev pub leasing : LeaseChange → Leasing
-leasing c = record { ended = c.ended; time = c.time; issued = c.issued; place = c.place; lease = c.lease; reply = lease_reply c.answer }
-
--- the manager with what changes stored in it
-abbrev pub changed : LeaseManager → Leasing → LeaseManager
-changed m r = stored m r.ended r.time r.issued r.place r.lease
-
--- the reply is the answer's, and the manager with what changes stored in it is the answer's manager
-abbrev pub Leases : LeaseManager → Leasing → LeaseAnswer → Type 0
-Leases m r a = (r.reply ≡ lease_reply a.answer) × (r.place < lease_count) × (changed m r ≡ a.manager)

@@ -8,14 +8,14 @@ ghost use Rattle.model.specs.Numbers.{flip};
 ghost use Rattle.model.specs.Limits.{lease_count};
 ghost use Rattle.model.specs.Clients.{no_call, call_at, start_of, issue_of, resend_of, receive_of};
 ghost use Rattle.model.specs.Leases.{new_manager, open_of, renew_of, query_of};
-ghost use Rattle.client.specs.Changes.{packet_call};
-ghost use Rattle.client_c.specs.Replies.{start_reply, send_reply, Sends, receive_reply, Placed, Receives, lease_reply, leasing, changed, Leases};
+ghost use Rattle.client.specs.Changes.{issued};
+ghost use Rattle.leases.specs.Changes.{answered};
+ghost use Rattle.client_c.specs.Replies.{start_reply, send_reply, receive_reply, Placed, lease_reply};
 
+use client::SendChange;
 use leases::LeaseChange;
-use model::{
-    Client, Grant, Lease, LeaseManager, Notice, OpenCall, Received, RefusalPacket, Request,
-    ResultPacket, Sent, Told, constants,
-};
+use model::{Client, Lease, LeaseManager, OpenCall, Received, Sent, Told, constants};
+use refusals::Refusal;
 
 // ---- what C is given
 
@@ -64,33 +64,7 @@ pub struct LeaseReply {
     pub packet: [u8; constants::GRANT_SIZE],
 }
 
-// ---- replies, by value, and what changes: in a client the next number or the lease end, and what stands at one place;
-// in a lease manager time, the latest client number, what stands at one place, and whether the ended leases are cleared
-// before
-
-#[derive(Clone, Copy)]
-pub struct Sending {
-    pub next: u32,
-    pub call: OpenCall,
-    pub reply: SendReply,
-}
-
-#[derive(Clone, Copy)]
-pub struct Receiving {
-    pub lease: u32,
-    pub call: OpenCall,
-    pub reply: ReceiveReply,
-}
-
-#[derive(Clone, Copy)]
-pub struct Leasing {
-    pub ended: bool,
-    pub time: u32,
-    pub issued: u32,
-    pub place: usize,
-    pub lease: Lease,
-    pub reply: LeaseReply,
-}
+// ---- replies, by value
 
 pub fn send_reply(answer: Sent) -> SendReply
     ensures { result ≡ send_reply answer }
@@ -102,15 +76,12 @@ pub fn send_reply(answer: Sent) -> SendReply
             length: 0,
             packet: [0u8; constants::REQUEST_SIZE],
         },
-        Sent::Asked(q) => {
-            let packet = format_packet_writer::request_packet(q);
-            SendReply {
-                number: constants::NO_REFUSAL,
-                call: q.command.call,
-                length: constants::REQUEST_SIZE_U32,
-                packet,
-            }
-        }
+        Sent::Asked(q) => SendReply {
+            number: constants::NO_REFUSAL,
+            call: q.command.call,
+            length: constants::REQUEST_SIZE_U32,
+            packet: format_packet_writer::request_packet(q),
+        },
     }
 }
 
@@ -135,34 +106,31 @@ fn empty_reply(number: u32) -> ReceiveReply
 pub fn receive_reply(answer: Received) -> ReceiveReply
     ensures { result ≡ receive_reply answer }
 {
-    let mut reply = empty_reply(constants::NO_REFUSAL);
+    let none = empty_reply(constants::NO_REFUSAL);
     match answer {
-        Received::NotReceived(refusal) => {
-            reply.number = refusal;
-            reply
-        }
-        Received::Completed(packet) => {
-            reply.kind = constants::RESULT_KIND_U32;
-            reply.call = packet.call;
-            reply.value = format_numbers::flipped(packet.result.value);
-            reply.point = packet.point;
-            reply.outcome = packet.result.outcome;
-            reply.quality = packet.result.quality;
-            reply.time = packet.result.time;
-            reply
-        }
-        Received::Denied(packet) => {
-            reply.kind = constants::REFUSAL_KIND_U32;
-            reply.call = packet.call;
-            reply.point = packet.point;
-            reply.refusal = packet.refusal;
-            reply
-        }
-        Received::Extended(grant) => {
-            reply.kind = constants::GRANT_KIND_U32;
-            reply.lease = grant.lease;
-            reply
-        }
+        Received::NotReceived(refusal) => empty_reply(refusal),
+        Received::Completed(packet) => ReceiveReply {
+            kind: constants::RESULT_KIND_U32,
+            call: packet.call,
+            value: format_numbers::flipped(packet.result.value),
+            point: packet.point,
+            outcome: packet.result.outcome,
+            quality: packet.result.quality,
+            time: packet.result.time,
+            ..none
+        },
+        Received::Denied(packet) => ReceiveReply {
+            kind: constants::REFUSAL_KIND_U32,
+            call: packet.call,
+            point: packet.point,
+            refusal: packet.refusal,
+            ..none
+        },
+        Received::Extended(grant) => ReceiveReply {
+            kind: constants::GRANT_KIND_U32,
+            lease: grant.lease,
+            ..none
+        },
     }
 }
 
@@ -176,81 +144,37 @@ fn lease_reply(answer: Told) -> LeaseReply
             length: 0,
             packet: [0u8; constants::GRANT_SIZE],
         },
-        Told::ByGrant(grant) => {
-            let packet = format_packet_writer::grant_packet(grant);
-            LeaseReply {
-                number: constants::NO_REFUSAL,
-                kind: constants::GRANT_KIND_U32,
-                length: constants::GRANT_SIZE_U32,
-                packet,
-            }
-        }
-        Told::ByNotice(notice) => {
-            let packet = format_packet_writer::notice_packet(notice);
-            LeaseReply {
-                number: constants::NO_REFUSAL,
-                kind: constants::NOTICE_KIND_U32,
-                length: constants::NOTICE_SIZE_U32,
-                packet,
-            }
-        }
+        Told::ByGrant(grant) => LeaseReply {
+            number: constants::NO_REFUSAL,
+            kind: constants::GRANT_KIND_U32,
+            length: constants::GRANT_SIZE_U32,
+            packet: format_packet_writer::grant_packet(grant),
+        },
+        Told::ByNotice(notice) => LeaseReply {
+            number: constants::NO_REFUSAL,
+            kind: constants::NOTICE_KIND_U32,
+            length: constants::NOTICE_SIZE_U32,
+            packet: format_packet_writer::notice_packet(notice),
+        },
     }
 }
 
-fn with_lease_reply(change: LeaseChange) -> Leasing
-    ensures { result ≡ leasing change }
-{
-    let answer = change.answer;
-    let reply = lease_reply(answer);
-    let lease = change.lease;
-    Leasing {
-        ended: change.ended,
-        time: change.time,
-        issued: change.issued,
-        place: change.place,
-        lease,
-        reply,
-    }
-}
-
-// ---- the client's operations, by value; opened is what stands at the call's place
-
-// The argument in two's complement; an op or a point past a byte is malformed, as any past its range.
-fn issue_value(d: Client, opened: OpenCall, op: u32, point: u32, argument: u32) -> Sending
+// The argument in two's complement; an op or a point past a byte is malformed, as any past its range. opened is what
+// stands at the call's place.
+fn issue_change(d: Client, opened: OpenCall, op: u32, point: u32, argument: u32) -> SendChange
     requires { opened ≡ call_at d d.next }
-    ensures { Sends d result (issue_of d op point (flip argument)) }
+    ensures { issued d result ≡ issue_of d op point (flip argument) }
 {
     if (constants::LAST_8 < op) | (constants::LAST_8 < point) {
-        let reply = send_reply(Sent::NotSent(constants::MALFORMED));
-        return Sending {
-            next: d.next,
-            call: opened,
-            reply,
-        };
+        return client::not_issued(d, opened, Refusal::Malformed);
     }
-    let change = client::issue_change(
+    client::issue_change(
         d,
         opened,
         op as u8,
         point as u8,
         format_numbers::flipped(argument),
-    );
-    let call = change.call;
-    let answer = change.answer;
-    let reply = send_reply(answer);
-    Sending {
-        next: change.next,
-        call,
-        reply,
-    }
-}
-
-fn resend_value(d: Client, opened: OpenCall, call: u32) -> SendReply
-    requires { opened ≡ call_at d call }
-    ensures { result ≡ send_reply (resend_of d call).answer }
-{
-    let answer = client::resend_answer(d, opened, call);
-    send_reply(answer)
+    )
 }
 
 // The place of the packet's call.
@@ -258,60 +182,6 @@ fn packet_place(packet: &[u8]) -> usize
     ensures { Placed packet.now result }
 {
     client::place_of(client::packet_call(packet))
-}
-
-fn receive_value(d: Client, opened: OpenCall, packet: &[u8]) -> Receiving
-    requires { opened ≡ call_at d (packet_call packet.now) }
-    ensures { Receives d packet.now result }
-{
-    let change = client::receive_change(d, opened, packet);
-    let call = change.call;
-    let answer = change.answer;
-    let reply = receive_reply(answer);
-    Receiving {
-        lease: change.lease,
-        call,
-        reply,
-    }
-}
-
-// ---- the lease manager's operations, by value
-
-fn open_value(m: LeaseManager, time: u32, span: u32) -> Leasing
-    ensures { Leases m result (open_of m time span) }
-{
-    let change = leases::open_change(m, time, span);
-    with_lease_reply(change)
-}
-
-fn renew_value(m: LeaseManager, client: u32, time: u32, span: u32) -> Leasing
-    ensures { Leases m result (renew_of m client time span) }
-{
-    let change = leases::renew_change(m, client, time, span);
-    with_lease_reply(change)
-}
-
-fn query_value(m: LeaseManager, client: u32, time: u32) -> Leasing
-    ensures { Leases m result (query_of m client time) }
-{
-    let change = leases::query_change(m, client, time);
-    with_lease_reply(change)
-}
-
-// The manager with what changes.
-fn stored_value(m: LeaseManager, change: Leasing) -> LeaseManager
-    requires { change.place < lease_count }
-    ensures { result ≡ changed m change }
-{
-    let lease = change.lease;
-    leases::stored(
-        m,
-        change.ended,
-        change.time,
-        change.issued,
-        change.place,
-        lease,
-    )
 }
 
 // ---- for C: the client. Start makes one; the others are lent it, and store what changes.
@@ -324,8 +194,8 @@ enum Slot {
     Place(OpenCall),
 }
 
-// A free place in words, without a gap: start stores sixteen bytes at a time. Field by field, past the padding, it
-// takes half as long again.
+// A free place in words, without a gap: start stores sixteen bytes at a time. Tried, and slower: field by field, past
+// the padding, it takes half as long again.
 fn whole_place() -> OpenCall
     ensures { result ≡ no_call }
 {
@@ -341,16 +211,19 @@ fn whole_place() -> OpenCall
 pub extern "C" fn mantelorris_start(packet: &[u8]) -> StartReply
     ensures { result ≡ start_reply (start_of packet.now) }
 {
-    let fields = client::start_fields(packet);
-    let none = whole_place();
+    let started = client::start_fields(packet);
+    let fields = started.unwrap_or_default();
     StartReply {
         client: Client {
             client: fields.client,
             lease: fields.lease,
             next: fields.next,
-            calls: [none; constants::CALL_WINDOW],
+            calls: [whole_place(); constants::CALL_WINDOW],
         },
-        number: fields.number,
+        number: match started {
+            Ok(_) => constants::NO_REFUSAL,
+            Err(refusal) => refusal.number(),
+        },
     }
 }
 
@@ -360,10 +233,10 @@ pub extern "C" fn mantelorris_issue(d: &mut Client, op: u32, point: u32, argumen
         × (d.new ≡ (issue_of d.old op point (flip argument)).client) }
 {
     let i = client::place_of(d.next);
-    let change = issue_value(*d, d.calls[i], op, point, argument);
+    let change = issue_change(*d, d.calls[i], op, point, argument);
     d.next = change.next;
     d.calls[i] = change.call;
-    change.reply
+    send_reply(change.answer)
 }
 
 #[unsafe(no_mangle)]
@@ -372,7 +245,7 @@ pub extern "C" fn mantelorris_resend(d: &mut Client, call: u32) -> SendReply
         × (d.new ≡ (resend_of d.old call).client) }
 {
     let i = client::place_of(call);
-    resend_value(*d, d.calls[i], call)
+    send_reply(client::resend_answer(*d, d.calls[i], call))
 }
 
 #[unsafe(no_mangle)]
@@ -381,10 +254,10 @@ pub extern "C" fn mantelorris_receive(d: &mut Client, packet: &[u8]) -> ReceiveR
         × (d.new ≡ (receive_of d.old packet.now).client) }
 {
     let i = packet_place(packet);
-    let change = receive_value(*d, d.calls[i], packet);
+    let change = client::receive_change(*d, d.calls[i], packet);
     d.lease = change.lease;
     d.calls[i] = change.call;
-    change.reply
+    receive_reply(change.answer)
 }
 
 // ---- for C: the lease manager. It is made once and lent; what changes is stored.
@@ -405,18 +278,17 @@ pub extern "C" fn mantelorris_leases() -> LeaseManager
 }
 
 // Stores what a call changes: all anew where leases have ended, else time, latest number and one place.
-fn store_change(m: &mut LeaseManager, change: Leasing)
+fn store_change(m: &mut LeaseManager, change: LeaseChange)
     requires { change.place < lease_count }
-    ensures { m.new ≡ changed m.old change }
+    ensures { m.new ≡ (answered m.old change).manager }
 {
     if change.ended {
-        *m = stored_value(*m, change);
+        *m = leases::stored(*m, change);
         return;
     }
     m.time = change.time;
     m.issued = change.issued;
-    let i = change.place;
-    m.leases[i] = change.lease;
+    m.leases[change.place] = change.lease;
 }
 
 #[unsafe(no_mangle)]
@@ -424,9 +296,9 @@ pub extern "C" fn mantelorris_open(m: &mut LeaseManager, time: u32, span: u32) -
     ensures { (result ≡ lease_reply (open_of m.old time span).answer)
         × (m.new ≡ (open_of m.old time span).manager) }
 {
-    let change = open_value(*m, time, span);
+    let change = leases::open_change(*m, time, span);
     store_change(m, change);
-    change.reply
+    lease_reply(change.answer)
 }
 
 #[unsafe(no_mangle)]
@@ -439,9 +311,9 @@ pub extern "C" fn mantelorris_renew(
     ensures { (result ≡ lease_reply (renew_of m.old client time span).answer)
         × (m.new ≡ (renew_of m.old client time span).manager) }
 {
-    let change = renew_value(*m, client, time, span);
+    let change = leases::renew_change(*m, client, time, span);
     store_change(m, change);
-    change.reply
+    lease_reply(change.answer)
 }
 
 #[unsafe(no_mangle)]
@@ -449,7 +321,7 @@ pub extern "C" fn mantelorris_query(m: &mut LeaseManager, client: u32, time: u32
     ensures { (result ≡ lease_reply (query_of m.old client time).answer)
         × (m.new ≡ (query_of m.old client time).manager) }
 {
-    let change = query_value(*m, client, time);
+    let change = leases::query_change(*m, client, time);
     store_change(m, change);
-    change.reply
+    lease_reply(change.answer)
 }

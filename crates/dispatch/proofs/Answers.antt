@@ -1,17 +1,12 @@
 -- Every exit of a call: what the calls before it found, and that it is the definition's answer.
---     waits-is                       whether a client's request waits, by its place
 --     room, not-taken_in, taken_in_lem   an enqueued request, by its refusal's number
 --     not-request, is-request        an enqueued packet
 --     serve-none, serve-first        a serving
 -- Assumes nothing.
 use Prim.Native.Nat.{ℕ, ◌<◌}
-use mathlib.Core.Path.{◌≡◌, refl, sym, ◌∙◌}
+use mathlib.Core.Path.{◌≡◌, refl, sym}
 use mathlib.Core.List.{List, [], ◌∷◌}
 use mathlib.Core.Option.{none}
-use native.Mathlib.Omega.{arith}
-use lib.Dec.{ltb}
-use lib.ListN.{length, take}
-use lib.Seq.{length-take-le}
 use borrow.Author.Tests.{eq-eqb, ne_eqb}
 use denote.Enum.Declared.{tag_of}
 use types.Run.{OneOf, miss}
@@ -21,36 +16,31 @@ use Rattle.model.specs.declared.Packet.{Packet}
 use Rattle.model.specs.declared.Packet.TheVariants.{Malformed, Requested, Resulted, Refused, Receipted, Noticed, Granted}
 use Rattle.model.specs.contracts.Packet.{the_type}
 use Rattle.model.specs.Refusals.{no_refusal, malformed, unknown}
-use Rattle.model.specs.Tables.{index_of}
 use Rattle.model.specs.Versions.{today}
 use Rattle.model.specs.Packets.{parse_packet, as_request, request_bytes}
 use Rattle.model.specs.Operations.{answer_of, after, settle, request_of}
+use Rattle.refusals.specs.declared.Refusal.{Refusal}
+use Rattle.refusals.specs.Numbers.{number_of}
+use Rattle.refusals.proofs.Numbers.{number-some}
 use Rattle.model_laws.proofs.Refused.{passing}
 use Rattle.dispatch_claim.specs.declared.Dispatcher.{Dispatcher}
 use Rattle.dispatch_claim.specs.declared.Enqueued.{Enqueued}
-use Rattle.dispatch_claim.specs.Dispatcher.{places, waiting_count, waiting, is_of, waits, enqueue_refusal, with_last, enqueued, enqueue_request, enqueue_of, first_waiting, shifted, serve_of, after_serve}
-use Rattle.dispatch.proofs.Places.{count_most}
-
-pub waits-is : (d : Dispatcher) (client : ℕ) {count place : ℕ} → count ≡ waiting_count d → place ≡ index_of (is_of client) (take count d.requests)
-    → length d.requests ≡ places → ltb place count ≡ waits d client
-unfolding waits waiting
-waits-is d client many at long =
-    rw (at, many) (rw (length-take-le (waiting_count d) d.requests (omega (arith, count_most d))) refl)
+use Rattle.dispatch_claim.specs.Dispatcher.{places, enqueue_refusal, with_last, enqueued, enqueue_request, enqueue_of, first_waiting, shifted, serve_of, after_serve}
 
 -- ---- enqueue
 
-module _ (d : Dispatcher) (q : Request) {n : ℕ} (e : n ≡ enqueue_refusal d q) where
-  pub room : n ≡ no_refusal → d.count < places
+module _ (d : Dispatcher) (q : Request) where
+  pub room : no_refusal ≡ enqueue_refusal d q → d.count < places
   unfolding enqueue_refusal
-  room h = let p = sym e ∙ h in search passing depth 12
+  room e = let p = sym e in search passing depth 12
 
-  pub not-taken_in : (n ≡ no_refusal → ⊥) → enqueued d n ≡ enqueue_request d q
+  pub not-taken_in : (y : Refusal) → number_of y ≡ enqueue_refusal d q → {n : ℕ} → n ≡ number_of y → enqueued d n ≡ enqueue_request d q
   unfolding enqueue_request
-  not-taken_in h = rw (← e, ne_eqb _ _ h) refl
+  not-taken_in y e k = rw (k, ← e, ne_eqb (number_of y) no_refusal (number-some y)) refl
 
-  pub taken_in_lem : n ≡ no_refusal → {next : Dispatcher} → next ≡ with_last d q → enqueued next no_refusal ≡ enqueue_request d q
+  pub taken_in_lem : no_refusal ≡ enqueue_refusal d q → {next : Dispatcher} → next ≡ with_last d q → enqueued next no_refusal ≡ enqueue_request d q
   unfolding enqueue_request
-  taken_in_lem h k = rw (← e, eq-eqb _ _ h, k) refl
+  taken_in_lem e k = rw (← e, k) refl
 
 none_other : (p : Packet) → OneOf (0 ∷ 2 ∷ 3 ∷ 4 ∷ 5 ∷ 6 ∷ []) (tag_of the_type p) → as_request p ≡ none
 unfolding as_request

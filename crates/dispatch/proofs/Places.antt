@@ -1,25 +1,23 @@
 -- The walks over the places of a dispatcher.
 --     count_most, count-least           how many wait
---     place_hit, place-next, place_none     the search for a client's request
---     moved-next, moved-end             all move one place to the front
+--     waits-any                         whether a client's request waits
+--     front-long, back-long, moved-end     all move one place to the front
 -- Assumes nothing.
-use Prim.Native.Nat.{ℕ, suc, ◌+◌, ◌-◌, ◌≤◌, ◌<◌}
-use mathlib.Core.Path.{◌≡◌, refl, sym, ap, ◌∙◌}
-use mathlib.Core.Bool.{Bool, true, false}
+use Prim.Native.Nat.{ℕ, suc, ◌+◌, ◌≤◌}
+use mathlib.Core.Path.{◌≡◌, refl, sym, ◌∙◌}
+use mathlib.Core.Bool.{Bool, true, false, ◌||◌}
 use mathlib.Core.List.{List, [], ◌∷◌, ◌++◌}
+use Rattle.std.specs.List.{list_any}
+use Rattle.std.proofs.lemmas.Bool.Decides.{nat_tests}
 use native.Mathlib.Omega.{arith}
-use native.Mathlib.Numerals.{add-one}
-use lib.Dec.{eqb, leb}
+use lib.Dec.{leb, ltb}
 use lib.ListN.{length, get_or, set, take, drop, length-drop, drop_of_length-le}
-use lib.Seq.{length-take-le, take_all, take-suc, drop-cons, append_snoc, get_or-take, get_or-drop, set_at}
-use borrow.Author.Tests.{leb-true, eq-eqb, ne_eqb}
-use Rattle.model.specs.declared.Request.{Request}
+use lib.Seq.{length-take-le, take_all, drop-cons, set_at}
+use borrow.Author.Tests.{leb-true}
 use Rattle.model.specs.Choice.{pick}
 use Rattle.model.specs.Tables.{index_of}
-use Rattle.model_laws.specs.Sought.{Sought}
-use Rattle.model_laws.proofs.Searches.{sought_hit, sought_next, sought_none}
 use Rattle.dispatch_claim.specs.declared.Dispatcher.{Dispatcher}
-use Rattle.dispatch_claim.specs.Dispatcher.{places, no_request, waiting_count, is_of}
+use Rattle.dispatch_claim.specs.Dispatcher.{places, waiting_count, waiting, is_of, waits}
 
 module _ (d : Dispatcher) where
   pub count_most : waiting_count d ≤ places
@@ -40,43 +38,32 @@ module _ (d : Dispatcher) where
 
 -- ---- a client's request
 
-module _ (requests : List Request) (client : ℕ) {count i : ℕ} (long : length requests ≡ places) (fits : count ≤ places)
-    (o : Sought (is_of client) (take count requests) i) where
-  all : length (take count requests) ≡ count
-  all = length-take-le count requests (omega arith)
+any-found : {A : Type 0} (t : A → Bool) (xs : List A) → list_any t xs ≡ ltb (index_of t xs) (length xs)
+unfolding index_of
+any-found t [] = refl
+any-found t (x ∷ xs) = go (t x) _ _ (any-found t xs)
+  where
+    go : (b : Bool) {u : Bool} (i n : ℕ) → u ≡ ltb i n → (b || u) ≡ ltb (pick b 0 (suc i)) (suc n)
+    go true i n e = grind (arith, nat_tests)
+    go false i n e = grind (arith, nat_tests)
 
-  same : i < count → is_of client (get_or (take count requests) i no_request) ≡ eqb (get_or requests i no_request).command.client client
-  unfolding is_of
-  same h = rw (get_or-take count requests i no_request h) refl
+pub waits-any : (d : Dispatcher) (client : ℕ) → list_any (is_of client) (waiting d) ≡ waits d client
+unfolding waits
+waits-any d client = any-found (is_of client) (waiting d)
 
-  pub place_hit : i < count → (get_or requests i no_request).command.client ≡ client → i ≡ index_of (is_of client) (take count requests)
-  place_hit h e = sought_hit o no_request (rw all h) (same h ∙ eq-eqb _ _ e)
+-- ---- all move one place to the front
 
-  pub place-next : i < count → ((get_or requests i no_request).command.client ≡ client → ⊥) → Sought (is_of client) (take count requests) (i + 1)
-  place-next h e = sought_next o no_request (rw all h) (same h ∙ ne_eqb _ _ e)
+module _ {A : Type 0} (xs : List A) (i : ℕ) (long : length xs ≡ i + 1) where
+  back : length (drop 1 xs) ≡ i
+  back = omega (arith, length-drop 1 xs)
 
-  pub place_none : count ≤ i → i ≡ index_of (is_of client) (take count requests)
-  place_none h = sought_none o (rw all h)
+  pub front-long : length (take i xs) ≡ i
+  front-long = length-take-le i xs (omega arith)
 
--- ---- i have moved one place to the front
+  pub back-long : length (take i xs) ≡ length (take i (drop 1 xs))
+  back-long = front-long ∙ sym (length-take-le i (drop 1 xs) (omega (arith, back)))
 
-abbrev pub moved_by : {A : Type 0} → List A → ℕ → List A
-moved_by xs i = take i (drop 1 xs) ++ drop i xs
-
-module _ {A : Type 0} (xs : List A) (z : A) (i : ℕ) {ys : List A} (moved : ys ≡ moved_by xs i) where
-  pub moved-next : i + 1 < length xs → set ys i (get_or xs (i + 1) z) ≡ moved_by xs (i + 1)
-  moved-next h =
-      let back : List A = drop 1 xs in
-      let l : length back ≡ length xs - 1 = length-drop 1 xs in
-      let e : i + 1 ≡ 1 + i = omega arith in
-      let at : get_or xs (i + 1) z ≡ get_or back i z = ap (λ (k : ℕ). get_or xs k z) e ∙ sym (get_or-drop 1 xs i z) in
-      rw (moved, at, add-one, drop-cons xs i z (omega arith), take-suc back i z (omega arith))
-      (set_at (take i back) (get_or xs i z) (drop (suc i) xs) (get_or back i z) i (length-take-le i back (omega arith))
-      ∙ sym (append_snoc (take i back) (get_or back i z) (drop (suc i) xs)))
-
-  pub moved-end : length xs ≡ i + 1 → set ys i z ≡ drop 1 xs ++ (z ∷ [])
-  moved-end h =
-      let back : List A = drop 1 xs in
-      let l : length back ≡ length xs - 1 = length-drop 1 xs in
-      rw (moved, take_all i back (omega arith), drop-cons xs i z (omega arith), drop_of_length-le xs {i = suc i} (omega arith))
-      (set_at back (get_or xs i z) [] z i (omega arith))
+  pub moved-end : (z : A) {ys : List A} → ys ≡ take i (drop 1 xs) → set (ys ++ drop i xs) i z ≡ drop 1 xs ++ (z ∷ [])
+  moved-end z moved =
+      rw (moved, take_all i (drop 1 xs) (omega (arith, back)), drop-cons xs i z (omega arith), drop_of_length-le xs {i = suc i} (omega arith))
+      (set_at (drop 1 xs) (get_or xs i z) [] z i back)

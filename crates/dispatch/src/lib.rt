@@ -5,11 +5,13 @@
 ghost use Rattle.std.specs.Prelude.{◌≡◌, [], ◌∷◌, ◌++◌, ◌≤◌, ◌<◌, length, take, drop};
 ghost use Rattle.model.specs.Tables.{index_of};
 ghost use Rattle.model.specs.Versions.{today};
+ghost use Rattle.refusals.specs.Numbers.{refusal_of};
 ghost use Rattle.dispatch_claim.specs.Dispatcher.{places, no_request, no_waiting, waiting_count, is_of, waits, enqueue_refusal, with_last};
 ghost use Rattle.dispatch_claim.specs.Dispatcher.{enqueue_request, enqueue_of, first_waiting, shifted, serve_of, after_serve};
 
 use dispatch_claim::{Dispatcher, Enqueued, Served, WAITING_PLACES, WAITING_PLACES_U32};
 use model::{Command, Packet, Request, constants};
+use refusals::Refusal;
 
 // ---- the places
 
@@ -35,10 +37,9 @@ fn no_request() -> Request
 pub fn no_waiting() -> Dispatcher
     ensures { result ≡ no_waiting }
 {
-    let free = no_request();
     Dispatcher {
         count: 0,
-        requests: [free; WAITING_PLACES],
+        requests: [no_request(); WAITING_PLACES],
     }
 }
 
@@ -52,45 +53,29 @@ fn waiting_count(dispatcher: Dispatcher) -> u32
     WAITING_PLACES_U32
 }
 
-// The first of so many places with a request of this client; their number where none has one.
-fn place_of(requests: [Request; WAITING_PLACES], count: u32, client: u32) -> u32
-    requires { count ≤ places }
-    ensures { (result ≡ index_of (is_of client) (take count requests)) × (length requests ≡ places) }
-{
-    let mut i = 0u32;
-    while i < count {
-        let q = requests[i as usize];
-        if q.command.client == client {
-            return i;
-        }
-        i += 1;
-    }
-    i
-}
-
 // A request of this client waits.
 fn client_waits(dispatcher: Dispatcher, client: u32) -> bool
     ensures { result ≡ waits dispatcher client }
 {
-    let count = waiting_count(dispatcher);
-    let requests = dispatcher.requests;
-    let place = place_of(requests, count, client);
-    place < count
+    let count = waiting_count(dispatcher) as usize;
+    dispatcher.requests[..count]
+        .iter()
+        .any(|q| q.command.client == client)
 }
 
 // ---- enqueue
 
 // 21 its client waits already; 8 all places are taken.
-fn enqueue_refusal(dispatcher: Dispatcher, q: Request) -> u32
-    ensures { result ≡ enqueue_refusal dispatcher q }
+fn enqueue_refusal(dispatcher: Dispatcher, q: Request) -> Result<(), Refusal>
+    ensures { refusal_of result ≡ enqueue_refusal dispatcher q }
 {
     if client_waits(dispatcher, q.command.client) {
-        return constants::ALREADY_WAITING;
+        return Err(Refusal::AlreadyWaiting);
     }
     if WAITING_PLACES_U32 <= dispatcher.count {
-        return constants::CLIENTS_FULL;
+        return Err(Refusal::ClientsFull);
     }
-    constants::NO_REFUSAL
+    Ok(())
 }
 
 fn with_last(dispatcher: Dispatcher, q: Request) -> Dispatcher
@@ -109,17 +94,15 @@ fn with_last(dispatcher: Dispatcher, q: Request) -> Dispatcher
 fn enqueue_request(dispatcher: Dispatcher, q: Request) -> Enqueued
     ensures { result ≡ enqueue_request dispatcher q }
 {
-    let refusal = enqueue_refusal(dispatcher, q);
-    if refusal != 0 {
-        return Enqueued {
+    match enqueue_refusal(dispatcher, q) {
+        Ok(()) => Enqueued {
+            dispatcher: with_last(dispatcher, q),
+            number: constants::NO_REFUSAL,
+        },
+        Err(refusal) => Enqueued {
             dispatcher,
-            number: refusal,
-        };
-    }
-    let next = with_last(dispatcher, q);
-    Enqueued {
-        dispatcher: next,
-        number: constants::NO_REFUSAL,
+            number: refusal.number(),
+        },
     }
 }
 
@@ -131,7 +114,7 @@ pub fn enqueue(dispatcher: Dispatcher, packet: &[u8]) -> Enqueued
     let Packet::Requested(q) = parsed else {
         return Enqueued {
             dispatcher,
-            number: constants::MALFORMED,
+            number: Refusal::Malformed.number(),
         };
     };
     enqueue_request(dispatcher, q)
@@ -142,8 +125,7 @@ pub fn enqueue(dispatcher: Dispatcher, packet: &[u8]) -> Enqueued
 fn first_waiting(dispatcher: Dispatcher) -> Request
     ensures { result ≡ first_waiting dispatcher }
 {
-    let requests = dispatcher.requests;
-    requests[0]
+    dispatcher.requests[0]
 }
 
 // All move one place to the front; the last place is free.
@@ -151,14 +133,8 @@ fn moved_up(requests: [Request; WAITING_PLACES]) -> [Request; WAITING_PLACES]
     ensures { result ≡ drop 1 requests ++ (no_request ∷ []) }
 {
     let mut moved = requests;
-    let mut i: usize = 0;
-    while i < LAST_PLACE {
-        let q = requests[i + 1];
-        moved[i] = q;
-        i += 1;
-    }
-    let free = no_request();
-    moved[LAST_PLACE] = free;
+    moved[..LAST_PLACE].copy_from_slice(&requests[1..]);
+    moved[LAST_PLACE] = no_request();
     moved
 }
 
@@ -166,12 +142,9 @@ fn without_first(dispatcher: Dispatcher) -> Dispatcher
     requires { 1 ≤ dispatcher.count }
     ensures { result ≡ shifted dispatcher }
 {
-    let count = waiting_count(dispatcher);
-    let requests = dispatcher.requests;
-    let moved = moved_up(requests);
     Dispatcher {
-        count: count - 1,
-        requests: moved,
+        count: waiting_count(dispatcher) - 1,
+        requests: moved_up(dispatcher.requests),
     }
 }
 
@@ -181,15 +154,16 @@ pub fn serve(dispatcher: Dispatcher, s: &mut [u8], log: &mut [u8], out: &mut [u8
         ≡ serve_of today dispatcher s.old log.old out.old }
 {
     if dispatcher.count == 0 {
-        let answer = server_decide::refused(constants::UNKNOWN);
-        return Served { dispatcher, answer };
+        return Served {
+            dispatcher,
+            answer: refusals::answer(Err(Refusal::Unknown)),
+        };
     }
     let q = first_waiting(dispatcher);
     let packet = format_packet_writer::request_packet(q);
-    let answer = server_service::request::request(s, log, &packet, out);
-    let next = without_first(dispatcher);
+    let outcome = server_service::request::request(s, log, &packet, out);
     Served {
-        dispatcher: next,
-        answer,
+        dispatcher: without_first(dispatcher),
+        answer: refusals::request_answer(outcome),
     }
 }

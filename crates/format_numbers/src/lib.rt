@@ -18,13 +18,6 @@ use model::{ArgumentRange, PlanEntry};
 
 // ---- numbers
 
-// The number of 4 bytes, the lowest first.
-fn join(b0: u8, b1: u8, b2: u8, b3: u8) -> u32
-    ensures { result ≡ join32 b0 b1 b2 b3 }
-{
-    b0 as u32 + 256 * (b1 as u32) + 65536 * (b2 as u32) + 16777216 * (b3 as u32)
-}
-
 // The number of two numbers of 32 bits, the lower first.
 fn join_words(low: u32, high: u32) -> u64
     ensures { result ≡ low + word * high }
@@ -37,7 +30,7 @@ pub fn read_u32(s: &[u8], at: usize) -> u32
     requires { at + 4 ≤ length s.now }
     ensures { result ≡ le32_at s.now at }
 {
-    join(s[at], s[at + 1], s[at + 2], s[at + 3])
+    u32::from_le_bytes([s[at], s[at + 1], s[at + 2], s[at + 3]])
 }
 
 // The number in the 8 bytes from at.
@@ -81,14 +74,8 @@ pub fn write_u32(s: &mut [u8], at: usize, v: u32)
     requires { at + 4 ≤ length s.old }
     ensures { s.new ≡ written s.old at (le32 v) }
 {
-    write_4(
-        s,
-        at,
-        (v % 256) as u8,
-        (v / 256 % 256) as u8,
-        (v / 65536 % 256) as u8,
-        (v / 16777216) as u8,
-    );
+    let bytes = v.to_le_bytes();
+    write_4(s, at, bytes[0], bytes[1], bytes[2], bytes[3]);
 }
 
 // Stores a value in the 8 bytes from at.

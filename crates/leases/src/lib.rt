@@ -149,22 +149,15 @@ fn among_running<A, F: FnOnce([Lease; LEASE_COUNT], bool) -> A>(
 }
 
 // The manager with what changes.
-pub fn stored(
-    m: LeaseManager,
-    ended: bool,
-    time: u32,
-    issued: u32,
-    place: usize,
-    lease: Lease,
-) -> LeaseManager
-    requires { place < lease_count }
-    ensures { result ≡ stored m ended time issued place lease }
+pub fn stored(m: LeaseManager, change: LeaseChange) -> LeaseManager
+    requires { change.place < lease_count }
+    ensures { result ≡ stored m change.ended change.time change.issued change.place change.lease }
 {
-    let mut leases = kept_at(m, ended, time);
-    leases[place] = lease;
+    let mut leases = kept_at(m, change.ended, change.time);
+    leases[change.place] = change.lease;
     LeaseManager {
-        time,
-        issued,
+        time: change.time,
+        issued: change.issued,
         leases,
     }
 }
@@ -336,16 +329,8 @@ fn answered(m: LeaseManager, change: LeaseChange) -> LeaseAnswer
     requires { change.place < lease_count }
     ensures { result ≡ answered m change }
 {
-    let next = stored(
-        m,
-        change.ended,
-        change.time,
-        change.issued,
-        change.place,
-        change.lease,
-    );
     LeaseAnswer {
-        manager: next,
+        manager: stored(m, change),
         answer: change.answer,
     }
 }

@@ -12,7 +12,8 @@ use native.Mathlib.Nat.{sub-zero}
 use lib.ListN.{length, drop, replicate, length-map}
 use lib.Dec.{eqb, ltb}
 use borrow.Author.Tests.{eqb-true, ne_eqb, ltb-false, not-false}
-use Rattle.model.specs.declared.Answer.{Answer}
+use Rattle.std.specs.Prelude.{Result, Ok}
+use Rattle.std.specs.Result.{IsErrAnd}
 use Rattle.model.specs.declared.PlanEntry.{PlanEntry}
 use Rattle.model.specs.declared.Point.{Point}
 use Rattle.model.specs.Limits.{last_server, state_size, head_size, point_count, plan_row, plan_size, floor_row, client_count}
@@ -24,7 +25,10 @@ use Rattle.model.specs.Images.{floor_bytes}
 use Rattle.model.specs.States.{state_bytes, state_head_bytes, point_bytes, padded, points_start, floors_start, point_row, length_place, mark_place, state_head, state_magic}
 use Rattle.model.specs.Apply.{founded, founded_point}
 use Rattle.model.specs.Logs.{head_bytes}
-use Rattle.model.specs.Operations.{after, answer_of, settle, stored, left_unless, found_refusal, found_of}
+use Rattle.model.specs.Operations.{after, settle, stored, left_unless, found_refusal, found_of}
+use Rattle.refusals.specs.declared.Refusal.{Refusal}
+use Rattle.refusals.specs.Numbers.{number_of, answered}
+use Rattle.refusals.proofs.Numbers.{number-some, exit}
 use Rattle.model_laws.specs.Bytes.{Bytes}
 use Rattle.model_laws.specs.Runs.{last, run, stored_by, bytes_by}
 use Rattle.model_laws.proofs.Tests.{and_left}
@@ -130,17 +134,18 @@ either_no : (a b : Bool) → (a || b) ≡ false → (a ≡ false) × (b ≡ fals
 either_no true b e = absurd (false≢true (sym e))
 either_no false b e = (refl, e)
 
--- by the refusal's number, with the plan's test as a call gave it
-module _ (s log plan : List ℕ) (n : ℕ) {g : Bool} (p : g ≡ plan_ok plan) {k : ℕ} (q : k ≡ found_refusal (length s) (length log) g n) where
-  pub found-refused : (k ≡ no_refusal → ⊥) → {r : Answer} → r ≡ answer_of k 0 → after r s log [] ≡ found_of s log plan n
+-- with the plan's test as a call gave it
+module _ (s log plan : List ℕ) (n : ℕ) {g : Bool} (p : g ≡ plan_ok plan) where
+  pub found-refused : (e : Refusal) → number_of e ≡ found_refusal (length s) (length log) g n → (r : Result ℕ Refusal) → IsErrAnd r (λ x. x ≡ e)
+      → after (answered r) s log [] ≡ found_of s log plan n
   unfolding found_of left_unless settle
-  found-refused h e = rw (e, ← p, ← q, ne_eqb k no_refusal h)
+  found-refused e q r h = rw (exit r h, ← p, ← q, ne_eqb (number_of e) no_refusal (number-some e))
 
-  module _ (z : k ≡ no_refusal) where
+  module _ (q : no_refusal ≡ found_refusal (length s) (length log) g n) where
     tests : (ltb (length s) state_size || ltb (length log) head_size) ≡ false × (not g || ltb last_server n) ≡ false
     unfolding found_refusal
     tests =
-        let a = if-passed too_short refl (ltb (length s) state_size || ltb (length log) head_size) _ (sym q ∙ z) in
+        let a = if-passed too_short refl (ltb (length s) state_size || ltb (length log) head_size) _ (sym q) in
         (a.0, (if-passed malformed refl (not g || ltb last_server n) 0 a.1).0)
 
     pub lent-passed : (state_size ≤ length s) × (head_size ≤ length log)
@@ -153,7 +158,7 @@ module _ (s log plan : List ℕ) (n : ℕ) {g : Bool} (p : g ≡ plan_ok plan) {
         let e = either_no (not g) (ltb last_server n) tests.1 in
         (sym p ∙ not-false g e.0, ltb-false last_server n e.1)
 
-    pub found-done : {s' log' : List ℕ} {r : Answer} → s' ≡ stored s (founded (plan_of plan) n) → log' ≡ written log 0 (head_bytes n) → r ≡ answer_of no_refusal 0
-        → after r s' log' [] ≡ found_of s log plan n
+    pub found-done : {s' log' : List ℕ} → s' ≡ stored s (founded (plan_of plan) n) → log' ≡ written log 0 (head_bytes n)
+        → after (answered (Ok 0)) s' log' [] ≡ found_of s log plan n
     unfolding found_of left_unless
-    found-done e f g = rw (← p, ← q, z, e, f, g)
+    found-done e f = rw (← p, ← q, e, f)

@@ -9,11 +9,13 @@ ghost use Rattle.model.specs.Plan.{plan_ok, plan_of, plan_entry_of};
 ghost use Rattle.model.specs.States.{held, absent, state_end, points_start, point_row, point_bytes, state_head_bytes, state_head};
 ghost use Rattle.model.specs.Apply.{founded, founded_point};
 ghost use Rattle.model.specs.Operations.{after, stored, found_of};
+ghost use Rattle.refusals.specs.Numbers.{answered};
 
 use model::constants::{
     FLOORS_START, PLAN_START, POINT_COUNT, POINT_ROW, POINTS_START, RECORDS_START,
 };
-use model::{Answer, PlanEntry, Point, constants};
+use model::{PlanEntry, Point, constants};
+use refusals::Refusal;
 
 // ---- the parts of a founded state
 
@@ -101,17 +103,14 @@ pub fn found_state(s: &mut [u8], plan: &[u8], server: u8)
 // ---- the operation
 
 // 2 state or log too short; 1 bad plan or server number; else the state and the log's head.
-pub fn found(state: &mut [u8], log: &mut [u8], plan: &[u8], server: u32) -> Answer
-    ensures { after result state.new log.new []
+pub fn found(state: &mut [u8], log: &mut [u8], plan: &[u8], server: u32) -> Result<u32, Refusal>
+    ensures { after (answered result) state.new log.new []
         ≡ found_of state.old log.old plan.now server }
 {
     let good = format_commands::plan_ok(plan);
-    let refusal = server_decide::found_refusal(state.len(), log.len(), good, server);
-    if refusal != 0 {
-        return server_decide::refused(refusal);
-    }
+    server_decide::found_refusal(state.len(), log.len(), good, server)?;
     let number = server as u8;
     found_state(state, plan, number);
     format_log_writer::write_head(log, number);
-    server_decide::made(0)
+    Ok(0)
 }

@@ -4,7 +4,7 @@
 --     places-good             a point and a server number in range
 --     give-is, give_ready, give_settled
 --     image-most, receipt-is, image-is, receipt-done, image-done, place_ready
---     release-is, release-chain, release-room, release_settled, release-placed
+--     release-is, release-chain, release-room, release_settled, release_other, release-placed
 -- Assumes nothing.
 use Prim.Native.Nat.{ℕ, suc, ◌+◌, ◌≤◌}
 use mathlib.Core.Path.{◌≡◌, refl, sym, ap, ◌∙◌}
@@ -14,22 +14,27 @@ use native.Mathlib.Omega.{arith}
 use lib.ListN.{length}
 use lib.Dec.{eqb, ltb}
 use borrow.Author.Tests.{ne_eqb, eqb-true, ltb-false}
-use Rattle.model.specs.declared.Answer.{Answer}
+use Rattle.std.specs.Prelude.{Result, Ok}
+use Rattle.std.specs.Result.{IsErrAnd}
 use Rattle.model.specs.declared.Point.{Point}
 use Rattle.model.specs.declared.Packet.{Packet}
+use Rattle.model.specs.declared.Receipt.{Receipt}
 use Rattle.model.specs.declared.Packet.TheVariants.{Malformed, Requested, Resulted, Refused, Receipted, Noticed, Granted}
 use Rattle.model.specs.Choice.{pick, refuse, reply, append, unless_refused}
 use Rattle.model.specs.Limits.{last_point, last_server, give_size, release_size, receipt_size, greatest_image}
 use Rattle.model.specs.Tables.{written}
-use Rattle.model.specs.Packets.{parse_packet, receipt_bytes}
+use Rattle.model.specs.Packets.{as_receipt, parse_packet, receipt_bytes}
 use Rattle.model.specs.Images.{Image, greatest_of, image_bytes, image_length}
 use Rattle.model.specs.Logs.{LogRecord, gave, released, record_bytes, record_size}
 use Rattle.model.specs.States.{load, point_at}
 use Rattle.model.specs.Apply.{apply_record, apply_gave, apply_released}
 use Rattle.model.specs.Versions.{today}
-use Rattle.model.specs.Decisions.{Decided, places_bad, give_refusal, on_give, timed_by, image_for, on_image, on_receipt, release_refusal, decide_release, on_release}
+use Rattle.model.specs.Decisions.{Decided, or_malformed, places_bad, give_refusal, on_give, timed_by, image_for, on_image, on_receipt, release_refusal, decide_release, on_release}
 use Rattle.model.specs.Operations.{answer_of, after, settle, stored, lent_refusal, lent, free_in, give_of, receipt_of, image_of, release_of}
 use Rattle.model.specs.Refusals.{no_refusal, malformed}
+use Rattle.refusals.specs.declared.Refusal.{Refusal}
+use Rattle.refusals.specs.Numbers.{number_of, refusal_of, answered}
+use Rattle.refusals.proofs.Numbers.{number-some, exit}
 use Rattle.model_laws.specs.Bytes.{Bytes}
 use Rattle.model_laws.proofs.Tests.{or_left, or_right}
 use Rattle.model_laws.specs.Fits.{Sound}
@@ -41,7 +46,7 @@ use Rattle.model_invariants.proofs.Decided.{give-passed, release-passed}
 use Rattle.model_invariants.proofs.Loaded.{loaded_sound}
 use Rattle.model_invariants.proofs.Images.{image-good, image-short}
 use Rattle.model_invariants.proofs.Formats.{parsed-receipt}
-use Rattle.server_memory.specs.Memory.{Fit}
+use Rattle.server_memory.specs.Memory.{Fit, settled_by}
 use Rattle.server_memory.proofs.Settled.{lent-fit}
 use Rattle.server_moves.specs.Numbers.{first, give_for, give_number, place_number, image_decided, receipt_decided, release_for, Placed}
 
@@ -62,13 +67,13 @@ malformed_by true m d = refl
 malformed_by false m d = refl
 
 -- the first test in code
-pub first_no : {n k : ℕ} (m : ℕ) → n ≡ k → (n ≡ no_refusal → ⊥) → n ≡ first k m
+pub first_no : {A : Type 0} {k : ℕ} (m : ℕ) (e : Refusal) → number_of e ≡ k → (r : Result A Refusal) → IsErrAnd r (λ x. x ≡ e) → refusal_of r ≡ first k m
 unfolding first
-first_no {n} {k} m p h = rw (← p, ne_eqb n no_refusal h)
+first_no {k} m e p r h = rw (exit r h, ← p, ne_eqb (number_of e) no_refusal (number-some e))
 
-pub first_yes : {n k m : ℕ} {r : ℕ} → n ≡ k → n ≡ no_refusal → r ≡ m → r ≡ first k m
+pub first_yes : {n k m : ℕ} → no_refusal ≡ k → n ≡ m → n ≡ first k m
 unfolding first
-first_yes p h e = rw (← p, h, e)
+first_yes p e = rw (← p, e)
 
 -- both tests are passed
 pub first-zero : (n m : ℕ) → first n m ≡ no_refusal → (n ≡ no_refusal) × (m ≡ no_refusal)
@@ -100,22 +105,22 @@ module _ (s log : List ℕ) where
     unfolding give_of give_number lent
     give-is = ap (settle s log []) (ap (unless_refused (lent_refusal s log 0 0)) give_by ∙ first_by _ _ (append given))
 
-    pub give_ready : give_number s log p d ≡ no_refusal → Fit s log 0 0 × PassedGive (load s) p d × ((load s).size + give_size ≤ length log)
+    pub give_ready : no_refusal ≡ give_number s log p d → Fit s log 0 0 × PassedGive (load s) p d × ((load s).size + give_size ≤ length log)
     unfolding give_number free_in
     give_ready e =
-        let k = first-zero _ _ e in
+        let k = first-zero _ _ (sym e) in
         let a : on_give (load s) (free_in s log) p d ≡ append given = give_by ∙ unless_passed _ (append given) k.1 in
         let F = lent-fit s log 0 0 k.0 in
         let P = give-passed (load s) (free_in s log) p d given a in
         (F, P.0, omega (arith, F.logged, P.1))
 
   -- the point's number as it was read, and the log's length
-  pub give_settled : (p d : ℕ) {x : Point} {k : ℕ} {r : Answer} {t l : List ℕ} → x ≡ point_at (load s) p → k ≡ (load s).size
+  pub give_settled : (p d : ℕ) {x : Point} {k : ℕ} {t l : List ℕ} → x ≡ point_at (load s) p → k ≡ (load s).size
       → t ≡ stored s (apply_gave (record { point = p; destination = d; move_number = x.move_number + 1 }) (k + give_size) (load s))
-      → l ≡ written log k (record_bytes (gave (record { point = p; destination = d; move_number = x.move_number + 1 }))) → r ≡ answer_of no_refusal 0
-      → after r t l [] ≡ settle s log [] (append (gave (give_for (load s) p d)))
+      → l ≡ written log k (record_bytes (gave (record { point = p; destination = d; move_number = x.move_number + 1 })))
+      → after (answered (Ok 0)) t l [] ≡ settle s log [] (append (gave (give_for (load s) p d)))
   unfolding settle record_size apply_record give_for
-  give_settled p d {x} a b e f g = let n : x.move_number + 1 ≡ suc x.move_number = omega arith in rw (e, f, g, n, a, b)
+  give_settled p d {x} a b e f = let n : x.move_number + 1 ≡ suc x.move_number = omega arith in rw (e, f, n, a, b)
 
 -- ---- receipt and image
 
@@ -138,20 +143,20 @@ module _ (s log : List ℕ) (p : ℕ) where
     unfolding image_of on_image timed_by greatest_of
     image-is = ap (settle s log out) (place_by greatest_image _ _)
 
-    pub receipt-done : {x : Point} {v : ℕ} {r : Answer} {o : List ℕ} → x ≡ point_at (load s) p → v ≡ (load s).server
-        → o ≡ written out 0 (receipt_bytes (record { point = p; server = v; move_number = x.taken_move })) → r ≡ answer_of no_refusal receipt_size
-        → after r s log o ≡ settle s log out (reply (receipt_bytes (record { point = p; server = (load s).server; move_number = (point_at (load s) p).taken_move })))
+    pub receipt-done : {x : Point} {v : ℕ} {o : List ℕ} → x ≡ point_at (load s) p → v ≡ (load s).server
+        → o ≡ written out 0 (receipt_bytes (record { point = p; server = v; move_number = x.taken_move }))
+        → after (answered (Ok receipt_size)) s log o ≡ settle s log out (reply (receipt_bytes (record { point = p; server = (load s).server; move_number = (point_at (load s) p).taken_move })))
     unfolding settle receipt_bytes
-    receipt-done a b e f = rw (e, f, a, b)
+    receipt-done a b e = rw (e, a, b)
 
-    pub image-done : {n : ℕ} {r : Answer} {o : List ℕ} → o ≡ written out 0 (image_bytes (image_for today (load s) p)) → n ≡ image_length (image_for today (load s) p) → r ≡ answer_of no_refusal n
-        → after r s log o ≡ settle s log out (reply (image_bytes (image_for today (load s) p)))
+    pub image-done : {n : ℕ} {o : List ℕ} → o ≡ written out 0 (image_bytes (image_for today (load s) p)) → n ≡ image_length (image_for today (load s) p)
+        → after (answered (Ok n)) s log o ≡ settle s log out (reply (image_bytes (image_for today (load s) p)))
     unfolding settle
-    image-done a b e = rw (e, a, b, image-length (image_for today (load s) p))
+    image-done a b = rw (a, b, image-length (image_for today (load s) p))
 
-  pub place_ready : {n need m : ℕ} → m ≡ place_number s log n need p → m ≡ no_refusal → Fit s log n need × (p ≤ last_point)
+  pub place_ready : {n need : ℕ} → no_refusal ≡ place_number s log n need p → Fit s log n need × (p ≤ last_point)
   unfolding place_number
-  place_ready {n} {need} q z = let k = first-zero _ _ (sym q ∙ z) in (lent-fit s log n need k.0, within (ltb last_point p) refl k.1)
+  place_ready {n} {need} q = let k = first-zero _ _ (sym q) in (lent-fit s log n need k.0, within (ltb last_point p) refl k.1)
     where
       within : (t : Bool) → ltb last_point p ≡ t → pick {A = ℕ} t malformed no_refusal ≡ no_refusal → p ≤ last_point
       within true e k = absurd (omega (arith, k))
@@ -173,18 +178,29 @@ module _ (s log : List ℕ) where
         ≡ settle s log [] (unless_refused (release_refusal (point_at (load s) p) (free_in s log) m) (append (released (release_for (load s) p))))
     release-chain = ap (settle s log []) release_by
 
-    pub release-room : {n : ℕ} → n ≡ release_refusal (point_at (load s) p) (free_in s log) m → n ≡ no_refusal → (load s).size ≤ length log → (load s).size + release_size ≤ length log
+    pub release-room : no_refusal ≡ release_refusal (point_at (load s) p) (free_in s log) m → (load s).size ≤ length log → (load s).size + release_size ≤ length log
     unfolding free_in
-    release-room q z l =
-        let a = release_by ∙ unless_passed _ (append (released (release_for (load s) p))) (sym q ∙ z) in
+    release-room q l =
+        let a = release_by ∙ unless_passed _ (append (released (release_for (load s) p))) (sym q) in
         omega (arith, l, (release-passed (load s) (free_in s log) p m (released (release_for (load s) p)) a).1)
 
-  pub release_settled : (p : ℕ) {x : Point} {k : ℕ} {r : Answer} {t l : List ℕ} → x ≡ point_at (load s) p → k ≡ (load s).size
+  pub release_settled : (p : ℕ) {x : Point} {k : ℕ} {t l : List ℕ} → x ≡ point_at (load s) p → k ≡ (load s).size
       → t ≡ stored s (apply_released (record { point = p; move_number = x.move_number }) (k + release_size) (load s))
-      → l ≡ written log k (record_bytes (released (record { point = p; move_number = x.move_number }))) → r ≡ answer_of no_refusal 0
-      → after r t l [] ≡ settle s log [] (append (released (release_for (load s) p)))
+      → l ≡ written log k (record_bytes (released (record { point = p; move_number = x.move_number })))
+      → after (answered (Ok 0)) t l [] ≡ settle s log [] (append (released (release_for (load s) p)))
   unfolding settle record_size apply_record release_for
-  release_settled p a b e f g = rw (e, f, g, a, b)
+  release_settled p a b e f = rw (e, f, a, b)
+
+-- 1 any other packet
+pub release_other : (s log : List ℕ) (p : Packet) → ((r : Receipt) → p ≡ Receipted r → ⊥) → after (answer_of malformed 0) s log [] ≡ settled_by (λ st free. on_release st free p) s log []
+unfolding on_release or_malformed as_receipt settle
+release_other s log Malformed h = refl
+release_other s log (Requested q) h = refl
+release_other s log (Resulted r) h = refl
+release_other s log (Refused r) h = refl
+release_other s log (Receipted r) h = absurd (h r refl)
+release_other s log (Noticed n) h = refl
+release_other s log (Granted g) h = refl
 
 pub release-placed : (b : List ℕ) → Bytes b → {p : Packet} → p ≡ parse_packet b → Placed p
 release-placed b h {p} e = go p e

@@ -11,8 +11,8 @@ use mathlib.Core.List.{List, []}
 use mathlib.Core.Option.{some}
 use native.Mathlib.Omega.{arith}
 use lib.ListN.{length}
-use Rattle.std.specs.Prelude.{Some, None}
-use Rattle.model.specs.declared.Answer.{Answer}
+use Rattle.std.specs.Prelude.{Some, None, Result, Ok, Err}
+use Rattle.std.specs.Result.{IsErrAnd}
 use Rattle.model.specs.declared.ImageHead.{ImageHead}
 use Rattle.model.specs.Choice.{append, unless_refused}
 use Rattle.model.specs.Numbers.{word}
@@ -23,8 +23,12 @@ use Rattle.model.specs.Logs.{took, record_bytes, record_size}
 use Rattle.model.specs.States.{load}
 use Rattle.model.specs.Apply.{apply_record, apply_took}
 use Rattle.model.specs.Decisions.{or_malformed, take_tests, decide_take, on_take}
-use Rattle.model.specs.Operations.{answer_of, after, settle, stored, lent_refusal, lent, free_in, take_of}
-use Rattle.model.specs.Refusals.{malformed, no_refusal}
+use Rattle.model.specs.Operations.{after, settle, stored, lent_refusal, lent, free_in, take_of}
+use Rattle.model.specs.Refusals.{no_refusal}
+use Rattle.refusals.specs.declared.Refusal.{Refusal}
+use Rattle.refusals.specs.declared.Refusal.TheVariants.{Malformed}
+use Rattle.refusals.proofs.Numbers.{exit}
+use Rattle.refusals.specs.Numbers.{answered}
 use Rattle.model_laws.specs.Bytes.{Bytes}
 use Rattle.model_laws.proofs.Tests.{and_left, and_right}
 use Rattle.model_laws.proofs.Images.{tested, placed, head-same}
@@ -46,9 +50,10 @@ module _ (s log b : List ℕ) where
   unfolding take_of lent
   take-is = refl
 
-  pub take-malformed : None ≡ read_of (parse_image b) → {r : Answer} → r ≡ answer_of malformed 0 → after r s log [] ≡ settle s log [] (on_take (load s) (free_in s log) (parse_image b))
+  pub take-malformed : None ≡ read_of (parse_image b) → {e : Refusal} → ◌≡◌ {A = Result ImageHead Refusal} (Err e) (Err Malformed) → (r : Result ℕ Refusal) → IsErrAnd r (λ x. x ≡ e)
+      → after (answered r) s log [] ≡ settle s log [] (on_take (load s) (free_in s log) (parse_image b))
   unfolding parse_image on_take or_malformed settle
-  take-malformed e q = rw (read_none b e, q)
+  take-malformed q {e} k r h = let same : e ≡ Malformed = cc in rw (exit r h, same, read_none b q)
 
   module _ (h : ImageHead) where
     parsed : Some h ≡ read_of (parse_image b) → parse_image b ≡ some (image_at h b)
@@ -94,9 +99,9 @@ module _ (s log b : List ℕ) where
     unfolding decide_take
     take-chain = refl
 
-    pub take_ready : {n : ℕ} → n ≡ take_tests (load s) (free_in s log) brought → n ≡ no_refusal → decide_take (load s) (free_in s log) brought ≡ append (took brought)
+    pub take_ready : no_refusal ≡ take_tests (load s) (free_in s log) brought → decide_take (load s) (free_in s log) brought ≡ append (took brought)
     unfolding decide_take
-    take_ready q z = unless_passed _ (append (took brought)) (sym q ∙ z)
+    take_ready q = unless_passed _ (append (took brought)) (sym q)
 
     -- ---- the record
 
@@ -120,9 +125,9 @@ module _ (s log b : List ℕ) where
             → (length (apply_took brought (k + take_head + length b) (load s)).floors ≤ client_count) × (length (apply_took brought (k + take_head + length b) (load s)).records ≤ record_count)
         take_bounds p l = let S = left p l in (S.clients, S.count)
 
-      pub take_settled : {k : ℕ} {r : Answer} {t l : List ℕ} → k ≡ (load s).size → t ≡ stored s (apply_took brought (k + take_head + length b) (load s))
-          → l ≡ written log k (record_bytes (took (image_at (image_head_of b) b))) → r ≡ answer_of no_refusal 0 → after r t l [] ≡ settle s log [] (append (took brought))
+      pub take_settled : {k : ℕ} {t l : List ℕ} → k ≡ (load s).size → t ≡ stored s (apply_took brought (k + take_head + length b) (load s))
+          → l ≡ written log k (record_bytes (took (image_at (image_head_of b) b))) → after (answered (Ok 0)) t l [] ≡ settle s log [] (append (took brought))
       unfolding settle record_size apply_record
-      take_settled {k} a x y z =
+      take_settled {k} a x y =
           let q : k + take_head + length b ≡ (load s).size + (take_head + image_length brought) = omega (arith, a, take_sized) in
-          rw (x, y, z, q, a, T.head)
+          rw (x, y, q, a, T.head)

@@ -1,28 +1,27 @@
 // Give: a point goes to another server. It answers and leaves its lent slices as its definition says, for all
 // arguments.
-ghost use Rattle.std.specs.Prelude.{◌≡◌, ◌+◌, ◌≤◌, [], length};
+ghost use Rattle.std.specs.Prelude.{◌≡◌, ◌+◌, ◌≤◌, [], length, Ok};
 ghost use Rattle.model.specs.Choice.{append};
 ghost use Rattle.model.specs.Limits.{give_size};
 ghost use Rattle.model.specs.Logs.{gave};
 ghost use Rattle.model.specs.States.{load};
 ghost use Rattle.model.specs.Operations.{after, settle, give_of};
+ghost use Rattle.refusals.specs.Numbers.{refusal_of, answered};
 ghost use Rattle.model_invariants.specs.Passed.{PassedGive};
 ghost use Rattle.state_rows.specs.Canonical.{Canonical};
 ghost use Rattle.server_moves.specs.Numbers.{give_for, give_number};
 
-use model::{Answer, Give, constants};
+use model::{Give, constants};
+use refusals::Refusal;
 use state_rows::state;
 
 // 2; 19; 1; 3; 11; 16; 9.
-fn give_number(s: &[u8], log: &[u8], point: u32, destination: u32) -> u32
-    ensures { result ≡ give_number s.now log.now point destination }
+fn give_number(s: &[u8], log: &[u8], point: u32, destination: u32) -> Result<(), Refusal>
+    ensures { refusal_of result ≡ give_number s.now log.now point destination }
 {
-    let refusal = server_memory::lent_refusal(s, log, 0, 0);
-    if refusal != 0 {
-        return refusal;
-    }
+    server_memory::lent_refusal(s, log, 0, 0)?;
     if server_decide::places_bad(point, destination) {
-        return constants::MALFORMED;
+        return Err(Refusal::Malformed);
     }
     let x = state::point_at(s, point as u8);
     let server = state::server_of(s);
@@ -31,10 +30,10 @@ fn give_number(s: &[u8], log: &[u8], point: u32, destination: u32) -> u32
 }
 
 // A give that is not refused.
-fn give_done(s: &mut [u8], log: &mut [u8], point: u8, destination: u8) -> Answer
+fn give_done(s: &mut [u8], log: &mut [u8], point: u8, destination: u8)
     requires { Canonical s.old × PassedGive (load s.old) point destination
         × ((load s.old).size + give_size ≤ length log.old) }
-    ensures { after result s.new log.new []
+    ensures { after (answered (Ok 0)) s.new log.new []
         ≡ settle s.old log.old []
         (append (gave (give_for (load s.old) point destination))) }
 {
@@ -47,17 +46,14 @@ fn give_done(s: &mut [u8], log: &mut [u8], point: u8, destination: u8) -> Answer
     };
     format_log_writer::append_give(log, size as usize, g);
     server_apply::apply_gave(s, g, size + constants::GIVE_SIZE_U64);
-    server_decide::made(0)
 }
 
 // 2; 19; 1; 3; 11 destination is this server; 16 move number at its greatest; 9; else the point is given.
-pub fn give(s: &mut [u8], log: &mut [u8], point: u32, destination: u32) -> Answer
-    ensures { after result s.new log.new []
+pub fn give(s: &mut [u8], log: &mut [u8], point: u32, destination: u32) -> Result<u32, Refusal>
+    ensures { after (answered result) s.new log.new []
         ≡ give_of s.old log.old point destination }
 {
-    let refusal = give_number(s, log, point, destination);
-    if refusal != 0 {
-        return server_decide::refused(refusal);
-    }
-    give_done(s, log, point as u8, destination as u8)
+    give_number(s, log, point, destination)?;
+    give_done(s, log, point as u8, destination as u8);
+    Ok(0)
 }

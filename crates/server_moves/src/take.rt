@@ -1,5 +1,5 @@
 // The call that takes a point: take.
-ghost use Rattle.std.specs.Prelude.{◌≡◌, []};
+ghost use Rattle.std.specs.Prelude.{◌≡◌, [], Ok};
 ghost use Rattle.model.specs.Choice.{append};
 ghost use Rattle.model.specs.Plan.{entry_at};
 ghost use Rattle.model.specs.Images.{image_at, image_in_range};
@@ -7,10 +7,12 @@ ghost use Rattle.model.specs.Logs.{took};
 ghost use Rattle.model.specs.States.{load};
 ghost use Rattle.model.specs.Decisions.{take_tests, decide_take};
 ghost use Rattle.model.specs.Operations.{after, settle, free_in, take_of};
+ghost use Rattle.refusals.specs.Numbers.{refusal_of, answered};
 ghost use Rattle.server_memory.specs.Memory.{settled_by};
 ghost use Rattle.server_moves.specs.Taking.{Taking};
 
-use model::{Answer, ImageHead, constants};
+use model::{ImageHead, constants};
+use refusals::Refusal;
 use state_records::ids;
 use state_rows::state;
 
@@ -28,9 +30,9 @@ fn is_ranged(s: &[u8], log: &[u8], image: &[u8], h: ImageHead) -> bool
 
 // Take's tests on a well-formed image: 1 a value out of range; 11 for another server; 12 no later move; 13 held here,
 // or an id that is here for another point; 8 too many clients; 9.
-fn take_number(s: &[u8], log: &[u8], image: &[u8], h: ImageHead) -> u32
+fn take_number(s: &[u8], log: &[u8], image: &[u8], h: ImageHead) -> Result<(), Refusal>
     requires { Taking s.now log.now image.now h }
-    ensures { result ≡ take_tests (load s.now) (free_in s.now log.now)
+    ensures { refusal_of result ≡ take_tests (load s.now) (free_in s.now log.now)
         (image_at h image.now) }
 {
     let ranged = is_ranged(s, log, image, h);
@@ -55,46 +57,37 @@ fn take_number(s: &[u8], log: &[u8], image: &[u8], h: ImageHead) -> u32
 // ---- take
 
 // A take that is not refused.
-fn take_done(s: &mut [u8], log: &mut [u8], image: &[u8], h: ImageHead) -> Answer
+fn take_done(s: &mut [u8], log: &mut [u8], image: &[u8], h: ImageHead)
     requires { Taking s.old log.old image.now h
         × (decide_take (load s.old) (free_in s.old log.old) (image_at h image.now)
         ≡ append (took (image_at h image.now))) }
-    ensures { after result s.new log.new []
+    ensures { after (answered (Ok 0)) s.new log.new []
         ≡ settle s.old log.old [] (append (took (image_at h image.now))) }
 {
     let size = state::size_of(s);
     format_log_writer::append_take(log, size as usize, image);
     let end = size + constants::TAKE_HEAD_U64 + image.len() as u64;
     server_apply::took::apply_took(s, image, h, end);
-    server_decide::made(0)
 }
 
 // Of a well-formed image.
-fn take_by(s: &mut [u8], log: &mut [u8], image: &[u8], h: ImageHead) -> Answer
+fn take_by(s: &mut [u8], log: &mut [u8], image: &[u8], h: ImageHead) -> Result<u32, Refusal>
     requires { Taking s.old log.old image.now h }
-    ensures { after result s.new log.new []
+    ensures { after (answered result) s.new log.new []
         ≡ settled_by (λ st free. decide_take st free (image_at h image.now)) s.old log.old
         [] }
 {
-    let refusal = take_number(s, log, image, h);
-    if refusal != 0 {
-        return server_decide::refused(refusal);
-    }
-    take_done(s, log, image, h)
+    take_number(s, log, image, h)?;
+    take_done(s, log, image, h);
+    Ok(0)
 }
 
 // 2; 19; 1; 11, 12, 13, 8, 9 by `take_number`; else the point is taken.
-pub fn take(s: &mut [u8], log: &mut [u8], image: &[u8]) -> Answer
-    ensures { after result s.new log.new []
+pub fn take(s: &mut [u8], log: &mut [u8], image: &[u8]) -> Result<u32, Refusal>
+    ensures { after (answered result) s.new log.new []
         ≡ take_of s.old log.old image.now }
 {
-    let refusal = server_memory::lent_refusal(s, log, 0, 0);
-    if refusal != 0 {
-        return server_decide::refused(refusal);
-    }
-    let read = format_image_reader::image_read(image);
-    match read {
-        None => server_decide::refused(constants::MALFORMED),
-        Some(h) => take_by(s, log, image, h),
-    }
+    server_memory::lent_refusal(s, log, 0, 0)?;
+    let h = format_image_reader::image_read(image).ok_or(Refusal::Malformed)?;
+    take_by(s, log, image, h)
 }

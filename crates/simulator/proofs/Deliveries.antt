@@ -8,6 +8,8 @@ use Prim.Native.Nat.{ℕ, ◌≤◌}
 use mathlib.Core.Path.{◌≡◌, refl, sym, ap, ◌∙◌}
 use mathlib.Core.List.{List, [], ◌∷◌}
 use mathlib.Core.Option.{some}
+use Rattle.std.specs.Prelude as std
+use Rattle.std.specs.Prelude.{Some, None}
 use native.Mathlib.Omega.{arith}
 use lib.ListN.{length}
 use borrow.Author.Tests.{eq-eqb, ne_eqb}
@@ -20,8 +22,6 @@ use Rattle.model.specs.Operations.{After, after, request_of, release_of, take_of
 use Rattle.model.specs.Simulator.{plain, room, delivered}
 use Rattle.simulator_text.specs.Values.{reply_is}
 use Rattle.simulator_memory.specs.declared.Made.{Made}
-use Rattle.simulator_memory.specs.declared.Place.{Place}
-use Rattle.simulator_memory.specs.declared.Place.TheVariants.{Nowhere, Row}
 use Rattle.simulator_memory.specs.Store.{packet_in, packet_for, packets_in, numbered, Outcome, outcome, outcome_is, outcome_by, Next}
 use Rattle.simulator_memory.proofs.Rows.{numbered_row, numbered_nowhere}
 use Rattle.simulator.specs.Served.{image_byte, Served, served, served_by, deliver_by, delivering}
@@ -70,12 +70,12 @@ module _ (s l b : List ℕ) (ps : List (List ℕ)) {k : ℕ} (e : k ≡ byte_at 
 
 -- ---- packets by number
 
-module _ (store : List ℕ) (n k : ℕ) {p : Place} (e : packet_for store p ≡ numbered (packets_in store n) k) where
-  pub deliver_nowhere : (s l : List ℕ) → p ≡ Nowhere
+module _ (store : List ℕ) (n k : ℕ) {p : std.Option ℕ} (e : packet_for store p ≡ numbered (packets_in store n) k) where
+  pub deliver_nowhere : (s l : List ℕ) → p ≡ None
       → served s l (outcome (packets_in store n) (plain unknown)) ≡ delivering s l (packets_in store n) (numbered (packets_in store n) k)
   unfolding delivering
   deliver_nowhere s l f = rw (numbered_nowhere store n k e f) refl
 
-  pub deliver-made : {v : Served} {i : ℕ} (s l : List ℕ) → p ≡ Row i → v ≡ delivering s l (packets_in store n) (some (packet_in store i))
+  pub deliver-made : {v : Served} {i : ℕ} (s l : List ℕ) → p ≡ Some i → v ≡ delivering s l (packets_in store n) (some (packet_in store i))
       → v ≡ delivering s l (packets_in store n) (numbered (packets_in store n) k)
   deliver-made s l f q = rw (numbered_row store n k e f) q

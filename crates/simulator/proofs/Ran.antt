@@ -2,15 +2,18 @@
 --     ran-server, ran-client     server or client 0 or 1
 --     no_server, no_client_lem       no such one
 -- Assumes nothing.
-use Prim.Native.Nat.{ℕ, zero, suc}
+use Prim.Native.Nat.{ℕ, zero, suc, ◌≤◌}
 use mathlib.Core.Path.{◌≡◌, refl, sym, ap, ◌∙◌, subst}
 use mathlib.Core.Bool.{Bool, true, false}
 use mathlib.Core.List.{List, [], ◌∷◌, ◌++◌}
 use mathlib.Core.Option.{Option, none, some}
+use Rattle.std.specs.Prelude.{Some, None}
+use Rattle.std.proofs.lemmas.Option.{none-some, same_Some}
 use native.Mathlib.Omega.{arith}
 use lib.Dec.{eqb, ltb}
-use borrow.Author.Tests.{le-ltb}
+use borrow.Author.Tests.{le-ltb, ne_eqb}
 use lib.ListN.{length, take}
+use Rattle.model.specs.declared.Client.{Client}
 use Rattle.model.specs.declared.SendAnswer.{SendAnswer}
 use Rattle.model.specs.Choice.{pick}
 use Rattle.model.specs.Numbers.{half}
@@ -32,7 +35,8 @@ use Rattle.simulator_memory.specs.declared.Made.{Made}
 use Rattle.simulator_memory.specs.declared.ClientMade.{ClientMade}
 use Rattle.simulator_memory.specs.declared.Memory.{Memory}
 use Rattle.simulator.specs.Whole.{join_server, join_client, simulator_in, step_is}
-use Rattle.simulator_memory.specs.Steps.{server_stepped, first_stepped, second_stepped}
+use Rattle.simulator_memory.specs.declared.Stepped.{Stepped}
+use Rattle.simulator_memory.specs.Steps.{server_stepped, client_in, client_stepped}
 
 number_is_lem : (y : Simulator) (k : ℕ) → packet_at y k ≡ numbered y.packets k
 unfolding packet_at numbered
@@ -163,18 +167,32 @@ no_client_lem y n (Issue op p a) e = known_no n y _ e
 no_client_lem y n (Resend c) e = known_no n y _ e
 no_client_lem y n (Receive k) e = known_no n y _ e
 
+-- a client that there is, and one that there is not
+no_third : (m : Memory) (n : ℕ) → 2 ≤ n → client_in m n ≡ None
+no_third m n h = rw (ne_eqb n 0 (λ e. omega arith), ne_eqb n 1 (λ e. omega arith)) refl
+
+client_below : (m : Memory) (n : ℕ) {d : Client} → client_in m n ≡ Some d → ltb n 2 ≡ true
+client_below m zero e = refl
+client_below m (suc zero) e = refl
+client_below m (suc (suc n)) e = absurd (none-some _ (sym (no_third m (suc (suc n)) (omega arith)) ∙ e))
+
+client_same : (m : Memory) (n : ℕ) {d : Client} → client_in m n ≡ Some d → pick (eqb n 0) m.client0 m.client1 ≡ d
+client_same m zero e = same_Some _ _ e
+client_same m (suc zero) e = same_Some _ _ e
+client_same m (suc (suc n)) e = absurd (none-some _ (sym (no_third m (suc (suc n)) (omega arith)) ∙ e))
+
+client_past : (m : Memory) (n : ℕ) → client_in m n ≡ None → ltb n 2 ≡ false
+client_past m zero e = absurd (none-some _ (sym e))
+client_past m (suc zero) e = absurd (none-some _ (sym e))
+client_past m (suc (suc n)) e = le-ltb (suc (suc n)) 2 (omega arith)
+
 -- ---- by the lent slices
 
 module _ (s0 l0 s1 l1 store t : List ℕ) (m : Memory) (n : ℕ) where
-  pub first-client : (l : ClientLine) (a : ClientMade) → n ≡ 0 → attended_is a t ≡ client_ran m.client0 (packets_in store m.count) l
-      → step_is (first_stepped m a) s0 l0 s1 l1 t ≡ ran (simulator_in s0 l0 s1 l1 store m) (client_line n l)
+  pub ran-at-client : {d : Client} (l : ClientLine) (a : ClientMade) → client_in m n ≡ Some d → attended_is a t ≡ client_ran d (packets_in store m.count) l
+      → step_is (client_stepped m n a) s0 l0 s1 l1 t ≡ ran (simulator_in s0 l0 s1 l1 store m) (client_line n l)
   unfolding join_client client_of attended_is outcome_is
-  first-client l a e p = sym (rw e (ran-client (simulator_in s0 l0 s1 l1 store m) 0 l refl ∙ rw (← p) refl))
-
-  pub second-client : (l : ClientLine) (a : ClientMade) → n ≡ 1 → attended_is a t ≡ client_ran m.client1 (packets_in store m.count) l
-      → step_is (second_stepped m a) s0 l0 s1 l1 t ≡ ran (simulator_in s0 l0 s1 l1 store m) (client_line n l)
-  unfolding join_client client_of attended_is outcome_is
-  second-client l a e p = sym (rw e (ran-client (simulator_in s0 l0 s1 l1 store m) 1 l refl ∙ rw (← p) refl))
+  ran-at-client {d} l a e p = sym (ran-client (simulator_in s0 l0 s1 l1 store m) n l (client_below m n e) ∙ rw (client_same m n e, ← p) refl)
 
   pub first-server : {v w : List ℕ} (l : ServerLine) (a : Made) → n ≡ 0 → served v w (outcome_is a t) ≡ server_ran s0 l0 (packets_in store m.count) l
       → step_is (server_stepped m a) v w s1 l1 t ≡ ran (simulator_in s0 l0 s1 l1 store m) (server_line n l)
@@ -186,21 +204,21 @@ module _ (s0 l0 s1 l1 store t : List ℕ) (m : Memory) (n : ℕ) where
   unfolding join_server server_of outcome_is
   second-server l a e p = sym (rw e (ran-server (simulator_in s0 l0 s1 l1 store m) 1 l refl ∙ rw (← p) refl))
 
-  other : (n ≡ 0 → ⊥) → (n ≡ 1 → ⊥) → ltb n 2 ≡ false
-  other f g = le-ltb n 2 (omega arith)
-
-  pub no_such_client : (l : ClientLine) (a : Made) → (n ≡ 0 → ⊥) → (n ≡ 1 → ⊥) → a.count ≡ m.count → reply_is a.reply ≡ plain malformed
-      → step_is (server_stepped m a) s0 l0 s1 l1 store ≡ ran (simulator_in s0 l0 s1 l1 store m) (client_line n l)
-  no_such_client l a f g p q = sym (no_client_lem (simulator_in s0 l0 s1 l1 store m) n l (other f g) ∙ rw (p, q) refl)
+  pub no_such_client : {r : Stepped} (l : ClientLine) → client_in m n ≡ None → r.memory ≡ m → reply_is r.reply ≡ plain malformed
+      → step_is r s0 l0 s1 l1 store ≡ ran (simulator_in s0 l0 s1 l1 store m) (client_line n l)
+  no_such_client {r} l e p q = sym (no_client_lem (simulator_in s0 l0 s1 l1 store m) n l (client_past m n e) ∙ rw (p, q) refl)
 
   pub no_such_server : (l : ServerLine) (a : Made) → (n ≡ 0 → ⊥) → (n ≡ 1 → ⊥) → a.count ≡ m.count → reply_is a.reply ≡ plain malformed
       → step_is (server_stepped m a) s0 l0 s1 l1 store ≡ ran (simulator_in s0 l0 s1 l1 store m) (server_line n l)
-  no_such_server l a f g p q = sym (no_server (simulator_in s0 l0 s1 l1 store m) n l (other f g) ∙ rw (p, q) refl)
+  no_such_server l a f g p q = sym (no_server (simulator_in s0 l0 s1 l1 store m) n l (le-ltb n 2 (omega arith)) ∙ rw (p, q) refl)
 
-pub no_line : (s0 l0 s1 l1 store : List ℕ) (m : Memory) (a : Made) → a.count ≡ m.count → reply_is a.reply ≡ plain malformed
-    → step_is (server_stepped m a) s0 l0 s1 l1 store ≡ ran (simulator_in s0 l0 s1 l1 store m) unreadable
+pub no_line : (s0 l0 s1 l1 store : List ℕ) (m : Memory) {r : Stepped} → r.memory ≡ m → reply_is r.reply ≡ plain malformed
+    → step_is r s0 l0 s1 l1 store ≡ ran (simulator_in s0 l0 s1 l1 store m) unreadable
 unfolding ran
-no_line s0 l0 s1 l1 store m a p q = rw (p, q) refl
+no_line s0 l0 s1 l1 store m p q = rw (p, q) refl
+
+pub same_memory : (r : Stepped) {m : Memory} → r.memory ≡ m → Next m.count r.memory.count
+same_memory r e = let c = ap (λ (x : Memory). x.count) e in record { least = omega arith; most = omega arith }
 
 pub same_count : {n k : ℕ} → k ≡ n → Next n k
 same_count e = record { least = omega arith; most = omega arith }

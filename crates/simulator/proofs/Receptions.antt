@@ -8,6 +8,8 @@ use mathlib.Core.Path.{◌≡◌, refl}
 use mathlib.Core.Bool.{not}
 use mathlib.Core.List.{List}
 use mathlib.Core.Option.{some}
+use Rattle.std.specs.Prelude as std
+use Rattle.std.specs.Prelude.{Some, None}
 use native.Mathlib.Omega.{arith}
 use lib.Dec.{leb}
 use Rattle.model.specs.declared.Client.{Client}
@@ -20,8 +22,6 @@ use Rattle.model.specs.Clients.{issue_of, resend_of, receive_of, receive_number,
 use Rattle.model.specs.Simulator.{plain, answered}
 use Rattle.model_laws.proofs.Tests.{choose}
 use Rattle.simulator_text.specs.Values.{reply_is}
-use Rattle.simulator_memory.specs.declared.Place.{Place}
-use Rattle.simulator_memory.specs.declared.Place.TheVariants.{Nowhere, Row}
 use Rattle.simulator_memory.specs.Store.{packet_in, packet_for, packets_in, numbered, outcome_is, sent_outcome, Sendable}
 use Rattle.simulator_memory.proofs.Rows.{numbered_row, numbered_nowhere}
 use Rattle.simulator_memory.specs.declared.ClientMade.{ClientMade}
@@ -51,12 +51,12 @@ receive_by m d store b n a e p q r = rw (← e, p, q, r) refl
 
 -- ---- packets by number
 
-module _ (store : List ℕ) (n k : ℕ) {p : Place} (e : packet_for store p ≡ numbered (packets_in store n) k) where
-  pub receive-none : (m : ClientMade) (d : Client) → p ≡ Nowhere → m.client ≡ d → m.made.count ≡ n → reply_is m.made.reply ≡ plain unknown
+module _ (store : List ℕ) (n k : ℕ) {p : std.Option ℕ} (e : packet_for store p ≡ numbered (packets_in store n) k) where
+  pub receive-none : (m : ClientMade) (d : Client) → p ≡ None → m.client ≡ d → m.made.count ≡ n → reply_is m.made.reply ≡ plain unknown
       → attended_is m store ≡ receiving d (packets_in store n) (numbered (packets_in store n) k)
   unfolding attended_is receiving outcome_is
   receive-none m d f h i r = rw (numbered_nowhere store n k e f, h, i, r) refl
 
-  pub receive-made : {v : Attended} {i : ℕ} (d : Client) → p ≡ Row i → v ≡ receiving d (packets_in store n) (some (packet_in store i))
+  pub receive-made : {v : Attended} {i : ℕ} (d : Client) → p ≡ Some i → v ≡ receiving d (packets_in store n) (some (packet_in store i))
       → v ≡ receiving d (packets_in store n) (numbered (packets_in store n) k)
   receive-made d f q = rw (numbered_row store n k e f) q

@@ -9,7 +9,7 @@ ghost use Rattle.simulator_memory.specs.Store.{row_size, packet_in, packets_in, 
 ghost use Rattle.simulator.specs.Attended.{sent_by, receiving, client_ran, Attends, Receives};
 
 use model::{Client, SendAnswer, Sent, constants};
-use simulator_memory::{ClientMade, Made, Place, outcome, packets};
+use simulator_memory::{ClientMade, Made, outcome, packets};
 use simulator_text::ClientLine;
 
 // An op or a point past a byte is malformed, as any past its range.
@@ -68,7 +68,7 @@ fn receive_line(store: &[u8], d: Client, count: u32, number: u32) -> ClientMade
         count result store.now }
 {
     let place = packets::place_of(count, number);
-    let Place::Row(row) = place else {
+    let Some(row) = place else {
         return no_packet(d, count);
     };
     receive_row(store, d, count, row)

@@ -22,10 +22,8 @@ pub fn plan() -> [u8; constants::PLAN_SIZE]
     ensures { result ≡ simulator_plan }
 {
     let mut table = [0u8; constants::PLAN_SIZE];
-    let mut i = 0;
-    while i < constants::PLAN_SIZE {
-        table[i] = PLAN[i % constants::PLAN_ROW];
-        i += 1;
+    for (i, b) in table.iter_mut().enumerate() {
+        *b = PLAN[i % constants::PLAN_ROW];
     }
     table
 }

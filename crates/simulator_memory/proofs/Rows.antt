@@ -9,7 +9,10 @@ use mathlib.Core.Path.{◌≡◌, refl, sym, ap, ◌∙◌}
 use mathlib.Core.Bool.{Bool, true, false}
 use mathlib.Core.List.{List, [], ◌∷◌, ◌++◌}
 use mathlib.Core.Option.{none, some}
+use Rattle.std.specs.Prelude as std
+use Rattle.std.specs.Prelude.{Some, None}
 use native.Mathlib.Omega.{arith}
+use native.Mathlib.Numerals.{add-one}
 use native.Mathlib.Nat.{add-zero, le_of_suc-le-suc, not-suc-le-zero}
 use lib.Dec.{ltb}
 use lib.ListN.{length, take, drop, get_elem?, length-append}
@@ -22,8 +25,6 @@ use Rattle.model.specs.Limits.{greatest_image}
 use Rattle.model.specs.Tables.{written}
 use Rattle.model_laws.proofs.Numbers.{le32-back, le32-drop}
 use Rattle.model_laws.proofs.Written.{drop-written, take-written, drop-written-at, le32-written-below}
-use Rattle.simulator_memory.specs.declared.Place.{Place}
-use Rattle.simulator_memory.specs.declared.Place.TheVariants.{Nowhere, Row}
 use Rattle.simulator_memory.specs.Store.{row_head, row_size, lesser_of, packet_in, packet_for, Filled, put_in, packets_in, numbered}
 
 lesser_full : (a b : ℕ) → a ≤ b → lesser_of a b ≡ a
@@ -118,10 +119,9 @@ get_packet s (suc n) k h = go (ltb k n) refl (λ l. get_packet s n k l)
         let q : n ≡ k = omega arith in
         get_seam (packets_in s n) (packet_in s n) k (omega (arith, length-packets s n)) ∙ ap (λ (j : ℕ). some (packet_in s j)) q
 
-pub numbered-made : (s : List ℕ) (n k : ℕ) → (k ≡ 0 → ⊥) → k ≤ n → numbered (packets_in s n) k ≡ some (packet_in s (k - 1))
+pub numbered-made : (s : List ℕ) (n k i : ℕ) → k ≡ i + 1 → i < n → numbered (packets_in s n) k ≡ some (packet_in s i)
 unfolding numbered
-numbered-made s n zero h l = absurd (h refl)
-numbered-made s n (suc k) h l = let e : suc k - 1 ≡ k = omega arith in rw e (get_packet s n k (omega arith))
+numbered-made s n k i e l = rw (e, add-one) (get_packet s n i l)
 
 pub numbered-none : (s : List ℕ) (n k : ℕ) → n < k → numbered (packets_in s n) k ≡ none
 unfolding numbered
@@ -133,13 +133,13 @@ unfolding numbered
 numbered-zero s n k e = rw e refl
 
 -- packet k by its place
-pub numbered_nowhere : (s : List ℕ) (n k : ℕ) {p : Place} → packet_for s p ≡ numbered (packets_in s n) k → p ≡ Nowhere → numbered (packets_in s n) k ≡ none
+pub numbered_nowhere : (s : List ℕ) (n k : ℕ) {p : std.Option ℕ} → packet_for s p ≡ numbered (packets_in s n) k → p ≡ None → numbered (packets_in s n) k ≡ none
 numbered_nowhere s n k e f = sym e ∙ ap (packet_for s) f
 
-pub numbered_row : (s : List ℕ) (n k : ℕ) {p : Place} {i : ℕ} → packet_for s p ≡ numbered (packets_in s n) k → p ≡ Row i → numbered (packets_in s n) k ≡ some (packet_in s i)
+pub numbered_row : (s : List ℕ) (n k : ℕ) {p : std.Option ℕ} {i : ℕ} → packet_for s p ≡ numbered (packets_in s n) k → p ≡ Some i → numbered (packets_in s n) k ≡ some (packet_in s i)
 numbered_row s n k e f = sym e ∙ ap (packet_for s) f
 
-pub filled_row : (n : ℕ) {p : Place} {i : ℕ} → Filled n p → p ≡ Row i → i + 1 ≤ n
+pub filled_row : (n : ℕ) {p : std.Option ℕ} {i : ℕ} → Filled n p → p ≡ Some i → i + 1 ≤ n
 filled_row n {p} {i} h e = rw e at h
 
 -- the part that the code writes is what is taken

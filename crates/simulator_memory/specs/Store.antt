@@ -1,6 +1,8 @@
 -- The packet store as the list of packets of the definitions, and what a call leaves of it.
 -- Assumes nothing.
 use Rattle.std.specs.Prelude.{ℕ, zero, suc, ◌+◌, ◌*◌, ◌≤◌, ◌<◌, ◌≡◌, Bool, ◌||◌, List, [], ◌∷◌, ◌++◌, eqb, ltb, length, take, drop}
+use Rattle.std.specs.Prelude as std
+use Rattle.std.specs.Prelude.{Some, None}
 use Rattle.std.proofs.Math.Option.{Option, none, some}
 use Rattle.std.proofs.Math.ListN.{get_elem?}
 use Rattle.model.specs.declared.Answer.{Answer}
@@ -15,8 +17,6 @@ use Rattle.model.specs.Simulator as simulator
 use Rattle.model.specs.Refusals.{no_refusal}
 use Rattle.simulator_text.specs.Values.{reply_is}
 use Rattle.simulator_memory.specs.declared.Made.{Made}
-use Rattle.simulator_memory.specs.declared.Place.{Place}
-use Rattle.simulator_memory.specs.declared.Place.TheVariants.{Nowhere, Row}
 
 -- ---- rows: the bytes of a packet's length, and room for the longest image
 
@@ -47,15 +47,15 @@ unfoldable pub numbered : List (List ℕ) → ℕ → Option (List ℕ)
 numbered ps zero = none
 numbered ps (suc k) = get_elem? ps k
 
--- the packet at a place
-abbrev pub packet_for : List ℕ → Place → Option (List ℕ)
-packet_for s Nowhere = none
-packet_for s (Row k) = some (packet_in s k)
+-- the packet at a row
+abbrev pub packet_for : List ℕ → std.Option ℕ → Option (List ℕ)
+packet_for s None = none
+packet_for s (Some k) = some (packet_in s k)
 
--- a place among the rows filled
-abbrev pub Filled : ℕ → Place → Type 0
-Filled count Nowhere = Unit
-Filled count (Row k) = k + 1 ≤ count
+-- a row among those filled
+abbrev pub Filled : ℕ → std.Option ℕ → Type 0
+Filled count None = Unit
+Filled count (Some k) = k + 1 ≤ count
 
 -- there is room for one packet more
 pub record Room (store : List ℕ) (count : ℕ) : Type 0 where

@@ -6,17 +6,10 @@ pub mod outcome;
 pub mod packets;
 
 ghost use Rattle.std.specs.Prelude.{◌≡◌};
-ghost use Rattle.simulator_memory.specs.Steps.{server_stepped, first_stepped, second_stepped};
+ghost use Rattle.simulator_memory.specs.Steps.{server_stepped, client_in, client_stepped};
 
 use model::Client;
 use simulator_text::Reply;
-
-// Where a packet stands.
-#[derive(Clone, Copy)]
-pub enum Place {
-    Nowhere,
-    Row(u32),
-}
 
 // What a call leaves: the count of packets made, and the line's answer.
 #[derive(Clone, Copy)]
@@ -47,52 +40,41 @@ pub struct Stepped {
     pub reply: Reply,
 }
 
-// ---- the memory after a line: at a server, at client 0, at client 1
+// ---- the memory after a line: at a server, at client 0 or 1
 
 pub fn after_server(memory: Memory, made: Made) -> Stepped
     ensures { result ≡ server_stepped memory made }
 {
-    let c0 = memory.client0;
-    let c1 = memory.client1;
-    let reply = made.reply;
+    let count = made.count;
     Stepped {
-        memory: Memory {
-            client0: c0,
-            client1: c1,
-            count: made.count,
-        },
-        reply,
+        memory: Memory { count, ..memory },
+        reply: made.reply,
     }
 }
 
-pub fn after_first(memory: Memory, made: ClientMade) -> Stepped
-    ensures { result ≡ first_stepped memory made }
+// Client 0 or 1, by its number.
+pub fn client_of(memory: Memory, number: u32) -> Option<Client>
+    ensures { result ≡ client_in memory number }
 {
-    let c0 = made.client;
-    let c1 = memory.client1;
-    let reply = made.made.reply;
-    Stepped {
-        memory: Memory {
-            client0: c0,
-            client1: c1,
-            count: made.made.count,
-        },
-        reply,
+    match number {
+        0 => Some(memory.client0),
+        1 => Some(memory.client1),
+        _ => None,
     }
 }
 
-pub fn after_second(memory: Memory, made: ClientMade) -> Stepped
-    ensures { result ≡ second_stepped memory made }
+pub fn after_client(memory: Memory, number: u32, made: ClientMade) -> Stepped
+    ensures { result ≡ client_stepped memory number made }
 {
-    let c0 = memory.client0;
-    let c1 = made.client;
-    let reply = made.made.reply;
+    let stepped = after_server(memory, made.made);
+    let mut after = stepped.memory;
+    if number == 0 {
+        after.client0 = made.client;
+    } else {
+        after.client1 = made.client;
+    }
     Stepped {
-        memory: Memory {
-            client0: c0,
-            client1: c1,
-            count: made.made.count,
-        },
-        reply,
+        memory: after,
+        reply: stepped.reply,
     }
 }

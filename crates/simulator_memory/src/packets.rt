@@ -4,7 +4,6 @@ ghost use Rattle.model.specs.Limits.{greatest_image};
 ghost use Rattle.simulator_memory.specs.Store.{row_size, lesser_of, packet_in, packet_for, numbered, put_in, packets_in};
 ghost use Rattle.simulator_memory.specs.Store.{Filled};
 
-use crate::Place;
 use model::constants;
 
 // A row: the bytes of a packet's length, and room for the longest image.
@@ -15,21 +14,19 @@ pub const ROW: usize = ROW_HEAD + constants::GREATEST_IMAGE;
 pub fn lesser(i: usize, j: usize) -> usize
     ensures { result ≡ lesser_of i j }
 {
-    if i < j { i } else { j }
+    i.min(j)
 }
 
-// The place of a packet by its number, of as many as were made.
-pub fn place_of(count: u32, number: u32) -> Place
+// The row of a packet by its number, of as many as were made.
+pub fn place_of(count: u32, number: u32) -> Option<u32>
     ensures { ((store : List ℕ) → packet_for store result ≡ numbered (packets_in store count) number)
         × Filled count result }
 {
-    if number == 0 {
-        return Place::Nowhere;
+    let row = number.checked_sub(1)?;
+    if row < count {
+        return Some(row);
     }
-    if count < number {
-        return Place::Nowhere;
-    }
-    Place::Row(number - 1)
+    None
 }
 
 // The packet of a row.

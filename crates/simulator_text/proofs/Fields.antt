@@ -1,13 +1,13 @@
 -- How a text falls apart, and the numbers in it.
---     first-here, first_next, first-end     the place of a byte, from a place on
---     counted_feed, counted-other, counted-end      the line feeds of a text, from a place on
---     fields-more, fields-last              the fields of a line, by the place of its first space
+--     first-found, line_feeds_lem           the place of a byte, and the line feeds of a text, in std's words
+--     fields-last, fields-parts             the fields of a line, by the place of its first space
+--     fields-split                          and as the parts that `split` gives
 --     lines_next, lines_none                the lines of a text, by the place of its first line feed
 --     digits_next, digits_off, digits_big   a number, digit by digit
 -- Assumes nothing.
 use Prim.Native.Nat.{ℕ, suc, ◌+◌, ◌-◌, ◌*◌, ◌≤◌, ◌<◌}
 use mathlib.Core.Path.{◌≡◌, refl, sym, ap, ◌∙◌}
-use mathlib.Core.Bool.{Bool, true, false}
+use mathlib.Core.Bool.{Bool, true, false, cond}
 use mathlib.Core.List.{List, [], ◌∷◌, ◌++◌, append-nil}
 use mathlib.Core.Option.{none, some}
 use native.Mathlib.Omega.{arith}
@@ -17,7 +17,12 @@ use lib.Dec.{eqb, leb, ltb}
 use lib.ListN.{length, take, drop, get_or, drop_of_length-le}
 use borrow.Rule.Slice.PartMut.{mid_of}
 use lib.Seq.{drop-cons, take_all, append_snoc}
-use borrow.Author.Tests.{eq-eqb, ne_eqb, lt-leb, le-leb, leb-true, ltb-true, ltb-false}
+use borrow.Author.Tests.{lt-leb, le-leb, leb-true, ltb-true, ltb-false}
+use Rattle.std.specs.Prelude as std
+use Rattle.std.specs.Option.{unwrap_or}
+use Rattle.std.specs.List.{position_or_len, count_by, slice_split, onto_first, position}
+use Rattle.std.proofs.lemmas.List.Splits.{length-slice_split}
+use Rattle.std.proofs.lemmas.List.Recursion.{is_position_or_len, is_count_by}
 use Rattle.model.specs.Choice.{pick}
 use Rattle.model.specs.Limits.{last32}
 use Rattle.model.specs.Simulator.{is_digit, digits_from, at_most, number_in, fields_from, line_of, end_line, lines_from}
@@ -26,42 +31,36 @@ use Rattle.model_laws.proofs.Tests.{and_left, and_right, choose}
 use Rattle.model.specs.Letters.{space, line_feed, first_digit, last_digit}
 use Rattle.simulator_text.specs.Values.{first_of, line_feeds}
 
--- ---- the place of a byte
+pick_is : {A : Type 0} (t : Bool) (a b : A) → pick t a b ≡ cond t a b
+pick_is true a b = refl
+pick_is false a b = refl
 
-pub first-here : (x : ℕ) (s : List ℕ) (i : ℕ) → i < length s → get_or s i 0 ≡ x → first_of x (drop i s) ≡ 0
+-- ---- the place of a byte, and the line feeds of a text, in std's words
+
+pub first_of_lem : (x : ℕ) (s : List ℕ) → first_of x s ≡ position_or_len (λ b. eqb b x) s
 unfolding first_of
-first-here x s i h e = rw (drop-cons s i 0 h, eq-eqb (get_or s i 0) x e)
+first_of_lem x s = is_position_or_len (first_of x) (λ b. eqb b x) refl (λ b t. pick_is (eqb b x) _ _ ∙ ap (λ n. cond (eqb b x) 0 n) (omega arith)) s
 
-pub first_next : (x : ℕ) (s : List ℕ) (i : ℕ) → i < length s → (get_or s i 0 ≡ x → ⊥) → first_of x (drop i s) ≡ suc (first_of x (drop (i + 1) s))
+first_length : (x : ℕ) (s : List ℕ) → first_of x s ≤ length s
 unfolding first_of
-first_next x s i h e = rw (add-one, drop-cons s i 0 h, ne_eqb (get_or s i 0) x e)
+first_length x [] = omega arith
+first_length x (b ∷ s) = choose (λ n. n ≤ suc (length s)) (eqb b x) (λ _. omega arith) (λ _. omega (arith, first_length x s))
 
-pub first-end : (x : ℕ) (s : List ℕ) (i : ℕ) → length s ≤ i → first_of x (drop i s) ≡ 0
-unfolding first_of
-first-end x s i h = rw (drop_of_length-le s h)
+-- what `position` found, or the length
+pub first-found : (x : ℕ) (s : List ℕ) {o : std.Option ℕ} {n : ℕ} → n ≡ unwrap_or o (length s) → o ≡ position (λ b. eqb b x) s
+    → (n ≡ first_of x s) × (n ≤ length s)
+first-found x s {o} {n} p q = let e : n ≡ first_of x s = go (ltb (position_or_len (λ b. eqb b x) s) (length s)) refl in (e, omega (arith, first_length x s))
+  where
+    go : (t : Bool) → ltb (position_or_len (λ b. eqb b x) s) (length s) ≡ t → n ≡ first_of x s
+    go true e = rw (first_of_lem x s) (p ∙ rw q (rw e refl))
+    go false e =
+        let l : length s ≤ position_or_len (λ b. eqb b x) s = ltb-false _ _ e in
+        let m : n ≡ length s = p ∙ rw q (rw e refl) in
+        omega (arith, first_length x s, first_of_lem x s)
 
--- ---- line feeds, from a place on: those before it are n
-
-abbrev pub Counted : List ℕ → ℕ → ℕ → Type 0
-Counted s n i = (i ≤ length s) × (n ≤ i) × (n + line_feeds (drop i s) ≡ line_feeds s)
-
-pub counted_feed : (s : List ℕ) (n i : ℕ) → Counted s n i → i < length s → get_or s i 0 ≡ line_feed → Counted s (n + 1) (i + 1)
+pub line_feeds_lem : (s : List ℕ) → line_feeds s ≡ count_by (λ b. eqb b line_feed) s
 unfolding line_feeds
-counted_feed s n i c h e =
-    let f : line_feeds (drop i s) ≡ suc (line_feeds (drop (i + 1) s)) = rw (add-one, drop-cons s i 0 h, eq-eqb (get_or s i 0) line_feed e) in
-    (omega arith, omega arith, omega arith)
-
-pub counted-other : (s : List ℕ) (n i : ℕ) → Counted s n i → i < length s → (get_or s i 0 ≡ line_feed → ⊥) → Counted s n (i + 1)
-unfolding line_feeds
-counted-other s n i c h e =
-    let f : line_feeds (drop i s) ≡ line_feeds (drop (i + 1) s) = rw (add-one, drop-cons s i 0 h, ne_eqb (get_or s i 0) line_feed e) in
-    (omega arith, omega arith, omega arith)
-
-pub counted-end : (s : List ℕ) (n i : ℕ) → Counted s n i → length s ≤ i → n ≡ line_feeds s
-unfolding line_feeds
-counted-end s n i c h =
-    let f : line_feeds (drop i s) ≡ 0 = rw (drop_of_length-le s h) in
-    omega arith
+line_feeds_lem s = is_count_by line_feeds (λ b. eqb b line_feed) refl (λ b t. pick_is (eqb b line_feed) _ _ ∙ ap (λ n. cond (eqb b line_feed) n (line_feeds t)) (omega arith)) s
 
 -- ---- a text cut at a byte x: F f s reads s with f before it
 
@@ -101,6 +100,39 @@ fields-more s e p h =
 pub fields-last : (s : List ℕ) (e : ℕ) → e ≡ first_of space s → length s ≤ e → fields_from [] s ≡ s ∷ []
 unfolding fields_from
 fields-last s e p h = cut-last space fields_from (λ f. f ∷ []) (λ f r. f ∷ r) (λ f. refl) (λ f b s. refl) [] s (omega arith)
+
+-- the fields are the parts that `split` gives: those of a text behind the text f
+onto_part : List ℕ → List (List ℕ) → List (List ℕ)
+onto_part f [] = f ∷ []
+onto_part f (p ∷ ps) = (f ++ p) ∷ ps
+
+onto_none : (ps : List (List ℕ)) → 0 < length ps → onto_part [] ps ≡ ps
+unfolding onto_part
+onto_none [] h = absurd (not-suc-le-zero h)
+onto_none (p ∷ ps) h = refl
+
+onto_byte : (f : List ℕ) (b : ℕ) (ps : List (List ℕ)) → onto_part (f ++ (b ∷ [])) ps ≡ onto_part f (onto_first b ps)
+unfolding onto_part
+onto_byte f b [] = refl
+onto_byte f b (p ∷ ps) = ap (λ (q : List ℕ). q ∷ ps) (append_snoc f b p)
+
+split_fields : (f s : List ℕ) → fields_from f s ≡ onto_part f (slice_split (λ b. eqb b space) s)
+unfolding fields_from onto_part
+split_fields f [] = ap (λ (q : List ℕ). q ∷ []) (sym (append-nil f))
+split_fields f (b ∷ s) = go (eqb b space) (split_fields [] s) (split_fields (f ++ (b ∷ [])) s)
+  where
+    parts : List (List ℕ)
+    parts = slice_split (λ b. eqb b space) s
+
+    go : (t : Bool) → fields_from [] s ≡ onto_part [] parts → fields_from (f ++ (b ∷ [])) s ≡ onto_part (f ++ (b ∷ [])) parts
+        → pick t (f ∷ fields_from [] s) (fields_from (f ++ (b ∷ [])) s) ≡ onto_part f (cond t ([] ∷ parts) (onto_first b parts))
+    go true p q =
+        let e : fields_from [] s ≡ parts = p ∙ onto_none parts (omega (arith, length-slice_split (λ b. eqb b space) s)) in
+        rw (e, append-nil f) refl
+    go false p q = q ∙ onto_byte f b parts
+
+pub fields-split : (s : List ℕ) → fields_from [] s ≡ slice_split (λ b. eqb b space) s
+fields-split s = split_fields [] s ∙ onto_none _ (omega (arith, length-slice_split (λ b. eqb b space) s))
 
 -- ---- lines
 
@@ -186,7 +218,5 @@ unfolding at_most digits_from
 left_end s n i h l k m = sym (number_is_lem s h ∙ l ∙ rw (drop_of_length-le s {i = i} m, le-leb n last32 k) refl)
 
 -- the same by the two parts that the code lends
-pub fields-parts : (s : List ℕ) (e : ℕ) → e ≡ first_of space s → e < length s → fields_from [] s ≡ mid_of 0 (e - 0) s ∷ fields_from [] (mid_of (e + 1) (length s - (e + 1)) s)
-fields-parts s e p h =
-    let z : e - 0 ≡ e = omega arith in
-    fields-more s e p h ∙ rw (z, tail-part (e + 1) s) refl
+pub fields-parts : (s : List ℕ) (e : ℕ) → e ≡ first_of space s → e < length s → fields_from [] s ≡ take e s ∷ fields_from [] (mid_of (e + 1) (length s - (e + 1)) s)
+fields-parts s e p h = fields-more s e p h ∙ rw (tail-part (e + 1) s) refl

@@ -1,31 +1,35 @@
 -- A line read: its letter, the numbers behind it, the line of both.
 --     letter_one, letter_other                       the letter of a field
 --     reading-start, -off, -next, -end               the numbers of the fields, one after the other
---     line_chosen                                    the line of a letter and its numbers
+--     fields_start, fields_next, fields_end          and of the fields that an iterator gives
+--     lines_by                                       the line of a letter and its numbers
 --     argument-none, -minus, -plain                  a signed number
 -- Assumes nothing.
-use Prim.Native.Nat.{ℕ, zero, suc, ◌+◌, ◌-◌, ◌≤◌, ◌<◌}
+use Prim.Native.Nat.{ℕ, suc, ◌+◌, ◌≤◌, ◌<◌}
 use mathlib.Core.Path.{◌≡◌, refl, sym, ap, ◌∙◌}
-use mathlib.Core.Bool.{Bool, true, false, ◌&&◌}
+use mathlib.Core.Bool.{Bool, true, false}
 use mathlib.Core.List.{List, [], ◌∷◌, ◌++◌, append_assoc, append-nil}
 use mathlib.Core.Option.{Option, none, some}
+use Rattle.std.specs.Prelude as std
+use Rattle.std.specs.Prelude.{Some, None}
+use Rattle.std.specs.Iterator.{AlwaysYields}
+use Rattle.std.specs.List.{slice_split}
+use Rattle.std.proofs.lemmas.Iterator.{YieldsList}
+use denote.Ref.{Bor}
 use native.Mathlib.Omega.{arith}
 use native.Mathlib.Numerals.{add-one}
-use lib.Dec.{eqb, leb, ltb}
-use lib.ListN.{length, take, drop, get_or, length-drop}
-use lib.Seq.{sets, drop-drop, take_all}
-use borrow.Rule.Slice.PartMut.{mid_of}
-use borrow.Author.Tests.{eq-eqb, ne_eqb, eqb-true, lt-leb, le-leb, ltb-true, ltb-false}
+use lib.Dec.{eqb, ltb}
+use lib.ListN.{length, take, drop, get_or}
+use lib.Seq.{sets}
+use borrow.Author.Tests.{eq-eqb, ne_eqb, eqb-true, ltb-true}
 use Rattle.model.specs.Choice.{pick}
 use Rattle.model.specs.Tables.{written}
 use Rattle.model.specs.Simulator as simulator
-use Rattle.model.specs.Simulator.{number_in, argument_in, negative, positive, letter_in, letter_line, line_by, field_in, and_then, numbers_from, line_with, fields_from}
+use Rattle.model.specs.Simulator.{number_in, argument_in, negative, positive, letter_in, letter_line, line_by, field_in, and_then, numbers_from, fields_from}
 use Rattle.model.specs.Letters.{space, minus, issue_letter, sync_letter, give_letter}
-use Rattle.model_laws.proofs.Written.{written-sets, length-written, take-written-run, tail-part}
-use Rattle.simulator_text.specs.declared.Number.{Number}
-use Rattle.simulator_text.specs.declared.Number.TheVariants.{Nothing, Is}
-use Rattle.simulator_text.specs.Values.{most_numbers, number_is, numbers_is, first_of}
-use Rattle.simulator_text.proofs.Fields.{fields-more, fields-last}
+use Rattle.model_laws.proofs.Written.{written-sets, length-written, take-written-run}
+use Rattle.simulator_text.specs.Values.{most_numbers}
+use Rattle.simulator_text.proofs.Fields.{fields-split}
 
 pub letter_one : (s : List ℕ) → length s ≡ 1 → get_or s 0 0 ≡ letter_in s
 unfolding letter_in
@@ -41,28 +45,6 @@ letter_other (b ∷ a ∷ s) h = rw (ne_eqb (length (a ∷ s)) 0 (λ g. omega ar
 
 -- ---- the numbers of the fields behind the letter
 
--- the fields from a place on, none past the text
-abbrev pub fields_at : List ℕ → ℕ → List (List ℕ)
-fields_at s at = pick (leb at (length s)) (fields_from [] (drop at s)) []
-
--- a field from a place on, and those behind it
-fields-at : (s : List ℕ) (at f : ℕ) → at ≤ length s → f ≡ first_of space (drop at s) → f ≤ length (drop at s)
-    → fields_at s at ≡ take f (drop at s) ∷ fields_at s (at + f + 1)
-fields-at s at f h e m = rw (le-leb at (length s) h) (go (ltb f (length (drop at s))) refl)
-  where
-    l : length (drop at s) ≡ length s - at
-    l = length-drop at s
-
-    go : (t : Bool) → ltb f (length (drop at s)) ≡ t → fields_from [] (drop at s) ≡ take f (drop at s) ∷ fields_at s (at + f + 1)
-    go true q =
-        let k : f < length (drop at s) = ltb-true f (length (drop at s)) q in
-        let i : at + (f + 1) ≡ at + f + 1 = omega arith in
-        let d : drop (f + 1) (drop at s) ≡ drop (at + f + 1) s = drop-drop (f + 1) at s ∙ ap (λ (i : ℕ). drop i s) i in
-        rw (le-leb (at + f + 1) (length s) (omega (arith, l)), ← d) (fields-more (drop at s) f e k)
-    go false q =
-        let k : length (drop at s) ≤ f = ltb-false f (length (drop at s)) q in
-        rw (lt-leb (at + f + 1) (length s) (omega (arith, l)), take_all f (drop at s) k) (fields-last (drop at s) f e k)
-
 -- numbers, and those that follow
 unfoldable pub joined : List ℕ → Option (List ℕ) → Option (List ℕ)
 joined l none = none
@@ -73,23 +55,22 @@ unfolding joined and_then
 joined-next l v none = refl
 joined-next l v (some m) = ap some (sym (append_assoc l (v ∷ []) m))
 
--- a line's text on its way: k numbers are read, the fields from a place on are left
-pub record Reading (s ns : List ℕ) (k at : ℕ) : Type 0 where
+-- a line's text on its way: k numbers are read, the fields fs are left
+pub record Reading (s ns : List ℕ) (k : ℕ) (fs : List (List ℕ)) : Type 0 where
   pub long : length ns ≡ most_numbers
   pub most : k ≤ most_numbers
-  pub within : at ≤ length s + 1
-  pub left : joined (take k ns) (numbers_from k (fields_at s at)) ≡ numbers_from 0 (fields_from [] s)
+  pub left : joined (take k ns) (numbers_from k fs) ≡ numbers_from 0 (fields_from [] s)
 
-pub reading-start : (s ns : List ℕ) → length ns ≡ most_numbers → Reading s ns 0 0
+pub reading-start : (s ns : List ℕ) → length ns ≡ most_numbers → Reading s ns 0 (slice_split (λ b. eqb b space) s)
 unfolding joined
 reading-start s ns h =
-    record { long = h; most = omega arith; within = omega arith; left = rw (le-leb 0 (length s) (omega arith)) (go (numbers_from 0 (fields_from [] s))) }
+    record { long = h; most = omega arith; left = go _ ∙ ap (numbers_from 0) (sym (fields-split s)) }
   where
     go : (o : Option (List ℕ)) → joined [] o ≡ o
     go none = refl
     go (some l) = refl
 
-pub field_most : (k : ℕ) (s : List ℕ) {v : ℕ} → field_in k s ≡ some v → k < most_numbers
+pub field_most : (k : ℕ) (s : List ℕ) {v : ℕ} → some v ≡ field_in k s → k < most_numbers
 unfolding field_in
 field_most k s {v} h = go (ltb k 3) refl (eqb k 3) refl
   where
@@ -97,81 +78,105 @@ field_most k s {v} h = go (ltb k 3) refl (eqb k 3) refl
     go true p u q = omega (arith, ltb-true k 3 p)
     go false p true q = omega (arith, eqb-true k 3 q)
     go false p false q =
-        let o : ◌≡◌ {A = Option ℕ} none (some v) = rw (p, q) at h in
+        let o : ◌≡◌ {A = Option ℕ} none (some v) = rw (p, q) at (sym h) in
         let z : ◌≡◌ {A = ℕ} 0 1 = cc in
         absurd (omega arith)
 
-pub field_place : (k : ℕ) (s : List ℕ) {x : Number} {v : ℕ} → number_is x ≡ field_in k s → x ≡ Is v → k < most_numbers
-field_place k s {x} q e = field_most k s (sym q ∙ ap number_is e)
+module _ {s ns : List ℕ} {k : ℕ} {f : List ℕ} {fs : List (List ℕ)} (r : Reading s ns k (f ∷ fs)) where
+  pub reading-off : none ≡ field_in k f → none ≡ numbers_from 0 (fields_from [] s)
+  unfolding joined and_then numbers_from
+  reading-off e = (rw (← e) at r.left)
 
--- the field at a place, by the parts that the code lends
-pub field_end : (s : List ℕ) (at : ℕ) {f : ℕ} → at ≤ length s → f ≤ length (mid_of at (length s - at) s) → at + f ≤ length s
-field_end s at h m = omega (arith, ap length (tail-part at s), length-drop at s)
-
-field_read : (s : List ℕ) (k at f : ℕ) {y o : Option ℕ} → y ≡ field_in k (mid_of at (at + f - at) s) → y ≡ o → field_in k (take f (drop at s)) ≡ o
-field_read s k at f q e = let z : at + f - at ≡ f = omega arith in sym (q ∙ rw z refl) ∙ e
-
-module _ {s ns : List ℕ} {k at f : ℕ} (r : Reading s ns k at) (h : at ≤ length s)
-    (p : (f ≡ first_of space (mid_of at (length s - at) s)) × (f ≤ length (mid_of at (length s - at) s))) where
-  -- the field, and those behind it
-  first_field : joined (take k ns) (and_then (field_in k (take f (drop at s))) (numbers_from (suc k) (fields_at s (at + f + 1)))) ≡ numbers_from 0 (fields_from [] s)
+  pub reading-next : {v : ℕ} → some v ≡ field_in k f → Reading s (sets ns k (v ∷ [])) (k + 1) fs
   unfolding numbers_from
-  first_field =
-      let e : f ≡ first_of space (drop at s) = p.0 ∙ ap (λ (t : List ℕ). first_of space t) (tail-part at s) in
-      let m : f ≤ length (drop at s) = omega (arith, p.1, ap length (tail-part at s)) in
-      rw (fields-at s at f h e m) at r.left
-
-  pub reading-off : (ms : List ℕ) {x : Number} → number_is x ≡ field_in k (mid_of at (at + f - at) s) → x ≡ Nothing → numbers_is 5 ms ≡ numbers_from 0 (fields_from [] s)
-  unfolding numbers_is joined and_then
-  reading-off ms {x} q e = rw (field_read s k at f q (ap number_is e)) at first_field
-
-  pub reading-next : {x : Number} {v : ℕ} → number_is x ≡ field_in k (mid_of at (at + f - at) s) → x ≡ Is v → Reading s (sets ns k (v ∷ [])) (k + 1) (at + f + 1)
-  reading-next {x} {v} q e =
-      let n : field_in k (take f (drop at s)) ≡ some v = field_read s k at f q (ap number_is e) in
-      let rest : Option (List ℕ) = numbers_from (suc k) (fields_at s (at + f + 1)) in
+  reading-next {v} e =
       let w : sets ns k (v ∷ []) ≡ written ns k (v ∷ []) = sym (written-sets ns k (v ∷ [])) in
-      let l : k < most_numbers = field_most k (take f (drop at s)) n in
+      let l : k < most_numbers = field_most k f e in
       let t : take (k + 1) (sets ns k (v ∷ [])) ≡ take k ns ++ (v ∷ []) = rw w (take-written-run ns k (v ∷ []) (omega (arith, r.long))) in
       record {
         long = ap length w ∙ length-written ns k (v ∷ []) ∙ r.long;
         most = omega arith;
-        within = omega (arith, field_end s at h p.1);
-        left = rw (t, add-one) (sym (joined-next (take k ns) v rest) ∙ rw n at first_field);
+        left = rw (t, add-one) (sym (joined-next (take k ns) v (numbers_from (suc k) fs)) ∙ rw (← e) at r.left);
       }
 
-pub reading-end : {s ns : List ℕ} {k at : ℕ} → Reading s ns k at → length s < at → numbers_is k ns ≡ numbers_from 0 (fields_from [] s)
-unfolding numbers_is joined numbers_from
-reading-end {s} {ns} {k} {at} r h =
-    rw (le-leb k most_numbers r.most) (ap some (sym (append-nil (take k ns))) ∙ rw (lt-leb at (length s) h) at r.left)
+pub reading-end : {s ns : List ℕ} {k : ℕ} → Reading s ns k [] → some (take k ns) ≡ numbers_from 0 (fields_from [] s)
+unfolding joined numbers_from
+reading-end {s} {ns} {k} r = ap some (sym (append-nil (take k ns))) ∙ r.left
 
--- ---- the line of a letter and n numbers
+-- the fields that an iterator has left are those left to read
+pub record Fields {S : Type 0} (steps : S → std.Option (Bor (List ℕ)) → S → Type 0) (s : List ℕ) (it : S) (ns : List ℕ) (k : ℕ) : Type 0 where
+  pub fields : List (List ℕ)
+  pub gives : AlwaysYields steps (λ x. x.now) it fields
+  pub reading : Reading s ns k fields
 
--- the tests of the code, one after the other, for four numbers of which the first n are the line's
-abbrev pub chosen : ℕ → ℕ → List ℕ → simulator.Line
-chosen c n ns =
-    pick (eqb n 1 && eqb c sync_letter) (simulator.sync (get_or ns 0 0)) (pick (eqb n 2) (letter_line c (get_or ns 0 0) (get_or ns 1 0))
-    (pick (eqb n 3 && eqb c give_letter) (simulator.give (get_or ns 0 0) (get_or ns 1 0) (get_or ns 2 0))
-    (pick (eqb n 4 && eqb c issue_letter) (simulator.issue (get_or ns 0 0) (get_or ns 1 0) (get_or ns 2 0) (get_or ns 3 0)) simulator.unreadable)))
+module _ {S : Type 0} {steps : S → std.Option (Bor (List ℕ)) → S → Type 0} {s : List ℕ} where
+  pub fields_start : {it : S} (ns : List ℕ) → YieldsList steps (λ x. x.now) it (slice_split (λ b. eqb b space) s) → length ns ≡ most_numbers → Fields steps s it ns 0
+  fields_start ns y h = record { fields = slice_split (λ b. eqb b space) s; gives = y.runs; reading = reading-start s ns h }
 
-line_of_four : (c n a b d e : ℕ) → chosen c n (a ∷ b ∷ d ∷ e ∷ []) ≡ line_with c (numbers_is n (a ∷ b ∷ d ∷ e ∷ []))
-unfolding line_with line_by numbers_is
-line_of_four c zero a b d e = refl
-line_of_four c (suc zero) a b d e = refl
-line_of_four c (suc (suc zero)) a b d e = refl
-line_of_four c (suc (suc (suc zero))) a b d e = refl
-line_of_four c (suc (suc (suc (suc zero)))) a b d e = refl
-line_of_four c (suc (suc (suc (suc (suc n))))) a b d e =
-    let m : ℕ = suc (suc (suc (suc (suc n)))) in
-    let other : (k : ℕ) → k ≤ most_numbers → eqb m k ≡ false = λ k h. ne_eqb m k (λ g. omega arith) in
-    rw (lt-leb m most_numbers (omega arith), other 1 (omega arith), other 2 (omega arith), other 3 (omega arith), other 4 (omega arith)) refl
+  pub fields_next : {it : S} {ns : List ℕ} {k : ℕ} → Fields steps s it ns k → (x : Bor (List ℕ)) (jt : S) → steps it (Some x) jt
+      → (fs : List (List ℕ)) × AlwaysYields steps (λ y. y.now) jt fs × Reading s ns k (x.now ∷ fs)
+  fields_next {it} {ns} {k} r x jt h = go r.fields r.gives r.reading
+    where
+      go : (fs : List (List ℕ)) → AlwaysYields steps (λ y. y.now) it fs → Reading s ns k fs → (gs : List (List ℕ)) × AlwaysYields steps (λ y. y.now) jt gs × Reading s ns k (x.now ∷ gs)
+      go [] a q = absurd (a x jt h)
+      go (f ∷ fs) a q = let m = a.1 x jt h in (fs, m.1, rw m.0 q)
 
-pub line_chosen : (c n : ℕ) (ns : List ℕ) {l : simulator.Line} → length ns ≡ most_numbers → l ≡ chosen c n ns → l ≡ line_with c (numbers_is n ns)
-line_chosen c n (a ∷ b ∷ d ∷ e ∷ []) h p = p ∙ line_of_four c n a b d e
-line_chosen c n [] h p = absurd (omega arith)
-line_chosen c n (a ∷ []) h p = absurd (omega arith)
-line_chosen c n (a ∷ b ∷ []) h p = absurd (omega arith)
-line_chosen c n (a ∷ b ∷ d ∷ []) h p = absurd (omega arith)
-line_chosen c n (a ∷ b ∷ d ∷ e ∷ g ∷ ns) h p = absurd (omega arith)
+  pub fields_end : {it : S} {ns : List ℕ} {k : ℕ} → Fields steps s it ns k → (jt : S) → steps it None jt → Reading s ns k []
+  fields_end {it} {ns} {k} r jt h = go r.fields r.gives r.reading
+    where
+      go : (fs : List (List ℕ)) → AlwaysYields steps (λ y. y.now) it fs → Reading s ns k fs → Reading s ns k []
+      go [] a q = q
+      go (f ∷ fs) a q = absurd (a.0 jt h)
+
+-- ---- the line of a letter and the numbers behind it
+
+pub line_by_none : (c : ℕ) (ns : List ℕ) → length ns < 1 → line_by c ns ≡ simulator.unreadable
+unfolding line_by
+line_by_none c [] h = refl
+line_by_none c (a ∷ ns) h = absurd (omega arith)
+
+pub line_by_one : (c : ℕ) (ns : List ℕ) → 1 ≤ length ns → length ns < 2 → line_by c ns ≡ pick (eqb c sync_letter) (simulator.sync (get_or ns 0 0)) simulator.unreadable
+unfolding line_by
+line_by_one c (a ∷ []) h l = refl
+line_by_one c [] h l = absurd (omega arith)
+line_by_one c (a ∷ b ∷ ns) h l = absurd (omega arith)
+
+pub line_by_two : (c : ℕ) (ns : List ℕ) → 2 ≤ length ns → length ns < 3 → line_by c ns ≡ letter_line c (get_or ns 0 0) (get_or ns 1 0)
+unfolding line_by
+line_by_two c (a ∷ b ∷ []) h l = refl
+line_by_two c [] h l = absurd (omega arith)
+line_by_two c (a ∷ []) h l = absurd (omega arith)
+line_by_two c (a ∷ b ∷ d ∷ ns) h l = absurd (omega arith)
+
+pub line_by_three : (c : ℕ) (ns : List ℕ) → 3 ≤ length ns → length ns < 4
+    → line_by c ns ≡ pick (eqb c give_letter) (simulator.give (get_or ns 0 0) (get_or ns 1 0) (get_or ns 2 0)) simulator.unreadable
+unfolding line_by
+line_by_three c (a ∷ b ∷ d ∷ []) h l = refl
+line_by_three c [] h l = absurd (omega arith)
+line_by_three c (a ∷ []) h l = absurd (omega arith)
+line_by_three c (a ∷ b ∷ []) h l = absurd (omega arith)
+line_by_three c (a ∷ b ∷ d ∷ e ∷ ns) h l = absurd (omega arith)
+
+pub line_by_four : (c : ℕ) (ns : List ℕ) → 4 ≤ length ns → length ns < 5
+    → line_by c ns ≡ pick (eqb c issue_letter) (simulator.issue (get_or ns 0 0) (get_or ns 1 0) (get_or ns 2 0) (get_or ns 3 0)) simulator.unreadable
+unfolding line_by
+line_by_four c (a ∷ b ∷ d ∷ e ∷ []) h l = refl
+line_by_four c [] h l = absurd (omega arith)
+line_by_four c (a ∷ []) h l = absurd (omega arith)
+line_by_four c (a ∷ b ∷ []) h l = absurd (omega arith)
+line_by_four c (a ∷ b ∷ d ∷ []) h l = absurd (omega arith)
+line_by_four c (a ∷ b ∷ d ∷ e ∷ g ∷ ns) h l = absurd (omega arith)
+
+pub line_by_more : (c : ℕ) (ns : List ℕ) → 5 ≤ length ns → line_by c ns ≡ simulator.unreadable
+unfolding line_by
+line_by_more c (a ∷ b ∷ d ∷ e ∷ g ∷ ns) h = refl
+line_by_more c [] h = absurd (omega arith)
+line_by_more c (a ∷ []) h = absurd (omega arith)
+line_by_more c (a ∷ b ∷ []) h = absurd (omega arith)
+line_by_more c (a ∷ b ∷ d ∷ []) h = absurd (omega arith)
+line_by_more c (a ∷ b ∷ d ∷ e ∷ []) h = absurd (omega arith)
+
+pub ruleset lines_by = (line_by_none, line_by_one, line_by_two, line_by_three, line_by_four, line_by_more)
 
 -- ---- a signed number
 

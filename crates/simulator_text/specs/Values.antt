@@ -1,33 +1,34 @@
 -- The values of the code in the definitions' terms: numbers, lines, answers; and where a text falls apart.
 -- Assumes nothing.
 use Rattle.std.specs.Prelude.{ℕ, suc, ◌+◌, ◌≡◌, Bool, List, [], ◌∷◌, eqb, leb, length, take}
+use Rattle.std.specs.Prelude as std
+use Rattle.std.specs.Prelude.{Some, None}
 use Rattle.std.proofs.Math.Option.{Option, none, some}
 use Rattle.model.specs.Choice.{pick}
 use Rattle.model.specs.Tables.{written}
 use Rattle.model.specs.Simulator as simulator
 use Rattle.model.specs.Simulator.{most_lines}
 use Rattle.model.specs.Letters.{line_feed}
-use Rattle.simulator_text.specs.declared.Number.{Number}
-use Rattle.simulator_text.specs.declared.Number.TheVariants.{Nothing, Is}
 use Rattle.simulator_text.specs.declared.ServerLine.{ServerLine}
 use Rattle.simulator_text.specs.declared.ServerLine.TheVariants.{Deliver, Sync, Cut, Give, Image, Receipt}
 use Rattle.simulator_text.specs.declared.ClientLine.{ClientLine}
 use Rattle.simulator_text.specs.declared.ClientLine.TheVariants.{Issue, Resend, Receive}
 use Rattle.simulator_text.specs.declared.Line.{Line}
-use Rattle.simulator_text.specs.declared.Line.TheVariants.{Unreadable, AtServer, AtClient}
+use Rattle.simulator_text.specs.declared.Line.TheVariants.{AtServer, AtClient}
 use Rattle.simulator_text.specs.declared.Reply.{Reply}
 
-abbrev pub number_is : Number → Option ℕ
-number_is Nothing = none
-number_is (Is n) = some n
+abbrev pub number_is : std.Option ℕ → Option ℕ
+number_is None = none
+number_is (Some n) = some n
 
 -- the numbers of a line: three, and an argument behind them
 abbrev pub most_numbers : ℕ
 most_numbers = 4
 
--- the first n of them, none where there are more
-unfoldable pub numbers_is : ℕ → List ℕ → Option (List ℕ)
-numbers_is n ns = pick (leb n most_numbers) (some (take n ns)) none
+-- the first n of them, none where one could not be read
+abbrev pub numbers_is : std.Option ℕ → List ℕ → Option (List ℕ)
+numbers_is None ns = none
+numbers_is (Some n) ns = some (take n ns)
 
 abbrev pub server_line : ℕ → ServerLine → simulator.Line
 server_line n (Deliver k) = simulator.deliver k n
@@ -42,10 +43,10 @@ client_line n (Issue op p a) = simulator.issue n op p a
 client_line n (Resend c) = simulator.resend n c
 client_line n (Receive k) = simulator.receive k n
 
-abbrev pub line_is : Line → simulator.Line
-line_is Unreadable = simulator.unreadable
-line_is (AtServer n l) = server_line n l
-line_is (AtClient n l) = client_line n l
+abbrev pub line_is : std.Option Line → simulator.Line
+line_is None = simulator.unreadable
+line_is (Some (AtServer n l)) = server_line n l
+line_is (Some (AtClient n l)) = client_line n l
 
 abbrev pub reply_is : Reply → simulator.Reply
 reply_is r = simulator.answered r.number r.made r.value

@@ -46,7 +46,6 @@ pub enum ClientLine {
 // A line: the number of the server or client that it calls, and what it asks.
 #[derive(Clone, Copy)]
 pub enum Line {
-    Unreadable,
     AtServer(u32, ServerLine),
     AtClient(u32, ClientLine),
 }
@@ -59,43 +58,21 @@ pub struct Reply {
     pub value: u32,
 }
 
-// A number that was read, or that there is none.
-#[derive(Clone, Copy)]
-pub enum Number {
-    Nothing,
-    Is(u32),
-}
-
 // ---- where a text falls apart
 
 // The place of the first byte b, the length where there is none.
 pub fn find(s: &[u8], b: u8) -> usize
     ensures { (result ≡ first_of b s.now) × (result ≤ length s.now) }
 {
-    let mut i = 0;
-    while i < s.len() {
-        if s[i] == b {
-            return i;
-        }
-        i += 1;
-    }
-    i
+    s.iter().position(|x| *x == b).unwrap_or(s.len())
 }
 
 // The line feeds of a text.
+#[tactic(auto, using(crate::proofs::Fields::line_feeds_lem))]
 pub fn line_feeds(s: &[u8]) -> usize
     ensures { result ≡ line_feeds s.now }
 {
-    let mut n = 0;
-    let mut i = 0;
-    while i < s.len() {
-        let b = s[i];
-        i += 1;
-        if b == b'\n' {
-            n += 1;
-        }
-    }
-    n
+    s.iter().filter(|b| **b == b'\n').count()
 }
 
 // Whether a text has its 60 lines whole: what follows it changes no answer (law `rest-unread` of simulator).

@@ -5,9 +5,9 @@ ghost use Rattle.model.specs.Letters.{first_digit, last_digit};
 ghost use Rattle.model.specs.Simulator.{is_digit, number_in, argument_in, negative, positive};
 ghost use Rattle.simulator_text.specs.Values.{number_is};
 
-use crate::Number;
 use model::constants;
 
+#[tactic(auto, unfolding(model::specs::Simulator::is_digit))]
 fn is_digit(b: u8) -> bool
     ensures { result ≡ is_digit b }
 {
@@ -23,63 +23,52 @@ fn with_digit(value: u64, b: u8) -> u64
 }
 
 // Decimal digits, at least one, of a number of 32 bits.
-pub fn number_in(s: &[u8]) -> Number
+pub fn number_in(s: &[u8]) -> Option<u32>
     ensures { number_is result ≡ number_in s.now }
 {
     if s.len() == 0 {
-        return Number::Nothing;
+        return None;
     }
     let mut value: u64 = 0;
-    let mut i = 0;
-    while i < s.len() {
-        let b = s[i];
-        if !is_digit(b) {
-            return Number::Nothing;
+    for b in s {
+        if !is_digit(*b) {
+            return None;
         }
-        value = with_digit(value, b);
+        value = with_digit(value, *b);
         if constants::LAST_32_U64 < value {
-            return Number::Nothing;
+            return None;
         }
-        i += 1;
     }
-    Number::Is(value as u32)
+    Some(value as u32)
 }
 
-fn negative_of(number: Number) -> Number
+#[tactic(auto, unfolding(model::specs::Simulator::negative))]
+fn negative_of(number: Option<u32>) -> Option<u32>
     ensures { number_is result ≡ negative (number_is number) }
 {
-    let Number::Is(client) = number else {
-        return Number::Nothing;
-    };
-    if client <= constants::HALF {
-        return Number::Is(constants::HALF - client);
-    }
-    Number::Nothing
+    constants::HALF.checked_sub(number?)
 }
 
-fn positive_of(number: Number) -> Number
+#[tactic(auto, unfolding(model::specs::Simulator::positive))]
+fn positive_of(number: Option<u32>) -> Option<u32>
     ensures { number_is result ≡ positive (number_is number) }
 {
-    let Number::Is(client) = number else {
-        return Number::Nothing;
-    };
-    if client < constants::HALF {
-        return Number::Is(constants::HALF + client);
+    let n = number?;
+    if n < constants::HALF {
+        return Some(constants::HALF + n);
     }
-    Number::Nothing
+    None
 }
 
 // A signed number, as x + 2^31.
-pub fn argument_in(s: &[u8]) -> Number
+pub fn argument_in(s: &[u8]) -> Option<u32>
     ensures { number_is result ≡ argument_in s.now }
 {
     if s.len() == 0 {
-        return Number::Nothing;
+        return None;
     }
     if s[0] == b'-' {
-        let number = number_in(&s[1..]);
-        return negative_of(number);
+        return negative_of(number_in(&s[1..]));
     }
-    let number = number_in(s);
-    positive_of(number)
+    positive_of(number_in(s))
 }

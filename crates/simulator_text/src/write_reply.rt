@@ -1,4 +1,6 @@
-// An answer, written behind what stands on a page.
+// An answer, written behind what stands on a page. A struct of the page and its length was tried, and is no plainer:
+// each of its methods has to promise also that it keeps the page's reference. The digits are put by hand: std's Display
+// puts them into a buffer of its own, and copies them from there.
 ghost use Rattle.std.specs.Prelude.{[], ◌∷◌, ◌++◌, ◌+◌, ◌≤◌, ◌<◌, length};
 ghost use Rattle.model.specs.Letters.{space, most_digits, signed_room, field_room, reply_room};
 ghost use Rattle.model.specs.Simulator.{digits_of, shown, shown_signed, reply_text};

@@ -1,16 +1,16 @@
 -- The pass over the completion records. The loop keeps `Pass`: the records from i on and the marks decide the answer x.
---     pass_start, pass_next, pass_fell, pass_bad, pass_seen, pass_end     the loop starts, goes on, stops at a record whose end fell, that
+--     pass_start, pass_next, pass_fell, pass_bad, pass_slot, pass_seen, pass_end     the loop starts, goes on, stops at a record whose end fell, that
 --                                                              fails or that has an id of an earlier one, ends
 -- Assumes nothing.
 use Prim.Native.Nat.{ℕ, ◌+◌, ◌-◌, ◌*◌, ◌≤◌, ◌<◌}
 use mathlib.Core.Path.{◌≡◌, refl, sym, ap, ◌∙◌}
-use mathlib.Core.Bool.{Bool, true, false, ◌&&◌}
+use mathlib.Core.Bool.{Bool, true, false, ◌&&◌, not}
 use mathlib.Core.List.{List, ◌∷◌}
 use native.Mathlib.Omega.{arith}
 use native.Mathlib.Nat.{sub-zero}
 use lib.ListN.{length, get_or, set, drop, replicate, length-set, length-replicate}
-use lib.Dec.{eqb}
-use borrow.Author.Tests.{eq-eqb, ne_eqb, lt-leb, le-leb}
+use borrow.Author.Tests.{lt-leb, le-leb}
+use Rattle.std.specs.Prelude.{None, Some}
 use Rattle.model.specs.declared.Completion.{Completion}
 use Rattle.model.specs.Choice.{pick}
 use Rattle.model.specs.Tables.{rows, every}
@@ -24,7 +24,7 @@ use Rattle.state_soundness.specs.Slots.{slot_in, tested_slot, is_free, records_p
 use Rattle.state_soundness.proofs.Slots.{slot_few, slots_start, pass_order}
 
 -- last is the latest end
-pub record Pass (s : List ℕ) (m : ℕ) (x : Bool) (marks : List ℕ) (last i : ℕ) : Type 0 where
+pub record Pass (s : List ℕ) (m : ℕ) (x : Bool) (marks : List Bool) (last i : ℕ) : Type 0 where
   pub below : i ≤ m
   pub long : length marks ≡ record_count
   pub rest : x ≡ records_pass (load s) last marks (rows completion_of record_row (m - i) (drop (records_start + record_row * i) s))
@@ -42,41 +42,41 @@ reordered false b true = refl
 reordered false b false = refl
 
 pub pass_start : (s : List ℕ) {m n : ℕ} → m ≡ records_in s → n ≡ clients_in s → n ≤ client_count → clients_ascend (rows floor_of_bytes floor_row n (drop floors_start s)) ≡ true
-    → Pass s m (records_ok (load s)) (replicate record_count 0) head_size 0
+    → Pass s m (records_ok (load s)) (replicate record_count false) head_size 0
 unfolding load records_ok
 pass_start s {m} b a h c =
     let st = load s in
     let rs : List Completion = st.records in
     let order : Ascending st.floors = ascends st.floors (rw (← a) c) in
-    let all : records_pass st head_size (replicate record_count 0) rs ≡ (every (completion_ok st) rs && (ids_differ rs && ends_from head_size rs)) =
-    pass_order st head_size (replicate record_count 0) rs
+    let all : records_pass st head_size (replicate record_count false) rs ≡ (every (completion_ok st) rs && (ids_differ rs && ends_from head_size rs)) =
+    pass_order st head_size (replicate record_count false) rs
     ∙ ap (◌&&◌ (ends_from head_size rs)) (slots_start st order (few s a h) rs)
     ∙ sym (reordered (every (completion_ok st) rs) (ids_differ rs) (ends_from head_size rs)) in
     record {
       below = omega arith;
-      long = length-replicate {A = ℕ} record_count 0;
+      long = length-replicate record_count false;
       rest = rw (sub-zero, b) (sym all);
     }
 
 -- a tested slot, taken apart
-tested_ok : (st : State) (r : Completion) {slot : ℕ} → slot ≡ tested_slot st r → slot < record_count → (completion_ok st r ≡ true) × (slot ≡ slot_in st r)
+tested_ok : (st : State) (r : Completion) {slot : ℕ} → Some slot ≡ tested_slot st r → (completion_ok st r ≡ true) × (slot ≡ slot_in st r)
 unfolding tested_slot
-tested_ok st r {slot} e h = step (completion_ok st r) e
+tested_ok st r {slot} e = step (completion_ok st r) e
   where
-    step : (b : Bool) → slot ≡ pick b (slot_in st r) record_count → (b ≡ true) × (slot ≡ slot_in st r)
-    step true q = (refl, q)
-    step false q = absurd (omega arith)
+    step : (b : Bool) → Some slot ≡ pick b (Some (slot_in st r)) None → (b ≡ true) × (slot ≡ slot_in st r)
+    step true q = let same : slot ≡ slot_in st r = cc in (refl, same)
+    step false q = cc
 
-tested_bad : (st : State) → length st.floors ≤ client_count → (r : Completion) {slot : ℕ} → slot ≡ tested_slot st r → record_count ≤ slot → completion_ok st r ≡ false
+tested_bad : (st : State) (r : Completion) → None ≡ tested_slot st r → completion_ok st r ≡ false
 unfolding tested_slot
-tested_bad st f r {slot} e h = step (completion_ok st r) refl e
+tested_bad st r e = step (completion_ok st r) e
   where
-    step : (b : Bool) → completion_ok st r ≡ b → slot ≡ pick b (slot_in st r) record_count → b ≡ false
-    step true p q = absurd (omega (arith, slot_few st f r p))
-    step false p q = refl
+    step : (b : Bool) → None ≡ pick b (Some (slot_in st r)) None → b ≡ false
+    step true q = cc
+    step false q = refl
 
 -- one record of the pass
-module _ (st : State) {last end : ℕ} (marks : List ℕ) (r : Completion) (rs : List Completion) (u : end ≡ r.end) where
+module _ (st : State) {last end : ℕ} (marks : List Bool) (r : Completion) (rs : List Completion) (u : end ≡ r.end) where
   fell_step : end < last → records_pass st last marks (r ∷ rs) ≡ false
   unfolding records_pass
   fell_step l = let k : r.end < last = omega arith in rw (lt-leb last r.end k)
@@ -86,11 +86,11 @@ module _ (st : State) {last end : ℕ} (marks : List ℕ) (r : Completion) (rs :
   bad_step e l = let k : last ≤ r.end = omega arith in rw (le-leb last r.end k, e)
 
   good-step : {slot : ℕ} → completion_ok st r ≡ true → slot ≡ slot_in st r → last ≤ end
-      → records_pass st last marks (r ∷ rs) ≡ (eqb (get_or marks slot 0) 0 && records_pass st end (set marks slot 1) rs)
+      → records_pass st last marks (r ∷ rs) ≡ (not (get_or marks slot false) && records_pass st end (set marks slot true) rs)
   unfolding records_pass is_free
   good-step e q l = let k : last ≤ r.end = omega arith in rw (u, q, le-leb last r.end k, e)
 
-module _ {s : List ℕ} {m : ℕ} {x : Bool} {marks : List ℕ} {last i : ℕ} (o : Pass s m x marks last i) where
+module _ {s : List ℕ} {m : ℕ} {x : Bool} {marks : List Bool} {last i : ℕ} (o : Pass s m x marks last i) where
   pub pass_end : m ≤ i → true ≡ x
   unfolding records_pass rows
   pass_end h = let e : m - i ≡ 0 = omega arith in sym (o.rest ∙ rw e)
@@ -108,21 +108,24 @@ module _ {s : List ℕ} {m : ℕ} {x : Bool} {marks : List ℕ} {last i : ℕ} (
     pub pass_fell : end < last → false ≡ x
     pass_fell l = sym (opened ∙ fell_step (load s) marks first more u l)
 
-    module _ (l : last ≤ end) {slot : ℕ} (p : slot ≡ tested_slot (load s) (completion_of (drop (records_start + record_row * i) s))) where
-      pub pass_bad : {n : ℕ} → n ≡ clients_in s → n ≤ client_count → record_count ≤ slot → false ≡ x
-      pass_bad a f g = sym (opened ∙ bad_step (load s) marks first more u (tested_bad (load s) (few s a f) first p g) l)
+    module _ (l : last ≤ end) where
+      pub pass_bad : None ≡ tested_slot (load s) (completion_of (drop (records_start + record_row * i) s)) → false ≡ x
+      pass_bad p = sym (opened ∙ bad_step (load s) marks first more u (tested_bad (load s) first p) l)
 
-      module _ (g : slot < record_count) where
-        stepped : x ≡ (eqb (get_or marks slot 0) 0 && records_pass (load s) end (set marks slot 1) more)
-        stepped = let t = tested_ok (load s) first p g in opened ∙ good-step (load s) marks first more u t.0 t.1 l
+      module _ {slot : ℕ} (p : Some slot ≡ tested_slot (load s) (completion_of (drop (records_start + record_row * i) s))) where
+        pub pass_slot : {n : ℕ} → n ≡ clients_in s → n ≤ client_count → slot < length marks
+        pass_slot a f = let t = tested_ok (load s) first p in omega (arith, slot_few (load s) (few s a f) first t.0, t.1, o.long)
 
-        pub pass_seen : (get_or marks slot 0 ≡ 0 → ⊥) → false ≡ x
-        pass_seen q = sym (stepped ∙ rw (ne_eqb (get_or marks slot 0) 0 q))
+        stepped : x ≡ (not (get_or marks slot false) && records_pass (load s) end (set marks slot true) more)
+        stepped = let t = tested_ok (load s) first p in opened ∙ good-step (load s) marks first more u t.0 t.1 l
 
-        pub pass_next : get_or marks slot 0 ≡ 0 → Pass s m x (set marks slot 1) end (i + 1)
+        pub pass_seen : get_or marks slot false ≡ true → false ≡ x
+        pass_seen q = sym (stepped ∙ rw q)
+
+        pub pass_next : get_or marks slot false ≡ false → Pass s m x (set marks slot true) end (i + 1)
         pass_next q =
             record {
               below = omega arith;
-              long = length-set marks slot 1 ∙ o.long;
-              rest = stepped ∙ rw (eq-eqb (get_or marks slot 0) 0 q);
+              long = length-set marks slot true ∙ o.long;
+              rest = stepped ∙ rw q;
             }

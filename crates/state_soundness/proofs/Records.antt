@@ -5,15 +5,16 @@
 --     slot_point, slot_window, slot_all     what each exit of `record_slot` answers
 -- Assumes nothing.
 use Prim.Native.Nat.{ℕ, ◌+◌, ◌-◌, ◌*◌, ◌≤◌}
-use mathlib.Core.Path.{◌≡◌, refl, sym, ◌∙◌}
+use mathlib.Core.Path.{◌≡◌, refl, sym, ap, ◌∙◌}
 use mathlib.Core.Bool.{Bool, true, false, ◌&&◌, not, and_assoc, and-true, and-false}
 use mathlib.Core.List.{List}
 use native.Mathlib.Omega.{arith}
 use lib.ListN.{get_or, drop}
 use lib.Dec.{leb}
 use borrow.Author.Tests.{not-true, not-false}
+use Rattle.std.specs.Prelude.{None, Some}
 use Rattle.model.specs.declared.Completion.{Completion}
-use Rattle.model.specs.Limits.{head_size, call_window, floor_row, last_point, record_count, last_in_window}
+use Rattle.model.specs.Limits.{head_size, call_window, floor_row, last_point, last_in_window}
 use Rattle.model.specs.Tables.{rows}
 use Rattle.model.specs.Plan.{entry_at, in_range}
 use Rattle.model.specs.Packets.{id_ok, command_ok, outcome_ok}
@@ -60,11 +61,11 @@ module _ (s : List ℕ) (k : ℕ) {n size : ℕ} (a : n ≡ clients_in s) (b : s
   unfolding load
   parts = ok-parts (load s) r ∙ rw (f, a, b)
 
-  failed : completion_ok (load s) r ≡ false → record_count ≡ tested_slot (load s) (completion_of (drop k s))
+  failed : completion_ok (load s) r ≡ false → None ≡ tested_slot (load s) (completion_of (drop k s))
   unfolding tested_slot
   failed e = rw (← p, e)
 
-  pub slot_point : not u ≡ true → record_count ≡ tested_slot (load s) (completion_of (drop k s))
+  pub slot_point : not u ≡ true → None ≡ tested_slot (load s) (completion_of (drop k s))
   slot_point g = failed (parts ∙ rw (not-true u g))
 
   module _ (g : not u ≡ false) {i y : ℕ} (x : i ≡ place_of r.command.client (rows floor_of_bytes floor_row n (drop floors_start s)))
@@ -72,9 +73,9 @@ module _ (s : List ℕ) (k : ℕ) {n size : ℕ} (a : n ≡ clients_in s) (b : s
     parts_2 : completion_ok (load s) r ≡ t
     parts_2 = parts ∙ rw (not-false u g, ← floor-found r.command.client (rows floor_of_bytes floor_row n (drop floors_start s)) x z, ← l)
 
-    pub slot_window : not t ≡ true → record_count ≡ tested_slot (load s) (completion_of (drop k s))
+    pub slot_window : not t ≡ true → None ≡ tested_slot (load s) (completion_of (drop k s))
     slot_window d = failed (parts_2 ∙ not-true t d)
 
-    pub slot_all : not t ≡ false → {d : ℕ} → d ≡ r.command.call - y → call_window * i + d ≡ tested_slot (load s) (completion_of (drop k s))
+    pub slot_all : not t ≡ false → {d : ℕ} → d ≡ r.command.call - y → Some (call_window * i + d) ≡ tested_slot (load s) (completion_of (drop k s))
     unfolding tested_slot slot_in load
-    slot_all d c = slot_found (rows floor_of_bytes floor_row n (drop floors_start s)) r.command.client r.command.call x z c ∙ rw (← p, parts_2, not-false t d, a)
+    slot_all d c = ap (λ (slot : ℕ). Some slot) (slot_found (rows floor_of_bytes floor_row n (drop floors_start s)) r.command.client r.command.call x z c) ∙ rw (← p, parts_2, not-false t d, a)

@@ -27,10 +27,10 @@ use Rattle.state_clients.proofs.Slots.{slot_below, slot_id}
 use Rattle.state_soundness.specs.Slots.{at_point_ok, slot_in, is_free, slots_pass, records_pass}
 use Rattle.state_soundness.proofs.Records.{ok-parts}
 
-get_or-zeros : (n i : ℕ) → get_or {A = ℕ} (replicate n 0) i 0 ≡ 0
-get_or-zeros zero i = refl
-get_or-zeros (suc n) zero = refl
-get_or-zeros (suc n) (suc i) = get_or-zeros n i
+none_marked : (n i : ℕ) → get_or (replicate n false) i false ≡ false
+none_marked zero i = refl
+none_marked (suc n) zero = refl
+none_marked (suc n) (suc i) = none_marked n i
 
 windowed : (st : State) (r : Completion) → completion_ok st r ≡ true → InWindow (floor_of r.command.client st.floors) r.command.call
 windowed st r e =
@@ -57,21 +57,21 @@ module _ (st : State) (order : Ascending st.floors) where
       step false d e f = refl
 
   -- a slot is free after another was marked: the id is another, and the slot was free
-  marked-free : (marks : List ℕ) (r q : Completion) → slot_in st r < length marks → completion_ok st r ≡ true → completion_ok st q ≡ true
-      → is_free st (set marks (slot_in st r) 1) q ≡ (not (is_id r.command.client r.command.call q) && is_free st marks q)
+  marked-free : (marks : List Bool) (r q : Completion) → slot_in st r < length marks → completion_ok st r ≡ true → completion_ok st q ≡ true
+      → is_free st (set marks (slot_in st r) true) q ≡ (not (is_id r.command.client r.command.call q) && is_free st marks q)
   unfolding is_free is_id
   marked-free marks r q h e f = step (eqb (slot_in st q) (slot_in st r)) refl
     where
       step : (b : Bool) → eqb (slot_in st q) (slot_in st r) ≡ b
-          → eqb (get_or (set marks (slot_in st r) 1) (slot_in st q) 0) 0 ≡ (not (eqb q.command.client r.command.client && eqb q.command.call r.command.call) && eqb
-          (get_or marks (slot_in st q) 0) 0)
+          → not (get_or (set marks (slot_in st r) true) (slot_in st q) false) ≡ (not (eqb q.command.client r.command.client && eqb q.command.call r.command.call) && not
+          (get_or marks (slot_in st q) false))
       step true p =
           let s : slot_in st q ≡ slot_in st r = eqb-true (slot_in st q) (slot_in st r) p in
           let i = same_id r q e f s in
-          rw (s, get_or-set_same marks (slot_in st r) 1 0 h, eq-eqb q.command.client r.command.client i.0, eq-eqb q.command.call r.command.call i.1)
+          rw (s, get_or-set_same marks (slot_in st r) true false h, eq-eqb q.command.client r.command.client i.0, eq-eqb q.command.call r.command.call i.1)
       step false p =
           let n : slot_in st q ≡ slot_in st r → ⊥ = eqb-false (slot_in st q) (slot_in st r) p in
-          rw (get_or-set_other marks (slot_in st r) (slot_in st q) 1 0 n, other-id r q n)
+          rw (get_or-set_other marks (slot_in st r) (slot_in st q) true false n, other-id r q n)
 
 module _ {A : Type 0} (t a b : A → Bool) where
   every-both : (rs : List A) → All (λ q. t q ≡ (a q && b q)) rs → every t rs ≡ (every a rs && every b rs)
@@ -87,23 +87,23 @@ module _ {A : Type 0} (t a b : A → Bool) where
       mixed false y z w = refl
 
 module _ (st : State) (order : Ascending st.floors) (few : length st.floors ≤ client_count) where
-  free-after : (marks : List ℕ) (r : Completion) (rs : List Completion) → record_count ≤ length marks → completion_ok st r ≡ true → every (completion_ok st) rs ≡ true
-      → every (is_free st (set marks (slot_in st r) 1)) rs ≡ (every (λ q. not (is_id r.command.client r.command.call q)) rs && every (is_free st marks) rs)
+  free-after : (marks : List Bool) (r : Completion) (rs : List Completion) → record_count ≤ length marks → completion_ok st r ≡ true → every (completion_ok st) rs ≡ true
+      → every (is_free st (set marks (slot_in st r) true)) rs ≡ (every (λ q. not (is_id r.command.client r.command.call q)) rs && every (is_free st marks) rs)
   free-after marks r rs h e f =
-      every-both (is_free st (set marks (slot_in st r) 1)) (λ q. not (is_id r.command.client r.command.call q)) (is_free st marks) rs
-      (all_map (λ q. completion_ok st q ≡ true) (λ q. is_free st (set marks (slot_in st r) 1) q ≡ (not (is_id r.command.client r.command.call q) && is_free st marks q))
+      every-both (is_free st (set marks (slot_in st r) true)) (λ q. not (is_id r.command.client r.command.call q)) (is_free st marks) rs
+      (all_map (λ q. completion_ok st q ≡ true) (λ q. is_free st (set marks (slot_in st r) true) q ≡ (not (is_id r.command.client r.command.call q) && is_free st marks q))
       (λ q g. marked-free st order marks r q (omega (arith, slot_few st few r e)) e g) rs (every_all (completion_ok st) rs f))
 
-  pub slots_ids : (marks : List ℕ) (rs : List Completion) → record_count ≤ length marks
+  pub slots_ids : (marks : List Bool) (rs : List Completion) → record_count ≤ length marks
       → slots_pass st marks rs ≡ (every (completion_ok st) rs && (ids_differ rs && every (is_free st marks) rs))
   unfolding slots_pass every ids_differ
   slots_ids marks [] h = refl
   slots_ids marks (r ∷ rs) h =
-      rw (slots_ids (set marks (slot_in st r) 1) rs (omega (arith, length-set marks (slot_in st r) 1)))
+      rw (slots_ids (set marks (slot_in st r) true) rs (omega (arith, length-set marks (slot_in st r) true)))
       (step (completion_ok st r) (every (completion_ok st) rs) refl refl)
     where
       x : Bool
-      x = every (is_free st (set marks (slot_in st r) 1)) rs
+      x = every (is_free st (set marks (slot_in st r) true)) rs
 
       n : Bool
       n = every (λ q. not (is_id r.command.client r.command.call q)) rs
@@ -127,15 +127,15 @@ module _ (st : State) (order : Ascending st.floors) (few : length st.floors ≤ 
       step true false e f = and-false (is_free st marks r)
       step false b e f = refl
 
-  pub slots_start : (rs : List Completion) → slots_pass st (replicate record_count 0) rs ≡ (every (completion_ok st) rs && ids_differ rs)
+  pub slots_start : (rs : List Completion) → slots_pass st (replicate record_count false) rs ≡ (every (completion_ok st) rs && ids_differ rs)
   unfolding is_free
   slots_start rs =
-      slots_ids (replicate record_count 0) rs (omega (arith, length-replicate {A = ℕ} record_count 0))
-      ∙ rw (all_every (is_free st (replicate record_count 0)) rs (all_free rs), and-true (ids_differ rs))
+      slots_ids (replicate record_count false) rs (omega (arith, length-replicate record_count false))
+      ∙ rw (all_every (is_free st (replicate record_count false)) rs (all_free rs), and-true (ids_differ rs))
     where
-      all_free : (qs : List Completion) → All (λ q. is_free st (replicate record_count 0) q ≡ true) qs
+      all_free : (qs : List Completion) → All (λ q. is_free st (replicate record_count false) q ≡ true) qs
       all_free [] = tt
-      all_free (q ∷ qs) = (ap (λ (i : ℕ). eqb i 0) (get_or-zeros record_count (slot_in st q)), all_free qs)
+      all_free (q ∷ qs) = (ap not (none_marked record_count (slot_in st q)), all_free qs)
 
 -- ---- with the order of arrival
 
@@ -145,10 +145,10 @@ sorted false e c f p = refl
 sorted true true c f p = refl
 sorted true false c f p = rw (and-false f, and-false c)
 
-pub pass_order : (st : State) (last : ℕ) (marks : List ℕ) (rs : List Completion) → records_pass st last marks rs ≡ (ends_from last rs && slots_pass st marks rs)
+pub pass_order : (st : State) (last : ℕ) (marks : List Bool) (rs : List Completion) → records_pass st last marks rs ≡ (ends_from last rs && slots_pass st marks rs)
 unfolding records_pass ends_from slots_pass
 pass_order st last marks [] = refl
 pass_order st last marks (r ∷ rs) =
-    let next : List ℕ = set marks (slot_in st r) 1 in
+    let next : List Bool = set marks (slot_in st r) true in
     rw (pass_order st r.end next rs)
     (sorted (leb last r.end) (ends_from r.end rs) (completion_ok st r) (is_free st marks r) (slots_pass st next rs))

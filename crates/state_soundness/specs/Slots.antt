@@ -1,6 +1,6 @@
 -- One pass over the completion records: each passes its test and finds its slot free. A record's slot stands for its id.
 -- Assumes nothing.
-use Rattle.std.specs.Prelude.{ℕ, suc, ◌+◌, ◌%◌, ◌≤◌, ◌≡◌, Bool, true, ◌&&◌, List, [], ◌∷◌, length, get_or, set, drop, eqb, leb}
+use Rattle.std.specs.Prelude.{ℕ, suc, ◌+◌, ◌%◌, ◌≤◌, ◌≡◌, Bool, true, false, ◌&&◌, not, List, [], ◌∷◌, length, get_or, set, drop, leb, Option, None, Some}
 use Rattle.model.specs.declared.Floor.{Floor}
 use Rattle.model.specs.declared.Completion.{Completion}
 use Rattle.model.specs.Choice.{pick}
@@ -28,24 +28,24 @@ at_point_ok size st r =
 unfoldable pub slot_in : State → Completion → ℕ
 slot_in st r = slot_of st.floors r.command.client r.command.call
 
--- the slot of a record that passes its test, else the number of slots
-unfoldable pub tested_slot : State → Completion → ℕ
-tested_slot st r = pick (completion_ok st r) (slot_in st r) record_count
+-- the slot of a record that passes its test
+unfoldable pub tested_slot : State → Completion → Option ℕ
+tested_slot st r = pick (completion_ok st r) (Some (slot_in st r)) None
 
 -- the slot of r is not marked
-unfoldable pub is_free : State → List ℕ → Completion → Bool
-is_free st marks r = eqb (get_or marks (slot_in st r) 0) 0
+unfoldable pub is_free : State → List Bool → Completion → Bool
+is_free st marks r = not (get_or marks (slot_in st r) false)
 
--- each record passes its test, its slot is free, and is then marked with 1; the order of arrival apart
-unfoldable pub slots_pass : State → List ℕ → List Completion → Bool
+-- each record passes its test, its slot is free, and is then marked; the order of arrival apart
+unfoldable pub slots_pass : State → List Bool → List Completion → Bool
 slots_pass st marks [] = true
-slots_pass st marks (r ∷ rs) = completion_ok st r && (is_free st marks r && slots_pass st (set marks (slot_in st r) 1) rs)
+slots_pass st marks (r ∷ rs) = completion_ok st r && (is_free st marks r && slots_pass st (set marks (slot_in st r) true) rs)
 
 -- in order of arrival too: no end is below the one before, `last`
-unfoldable pub records_pass : State → ℕ → List ℕ → List Completion → Bool
+unfoldable pub records_pass : State → ℕ → List Bool → List Completion → Bool
 records_pass st last marks [] = true
 records_pass st last marks (r ∷ rs) =
-    leb last r.end && (completion_ok st r && (is_free st marks r && records_pass st r.end (set marks (slot_in st r) 1) rs))
+    leb last r.end && (completion_ok st r && (is_free st marks r && records_pass st r.end (set marks (slot_in st r) true) rs))
 
 -- the test of all records
 unfoldable pub records_ok : State → Bool

@@ -62,21 +62,21 @@ fn at_point_ok(s: &[u8], size: u64, r: Completion) -> bool
     state_sound_rows::keeps_records(x)
 }
 
-// The slot of the record from k, 512 where it does not pass its test.
-fn record_slot(s: &[u8], n: usize, size: u64, hint: usize, k: usize) -> usize
+// The slot of the record from k, if it passes its test.
+fn record_slot(s: &[u8], n: usize, size: u64, hint: usize, k: usize) -> Option<usize>
     requires { RecordPlaced s.now n size k }
     ensures { result ≡ tested_slot (load s.now) (completion_of (drop k s.now)) }
 {
     let r = state_rows::completion_from(s, k);
     if !at_point_ok(s, size, r) {
-        return RECORD_COUNT;
+        return None;
     }
     let i = place_by(s, n, r.command.client, hint);
     let floor = floors::floor_at(s, FLOORS_START, n, i);
     if !format_floors::in_window(floor, r.command.call) {
-        return RECORD_COUNT;
+        return None;
     }
-    constants::CALL_WINDOW * i + floors::call_above(r.command.call, floor)
+    Some(constants::CALL_WINDOW * i + floors::call_above(r.command.call, floor))
 }
 
 // ---- all completion records
@@ -89,12 +89,10 @@ fn hints_of(s: &[u8], n: usize) -> [u8; 256]
         (drop floors_start s.now)) }
 {
     let mut hints = [0u8; 256];
-    let mut i = 0;
-    while i < n {
+    for i in 0..n {
         let f = format_floors::floor_from(s, FLOORS_START + FLOOR_ROW * i);
         let j = (f.client % 256) as usize;
         hints[j] = i as u8;
-        i += 1;
     }
     hints
 }
@@ -113,26 +111,23 @@ fn records_ok(s: &[u8], n: usize, count: usize, size: u64) -> bool
     ensures { result ≡ records_ok (load s.now) }
 {
     let hints = hints_of(s, n);
-    let mut marks = [0u8; RECORD_COUNT];
+    let mut marks = [false; RECORD_COUNT];
     let mut last = constants::HEAD_SIZE_U64;
-    let mut i = 0;
-    while i < count {
+    for i in 0..count {
         let k = RECORDS_START + RECORD_ROW * i;
         let end = end_in(s, k);
         if end < last {
             return false;
         }
         let j = (format_numbers::read_u32(s, k) % 256) as usize;
-        let slot = record_slot(s, n, size, hints[j] as usize, k);
-        if RECORD_COUNT <= slot {
+        let Some(slot) = record_slot(s, n, size, hints[j] as usize, k) else {
+            return false;
+        };
+        if marks[slot] {
             return false;
         }
-        if marks[slot] != 0 {
-            return false;
-        }
-        marks[slot] = 1;
+        marks[slot] = true;
         last = end;
-        i += 1;
     }
     true
 }

@@ -5,4 +5,4 @@ use Rattle.client.proofs.call_at.Goals as goal
 
 pub returns : goal.returns
 unfolding call_at
-returns c = rw c.place_of-i.ensures.0 refl
+returns c = rw c.place_of.ensures.0 refl

@@ -12,4 +12,4 @@ returns-then-old-opened c =
 
 pub returns : goal.returns
 unfolding first_open with_call with_calls
-returns c = rw (c.least_open.ensures.0, c.placed-out.ensures, add-one) refl
+returns c = rw (c.least_open.ensures.0, c.placed.ensures, add-one) refl

@@ -1,16 +1,18 @@
 -- What is left to show of `client::least_open`.
-use mathlib.Core.Path.{refl, sym, ◌∙◌}
+use mathlib.Core.Path.{◌∙◌}
+use mathlib.Core.Bool.{◌&&◌}
+use lib.Dec.{leb, ltb}
 use borrow.Author.Rules.{rules}
-use native.Mathlib.Omega.{arith}
-use Rattle.client.proofs.Places.{least_step, least-end}
+use Rattle.std.proofs.Common.{tests}
+use Rattle.std.proofs.lemmas.Iterator.{YieldsList-from_slice}
+use Rattle.std.proofs.lemmas.Iterator.Consumers.{fold_from_yields_List}
+use Rattle.model.specs.Choice.{pick}
+use Rattle.client.proofs.Places.{least_folded}
 use Rattle.client.proofs.least_open.Goals as goal
 
-pub loop-i-init : goal.loop-i-init
-loop-i-init c = (omega arith, search rules, refl)
-
-pub loop-i-preserved : goal.loop-i-preserved
-loop-i-preserved c =
-    let l = c.loop-i in (omega arith, omega arith, l.invariant.2 ∙ least_step l.least c.args.ks l.i (omega arith) c.lesser-least.ensures)
-
 pub returns : goal.returns
-returns c = let l = c.loop-i in (sym (l.invariant.2 ∙ least-end l.least c.args.ks l.i (omega arith)), l.invariant.1)
+returns c =
+    let folded =
+    fold_from_yields_List _ (λ least k. pick (leb 1 k.call && ltb k.call least) k.call least) c.args.next _ c.fold.ensures.ran (YieldsList-from_slice c.args.ks cc)
+    (λ a x b q k. search (rules, tests)) in
+    (folded ∙ least_folded c.args.next c.args.ks, search rules)

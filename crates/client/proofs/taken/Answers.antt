@@ -1,31 +1,27 @@
 -- What is left to show of `client::taken`.
-use mathlib.Core.Path.{ap, sym, ◌∙◌, subst}
-use Rattle.model.specs.Clients.{call_at, receive_with}
-use Rattle.client.specs.Changes.{OfCall}
+use mathlib.Core.Path.{◌≡◌, sym, ◌∙◌}
+use native.Mathlib.Omega.{arith}
+use Rattle.model.specs.Refusals.{unknown}
+use Rattle.model.specs.Clients.{not_received, receive_with}
 use Rattle.client.proofs.Others.{not_taken}
+use Rattle.client.proofs.Answers.{result_own, refusal-own, grant-later, result-unknown, refusal-unknown, grant-unknown}
+use Rattle.client.proofs.taken.Goals.{in-Resulted, in-Refused, in-Granted}
 use Rattle.client.proofs.taken.Goals as goal
-
-pub result_change-requires : goal.result_change-requires
-result_change-requires c =
-    c.requires.0 ∙ ap (call_at c.args.d) (subst (OfCall c.args.c) c.in-Resulted.is c.requires.1)
-
-pub refusal_change-requires : goal.refusal_change-requires
-refusal_change-requires c =
-    c.requires.0 ∙ ap (call_at c.args.d) (subst (OfCall c.args.c) c.in-Refused.is c.requires.1)
-
-pub returns-in-Resulted : goal.returns-in-Resulted
-unfolding receive_with
-returns-in-Resulted c =
-    rw (subst (OfCall c.args.c) c.in-Resulted.is c.requires.1, c.in-Resulted.is) c.result_change.ensures
-
-pub returns-in-Refused : goal.returns-in-Refused
-unfolding receive_with
-returns-in-Refused c =
-    rw (subst (OfCall c.args.c) c.in-Refused.is c.requires.1, c.in-Refused.is) c.refusal_change.ensures
-
-pub returns-in-Granted : goal.returns-in-Granted
-unfolding receive_with
-returns-in-Granted c = rw c.in-Granted.is c.grant_change.ensures
 
 pub returns-in_default : goal.returns-in_default
 returns-in_default c = let start = c.args in c.not_received.ensures ∙ sym (not_taken start.d start.packet c.in_default.not-Resulted c.in_default.not-Refused c.in_default.not-Granted)
+
+pub returns-in-Resulted-2 : goal.returns-in-Resulted-2
+returns-in-Resulted-2 c =
+    let start = c.args in
+    let unknown : not_received start.d unknown ≡ receive_with start.d start.packet = grind (arith, result-unknown, refusal-unknown, grant-unknown) in
+    c.not_received-in-Resulted-2.ensures ∙ unknown
+
+pub returns : goal.returns
+returns c =
+    let start = c.args in
+    elim c.match-packet.branch [
+      | in-Resulted w ↦ rw w.lease-is (result_own start.d start.c c.requires.1 c.requires.0 _ w.in-Resulted.is w.if-is_own.ensures w.no_call.ensures)
+      | in-Refused w ↦ rw w.lease-is (refusal-own start.d start.c c.requires.1 c.requires.0 _ w.in-Refused.is w.if-is_own-2.ensures)
+      | in-Granted w ↦ rw w.lease-is (grant-later start.d start.c c.requires.1 c.requires.0 _ w.in-Granted.is w.if-grant-d.true)
+    ]

@@ -6,7 +6,7 @@ pub returns-in-NotTold : goal.returns-in-NotTold
 returns-in-NotTold c = rw c.in-NotTold.is (lease-none _)
 
 pub returns-in-ByGrant : goal.returns-in-ByGrant
-returns-in-ByGrant c = rw c.in-ByGrant.is (lease-grant _ c.grant_packet-packet.ensures)
+returns-in-ByGrant c = rw c.in-ByGrant.is (lease-grant _ c.grant_packet.ensures)
 
 pub returns-in-ByNotice : goal.returns-in-ByNotice
-returns-in-ByNotice c = rw c.in-ByNotice.is (lease-notice _ c.notice_packet-packet.ensures)
+returns-in-ByNotice c = rw c.in-ByNotice.is (lease-notice _ c.notice_packet.ensures)

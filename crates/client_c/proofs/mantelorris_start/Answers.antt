@@ -1,9 +1,13 @@
 -- What is left to show of `client_c::mantelorris_start`.
-use Rattle.model.specs.Packets.{parse_packet}
-use Rattle.model.specs.Clients.{start_of}
-use Rattle.client_c.proofs.Cases.{start-reply}
+use borrow.Author.Rules.{rules}
+use Rattle.model.specs.Clients.{start_number}
+use Rattle.client_c.specs.Replies.{start_reply}
 use Rattle.client_c.proofs.mantelorris_start.Goals as goal
 
-pub returns : goal.returns
-unfolding start_of
-returns c = rw (c.start_fields-fields.ensures, c.whole_place-none.ensures) (start-reply (parse_packet _))
+pub returns-in-Ok : goal.returns-in-Ok
+unfolding start_reply start_number
+returns-in-Ok c = search rules
+
+pub returns-in-Err : goal.returns-in-Err
+unfolding start_reply start_number
+returns-in-Err c = search rules

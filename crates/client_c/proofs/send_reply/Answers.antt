@@ -6,4 +6,4 @@ pub returns-in-NotSent : goal.returns-in-NotSent
 returns-in-NotSent c = rw c.in-NotSent.is (reply-none _)
 
 pub returns-in-Asked : goal.returns-in-Asked
-returns-in-Asked c = rw c.in-Asked.is (reply-request _ c.request_packet-packet.ensures)
+returns-in-Asked c = rw c.in-Asked.is (reply-request _ c.request_packet.ensures)

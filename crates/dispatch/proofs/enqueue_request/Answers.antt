@@ -2,11 +2,11 @@
 use Rattle.dispatch.proofs.Answers.{room, not-taken_in, taken_in_lem}
 use Rattle.dispatch.proofs.enqueue_request.Goals as goal
 
-pub returns-then-refusal-ne0 : goal.returns-then-refusal-ne0
-returns-then-refusal-ne0 c = search not-taken_in depth 8
+pub with_last-requires : goal.with_last-requires
+with_last-requires c = room _ _ c.in-Ok.ensures
 
-pub with_last-next-requires : goal.with_last-next-requires
-with_last-next-requires c = search room depth 8
+pub returns-in-Ok : goal.returns-in-Ok
+returns-in-Ok c = taken_in_lem _ _ c.in-Ok.ensures c.with_last.ensures
 
-pub returns : goal.returns
-returns c = search taken_in_lem depth 8
+pub returns-in-Err : goal.returns-in-Err
+returns-in-Err c = not-taken_in _ _ _ c.in-Err.ensures c.number.ensures

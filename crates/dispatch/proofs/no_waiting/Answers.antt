@@ -5,4 +5,4 @@ use Rattle.dispatch.proofs.no_waiting.Goals as goal
 
 pub returns : goal.returns
 unfolding no_waiting
-returns c = rw c.no_request-free.ensures refl
+returns c = rw c.no_request.ensures refl

@@ -6,8 +6,8 @@ use Rattle.dispatch.proofs.Places.{count-least}
 use Rattle.dispatch.proofs.without_first.Goals as goal
 
 pub overflow_sub-result : goal.overflow_sub-result
-overflow_sub-result c = omega (arith, count-least c.args.dispatcher c.requires, c.waiting_count-count.ensures)
+overflow_sub-result c = omega (arith, count-least c.args.dispatcher c.requires, c.waiting_count.ensures)
 
 pub returns : goal.returns
 unfolding shifted
-returns c = rw (c.moved_up-moved.ensures, c.waiting_count-count.ensures) refl
+returns c = rw (c.moved_up.ensures, c.waiting_count.ensures) refl

@@ -3,9 +3,6 @@ use mathlib.Core.Path.{refl}
 use Rattle.model.specs.Packets.{time_at}
 use Rattle.format_numbers.proofs.time_at.Goals as goal
 
-pub read_u32-requires : goal.read_u32-requires
-read_u32-requires c = c.requires c.if-timed.true
-
 pub returns-then-timed : goal.returns-then-timed
 unfolding time_at
 returns-then-timed c = rw c.if-timed.true c.read_u32.ensures

@@ -4,4 +4,4 @@ use Rattle.leases.specs.Changes.{answered}
 use Rattle.leases.proofs.answered.Goals as goal
 
 pub returns : goal.returns
-returns c = unfold answered in rw c.stored-next.ensures refl
+returns c = unfold answered in rw c.stored.ensures refl

@@ -1,29 +1,11 @@
 -- What is left to show of `simulator_text::find`.
-use mathlib.Core.Path.{sym}
-use native.Mathlib.Omega.{arith}
-use native.Mathlib.Nat.{zero-add}
-use Rattle.simulator_text.proofs.Fields.{first-here, first_next, first-end}
+use Rattle.std.proofs.Common.{eqb, rules, tests}
+use Rattle.std.proofs.lemmas.Iterator.{YieldsList-from_slice}
+use Rattle.std.proofs.lemmas.Iterator.Search.{position_from_yields_List}
+use Rattle.simulator_text.proofs.Fields.{first-found}
 use Rattle.simulator_text.proofs.find.Goals as goal
 
-pub loop-i-init : goal.loop-i-init
-loop-i-init c = (omega arith, sym (zero-add _))
-
-pub bounds-s-i : goal.bounds-s-i
-bounds-s-i c = omega arith
-
-pub returns-then-s-i : goal.returns-then-s-i
-returns-then-s-i c = let l = c.loop-i in let a = c.args in let f = first-here a.b a.s.now l.i (omega arith)
-    c.if-s-i.true in (omega (arith, l.invariant.1, f), omega arith)
-
-pub overflow_add-i : goal.overflow_add-i
-overflow_add-i c = omega arith
-
-pub loop-i-smaller : goal.loop-i-smaller
-loop-i-smaller c = omega arith
-
-pub loop-i-preserved : goal.loop-i-preserved
-loop-i-preserved c = let l = c.loop-i in let a = c.args in let f = first_next a.b a.s.now l.i (omega arith)
-    c.if-s-i.false in (omega arith, omega (arith, l.invariant.1, f))
-
 pub returns : goal.returns
-returns c = let l = c.loop-i in let a = c.args in let f = first-end a.b a.s.now l.i (omega arith) in (omega (arith, l.invariant.1, f), omega arith)
+returns c =
+    first-found c.args.b c.args.s.now c.unwrap_or.ensures
+    (position_from_yields_List (λ x. eqb x c.args.b) _ _ _ c.position.ensures.ran (YieldsList-from_slice c.args.s.now cc) (λ x b q k. search (rules, tests)))

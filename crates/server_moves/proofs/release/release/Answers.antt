@@ -6,16 +6,16 @@ use Rattle.server_moves.proofs.Chains.{release-is, release-placed}
 use borrow.Author.Rules.{rules}
 use Rattle.server_moves.proofs.release.release.Goals as goal
 
-pub returns-then-refusal-ne0 : goal.returns-then-refusal-ne0
-returns-then-refusal-ne0 c =
+pub returns-in_err-lent_refusal : goal.returns-in_err-lent_refusal
+returns-in_err-lent_refusal c =
     let a = c.args in
-    by_refused a.s.now a.log.now [] _ c.lent_refusal-refusal.ensures c.if-refusal-ne0.true c.refused.ensures
+    by_refused a.s.now a.log.now [] _ _ c.in_err-lent_refusal.ensures _ c.from_residual.ensures.1
     ∙ sym (release-is a.s.now a.log.now a.packet.now)
 
 pub release_on-requires : goal.release_on-requires
 release_on-requires c = (
-  passed-canonical _ _ _ _ c.lent_refusal-refusal.ensures c.if-refusal-ne0.false (search rules),
-  (passed-fit _ _ _ _ c.lent_refusal-refusal.ensures c.if-refusal-ne0.false).logged,
+  passed-canonical _ _ _ _ c.in_ok-lent_refusal.ensures (search rules),
+  (passed-fit _ _ _ _ c.in_ok-lent_refusal.ensures).logged,
   release-placed c.args.packet.now (search rules)
       c.parse_packet-parsed.ensures,
 )
@@ -23,5 +23,5 @@ release_on-requires c = (
 pub returns : goal.returns
 returns c =
     let a = c.args in
-    by_passed a.s.now a.log.now [] _ c.lent_refusal-refusal.ensures c.if-refusal-ne0.false (c.release_on.ensures ∙ rw c.parse_packet-parsed.ensures)
+    by_passed a.s.now a.log.now [] _ c.in_ok-lent_refusal.ensures (c.release_on.ensures ∙ rw c.parse_packet-parsed.ensures)
     ∙ sym (release-is a.s.now a.log.now a.packet.now)

@@ -7,30 +7,31 @@ use Rattle.server_moves.proofs.Taken.{take-is, take-malformed, take_read, taking
 use borrow.Author.Rules.{rules}
 use Rattle.server_moves.proofs.take.take.Goals as goal
 
-pub returns-then-refusal-ne0 : goal.returns-then-refusal-ne0
-returns-then-refusal-ne0 c =
+pub returns-in_err-lent_refusal : goal.returns-in_err-lent_refusal
+returns-in_err-lent_refusal c =
     let a = c.args in
-    by_refused a.s.now a.log.now [] _ c.lent_refusal-refusal.ensures c.if-refusal-ne0.true c.refused.ensures
+    by_refused a.s.now a.log.now [] _ _ c.in_err-lent_refusal.ensures _ c.from_residual.ensures.1
+    ∙ sym (take-is a.s.now a.log.now a.image.now)
+
+pub returns-in_err-h : goal.returns-in_err-h
+returns-in_err-h c =
+    let a = c.args in
+    by_passed a.s.now a.log.now [] _ c.in_ok-lent_refusal.ensures
+    (take-malformed a.s.now a.log.now a.image.now (sym c.in_err-h.ensures.ok_part ∙ c.image_read.ensures)
+    (rw c.in_err-h.ensures.ok_part at c.in_err-h.ensures.value) _ c.from_residual-in_err-h.ensures.1)
     ∙ sym (take-is a.s.now a.log.now a.image.now)
 
 pub take_by-requires : goal.take_by-requires
 take_by-requires c =
     let a = c.args in
-    taking a.s.now a.log.now a.image.now _ (passed-fit _ _ _ _ c.lent_refusal-refusal.ensures c.if-refusal-ne0.false) (search rules)
+    taking a.s.now a.log.now a.image.now _ (passed-fit _ _ _ _ c.in_ok-lent_refusal.ensures) (search rules)
     (search rules)
-    (sym c.in-Some.is ∙ c.image_read-read.ensures)
+    (sym c.in_ok-h.ensures.ok_part ∙ c.image_read.ensures)
 
-pub returns-in-None : goal.returns-in-None
-returns-in-None c =
+pub returns : goal.returns
+returns c =
     let a = c.args in
-    by_passed a.s.now a.log.now [] _ c.lent_refusal-refusal.ensures c.if-refusal-ne0.false
-    (take-malformed a.s.now a.log.now a.image.now (sym c.in-None.is ∙ c.image_read-read.ensures) c.refused-in-None.ensures)
-    ∙ sym (take-is a.s.now a.log.now a.image.now)
-
-pub returns-in-Some : goal.returns-in-Some
-returns-in-Some c =
-    let a = c.args in
-    by_passed a.s.now a.log.now [] _ c.lent_refusal-refusal.ensures c.if-refusal-ne0.false
+    by_passed a.s.now a.log.now [] _ c.in_ok-lent_refusal.ensures
     (c.take_by.ensures ∙ sym (ap (settle a.s.now a.log.now []) (take_read a.s.now a.log.now
-    a.image.now _ (sym c.in-Some.is ∙ c.image_read-read.ensures))))
+    a.image.now _ (sym c.in_ok-h.ensures.ok_part ∙ c.image_read.ensures))))
     ∙ sym (take-is a.s.now a.log.now a.image.now)

@@ -21,4 +21,4 @@ apply_took-requires c =
 pub returns : goal.returns
 returns c =
     let a = c.args in take_settled a.s.now a.log.now a.image.now a.h c.requires.0 c.size_of-size.ensures c.apply_took.ensures
-    c.append_take.ensures c.made.ensures
+    c.append_take.ensures

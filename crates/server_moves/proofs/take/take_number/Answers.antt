@@ -4,37 +4,15 @@ use mathlib.Core.Path.{◌∙◌}
 use Rattle.model.specs.Images.{image_at}
 use Rattle.model.specs.Decisions.{take_tests}
 use Rattle.server_moves.proofs.Taken.{take_sized}
-use borrow.Author.Rules.{rules}
 use Rattle.server_moves.proofs.take.take_number.Goals as goal
-
-pub is_ranged-ranged-requires : goal.is_ranged-ranged-requires
-is_ranged-ranged-requires c = search rules
 
 pub ids_free-unheld-requires : goal.ids_free-unheld-requires
 ids_free-unheld-requires c =
     (c.requires.canonical, c.requires.state.ids, omega (arith, c.requires.size))
 
-pub overflow_cast-h : goal.overflow_cast-h
-overflow_cast-h c = search rules
-
 pub merged_count-merged-requires : goal.merged_count-merged-requires
 unfolding image_at
 merged_count-merged-requires c = (c.requires.canonical, omega (arith, c.requires.size), c.requires.ascending)
-
-pub point_at-x-requires : goal.point_at-x-requires
-point_at-x-requires c = search rules
-
-pub server_of-server-requires : goal.server_of-server-requires
-server_of-server-requires c = search rules
-
-pub free_in-free-requires : goal.free_in-free-requires
-free_in-free-requires c = search rules
-
-pub overflow_add-image : goal.overflow_add-image
-overflow_add-image c = search rules
-
-pub take_refusal-requires : goal.take_refusal-requires
-take_refusal-requires c = search rules
 
 pub returns : goal.returns
 unfolding take_tests image_at

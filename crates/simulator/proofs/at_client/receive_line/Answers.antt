@@ -12,10 +12,10 @@ returns-in_default c =
 
 pub receive_row-requires : goal.receive_row-requires
 receive_row-requires c =
-    let f = filled_row _ c.place_of-place.ensures.1 c.in-Row.is in
+    let f = filled_row _ c.place_of-place.ensures.1 c.in-Some.is in
     omega (arith, f, c.requires.rows)
 
 pub returns : goal.returns
 returns c =
     let a = c.args in
-    (receive-made _ _ _ (c.place_of-place.ensures.0 a.store.now) _ c.in-Row.is c.receive_row.ensures.0, c.receive_row.ensures.1)
+    (receive-made _ _ _ (c.place_of-place.ensures.0 a.store.now) _ c.in-Some.is c.receive_row.ensures.0, c.receive_row.ensures.1)

@@ -12,9 +12,9 @@ returns-in_default c =
 
 pub deliver_row-requires : goal.deliver_row-requires
 deliver_row-requires c =
-    (c.requires, filled_row _ c.place_of-place.ensures.1 c.in-Row.is)
+    (c.requires, filled_row _ c.place_of-place.ensures.1 c.in-Some.is)
 
 pub returns : goal.returns
 returns c =
     let a = c.args in
-    (deliver-made _ _ _ (c.place_of-place.ensures.0 a.store.now) _ _ c.in-Row.is c.deliver_row.ensures.0, c.deliver_row.ensures.1)
+    (deliver-made _ _ _ (c.place_of-place.ensures.0 a.store.now) _ _ c.in-Some.is c.deliver_row.ensures.0, c.deliver_row.ensures.1)

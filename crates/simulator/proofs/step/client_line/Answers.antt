@@ -1,25 +1,16 @@
 -- What is left to show of `simulator::step::client_line`.
-use Rattle.simulator.proofs.Ran.{first-client, second-client, no_such_client, same_count}
+use mathlib.Core.Path.{sym, ◌∙◌}
+use Rattle.simulator.proofs.Ran.{ran-at-client, no_such_client, same_memory}
 use Rattle.simulator.proofs.step.client_line.Goals as goal
 
-pub returns-then-number-eq0 : goal.returns-then-number-eq0
-returns-then-number-eq0 c =
+pub returns-in_default : goal.returns-in_default
+returns-in_default c =
     let a = c.args in
-    rw c.after_first.ensures
-    ((λ s0 l0 s1 l1. first-client s0 l0 s1 l1 a.store.now _ a.memory a.number a.line c.client_step-made.result c.if-number-eq0.true c.client_step-made.ensures.0), c.client_step-made.ensures.1)
-
-pub returns-then-number-eq1 : goal.returns-then-number-eq1
-returns-then-number-eq1 c =
-    let a = c.args in
-    rw c.after_second.ensures (
-      (λ s0 l0 s1 l1. second-client s0 l0 s1 l1 a.store.now _ a.memory a.number a.line c.client_step-made-then-number-eq1.result c.if-number-eq1.true
-          c.client_step-made-then-number-eq1.ensures.0),
-      c.client_step-made-then-number-eq1.ensures.1,
-    )
+    let e = c.malformed.ensures in
+    ((λ s0 l0 s1 l1. no_such_client s0 l0 s1 l1 a.store.now a.store.now a.memory a.number {r = c.malformed.result} a.line (sym c.client_of.ensures ∙ c.in_default.is) e.0 e.1), same_memory c.malformed.result e.0)
 
 pub returns : goal.returns
 returns c =
     let a = c.args in
-    let e = c.told-made.ensures in
-    rw c.after_server.ensures
-    ((λ s0 l0 s1 l1. no_such_client s0 l0 s1 l1 a.store.now a.store.now a.memory a.number a.line c.told-made.result c.if-number-eq0.false c.if-number-eq1.false e.0 e.1), same_count e.0)
+    let e = c.client_step-made.ensures in
+    rw c.after_client.ensures ((λ s0 l0 s1 l1. ran-at-client s0 l0 s1 l1 a.store.now _ a.memory a.number a.line c.client_step-made.result (sym c.client_of.ensures ∙ c.in-Some.is) e.0), e.1)

@@ -1,20 +1,19 @@
 -- What is left to show of `simulator::step::step`.
-use Rattle.simulator.proofs.Ran.{no_line, same_count}
+use Rattle.simulator.proofs.Ran.{no_line, same_memory}
 use Rattle.simulator.proofs.step.step.Goals as goal
 
-pub returns-in-Unreadable : goal.returns-in-Unreadable
-returns-in-Unreadable c =
+pub returns-in_default : goal.returns-in_default
+returns-in_default c =
     let a = c.args in
-    let e = c.told.ensures in
-    rw (c.after_server.ensures, c.in-Unreadable.is)
-    (no_line a.s0.now a.log0.now a.s1.now a.log1.now a.store.now a.memory c.told.result e.0 e.1, same_count e.0)
+    let e = c.malformed.ensures in
+    rw c.in_default.is (no_line a.s0.now a.log0.now a.s1.now a.log1.now a.store.now a.memory {r = c.malformed.result} e.0 e.1, same_memory c.malformed.result e.0)
 
 pub returns-in-AtServer : goal.returns-in-AtServer
 returns-in-AtServer c =
-    rw c.in-AtServer.is c.server_line.ensures
+    rw (c.in-Some.is, c.in-AtServer.is) c.server_line.ensures
 
 pub returns-in-AtClient : goal.returns-in-AtClient
 returns-in-AtClient c =
     let a = c.args in
     let e = c.client_line.ensures in
-    rw c.in-AtClient.is (e.0 a.s0.now a.log0.now a.s1.now a.log1.now, e.1)
+    rw (c.in-Some.is, c.in-AtClient.is) (e.0 a.s0.now a.log0.now a.s1.now a.log1.now, e.1)

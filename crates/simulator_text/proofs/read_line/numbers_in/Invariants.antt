@@ -1,11 +1,6 @@
--- The invariants of `simulator_text::read_line::numbers_in`.
-use Prim.Native.Nat.{◌+◌, ◌-◌}
-use lib.ListN.{length}
-use Rattle.simulator_text.proofs.Lines.{Reading}
+-- The invariant of `simulator_text::read_line::numbers_in`.
+use Rattle.simulator_text.proofs.Lines.{Fields}
 use Rattle.simulator_text.proofs.read_line.numbers_in.Given as goal
 
-abbrev pub invariant-loop-at : goal.invariant-loop-at
-invariant-loop-at l = Reading l.s l.ns l.k l.at
-
-abbrev pub decreases-loop-at : goal.decreases-loop-at
-decreases-loop-at l = length l.s + 1 - l.at
+abbrev pub invariant-loop-field : goal.invariant-loop-field
+invariant-loop-field l = Fields (goal.iterator-loop-field).next_gives l.s l.field-iterator l.ns l.k

@@ -10,7 +10,7 @@ returns-then-s-eq0 c = argument-none _ c.if-s-eq0.true
 
 pub returns-then-s-eq45 : goal.returns-then-s-eq45
 returns-then-s-eq45 c = argument-minus _ c.if-s-eq0.false c.if-s-eq45.true
-    (c.number_in-number.ensures ∙ ap number_in (tail-part 1 c.args.s.now)) c.negative_of.ensures
+    (c.number_in.ensures ∙ ap number_in (tail-part 1 c.args.s.now)) c.negative_of.ensures
 
 pub returns : goal.returns
-returns c = argument-plain _ c.if-s-eq0.false c.if-s-eq45.false c.number_in-number-2.ensures c.positive_of.ensures
+returns c = argument-plain _ c.if-s-eq0.false c.if-s-eq45.false c.number_in-2.ensures c.positive_of.ensures

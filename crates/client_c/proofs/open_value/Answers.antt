@@ -1,6 +1,0 @@
--- What is left to show of `client_c::open_value`.
-use Rattle.client_c.proofs.Cases.{leases-change}
-use Rattle.client_c.proofs.open_value.Goals as goal
-
-pub returns : goal.returns
-returns c = leases-change _ _ c.open_change-change.ensures c.with_lease_reply.ensures
