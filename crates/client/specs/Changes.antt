@@ -15,7 +15,7 @@ use Rattle.model.specs.Numbers.{byte_at, le32_at}
 use Rattle.model.specs.Limits.{call_window, first_result_kind, refusal_kind, grant_kind, result_kind, refusal_size}
 use Rattle.model.specs.Packets.{parse_result, parse_refusal, parse_grant}
 use Rattle.model.specs.Clients.{no_call, no_client, place_of, with_calls}
-use Rattle.refusals.specs.declared.Refusal.{Refusal}
+use Rattle.model.specs.declared.Refusal.{Refusal}
 use Rattle.refusals.specs.Numbers.{number_of}
 use Rattle.client.specs.declared.StartFields.{StartFields}
 use Rattle.client.specs.declared.SendChange.{SendChange}
