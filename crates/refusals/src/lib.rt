@@ -2,7 +2,7 @@
 #![tactic(auto)]
 
 ghost use Rattle.std.specs.Prelude.{◌≡◌};
-ghost use Rattle.refusals.specs.Numbers.{number_of, answered, request_answered, denied};
+ghost use Rattle.refusals.specs.Numbers.{answered, request_answered, denied};
 
 pub use model::Refusal;
 use model::{Answer, constants};
