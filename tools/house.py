@@ -10,7 +10,7 @@ PICTURE = 'docs/pictures/house.svg'
 
 # the layers from top to bottom, on the left the product, on the right what is claimed and proved of it; a crate belongs to the first whose test it passes
 PRODUCT = [
-    ('programs and C interfaces', lambda n: n in ('yard', 'inspector', 'kernel', 'client_exports') or n.endswith('_c')),
+    ('programs and C interfaces', lambda n: n in ('yard', 'inspector', 'program_input', 'kernel', 'client_exports') or n.endswith('_c')),
     ('products above the kernel', lambda n: n in ('chamber', 'dispatch')),
     ('simulator', lambda n: n.startswith('simulator')),
     ('parties beside the server', lambda n: n in ('client', 'leases')),

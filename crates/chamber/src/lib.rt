@@ -3,10 +3,12 @@
 // then its own two levels valid and at most 5 apart.
 #![tactic(auto)]
 
-ghost use Rattle.std.specs.Prelude.{◌≡◌, ◌<◌, get_or, set};
+ghost use Rattle.std.specs.Prelude.{◌≡◌, ◌<◌};
 ghost use Rattle.model.specs.Tables.{every};
 ghost use Rattle.model.specs.Clients.{no_client};
-ghost use Rattle.chamber_claim.specs.Chamber.{role_count, role_in, point_list, all_different, is_point, points_ok, op_ok, no_read, read_at, is_opening};
+ghost use Rattle.refusals.specs.Numbers.{number_of};
+ghost use Rattle.chamber.specs.Roles.{role_of};
+ghost use Rattle.chamber_claim.specs.Chamber.{role_count, point_list, all_different, is_point, points_ok, op_ok, no_read, read_at, is_opening};
 ghost use Rattle.chamber_claim.specs.Chamber.{valid_gate, valid_level, near, closed_seen, levels_seen, clear, may_open};
 ghost use Rattle.chamber_claim.specs.Chamber.{new_chamber, no_chamber, not_started_in, started_in, start_in};
 ghost use Rattle.chamber_claim.specs.Chamber.{not_sent_in, moved_by, sent_in, issue_in, resend_in, read_by, reads_with, reads_by, receive_in};
@@ -15,6 +17,7 @@ use chamber_claim::{
     Chamber, ChamberReceive, ChamberSend, ChamberStart, LOCK_POINTS, LatestRead, LockPoints,
 };
 use model::{Client, Received, ResultPacket, SendAnswer, Sent, StartAnswer, Started, constants};
+use refusals::Refusal;
 
 // ---- the points of a lock, by their roles
 
@@ -31,38 +34,35 @@ const LOWER_LEVEL: usize = 4;
 // Levels at most this far apart let a gate be opened between them.
 const LEVEL_STEP: u64 = 5;
 
-// The role of a point; the number of roles where it has none.
-fn role_in(points: LockPoints, p: u8) -> usize
-    ensures { result ≡ role_in points p }
+// The points, in the order of their roles.
+fn point_list(points: LockPoints) -> [u8; LOCK_POINTS]
+    ensures { result ≡ point_list points }
 {
-    if p == points.upper {
-        return UPPER_GATE;
-    }
-    if p == points.lower {
-        return LOWER_GATE;
-    }
-    if p == points.level1 {
-        return UPPER_LEVEL;
-    }
-    if p == points.level2 {
-        return CHAMBER_LEVEL;
-    }
-    if p == points.level3 {
-        return LOWER_LEVEL;
-    }
-    LOCK_POINTS
+    [
+        points.upper,
+        points.lower,
+        points.level1,
+        points.level2,
+        points.level3,
+    ]
+}
+
+// The role of a point.
+fn role_of(points: LockPoints, p: u8) -> Option<usize>
+    ensures { result ≡ role_of points p }
+{
+    let ps = point_list(points);
+    ps.iter().position(|q| p == *q)
 }
 
 fn all_points(points: LockPoints) -> bool
     ensures { result ≡ every is_point (point_list points) }
 {
-    (points.upper <= constants::LAST_POINT)
-        & ((points.lower <= constants::LAST_POINT)
-            & ((points.level1 <= constants::LAST_POINT)
-                & ((points.level2 <= constants::LAST_POINT)
-                    & (points.level3 <= constants::LAST_POINT))))
+    let ps = point_list(points);
+    ps.iter().all(|p| *p <= constants::LAST_POINT)
 }
 
+// Pair by pair: two loops over five fields are no plainer.
 fn all_different(points: LockPoints) -> bool
     ensures { result ≡ all_different (point_list points) }
 {
@@ -102,19 +102,11 @@ fn no_read() -> LatestRead
     }
 }
 
-fn read_in(reads: [LatestRead; LOCK_POINTS], i: usize) -> LatestRead
-    requires { i < role_count }
-    ensures { result ≡ get_or reads i no_read }
-{
-    reads[i]
-}
-
 fn read_at(ch: Chamber, i: usize) -> LatestRead
     requires { i < role_count }
     ensures { result ≡ read_at ch i }
 {
-    let reads = ch.reads;
-    read_in(reads, i)
+    ch.reads[i]
 }
 
 // Any set or part but set 0.
@@ -148,8 +140,7 @@ fn near(level: u32, other: u32) -> bool
 fn closed_seen(ch: Chamber, gate: LatestRead) -> bool
     ensures { result ≡ closed_seen ch gate }
 {
-    let valid = valid_gate(gate.quality);
-    (ch.moved < gate.call) & ((gate.value == constants::HALF) & valid)
+    (ch.moved < gate.call) & ((gate.value == constants::HALF) & valid_gate(gate.quality))
 }
 
 // Both levels were read after the gate, are valid and near.
@@ -188,24 +179,22 @@ fn may_open(ch: Chamber, i: usize) -> bool
 fn new_chamber(points: LockPoints, d: Client) -> Chamber
     ensures { result ≡ new_chamber points d }
 {
-    let none = no_read();
     Chamber {
         client: d,
         points,
         moved: 0,
-        reads: [none; LOCK_POINTS],
+        reads: [no_read(); LOCK_POINTS],
     }
 }
 
 fn no_client() -> Client
     ensures { result ≡ no_client }
 {
-    let none = client::no_call();
     Client {
         client: 0,
         lease: 0,
         next: 0,
-        calls: [none; constants::CALL_WINDOW],
+        calls: [client::no_call(); constants::CALL_WINDOW],
     }
 }
 
@@ -219,16 +208,14 @@ fn no_chamber() -> Chamber
         level2: 0,
         level3: 0,
     };
-    let d = no_client();
-    new_chamber(points, d)
+    new_chamber(points, no_client())
 }
 
 pub fn not_started(refusal: u32) -> ChamberStart
     ensures { result ≡ not_started_in refusal }
 {
-    let ch = no_chamber();
     ChamberStart {
-        chamber: ch,
+        chamber: no_chamber(),
         answer: Started::NotStarted(refusal),
     }
 }
@@ -236,17 +223,12 @@ pub fn not_started(refusal: u32) -> ChamberStart
 fn started_in(points: LockPoints, start: StartAnswer) -> ChamberStart
     ensures { result ≡ started_in points start }
 {
-    let d = start.client;
-    let answer = start.answer;
-    match answer {
+    match start.answer {
         Started::NotStarted(refusal) => not_started(refusal),
-        Started::Running => {
-            let ch = new_chamber(points, d);
-            ChamberStart {
-                chamber: ch,
-                answer: Started::Running,
-            }
-        }
+        Started::Running => ChamberStart {
+            chamber: new_chamber(points, start.client),
+            answer: Started::Running,
+        },
     }
 }
 
@@ -255,20 +237,19 @@ pub fn start(packet: &[u8], points: LockPoints) -> ChamberStart
     ensures { result ≡ start_in packet.now points }
 {
     if points_ok(points) {
-        let started = client::start(packet);
-        return started_in(points, started);
+        return started_in(points, client::start(packet));
     }
-    not_started(constants::MALFORMED)
+    not_started(Refusal::Malformed.number())
 }
 
 // ---- issue
 
-pub fn not_sent(ch: Chamber, refusal: u32) -> ChamberSend
-    ensures { result ≡ not_sent_in ch refusal }
+pub fn not_sent(ch: Chamber, refusal: Refusal) -> ChamberSend
+    ensures { result ≡ not_sent_in ch (number_of refusal) }
 {
     ChamberSend {
         chamber: ch,
-        answer: Sent::NotSent(refusal),
+        answer: Sent::NotSent(refusal.number()),
     }
 }
 
@@ -288,19 +269,13 @@ fn moved_by(ch: Chamber, op: u8, answer: Sent) -> u32
 fn sent_in(ch: Chamber, op: u8, send: SendAnswer) -> ChamberSend
     ensures { result ≡ sent_in ch op send }
 {
-    let d = send.client;
-    let answer = send.answer;
-    let moved = moved_by(ch, op, answer);
-    let points = ch.points;
-    let reads = ch.reads;
     ChamberSend {
         chamber: Chamber {
-            client: d,
-            points,
-            moved,
-            reads,
+            client: send.client,
+            moved: moved_by(ch, op, send.answer),
+            ..ch
         },
-        answer,
+        answer: send.answer,
     }
 }
 
@@ -309,21 +284,21 @@ fn sent_in(ch: Chamber, op: u8, send: SendAnswer) -> ChamberSend
 pub fn issue(ch: Chamber, op: u8, point: u8, argument: u32) -> ChamberSend
     ensures { result ≡ issue_in ch op point argument }
 {
-    let points = ch.points;
-    let d = ch.client;
-    let i = role_in(points, point);
+    let Some(i) = role_of(ch.points, point) else {
+        return not_sent(ch, Refusal::Malformed);
+    };
     if !(format_numbers::command_ok(op, point, argument) & op_ok(i, op)) {
-        return not_sent(ch, constants::MALFORMED);
+        return not_sent(ch, Refusal::Malformed);
     }
+    let d = ch.client;
     let first = client::first_open(d);
     if first < d.next {
-        return not_sent(ch, constants::WINDOW_FULL);
+        return not_sent(ch, Refusal::WindowFull);
     }
     if is_opening(op, argument) & !may_open(ch, i) {
-        return not_sent(ch, constants::NOT_SAFE);
+        return not_sent(ch, Refusal::NotSafe);
     }
-    let sent = client::issue(d, op, point, argument);
-    sent_in(ch, op, sent)
+    sent_in(ch, op, client::issue(d, op, point, argument))
 }
 
 // ---- resend
@@ -332,21 +307,13 @@ pub fn issue(ch: Chamber, op: u8, point: u8, argument: u32) -> ChamberSend
 pub fn resend(ch: Chamber, call: u32) -> ChamberSend
     ensures { result ≡ resend_in ch call }
 {
-    let d = ch.client;
-    let sent = client::resend(d, call);
-    let after = sent.client;
-    let answer = sent.answer;
-    let points = ch.points;
-    let moved = ch.moved;
-    let reads = ch.reads;
+    let sent = client::resend(ch.client, call);
     ChamberSend {
         chamber: Chamber {
-            client: after,
-            points,
-            moved,
-            reads,
+            client: sent.client,
+            ..ch
         },
-        answer,
+        answer: sent.answer,
     }
 }
 
@@ -362,32 +329,18 @@ fn read_by(packet: ResultPacket) -> LatestRead
     }
 }
 
-// The reads with this one as that of the role i, where it is one.
-fn stored(reads: [LatestRead; LOCK_POINTS], i: usize, read: LatestRead) -> [LatestRead; LOCK_POINTS]
-    ensures { result ≡ set reads i read }
-{
-    if LOCK_POINTS <= i {
-        return reads;
-    }
-    let mut out = reads;
-    out[i] = read;
-    out
-}
-
 // A read's result becomes its point's latest.
 fn reads_with(ch: Chamber, packet: ResultPacket) -> [LatestRead; LOCK_POINTS]
     ensures { result ≡ reads_with ch packet }
 {
-    let d = ch.client;
-    let opened = client::call_at(d, packet.call);
+    let mut reads = ch.reads;
+    let opened = client::call_at(ch.client, packet.call);
     if opened.op == constants::READ_OP {
-        let points = ch.points;
-        let reads = ch.reads;
-        let i = role_in(points, packet.point);
-        let read = read_by(packet);
-        return stored(reads, i, read);
+        if let Some(i) = role_of(ch.points, packet.point) {
+            reads[i] = read_by(packet);
+        }
     }
-    ch.reads
+    reads
 }
 
 fn reads_by(ch: Chamber, answer: Received) -> [LatestRead; LOCK_POINTS]
@@ -403,19 +356,14 @@ fn reads_by(ch: Chamber, answer: Received) -> [LatestRead; LOCK_POINTS]
 pub fn receive(ch: Chamber, packet: &[u8]) -> ChamberReceive
     ensures { result ≡ receive_in ch packet.now }
 {
-    let d = ch.client;
-    let received = client::receive(d, packet);
-    let after = received.client;
-    let answer = received.answer;
-    let points = ch.points;
-    let reads = reads_by(ch, answer);
+    let received = client::receive(ch.client, packet);
+    let reads = reads_by(ch, received.answer);
     ChamberReceive {
         chamber: Chamber {
-            client: after,
-            points,
-            moved: ch.moved,
+            client: received.client,
             reads,
+            ..ch
         },
-        answer,
+        answer: received.answer,
     }
 }

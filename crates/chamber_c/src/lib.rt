@@ -11,6 +11,7 @@ ghost use Rattle.chamber_c.specs.Replies.{start_reply_in, send_reply_in, receive
 use chamber_claim::{Chamber, ChamberReceive, ChamberSend, ChamberStart, LockPoints};
 use client_c::{ReceiveReply, SendReply};
 use model::{Started, constants};
+use refusals::Refusal;
 
 // ---- what C is given
 
@@ -50,31 +51,28 @@ fn start_number(answer: Started) -> u32
 fn start_reply(started: ChamberStart) -> ChamberStartReply
     ensures { result ≡ start_reply_in started }
 {
-    let ch = started.chamber;
-    let answer = started.answer;
-    let number = start_number(answer);
     ChamberStartReply {
-        chamber: ch,
-        number,
+        chamber: started.chamber,
+        number: start_number(started.answer),
     }
 }
 
 fn send_reply(sent: ChamberSend) -> ChamberSendReply
     ensures { result ≡ send_reply_in sent }
 {
-    let ch = sent.chamber;
-    let answer = sent.answer;
-    let reply = client_c::send_reply(answer);
-    ChamberSendReply { chamber: ch, reply }
+    ChamberSendReply {
+        chamber: sent.chamber,
+        reply: client_c::send_reply(sent.answer),
+    }
 }
 
 fn receive_reply(received: ChamberReceive) -> ChamberReceiveReply
     ensures { result ≡ receive_reply_in received }
 {
-    let ch = received.chamber;
-    let answer = received.answer;
-    let reply = client_c::receive_reply(answer);
-    ChamberReceiveReply { chamber: ch, reply }
+    ChamberReceiveReply {
+        chamber: received.chamber,
+        reply: client_c::receive_reply(received.answer),
+    }
 }
 
 // ---- for C
@@ -97,8 +95,7 @@ pub extern "C" fn mantelorris_chamber_start(
             | ((constants::LAST_8 < level1)
                 | ((constants::LAST_8 < level2) | (constants::LAST_8 < level3))))
     {
-        let refused = chamber::not_started(constants::MALFORMED);
-        return start_reply(refused);
+        return start_reply(chamber::not_started(Refusal::Malformed.number()));
     }
     let points = LockPoints {
         upper: upper as u8,
@@ -107,8 +104,7 @@ pub extern "C" fn mantelorris_chamber_start(
         level2: level2 as u8,
         level3: level3 as u8,
     };
-    let started = chamber::start(packet, points);
-    start_reply(started)
+    start_reply(chamber::start(packet, points))
 }
 
 // The argument in two's complement; an op or a point past a byte is malformed, as any past its range.
@@ -122,8 +118,7 @@ pub extern "C" fn mantelorris_chamber_issue(
     ensures { result ≡ send_reply_in (issue_in chamber op point (flip argument)) }
 {
     if (constants::LAST_8 < op) | (constants::LAST_8 < point) {
-        let refused = chamber::not_sent(chamber, constants::MALFORMED);
-        return send_reply(refused);
+        return send_reply(chamber::not_sent(chamber, Refusal::Malformed));
     }
     let sent = chamber::issue(
         chamber,
@@ -138,8 +133,7 @@ pub extern "C" fn mantelorris_chamber_issue(
 pub extern "C" fn mantelorris_chamber_resend(chamber: Chamber, call: u32) -> ChamberSendReply
     ensures { result ≡ send_reply_in (resend_in chamber call) }
 {
-    let sent = chamber::resend(chamber, call);
-    send_reply(sent)
+    send_reply(chamber::resend(chamber, call))
 }
 
 #[unsafe(no_mangle)]
@@ -149,6 +143,5 @@ pub extern "C" fn mantelorris_chamber_receive(
 ) -> ChamberReceiveReply
     ensures { result ≡ receive_reply_in (receive_in chamber packet.now) }
 {
-    let received = chamber::receive(chamber, packet);
-    receive_reply(received)
+    receive_reply(chamber::receive(chamber, packet))
 }

@@ -2,11 +2,10 @@
 // taken. Requests wait in the order they came, at most one of each client, at most 32.
 #![tactic(auto)]
 
-ghost use Rattle.std.specs.Prelude.{◌≡◌, [], ◌∷◌, ◌++◌, ◌≤◌, ◌<◌, length, take, drop};
-ghost use Rattle.model.specs.Tables.{index_of};
+ghost use Rattle.std.specs.Prelude.{◌≡◌, [], ◌∷◌, ◌++◌, ◌≤◌, ◌<◌, drop};
 ghost use Rattle.model.specs.Versions.{today};
 ghost use Rattle.refusals.specs.Numbers.{refusal_of};
-ghost use Rattle.dispatch_claim.specs.Dispatcher.{places, no_request, no_waiting, waiting_count, is_of, waits, enqueue_refusal, with_last};
+ghost use Rattle.dispatch_claim.specs.Dispatcher.{places, no_request, no_waiting, waiting_count, waits, enqueue_refusal, with_last};
 ghost use Rattle.dispatch_claim.specs.Dispatcher.{enqueue_request, enqueue_of, first_waiting, shifted, serve_of, after_serve};
 
 use dispatch_claim::{Dispatcher, Enqueued, Served, WAITING_PLACES, WAITING_PLACES_U32};
@@ -47,10 +46,7 @@ pub fn no_waiting() -> Dispatcher
 fn waiting_count(dispatcher: Dispatcher) -> u32
     ensures { result ≡ waiting_count dispatcher }
 {
-    if dispatcher.count <= WAITING_PLACES_U32 {
-        return dispatcher.count;
-    }
-    WAITING_PLACES_U32
+    dispatcher.count.min(WAITING_PLACES_U32)
 }
 
 // A request of this client waits.
@@ -82,13 +78,10 @@ fn with_last(dispatcher: Dispatcher, q: Request) -> Dispatcher
     requires { dispatcher.count < places }
     ensures { result ≡ with_last dispatcher q }
 {
-    let count = dispatcher.count;
-    let mut requests = dispatcher.requests;
-    requests[count as usize] = q;
-    Dispatcher {
-        count: count + 1,
-        requests,
-    }
+    let mut next = dispatcher;
+    next.requests[dispatcher.count as usize] = q;
+    next.count += 1;
+    next
 }
 
 fn enqueue_request(dispatcher: Dispatcher, q: Request) -> Enqueued

@@ -7,7 +7,7 @@
 --     here-none, here_found, here-other     the floor of index j is the client's or not
 --     floor-found     behind the floors below a client stands its own, if it has one
 --     tables_stop, tables_ascend, tables_last     the walk through both
---     beside_start, beside_cursor, beside_next, beside_false     the walk over the records, with the cursor
+--     beside_start, beside_next, beside_false     the walk over the records, with the cursor
 -- Assumes nothing.
 use Prim.Native.Nat.{ℕ, zero, suc, ◌+◌, ◌-◌, ◌*◌, ◌≤◌, ◌<◌}
 use mathlib.Core.Path.{◌≡◌, refl, sym, ◌∙◌}
@@ -234,10 +234,6 @@ beside_start timed p n w at m s =
           (sym (and_assoc (every_row entry_row_ok w m (drop at s)) (every (image_entry_ok p fs) es) (ids_ascend es))));
       cursor = λ h. omega arith;
     }
-
-pub beside_cursor : {timed : Bool} {p n w at m : ℕ} {s : List ℕ} {i j : ℕ} → Beside timed p n w at m s i j → i < m → {e : ImageEntry} → e ≡ image_entry_of timed (drop (at + w * i) s)
-    → j ≤ leading e.client (floors_in s n)
-beside_cursor o h r = rw r (o.cursor h)
 
 -- a record behind another has no lower client
 before-up : (x c y d : ℕ) → id_before x c y d ≡ true → x ≤ y

@@ -58,9 +58,6 @@ module _ {A : Type 0} (C : Codec A) where
             ∙ rw (rows_snoc C.dec C.width i t, p);
       }
 
-  pub copied_end : {k : ℕ} {s₀ t s : List ℕ} {n i : ℕ} → Copied k s₀ t s n i → n ≤ i → s ≡ written s₀ k (bytes_of C.enc (rows C.dec C.width n t))
-  copied_end {k} {s₀} {t} {s} {n} {i} o h = let e : n ≡ i = omega arith in rw e o.bytes
-
 -- ---- the whole
 
 pub image-written : (s : List ℕ) (i : Image)

@@ -4,13 +4,12 @@
 // a line on standard error.
 #![tactic(auto)]
 
-ghost use Rattle.std.specs.Prelude.{◌≡◌, ◌≤◌, ◌<◌, length, take, IfOk};
+ghost use Rattle.std.specs.Prelude.{◌≡◌, ◌≤◌, ◌<◌, length, take};
 ghost use Rattle.model.specs.Limits.{record_count, state_size};
 
 use model::{Answer, constants};
 use state_rows::state;
 use std::io;
-use std::io::Read;
 
 // Bytes that are read at most.
 const LONGEST: usize = 65536;
@@ -115,23 +114,8 @@ fn card_buffer() -> [u8; LONGEST]
     [0; LONGEST]
 }
 
-// Reads until card is full or the input ends, and returns how many bytes it put at its start.
-fn read_full(input: &mut impl Read, card: &mut [u8]) -> io::Result<usize>
-    ensures { IfOk result (λ n. n ≤ length card.new) }
-{
-    let mut done = 0;
-    while done < card.len() {
-        let n = input.read(&mut card[done..])?;
-        if n == 0 {
-            break;
-        }
-        done += n;
-    }
-    Ok(done)
-}
-
 fn main(rt: HostRuntime) -> io::Result<()> {
     let mut card = card_buffer();
-    let n = read_full(&mut rt.stdin(), &mut card)?;
+    let n = program_input::read_full(&mut rt.stdin(), &mut card)?;
     inspect(&rt, &card[..n])
 }

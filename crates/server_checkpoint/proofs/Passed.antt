@@ -1,7 +1,7 @@
 -- The refusals of a checkpoint.
 --     tail-short, lent-refused, last-test              the tests in code
 --     passed-known                                     what they leave known
---     by_refused, by_passed, passed-done               the call, by the number
+--     by_refused, by_passed, passed-done               the call, by the arms of its `?`
 -- Assumes nothing.
 use Prim.Native.Nat.{ℕ, ◌≤◌, ◌<◌}
 use mathlib.Core.Path.{◌≡◌, refl, sym, ◌∙◌}
@@ -11,15 +11,19 @@ use native.Mathlib.Omega.{arith}
 use lib.ListN.{length}
 use lib.Dec.{eqb, ltb}
 use borrow.Author.Tests.{lt-ltb, le-ltb, ltb-true, ltb-false, eqb-true, ne_eqb}
-use Rattle.model.specs.declared.Answer.{Answer}
+use Rattle.std.specs.Prelude.{Result}
+use Rattle.std.specs.Result.{IsErrAnd}
 use Rattle.model.specs.Choice.{pick}
 use Rattle.model.specs.Limits.{state_size, head_size, checkpoint_size}
 use Rattle.model.specs.Refusals.{too_short, unsound, not_synced, no_refusal}
 use Rattle.model.specs.States.{load}
 use Rattle.model.specs.Versions.{today}
 use Rattle.model.specs.Decisions.{timed_by}
-use Rattle.model.specs.Operations.{answer_of, short, unfit, lent_refusal}
+use Rattle.model.specs.Operations.{short, unfit, lent_refusal}
 use Rattle.model.specs.Checkpoints.{AfterCheckpoint, checkpoint_refusal, checkpoint_of}
+use Rattle.refusals.specs.declared.Refusal.{Refusal}
+use Rattle.refusals.specs.Numbers.{number_of, refusal_of, answered}
+use Rattle.refusals.proofs.Numbers.{number-some, exit}
 use Rattle.model_laws.specs.Fits.{Sound}
 use Rattle.model_laws.proofs.States.{sound-is}
 use Rattle.server_decide.specs.Lists.{checkpoint_tests}
@@ -55,12 +59,14 @@ module _ (s log : List ℕ) (n t : ℕ) where
   in_order h =
       checkpoint_list s log n t ∙ rw (le-ltb t head_size h) (in_turn (short s state_size) (ltb n checkpoint_size) (unfit s log) (checkpoint_tests (load s).mark (load s).size))
 
-  module _ (h : head_size ≤ t) {k : ℕ} (p : k ≡ lent_refusal s log n checkpoint_size) where
-    pub lent-refused : (k ≡ no_refusal → ⊥) → k ≡ checkpoint_refusal s log n t
-    lent-refused z = rw (in_order h, ← p, ne_eqb k no_refusal z)
+  module _ (h : head_size ≤ t) where
+    pub lent-refused : (e : Refusal) → number_of e ≡ lent_refusal s log n checkpoint_size → {A : Type 0} (r : Result A Refusal) → IsErrAnd r (λ x. x ≡ e)
+        → refusal_of r ≡ checkpoint_refusal s log n t
+    lent-refused e p r z = rw (exit r z, in_order h, ← p, ne_eqb (number_of e) no_refusal (number-some e))
 
-    pub last-test : k ≡ no_refusal → {mark size r : ℕ} → mark ≡ (load s).mark → size ≡ (load s).size → r ≡ checkpoint_tests mark size → r ≡ checkpoint_refusal s log n t
-    last-test z e f q = rw (in_order h, ← p, z, ← e, ← f) q
+    pub last-test : no_refusal ≡ lent_refusal s log n checkpoint_size → {mark size r : ℕ} → mark ≡ (load s).mark → size ≡ (load s).size
+        → r ≡ checkpoint_tests mark size → r ≡ checkpoint_refusal s log n t
+    last-test p e f q = rw (in_order h, ← p, ← e, ← f) q
 
   -- what a call that passes knows
   pub passed-known : checkpoint_refusal s log n t ≡ no_refusal → Fit s log n checkpoint_size × (head_size ≤ t)
@@ -81,15 +87,16 @@ module _ (s log : List ℕ) (n t : ℕ) where
 
 -- ---- the call
 
-module _ (s log c t : List ℕ) {k : ℕ} (p : k ≡ checkpoint_refusal s log (length c) (length t)) where
-  pub by_refused : (k ≡ no_refusal → ⊥) → {r : Answer} → r ≡ answer_of k 0 → after_checkpoint r s log c t ≡ checkpoint_of today s log c t
+module _ (s log c t : List ℕ) where
+  pub by_refused : (e : Refusal) → number_of e ≡ checkpoint_refusal s log (length c) (length t) → (r : Result ℕ Refusal) → IsErrAnd r (λ x. x ≡ e)
+      → after_checkpoint (answered r) s log c t ≡ checkpoint_of today s log c t
   unfolding checkpoint_of
-  by_refused z e = rw (e, ← p, ne_eqb k no_refusal z)
+  by_refused e p r z = rw (exit r z, ← p, ne_eqb (number_of e) no_refusal (number-some e))
 
-  module _ (z : k ≡ no_refusal) where
+  module _ (p : no_refusal ≡ checkpoint_refusal s log (length c) (length t)) where
     pub by_passed : {a : AfterCheckpoint} → a ≡ checkpoint_taken s log c t → a ≡ checkpoint_of today s log c t
     unfolding checkpoint_of checkpoint_taken timed_by
-    by_passed e = rw (e, ← p, z)
+    by_passed e = rw (e, ← p)
 
     pub passed-done : Sound s × (checkpoint_size ≤ length c) × (head_size ≤ length t)
-    passed-done = let f = passed-known s log (length c) (length t) (sym p ∙ z) in (sound-is s f.0.sound, f.0.room, f.1)
+    passed-done = let f = passed-known s log (length c) (length t) (sym p) in (sound-is s f.0.sound, f.0.room, f.1)

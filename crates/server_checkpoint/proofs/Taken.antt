@@ -8,16 +8,16 @@ use mathlib.Core.Bool.{true}
 use mathlib.Core.List.{List}
 use native.Mathlib.Omega.{arith}
 use lib.ListN.{length, drop}
-use Rattle.model.specs.declared.Answer.{Answer}
+use Rattle.std.specs.Prelude.{Ok}
 use Rattle.model.specs.Limits.{checkpoint_size}
-use Rattle.model.specs.Refusals.{no_refusal}
 use Rattle.model.specs.Tables.{written}
 use Rattle.model.specs.Logs.{head_bytes}
 use Rattle.model.specs.States.{load}
 use Rattle.model.specs.Versions.{today}
 use Rattle.model.specs.Decisions.{timed_by}
-use Rattle.model.specs.Operations.{answer_of, stored}
+use Rattle.model.specs.Operations.{stored}
 use Rattle.model.specs.Checkpoints.{rebased, checkpoint_bytes, restored_bytes, checkpoint_framed}
+use Rattle.refusals.specs.Numbers.{answered}
 use Rattle.model_laws.specs.Bytes.{Bytes}
 use Rattle.model_laws.specs.Fits.{Sound}
 use Rattle.model_laws.proofs.Written.{written-front}
@@ -38,8 +38,8 @@ module _ (s c : List ℕ) (h : Bytes s) (d : Sound s) (l : checkpoint_size ≤ l
   unfolding timed_by
   back = state-checkpoint today s c h (is-sound s d) l
 
-  pub taken : (t g : List ℕ) {n m : ℕ} {r : Answer} {s' t' : List ℕ} → n ≡ length (checkpoint_bytes true (load s)) → r ≡ answer_of no_refusal n → s' ≡ written s 0 (restored_bytes c')
+  pub taken : (t g : List ℕ) {n m : ℕ} {s' t' : List ℕ} → n ≡ length (checkpoint_bytes true (load s)) → s' ≡ written s 0 (restored_bytes c')
       → m ≡ (load s).server
-      → t' ≡ written t 0 (head_bytes m) → after_checkpoint r s' g c' t' ≡ checkpoint_taken s g c t
+      → t' ≡ written t 0 (head_bytes m) → after_checkpoint (answered (Ok n)) s' g c' t' ≡ checkpoint_taken s g c t
   unfolding checkpoint_taken
-  taken t g size answer state server tail = rw (answer, size, state, tail, server, q, back)
+  taken t g size state server tail = rw (size, state, tail, server, q, back)

@@ -1,4 +1,4 @@
-// The tests of each call of a server, on values: the refusal, if it is refused; and the answer by its number.
+// The tests of each call of a server, on values: the first that refuses it gives the refusal.
 // They stand in the order of docs/REFERENCE.md; those of lent memory (2, 19) come before. Recovery asks the same
 // functions.
 #![tactic(auto)]
@@ -8,16 +8,16 @@ ghost use Rattle.model.specs.Limits.{client_count, executed_size};
 ghost use Rattle.model.specs.Images.{not_known};
 ghost use Rattle.model.specs.States.{is_held, is_given, is_synced};
 ghost use Rattle.model.specs.Decisions.{same_command, request_refusal, held_refusal, new_refusal, fetch_refusal, sync_refusal, notice_refusal, places_bad, give_refusal, image_refusal, receipt_refusal, release_refusal, take_refusal};
-ghost use Rattle.model.specs.Operations.{answer_of, found_refusal, recover_refusal};
+ghost use Rattle.model.specs.Operations.{found_refusal, recover_refusal};
 ghost use Rattle.model.specs.Checkpoints.{recover_tail_refusal};
 ghost use Rattle.refusals.specs.Numbers.{refusal_of};
 ghost use Rattle.server_decide.specs.Lists.{checkpoint_tests, inspect_tests};
 
 use model::constants::{
     CLIENT_COUNT, EXECUTED_SIZE, GIVE_SIZE, GIVEN, GONE_SIZE, HEAD_SIZE, HELD, LAST_32, LAST_POINT,
-    LAST_SERVER, NO_REFUSAL, RELEASE_SIZE, STATE_SIZE,
+    LAST_SERVER, RELEASE_SIZE, STATE_SIZE,
 };
-use model::{Answer, Completion, Point, Request};
+use model::{Completion, Point, Request};
 use refusals::Refusal;
 
 // ---- single tests
@@ -318,23 +318,4 @@ pub fn take_refusal(
         return Err(Refusal::LogFull);
     }
     Ok(())
-}
-
-// ---- answers
-
-// A refusal's number, and no packet.
-pub fn refused(refusal: u32) -> Answer
-    ensures { result ≡ answer_of refusal 0 }
-{
-    Answer { refusal, wrote: 0 }
-}
-
-// Not refused, and so many bytes written.
-pub fn made(length: u32) -> Answer
-    ensures { result ≡ answer_of 0 length }
-{
-    Answer {
-        refusal: NO_REFUSAL,
-        wrote: length,
-    }
 }

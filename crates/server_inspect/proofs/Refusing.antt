@@ -16,6 +16,8 @@ use lib.ListN.{length, take}
 use lib.Seq.{take-length, take-take, get_or-take, length-take-le}
 use lib.Dec.{eqb, ltb}
 use borrow.Author.Tests.{not-true, not-false, le-leb, le-ltb, eqb-true, ne_eqb}
+use Rattle.std.specs.Prelude.{Result}
+use Rattle.std.specs.Result.{IsErrAnd}
 use Rattle.model.specs.declared.LogEnd.{LogEnd}
 use Rattle.model.specs.declared.Place.{Place}
 use Rattle.model.specs.Choice.{pick, or_else}
@@ -25,7 +27,10 @@ use Rattle.model.specs.Logs.{head_server, head_ok, ends_of, whole_end}
 use Rattle.model.specs.States.{load, sound}
 use Rattle.model.specs.Decisions.{find, is_none}
 use Rattle.model.specs.Operations.{short, unfit, lent_refusal, log_end_of}
-use Rattle.model.specs.Checkpoints.{no_place, restored, checkpoint_framed, checkpoint_state, place_in_checkpoint, checkpoint_bad, tail_of, inspect_refusal, inspect_of}
+use Rattle.model.specs.Checkpoints.{restored, checkpoint_framed, checkpoint_state, place_in_checkpoint, checkpoint_bad, tail_of, inspect_refusal, inspect_of}
+use Rattle.refusals.specs.declared.Refusal.{Refusal}
+use Rattle.refusals.specs.Numbers.{number_of}
+use Rattle.refusals.proofs.Numbers.{number-some, exit}
 use Rattle.model_laws.specs.Bytes.{Bytes}
 use Rattle.model_laws.proofs.Tests.{or_left, or_right, impossible}
 use Rattle.model_laws.proofs.Refused.{if-passed}
@@ -40,7 +45,7 @@ use Rattle.server_decide.proofs.Lists.{inspect_list}
 use Rattle.server_memory.specs.Memory.{Fit}
 use Rattle.server_memory.proofs.Settled.{lent-fit}
 use Rattle.server_inspect.specs.Places.{latest_from}
-use Rattle.server_inspect.specs.Inspected.{foreign, Logged}
+use Rattle.server_inspect.specs.Inspected.{foreign, Logged, placed_by}
 
 -- ---- tests in code
 
@@ -103,12 +108,13 @@ lent_same state checkpoint tail x c h = go (short state state_size) (unfit state
     go false true n h = refl
     go false false n h = absurd (h refl)
 
-pub lent-refused : (state checkpoint tail : List ℕ) (x c : ℕ) {n : ℕ} {r : Place} → n ≡ lent_refusal state tail 0 0 → (n ≡ no_refusal → ⊥) → r ≡ no_place n
-    → r ≡ inspect_of state checkpoint tail x c
+pub lent-refused : (state checkpoint tail : List ℕ) (x c : ℕ) (e : Refusal) → number_of e ≡ lent_refusal state tail 0 0 → (r : Result Place Refusal)
+    → IsErrAnd r (λ y. y ≡ e) → placed_by r ≡ inspect_of state checkpoint tail x c
 unfolding inspect_of
-lent-refused state checkpoint tail x c {n} {r} e h q =
-    let k : inspect_refusal state checkpoint tail x c ≡ n = lent_same state checkpoint tail x c (λ (z : lent_refusal state tail 0 0 ≡ no_refusal). h (e ∙ z)) ∙ sym e in
-    rw (k, ne_eqb n no_refusal h) q
+lent-refused state checkpoint tail x c e p r h =
+    let k : inspect_refusal state checkpoint tail x c ≡ number_of e =
+    lent_same state checkpoint tail x c (λ (z : lent_refusal state tail 0 0 ≡ no_refusal). number-some e (p ∙ z)) ∙ sym p in
+    rw (exit r h, k, ne_eqb (number_of e) no_refusal (number-some e))
 
 -- ---- past that
 
@@ -178,23 +184,24 @@ walk-off log {w} e = ap (λ (r : LogEnd). not (eqb r.refusal no_refusal)) e ∙ 
     go (some es) q = rw (q, log_end_of, whole_end)
 
 module _ (state checkpoint log : List ℕ) (x c : ℕ) (l : Logged state log) {w : LogEnd} (e : w ≡ log_end_of log) {bad lacks : Bool} (p : bad ≡ checkpoint_bad checkpoint log)
-    (q : lacks ≡ is_none (find x c (load state).records)) {n : ℕ} (k : n ≡ inspect_tests bad (not (eqb w.refusal no_refusal)) lacks) where
+    (q : lacks ≡ is_none (find x c (load state).records)) where
   tail-whole : tail_of state log ≡ log
   unfolding tail_of
   tail-whole = rw (← l.whole) (take-length log)
 
-  by_number : inspect_refusal state checkpoint log x c ≡ n
-  by_number = later_same state log l.fit checkpoint x c ∙ rw (tail-whole, ← p, ← q, ← walk-off log e) (sym k)
+  by_number : inspect_refusal state checkpoint log x c ≡ inspect_tests bad (not (eqb w.refusal no_refusal)) lacks
+  by_number = later_same state log l.fit checkpoint x c ∙ rw (tail-whole, ← p, ← q, ← walk-off log e)
 
-  pub later-refused : {r : Place} → (n ≡ no_refusal → ⊥) → r ≡ no_place n → r ≡ inspect_of state checkpoint log x c
+  pub later-refused : (y : Refusal) → number_of y ≡ inspect_tests bad (not (eqb w.refusal no_refusal)) lacks → (r : Result Place Refusal) → IsErrAnd r (λ z. z ≡ y)
+      → placed_by r ≡ inspect_of state checkpoint log x c
   unfolding inspect_of
-  later-refused h r = rw (by_number, ne_eqb n no_refusal h) r
+  later-refused y k r h = rw (exit r h, by_number, ← k, ne_eqb (number_of y) no_refusal (number-some y))
 
-  module _ (z : n ≡ no_refusal) where
+  module _ (k : no_refusal ≡ inspect_tests bad (not (eqb w.refusal no_refusal)) lacks) where
     tests : ((bad || not (eqb w.refusal no_refusal)) ≡ false) × (lacks ≡ false)
     unfolding inspect_tests
     tests =
-        let a = if-passed bad_log refl (bad || not (eqb w.refusal no_refusal)) _ (sym k ∙ z) in
+        let a = if-passed bad_log refl (bad || not (eqb w.refusal no_refusal)) _ (sym k) in
         (a.0, (if-passed unknown refl lacks no_refusal a.1).0)
 
     pub walk-passed : w.refusal ≡ no_refusal
@@ -211,4 +218,4 @@ module _ (state checkpoint log : List ℕ) (x c : ℕ) (l : Logged state log) {w
     unfolding inspect_of latest_from
     later-found {first} {r} a b =
         let ends : ends_of log ≡ ends_from log head_size = unfold ends_of in rw (log-end-head log e walk-passed, ends_of) in
-        rw (by_number ∙ z, tail-whole, ends, ← a) b
+        rw (by_number ∙ sym k, tail-whole, ends, ← a) b

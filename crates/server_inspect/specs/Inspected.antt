@@ -1,17 +1,24 @@
--- The test of a checkpoint beside its log; and where a place lies.
+-- The test of a checkpoint beside its log; the answer by its outcome; and where a place lies.
 -- Assumes nothing.
-use Rattle.std.specs.Prelude.{ℕ, ◌+◌, ◌-◌, ◌≤◌, ◌≡◌, Bool, true, not, List, length, take, drop, eqb}
+use Rattle.std.specs.Prelude.{ℕ, ◌+◌, ◌-◌, ◌≤◌, ◌≡◌, Bool, true, not, List, length, take, drop, eqb, Result, Ok, Err}
 use Rattle.std.proofs.Math.Option.{Option}
 use Rattle.model.specs.declared.Place.{Place}
 use Rattle.model.specs.Choice.{pick, or_else}
 use Rattle.model.specs.Logs.{head_server}
 use Rattle.model.specs.States.{State, load}
-use Rattle.model.specs.Checkpoints.{in_checkpoint}
+use Rattle.model.specs.Checkpoints.{in_checkpoint, no_place}
+use Rattle.refusals.specs.declared.Refusal.{Refusal}
+use Rattle.refusals.specs.Numbers.{number_of}
 use Rattle.server_memory.specs.Memory.{Fit}
 
 -- no state, or one of another server than the log
 unfoldable pub foreign : Option State → List ℕ → Bool
 foreign o log = or_else o true (λ st. not (eqb (head_server log) st.server))
+
+-- the answer by its outcome: a place, or a refusal's number
+abbrev pub placed_by : Result Place Refusal → Place
+placed_by (Ok p) = p
+placed_by (Err e) = no_place (number_of e)
 
 -- a sound state, and a log of just its recorded length
 pub record Logged (state log : List ℕ) : Type 0 where

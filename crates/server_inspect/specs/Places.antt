@@ -1,8 +1,8 @@
 -- The places of an id: in a row of a table, in an image, and in the records from a place of the log on.
 -- Assumes nothing.
-use Rattle.std.specs.Prelude.{ℕ, ◌+◌, Bool, ◌&&◌, List, length, eqb}
+use Rattle.std.specs.Prelude.{ℕ, ◌+◌, Bool, ◌&&◌, List, length, eqb, ltb, Option, None, Some}
 use Rattle.model.specs.declared.Place.{Place}
-use Rattle.model.specs.Choice.{or_else}
+use Rattle.model.specs.Choice.{pick, or_else}
 use Rattle.model.specs.Numbers.{le32_at}
 use Rattle.model.specs.Refusals.{unknown}
 use Rattle.model.specs.Images.{Image, entry_width, entries_start, image_head}
@@ -12,6 +12,10 @@ use Rattle.format_log_ends.specs.Walked.{ends_from}
 -- a row opens with the id: client and call
 unfoldable pub is_row_id : ℕ → ℕ → List ℕ → Bool
 is_row_id x c s = eqb (le32_at s 0) x && eqb (le32_at s 4) c
+
+-- an index, if it is below n
+abbrev pub below : ℕ → ℕ → Option ℕ
+below n i = pick (ltb i n) (Some i) None
 
 -- among the entries of an image that starts at a place of the log
 unfoldable pub place_in_image : ℕ → ℕ → ℕ → Image → Place → Place

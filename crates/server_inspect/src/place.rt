@@ -3,20 +3,22 @@ ghost use Rattle.std.specs.Prelude.{◌≡◌, true, ◌≤◌, length};
 ghost use Rattle.model.specs.Limits.{head_size};
 ghost use Rattle.model.specs.States.{state_end};
 ghost use Rattle.model.specs.Checkpoints.{no_place, checkpoint_state, checkpoint_framed, place_in_checkpoint, checkpoint_bad, inspect_of};
-ghost use Rattle.server_inspect.specs.Inspected.{foreign, Logged};
+ghost use Rattle.refusals.specs.Numbers.{number_of};
+ghost use Rattle.server_inspect.specs.Inspected.{foreign, Logged, placed_by};
 
 use crate::records;
 use model::constants::NO_REFUSAL;
 use model::{Place, constants};
+use refusals::Refusal;
 use state_records::ids;
 use state_rows::state;
 
 // No place: a refusal's number.
-fn no_place(refusal: u32) -> Place
-    ensures { result ≡ no_place refusal }
+fn no_place(refusal: Refusal) -> Place
+    ensures { result ≡ no_place (number_of refusal) }
 {
     Place {
-        refusal,
+        refusal: refusal.number(),
         source: 0,
         start: 0,
         end: 0,
@@ -57,7 +59,7 @@ fn place_in_checkpoint(checkpoint: &[u8], client: u32, call: u32) -> Place
     requires { 1 ≤ length checkpoint.now → checkpoint_framed checkpoint.now ≡ true }
     ensures { result ≡ place_in_checkpoint client call checkpoint.now }
 {
-    let none = no_place(constants::UNKNOWN);
+    let none = no_place(Refusal::Unknown);
     if checkpoint.len() == 0 {
         return none;
     }
@@ -70,19 +72,37 @@ fn place_in_checkpoint(checkpoint: &[u8], client: u32, call: u32) -> Place
 }
 
 // In a log that is as long as the state records, and in the checkpoint before it.
-fn place_logged(state: &[u8], checkpoint: &[u8], log: &[u8], client: u32, call: u32) -> Place
+fn place_logged(
+    state: &[u8],
+    checkpoint: &[u8],
+    log: &[u8],
+    client: u32,
+    call: u32,
+) -> Result<Place, Refusal>
     requires { Logged state.now log.now }
-    ensures { result ≡ inspect_of state.now checkpoint.now log.now client call }
+    ensures { placed_by result ≡ inspect_of state.now checkpoint.now log.now client call }
 {
     let walked = format_log_ends::log_end(log);
     let bad = checkpoint_bad(checkpoint, log);
     let lacks = ids::is_missing(state, client, call);
-    let refusal = server_decide::inspect_refusal(bad, walked.refusal != NO_REFUSAL, lacks);
-    if refusal != NO_REFUSAL {
-        return no_place(refusal);
-    }
+    server_decide::inspect_refusal(bad, walked.refusal != NO_REFUSAL, lacks)?;
     let first = place_in_checkpoint(checkpoint, client, call);
-    records::latest_in(log, walked.end as usize, client, call, first)
+    Ok(records::latest_in(log, walked.end as usize, client, call, first))
+}
+
+// In a tail that is no shorter than the state records, or 2; 19.
+fn place_lent(
+    state: &[u8],
+    checkpoint: &[u8],
+    tail: &[u8],
+    client: u32,
+    call: u32,
+) -> Result<Place, Refusal>
+    ensures { placed_by result ≡ inspect_of state.now checkpoint.now tail.now client call }
+{
+    server_memory::lent_refusal(state, tail, 0, 0)?;
+    let size = state::size_of(state) as usize;
+    place_logged(state, checkpoint, &tail[..size], client, call)
 }
 
 // 2 state too short; 19; 14 where there is a checkpoint but no state in it, or that of another server than the tail's,
@@ -92,10 +112,5 @@ fn place_logged(state: &[u8], checkpoint: &[u8], log: &[u8], client: u32, call: 
 pub fn place(state: &[u8], checkpoint: &[u8], tail: &[u8], client: u32, call: u32) -> Place
     ensures { result ≡ inspect_of state.now checkpoint.now tail.now client call }
 {
-    let refusal = server_memory::lent_refusal(state, tail, 0, 0);
-    if refusal != NO_REFUSAL {
-        return no_place(refusal);
-    }
-    let size = state::size_of(state) as usize;
-    place_logged(state, checkpoint, &tail[..size], client, call)
+    place_lent(state, checkpoint, tail, client, call).unwrap_or_else(no_place)
 }

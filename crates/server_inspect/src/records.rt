@@ -1,6 +1,5 @@
 // The places of an id: among rows of a table, in one record of a log, and the last of them in a whole log.
-ghost use Rattle.std.specs.Prelude.{◌≡◌, true, ◌+◌, ◌*◌, ◌≤◌, ◌<◌, length, drop, ltb};
-ghost use Rattle.model.specs.Choice.{pick};
+ghost use Rattle.std.specs.Prelude.{◌≡◌, true, ◌+◌, ◌*◌, ◌≤◌, ◌<◌, length, drop, IfSome, MatchOption};
 ghost use Rattle.model.specs.Numbers.{word};
 ghost use Rattle.std.proofs.Math.Option.{some};
 ghost use Rattle.model.specs.Limits.{head_size};
@@ -11,7 +10,7 @@ ghost use Rattle.model.specs.Checkpoints.{place_at, fronts, latest_of};
 ghost use Rattle.format_log_reader.specs.Answers.{image_in};
 ghost use Rattle.format_log_ends.specs.Answers.{extent_from};
 ghost use Rattle.format_log_ends.specs.Walked.{end_at, end_from};
-ghost use Rattle.server_inspect.specs.Places.{is_row_id, place_in_image, latest_from};
+ghost use Rattle.server_inspect.specs.Places.{is_row_id, below, place_in_image, latest_from};
 
 use format_log_ends::whole::whole_records;
 use format_log_reader::Record;
@@ -42,28 +41,37 @@ fn is_row_id(s: &[u8], k: usize, client: u32, call: u32) -> bool
     (owner == client) & (c == call)
 }
 
-// The index of the first of n rows of width bytes from at that has the id, n where none has.
-pub fn index_of(s: &[u8], at: usize, width: usize, n: usize, client: u32, call: u32) -> usize
+// The index of the first of n rows of width bytes from at that has the id.
+pub fn index_of(
+    s: &[u8],
+    at: usize,
+    width: usize,
+    n: usize,
+    client: u32,
+    call: u32,
+) -> Option<usize>
     requires { (at + width * n ≤ length s.now) × (8 ≤ width) }
-    ensures { result ≡ index_of (is_row_id client call) (fronts width n (drop at s.now)) }
+    ensures { result ≡ below n (index_of (is_row_id client call) (fronts width n (drop at s.now))) }
 {
-    for i in 0..n {
-        if is_row_id(s, at + width * i, client, call) {
-            return i;
-        }
-    }
-    n
+    (0..n).find(|i| is_row_id(s, at + width * *i, client, call))
 }
 
-// The row of index i of n rows of width bytes from at, or `found` where the index is none of theirs.
-pub fn place_of(source: u32, at: usize, width: usize, n: usize, i: usize, found: Place) -> Place
-    requires { at + width * n < word * word }
-    ensures { result ≡ pick (ltb i n) (place_at source (at + width * i) width) found }
+// The row of an index of n rows of width bytes from at, or `found` where there is none.
+pub fn place_of(
+    source: u32,
+    at: usize,
+    width: usize,
+    n: usize,
+    index: Option<usize>,
+    found: Place,
+) -> Place
+    requires { (at + width * n < word * word) × IfSome index (λ i. i < n) }
+    ensures { MatchOption index (result ≡ found) (λ i. result ≡ place_at source (at + width * i) width) }
 {
-    if i < n {
-        return place_at(source, at + width * i, width);
+    match index {
+        Some(i) => place_at(source, at + width * i, width),
+        None => found,
     }
-    found
 }
 
 // ---- one record

@@ -1,45 +1,51 @@
 // The state that a log gives on the one before it, made in a buffer apart, since a refusal leaves the lent state as it
 // was; and that buffer copied.
-ghost use Rattle.std.specs.Prelude.{◌≡◌, true, [], ◌≤◌, length};
+ghost use Rattle.std.specs.Prelude.{◌≡◌, [], ◌≤◌, length};
 ghost use Rattle.model.specs.Limits.{head_size};
 ghost use Rattle.model.specs.States.{load, state_end};
-ghost use Rattle.model.specs.Operations.{after, recovered_on};
+ghost use Rattle.model.specs.Operations.{after, stored, recovered_on, settle_recovered};
+ghost use Rattle.refusals.specs.Numbers.{answered};
 ghost use Rattle.state_rows.specs.Canonical.{Canonical};
-ghost use Rattle.state_restore.specs.Restored.{state_in};
 ghost use Rattle.server_recover.specs.Remaining.{StandsAt};
-ghost use Rattle.server_recover.specs.Rebuilt.{Rebuilt, settled_state};
+ghost use Rattle.server_recover.specs.Rebuilt.{Rebuilt};
 
-use model::{Answer, constants};
+use model::constants;
+use refusals::Refusal;
 use state_rows::state;
 
 // The state that the log gives on the one in a buffer of the state's size, with the mark at the end of its records.
-pub fn rebuild_on(work: &mut [u8], log: &[u8]) -> bool
+fn rebuild_on(work: &mut [u8], log: &[u8]) -> Result<(), Refusal>
     requires { (length work.old ≡ state_end) × StandsAt work.old head_size }
     ensures { Rebuilt (recovered_on (load work.old) log.now) work.new result }
 {
     let found = format_log_ends::log_end(log);
     if found.refusal != constants::NO_REFUSAL {
-        return false;
+        return Err(Refusal::BadLog);
     }
     if !crate::replay::replay_log(work, log, found.end as usize) {
-        return false;
+        return Err(Refusal::BadLog);
     }
     let size = state::size_of(work);
     state::set_mark(work, size);
-    true
+    Ok(())
 }
 
-// The rebuilt state, if there is one. Its own bytes alone are copied: what lies behind them in the lent buffer stays.
-pub fn settle(state: &mut [u8], work: &[u8], done: bool) -> Answer
-    requires { (state_end ≤ length work.now) × (state_end ≤ length state.old)
-        × (done ≡ true → Canonical work.now) }
-    ensures { after result state.new [] []
-        ≡ settled_state state.old [] (state_in done work.now) }
+// The rebuilt state. Its own bytes alone are copied: what lies behind them in the lent buffer stays.
+fn settle(state: &mut [u8], work: &[u8])
+    requires { Canonical work.now × (state_end ≤ length state.old) }
+    ensures { state.new ≡ stored state.old (load work.now) }
 {
-    if !done {
-        return server_decide::refused(constants::BAD_LOG);
-    }
     let end = constants::RECORDS_START + constants::RECORD_ROW * state::records_of(work);
     format_numbers::copy_part(state, 0, work, 0, end);
-    server_decide::made(0)
+}
+
+// 14, or the lent state is the one that the log gives on that of a buffer.
+pub fn rebuild(state: &mut [u8], work: &mut [u8], log: &[u8]) -> Result<u32, Refusal>
+    requires { (state_end ≤ length state.old) × (length work.old ≡ state_end) × StandsAt work.old head_size }
+    ensures { after (answered result) state.new log.now []
+        ≡ settle_recovered state.old log.now (recovered_on (load work.old) log.now) }
+{
+    rebuild_on(work, log)?;
+    settle(state, work);
+    Ok(0)
 }

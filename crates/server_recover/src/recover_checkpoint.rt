@@ -3,55 +3,38 @@ ghost use Rattle.std.specs.Prelude.{◌≡◌, [], length};
 ghost use Rattle.model.specs.States.{state_end};
 ghost use Rattle.model.specs.Operations.{after};
 ghost use Rattle.model.specs.Checkpoints.{recovered_tail, recover_tail_of};
-ghost use Rattle.server_recover.specs.Rebuilt.{Begun, Rebuilt};
+ghost use Rattle.refusals.specs.Numbers.{answered};
+ghost use Rattle.server_recover.specs.Rebuilt.{Begun};
 
-use model::Answer;
+use refusals::Refusal;
 use state_rows::state;
 
 // The state that a checkpoint gives, of the server of the tail's head.
-fn begin_checkpoint(work: &mut [u8], checkpoint: &[u8], tail: &[u8]) -> bool
+fn begin_checkpoint(work: &mut [u8], checkpoint: &[u8], tail: &[u8]) -> Result<(), Refusal>
     requires { length work.old ≡ state_end }
     ensures { Begun (recovered_tail checkpoint.now tail.now) tail.now
         work.new result }
 {
     if !format_log_ends::head_ok(tail) {
-        return false;
+        return Err(Refusal::BadLog);
     }
     if !state_restore::restore_sound(work, checkpoint) {
-        return false;
+        return Err(Refusal::BadLog);
     }
-    format_log_ends::head_server(tail) == state::server_of(work)
-}
-
-fn rebuild_tail(work: &mut [u8], checkpoint: &[u8], tail: &[u8]) -> bool
-    requires { length work.old ≡ state_end }
-    ensures { Rebuilt (recovered_tail checkpoint.now tail.now) work.new result }
-{
-    if !begin_checkpoint(work, checkpoint, tail) {
-        return false;
+    if format_log_ends::head_server(tail) != state::server_of(work) {
+        return Err(Refusal::BadLog);
     }
-    crate::rebuild::rebuild_on(work, tail)
-}
-
-fn recover_tail_with(state: &mut [u8], work: &mut [u8], checkpoint: &[u8], tail: &[u8]) -> Answer
-    requires { length work.old ≡ state_end }
-    ensures { after result state.new tail.now []
-        ≡ recover_tail_of state.old checkpoint.now tail.now }
-{
-    let refusal = server_decide::recover_checkpoint_refusal(state.len());
-    if refusal != 0 {
-        return server_decide::refused(refusal);
-    }
-    let done = rebuild_tail(work, checkpoint, tail);
-    crate::rebuild::settle(state, work, done)
+    Ok(())
 }
 
 // 2 state too short; 14 the checkpoint gives no sound state, or one of another server than the tail, or the tail as for
 // recover; else the state that the tail's whole records give on the checkpoint's, and the mark is their end.
-pub fn recover_checkpoint(state: &mut [u8], checkpoint: &[u8], tail: &[u8]) -> Answer
-    ensures { after result state.new tail.now []
+pub fn recover_checkpoint(state: &mut [u8], checkpoint: &[u8], tail: &[u8]) -> Result<u32, Refusal>
+    ensures { after (answered result) state.new tail.now []
         ≡ recover_tail_of state.old checkpoint.now tail.now }
 {
+    server_decide::recover_checkpoint_refusal(state.len())?;
     let mut work = state_rows::blank();
-    recover_tail_with(state, &mut work, checkpoint, tail)
+    begin_checkpoint(&mut work, checkpoint, tail)?;
+    crate::rebuild::rebuild(state, &mut work, tail)
 }

@@ -4,7 +4,7 @@
 --     recovered-parts        what recovery leaves
 -- Assumes nothing.
 use Prim.Native.Nat.{ℕ, ◌-◌}
-use mathlib.Core.Path.{◌≡◌, refl, ap}
+use mathlib.Core.Path.{◌≡◌, refl, ap, ◌∙◌}
 use mathlib.Core.Bool.{Bool, true, false}
 use mathlib.Core.List.{List, []}
 use native.Mathlib.Omega.{arith}
@@ -43,5 +43,5 @@ pub cut-served : (m : Made) (s l t store : List ℕ) (n k : ℕ) → cut_is m t 
 unfolding server_ran cutting outcome_is
 cut-served m s l t store n k p q = (rw (q, ← p) refl, record { least = omega arith; most = omega arith })
 
-pub recovered-parts : {a : Answer} {s l : List ℕ} {x : After} → after a s l [] ≡ x → (a.refusal ≡ x.answer.refusal) × (s ≡ x.state)
-recovered-parts e = (ap (λ (y : After). y.answer.refusal) e, ap (λ (y : After). y.state) e)
+pub recovered-parts : {a b : Answer} {s l : List ℕ} {x : After} → a ≡ b → after b s l [] ≡ x → (a.refusal ≡ x.answer.refusal) × (s ≡ x.state)
+recovered-parts p e = (ap (λ (y : Answer). y.refusal) p ∙ ap (λ (y : After). y.answer.refusal) e, ap (λ (y : After). y.state) e)

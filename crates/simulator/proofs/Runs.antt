@@ -28,6 +28,9 @@ use Rattle.simulator_text.proofs.Fields.{lines_next, lines_none}
 use Rattle.simulator_text.proofs.Texts.{length-reply}
 use Rattle.simulator_memory.specs.Store.{row_size, Next}
 use Rattle.simulator.specs.Whole.{Ready}
+use Rattle.simulator.specs.declared.Lent.{Lent}
+use Rattle.simulator.specs.Lending.{SameSlice, SameSlices}
+use Rattle.std.specs.Borrow.{MutBor}
 use Rattle.simulator.specs.declared.Turn.{Turn}
 use Rattle.simulator.specs.Run.{next_place, Turned, Printed, Simulated, simulated, handed, simulate_of}
 
@@ -186,3 +189,17 @@ test-left k at n e = leb-true k most_lines (and_left (leb k most_lines) (ltb at 
 
 pub test_right : (k at n : ℕ) → (leb k most_lines && ltb at n) ≡ true → at < n
 test_right k at n e = ltb-true at n (and_right (leb k most_lines) (ltb at n) e)
+
+-- ---- the lent slices, kept from call to call
+
+same_slice : (x y z : MutBor (List ℕ)) → SameSlice x y → SameSlice y z → SameSlice x z
+same_slice x y z p q = (q.0 ∙ p.0, q.1 ∙ p.1)
+
+pub same_slices : (x y z : Lent) → SameSlices x y → SameSlices y z → SameSlices x z
+same_slices x y z p q = (
+  same_slice x.s0 y.s0 z.s0 p.0 q.0,
+  same_slice x.log0 y.log0 z.log0 p.1 q.1,
+  same_slice x.s1 y.s1 z.s1 p.2 q.2,
+  same_slice x.log1 y.log1 z.log1 p.3 q.3,
+  same_slice x.store y.store z.store p.4 q.4,
+)

@@ -4,3 +4,4 @@ pub mod Server
 pub mod Attended
 pub mod Whole
 pub mod Run
+pub mod Lending

@@ -26,8 +26,8 @@ fn sync_line(s: &mut [u8], log: &[u8], store: &mut [u8], count: u32) -> Made
         count result s.new log.now store.new }
 {
     let size = state::size_of(s);
-    let answer = server_service::sync::sync(s, log, size);
-    outcome::called(store, count, answer, &log[0..0])
+    let answer = refusals::answer(server_service::sync::sync(s, log, size));
+    outcome::called(store, count, answer, &[])
 }
 
 fn give_line(
@@ -44,8 +44,8 @@ fn give_line(
         (give_of s.old log.old point destination))
         count result s.new log.new store.new }
 {
-    let answer = server_moves::give::give(s, log, point, destination);
-    outcome::called(store, count, answer, &log[0..0])
+    let answer = refusals::answer(server_moves::give::give(s, log, point, destination));
+    outcome::called(store, count, answer, &[])
 }
 
 // An output for the longest image.
@@ -62,7 +62,7 @@ fn image_to(s: &[u8], log: &[u8], store: &mut [u8], count: u32, point: u32, out:
         (image_of today s.now log.now point out.old))
         count result s.now log.now store.new }
 {
-    let answer = server_moves::image::image(s, log, point, out);
+    let answer = refusals::answer(server_moves::image::image(s, log, point, out));
     outcome::called(store, count, answer, out)
 }
 
@@ -85,7 +85,7 @@ fn receipt_line(s: &[u8], log: &[u8], store: &mut [u8], count: u32, point: u32) 
         count result s.now log.now store.new }
 {
     let mut out = [0u8; constants::RECEIPT_SIZE];
-    let answer = server_moves::receipt::receipt(s, log, point, &mut out);
+    let answer = refusals::answer(server_moves::receipt::receipt(s, log, point, &mut out));
     outcome::called(store, count, answer, &out)
 }
 
@@ -97,8 +97,7 @@ fn recover_from(s: &mut [u8], log: &[u8]) -> u32
         × (s.new ≡ (recover_of s.old log.now simulator_plan).state) }
 {
     let table = crate::start::plan();
-    let answer = server_recover::recover::recover(s, log, &table);
-    answer.refusal
+    refusals::answer(server_recover::recover::recover(s, log, &table)).refusal
 }
 
 // 10 outside mark to length; else the log is cut, and the server recovers.

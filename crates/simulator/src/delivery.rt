@@ -1,14 +1,10 @@
 // A packet arrives at a server (paper: the yard): request, release or take by its kind, by the same functions as the C
 // interface.
-ghost use Rattle.std.specs.Prelude.{◌≡◌, [], ◌+◌, ◌*◌, ◌≤◌, length};
+ghost use Rattle.std.specs.Prelude.{◌≡◌, ◌+◌, ◌≤◌};
 ghost use Rattle.std.proofs.Math.Option.{some};
 ghost use Rattle.model.specs.Numbers.{byte_at};
-ghost use Rattle.model.specs.Limits.{result_size};
-ghost use Rattle.model.specs.Versions.{today};
-ghost use Rattle.model.specs.Operations.{after, request_of, release_of, take_of};
-ghost use Rattle.model.specs.Simulator.{room};
-ghost use Rattle.simulator_memory.specs.Store.{row_size, packet_in, packets_in, numbered, Room};
-ghost use Rattle.simulator.specs.Served.{served_by, delivering, Leaves};
+ghost use Rattle.simulator_memory.specs.Store.{packet_in, packets_in, numbered, Room};
+ghost use Rattle.simulator.specs.Served.{delivering, Leaves};
 
 use model::constants;
 use simulator_memory::{Made, outcome, packets};
@@ -35,15 +31,16 @@ fn deliver_row(s: &mut [u8], log: &mut [u8], store: &mut [u8], count: u32, row: 
     match first_byte(packet) {
         constants::REQUEST_KIND => {
             let mut out = [0u8; constants::RESULT_SIZE];
-            let answer = server_service::request::request(s, log, packet, &mut out);
+            let outcome = server_service::request::request(s, log, packet, &mut out);
+            let answer = refusals::request_answer(outcome);
             outcome::called(store, count, answer, &out)
         }
         constants::RECEIPT_KIND => {
-            let answer = server_moves::release::release(s, log, packet);
+            let answer = refusals::answer(server_moves::release::release(s, log, packet));
             outcome::called(store, count, answer, &[])
         }
         IMAGE_BYTE => {
-            let answer = server_moves::take::take(s, log, packet);
+            let answer = refusals::answer(server_moves::take::take(s, log, packet));
             outcome::called(store, count, answer, &[])
         }
         _ => outcome::told(count, constants::MALFORMED),

@@ -25,6 +25,16 @@ const STORE: usize = packets::ROW * MOST_LINES as usize;
 // The answers of a run: room for each line's.
 pub const PAGE: usize = write_reply::REPLY_ROOM * MOST_LINES as usize;
 
+// The lent slices of a simulator: the states and logs of servers 0 and 1, and the packets made.
+#[derive(Drop)]
+pub struct Lent<'a> {
+    pub s0: &'a mut [u8],
+    pub log0: &'a mut [u8],
+    pub s1: &'a mut [u8],
+    pub log1: &'a mut [u8],
+    pub store: &'a mut [u8],
+}
+
 // What one line of the text leaves.
 #[derive(Clone, Copy)]
 pub struct Turn {
@@ -70,9 +80,14 @@ fn answers(text: &[u8], page: &mut [u8]) -> usize
     let mut s1 = blank_state();
     let mut log1 = blank_log();
     let mut store = blank_store();
-    run::run_new(
-        text, page, &mut s0, &mut log0, &mut s1, &mut log1, &mut store,
-    )
+    let mut lent = Lent {
+        s0: &mut s0,
+        log0: &mut log0,
+        s1: &mut s1,
+        log1: &mut log1,
+        store: &mut store,
+    };
+    run::run_new(text, page, &mut lent)
 }
 
 // ---- a schedule

@@ -3,10 +3,10 @@
 ghost use Rattle.std.specs.Prelude.{◌≡◌, ◌+◌, ◌≤◌, ◌<◌, length};
 ghost use Rattle.model.specs.Simulator.{new_simulator};
 ghost use Rattle.model.specs.Letters.{reply_room};
-ghost use Rattle.simulator.specs.Whole.{simulator_in, Ready};
-ghost use Rattle.simulator.specs.Run.{Turned, Space, Fresh, Printed, next_place};
+ghost use Rattle.simulator.specs.Run.{Turned, Printed, next_place};
+ghost use Rattle.simulator.specs.Lending.{lent_simulator, SameSlices, LentReady, LentSpace, LentFresh};
 
-use crate::Turn;
+use crate::{Lent, Turn};
 use simulator_memory::Memory;
 use simulator_text::{MOST_LINES, read_line, write_reply};
 
@@ -21,28 +21,23 @@ fn next_place(end: usize, n: usize) -> usize
 fn run_line(
     text: &[u8],
     page: &mut [u8],
-    s0: &mut [u8],
-    log0: &mut [u8],
-    s1: &mut [u8],
-    log1: &mut [u8],
-    store: &mut [u8],
+    lent: &mut Lent,
     memory: Memory,
     at: usize,
     n: usize,
     number: u32,
 ) -> Turn
-    requires { Ready s0.old s1.old store.old memory.count × (at < length text.now)
+    requires { LentReady lent.old memory.count × (at < length text.now)
         × (n + reply_room ≤ length page.old) }
-    ensures { Turned text.now at number n
-        (simulator_in s0.old log0.old s1.old log1.old
-        store.old memory) page.old memory.count result
-        (simulator_in s0.new log0.new s1.new log1.new store.new
-        result.memory) page.new }
+    ensures kept { SameSlices lent.old lent.new }
+    ensures turned { Turned text.now at number n
+        (lent_simulator lent.old memory) page.old memory.count result
+        (lent_simulator lent.new result.memory) page.new }
 {
     let width = simulator_text::find(&text[at..], b'\n');
     let end = at + width;
     let line = read_line::line_of(&text[at..end]);
-    let stepped = crate::step::step(s0, log0, s1, log1, store, memory, line);
+    let stepped = crate::step::step(lent, memory, line);
     let after = stepped.memory;
     let reply = stepped.reply;
     let i = write_reply::put_reply(page, n, number, reply);
@@ -55,26 +50,17 @@ fn run_line(
 }
 
 // The lines of the text, one after the other; the bytes of the page that hold their answers.
-fn run(
-    text: &[u8],
-    page: &mut [u8],
-    s0: &mut [u8],
-    log0: &mut [u8],
-    s1: &mut [u8],
-    log1: &mut [u8],
-    store: &mut [u8],
-    memory: Memory,
-) -> usize
-    requires { Space page.old s0.old s1.old store.old memory.count }
-    ensures { Printed text.now (simulator_in s0.old log0.old s1.old
-        log1.old store.old memory) page.new result }
+fn run(text: &[u8], page: &mut [u8], lent: &mut Lent, memory: Memory) -> usize
+    requires { LentSpace page.old lent.old memory.count }
+    ensures kept { SameSlices lent.old lent.new }
+    ensures printed { Printed text.now (lent_simulator lent.old memory) page.new result }
 {
     let mut after = memory;
     let mut at = 0;
     let mut n = 0;
     let mut number: u32 = 1;
     while (number <= MOST_LINES) & (at < text.len()) {
-        let turn = run_line(text, page, s0, log0, s1, log1, store, after, at, n, number);
+        let turn = run_line(text, page, lent, after, at, n, number);
         after = turn.memory;
         at = turn.at;
         n = turn.n;
@@ -84,18 +70,11 @@ fn run(
 }
 
 // A new simulator in the lent slices, and its run.
-pub fn run_new(
-    text: &[u8],
-    page: &mut [u8],
-    s0: &mut [u8],
-    log0: &mut [u8],
-    s1: &mut [u8],
-    log1: &mut [u8],
-    store: &mut [u8],
-) -> usize
-    requires { Fresh page.old s0.old log0.old s1.old log1.old store.old }
-    ensures { Printed text.now new_simulator page.new result }
+pub fn run_new(text: &[u8], page: &mut [u8], lent: &mut Lent) -> usize
+    requires { LentFresh page.old lent.old }
+    ensures kept { SameSlices lent.old lent.new }
+    ensures printed { Printed text.now new_simulator page.new result }
 {
-    let memory = crate::start::new_simulator(s0, log0, s1, log1);
-    run(text, page, s0, log0, s1, log1, store, memory)
+    let memory = crate::start::new_simulator(lent);
+    run(text, page, lent, memory)
 }

@@ -56,9 +56,6 @@ fronted_next {w} {v} {n} {s₀} {t} {s} {s'} {i} h b o l q =
           ∙ ap (λ (y : List ℕ). written s₀ 0 y) one;
     }
 
-pub fronted_end : {w v n : ℕ} {s₀ t s : List ℕ} {i : ℕ} → Fronted w v n s₀ t s i → n ≤ i → s ≡ written s₀ 0 (bytes_of (take w) (fronts v n t))
-fronted_end {w} {v} {n} {s₀} {t} {s} {i} o h = let e : n ≡ i = omega (arith, o.below) in rw e o.bytes
-
 -- ---- rows that were read
 
 module _ {A : Type 0} (C : Codec A) (w : ℕ) (h : w ≤ C.width) where

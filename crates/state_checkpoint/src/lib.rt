@@ -27,10 +27,8 @@ fn copy_fronts(out: &mut [u8], table: &[u8], width: usize, stride: usize, n: usi
     ensures { out.new ≡ written out.old 0
         (bytes_of (take width) (fronts stride n table.now)) }
 {
-    let mut i = 0;
-    while i < n {
+    for i in 0..n {
         format_numbers::copy_part(out, width * i, table, stride * i, width);
-        i += 1;
     }
 }
 

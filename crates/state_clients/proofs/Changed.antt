@@ -3,7 +3,7 @@
 --     holds-start, holds-next       the first buffer; a change
 --     holds-set, holds-add, holds-drop     what the calls of `client_rows` leave
 --     holds-canonical, holds-floors     what a call needs
---     all_set, all_take, all_drop             a property of all rows
+--     all_take, all_drop             a property of all rows
 -- Assumes nothing.
 use Prim.Native.Nat.{ℕ, zero, suc, ◌≤◌, ◌<◌}
 use mathlib.Core.Path.{◌≡◌, refl, sym, ap, ◌∙◌}
@@ -19,14 +19,9 @@ use Rattle.model_laws.specs.Fits.{FloorFits, StateFits}
 use Rattle.model_laws.specs.Layout.{with_floors}
 use Rattle.model_laws.proofs.Tables.{all_append}
 use Rattle.state_rows.specs.Canonical.{Canonical}
-use Rattle.state_rows.proofs.Chains.{stored_same, stored-stored, load_stored, canonical-stored, fits-floors}
+use Rattle.state_rows.proofs.Chains.{stored_same, stored-stored, load_stored, canonical-stored, all_set, fits-floors}
 
 module _ {A : Type 0} (P : A → Type 0) where
-  pub all_set : (xs : List A) (i : ℕ) (x : A) → All P xs → P x → All P (set xs i x)
-  all_set [] i x a h = tt
-  all_set (y ∷ ys) zero x a h = (h, a.1)
-  all_set (y ∷ ys) (suc i) x a h = (a.0, all_set ys i x a.1 h)
-
   pub all_take : (k : ℕ) (xs : List A) → All P xs → All P (take k xs)
   all_take zero xs a = tt
   all_take (suc k) [] a = tt

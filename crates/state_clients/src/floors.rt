@@ -1,5 +1,6 @@
 // A table of floors (rows of client and floor, 8 bytes) at a place of a slice: the place of a client in it, its floor,
-// and the slot of one of its calls.
+// and the slot of one of its calls. Slice, place and number of the rows stay parameters: no plainer as a struct, since
+// a caller makes one call or two, and would build it and prove its field for them.
 ghost use Rattle.std.specs.Prelude.{◌≡◌, ◌+◌, ◌-◌, ◌*◌, ◌≤◌, length, drop, get_or};
 ghost use Rattle.model.specs.Limits.{client_count, floor_row};
 ghost use Rattle.model.specs.Tables.{rows};
@@ -9,7 +10,8 @@ ghost use Rattle.state_clients.specs.Places.{place_of, slot_of, no_floor};
 use model::constants;
 use model::constants::FLOOR_ROW;
 
-// The index of the client among n floors from at, n where it is not there.
+// The index of the client among n floors from at, n where it is not there. No Option: no plainer, since a client that
+// is not there has slots too, behind those of the others.
 pub fn client_place(s: &[u8], at: usize, n: usize, client: u32) -> usize
     requires { at + floor_row * n ≤ length s.now }
     ensures { result ≡ place_of client (rows floor_of_bytes floor_row n (drop at s.now)) }

@@ -22,7 +22,9 @@ use state_rows::state;
 
 // ---- where a client stands
 
-// The index of the first client that is not below this one, the number of clients where there is none.
+// The index of the first client that is not below this one, the number of clients where there is none. A loop of its
+// own beside that of `floors::client_place`: no plainer shared, since the test would be a closure with a law of its
+// own, from which each of the two contracts would have to follow.
 fn place(s: &[u8], client: u32) -> usize
     requires { Canonical s.now }
     ensures { result ≡ ordered_place client (load s.now).floors }

@@ -3,7 +3,7 @@
 -- Assumes nothing.
 use Prim.Native.Nat.{ℕ}
 use mathlib.Core.Path.{◌≡◌, refl, sym, subst, ◌∙◌}
-use mathlib.Core.Bool.{Bool, true, false, ◌&&◌, ◌||◌, not}
+use mathlib.Core.Bool.{Bool, true, false, ◌&&◌, ◌||◌, not, and-true}
 use mathlib.Core.List.{List, [], ◌∷◌}
 use mathlib.Core.Option.{Option as Maybe, none, some}
 use lib.Dec.{eqb}
@@ -24,10 +24,6 @@ use Rattle.state_records.specs.Rules.{found_of}
 unfoldable free_by : ℕ → Maybe Completion → Bool
 free_by p none = true
 free_by p (some r) = eqb r.command.point p
-
-and-true : (b : Bool) → (b && true) ≡ b
-and-true true = refl
-and-true false = refl
 
 module _ (p : ℕ) (e : ImageEntry) where
   abbrev free : Completion → Bool

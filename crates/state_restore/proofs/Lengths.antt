@@ -1,7 +1,6 @@
 -- The frame of a checkpoint, and lengths of what is stored of it.
 --     framed_by                     the test of the frame, with the pairs tested apart
 --     records-within                the table of completion records lies in the checkpoint
---     whole-rows                    the rows of a part
 --     length_part                   n bytes of a slice
 --     rows-length, padded-length, head-length     rows, a table with the zeros past its rows, the head
 -- Assumes nothing.
@@ -10,7 +9,7 @@ use mathlib.Core.Path.{◌≡◌, sym, ◌∙◌}
 use mathlib.Core.Bool.{Bool, ◌&&◌, ◌||◌}
 use mathlib.Core.List.{List}
 use native.Mathlib.Omega.{arith}
-use native.Mathlib.Nat.{mul-zero, mul-suc, mul-div-le}
+use native.Mathlib.Nat.{mul-zero, mul-suc}
 use lib.ListN.{length, drop, replicate, length-append, length-drop, length-replicate}
 use lib.Seq.{length-take-le}
 use borrow.Author.Tests.{le-leb}
@@ -36,10 +35,6 @@ pub records-within : (s : List ℕ) → Framed s → {n w k : ℕ} → n ≡ cli
     → (records_part n + w * k ≤ length s) × (k ≤ record_count) × (w ≤ checkpoint_record)
 unfolding records_of
 records-within s d p v q = rw (q, v, p) (d.whole, d.few_records, (record-width s).1)
-
--- whole rows of w bytes take no more than what was read
-pub whole-rows : {v b : ℕ} (w : ℕ) → v ≡ b → w * (v / w) ≤ v
-whole-rows {v} w e = mul-div-le v w
 
 -- ---- lengths
 

@@ -83,9 +83,6 @@ module _ (enc : List ℕ → List ℕ) (v w : ℕ) (long : (s : List ℕ) → v 
             ∙ ap (λ (y : List ℕ). written s₀ a y) one;
       }
 
-  pub filled-end : {k a n : ℕ} {s₀ t s : List ℕ} {i : ℕ} → Filled enc v w k a n s₀ t s i → n ≤ i → s ≡ written s₀ a (bytes_of enc (fronts v n (drop k t)))
-  filled-end {k} {a} {n} {s₀} {t} {s} {i} o h = let e : n ≡ i = omega (arith, o.below) in rw e o.bytes
-
 -- ---- tables
 
 pub client-runs : (s t : List ℕ) (n : ℕ) → records_part n ≤ length t → n ≤ client_count

@@ -171,15 +171,13 @@ fn put_points(s: &mut [u8], checkpoint: &[u8])
     ensures { s.new ≡ written s.old points_start
         (bytes_of point_whole (fronts checkpoint_point point_count (drop points_part checkpoint.now))) }
 {
-    let mut i = 0;
-    while i < POINT_COUNT {
+    for i in 0..POINT_COUNT {
         put_point(
             s,
             constants::POINTS_START + POINT_ROW * i,
             checkpoint,
             POINTS_PART + CHECKPOINT_POINT * i,
         );
-        i += 1;
     }
 }
 
@@ -203,8 +201,7 @@ fn put_records(s: &mut [u8], checkpoint: &[u8], from: usize, width: usize, count
         ≡ written s.old records_start
         (bytes_of (record_whole width) (fronts width count (drop from checkpoint.now))) }
 {
-    let mut i = 0;
-    while i < count {
+    for i in 0..count {
         put_record(
             s,
             RECORDS_START + RECORD_ROW * i,
@@ -212,7 +209,6 @@ fn put_records(s: &mut [u8], checkpoint: &[u8], from: usize, width: usize, count
             from + width * i,
             width,
         );
-        i += 1;
     }
 }
 

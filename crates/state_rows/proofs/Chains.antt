@@ -2,6 +2,7 @@
 --     canonical-sound                 a sound buffer is canonical
 --     canonical-stored, load_stored   what a state that fits leaves in a buffer; its state
 --     stored-stored, length-stored    the last of two states stands; stored_same: a buffer's own state changes nothing
+--     all_set                         a property of all rows, one replaced
 --     fits-heard, fits-size, fits-mark, fits-point, fits-floors, fits-records     a state that fits, with one part replaced
 -- Assumes nothing.
 use Prim.Native.Nat.{ℕ, zero, suc, ◌*◌, ◌≤◌, ◌<◌}
@@ -13,7 +14,7 @@ use lib.ListN.{length, set, length-set}
 use Rattle.model.specs.declared.Floor.{Floor}
 use Rattle.model.specs.declared.Point.{Point}
 use Rattle.model.specs.declared.Completion.{Completion}
-use Rattle.model.specs.Limits.{client_count, record_count}
+use Rattle.model.specs.Limits.{point_count, client_count, record_count}
 use Rattle.model.specs.Numbers.{word}
 use Rattle.model.specs.States.{State, load, state_bytes, state_end, sound}
 use Rattle.model.specs.Apply.{with_mark}
@@ -39,6 +40,12 @@ stored_same s w = w.same
 pub length-stored : (s : List ℕ) (st : State) → length (stored s st) ≡ length s
 unfolding stored
 length-stored s st = length-written s 0 (state_bytes st)
+
+module _ {A : Type 0} (P : A → Type 0) where
+  pub all_set : (xs : List A) (i : ℕ) (x : A) → All P xs → P x → All P (set xs i x)
+  all_set [] i x a h = tt
+  all_set (y ∷ ys) zero x a h = (h, a.1)
+  all_set (y ∷ ys) (suc i) x a h = (a.0, all_set ys i x a.1 h)
 
 module _ (s : List ℕ) where
   -- of two states the last stands: it has at least as many rows
@@ -71,114 +78,26 @@ module _ (s : List ℕ) where
 module _ (st : State) (f : StateFits st) where
   pub fits-heard : (t : ℕ) → t < word → StateFits (with_heard t st)
   unfolding with_heard
-  fits-heard t h =
-      record {
-        server = f.server;
-        heard = h;
-        size = f.size;
-        mark = f.mark;
-        plan = f.plan;
-        plan-count = f.plan-count;
-        points = f.points;
-        points-count = f.points-count;
-        floors = f.floors;
-        floors-count = f.floors-count;
-        records = f.records;
-        records-count = f.records-count;
-      }
+  fits-heard t h = assumption
 
   pub fits-size : (k : ℕ) → k < word * word → StateFits (with_size k st)
   unfolding with_size
-  fits-size k h =
-      record {
-        server = f.server;
-        heard = f.heard;
-        size = h;
-        mark = f.mark;
-        plan = f.plan;
-        plan-count = f.plan-count;
-        points = f.points;
-        points-count = f.points-count;
-        floors = f.floors;
-        floors-count = f.floors-count;
-        records = f.records;
-        records-count = f.records-count;
-      }
+  fits-size k h = assumption
 
   pub fits-mark : (k : ℕ) → k < word * word → StateFits (with_mark k st)
   unfolding with_mark
-  fits-mark k h =
-      record {
-        server = f.server;
-        heard = f.heard;
-        size = f.size;
-        mark = h;
-        plan = f.plan;
-        plan-count = f.plan-count;
-        points = f.points;
-        points-count = f.points-count;
-        floors = f.floors;
-        floors-count = f.floors-count;
-        records = f.records;
-        records-count = f.records-count;
-      }
-
-  all_set : (xs : List Point) (p : ℕ) (x : Point) → All PointFits xs → PointFits x → All PointFits (set xs p x)
-  all_set [] p x a h = tt
-  all_set (y ∷ ys) zero x a h = (h, a.1)
-  all_set (y ∷ ys) (suc p) x a h = (a.0, all_set ys p x a.1 h)
+  fits-mark k h = assumption
 
   pub fits-point : (p : ℕ) (x : Point) → PointFits x → StateFits (with_point p x st)
   unfolding with_point
   fits-point p x h =
-      record {
-        server = f.server;
-        heard = f.heard;
-        size = f.size;
-        mark = f.mark;
-        plan = f.plan;
-        plan-count = f.plan-count;
-        points = all_set st.points p x f.points h;
-        points-count =
-            rw length-set f.points-count;
-        floors = f.floors;
-        floors-count = f.floors-count;
-        records = f.records;
-        records-count = f.records-count;
-      }
+      let count : length (set st.points p x) ≡ point_count = rw length-set f.points-count in
+      assumption (all_set PointFits st.points p x f.points h, count)
 
   pub fits-floors : (fs : List Floor) → All FloorFits fs → length fs ≤ client_count → StateFits (with_floors fs st)
   unfolding with_floors
-  fits-floors fs a h =
-      record {
-        server = f.server;
-        heard = f.heard;
-        size = f.size;
-        mark = f.mark;
-        plan = f.plan;
-        plan-count = f.plan-count;
-        points = f.points;
-        points-count = f.points-count;
-        floors = a;
-        floors-count = h;
-        records = f.records;
-        records-count = f.records-count;
-      }
+  fits-floors fs a h = assumption
 
   pub fits-records : (rs : List Completion) → All CompletionFits rs → length rs ≤ record_count → StateFits (with_records rs st)
   unfolding with_records
-  fits-records rs a h =
-      record {
-        server = f.server;
-        heard = f.heard;
-        size = f.size;
-        mark = f.mark;
-        plan = f.plan;
-        plan-count = f.plan-count;
-        points = f.points;
-        points-count = f.points-count;
-        floors = f.floors;
-        floors-count = f.floors-count;
-        records = a;
-        records-count = h;
-      }
+  fits-records rs a h = assumption

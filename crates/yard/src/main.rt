@@ -3,14 +3,13 @@
 // lines end within them, since later lines are not read; else it says so on standard error and answers nothing.
 #![tactic(auto)]
 
-ghost use Rattle.std.specs.Prelude.{◌≡◌, ◌≤◌, ◌+◌, ◌*◌, length, IfOk};
+ghost use Rattle.std.specs.Prelude.{◌≡◌, ◌≤◌, ◌+◌, ◌*◌, length};
 ghost use Rattle.model.specs.Simulator.{most_lines};
 ghost use Rattle.model.specs.Letters.{reply_room};
 ghost use Rattle.yard.specs.Input.{longest, holds_all};
 
 use model::Answer;
 use std::io;
-use std::io::Read;
 
 // Bytes of an input that is read whole.
 const LONGEST: usize = 65536;
@@ -54,23 +53,8 @@ fn answer(rt: &(impl Print + Eprint), text: &[u8]) -> io::Result<()> {
     rt.write_all(&out[..n])
 }
 
-// Reads until text is full or the input ends, and returns how many bytes it put at its start.
-fn read_full(input: &mut impl Read, text: &mut [u8]) -> io::Result<usize>
-    ensures { IfOk result (λ n. n ≤ length text.new) }
-{
-    let mut done = 0;
-    while done < text.len() {
-        let n = input.read(&mut text[done..])?;
-        if n == 0 {
-            break;
-        }
-        done += n;
-    }
-    Ok(done)
-}
-
 fn main(rt: HostRuntime) -> io::Result<()> {
     let mut text = buffer();
-    let n = read_full(&mut rt.stdin(), &mut text)?;
+    let n = program_input::read_full(&mut rt.stdin(), &mut text)?;
     answer(&rt, &text[..n])
 }

@@ -1,15 +1,18 @@
 -- What is left to show of `chamber::issue`.
-use Rattle.chamber.proofs.Answers.{issue_bad, issue_open, issue_unsafe, issue-passed}
+use Rattle.chamber.proofs.Answers.{role_some, issue-none, issue_bad, issue_open, issue_unsafe, issue-passed}
 use Rattle.chamber.proofs.issue.Goals as goal
 
+pub returns-in_default : goal.returns-in_default
+returns-in_default c = issue-none _ _ _ _ c.in_default.ensures c.not_sent.ensures
+
 pub returns-then-not-command_ok-op_ok : goal.returns-then-not-command_ok-op_ok
-returns-then-not-command_ok-op_ok c = search issue_bad depth 8
+returns-then-not-command_ok-op_ok c = let role = (role_some _ _ c.in-Some.ensures).0 in search issue_bad depth 8
 
 pub returns-then-first-d : goal.returns-then-first-d
-returns-then-first-d c = search issue_open depth 8
+returns-then-first-d c = let role = (role_some _ _ c.in-Some.ensures).0 in search issue_open depth 8
 
 pub returns-then-is_opening-may_open : goal.returns-then-is_opening-may_open
-returns-then-is_opening-may_open c = search issue_unsafe depth 8
+returns-then-is_opening-may_open c = let role = (role_some _ _ c.in-Some.ensures).0 in search issue_unsafe depth 8
 
 pub returns : goal.returns
-returns c = search issue-passed depth 8
+returns c = let role = (role_some _ _ c.in-Some.ensures).0 in search issue-passed depth 8

@@ -1,8 +1,8 @@
 -- What is left to show of `chamber::not_sent`.
+use mathlib.Core.Path.{refl}
 use Rattle.chamber_claim.specs.Chamber.{not_sent_in}
-use borrow.Author.Rules.{rules}
 use Rattle.chamber.proofs.not_sent.Goals as goal
 
 pub returns : goal.returns
 unfolding not_sent_in
-returns c = search rules
+returns c = rw c.number.ensures refl

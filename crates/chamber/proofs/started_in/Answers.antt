@@ -9,4 +9,4 @@ returns-in-NotStarted c = rw c.in-NotStarted.is c.not_started.ensures
 
 pub returns-in-Running : goal.returns-in-Running
 unfolding started_in
-returns-in-Running c = rw (c.in-Running.is, c.new_chamber-ch.ensures) refl
+returns-in-Running c = rw (c.in-Running.is, c.new_chamber.ensures) refl

@@ -9,7 +9,7 @@ pub returns-then-op-point : goal.returns-then-op-point
 returns-then-op-point c =
     let a = c.args in
     let past = issue-past a.chamber a.op a.point (flip a.argument) c.if-op-point.true in
-    rw (← past, ← c.not_sent-refused.ensures) c.send_reply.ensures
+    rw (← past, ← c.not_sent.ensures) c.send_reply.ensures
 
 pub overflow_cast-op : goal.overflow_cast-op
 overflow_cast-op c = let f = both-fit 255 c.args.op c.args.point c.if-op-point.false in omega arith

@@ -2,27 +2,13 @@
 use native.Mathlib.Omega.{arith}
 use mathlib.Core.Path.{ap}
 use mathlib.Core.Bool.{not}
-use Rattle.model_laws.proofs.Tables.{row_in, rows_left}
+use Rattle.model_laws.proofs.Tables.{rows_left}
 use Rattle.model_laws.proofs.Loops.{walk-true}
-use Rattle.format_image_reader.proofs.Tables.{ids_ordered, beside_start, beside_cursor, beside_next, beside_false}
+use Rattle.format_image_reader.proofs.Tables.{ids_ordered, beside_start, beside_next, beside_false}
 use Rattle.format_image_reader.proofs.entries_ok.Goals as goal
 
 pub loop-i-init : goal.loop-i-init
 loop-i-init c = beside_start _ _ _ _ _ _ _
-
-pub entry_at-k-requires : goal.entry_at-k-requires
-entry_at-k-requires c = let a = c.args in omega (arith, row_in a.width _ a.entries c.loop-i-test.true)
-
-pub entry_from-entry-requires : goal.entry_from-entry-requires
-entry_from-entry-requires c =
-    let a = c.args in
-    omega (arith, c.entry_at-k.ensures, row_in a.width _ a.entries c.loop-i-test.true)
-
-pub next_floor-j-requires : goal.next_floor-j-requires
-next_floor-j-requires c = (
-  c.requires.1,
-  beside_cursor c.loop-i.invariant c.loop-i-test.true (rw c.entry_at-k.ensures at c.entry_from-entry.ensures),
-)
 
 pub entry_step-requires : goal.entry_step-requires
 entry_step-requires c =

@@ -16,11 +16,6 @@ returns-then-left-eq0 c =
     entry-last start.s.now start.k _ start.timed _ _ start.width c.entry_from-entry.ensures c.entry_row_ok-zero.ensures
     c.entry_fields_ok-fields.ensures c.if-left-eq0.true
 
-pub id_before-next-requires : goal.id_before-next-requires
-id_before-next-requires c =
-    let second = row_in c.args.width 1 (c.args.left + 1) (omega (arith, c.if-left-eq0.false)) in
-    (omega (arith, c.requires, second), omega (arith, c.requires, second))
-
 pub returns : goal.returns
 returns c =
     let start = c.args in

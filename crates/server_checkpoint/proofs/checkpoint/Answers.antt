@@ -2,17 +2,17 @@
 use Rattle.server_checkpoint.proofs.Passed.{by_refused, by_passed, passed-done}
 use Rattle.server_checkpoint.proofs.checkpoint.Goals as goal
 
-pub returns-then-refusal-ne0 : goal.returns-then-refusal-ne0
-returns-then-refusal-ne0 c =
+pub returns-in_err-checkpoint_refusal : goal.returns-in_err-checkpoint_refusal
+returns-in_err-checkpoint_refusal c =
     let a = c.args in
-    by_refused a.state.now a.log.now a.checkpoint.now a.tail.now c.checkpoint_refusal-refusal.ensures c.if-refusal-ne0.true c.refused.ensures
+    by_refused a.state.now a.log.now a.checkpoint.now a.tail.now _ c.in_err-checkpoint_refusal.ensures _ c.from_residual.ensures.1
 
 pub checkpoint_done-requires : goal.checkpoint_done-requires
 checkpoint_done-requires c =
     let a = c.args in
-    passed-done a.state.now a.log.now a.checkpoint.now a.tail.now c.checkpoint_refusal-refusal.ensures c.if-refusal-ne0.false
+    passed-done a.state.now a.log.now a.checkpoint.now a.tail.now c.in_ok-checkpoint_refusal.ensures
 
 pub returns : goal.returns
 returns c =
     let a = c.args in
-    by_passed a.state.now a.log.now a.checkpoint.now a.tail.now c.checkpoint_refusal-refusal.ensures c.if-refusal-ne0.false (c.checkpoint_done.ensures a.log.now)
+    by_passed a.state.now a.log.now a.checkpoint.now a.tail.now c.in_ok-checkpoint_refusal.ensures (c.checkpoint_done.ensures a.log.now)

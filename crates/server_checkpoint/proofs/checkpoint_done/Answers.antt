@@ -13,4 +13,4 @@ pub returns : goal.returns
 returns c g =
     let a = c.args in
     taken a.s.now a.checkpoint.now (λ i. (c.slice_known-1.given i).fits) c.requires.0 c.requires.1 c.write_checkpoint-number.ensures.0 a.tail.now g
-    c.write_checkpoint-number.ensures.1 c.made.ensures c.restore.ensures c.server_of-server.ensures c.write_head.ensures
+    c.write_checkpoint-number.ensures.1 c.restore.ensures c.server_of-server.ensures c.write_head.ensures

@@ -4,31 +4,14 @@ use Rattle.model.specs.States.{record_row}
 use Rattle.model.specs.Checkpoints.{record_whole}
 use Rattle.model_laws.proofs.Tables.{row_in}
 use Rattle.model_laws.proofs.Fronts.{record-whole-width}
-use Rattle.state_restore.proofs.Runs.{filled-start, filled_next, filled-end}
-use borrow.Author.Rules.{rules}
+use Rattle.state_restore.proofs.Runs.{filled-start, filled_next}
 use Rattle.state_restore.proofs.put_records.Goals as goal
 
 pub loop-i-init : goal.loop-i-init
 loop-i-init c =
     filled-start (record_whole c.args.width) c.args.width record_row (record-whole-width c.args.width c.requires.3) _ _ _ _ _
 
-pub overflow_mul-width : goal.overflow_mul-width
-overflow_mul-width c =
-    omega (arith, c.requires.1, row_in c.args.width c.loop-i.i c.args.count c.loop-i-test.true)
-
-pub overflow_add-from : goal.overflow_add-from
-overflow_add-from c =
-    omega (arith, c.requires.1, row_in c.args.width c.loop-i.i c.args.count c.loop-i-test.true)
-
-pub put_record-requires : goal.put_record-requires
-put_record-requires c =
-    (search rules, omega (arith, c.requires.1, row_in c.args.width c.loop-i.i c.args.count c.loop-i-test.true), c.requires.3)
-
 pub loop-i-preserved : goal.loop-i-preserved
 loop-i-preserved c =
     filled_next (record_whole c.args.width) c.args.width record_row (record-whole-width c.args.width c.requires.3) c.loop-i.invariant c.loop-i-test.true
     (omega (arith, c.requires.1, row_in c.args.width c.loop-i.i c.args.count c.loop-i-test.true)) c.put_record.ensures
-
-pub returns : goal.returns
-returns c =
-    filled-end (record_whole c.args.width) c.args.width record_row (record-whole-width c.args.width c.requires.3) c.loop-i.invariant c.loop-i-test.false

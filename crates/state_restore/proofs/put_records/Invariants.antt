@@ -1,5 +1,4 @@
 -- The invariants of `state_restore::put_records`.
-use Prim.Native.Nat.{◌-◌}
 use Rattle.model.specs.States.{records_start, record_row}
 use Rattle.model.specs.Checkpoints.{record_whole}
 use Rattle.state_restore.proofs.Runs.{Filled}
@@ -7,6 +6,3 @@ use Rattle.state_restore.proofs.put_records.Given as goal
 
 abbrev pub invariant-loop-i : goal.invariant-loop-i
 invariant-loop-i l = Filled (record_whole l.width) l.width record_row l.from records_start l.count l.initial.s l.checkpoint l.s l.i
-
-abbrev pub decreases-loop-i : goal.decreases-loop-i
-decreases-loop-i l = l.count - l.i

@@ -1,17 +1,12 @@
 -- What is left to show of `state_restore::restore_sound`.
 use mathlib.Core.Bool.{not}
-use mathlib.Core.Path.{ap, sym, ◌∙◌}
+use mathlib.Core.Path.{ap}
 use Rattle.state_restore.proofs.Answers.{restored_no, restored_as}
-use borrow.Author.Rules.{rules}
 use Rattle.state_restore.proofs.restore_sound.Goals as goal
 
 pub returns-then-not-framed : goal.returns-then-not-framed
 returns-then-not-framed c =
     restored_no _ c.framed.ensures _ (ap not c.if-not-framed.true)
-
-pub restore-requires : goal.restore-requires
-restore-requires c =
-    (sym c.framed.ensures ∙ c.if-not-framed.false, search rules)
 
 pub returns : goal.returns
 returns c =

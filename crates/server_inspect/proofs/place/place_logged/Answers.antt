@@ -12,27 +12,27 @@ pub is_missing-lacks-requires : goal.is_missing-lacks-requires
 is_missing-lacks-requires c =
     canonical-sound _ (λ i. (c.shared_slice_known-1.given i).fits) c.requires.fit.sound
 
-pub returns-then-refusal-ne-NO_REFUSAL : goal.returns-then-refusal-ne-NO_REFUSAL
-returns-then-refusal-ne-NO_REFUSAL c =
+pub returns-in_err-inspect_refusal : goal.returns-in_err-inspect_refusal
+returns-in_err-inspect_refusal c =
     let a = c.args in
     later-refused a.state.now a.checkpoint.now a.log.now a.client a.call c.requires c.log_end-walked.ensures c.checkpoint_bad-bad.ensures c.is_missing-lacks.ensures
-    c.inspect_refusal-refusal.ensures c.if-refusal-ne-NO_REFUSAL.true c.no_place.ensures
+    _ c.in_err-inspect_refusal.ensures _ c.from_residual.ensures.1
 
 pub place_in_checkpoint-first-requires : goal.place_in_checkpoint-first-requires
 place_in_checkpoint-first-requires c =
     let a = c.args in
     place_ready a.state.now a.checkpoint.now a.log.now a.client a.call c.requires c.log_end-walked.ensures c.checkpoint_bad-bad.ensures c.is_missing-lacks.ensures
-    c.inspect_refusal-refusal.ensures c.if-refusal-ne-NO_REFUSAL.false
+    c.in_ok-inspect_refusal.ensures
 
 pub latest_in-requires : goal.latest_in-requires
 latest_in-requires c =
     let a = c.args in
     log-end-found a.log.now c.log_end-walked.ensures
     (walk-passed a.state.now a.checkpoint.now a.log.now a.client a.call c.requires c.log_end-walked.ensures c.checkpoint_bad-bad.ensures c.is_missing-lacks.ensures
-    c.inspect_refusal-refusal.ensures c.if-refusal-ne-NO_REFUSAL.false)
+    c.in_ok-inspect_refusal.ensures)
 
 pub returns : goal.returns
 returns c =
     let a = c.args in
     later-found a.state.now a.checkpoint.now a.log.now a.client a.call c.requires c.log_end-walked.ensures c.checkpoint_bad-bad.ensures c.is_missing-lacks.ensures
-    c.inspect_refusal-refusal.ensures c.if-refusal-ne-NO_REFUSAL.false c.place_in_checkpoint-first.ensures c.latest_in.ensures
+    c.in_ok-inspect_refusal.ensures c.place_in_checkpoint-first.ensures c.latest_in.ensures

@@ -1,7 +1,8 @@
 -- What is left to show of `server_recover::recover_checkpoint::begin_checkpoint`.
 use mathlib.Core.Path.{sym, ◌∙◌}
+use native.Mathlib.Omega.{arith}
 use Rattle.model_laws.proofs.Logs.{head-length}
-use Rattle.server_recover.proofs.Rebuilding.{tail-off, tail_none, begun-tail}
+use Rattle.server_recover.proofs.Rebuilding.{tail-off, tail_none, tail-other, begun-tail}
 use borrow.Author.Rules.{rules}
 use Rattle.server_recover.proofs.recover_checkpoint.begin_checkpoint.Goals as goal
 
@@ -19,8 +20,14 @@ pub head_server-requires : goal.head_server-requires
 head_server-requires c =
     head-length _ (sym c.head_ok.ensures ∙ c.if-not-head_ok.false)
 
+pub returns-then-head_server-server_of : goal.returns-then-head_server-server_of
+returns-then-head_server-server_of c =
+    let start = c.args in
+    tail-other start.checkpoint.now start.tail.now c.restore_sound.ensures c.if-not-restore_sound.false
+    (λ same. omega (arith, same, c.head_server.ensures, c.server_of.ensures))
+
 pub returns : goal.returns
 returns c =
     let start = c.args in
     begun-tail start.checkpoint.now start.tail.now c.restore_sound.ensures c.if-not-restore_sound.false (search rules)
-    (rw (c.head_server.ensures, c.server_of.ensures))
+    (sym c.head_server.ensures ∙ c.if-head_server-server_of.false ∙ c.server_of.ensures)

@@ -4,4 +4,4 @@ use Rattle.simulator.proofs.at_server.give_line.Goals as goal
 
 pub returns : goal.returns
 returns c =
-    served_by_lem _ c.give-answer.ensures c.called.ensures
+    served_by_lem _ (rw c.answer-answer.ensures c.give.ensures) c.called.ensures

@@ -5,4 +5,4 @@ use Rattle.simulator.proofs.at_server.receipt_line.Goals as goal
 
 pub returns : goal.returns
 unfolding room
-returns c = served_by_lem _ c.receipt-answer.ensures c.called.ensures
+returns c = served_by_lem _ (rw c.answer-answer.ensures c.receipt.ensures) c.called.ensures

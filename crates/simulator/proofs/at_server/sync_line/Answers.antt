@@ -4,4 +4,4 @@ use Rattle.simulator.proofs.at_server.sync_line.Goals as goal
 
 pub returns : goal.returns
 returns c =
-    rw (← c.size_of-size.ensures) (served_by_lem _ c.sync-answer.ensures c.called.ensures)
+    rw (← c.size_of-size.ensures) (served_by_lem _ (rw c.answer-answer.ensures c.sync.ensures) c.called.ensures)

@@ -1,22 +1,26 @@
 -- What is left to show of `simulator::run::run`.
-use Rattle.simulator.proofs.Runs.{running-start, running-next, running-end, ready, test-left, test_right}
-use native.Mathlib.Omega.{arith}
 use mathlib.Core.Path.{refl, ◌∙◌}
+use native.Mathlib.Omega.{arith}
 use lib.ListN.{length}
+use Rattle.simulator.proofs.Runs.{running-start, running-next, running-end, ready, test-left, test_right, same_slices}
 use Rattle.simulator.proofs.run.run.Goals as goal
 
 pub loop-number-init : goal.loop-number-init
-loop-number-init c = let p = c.requires in (running-start _ _ _ _ p.pages p.none, refl, refl, refl, refl, refl, refl)
+loop-number-init c =
+    let p = c.requires in
+    (running-start _ _ _ _ p.pages p.none, refl, ((refl, refl), (refl, refl), (refl, refl), (refl, refl), (refl, refl)))
 
 pub run_line-turn-requires : goal.run_line-turn-requires
 run_line-turn-requires c =
     let l = c.loop-number in
     let u = l.invariant.0 in
+    let v = l.invariant.2 in
     let e = c.loop-number-test.true in
     let s = c.args in
+    let x = s.lent.now in
     let k = test-left l.number l.at (length s.text.now) e in
     let p = c.requires in (
-      ready _ _ _ s.s0.now s.s1.now s.store.now _ l.number p.first p.second p.rows l.invariant.2 l.invariant.4 l.invariant.6 u.packets k,
+      ready _ _ _ x.s0.now x.s1.now x.store.now _ l.number p.first p.second p.rows v.0.1 v.2.1 v.4.1 u.packets k,
       test_right l.number l.at (length s.text.now) e,
       omega (arith, u.wrote, u.long, u.least, k),
     )
@@ -35,16 +39,11 @@ loop-number-preserved c =
     let l = c.loop-number in
     let n = length c.args.text.now in
     let e = c.loop-number-test.true in
-    let k = r.auto in
     let v = l.invariant in (
-      running-next _ _ _ _ _ _ _ _ v.0 (test-left l.number l.at n e) (test_right l.number l.at n e) r.ensures,
-      k.page ∙ v.1,
-      k.s0 ∙ v.2,
-      k.log0 ∙ v.3,
-      k.s1 ∙ v.4,
-      k.log1 ∙ v.5,
-      k.store ∙ v.6,
+      running-next _ _ _ _ _ _ _ _ v.0 (test-left l.number l.at n e) (test_right l.number l.at n e) r.ensures.turned,
+      r.auto.page ∙ v.1,
+      same_slices c.args.lent.now l.lent r.new.lent v.2 r.ensures.kept,
     )
 
-pub returns : goal.returns
-returns c = running-end _ _ _ _ _ _ _ _ c.loop-number.invariant.0 c.loop-number-test.false
+pub returns-clause-printed : goal.returns-clause-printed
+returns-clause-printed c = running-end _ _ _ _ _ _ _ _ c.loop-number.invariant.0 c.loop-number-test.false

@@ -15,8 +15,8 @@ slice_bounds-line_of-end c = let a = c.args in omega (arith, part_length a.text.
 pub put_reply-i-requires : goal.put_reply-i-requires
 put_reply-i-requires c = c.requires.2
 
-pub returns : goal.returns
-returns c =
+pub returns-clause-turned : goal.returns-clause-turned
+returns-clause-turned c =
     let f = c.find-width in
-    let e = c.step-stepped.ensures in
+    let e = c.step-stepped.ensures.ran in
     turned _ _ _ _ _ _ _ _ _ _ f.result f.ensures.0 c.line_of-line.ensures e.0 c.next_place.ensures c.put_reply-i.ensures e.1

@@ -7,7 +7,8 @@ pub returns-in_default : goal.returns-in_default
 returns-in_default c =
     let a = c.args in
     let e = c.malformed.ensures in
-    ((λ s0 l0 s1 l1. no_such_client s0 l0 s1 l1 a.store.now a.store.now a.memory a.number {r = c.malformed.result} a.line (sym c.client_of.ensures ∙ c.in_default.is) e.0 e.1), same_memory c.malformed.result e.0)
+    let n = sym c.client_of.ensures ∙ c.in_default.is in
+    ((λ s0 l0 s1 l1. no_such_client s0 l0 s1 l1 a.store.now a.store.now a.memory a.number {r = c.malformed.result} a.line n e.0 e.1), same_memory c.malformed.result e.0)
 
 pub returns : goal.returns
 returns c =
