@@ -3,7 +3,7 @@
 #![tactic(auto)]
 
 ghost use Rattle.std.specs.Prelude.{◌≡◌, true, ◌+◌, ◌*◌, ◌≤◌, ◌<◌, max, length};
-ghost use Rattle.model.specs.Numbers.{join32, word, le32_at, le32, le64_at, le64, signed_at, signed32, flip, zero_at, zeros3_at, quad, starts_with, byte_at};
+ghost use Rattle.model.specs.Numbers.{word, le32_at, le32, le64_at, le64, signed_at, signed32, flip, zero_at, zeros3_at, quad, starts_with, byte_at};
 ghost use Rattle.model.specs.Tables.{written};
 ghost use Rattle.model.specs.Plan.{in_range};
 ghost use Rattle.model_laws.specs.Bytes.{part};

@@ -20,5 +20,5 @@ fn word_of(answer: Answer) -> u64
 pub extern "C" fn mantelorris_yard(text: &[u8], out: &mut [u8]) -> u64
     ensures { returned result out.new ≡ in_c (simulate_of text.now out.old) }
 {
-    word_of(simulator::simulate(text, out))
+    word_of(refusals::answer(simulator::simulate(text, out)))
 }
