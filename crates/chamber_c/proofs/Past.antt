@@ -10,7 +10,7 @@ use native.Mathlib.Omega.{arith}
 use lib.Dec.{ltb}
 use borrow.Author.Tests.{ltb-false, le-ltb, leb-true}
 use Rattle.model.specs.Limits.{last_point}
-use Rattle.model.specs.Refusals.{malformed}
+use Rattle.model.specs.declared.Refusal.TheVariants.{Malformed}
 use Rattle.model.specs.Tables.{every}
 use Rattle.model_laws.proofs.Tests.{and_left, and_right, or_left, or_right}
 use Rattle.model_laws.proofs.Commands.{command-past}
@@ -69,16 +69,16 @@ in_range_lem s e =
       le-ltb 255 s.level3 (omega arith),
     ) refl
 
-pub points-past : (packet : List ℕ) (s : LockPoints) → is_past s ≡ true → not_started_in malformed ≡ start_in packet s
+pub points-past : (packet : List ℕ) (s : LockPoints) → is_past s ≡ true → not_started_in Malformed ≡ start_in packet s
 unfolding start_in points_ok
 points-past packet s e = refused (every is_point (point_list s)) refl
   where
-    refused : (b : Bool) → every is_point (point_list s) ≡ b → not_started_in malformed ≡ start_in packet s
+    refused : (b : Bool) → every is_point (point_list s) ≡ b → not_started_in Malformed ≡ start_in packet s
     refused true f = absurd (false≢true (sym (in_range_lem s f) ∙ e))
     refused false f = rw f refl
 
 -- ---- issue
 
-pub issue-past : (ch : Chamber) (op point a : ℕ) → (ltb 255 op || ltb 255 point) ≡ true → not_sent_in ch malformed ≡ issue_in ch op point a
+pub issue-past : (ch : Chamber) (op point a : ℕ) → (ltb 255 op || ltb 255 point) ≡ true → not_sent_in ch Malformed ≡ issue_in ch op point a
 unfolding issue_in
 issue-past ch op point a e = rw (command-past op point a e) refl

@@ -7,7 +7,7 @@ pub returns-then-upper-lower : goal.returns-then-upper-lower
 returns-then-upper-lower c =
     let a = c.args in
     let past = points-past a.packet.now (five a.upper a.lower a.level1 a.level2 a.level3) c.if-upper-lower.true in
-    rw (← past, ← c.number.ensures, ← c.not_started.ensures) c.start_reply.ensures
+    rw (← past, ← c.not_started.ensures) c.start_reply.ensures
 
 pub overflow_cast-points : goal.overflow_cast-points
 overflow_cast-points c = let a = c.args in let u = five_under a.upper a.lower a.level1 a.level2 a.level3 c.if-upper-lower.false in omega arith
