@@ -8,7 +8,8 @@ ghost use Rattle.model.specs.Packets.{packet_length, result_kind_of, parse_reque
 
 use model::{Packet, constants};
 
-// What was found, if its zero bytes and fields are as they should be.
+// What was found, if its zero bytes and fields are as they should be. An Option would do, but `Packet` with its
+// Malformed is of `model`, which may not change.
 fn checked(ok: bool, found: Packet) -> Packet
     ensures { result ≡ pick ok found Malformed }
 {
@@ -112,7 +113,7 @@ pub fn parse_grant(packet: &[u8]) -> Packet
 pub fn parse_packet(packet: &[u8]) -> Packet
     ensures { result ≡ parse_packet packet.now }
 {
-    if packet.len() == 0 {
+    if packet.is_empty() {
         return Packet::Malformed;
     }
     match packet[0] {

@@ -9,6 +9,7 @@ ghost use Rattle.simulator_c.specs.Interface.{returned, in_c};
 
 use model::{Answer, constants};
 
+// As in kernel: one function for both C libraries would stand in `refusals`, below every crate of the server.
 fn word_of(answer: Answer) -> u64
     ensures { result ≡ word_of answer }
 {

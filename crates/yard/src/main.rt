@@ -3,7 +3,7 @@
 // lines end within them, since later lines are not read; else it says so on standard error and answers nothing.
 #![tactic(auto)]
 
-ghost use Rattle.std.specs.Prelude.{◌≡◌, ◌≤◌, ◌+◌, ◌*◌, length};
+ghost use Rattle.std.specs.Prelude.{◌≡◌, ◌+◌, ◌*◌, length};
 ghost use Rattle.model.specs.Simulator.{most_lines};
 ghost use Rattle.model.specs.Letters.{reply_room};
 ghost use Rattle.yard.specs.Input.{longest, holds_all};
