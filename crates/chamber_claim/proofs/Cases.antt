@@ -7,7 +7,7 @@ use mathlib.Core.Path.{◌≡◌, refl}
 use mathlib.Core.Bool.{true}
 use mathlib.Core.List.{List, [], ◌∷◌, ◌++◌, map}
 use lib.ListN.{length, replicate}
-use Rattle.model.specs.declared.Sent.TheVariants.{NotSent, Asked}
+use Rattle.std.specs.Prelude.{Ok, Err}
 use Rattle.model.specs.Numbers.{half, word}
 use Rattle.model.specs.Limits.{read_op, set_op, step_op, report_op, fault_op, part_op, carried_out, valid, invalid, by_hand, last_point, last32, call_window}
 use Rattle.model.specs.Refusals.{no_refusal, malformed, window_full, numbers_out, not_safe}
@@ -30,8 +30,8 @@ pub data Step : Type 0 where
 -- the result of a command that was sent arrives
 unfoldable pub hears : ChamberSend → ℕ → ℕ → Chamber
 hears s value quality = elim s.answer [
-  | NotSent n ↦ s.chamber
-  | Asked q ↦ (receive_in s.chamber
+  | Err n ↦ s.chamber
+  | Ok q ↦ (receive_in s.chamber
       (result_bytes
       (record {
         client = q.command.client;

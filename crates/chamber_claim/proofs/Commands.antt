@@ -12,17 +12,16 @@ use mathlib.Core.List.{List, [], ◌∷◌}
 use native.Mathlib.Omega.{arith}
 use lib.Dec.{eqb, leb, ltb}
 use borrow.Author.Tests.{eqb-true, eqb-false, eq-eqb, ne_eqb, ltb-true, ltb-false, not-true, not-false}
+use Rattle.std.specs.Prelude.{Result, Ok, Err}
+use Rattle.model.specs.declared.Refusal.{Refusal}
+use Rattle.model.specs.declared.Refusal.TheVariants.{Malformed, WindowFull, NotSafe}
 use Rattle.model.specs.declared.Request.{Request}
 use Rattle.model.specs.declared.ResultPacket.{ResultPacket}
-use Rattle.model.specs.declared.Started.{Started}
-use Rattle.model.specs.declared.Started.TheVariants.{NotStarted, Running}
-use Rattle.model.specs.declared.Sent.TheVariants.{NotSent, Asked}
 use Rattle.model.specs.declared.Received.{Received}
-use Rattle.model.specs.declared.Received.TheVariants.{NotReceived, Completed, Denied, Extended}
+use Rattle.model.specs.declared.Received.TheVariants.{Completed, Denied, Extended}
 use Rattle.model.specs.Choice.{pick}
 use Rattle.model.specs.Numbers.{half}
 use Rattle.model.specs.Limits.{read_op, set_op, part_op}
-use Rattle.model.specs.Refusals.{malformed, window_full, not_safe}
 use Rattle.model.specs.Packets.{command_ok}
 use Rattle.model.specs.Tables.{every}
 use Rattle.model.specs.Clients.{closed, first_open, start_of, issue_of, receive_of, with_lease}
@@ -39,16 +38,16 @@ use Rattle.chamber_claim.proofs.Orders.{GateOp}
 
 -- ---- start
 
-pub started : (s : LockPoints) (b : List ℕ) → (start_in b s).answer ≡ Running
-    → (points_ok s ≡ true) × ((start_of b).answer ≡ Running) × ((start_in b s).chamber ≡ new_chamber s (start_of b).client)
+pub started : (s : LockPoints) (b : List ℕ) → (start_in b s).answer ≡ Ok tt
+    → (points_ok s ≡ true) × ((start_of b).answer ≡ Ok tt) × ((start_in b s).chamber ≡ new_chamber s (start_of b).client)
 unfolding start_in started_in not_started_in
 started s b e = go (points_ok s) refl (start_of b).answer refl e
   where
-    go : (u : Bool) → points_ok s ≡ u → (a : Started) → (start_of b).answer ≡ a → (start_in b s).answer ≡ Running
-        → (points_ok s ≡ true) × ((start_of b).answer ≡ Running) × ((start_in b s).chamber ≡ new_chamber s (start_of b).client)
-    go false p a q r = let k : NotStarted _ ≡ Running = rw p at r in impossible cc
-    go true p (NotStarted n) q r = let k : NotStarted n ≡ Running = rw (p, q) at r in impossible cc
-    go true p Running q r = (p, q, rw (p, q) refl)
+    go : (u : Bool) → points_ok s ≡ u → (a : Result Unit Refusal) → (start_of b).answer ≡ a → (start_in b s).answer ≡ Ok tt
+        → (points_ok s ≡ true) × ((start_of b).answer ≡ Ok tt) × ((start_in b s).chamber ≡ new_chamber s (start_of b).client)
+    go false p a q r = let k : Err _ ≡ Ok tt = rw p at r in impossible cc
+    go true p (Err n) q r = let k : Err n ≡ Ok tt = rw (p, q) at r in impossible cc
+    go true p (Ok tt) q r = (p, q, rw (p, q) refl)
 
 -- ---- the gates
 
@@ -148,7 +147,7 @@ pub record Passed (ch : Chamber) (op p a : ℕ) (q : Request) : Type 0 where
   pub op-is : GateOp op
   pub free : ch.client.next ≤ first_open ch.client
   pub safe : is_opening op a ≡ true → may_open ch (role_in ch.points p) ≡ true
-  pub as_client : (issue_of ch.client op p a).answer ≡ Asked q
+  pub as_client : (issue_of ch.client op p a).answer ≡ Ok q
   pub leaves : (issue_in ch op p a).chamber
       ≡ record { client = asking ch.client op p a; points = ch.points; moved = pick (eqb op read_op) ch.moved ch.client.next; reads = ch.reads }
 
@@ -158,38 +157,38 @@ unless_not false m e h = impossible cc
 
 module _ (ch : Chamber) (op p a : ℕ) where
   data IssueInCase : ChamberSend → Type 0 where
-    refused : (n : ℕ) → IssueInCase (not_sent_in ch n)
+    refused : (r : Refusal) → IssueInCase (not_sent_in ch r)
     issued : op_ok (role_in ch.points p) op ≡ true → ch.client.next ≤ first_open ch.client → (is_opening op a ≡ true → may_open ch (role_in ch.points p) ≡ true)
         → IssueInCase (sent_in ch op (issue_of ch.client op p a))
 
   issue_in_case : IssueInCase (issue_in ch op p a)
   unfolding issue_in
   issue_in_case =
-      choose IssueInCase _ (λ _. refused malformed)
-      (λ e. choose IssueInCase _ (λ _. refused window_full)
-      (λ f. choose IssueInCase _ (λ _. refused not_safe)
+      choose IssueInCase _ (λ _. refused Malformed)
+      (λ e. choose IssueInCase _ (λ _. refused WindowFull)
+      (λ f. choose IssueInCase _ (λ _. refused NotSafe)
       (λ g. issued (and_right (command_ok op p a) (op_ok (role_in ch.points p) op) (not-false _ e)) (ltb-false _ _ f) (unless_not (is_opening op a) (may_open ch (role_in ch.points p)) g))))
 
-  pub passed : (q : Request) → (issue_in ch op p a).answer ≡ Asked q → Passed ch op p a q
+  pub passed : (q : Request) → (issue_in ch op p a).answer ≡ Ok q → Passed ch op p a q
   unfolding not_sent_in sent_in moved_by
   passed q e = go issue_in_case refl
     where
       go : {z : ChamberSend} → IssueInCase z → z ≡ issue_in ch op p a → Passed ch op p a q
-      go (refused n) f = let k : NotSent n ≡ Asked q = ap (λ (z : ChamberSend). z.answer) f ∙ e in impossible cc
+      go (refused r) f = let k : Err r ≡ Ok q = ap (λ (z : ChamberSend). z.answer) f ∙ e in impossible cc
       go (issued o l y) f =
-          let k : (issue_of ch.client op p a).answer ≡ Asked q = ap (λ (z : ChamberSend). z.answer) f ∙ e in
+          let k : (issue_of ch.client op p a).answer ≡ Ok q = ap (λ (z : ChamberSend). z.answer) f ∙ e in
           let s = (issue-asked ch.client op p a q k).after in
           let i = issue-command ch.client op p a q k in
           record { op-is = gate_op _ op o; free = l; safe = y; as_client = k; leaves = ap (λ (z : ChamberSend). z.chamber) (sym f) ∙ rw (k, s, i) refl }
 
   -- a refusal leaves the controller
-  pub refused-same : (n : ℕ) → (issue_in ch op p a).answer ≡ NotSent n → (issue_in ch op p a).chamber ≡ ch
+  pub refused-same : (r : Refusal) → (issue_in ch op p a).answer ≡ Err r → (issue_in ch op p a).chamber ≡ ch
   unfolding not_sent_in sent_in moved_by
-  refused-same n = go issue_in_case
+  refused-same r = go issue_in_case
     where
-      go : {z : ChamberSend} → IssueInCase z → z.answer ≡ NotSent n → z.chamber ≡ ch
+      go : {z : ChamberSend} → IssueInCase z → z.answer ≡ Err r → z.chamber ≡ ch
       go (refused m) e = refl
-      go (issued o l y) e = rw (e, issue-refused ch.client op p a n e) refl
+      go (issued o l y) e = rw (e, issue-refused ch.client op p a r e) refl
 
 -- ---- resend and receive
 
@@ -197,19 +196,19 @@ pub again-same : (ch : Chamber) (c : ℕ) → (resend_in ch c).chamber ≡ ch
 unfolding resend_in
 again-same ch c = rw (resend-same ch.client c) refl
 
-reads_same : (ch : Chamber) (a : Received) → ((r : ResultPacket) → a ≡ Completed r → ⊥) → reads_by ch a ≡ ch.reads
+reads_same : (ch : Chamber) (a : Result Received Refusal) → ((r : ResultPacket) → a ≡ Ok (Completed r) → ⊥) → reads_by ch a ≡ ch.reads
 unfolding reads_by
-reads_same ch (NotReceived n) f = refl
-reads_same ch (Completed r) f = absurd (f r refl)
-reads_same ch (Denied r) f = refl
-reads_same ch (Extended g) f = refl
+reads_same ch (Err n) f = refl
+reads_same ch (Ok (Completed r)) f = absurd (f r refl)
+reads_same ch (Ok (Denied r)) f = refl
+reads_same ch (Ok (Extended g)) f = refl
 
-pub heard-same : (ch : Chamber) (b : List ℕ) (lease : ℕ) → (receive_of ch.client b).client ≡ with_lease ch.client lease → ((r : ResultPacket) → (receive_of ch.client b).answer ≡ Completed r → ⊥)
+pub heard-same : (ch : Chamber) (b : List ℕ) (lease : ℕ) → (receive_of ch.client b).client ≡ with_lease ch.client lease → ((r : ResultPacket) → (receive_of ch.client b).answer ≡ Ok (Completed r) → ⊥)
     → (receive_in ch b).chamber ≡ record { client = with_lease ch.client lease; points = ch.points; moved = ch.moved; reads = ch.reads }
 unfolding receive_in
 heard-same ch b lease e f = rw (e, reads_same ch (receive_of ch.client b).answer f) refl
 
-pub ended_chamber : (ch : Chamber) (b : List ℕ) (r : ResultPacket) → receive_of ch.client b ≡ record { client = closed ch.client r.call; answer = Completed r }
+pub ended_chamber : (ch : Chamber) (b : List ℕ) (r : ResultPacket) → receive_of ch.client b ≡ record { client = closed ch.client r.call; answer = Ok (Completed r) }
     → (receive_in ch b).chamber ≡ record { client = closed ch.client r.call; points = ch.points; moved = ch.moved; reads = reads_with ch r }
 unfolding receive_in reads_by
 ended_chamber ch b r e = rw e refl

@@ -16,6 +16,7 @@ use lib.Dec.{eqb, ltb}
 use lib.ListN.{length, get_or, set, replicate, length-set}
 use lib.Seq.{get_or-set_same, get_or-set_other}
 use borrow.Author.Tests.{eqb-true, eqb-false, ne_eqb, ltb-true, ltb-false}
+use Rattle.std.specs.Prelude.{Ok}
 use Rattle.model.specs.declared.OpenCall.{OpenCall}
 use Rattle.model.specs.declared.Client.{Client}
 use Rattle.model.specs.declared.Command.{Command}
@@ -300,7 +301,7 @@ module _ (plan : List ℕ) (s : LockPoints) (ls : List LockEvent) where
       heard-client : (world plan s ls (suc n)).clients x ≡ some (receive_of ch.client b).client
       heard-client = receive-after plan es n x j ch.client b hear-event h.client given
 
-      held_kept : (lease : ℕ) → (receive_of ch.client b).client ≡ with_lease ch.client lease → ((r : ResultPacket) → (receive_of ch.client b).answer ≡ Completed r → ⊥)
+      held_kept : (lease : ℕ) → (receive_of ch.client b).client ≡ with_lease ch.client lease → ((r : ResultPacket) → (receive_of ch.client b).answer ≡ Ok (Completed r) → ⊥)
           → Held (suc n) x (receive_in ch b).chamber
       unfolding with_lease read_at
       held_kept lease e f =
@@ -308,7 +309,7 @@ module _ (plan : List ℕ) (s : LockPoints) (ls : List LockEvent) where
           (held_on n x ch _ h no_command (heard-client ∙ ap some e) refl refl refl refl (λ i g. seen_on (h.reads i g)) (λ k _ o. inr o))
 
       module _ (r : ResultPacket) (own : Own ch.client r.client r.call r.point)
-          (e : receive_of ch.client b ≡ record { client = closed ch.client r.call; answer = Completed r }) where
+          (e : receive_of ch.client b ≡ record { client = closed ch.client r.call; answer = Ok (Completed r) }) where
         -- the call that the result ends is completed
         ends : Completes es n (command_at ch.client r.call ∷ []) (one (result_meant r.result))
         ends =

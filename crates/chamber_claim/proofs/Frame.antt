@@ -13,11 +13,9 @@ use native.Mathlib.Omega.{arith}
 use lib.Dec.{eqb, ltb}
 use lib.ListN.{get_elem?}
 use borrow.Author.Tests.{eqb-true, eqb-false, eq-eqb, ltb-true, ltb-false}
+use Rattle.std.specs.Prelude.{Result, Ok, Err}
+use Rattle.model.specs.declared.Refusal.{Refusal}
 use Rattle.model.specs.declared.Request.{Request}
-use Rattle.model.specs.declared.Started.{Started}
-use Rattle.model.specs.declared.Started.TheVariants.{NotStarted, Running}
-use Rattle.model.specs.declared.Sent.{Sent}
-use Rattle.model.specs.declared.Sent.TheVariants.{NotSent, Asked}
 use Rattle.model.specs.Clients.{start_of}
 use Rattle.model_laws.proofs.Tests.{choose, impossible}
 use Rattle.claim.specs.World.{World, Event, outside, start, issue, resend, receive, packet, after}
@@ -79,7 +77,7 @@ module _ (plan : List ℕ) (s : LockPoints) (ls : List LockEvent) where
     pub chamber : Chamber
     pub there : (lock n).controllers x ≡ some chamber
     pub request : Request
-    pub answer : (issue_in chamber op p a).answer ≡ Asked request
+    pub answer : (issue_in chamber op p a).answer ≡ Ok request
 
   -- which event of the lock an event of the kernel is; the quiet one is a resend
   data Kind (n : ℕ) : Event → Type 0 where
@@ -94,18 +92,18 @@ module _ (plan : List ℕ) (s : LockPoints) (ls : List LockEvent) where
   kind_of_lem n (kernel e) h = by_other h
   kind_of_lem n (begin j) h = go (packet (world n) j)
     where
-      by : (t : Started) → Kind n (outside (unless_refused t (start j)))
-      by (NotStarted m) = by_resend
-      by Running = by_begin h
+      by : (t : Result Unit Refusal) → Kind n (outside (unless_refused t (start j)))
+      by (Err m) = by_resend
+      by (Ok tt) = by_begin h
 
       go : (b : Option (List ℕ)) → Kind n (outside (start_call s b j))
       go none = by_resend
       go (some b) = by (start_in b s).answer
   kind_of_lem n (command x op p a) h = go ((lock n).controllers x) refl
     where
-      by : (ch : Chamber) → (lock n).controllers x ≡ some ch → (t : Sent) → (issue_in ch op p a).answer ≡ t → Kind n (outside (unless_not_sent t (issue x op p a)))
-      by ch c (NotSent m) e = by_resend
-      by ch c (Asked r) e = by_command (record { event = h; chamber = ch; there = c; request = r; answer = e })
+      by : (ch : Chamber) → (lock n).controllers x ≡ some ch → (t : Result Request Refusal) → (issue_in ch op p a).answer ≡ t → Kind n (outside (unless_not_sent t (issue x op p a)))
+      by ch c (Err m) e = by_resend
+      by ch c (Ok r) e = by_command (record { event = h; chamber = ch; there = c; request = r; answer = e })
 
       go : (c : Option Chamber) → (lock n).controllers x ≡ c → Kind n (outside (issue_call c x op p a))
       go none c = by_resend
@@ -144,7 +142,7 @@ module _ (plan : List ℕ) (s : LockPoints) (ls : List LockEvent) where
   abbrev pub Spares : ℕ → ℕ → LockEvent → Type 0
   Spares n x (kernel e) = Unit {0}
   Spares n x (begin j) = Unit {0}
-  Spares n x (command y op p a) = y ≡ x → (ch : Chamber) (q : Request) → (lock n).controllers x ≡ some ch → (issue_in ch op p a).answer ≡ Asked q → ⊥
+  Spares n x (command y op p a) = y ≡ x → (ch : Chamber) (q : Request) → (lock n).controllers x ≡ some ch → (issue_in ch op p a).answer ≡ Ok q → ⊥
   Spares n x (again y c) = Unit {0}
   Spares n x (hear y j) = y ≡ x → (ch : Chamber) (b : List ℕ) → (lock n).controllers x ≡ some ch → packet (world n) j ≡ some b → ⊥
 
@@ -172,9 +170,9 @@ module _ (plan : List ℕ) (s : LockPoints) (ls : List LockEvent) where
     step_of (kernel e) h = alone (kernel e) h tt
     step_of (begin j) h = go (packet (world n) j) refl
       where
-        by : (b : List ℕ) → packet (world n) j ≡ some b → (t : Started) → (start_in b s).answer ≡ t → LockStep n x ((starts_as (start_in b s) (lock n)).controllers x)
-        by b e (NotStarted m) q = rw q (alone (begin j) h tt)
-        by b e Running q =
+        by : (b : List ℕ) → packet (world n) j ≡ some b → (t : Result Unit Refusal) → (start_in b s).answer ≡ t → LockStep n x ((starts_as (start_in b s) (lock n)).controllers x)
+        by b e (Err m) q = rw q (alone (begin j) h tt)
+        by b e (Ok tt) q =
             rw q (choose (LockStep n x) (eqb x (start_in b s).chamber.client.client)
             (λ t. born (record { number = j; event = h; bytes = b; delivered = rw (site_world (lock_product s) ls n) e; answer = q; its = sym (eqb-true _ _ t) }))
             (λ t. alone (begin j) h tt))
@@ -184,16 +182,16 @@ module _ (plan : List ℕ) (s : LockPoints) (ls : List LockEvent) where
         go (some b) e = by b e (start_in b s).answer refl
     step_of (command y op p a) h = go ((lock n).controllers y) refl
       where
-        mine : (ch : Chamber) → (lock n).controllers x ≡ some ch → AtLock plan s ls n (command x op p a) → (t : Sent) → (issue_in ch op p a).answer ≡ t
+        mine : (ch : Chamber) → (lock n).controllers x ≡ some ch → AtLock plan s ls n (command x op p a) → (t : Result Request Refusal) → (issue_in ch op p a).answer ≡ t
             → LockStep n x (some (issue_in ch op p a).chamber)
-        mine ch e k (NotSent m) q =
+        mine ch e k (Err m) q =
             rw (refused-same ch op p a m q) (put_same (command x op p a) k
             (λ _ c r f g.
             let u : some ch ≡ some c = sym e ∙ f in
             let v : ch ≡ c = cc in
-            let w : NotSent m ≡ Asked r = sym q ∙ ap (λ (z : Chamber). (issue_in z op p a).answer) v ∙ g in
+            let w : Err m ≡ Ok r = sym q ∙ ap (λ (z : Chamber). (issue_in z op p a).answer) v ∙ g in
             impossible cc) ch e)
-        mine ch e k (Asked r) q = commanding op p a (record { event = k; chamber = ch; there = e; request = r; answer = q })
+        mine ch e k (Ok r) q = commanding op p a (record { event = k; chamber = ch; there = e; request = r; answer = q })
 
         go : (o : Option Chamber) → (lock n).controllers y ≡ o → LockStep n x ((changes y (λ ch. (issue_in ch op p a).chamber) o (lock n)).controllers x)
         go none e = alone (command y op p a) h (λ q ch r f g. not_two e q f)

@@ -14,9 +14,9 @@ use mathlib.Core.Logic.{◌⊎◌, inl, inr}
 use mathlib.Core.Option.{Option, none, some}
 use native.Mathlib.Omega.{arith}
 use lib.ListN.{get_elem?}
+use Rattle.std.specs.Prelude.{Result, Ok, Err}
+use Rattle.model.specs.declared.Refusal.{Refusal}
 use Rattle.model.specs.declared.Command.{Command}
-use Rattle.model.specs.declared.Started.{Started}
-use Rattle.model.specs.declared.Started.TheVariants.{NotStarted, Running}
 use Rattle.claim.specs.World.{Event, outside, issue, packet}
 use Rattle.claim.specs.Claim.{Issues}
 use Rattle.claim.specs.Above.{Site}
@@ -67,9 +67,9 @@ module _ (plan : List ℕ) (s : LockPoints) (ls : List LockEvent) where
       starts j h none e = inr (unfold starts_on in refl)
       starts j h (some b) e = by (start_in b s).answer refl
         where
-          by : (t : Started) → (start_in b s).answer ≡ t → ((y : ℕ) × Begins plan s ls n y) ⊎ ((starts_on s (some b) (lock n)).latest ≡ (lock n).latest)
-          by (NotStarted m) q = inr (unfold starts_on starts_as in (rw q refl))
-          by Running q = inl (_, record { number = j; event = h; bytes = b; delivered = rw (site_world (lock_product s) ls n) e; answer = q; its = refl })
+          by : (t : Result Unit Refusal) → (start_in b s).answer ≡ t → ((y : ℕ) × Begins plan s ls n y) ⊎ ((starts_on s (some b) (lock n)).latest ≡ (lock n).latest)
+          by (Err m) q = inr (unfold starts_on starts_as in (rw q refl))
+          by (Ok tt) q = inl (_, record { number = j; event = h; bytes = b; delivered = rw (site_world (lock_product s) ls n) e; answer = q; its = refl })
 
       of : (o : LockEvent) → AtLock plan s ls n o → ((y : ℕ) × Begins plan s ls n y) ⊎ ((lock_after s (world plan s ls n) (lock n) o).latest ≡ (lock n).latest)
       of (kernel e) h = inr (unfold lock_after in refl)

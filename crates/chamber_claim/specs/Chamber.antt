@@ -2,20 +2,19 @@
 -- at a time, so its calls complete in the order of their numbers: "since" and "in this order" are `<` between call numbers, and
 -- nothing is ever cleared. A refusal leaves the controller as it was.
 -- Assumes nothing.
-use Rattle.std.specs.Prelude.{ℕ, ◌+◌, Bool, true, ◌&&◌, ◌||◌, not, List, [], ◌∷◌, get_or, set, replicate, eqb, leb, ltb}
+use Rattle.std.specs.Prelude.{ℕ, ◌+◌, Bool, true, ◌&&◌, ◌||◌, not, List, [], ◌∷◌, get_or, set, replicate, eqb, leb, ltb, Result, Ok, Err}
+use Rattle.model.specs.declared.Request.{Request}
+use Rattle.model.specs.declared.Refusal.{Refusal}
+use Rattle.model.specs.declared.Refusal.TheVariants.{Malformed, WindowFull, NotSafe}
 use Rattle.model.specs.declared.Client.{Client}
 use Rattle.model.specs.declared.ResultPacket.{ResultPacket}
-use Rattle.model.specs.declared.Started.TheVariants.{NotStarted, Running}
-use Rattle.model.specs.declared.Sent.{Sent}
-use Rattle.model.specs.declared.Sent.TheVariants.{NotSent, Asked}
 use Rattle.model.specs.declared.Received.{Received}
-use Rattle.model.specs.declared.Received.TheVariants.{NotReceived, Completed, Denied, Extended}
+use Rattle.model.specs.declared.Received.TheVariants.{Completed, Denied, Extended}
 use Rattle.model.specs.declared.StartAnswer.{StartAnswer}
 use Rattle.model.specs.declared.SendAnswer.{SendAnswer}
 use Rattle.model.specs.Choice.{pick}
 use Rattle.model.specs.Numbers.{half}
 use Rattle.model.specs.Limits.{last_point, read_op, set_op, part_op, valid, invalid, by_hand}
-use Rattle.model.specs.Refusals.{malformed, window_full, not_safe}
 use Rattle.model.specs.Tables.{every}
 use Rattle.model.specs.Packets.{command_ok}
 use Rattle.model.specs.Clients.{no_client, call_at, first_open, start_of, issue_of, resend_of, receive_of}
@@ -134,24 +133,24 @@ new_chamber s d = record { client = d; points = s; moved = 0; reads = replicate 
 unfoldable pub no_chamber : Chamber
 no_chamber = new_chamber no_points no_client
 
-unfoldable pub not_started_in : ℕ → ChamberStart
-not_started_in n = record { chamber = no_chamber; answer = NotStarted n }
+unfoldable pub not_started_in : Refusal → ChamberStart
+not_started_in e = record { chamber = no_chamber; answer = Err e }
 
 unfoldable pub started_in : LockPoints → StartAnswer → ChamberStart
-started_in s a = elim a.answer [ NotStarted n ↦ not_started_in n | Running ↦ record { chamber = new_chamber s a.client; answer = Running } ]
+started_in s a = elim a.answer [ Err e ↦ not_started_in e | Ok tt ↦ record { chamber = new_chamber s a.client; answer = Ok tt } ]
 
 unfoldable pub start_in : List ℕ → LockPoints → ChamberStart
-start_in packet s = pick (points_ok s) (started_in s (start_of packet)) (not_started_in malformed)
+start_in packet s = pick (points_ok s) (started_in s (start_of packet)) (not_started_in Malformed)
 
 -- ---- Issue: 1 no such command, or another op or point; 15 a command is open; 20 an opening whose conditions fail; 16 as the client
 
-unfoldable pub not_sent_in : Chamber → ℕ → ChamberSend
-not_sent_in ch n = record { chamber = ch; answer = NotSent n }
+unfoldable pub not_sent_in : Chamber → Refusal → ChamberSend
+not_sent_in ch e = record { chamber = ch; answer = Err e }
 
 -- a set or part that is issued is the last one
-unfoldable pub moved_by : Chamber → ℕ → Sent → ℕ
-moved_by ch op (NotSent n) = ch.moved
-moved_by ch op (Asked q) = pick (eqb op read_op) ch.moved q.command.call
+unfoldable pub moved_by : Chamber → ℕ → Result Request Refusal → ℕ
+moved_by ch op (Err e) = ch.moved
+moved_by ch op (Ok q) = pick (eqb op read_op) ch.moved q.command.call
 
 unfoldable pub sent_in : Chamber → ℕ → SendAnswer → ChamberSend
 sent_in ch op s =
@@ -163,9 +162,9 @@ sent_in ch op s =
 unfoldable pub issue_in : Chamber → ℕ → ℕ → ℕ → ChamberSend
 issue_in ch op point a =
     let i = role_in ch.points point in
-    pick (not (command_ok op point a && op_ok i op)) (not_sent_in ch malformed)
-    (pick (ltb (first_open ch.client) ch.client.next) (not_sent_in ch window_full)
-    (pick (is_opening op a && not (may_open ch i)) (not_sent_in ch not_safe)
+    pick (not (command_ok op point a && op_ok i op)) (not_sent_in ch Malformed)
+    (pick (ltb (first_open ch.client) ch.client.next) (not_sent_in ch WindowFull)
+    (pick (is_opening op a && not (may_open ch i)) (not_sent_in ch NotSafe)
     (sent_in ch op (issue_of ch.client op point a))))
 
 -- ---- Resend: as the client
@@ -187,11 +186,11 @@ unfoldable pub reads_with : Chamber → ResultPacket → List LatestRead
 reads_with ch r =
     pick (eqb (call_at ch.client r.call).op read_op) (set ch.reads (role_in ch.points r.point) (read_by r)) ch.reads
 
-unfoldable pub reads_by : Chamber → Received → List LatestRead
-reads_by ch (NotReceived n) = ch.reads
-reads_by ch (Completed r) = reads_with ch r
-reads_by ch (Denied r) = ch.reads
-reads_by ch (Extended g) = ch.reads
+unfoldable pub reads_by : Chamber → Result Received Refusal → List LatestRead
+reads_by ch (Err e) = ch.reads
+reads_by ch (Ok (Completed r)) = reads_with ch r
+reads_by ch (Ok (Denied r)) = ch.reads
+reads_by ch (Ok (Extended g)) = ch.reads
 
 unfoldable pub receive_in : Chamber → List ℕ → ChamberReceive
 receive_in ch packet =

@@ -1,12 +1,10 @@
 -- The controllers of one lock above the kernel: one after another, each named by its client's number, all with the same five points. Each of
 -- their calls is one event of the kernel, a refused start or command one that does nothing.
 -- Assumes nothing.
-use Rattle.std.specs.Prelude.{ℕ, List, eqb}
+use Rattle.std.specs.Prelude.{ℕ, List, eqb, Result, Ok, Err}
 use Rattle.std.proofs.Math.Option.{Option, none, some}
-use Rattle.model.specs.declared.Started.{Started}
-use Rattle.model.specs.declared.Started.TheVariants.{NotStarted, Running}
-use Rattle.model.specs.declared.Sent.{Sent}
-use Rattle.model.specs.declared.Sent.TheVariants.{NotSent, Asked}
+use Rattle.model.specs.declared.Request.{Request}
+use Rattle.model.specs.declared.Refusal.{Refusal}
 use Rattle.model.specs.Choice.{pick}
 use Rattle.claim.specs.World.{World, Event, outside, OutsideCall, start, issue, resend, receive, packet}
 use Rattle.claim.specs.Above.{Product, quiet}
@@ -36,17 +34,17 @@ with_controller x ch l = record { controllers = λ y. pick (eqb y x) (some ch) (
 
 -- ---- the call of the kernel that a controller's call is
 
-unfoldable pub unless_refused : Started → OutsideCall → OutsideCall
-unless_refused (NotStarted n) e = quiet
-unless_refused Running e = e
+unfoldable pub unless_refused : Result Unit Refusal → OutsideCall → OutsideCall
+unless_refused (Err r) e = quiet
+unless_refused (Ok tt) e = e
 
 unfoldable pub start_call : LockPoints → Option (List ℕ) → ℕ → OutsideCall
 start_call s none n = quiet
 start_call s (some b) n = unless_refused (start_in b s).answer (start n)
 
-unfoldable pub unless_not_sent : Sent → OutsideCall → OutsideCall
-unless_not_sent (NotSent n) e = quiet
-unless_not_sent (Asked q) e = e
+unfoldable pub unless_not_sent : Result Request Refusal → OutsideCall → OutsideCall
+unless_not_sent (Err r) e = quiet
+unless_not_sent (Ok q) e = e
 
 unfoldable pub issue_call : Option Chamber → ℕ → ℕ → ℕ → ℕ → OutsideCall
 issue_call none x op p a = quiet
@@ -68,8 +66,8 @@ lock_event s w l (hear x n) = outside (if_there (l.controllers x) (receive x n))
 unfoldable pub starts_as : ChamberStart → Lock → Lock
 starts_as a l =
     elim a.answer [
-      | NotStarted n ↦ l
-      | Running ↦
+      | Err e ↦ l
+      | Ok tt ↦
           let x = a.chamber.client.client in
           record { controllers = (with_controller x a.chamber l).controllers; latest = some x }
     ]

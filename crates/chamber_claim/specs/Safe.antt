@@ -1,11 +1,10 @@
 -- The lock's theorem: for every schedule of kernel calls and controllers' calls under the provisos, and for every order that explains it, at no
 -- place in the order are both gates away from 0. It rests on what `claim` says of the kernel: an order that explains, and the fence.
 -- Assumes nothing.
-use Rattle.std.specs.Prelude.{ℕ, ◌≤◌, ◌≡◌, List, [], ◌∷◌, ◌⊎◌, pos, take}
+use Rattle.std.specs.Prelude.{ℕ, ◌≤◌, ◌≡◌, List, [], ◌∷◌, ◌⊎◌, pos, take, Ok}
 use Rattle.std.proofs.Math.Option.{some}
 use Rattle.std.proofs.Math.ListN.{get_elem?}
 use Rattle.model.specs.declared.Command.{Command}
-use Rattle.model.specs.declared.Started.TheVariants.{Running}
 use Rattle.model.specs.Limits.{read_op}
 use Rattle.model.specs.Plan.{plan_of}
 use Rattle.model.specs.Sequential.{OrderEntry, Values, opened, values_after}
@@ -41,7 +40,7 @@ module _ (plan : List ℕ) (s : LockPoints) (ls : List LockEvent) where
     pub event : AtLock n (begin number)
     pub bytes : List ℕ
     pub delivered : packet (Above.site_after (lock_product s) ls n).world number ≡ some bytes
-    pub answer : (start_in bytes s).answer ≡ Running
+    pub answer : (start_in bytes s).answer ≡ Ok tt
     pub its : (start_in bytes s).chamber.client.client ≡ x
 
   -- p is a gate

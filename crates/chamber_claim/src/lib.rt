@@ -2,7 +2,7 @@
 // place in the order are both gates away from 0.
 #![tactic(auto)]
 
-use model::{Client, Received, Sent, Started};
+use model::{Client, Received, Refusal, Request};
 
 // The number of points of a lock: two gates, three levels.
 pub const LOCK_POINTS: usize = 5;
@@ -40,17 +40,17 @@ pub struct Chamber {
 #[derive(Clone, Copy)]
 pub struct ChamberStart {
     pub chamber: Chamber,
-    pub answer: Started,
+    pub answer: Result<(), Refusal>,
 }
 
 #[derive(Clone, Copy)]
 pub struct ChamberSend {
     pub chamber: Chamber,
-    pub answer: Sent,
+    pub answer: Result<Request, Refusal>,
 }
 
 #[derive(Clone, Copy)]
 pub struct ChamberReceive {
     pub chamber: Chamber,
-    pub answer: Received,
+    pub answer: Result<Received, Refusal>,
 }

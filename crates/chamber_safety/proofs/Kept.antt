@@ -14,14 +14,14 @@ use lib.IntN.{pos}
 use lib.ListN.{take, get_elem?}
 use lib.Dec.{eqb, leb}
 use borrow.Author.Tests.{eqb-true, leb-true, eq-eqb}
+use Rattle.std.specs.Prelude.{Result, Ok, Err}
+use Rattle.model.specs.declared.Refusal.{Refusal}
 use Rattle.model.specs.declared.Answer.{Answer}
 use Rattle.model.specs.declared.Command.{Command}
 use Rattle.model.specs.declared.Notice.{Notice}
 use Rattle.model.specs.declared.Request.{Request}
 use Rattle.model.specs.declared.Packet.{Packet}
 use Rattle.model.specs.declared.Packet.TheVariants.{Malformed, Requested, Resulted, Refused, Receipted, Noticed, Granted}
-use Rattle.model.specs.declared.Started.{Started}
-use Rattle.model.specs.declared.Started.TheVariants.{NotStarted, Running}
 use Rattle.model.specs.Limits.{read_op}
 use Rattle.model.specs.Tables.{every}
 use Rattle.model.specs.Plan.{plan_of}
@@ -124,14 +124,14 @@ successor-is plan s c k w x p e g =
 -- ---- what is looked for
 
 started_as_lem : (s : LockPoints) (x : ℕ) (o : Option (List ℕ)) → starts_in s x o ≡ true
-    → (b : List ℕ) × (o ≡ some b) × ((start_in b s).answer ≡ Running) × ((start_in b s).chamber.client.client ≡ x)
+    → (b : List ℕ) × (o ≡ some b) × ((start_in b s).answer ≡ Ok tt) × ((start_in b s).chamber.client.client ≡ x)
 unfolding starts_in started_as
 started_as_lem s x none e = untrue e
 started_as_lem s x (some b) e = let z = go (start_in b s).answer refl in (b, refl, z.0, z.1)
   where
-    go : (a : Started) → (start_in b s).answer ≡ a → ((start_in b s).answer ≡ Running) × ((start_in b s).chamber.client.client ≡ x)
-    go (NotStarted n) q = untrue (rw q at e)
-    go Running q = (q, eqb-true _ _ (rw q at e))
+    go : (a : Result Unit Refusal) → (start_in b s).answer ≡ a → ((start_in b s).answer ≡ Ok tt) × ((start_in b s).chamber.client.client ≡ x)
+    go (Err n) q = untrue (rw q at e)
+    go (Ok tt) q = (q, eqb-true _ _ (rw q at e))
 
 same-command : (a b : Command) → same_command a b ≡ true → a ≡ b
 unfolding same_command

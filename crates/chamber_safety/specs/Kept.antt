@@ -1,12 +1,11 @@
 -- The provisos of a lock's schedule as tests of one event in the site before it, and what is looked for at single events.
 -- Assumes nothing.
-use Rattle.std.specs.Prelude.{ℕ, Bool, true, false, ◌&&◌, ◌||◌, not, List, [], ◌∷◌, eqb, leb}
+use Rattle.std.specs.Prelude.{ℕ, Bool, true, false, ◌&&◌, ◌||◌, not, List, [], ◌∷◌, eqb, leb, Ok, Err}
 use Rattle.std.proofs.Math.Option.{Option, none, some}
 use Rattle.model.specs.declared.Answer.{Answer}
 use Rattle.model.specs.declared.Command.{Command}
 use Rattle.model.specs.declared.Packet.{Packet}
 use Rattle.model.specs.declared.Packet.TheVariants.{Malformed, Requested, Resulted, Refused, Receipted, Noticed, Granted}
-use Rattle.model.specs.declared.Started.TheVariants.{NotStarted, Running}
 use Rattle.model.specs.Limits.{read_op}
 use Rattle.model.specs.Packets.{parse_packet}
 use Rattle.model.specs.Calls.{Operation, request, fetch, sync, notice, give, image, take_in, receipt, release, handed}
@@ -95,7 +94,7 @@ pub data Look : Type 0 where
   executing : Command → Look  -- this command is executed
 
 unfoldable pub started_as : ℕ → ChamberStart → Bool
-started_as x a = elim a.answer [ NotStarted n ↦ false | Running ↦ eqb a.chamber.client.client x ]
+started_as x a = elim a.answer [ Err e ↦ false | Ok tt ↦ eqb a.chamber.client.client x ]
 
 unfoldable pub starts_in : LockPoints → ℕ → Option (List ℕ) → Bool
 starts_in s x none = false

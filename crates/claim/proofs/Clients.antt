@@ -16,10 +16,10 @@ use native.Mathlib.Omega.{arith}
 use lib.ListN.{take, get_elem?}
 use lib.Dec.{eqb, leb}
 use borrow.Author.Tests.{eqb-true, eq-eqb, leb-true, leb-false}
+use Rattle.std.specs.Prelude.{Result, Ok, Err}
+use Rattle.model.specs.declared.Refusal.{Refusal}
 use Rattle.model.specs.declared.Client.{Client}
 use Rattle.model.specs.declared.Command.{Command}
-use Rattle.model.specs.declared.Started.{Started}
-use Rattle.model.specs.declared.Started.TheVariants.{NotStarted, Running}
 use Rattle.model.specs.Refusals.{no_refusal}
 use Rattle.model.specs.Versions.{Versions}
 use Rattle.model.specs.Packets.{parse_packet}
@@ -112,7 +112,7 @@ module _ (plan : List ℕ) (es : List Event) where
   -- what event n makes of client x
   pub data Becomes (n x : ℕ) : Option Client → Type 0 where
     still : Becomes n x ((after es n).clients x)
-    begun : (p : ℕ) (b : List ℕ) → At es n (outside (start p)) → packet (after es n) p ≡ some b → (start_of b).answer ≡ Running → (start_of b).client.client ≡ x
+    begun : (p : ℕ) (b : List ℕ) → At es n (outside (start p)) → packet (after es n) p ≡ some b → (start_of b).answer ≡ Ok tt → (start_of b).client.client ≡ x
         → Becomes n x (some (start_of b).client)
     asked : (op p a : ℕ) (d : Client) → At es n (outside (issue x op p a)) → (after es n).clients x ≡ some d → Becomes n x (some (issue_of d op p a).client)
     heard : (p : ℕ) (d : Client) (b : List ℕ) → At es n (outside (receive x p)) → (after es n).clients x ≡ some d → packet (after es n) p ≡ some b
@@ -135,9 +135,9 @@ module _ (plan : List ℕ) (es : List Event) where
     step_becomes (crash c k) h = as_still (crash c k) (crash-clients _ _ _ _)
     step_becomes (outside (start p)) h = go (packet (after es n) p) refl
       where
-        run_as : (b : List ℕ) → packet (after es n) p ≡ some b → (s : Started) → (start_of b).answer ≡ s → Becomes n x ((starts_as (start_of b) (after es n)).clients x)
-        run_as b f (NotStarted k) q = rw q still
-        run_as b f Running q = rw q (choose (Becomes n x) (eqb x (start_of b).client.client) (λ t. begun p b h f q (sym (eqb-true _ _ t))) (λ t. still))
+        run_as : (b : List ℕ) → packet (after es n) p ≡ some b → (s : Result Unit Refusal) → (start_of b).answer ≡ s → Becomes n x ((starts_as (start_of b) (after es n)).clients x)
+        run_as b f (Err k) q = rw q still
+        run_as b f (Ok tt) q = rw q (choose (Becomes n x) (eqb x (start_of b).client.client) (λ t. begun p b h f q (sym (eqb-true _ _ t))) (λ t. still))
 
         go : (o : Option (List ℕ)) → packet (after es n) p ≡ o → Becomes n x ((starts_on o (after es n)).clients x)
         go none f = still
@@ -193,7 +193,7 @@ module _ (plan : List ℕ) (es : List Event) where
   unfolding step outside_step receives with_client
   receive-after n x p d b h e f = rw (after-step n _ h, e, f, eq-eqb x x refl) refl
 
-  pub start-after : (n p : ℕ) (b : List ℕ) → At es n (outside (start p)) → packet (after es n) p ≡ some b → (start_of b).answer ≡ Running
+  pub start-after : (n p : ℕ) (b : List ℕ) → At es n (outside (start p)) → packet (after es n) p ≡ some b → (start_of b).answer ≡ Ok tt
       → (after es (suc n)).clients (start_of b).client.client ≡ some (start_of b).client
   unfolding step outside_step starts_on starts_as with_client
   start-after n p b h f e = rw (after-step n _ h, f, e, eq-eqb (start_of b).client.client (start_of b).client.client refl) refl

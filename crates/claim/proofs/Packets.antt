@@ -8,11 +8,11 @@ use mathlib.Core.List.{List, [], ◌∷◌, ◌++◌}
 use mathlib.Core.Option.{Option, none, some}
 use lib.Dec.{eqb}
 use lib.ListN.{take, get_elem?}
+use Rattle.std.specs.Prelude.{Result, Ok, Err}
+use Rattle.model.specs.declared.Refusal.{Refusal}
 use Rattle.model.specs.declared.Client.{Client}
 use Rattle.model.specs.declared.SendAnswer.{SendAnswer}
 use Rattle.model.specs.declared.StartAnswer.{StartAnswer}
-use Rattle.model.specs.declared.Started.{Started}
-use Rattle.model.specs.declared.Started.TheVariants.{NotStarted, Running}
 use Rattle.model.specs.Refusals.{no_refusal}
 use Rattle.model.specs.Versions.{Versions}
 use Rattle.model.specs.Clients.{start_of}
@@ -92,10 +92,10 @@ receives-keeps x none p w i b e = e
 receives-keeps x (some d) none w i b e = e
 receives-keeps x (some d) (some g) w i b e = e
 
-as_keeps : {S : Type 0} (a : StartAnswer) (s : Started) → a.answer ≡ s → (w : WorldOf S) → Keeps w (starts_as a w)
+as_keeps : {S : Type 0} (a : StartAnswer) (s : Result Unit Refusal) → a.answer ≡ s → (w : WorldOf S) → Keeps w (starts_as a w)
 unfolding starts_as with_client packet
-as_keeps a (NotStarted k) q w i b e = rw q e
-as_keeps a Running q w i b e = rw q e
+as_keeps a (Err k) q w i b e = rw q e
+as_keeps a (Ok tt) q w i b e = rw q e
 
 starts-keeps : {S : Type 0} (o : Option (List ℕ)) (w : WorldOf S) → Keeps w (starts_on o w)
 unfolding starts_on

@@ -13,6 +13,7 @@ use mathlib.Core.Logic.{◌⊎◌, inl, inr}
 use native.Mathlib.Omega.{arith}
 use lib.Dec.{ltb}
 use borrow.Author.Tests.{ltb-true, ltb-false}
+use Rattle.std.specs.Prelude.{Ok}
 use Rattle.model.specs.declared.Client.{Client}
 use Rattle.model.specs.declared.Command.{Command}
 use Rattle.model.specs.declared.Packet.TheVariants.{Resulted}
@@ -88,12 +89,12 @@ module _ (plan : List ℕ) (seen : Account) (order : List OrderEntry) (E : Expla
 -- ---- over bytes
 
 -- a result that completes a call is of that call
-completed_is : (d : Client) (b : List ℕ) (r : ResultPacket) → (receive_of d b).answer ≡ Completed r
+completed_is : (d : Client) (b : List ℕ) (r : ResultPacket) → (receive_of d b).answer ≡ Ok (Completed r)
     → (parse_packet b ≡ Resulted r) × (r.client ≡ d.client) × ((call_at d r.call).call ≡ r.call)
 unfolding receive_of not_received
 completed_is d b r s = go (receive_case d (parse_packet b))
   where
-    told : {a : ReceiveAnswer} → receive_with d (parse_packet b) ≡ a → a.answer ≡ Completed r
+    told : {a : ReceiveAnswer} → receive_with d (parse_packet b) ≡ a → a.answer ≡ Ok (Completed r)
     told e = ap (λ (x : ReceiveAnswer). x.answer) (sym e) ∙ s
 
     go : ReceiveCase d (parse_packet b) → (parse_packet b ≡ Resulted r) × (r.client ≡ d.client) × ((call_at d r.call).call ≡ r.call)

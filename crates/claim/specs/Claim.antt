@@ -1,7 +1,7 @@
 -- Demand 3: after every schedule there is one order of all surviving commands, each once, that explains every result and every
 -- final value, in real-time order.
 -- Assumes nothing.
-use Rattle.std.specs.Prelude.{ℕ, suc, ◌+◌, ◌≤◌, ◌<◌, ◌≡◌, ◌↔◌}
+use Rattle.std.specs.Prelude.{ℕ, suc, ◌+◌, ◌≤◌, ◌<◌, ◌≡◌, ◌↔◌, Ok}
 use mathlib.Core.List.{List, [], ◌∷◌, Memᴰ}
 use Rattle.std.proofs.Math.Option.{Option, none, some}
 use Rattle.model.specs.declared.Reading.{Reading}
@@ -11,7 +11,6 @@ use Rattle.model.specs.declared.ResultPacket.{ResultPacket}
 use Rattle.model.specs.declared.Point.{Point}
 use Rattle.model.specs.declared.Client.{Client}
 use Rattle.model.specs.declared.Packet.TheVariants.{Requested, Resulted}
-use Rattle.model.specs.declared.Sent.TheVariants.{Asked}
 use Rattle.model.specs.declared.Received.TheVariants.{Completed}
 use Rattle.model.specs.Limits.{point_count}
 use Rattle.model.specs.Plan.{plan_of, entry_at}
@@ -67,7 +66,7 @@ module _ {S : Type 0} (world : ℕ → WorldOf S) (Is : ℕ → OutsideCall → 
     pub state : Client
     pub started : (world n).clients client ≡ some state
     pub asked : Request
-    pub answer : (issue_of state op point argument).answer ≡ Asked asked
+    pub answer : (issue_of state op point argument).answer ≡ Ok asked
     pub its : asked.command ∷ [] ≡ ks
 
   -- "A Receive of its result, not refused, completes it": event n completes ks, one command, with the result r
@@ -80,7 +79,7 @@ module _ {S : Type 0} (world : ℕ → WorldOf S) (Is : ℕ → OutsideCall → 
     pub bytes : List ℕ
     pub delivered : packet (world n) number ≡ some bytes
     pub received : ResultPacket
-    pub answer : (receive_of state bytes).answer ≡ Completed received
+    pub answer : (receive_of state bytes).answer ≡ Ok (Completed received)
     pub its : command_at state received.call ∷ [] ≡ ks
     pub result : one (result_meant received.result) ≡ r
 

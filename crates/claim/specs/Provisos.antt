@@ -3,10 +3,9 @@
 --     "only the operations change state and log": `running` holds what the last call left, and a call is lent just that
 --     "the lease office keeps its state": there is one manager, and each call of it gets what the last one left
 -- Assumes nothing.
-use Rattle.std.specs.Prelude.{ℕ, ◌+◌, ◌*◌, ◌≤◌, ◌<◌, ◌≡◌, List, [], length, take, get_or}
+use Rattle.std.specs.Prelude.{ℕ, ◌+◌, ◌*◌, ◌≤◌, ◌<◌, ◌≡◌, List, [], length, take, get_or, Ok}
 use Rattle.std.proofs.Math.Option.{Option, none, some}
 use Rattle.std.proofs.Math.ListN.{get_elem?}
-use Rattle.model.specs.declared.Started.TheVariants.{Running}
 use Rattle.model.specs.Numbers.{word}
 use Rattle.model.specs.Operations.{found_of, recover_of}
 use Rattle.model.specs.Checkpoints.{recover_tail_of}
@@ -50,7 +49,7 @@ Typed (outside e) = OutsideTyped e
 
 -- the client that packet p starts has not started before
 abbrev pub StartedOnce : {S : Type 0} → WorldOf S → ℕ → Type 0
-StartedOnce w p = (b : List ℕ) → packet w p ≡ some b → (start_of b).answer ≡ Running → w.clients (start_of b).client.client ≡ none
+StartedOnce w p = (b : List ℕ) → packet w p ≡ some b → (start_of b).answer ≡ Ok tt → w.clients (start_of b).client.client ≡ none
 
 -- the log that a running server has, or that a crash kept: what recovery may use
 unfoldable pub kept_by : Server → Option (List ℕ)

@@ -1,12 +1,11 @@
 -- All parties, run over a schedule: servers (paper: cabinets) with their bytes, clients (desks), the lease manager (lease office),
 -- and every packet and image made. Each event runs the definition that the call's contract cites, at a party that is there; a call at one that is not is none.
 -- Assumes nothing.
-use Rattle.std.specs.Prelude.{ℕ, ◌+◌, ◌-◌, List, [], ◌∷◌, ◌++◌, length, take, drop, eqb}
+use Rattle.std.specs.Prelude.{ℕ, ◌+◌, ◌-◌, List, [], ◌∷◌, ◌++◌, length, take, drop, eqb, Ok, Err}
 use Rattle.std.proofs.Math.Option.{Option, none, some}
 use Rattle.std.proofs.Math.ListN.{get_elem?}
 use Rattle.model.specs.declared.Client.{Client}
 use Rattle.model.specs.declared.LeaseManager.{LeaseManager}
-use Rattle.model.specs.declared.Started.TheVariants.{NotStarted, Running}
 use Rattle.model.specs.declared.StartAnswer.{StartAnswer}
 use Rattle.model.specs.declared.SendAnswer.{SendAnswer}
 use Rattle.model.specs.declared.LeaseAnswer.{LeaseAnswer}
@@ -171,7 +170,7 @@ crash_at c n (crashed k kept mark) w = with_server c (crashed k (take n kept) ma
 -- ---- clients
 
 unfoldable pub starts_as : {S : Type 0} → StartAnswer → WorldOf S → WorldOf S
-starts_as a w = elim a.answer [ NotStarted n ↦ w | Running ↦ with_client a.client.client a.client w ]
+starts_as a w = elim a.answer [ Err e ↦ w | Ok tt ↦ with_client a.client.client a.client w ]
 
 unfoldable pub starts_on : {S : Type 0} → Option (List ℕ) → WorldOf S → WorldOf S
 starts_on none w = w

@@ -14,6 +14,7 @@ use lib.Dec.{leb, eqb}
 use lib.ListN.{length, set}
 use lib.Seq.{set-get_or}
 use borrow.Author.Tests.{le-leb, lt-leb, leb-true, eqb-true}
+use Rattle.std.proofs.Common.{Ok, Err}
 use Rattle.model_laws.proofs.Tests.{and_left, and_right}
 use Rattle.model_laws.proofs.Least.{least-opened}
 use Rattle.model_laws.proofs.Clients.{place_under}
@@ -26,12 +27,12 @@ use Rattle.model.specs.declared.RefusalPacket.{RefusalPacket}
 use Rattle.model.specs.declared.Grant.{Grant}
 use Rattle.model.specs.declared.Packet.{Packet}
 use Rattle.model.specs.declared.Packet.TheVariants.{Resulted, Refused, Granted}
-use Rattle.model.specs.declared.Sent.TheVariants.{NotSent, Asked}
-use Rattle.model.specs.declared.Received.TheVariants.{NotReceived, Completed, Denied, Extended}
+use Rattle.model.specs.declared.Received.TheVariants.{Completed, Denied, Extended}
 use Rattle.model.specs.Packets.{command_ok}
 use Rattle.model.specs.Clients.{no_call, place_of, call_at, is_open, first_open, with_calls, new_call, with_call, request_for, not_sent, sent, issue_of, resend_of}
 use Rattle.model.specs.Clients.{with_lease, closed, is_own, not_received, receive_result, receive_refusal, receive_grant, receive_with}
-use Rattle.model.specs.Refusals.{unknown, malformed, window_full, numbers_out}
+use Rattle.model.specs.declared.Refusal.{Refusal}
+use Rattle.model.specs.declared.Refusal.TheVariants.{Malformed, WindowFull, NumbersOut, Unknown}
 use Rattle.model.specs.Limits.{call_window, last32}
 use Rattle.client.specs.Changes.{request_with, OfCall, issued, received}
 
@@ -51,22 +52,22 @@ first-opened d {old} k long at next least free =
     let u = place_under k.call in
     least ∙ sym (least-opened d.next d.calls (place_of k.call) k (omega arith) (rw (ap place_of next) z) next (omega arith))
 
-pub not-issued : (d : Client) (n : ℕ) {k : OpenCall} → k ≡ call_at d d.next → issued d (record { next = d.next; call = k; answer = NotSent n }) ≡ not_sent d n
+pub not-issued : (d : Client) (e : Refusal) {k : OpenCall} → k ≡ call_at d d.next → issued d (record { next = d.next; call = k; answer = Err e }) ≡ not_sent d e
 unfolding issued not_sent with_calls
-not-issued d n at = rw (same-call d d.next at) refl
+not-issued d e at = rw (same-call d d.next at) refl
 
 module _ (d : Client) (op point a : ℕ) {u : Bool} {r : SendAnswer} (tested : u ≡ command_ok op point a) where
-  pub issue_bad : u ≡ false → r ≡ not_sent d malformed → r ≡ issue_of d op point a
+  pub issue_bad : u ≡ false → r ≡ not_sent d Malformed → r ≡ issue_of d op point a
   unfolding issue_of
   issue_bad bad e = rw (← tested, bad) e
 
   module _ (good : u ≡ true) {first : ℕ} (least : first ≡ first_open d) where
-    pub issue_full : first + call_window ≤ d.next → r ≡ not_sent d window_full → r ≡ issue_of d op point a
+    pub issue_full : first + call_window ≤ d.next → r ≡ not_sent d WindowFull → r ≡ issue_of d op point a
     unfolding issue_of
     issue_full full e = rw (← tested, good, ← least, le-leb _ _ full) e
 
     module _ (room : d.next < first + call_window) where
-      pub issue-out : last32 ≤ d.next → r ≡ not_sent d numbers_out → r ≡ issue_of d op point a
+      pub issue-out : last32 ≤ d.next → r ≡ not_sent d NumbersOut → r ≡ issue_of d op point a
       unfolding issue_of
       issue-out out e = rw (← tested, good, ← least, lt-leb _ _ room, le-leb _ _ out) e
 
@@ -77,7 +78,7 @@ module _ (d : Client) (op point a : ℕ) {u : Bool} (tested : u ≡ command_ok o
 
   pub issue-done : {first : ℕ} → first ≡ first_open d → d.next < first + call_window → d.next < last32
       → {done : ℕ} {q : Request} → done ≡ first_open (with_call d opened) → q ≡ request_with d opened done
-      → issued d (record { next = d.next + 1; call = opened; answer = Asked q }) ≡ issue_of d op point a
+      → issued d (record { next = d.next + 1; call = opened; answer = Ok q }) ≡ issue_of d op point a
   unfolding issue_of new_call issued sent request_for request_with with_call with_calls
   issue-done least room left after asks = rw (← tested, good, ← least, lt-leb _ _ room, lt-leb _ _ left, asks, after, add-one) refl
 
@@ -85,11 +86,11 @@ module _ (d : Client) (op point a : ℕ) {u : Bool} (tested : u ≡ command_ok o
 
 module _ (d : Client) (c : ℕ) {k : OpenCall} (at : k ≡ call_at d c) where
   pub resend_open : (leb 1 c && eqb k.call c) ≡ true → {done : ℕ} {q : Request} → done ≡ first_open d → q ≡ request_with d k done
-      → record { client = d; answer = Asked q } ≡ resend_of d c
+      → record { client = d; answer = Ok q } ≡ resend_of d c
   unfolding resend_of is_open sent request_for request_with
   resend_open is least asks = rw (← at, is, asks, least) refl
 
-  pub resend-unknown : (leb 1 c && eqb k.call c) ≡ false → record { client = d; answer = NotSent unknown } ≡ resend_of d c
+  pub resend-unknown : (leb 1 c && eqb k.call c) ≡ false → record { client = d; answer = Err Unknown } ≡ resend_of d c
   unfolding resend_of is_open not_sent
   resend-unknown is = rw (← at, is) refl
 
@@ -100,35 +101,35 @@ pub is-own : (d : Client) (client call point : ℕ) {k : OpenCall} → k ≡ cal
 unfolding is_own is_open
 is-own d client call point at = rw at refl
 
-pub not-received : (d : Client) (c n : ℕ) {k : OpenCall} → k ≡ call_at d c → received d c (record { lease = d.lease; call = k; answer = NotReceived n }) ≡ not_received d n
+pub not-received : (d : Client) (c : ℕ) (e : Refusal) {k : OpenCall} → k ≡ call_at d c → received d c (record { lease = d.lease; call = k; answer = Err e }) ≡ not_received d e
 unfolding received not_received
-not-received d c n at = rw (same-call d c at) refl
+not-received d c e at = rw (same-call d c at) refl
 
 module _ (d : Client) (c : ℕ) {p : Packet} (of : OfCall c p) {k : OpenCall} (at : k ≡ call_at d c) where
   pub result_own : (r : ResultPacket) → p ≡ Resulted r → true ≡ is_own d r.client r.call r.point → {l : OpenCall} → l ≡ no_call
-      → received d c (record { lease = d.lease; call = l; answer = Completed r }) ≡ receive_with d p
+      → received d c (record { lease = d.lease; call = l; answer = Ok (Completed r) }) ≡ receive_with d p
   unfolding receive_with receive_result received closed with_calls
   result_own r is own made = rw (subst (OfCall c) is of, is, ← own, made) refl
 
   pub refusal-own : (r : RefusalPacket) → p ≡ Refused r → true ≡ is_own d r.client r.call r.point
-      → received d c (record { lease = d.lease; call = k; answer = Denied r }) ≡ receive_with d p
+      → received d c (record { lease = d.lease; call = k; answer = Ok (Denied r) }) ≡ receive_with d p
   unfolding receive_with receive_refusal received
   refusal-own r is own = rw (is, ← own, same-call d c at) refl
 
   pub grant-later : (g : Grant) → p ≡ Granted g → (eqb g.client d.client && leb d.lease g.lease) ≡ true
-      → received d c (record { lease = g.lease; call = k; answer = Extended g }) ≡ receive_with d p
+      → received d c (record { lease = g.lease; call = k; answer = Ok (Extended g) }) ≡ receive_with d p
   unfolding receive_with receive_grant received with_lease
   grant-later g is later = rw (is, later, same-call d c at) refl
 
 module _ (d : Client) {p : Packet} where
-  pub result-unknown : (r : ResultPacket) → p ≡ Resulted r → false ≡ is_own d r.client r.call r.point → not_received d unknown ≡ receive_with d p
+  pub result-unknown : (r : ResultPacket) → p ≡ Resulted r → false ≡ is_own d r.client r.call r.point → not_received d Unknown ≡ receive_with d p
   unfolding receive_with receive_result
   result-unknown r is own = rw (is, ← own) refl
 
-  pub refusal-unknown : (r : RefusalPacket) → p ≡ Refused r → false ≡ is_own d r.client r.call r.point → not_received d unknown ≡ receive_with d p
+  pub refusal-unknown : (r : RefusalPacket) → p ≡ Refused r → false ≡ is_own d r.client r.call r.point → not_received d Unknown ≡ receive_with d p
   unfolding receive_with receive_refusal
   refusal-unknown r is own = rw (is, ← own) refl
 
-  pub grant-unknown : (g : Grant) → p ≡ Granted g → (eqb g.client d.client && leb d.lease g.lease) ≡ false → not_received d unknown ≡ receive_with d p
+  pub grant-unknown : (g : Grant) → p ≡ Granted g → (eqb g.client d.client && leb d.lease g.lease) ≡ false → not_received d Unknown ≡ receive_with d p
   unfolding receive_with receive_grant
   grant-unknown g is later = rw (is, later) refl

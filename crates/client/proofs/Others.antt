@@ -18,7 +18,7 @@ use Rattle.model.specs.declared.Packet.{Packet}
 use Rattle.model.specs.declared.RefusalPacket.{RefusalPacket}
 use Rattle.model.specs.declared.ResultPacket.{ResultPacket}
 use Rattle.model.specs.declared.Packet.TheVariants.{Malformed, Requested, Resulted, Refused, Receipted, Noticed, Granted}
-use Rattle.model.specs.Refusals.{malformed}
+use Rattle.model.specs.declared.Refusal.TheVariants as refusal
 use Rattle.model.specs.Numbers.{byte_at, le32_at}
 use Rattle.model.specs.Limits.{request_kind, first_result_kind, result_kind, refusal_kind, receipt_kind, notice_kind, grant_kind, refusal_size, grant_size}
 use Rattle.model.specs.Packets.{packet_length, result_kind_of, result_at, refusal_at, whole}
@@ -38,7 +38,7 @@ not-grant (Noticed n) h = refl
 not-grant (Granted g) h = absurd (h g refl)
 
 pub not_taken : (d : Client) (p : Packet) → ((r : ResultPacket) → p ≡ Resulted r → ⊥) → ((r : RefusalPacket) → p ≡ Refused r → ⊥) → ((g : Grant) → p ≡ Granted g → ⊥)
-    → receive_with d p ≡ not_received d malformed
+    → receive_with d p ≡ not_received d refusal.Malformed
 unfolding receive_with
 not_taken d Malformed h2 h3 h6 = refl
 not_taken d (Requested q) h2 h3 h6 = refl
@@ -93,7 +93,7 @@ module _ (b : List ℕ) where
 
   module _ (d : Client) where
     abbrev NotReceived : Packet → Type 0
-    NotReceived p = not_received d malformed ≡ receive_with d p
+    NotReceived p = not_received d refusal.Malformed ≡ receive_with d p
 
     abbrev Same : Type 0
     Same = receive_with d (client_packet b) ≡ receive_of d b

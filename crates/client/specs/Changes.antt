@@ -6,7 +6,6 @@ use Rattle.model.specs.declared.Client.{Client}
 use Rattle.model.specs.declared.Request.{Request}
 use Rattle.model.specs.declared.Packet.{Packet}
 use Rattle.model.specs.declared.Packet.TheVariants.{Malformed, Requested, Resulted, Refused, Receipted, Noticed, Granted}
-use Rattle.model.specs.declared.Started.TheVariants.{NotStarted, Running}
 use Rattle.model.specs.declared.StartAnswer.{StartAnswer}
 use Rattle.model.specs.declared.SendAnswer.{SendAnswer}
 use Rattle.model.specs.declared.ReceiveAnswer.{ReceiveAnswer}
@@ -15,8 +14,7 @@ use Rattle.model.specs.Numbers.{byte_at, le32_at}
 use Rattle.model.specs.Limits.{call_window, first_result_kind, refusal_kind, grant_kind, result_kind, refusal_size}
 use Rattle.model.specs.Packets.{parse_result, parse_refusal, parse_grant}
 use Rattle.model.specs.Clients.{no_call, no_client, place_of, with_calls}
-use Rattle.refusals.specs.declared.Refusal.{Refusal}
-use Rattle.refusals.specs.Numbers.{number_of}
+use Rattle.model.specs.declared.Refusal.{Refusal}
 use Rattle.client.specs.declared.StartFields.{StartFields}
 use Rattle.client.specs.declared.SendChange.{SendChange}
 use Rattle.client.specs.declared.ReceiveChange.{ReceiveChange}
@@ -24,8 +22,8 @@ use Rattle.client.specs.declared.ReceiveChange.{ReceiveChange}
 -- the answer of a start with these numbers; its open calls are none
 abbrev pub start_by : Result StartFields Refusal → StartAnswer
 start_by (Ok s) =
-    record { client = record { client = s.client; lease = s.lease; next = s.next; calls = replicate call_window no_call }; answer = Running }
-start_by (Err e) = record { client = no_client; answer = NotStarted (number_of e) }
+    record { client = record { client = s.client; lease = s.lease; next = s.next; calls = replicate call_window no_call }; answer = Ok tt }
+start_by (Err e) = record { client = no_client; answer = Err e }
 
 -- the packet of an open call, with this done
 unfoldable pub request_with : Client → OpenCall → ℕ → Request

@@ -7,15 +7,13 @@ ghost use Rattle.std.specs.Prelude.{◌≡◌, ◌<◌, length, set};
 ghost use Rattle.model.specs.Limits.{last32, call_window};
 ghost use Rattle.model.specs.Clients.{no_call, place_of, call_at, least_open, first_open, not_sent, not_received};
 ghost use Rattle.model.specs.Clients.{with_call, start_with, start_of, issue_of, resend_of, is_own, receive_with, receive_of};
-ghost use Rattle.refusals.specs.Numbers.{number_of};
 ghost use Rattle.client.specs.Changes.{start_by, request_with, packet_call, client_packet, OfCall, issued, received};
 
 use model::constants::{CALL_WINDOW, GRANT_SIZE, REFUSAL_SIZE};
 use model::{
-    Client, Command, OpenCall, Packet, ReceiveAnswer, Received, Request, SendAnswer, Sent,
-    StartAnswer, Started, constants,
+    Client, Command, OpenCall, Packet, ReceiveAnswer, Received, Refusal, Request, SendAnswer,
+    StartAnswer, constants,
 };
-use refusals::Refusal;
 
 // ---- what an operation changes
 
@@ -32,7 +30,7 @@ pub struct StartFields {
 pub struct SendChange {
     pub next: u32,
     pub call: OpenCall,
-    pub answer: Sent,
+    pub answer: Result<Request, Refusal>,
 }
 
 // The lease end, and what stands at the place of the packet's call.
@@ -40,7 +38,7 @@ pub struct SendChange {
 pub struct ReceiveChange {
     pub lease: u32,
     pub call: OpenCall,
-    pub answer: Received,
+    pub answer: Result<Received, Refusal>,
 }
 
 // ---- open calls
@@ -163,12 +161,12 @@ fn first_with(d: Client, old: OpenCall, opened: OpenCall, first: u32) -> u32
 
 pub fn not_issued(d: Client, opened: OpenCall, refusal: Refusal) -> SendChange
     requires { opened ≡ call_at d d.next }
-    ensures { issued d result ≡ not_sent d (number_of refusal) }
+    ensures { issued d result ≡ not_sent d refusal }
 {
     SendChange {
         next: d.next,
         call: opened,
-        answer: Sent::NotSent(refusal.number()),
+        answer: Err(refusal),
     }
 }
 
@@ -198,20 +196,19 @@ pub fn issue_change(d: Client, opened: OpenCall, op: u8, point: u8, argument: u3
     SendChange {
         next: d.next + 1,
         call,
-        answer: Sent::Asked(q),
+        answer: Ok(q),
     }
 }
 
 // Resend: 17 call not open. Nothing changes.
-pub fn resend_answer(d: Client, opened: OpenCall, c: u32) -> Sent
+pub fn resend_answer(d: Client, opened: OpenCall, c: u32) -> Result<Request, Refusal>
     requires { opened ≡ call_at d c }
     ensures { record { client = d; answer = result } ≡ resend_of d c }
 {
     if (1 <= c) & (opened.call == c) {
-        let q = request_with(d, opened, first_open(d));
-        return Sent::Asked(q);
+        return Ok(request_with(d, opened, first_open(d)));
     }
-    Sent::NotSent(Refusal::Unknown.number())
+    Err(Refusal::Unknown)
 }
 
 // ---- receive: opened is what stands at the place of c, which is the call of a packet that has one
@@ -252,12 +249,12 @@ fn is_own(d: Client, opened: OpenCall, client: u32, call: u32, point: u8) -> boo
 
 fn not_received(d: Client, opened: OpenCall, c: u32, refusal: Refusal) -> ReceiveChange
     requires { opened ≡ call_at d c }
-    ensures { received d c result ≡ not_received d (number_of refusal) }
+    ensures { received d c result ≡ not_received d refusal }
 {
     ReceiveChange {
         lease: d.lease,
         call: opened,
-        answer: Received::NotReceived(refusal.number()),
+        answer: Err(refusal),
     }
 }
 
@@ -284,7 +281,7 @@ fn taken(d: Client, opened: OpenCall, c: u32, packet: Packet) -> ReceiveChange
     ReceiveChange {
         lease,
         call,
-        answer,
+        answer: Ok(answer),
     }
 }
 
@@ -311,10 +308,7 @@ pub fn start(packet: &[u8]) -> StartAnswer
             next: fields.next,
             calls: [no_call(); CALL_WINDOW],
         },
-        answer: match started {
-            Ok(_) => Started::Running,
-            Err(refusal) => Started::NotStarted(refusal.number()),
-        },
+        answer: started.map(|_| ()),
     }
 }
 

@@ -12,6 +12,7 @@ use native.Mathlib.Omega.{arith}
 use lib.Dec.{ltb}
 use borrow.Author.Tests.{ltb-false}
 use lib.ListN.{set, replicate}
+use Rattle.std.proofs.Common.{Ok, Err}
 use Rattle.model.specs.declared.Request.{Request}
 use Rattle.model.specs.declared.Grant.{Grant}
 use Rattle.model.specs.declared.Notice.{Notice}
@@ -20,13 +21,14 @@ use Rattle.model.specs.declared.SendAnswer.{SendAnswer}
 use Rattle.model.specs.declared.ReceiveAnswer.{ReceiveAnswer}
 use Rattle.model.specs.declared.LeaseManager.{LeaseManager}
 use Rattle.model.specs.declared.LeaseAnswer.{LeaseAnswer}
-use Rattle.model.specs.declared.Sent.TheVariants.{NotSent, Asked}
-use Rattle.model.specs.declared.Told.TheVariants.{NotTold, ByGrant, ByNotice}
+use Rattle.model.specs.declared.Told.TheVariants.{ByGrant, ByNotice}
 use Rattle.model.specs.Limits.{notice_kind, grant_kind, request_size, grant_size, notice_size}
 use Rattle.model.specs.Packets.{request_bytes, grant_bytes, notice_bytes}
 use Rattle.model.specs.Clients.{place_of, with_calls, not_sent, send_number, sent_bytes, issue_of}
 use Rattle.model.specs.Leases.{told_number, told_bytes}
-use Rattle.model.specs.Refusals.{no_refusal, malformed}
+use Rattle.model.specs.declared.Refusal.{Refusal}
+use Rattle.model.specs.declared.Refusal.TheVariants.{Malformed}
+use Rattle.model.specs.Refusals.{no_refusal, number_of}
 use Rattle.model_laws.proofs.Clients.{past-byte}
 use Rattle.leases.specs.declared.LeaseChange.{LeaseChange}
 use Rattle.leases.specs.Changes.{answered, Changes}
@@ -40,27 +42,27 @@ use Rattle.client_c.specs.Replies.{filled, sent_call, send_reply, receive_reply,
 
 -- ---- issue and resend
 
-pub reply-none : (n : ℕ) → record { number = n; call = 0; length = 0; packet = replicate request_size 0 } ≡ send_reply (NotSent n)
+pub reply-none : (e : Refusal) {n : ℕ} → n ≡ number_of e → record { number = n; call = 0; length = 0; packet = replicate request_size 0 } ≡ send_reply (Err e)
 unfolding send_reply sent_call send_number sent_bytes filled
-reply-none n = refl
+reply-none e is = rw is refl
 
 pub reply-request : (q : Request) {p : List ℕ} → p ≡ request_bytes q
-    → record { number = no_refusal; call = q.command.call; length = request_size; packet = p } ≡ send_reply (Asked q)
+    → record { number = no_refusal; call = q.command.call; length = request_size; packet = p } ≡ send_reply (Ok q)
 unfolding send_reply sent_call send_number sent_bytes filled request_bytes
 reply-request q e = rw e refl
 
 -- ---- the lease manager
 
-pub lease-none : (n : ℕ) → record { number = n; kind = 0; length = 0; packet = replicate grant_size 0 } ≡ lease_reply (NotTold n)
+pub lease-none : (e : Refusal) {n : ℕ} → n ≡ number_of e → record { number = n; kind = 0; length = 0; packet = replicate grant_size 0 } ≡ lease_reply (Err e)
 unfolding lease_reply told_kind told_number told_bytes filled
-lease-none n = refl
+lease-none e is = rw is refl
 
-pub lease-grant : (g : Grant) {p : List ℕ} → p ≡ grant_bytes g → record { number = no_refusal; kind = grant_kind; length = grant_size; packet = p } ≡ lease_reply (ByGrant g)
+pub lease-grant : (g : Grant) {p : List ℕ} → p ≡ grant_bytes g → record { number = no_refusal; kind = grant_kind; length = grant_size; packet = p } ≡ lease_reply (Ok (ByGrant g))
 unfolding lease_reply told_kind told_number told_bytes filled grant_bytes
 lease-grant g e = rw e refl
 
 pub lease-notice : (n : Notice) {p : List ℕ} → p ≡ notice_bytes notice_kind n
-    → record { number = no_refusal; kind = notice_kind; length = notice_size; packet = p } ≡ lease_reply (ByNotice n)
+    → record { number = no_refusal; kind = notice_kind; length = notice_size; packet = p } ≡ lease_reply (Ok (ByNotice n))
 unfolding lease_reply told_kind told_number told_bytes filled notice_bytes
 lease-notice n e = rw e refl
 
@@ -75,7 +77,7 @@ past-test a b past = go (ltb 255 a) (ltb 255 b) refl refl
     go false true p q = rw (p, q) refl
     go false false p q = let h = ltb-false 255 a p in let k = ltb-false 255 b q in absurd (past (omega arith) (omega arith))
 
-pub issued-past : (d : Client) (op point a : ℕ) (c : SendChange) → (op < 256 → point < 256 → ⊥) → issued d c ≡ not_sent d malformed → issued d c ≡ issue_of d op point a
+pub issued-past : (d : Client) (op point a : ℕ) (c : SendChange) → (op < 256 → point < 256 → ⊥) → issued d c ≡ not_sent d Malformed → issued d c ≡ issue_of d op point a
 unfolding not_sent
 issued-past d op point a c past e = e ∙ past-byte d op point a (past-test op point past)
 

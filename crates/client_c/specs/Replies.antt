@@ -1,10 +1,10 @@
 -- What the host program in C is given for each answer: the refusal's number, and the values or the packet of its case.
 -- Assumes nothing.
-use Rattle.std.specs.Prelude.{ℕ, ◌-◌, ◌<◌, ◌≡◌, List, ◌++◌, length, replicate}
-use Rattle.model.specs.declared.Sent.{Sent}
-use Rattle.model.specs.declared.Sent.TheVariants.{NotSent, Asked}
+use Rattle.std.specs.Prelude.{ℕ, ◌-◌, ◌<◌, ◌≡◌, List, ◌++◌, length, replicate, Result, Ok, Err}
+use Rattle.model.specs.declared.Request.{Request}
+use Rattle.model.specs.declared.Refusal.{Refusal}
 use Rattle.model.specs.declared.Told.{Told}
-use Rattle.model.specs.declared.Told.TheVariants.{NotTold, ByGrant, ByNotice}
+use Rattle.model.specs.declared.Told.TheVariants.{ByGrant, ByNotice}
 use Rattle.model.specs.declared.Received.{Received}
 use Rattle.model.specs.declared.StartAnswer.{StartAnswer}
 use Rattle.model.specs.Numbers.{flip}
@@ -25,15 +25,15 @@ unfoldable pub start_reply : StartAnswer → StartReply
 start_reply a = record { client = a.client; number = start_number a.answer }
 
 -- the call that a request is of
-unfoldable pub sent_call : Sent → ℕ
-sent_call (NotSent n) = 0
-sent_call (Asked q) = q.command.call
+unfoldable pub sent_call : Result Request Refusal → ℕ
+sent_call (Err e) = 0
+sent_call (Ok q) = q.command.call
 
-unfoldable pub send_reply : Sent → SendReply
+unfoldable pub send_reply : Result Request Refusal → SendReply
 send_reply a = record { number = send_number a; call = sent_call a; length = length (sent_bytes a); packet = filled request_size (sent_bytes a) }
 
 -- what it brings, a value in two's complement
-unfoldable pub receive_reply : Received → ReceiveReply
+unfoldable pub receive_reply : Result Received Refusal → ReceiveReply
 receive_reply a =
     let b = brought a in
     record {
@@ -54,10 +54,10 @@ abbrev pub Placed : List ℕ → ℕ → Type 0
 Placed b i = (i ≡ place_of (packet_call b)) × (i < call_window)
 
 -- the kind of what the lease manager gives
-unfoldable pub told_kind : Told → ℕ
-told_kind (NotTold n) = 0
-told_kind (ByGrant g) = grant_kind
-told_kind (ByNotice n) = notice_kind
+unfoldable pub told_kind : Result Told Refusal → ℕ
+told_kind (Err e) = 0
+told_kind (Ok (ByGrant g)) = grant_kind
+told_kind (Ok (ByNotice n)) = notice_kind
 
-unfoldable pub lease_reply : Told → LeaseReply
+unfoldable pub lease_reply : Result Told Refusal → LeaseReply
 lease_reply a = record { number = told_number a; kind = told_kind a; length = length (told_bytes a); packet = filled grant_size (told_bytes a) }

@@ -3,7 +3,6 @@
 #![tactic(auto)]
 
 ghost use Rattle.std.specs.Prelude.{◌≡◌, ◌<◌};
-ghost use Rattle.model.specs.declared.Received.TheVariants.{NotReceived};
 ghost use Rattle.model.specs.Numbers.{flip};
 ghost use Rattle.model.specs.Limits.{lease_count};
 ghost use Rattle.model.specs.Clients.{no_call, call_at, start_of, issue_of, resend_of, receive_of};
@@ -14,8 +13,7 @@ ghost use Rattle.client_c.specs.Replies.{start_reply, send_reply, receive_reply,
 
 use client::SendChange;
 use leases::LeaseChange;
-use model::{Client, Lease, LeaseManager, OpenCall, Received, Sent, Told, constants};
-use refusals::Refusal;
+use model::{Client, Lease, LeaseManager, OpenCall, Received, Refusal, Request, Told, constants};
 
 // ---- what C is given
 
@@ -40,7 +38,7 @@ pub struct SendReply {
 // number: 0 or the refusal's. kind: 7 a result in either form, with its time; 3 a refusal, its number in refusal; 6 a
 // grant, its end in lease.
 #[repr(C)]
-#[derive(Clone, Copy)]
+#[derive(Clone, Copy, Default)]
 pub struct ReceiveReply {
     pub number: u32,
     pub kind: u32,
@@ -66,17 +64,17 @@ pub struct LeaseReply {
 
 // ---- replies, by value
 
-pub fn send_reply(answer: Sent) -> SendReply
+pub fn send_reply(answer: Result<Request, Refusal>) -> SendReply
     ensures { result ≡ send_reply answer }
 {
     match answer {
-        Sent::NotSent(refusal) => SendReply {
-            number: refusal,
+        Err(refusal) => SendReply {
+            number: refusal.number(),
             call: 0,
             length: 0,
             packet: [0u8; constants::REQUEST_SIZE],
         },
-        Sent::Asked(q) => SendReply {
+        Ok(q) => SendReply {
             number: constants::NO_REFUSAL,
             call: q.command.call,
             length: constants::REQUEST_SIZE_U32,
@@ -85,31 +83,16 @@ pub fn send_reply(answer: Sent) -> SendReply
     }
 }
 
-// A reply that brings nothing.
-fn empty_reply(number: u32) -> ReceiveReply
-    ensures { result ≡ receive_reply (NotReceived number) }
-{
-    ReceiveReply {
-        number,
-        kind: 0,
-        call: 0,
-        value: 0,
-        lease: 0,
-        point: 0,
-        outcome: 0,
-        quality: 0,
-        refusal: 0,
-        time: 0,
-    }
-}
-
-pub fn receive_reply(answer: Received) -> ReceiveReply
+pub fn receive_reply(answer: Result<Received, Refusal>) -> ReceiveReply
     ensures { result ≡ receive_reply answer }
 {
-    let none = empty_reply(constants::NO_REFUSAL);
+    let none = ReceiveReply::default();
     match answer {
-        Received::NotReceived(refusal) => empty_reply(refusal),
-        Received::Completed(packet) => ReceiveReply {
+        Err(refusal) => ReceiveReply {
+            number: refusal.number(),
+            ..none
+        },
+        Ok(Received::Completed(packet)) => ReceiveReply {
             kind: constants::RESULT_KIND_U32,
             call: packet.call,
             value: format_numbers::flipped(packet.result.value),
@@ -119,14 +102,14 @@ pub fn receive_reply(answer: Received) -> ReceiveReply
             time: packet.result.time,
             ..none
         },
-        Received::Denied(packet) => ReceiveReply {
+        Ok(Received::Denied(packet)) => ReceiveReply {
             kind: constants::REFUSAL_KIND_U32,
             call: packet.call,
             point: packet.point,
             refusal: packet.refusal,
             ..none
         },
-        Received::Extended(grant) => ReceiveReply {
+        Ok(Received::Extended(grant)) => ReceiveReply {
             kind: constants::GRANT_KIND_U32,
             lease: grant.lease,
             ..none
@@ -134,23 +117,23 @@ pub fn receive_reply(answer: Received) -> ReceiveReply
     }
 }
 
-fn lease_reply(answer: Told) -> LeaseReply
+fn lease_reply(answer: Result<Told, Refusal>) -> LeaseReply
     ensures { result ≡ lease_reply answer }
 {
     match answer {
-        Told::NotTold(refusal) => LeaseReply {
-            number: refusal,
+        Err(refusal) => LeaseReply {
+            number: refusal.number(),
             kind: 0,
             length: 0,
             packet: [0u8; constants::GRANT_SIZE],
         },
-        Told::ByGrant(grant) => LeaseReply {
+        Ok(Told::ByGrant(grant)) => LeaseReply {
             number: constants::NO_REFUSAL,
             kind: constants::GRANT_KIND_U32,
             length: constants::GRANT_SIZE_U32,
             packet: format_packet_writer::grant_packet(grant),
         },
-        Told::ByNotice(notice) => LeaseReply {
+        Ok(Told::ByNotice(notice)) => LeaseReply {
             number: constants::NO_REFUSAL,
             kind: constants::NOTICE_KIND_U32,
             length: constants::NOTICE_SIZE_U32,

@@ -19,7 +19,7 @@ use Rattle.model.specs.Refusals.{no_refusal, malformed, unknown}
 use Rattle.model.specs.Versions.{today}
 use Rattle.model.specs.Packets.{parse_packet, as_request, request_bytes}
 use Rattle.model.specs.Operations.{answer_of, after, settle, request_of}
-use Rattle.refusals.specs.declared.Refusal.{Refusal}
+use Rattle.model.specs.declared.Refusal.{Refusal}
 use Rattle.refusals.specs.Numbers.{number_of}
 use Rattle.refusals.proofs.Numbers.{number-some}
 use Rattle.model_laws.proofs.Refused.{passing}

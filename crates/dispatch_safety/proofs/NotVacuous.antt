@@ -10,6 +10,7 @@ use mathlib.Core.Logic.{◌⊎◌, inl, inr}
 use mathlib.Core.Option.{some}
 use native.Mathlib.Omega.{arith}
 use lib.ListN.{drop, get_elem?}
+use Rattle.std.specs.Prelude.{Ok}
 use Rattle.model.specs.declared.Request.{Request}
 use Rattle.model.specs.declared.Packet.TheVariants.{Requested}
 use Rattle.model.specs.declared.Received.TheVariants.{Completed}
@@ -89,7 +90,7 @@ step-asked =
       kept = refl;
     }
 
-received : (receive_of setter (result_bytes setting_answer)).answer ≡ Completed setting_answer
+received : (receive_of setter (result_bytes setting_answer)).answer ≡ Ok (Completed setting_answer)
 unfolding open_numbers open_packets open_clients
 received = refl
 

@@ -17,13 +17,13 @@ use lib.Dec.{eqb, ltb}
 use lib.ListN.{length, length-map}
 use lib.Seq.{set-get_or}
 use borrow.Author.Tests.{eqb-false, le-ltb, ltb-true, ltb-false}
-use Rattle.std.proofs.Common.{Result, Err}
-use Rattle.refusals.specs.declared.Refusal.{Refusal}
+use Rattle.std.proofs.Common.{Result, Ok, Err}
+use Rattle.model.specs.declared.Refusal.{Refusal}
+use Rattle.model.specs.declared.Refusal.TheVariants.{Malformed, NumbersOut, Unknown, LeasesFull}
 use Rattle.model.specs.declared.Lease.{Lease}
 use Rattle.model.specs.declared.LeaseManager.{LeaseManager}
 use Rattle.model.specs.declared.Told.TheVariants.{ByGrant}
 use Rattle.model.specs.Leases.{no_lease, time_at, ended_at, running_at, with_new_lease, extended, span_ok, manager, not_told, granted, open_of, renew_of, query_of}
-use Rattle.model.specs.Refusals.{malformed, leases_full, numbers_out, unknown}
 use Rattle.model.specs.Limits.{last32, lease_count}
 use Rattle.leases.specs.declared.LeaseChange.{LeaseChange}
 use Rattle.leases.specs.Changes.{lease_place, place_in, end_at, lease_at, kept_at, RunningAt, stored, answered, Changes, no_change, new_holder, holder_of, grant_to, granted_to, or_refused, query_among}
@@ -37,9 +37,9 @@ all_fit k a b c e = let f = both-fit k b c (or_right (ltb k a) _ e) in (ltb-fals
 pub err_same : {A B : Type 0} {x y : B} → ◌≡◌ {A = Result A B} (Err x) (Err y) → x ≡ y
 err_same e = cc
 
-pub no_changes : (m : LeaseManager) (n : ℕ) → Changes m (no_change m n) (not_told m n)
+pub no_changes : (m : LeaseManager) (e : Refusal) → Changes m (no_change m e) (not_told m e)
 unfolding no_change answered stored kept_at manager not_told
-no_changes m n = (omega arith, rw (set-get_or m.leases 0 no_lease) refl)
+no_changes m e = (omega arith, rw (set-get_or m.leases 0 no_lease) refl)
 
 pub running_in : (m : LeaseManager) (now : ℕ) {ls : List Lease} → ls ≡ running_at now m.leases → length m.leases ≡ lease_count → RunningAt m now ls true
 unfolding running_at kept_at
@@ -59,7 +59,7 @@ module _ (m : LeaseManager) (t : ℕ) (ended : Bool) (ls : List Lease) (run : Ru
         issued = m.issued + 1;
         place = lease_place 0 ls;
         lease = record { client = m.issued + 1; lease = e };
-        answer = ByGrant (record { client = m.issued + 1; lease = e });
+        answer = Ok (ByGrant (record { client = m.issued + 1; lease = e }));
       }) (granted (manager (time_at m t) (m.issued + 1) (with_new_lease (record { client = m.issued + 1; lease = time_at m t + span }) ls)) (m.issued + 1) (time_at m t + span))
   unfolding answered stored granted
   open_granted e k h = (h, rw (run.kept, k, place_new (record { client = m.issued + 1; lease = time_at m t + span }) ls) refl)
@@ -70,10 +70,10 @@ module _ (m : LeaseManager) (t : ℕ) (ended : Bool) (ls : List Lease) (run : Ru
     where
       go : (a b c d : Bool) → span_ok span ≡ a → ltb (lease_place 0 ls) (length ls) ≡ b → ltb last32 (m.issued + 1) ≡ c → ltb last32 (time_at m t + span) ≡ d
           → Changes m (or_refused m (granted_to m (new_holder m ls) ended t span)) (open_of m t span)
-      go false b c d p q u v = rw p (no_changes m malformed)
-      go true false c d p q u v = rw (p, q, ← run.running, place_full ls (ltb-false _ _ q)) (no_changes m leases_full)
-      go true true true d p q u v = rw (p, q, ← run.running, place-free ls (ltb-true _ _ q), ← add-one m.issued, u) (no_changes m numbers_out)
-      go true true false true p q u v = rw (p, q, ← run.running, place-free ls (ltb-true _ _ q), ← add-one m.issued, u, v) (no_changes m numbers_out)
+      go false b c d p q u v = rw p (no_changes m Malformed)
+      go true false c d p q u v = rw (p, q, ← run.running, place_full ls (ltb-false _ _ q)) (no_changes m LeasesFull)
+      go true true true d p q u v = rw (p, q, ← run.running, place-free ls (ltb-true _ _ q), ← add-one m.issued, u) (no_changes m NumbersOut)
+      go true true false true p q u v = rw (p, q, ← run.running, place-free ls (ltb-true _ _ q), ← add-one m.issued, u, v) (no_changes m NumbersOut)
       go true true false false p q u v =
           rw (p, q, ← run.running, place-free ls (ltb-true _ _ q), ← add-one m.issued, u, v)
           (open_granted (max 0 (time_at m t + span)) (omega arith) (rw (← run.long) (ltb-true _ _ q)))
@@ -87,7 +87,7 @@ module _ (m : LeaseManager) (t : ℕ) (ended : Bool) (ls : List Lease) (run : Ru
         issued = m.issued;
         place = lease_place x ls;
         lease = record { client = x; lease = e };
-        answer = ByGrant (record { client = x; lease = e });
+        answer = Ok (ByGrant (record { client = x; lease = e }));
       }) (granted (manager (time_at m t) m.issued (extended x e ls)) x e)
   unfolding answered stored granted
   renew-granted x e h = (h, rw (run.kept, place-extended x e ls) refl)
@@ -98,9 +98,9 @@ module _ (m : LeaseManager) (t : ℕ) (ended : Bool) (ls : List Lease) (run : Ru
     where
       go : (a b c : Bool) → span_ok span ≡ a → eqb (end_at x ls) 0 ≡ b → ltb last32 (time_at m t + span) ≡ c
           → Changes m (or_refused m (granted_to m (holder_of m x ls) ended t span)) (renew_of m x t span)
-      go false b c p q u = rw p (no_changes m malformed)
-      go true true c p q u = rw (p, q, ← run.running, place_end x ls, q) (no_changes m unknown)
-      go true false true p q u = rw (p, q, ← run.running, place_end x ls, q, le-ltb _ _ issued, le-ltb _ _ known, u) (no_changes m numbers_out)
+      go false b c p q u = rw p (no_changes m Malformed)
+      go true true c p q u = rw (p, q, ← run.running, place_end x ls, q) (no_changes m Unknown)
+      go true false true p q u = rw (p, q, ← run.running, place_end x ls, q, le-ltb _ _ issued, le-ltb _ _ known, u) (no_changes m NumbersOut)
       go true false false p q u =
           let h : lease_place x ls < lease_count = rw (← run.long) (place_under x ls (eqb-false _ _ q)) in
           rw (p, q, ← run.running, place_end x ls, q, le-ltb _ _ issued, le-ltb _ _ known, u) (renew-granted x _ h)
@@ -115,9 +115,9 @@ module _ (m : LeaseManager) (t : ℕ) (ended : Bool) (ls : List Lease) (run : Ru
       go true q = rw (known, ← run.running, run.kept, set-get_or ls 0 no_lease, place_end x ls, q) refl
       go false q = rw (known, ← run.running, run.kept, set-get_or ls 0 no_lease, place_end x ls, q) refl
 
-pub query-unknown : (m : LeaseManager) (x t : ℕ) → (eqb x 0 || ltb m.issued x) ≡ true → Changes m (no_change m unknown) (query_of m x t)
+pub query-unknown : (m : LeaseManager) (x t : ℕ) → (eqb x 0 || ltb m.issued x) ≡ true → Changes m (no_change m Unknown) (query_of m x t)
 unfolding query_of
-query-unknown m x t never = rw never (no_changes m unknown)
+query-unknown m x t never = rw never (no_changes m Unknown)
 
 -- what the code makes of the leases that run
 

@@ -6,14 +6,13 @@ use Rattle.model.specs.declared.Lease.{Lease}
 use Rattle.model.specs.declared.LeaseManager.{LeaseManager}
 use Rattle.model.specs.declared.LeaseAnswer.{LeaseAnswer}
 use Rattle.model.specs.declared.Told.{Told}
-use Rattle.model.specs.declared.Told.TheVariants.{NotTold, ByGrant, ByNotice}
+use Rattle.model.specs.declared.Told.TheVariants.{ByGrant, ByNotice}
 use Rattle.model.specs.Choice.{pick}
 use Rattle.model.specs.Tables.{index_of}
 use Rattle.model.specs.Leases.{no_lease, time_at, running_at, span_ok, manager}
 use Rattle.model.specs.Limits.{last32, lease_count}
-use Rattle.refusals.specs.declared.Refusal.{Refusal}
-use Rattle.refusals.specs.declared.Refusal.TheVariants.{Malformed, NumbersOut, Unknown, LeasesFull}
-use Rattle.refusals.specs.Numbers.{number_of}
+use Rattle.model.specs.declared.Refusal.{Refusal}
+use Rattle.model.specs.declared.Refusal.TheVariants.{Malformed, NumbersOut, Unknown, LeasesFull}
 use Rattle.leases.specs.declared.LeaseChange.{LeaseChange}
 use Rattle.leases.specs.declared.Holder.{Holder}
 use Rattle.leases.specs.declared.Found.{Found}
@@ -58,8 +57,8 @@ Changes m c a = (c.place < lease_count) × (answered m c ≡ a)
 
 -- ---- the changes of the calls
 
-unfoldable pub no_change : LeaseManager → ℕ → LeaseChange
-no_change m n = record { ended = false; time = m.time; issued = m.issued; place = 0; lease = get_or m.leases 0 no_lease; answer = NotTold n }
+unfoldable pub no_change : LeaseManager → Refusal → LeaseChange
+no_change m e = record { ended = false; time = m.time; issued = m.issued; place = 0; lease = get_or m.leases 0 no_lease; answer = Err e }
 
 -- a new client, at the first free place; 18 where all are taken
 abbrev pub holder_at : LeaseManager → Option ℕ → Result Holder Refusal
@@ -89,7 +88,7 @@ grant_to m h ended t span =
       issued = h.issued;
       place = h.place;
       lease = record { client = h.client; lease = e };
-      answer = ByGrant (record { client = h.client; lease = e });
+      answer = Ok (ByGrant (record { client = h.client; lease = e }));
     }))
 
 abbrev pub granted_with : LeaseManager → Result Holder Refusal → Bool → ℕ → ℕ → Result LeaseChange Refusal
@@ -102,7 +101,7 @@ granted_to m h ended t span = pick (span_ok span) (granted_with m h ended t span
 -- the change, or none where it is refused
 abbrev pub or_refused : LeaseManager → Result LeaseChange Refusal → LeaseChange
 or_refused m (Ok c) = c
-or_refused m (Err e) = no_change m (number_of e)
+or_refused m (Err e) = no_change m e
 
 abbrev pub told_end : ℕ → ℕ → Option Found → Told
 told_end x now None = ByNotice (record { client = x; time = now })
@@ -110,4 +109,4 @@ told_end x now (Some f) = ByGrant (record { client = x; lease = f.end })
 
 unfoldable pub query_among : LeaseManager → List Lease → Bool → ℕ → ℕ → LeaseChange
 query_among m ls ended x now =
-    record { ended = ended; time = now; issued = m.issued; place = 0; lease = get_or ls 0 no_lease; answer = told_end x now (lease_at x ls) }
+    record { ended = ended; time = now; issued = m.issued; place = 0; lease = get_or ls 0 no_lease; answer = Ok (told_end x now (lease_at x ls)) }

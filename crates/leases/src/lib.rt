@@ -6,12 +6,10 @@ ghost use Rattle.std.specs.Prelude.{◌≡◌, Bool, false, ◌||◌, ◌<◌, L
 ghost use Rattle.model.specs.declared.Lease.{Lease};
 ghost use Rattle.model.specs.Leases.{time_at, ended_at, running_at, span_ok, open_of, renew_of, query_of};
 ghost use Rattle.model.specs.Limits.{lease_count};
-ghost use Rattle.refusals.specs.Numbers.{number_of};
 ghost use Rattle.leases.specs.Changes.{place_in, lease_at, kept_at, RunningAt, stored, answered, Changes, no_change, new_holder, holder_of, granted_to, or_refused, told_end, query_among};
 
 use model::constants::LEASE_COUNT;
-use model::{Grant, Lease, LeaseAnswer, LeaseManager, Notice, Told, constants};
-use refusals::Refusal;
+use model::{Grant, Lease, LeaseAnswer, LeaseManager, Notice, Refusal, Told, constants};
 
 // What a call changes: time, the latest client number, and what stands at one place. ended: the ended leases are
 // cleared before.
@@ -22,7 +20,7 @@ pub struct LeaseChange {
     pub issued: u32,
     pub place: usize,
     pub lease: Lease,
-    pub answer: Told,
+    pub answer: Result<Told, Refusal>,
 }
 
 // Who is to be granted a lease, and at which place: the end that it has there, and the latest number then.
@@ -166,7 +164,7 @@ pub fn stored(m: LeaseManager, change: LeaseChange) -> LeaseManager
 
 // A refused call changes nothing.
 fn no_change(m: LeaseManager, refusal: Refusal) -> LeaseChange
-    ensures { result ≡ no_change m (number_of refusal) }
+    ensures { result ≡ no_change m refusal }
 {
     LeaseChange {
         ended: false,
@@ -174,7 +172,7 @@ fn no_change(m: LeaseManager, refusal: Refusal) -> LeaseChange
         issued: m.issued,
         place: 0,
         lease: m.leases[0],
-        answer: Told::NotTold(refusal.number()),
+        answer: Err(refusal),
     }
 }
 
@@ -235,7 +233,7 @@ fn granted_to(
         issued: holder.issued as u32,
         place: holder.place,
         lease: Lease { client, lease },
-        answer: Told::ByGrant(Grant { client, lease }),
+        answer: Ok(Told::ByGrant(Grant { client, lease })),
     })
 }
 
@@ -273,7 +271,7 @@ fn query_among(
         issued: m.issued,
         place: 0,
         lease: ls[0],
-        answer: told_end(client, now, lease_at(client, ls)),
+        answer: Ok(told_end(client, now, lease_at(client, ls))),
     }
 }
 

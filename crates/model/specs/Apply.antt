@@ -1,6 +1,6 @@
 -- The one way a state changes: a log record is applied. Operations and recovery share it.
 -- Assumes nothing.
-use Rattle.std.specs.Prelude.{ℕ, ◌+◌, max, Bool, ◌||◌, not, List, [], ◌∷◌, ◌++◌, map, set, eqb, leb, ltb}
+use Rattle.std.specs.Prelude.{ℕ, max, Bool, ◌||◌, not, List, [], ◌∷◌, ◌++◌, map, set, eqb, leb, ltb}
 use Rattle.model.specs.declared.PlanEntry.{PlanEntry}
 use Rattle.model.specs.declared.Floor.{Floor}
 use Rattle.model.specs.declared.ImageEntry.{ImageEntry}

@@ -1,7 +1,7 @@
 -- The client (paper: desk), values in and values out. It keeps its number, lease end, next call number and the open calls, at
 -- most 16 numbers from the first open one: an open call stands at the place call mod 16. A refusal leaves the client as it was.
 -- Assumes nothing.
-use Rattle.std.specs.Prelude.{ℕ, suc, ◌+◌, ◌%◌, Bool, ◌&&◌, not, List, [], ◌∷◌, get_or, set, replicate, eqb, leb, ltb}
+use Rattle.std.specs.Prelude.{ℕ, suc, ◌+◌, ◌%◌, Bool, ◌&&◌, not, List, [], ◌∷◌, get_or, set, replicate, eqb, leb, ltb, Result, Ok, Err}
 use Rattle.model.specs.declared.Request.{Request}
 use Rattle.model.specs.declared.ResultPacket.{ResultPacket}
 use Rattle.model.specs.declared.RefusalPacket.{RefusalPacket}
@@ -9,19 +9,17 @@ use Rattle.model.specs.declared.Grant.{Grant}
 use Rattle.model.specs.declared.Packet.{Packet}
 use Rattle.model.specs.declared.OpenCall.{OpenCall}
 use Rattle.model.specs.declared.Client.{Client}
-use Rattle.model.specs.declared.Started.{Started}
-use Rattle.model.specs.declared.Started.TheVariants.{NotStarted, Running}
-use Rattle.model.specs.declared.Sent.{Sent}
-use Rattle.model.specs.declared.Sent.TheVariants.{NotSent, Asked}
+use Rattle.model.specs.declared.Refusal.{Refusal}
+use Rattle.model.specs.declared.Refusal.TheVariants.{Malformed, WindowFull, NumbersOut, Unknown}
 use Rattle.model.specs.declared.Received.{Received}
-use Rattle.model.specs.declared.Received.TheVariants.{NotReceived, Completed, Denied, Extended}
+use Rattle.model.specs.declared.Received.TheVariants.{Completed, Denied, Extended}
 use Rattle.model.specs.declared.StartAnswer.{StartAnswer}
 use Rattle.model.specs.declared.SendAnswer.{SendAnswer}
 use Rattle.model.specs.declared.ReceiveAnswer.{ReceiveAnswer}
 use Rattle.model.specs.declared.CommandResult.{CommandResult}
 use Rattle.model.specs.Choice.{pick, or_else}
 use Rattle.model.specs.Numbers.{half}
-use Rattle.model.specs.Refusals.{no_refusal, malformed, window_full, numbers_out, unknown}
+use Rattle.model.specs.Refusals.{no_refusal, refusal_of}
 use Rattle.model.specs.Limits.{last32, call_window, result_kind, refusal_kind, grant_kind}
 use Rattle.model.specs.Packets.{parse_packet, command_ok, request_bytes, ClientPacket, result, refusal, grant, as_grant, as_client_packet}
 
@@ -73,11 +71,11 @@ request_for d k =
 -- ---- Start: 1 not a grant. The next number is 1
 
 abbrev pub not_started : StartAnswer
-not_started = record { client = no_client; answer = NotStarted malformed }
+not_started = record { client = no_client; answer = Err Malformed }
 
 abbrev pub started : Grant → StartAnswer
 started g =
-    record { client = record { client = g.client; lease = g.lease; next = 1; calls = replicate call_window no_call }; answer = Running }
+    record { client = record { client = g.client; lease = g.lease; next = 1; calls = replicate call_window no_call }; answer = Ok tt }
 
 unfoldable pub start_with : Packet → StartAnswer
 start_with p = or_else (as_grant p) not_started started
@@ -93,23 +91,23 @@ new_call d op point a = record { call = d.next; op = op; point = point; argument
 unfoldable pub with_call : Client → OpenCall → Client
 with_call d k = with_calls d (suc d.next) (set d.calls (place_of k.call) k)
 
-unfoldable pub not_sent : Client → ℕ → SendAnswer
-not_sent d n = record { client = d; answer = NotSent n }
+unfoldable pub not_sent : Client → Refusal → SendAnswer
+not_sent d e = record { client = d; answer = Err e }
 
 unfoldable pub sent : Client → OpenCall → SendAnswer
-sent d k = record { client = d; answer = Asked (request_for d k) }
+sent d k = record { client = d; answer = Ok (request_for d k) }
 
 unfoldable pub issue_of : Client → ℕ → ℕ → ℕ → SendAnswer
 issue_of d op point a =
-    pick (not (command_ok op point a)) (not_sent d malformed)
-    (pick (leb (first_open d + call_window) d.next) (not_sent d window_full)
-    (pick (leb last32 d.next) (not_sent d numbers_out)
+    pick (not (command_ok op point a)) (not_sent d Malformed)
+    (pick (leb (first_open d + call_window) d.next) (not_sent d WindowFull)
+    (pick (leb last32 d.next) (not_sent d NumbersOut)
     (sent (with_call d (new_call d op point a)) (new_call d op point a))))
 
 -- ---- Resend: 17 call not open
 
 unfoldable pub resend_of : Client → ℕ → SendAnswer
-resend_of d c = pick (is_open d c) (sent d (call_at d c)) (not_sent d unknown)
+resend_of d c = pick (is_open d c) (sent d (call_at d c)) (not_sent d Unknown)
 
 -- ---- Receive: 1 no well-formed result, refusal or grant; 17 not for this client and an open call of it on that point, or a lease end
 -- that falls
@@ -118,22 +116,22 @@ resend_of d c = pick (is_open d c) (sent d (call_at d c)) (not_sent d unknown)
 unfoldable pub is_own : Client → ℕ → ℕ → ℕ → Bool
 is_own d client call point = eqb client d.client && (is_open d call && eqb (call_at d call).point point)
 
-unfoldable pub not_received : Client → ℕ → ReceiveAnswer
-not_received d n = record { client = d; answer = NotReceived n }
+unfoldable pub not_received : Client → Refusal → ReceiveAnswer
+not_received d e = record { client = d; answer = Err e }
 
 -- only a result closes a call
 unfoldable pub receive_result : Client → ResultPacket → ReceiveAnswer
 receive_result d r =
-    pick (is_own d r.client r.call r.point) (record { client = closed d r.call; answer = Completed r }) (not_received d unknown)
+    pick (is_own d r.client r.call r.point) (record { client = closed d r.call; answer = Ok (Completed r) }) (not_received d Unknown)
 
 unfoldable pub receive_refusal : Client → RefusalPacket → ReceiveAnswer
 receive_refusal d r =
-    pick (is_own d r.client r.call r.point) (record { client = d; answer = Denied r }) (not_received d unknown)
+    pick (is_own d r.client r.call r.point) (record { client = d; answer = Ok (Denied r) }) (not_received d Unknown)
 
 unfoldable pub receive_grant : Client → Grant → ReceiveAnswer
 receive_grant d g =
-    pick (eqb g.client d.client && leb d.lease g.lease) (record { client = with_lease d g.lease; answer = Extended g })
-    (not_received d unknown)
+    pick (eqb g.client d.client && leb d.lease g.lease) (record { client = with_lease d g.lease; answer = Ok (Extended g) })
+    (not_received d Unknown)
 
 abbrev pub receive_packet : Client → ClientPacket → ReceiveAnswer
 receive_packet d (result r) = receive_result d r
@@ -141,26 +139,21 @@ receive_packet d (refusal r) = receive_refusal d r
 receive_packet d (grant g) = receive_grant d g
 
 unfoldable pub receive_with : Client → Packet → ReceiveAnswer
-receive_with d p = or_else (as_client_packet p) (not_received d malformed) (receive_packet d)
+receive_with d p = or_else (as_client_packet p) (not_received d Malformed) (receive_packet d)
 
 unfoldable pub receive_of : Client → List ℕ → ReceiveAnswer
 receive_of d packet = receive_with d (parse_packet packet)
 
 -- ---- the refusal's number of every answer, 0 where nothing is refused
 
-unfoldable pub start_number : Started → ℕ
-start_number (NotStarted n) = n
-start_number Running = no_refusal
+unfoldable pub start_number : Result Unit Refusal → ℕ
+start_number a = refusal_of a
 
-unfoldable pub send_number : Sent → ℕ
-send_number (NotSent n) = n
-send_number (Asked q) = no_refusal
+unfoldable pub send_number : Result Request Refusal → ℕ
+send_number a = refusal_of a
 
-unfoldable pub receive_number : Received → ℕ
-receive_number (NotReceived n) = n
-receive_number (Completed r) = no_refusal
-receive_number (Denied r) = no_refusal
-receive_number (Extended g) = no_refusal
+unfoldable pub receive_number : Result Received Refusal → ℕ
+receive_number a = refusal_of a
 
 -- what a receive brings, 0 where its case lacks it: the packet's kind, call and point, the result, a refusal's own number, a lease end
 pub record Brought : Type 0 where
@@ -174,14 +167,14 @@ pub record Brought : Type 0 where
 abbrev pub no_result : CommandResult
 no_result = record { outcome = 0; value = half; quality = 0; time = 0 }
 
-unfoldable pub brought : Received → Brought
-brought (NotReceived n) = record { kind = 0; call = 0; point = 0; result = no_result; refusal = no_refusal; lease = 0 }
-brought (Completed r) =
+unfoldable pub brought : Result Received Refusal → Brought
+brought (Err e) = record { kind = 0; call = 0; point = 0; result = no_result; refusal = no_refusal; lease = 0 }
+brought (Ok (Completed r)) =
     record { kind = result_kind; call = r.call; point = r.point; result = r.result; refusal = no_refusal; lease = 0 }
-brought (Denied r) = record { kind = refusal_kind; call = r.call; point = r.point; result = no_result; refusal = r.refusal; lease = 0 }
-brought (Extended g) = record { kind = grant_kind; call = 0; point = 0; result = no_result; refusal = no_refusal; lease = g.lease }
+brought (Ok (Denied r)) = record { kind = refusal_kind; call = r.call; point = r.point; result = no_result; refusal = r.refusal; lease = 0 }
+brought (Ok (Extended g)) = record { kind = grant_kind; call = 0; point = 0; result = no_result; refusal = no_refusal; lease = g.lease }
 
 -- the packet that an answer carries
-unfoldable pub sent_bytes : Sent → List ℕ
-sent_bytes (NotSent n) = []
-sent_bytes (Asked q) = request_bytes q
+unfoldable pub sent_bytes : Result Request Refusal → List ℕ
+sent_bytes (Err e) = []
+sent_bytes (Ok q) = request_bytes q

@@ -1,6 +1,8 @@
 -- The numbered refusals, each with its meaning: 1 to 19 are the kernel's, 20 the lock chamber controller's, 21 the dispatcher's.
 -- Assumes nothing.
-use Rattle.std.specs.Prelude.{ℕ}
+use Rattle.std.specs.Prelude.{ℕ, Result, Ok, Err}
+use Rattle.model.specs.declared.Refusal.{Refusal}
+use Rattle.model.specs.declared.Refusal.TheVariants.{Malformed, TooShort, NotHeld, LeaseOver, UnderFloor, OtherCommand, NotSynced, ClientsFull, LogFull, BadMark, WrongDestination, OldMove, AlreadyHeld, BadLog, WindowFull, NumbersOut, Unknown, LeasesFull, Unsound, NotSafe, AlreadyWaiting}
 
 -- 0: not refused
 abbrev pub no_refusal : ℕ
@@ -97,3 +99,32 @@ first_denied = not_held
 
 abbrev pub last_denied : ℕ
 last_denied = log_full
+
+-- a refusal's number
+abbrev pub number_of : Refusal → ℕ
+number_of Malformed = malformed
+number_of TooShort = too_short
+number_of NotHeld = not_held
+number_of LeaseOver = lease_over
+number_of UnderFloor = under_floor
+number_of OtherCommand = other_command
+number_of NotSynced = not_synced
+number_of ClientsFull = clients_full
+number_of LogFull = log_full
+number_of BadMark = bad_mark
+number_of WrongDestination = wrong_destination
+number_of OldMove = old_move
+number_of AlreadyHeld = already_held
+number_of BadLog = bad_log
+number_of WindowFull = window_full
+number_of NumbersOut = numbers_out
+number_of Unknown = unknown
+number_of LeasesFull = leases_full
+number_of Unsound = unsound
+number_of NotSafe = not_safe
+number_of AlreadyWaiting = already_waiting
+
+-- the number of what tests came to: 0 where they are passed
+abbrev pub refusal_of : {A : Type 0} → Result A Refusal → ℕ
+refusal_of (Ok x) = no_refusal
+refusal_of (Err e) = number_of e

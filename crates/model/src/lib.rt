@@ -1,8 +1,48 @@
-// The kernel's types: plain data, no logic. What they mean stands in specs/.
+// The kernel's types: plain data. What they mean stands in specs/.
 // A signed number x of 32 bits is kept as x + 2^31, unsigned, in every field.
 #![tactic(auto)]
 
+ghost use Rattle.std.specs.Prelude.{◌≡◌};
+ghost use Rattle.model.specs.Refusals.{number_of};
+
 pub mod constants;
+
+// ---- refusals
+
+// The refusals, each with its number.
+#[derive(Clone, Copy, Debug, PartialEq, Eq)]
+pub enum Refusal {
+    Malformed = constants::MALFORMED as isize,
+    TooShort = constants::TOO_SHORT as isize,
+    NotHeld = constants::NOT_HELD as isize,
+    LeaseOver = constants::LEASE_OVER as isize,
+    UnderFloor = constants::UNDER_FLOOR as isize,
+    OtherCommand = constants::OTHER_COMMAND as isize,
+    NotSynced = constants::NOT_SYNCED as isize,
+    ClientsFull = constants::CLIENTS_FULL as isize,
+    LogFull = constants::LOG_FULL as isize,
+    BadMark = constants::BAD_MARK as isize,
+    WrongDestination = constants::WRONG_DESTINATION as isize,
+    OldMove = constants::OLD_MOVE as isize,
+    AlreadyHeld = constants::ALREADY_HELD as isize,
+    BadLog = constants::BAD_LOG as isize,
+    WindowFull = constants::WINDOW_FULL as isize,
+    NumbersOut = constants::NUMBERS_OUT as isize,
+    Unknown = constants::UNKNOWN as isize,
+    LeasesFull = constants::LEASES_FULL as isize,
+    Unsound = constants::UNSOUND as isize,
+    NotSafe = constants::NOT_SAFE as isize,
+    AlreadyWaiting = constants::ALREADY_WAITING as isize,
+}
+
+impl Refusal {
+    // Its number.
+    pub fn number(self) -> u32
+        ensures { result ≡ number_of self }
+    {
+        self as u32
+    }
+}
 
 // ---- plan and commands
 
@@ -248,24 +288,9 @@ pub struct Client {
     pub calls: [OpenCall; constants::CALL_WINDOW],
 }
 
-// What start answers.
-#[derive(Clone, Copy)]
-pub enum Started {
-    NotStarted(u32),
-    Running,
-}
-
-// What issue and resend answer.
-#[derive(Clone, Copy)]
-pub enum Sent {
-    NotSent(u32),
-    Asked(Request),
-}
-
-// What receive answers.
+// What a packet that receive takes in brings.
 #[derive(Clone, Copy)]
 pub enum Received {
-    NotReceived(u32),
     // a result: its call is closed
     Completed(ResultPacket),
     // a refusal of an open call: it stays open
@@ -274,22 +299,25 @@ pub enum Received {
     Extended(Grant),
 }
 
+// What start answers.
 #[derive(Clone, Copy)]
 pub struct StartAnswer {
     pub client: Client,
-    pub answer: Started,
+    pub answer: Result<(), Refusal>,
 }
 
+// What issue and resend answer.
 #[derive(Clone, Copy)]
 pub struct SendAnswer {
     pub client: Client,
-    pub answer: Sent,
+    pub answer: Result<Request, Refusal>,
 }
 
+// What receive answers.
 #[derive(Clone, Copy)]
 pub struct ReceiveAnswer {
     pub client: Client,
-    pub answer: Received,
+    pub answer: Result<Received, Refusal>,
 }
 
 // ---- the lease manager (paper: lease office)
@@ -311,16 +339,16 @@ pub struct LeaseManager {
     pub leases: [Lease; constants::LEASE_COUNT],
 }
 
-// What open, renew and query answer.
+// What a lease manager tells of a client.
 #[derive(Clone, Copy)]
 pub enum Told {
-    NotTold(u32),
     ByGrant(Grant),
     ByNotice(Notice),
 }
 
+// What open, renew and query answer.
 #[derive(Clone, Copy)]
 pub struct LeaseAnswer {
     pub manager: LeaseManager,
-    pub answer: Told,
+    pub answer: Result<Told, Refusal>,
 }

@@ -20,16 +20,18 @@ use native.Mathlib.Omega.{arith}
 use lib.Dec.{eqb, leb, ltb}
 use lib.ListN.{length, get_or}
 use borrow.Author.Tests.{leb-true, leb-false, eqb-true, le-leb, eq-eqb}
+use Rattle.std.specs.Prelude.{Ok, Err}
 use Rattle.model.specs.declared.Client.{Client}
 use Rattle.model.specs.declared.Command.{Command}
 use Rattle.model.specs.declared.Request.{Request}
+use Rattle.model.specs.declared.Refusal.{Refusal}
+use Rattle.model.specs.declared.Refusal.TheVariants.{WindowFull, NumbersOut, Unknown}
+use Rattle.model.specs.declared.Refusal.TheVariants as refusals
 use Rattle.model.specs.declared.ResultPacket.{ResultPacket}
 use Rattle.model.specs.declared.RefusalPacket.{RefusalPacket}
 use Rattle.model.specs.declared.Grant.{Grant}
 use Rattle.model.specs.declared.Packet.{Packet}
 use Rattle.model.specs.declared.Packet.TheVariants.{Malformed, Requested, Resulted, Refused, Receipted, Noticed, Granted}
-use Rattle.model.specs.declared.Started.TheVariants.{Running}
-use Rattle.model.specs.declared.Sent.TheVariants.{NotSent, Asked}
 use Rattle.model.specs.declared.Received.TheVariants.{Completed, Denied, Extended}
 use Rattle.model.specs.declared.SendAnswer.{SendAnswer}
 use Rattle.model.specs.Choice.{or_else}
@@ -37,7 +39,6 @@ use Rattle.model.specs.Packets.{command_ok, parse_packet, as_grant}
 use Rattle.model.specs.Clients.{no_call, place_of, call_at, is_open, first_open, with_calls, with_lease, closed, request_for, not_started, started, start_with, start_of}
 use Rattle.model.specs.Clients.{new_call, with_call, not_sent, sent, issue_of, resend_of, is_own, not_received, receive_result, receive_refusal, receive_grant, receive_with}
 use Rattle.model.specs.Limits.{last32, call_window}
-use Rattle.model.specs.Refusals.{malformed, window_full, numbers_out, unknown}
 use Rattle.model_laws.proofs.Tests.{and_left, and_right, and_both, impossible}
 use Rattle.model_laws.proofs.Commands.{command-past}
 use Rattle.model_laws.proofs.Least.{least_under, least-each}
@@ -95,7 +96,7 @@ abbrev pub command_of : Client → ℕ → ℕ → ℕ → Command
 command_of d op point a = record { client = d.client; call = d.next; op = op; point = point; argument = a }
 
 pub data IssueCase (d : Client) (op point a : ℕ) : Type 0 where
-  refused : (n : ℕ) → issue_of d op point a ≡ not_sent d n → IssueCase d op point a
+  refused : (r : Refusal) → issue_of d op point a ≡ not_sent d r → IssueCase d op point a
   issued : command_ok op point a ≡ true → d.next < first_open d + call_window → d.next < last32
       → issue_of d op point a ≡ sent (asking d op point a) (new_call d op point a)
       → IssueCase d op point a
@@ -105,13 +106,13 @@ unfolding issue_of
 issue_case d op point a = go (command_ok op point a) (leb (first_open d + call_window) d.next) (leb last32 d.next) refl refl refl
   where
     go : (u v w : Bool) → command_ok op point a ≡ u → leb (first_open d + call_window) d.next ≡ v → leb last32 d.next ≡ w → IssueCase d op point a
-    go false v w p q r = refused malformed (rw p refl)
-    go true true w p q r = refused window_full (rw (p, q) refl)
-    go true false true p q r = refused numbers_out (rw (p, q, r) refl)
+    go false v w p q r = refused refusals.Malformed (rw p refl)
+    go true true w p q r = refused WindowFull (rw (p, q) refl)
+    go true false true p q r = refused NumbersOut (rw (p, q, r) refl)
     go true false false p q r = issued p (leb-false _ _ q) (leb-false _ _ r) (rw (p, q, r) refl)
 
 pub data ResendCase (d : Client) (c : ℕ) : Type 0 where
-  refused : resend_of d c ≡ not_sent d unknown → ResendCase d c
+  refused : resend_of d c ≡ not_sent d Unknown → ResendCase d c
   resent : Open d c → resend_of d c ≡ sent d (call_at d c) → ResendCase d c
 
 pub resend_case : (d : Client) (c : ℕ) → ResendCase d c
@@ -135,35 +136,35 @@ own_is d client call point e =
     record { client-is = eqb-true _ _ (and_left (eqb client d.client) _ e); open_call_lem = open_is d call (and_left (is_open d call) _ r); point-is = eqb-true _ _ (and_right (is_open d call) _ r) }
 
 pub data ReceiveCase (d : Client) (p : Packet) : Type 0 where
-  refused : (n : ℕ) → receive_with d p ≡ not_received d n → ReceiveCase d p
+  refused : (r : Refusal) → receive_with d p ≡ not_received d r → ReceiveCase d p
   completed : (r : ResultPacket) → p ≡ Resulted r → Own d r.client r.call r.point
-      → receive_with d p ≡ record { client = closed d r.call; answer = Completed r } → ReceiveCase d p
+      → receive_with d p ≡ record { client = closed d r.call; answer = Ok (Completed r) } → ReceiveCase d p
   denied : (r : RefusalPacket) → p ≡ Refused r → Own d r.client r.call r.point
-      → receive_with d p ≡ record { client = d; answer = Denied r } → ReceiveCase d p
+      → receive_with d p ≡ record { client = d; answer = Ok (Denied r) } → ReceiveCase d p
   extended : (g : Grant) → p ≡ Granted g → g.client ≡ d.client → d.lease ≤ g.lease
-      → receive_with d p ≡ record { client = with_lease d g.lease; answer = Extended g } → ReceiveCase d p
+      → receive_with d p ≡ record { client = with_lease d g.lease; answer = Ok (Extended g) } → ReceiveCase d p
 
 pub receive_case : (d : Client) (p : Packet) → ReceiveCase d p
 unfolding receive_with receive_result receive_refusal receive_grant
-receive_case d Malformed = refused malformed refl
-receive_case d (Requested q) = refused malformed refl
+receive_case d Malformed = refused refusals.Malformed refl
+receive_case d (Requested q) = refused refusals.Malformed refl
 receive_case d (Resulted r) = go (is_own d r.client r.call r.point) refl
   where
     go : (u : Bool) → is_own d r.client r.call r.point ≡ u → ReceiveCase d (Resulted r)
     go true e = completed r refl (own_is d _ _ _ e) (rw e refl)
-    go false e = refused unknown (rw e refl)
+    go false e = refused Unknown (rw e refl)
 receive_case d (Refused r) = go (is_own d r.client r.call r.point) refl
   where
     go : (u : Bool) → is_own d r.client r.call r.point ≡ u → ReceiveCase d (Refused r)
     go true e = denied r refl (own_is d _ _ _ e) (rw e refl)
-    go false e = refused unknown (rw e refl)
-receive_case d (Receipted r) = refused malformed refl
-receive_case d (Noticed n) = refused malformed refl
+    go false e = refused Unknown (rw e refl)
+receive_case d (Receipted r) = refused refusals.Malformed refl
+receive_case d (Noticed n) = refused refusals.Malformed refl
 receive_case d (Granted g) = go (eqb g.client d.client && leb d.lease g.lease) refl
   where
     go : (u : Bool) → (eqb g.client d.client && leb d.lease g.lease) ≡ u → ReceiveCase d (Granted g)
     go true e = extended g refl (eqb-true _ _ (and_left (eqb g.client d.client) _ e)) (leb-true _ _ (and_right (eqb g.client d.client) _ e)) (rw e refl)
-    go false e = refused unknown (rw e refl)
+    go false e = refused Unknown (rw e refl)
 
 -- ---- refused or not
 
@@ -180,33 +181,33 @@ pub record Resends (d : Client) (c : ℕ) (q : Request) : Type 0 where
   pub open_call_lem : Open d c
   pub asks : q ≡ request_for d (call_at d c)
 
-pub issue-asked : (d : Client) (op point a : ℕ) (q : Request) → (issue_of d op point a).answer ≡ Asked q → Issues d op point a q
+pub issue-asked : (d : Client) (op point a : ℕ) (q : Request) → (issue_of d op point a).answer ≡ Ok q → Issues d op point a q
 unfolding not_sent sent
 issue-asked d op point a q s = go (issue_case d op point a)
   where
     go : IssueCase d op point a → Issues d op point a q
-    go (IssueCase.refused n e) = let f : NotSent n ≡ Asked q = ap (λ (x : SendAnswer). x.answer) (sym e) ∙ s in impossible cc
+    go (IssueCase.refused r e) = let f : Err r ≡ Ok q = ap (λ (x : SendAnswer). x.answer) (sym e) ∙ s in impossible cc
     go (IssueCase.issued ok room left e) =
-        let f : Asked (request_for (asking d op point a) (new_call d op point a)) ≡ Asked q = ap (λ (x : SendAnswer). x.answer) (sym e) ∙ s in
+        let f : Ok (request_for (asking d op point a) (new_call d op point a)) ≡ Ok q = ap (λ (x : SendAnswer). x.answer) (sym e) ∙ s in
         record { ok = ok; room = room; left = left; after = ap (λ (x : SendAnswer). x.client) e; asks = cc }
 
-pub issue-refused : (d : Client) (op point a n : ℕ) → (issue_of d op point a).answer ≡ NotSent n → (issue_of d op point a).client ≡ d
+pub issue-refused : (d : Client) (op point a : ℕ) (r : Refusal) → (issue_of d op point a).answer ≡ Err r → (issue_of d op point a).client ≡ d
 unfolding not_sent sent
-issue-refused d op point a n s = go (issue_case d op point a)
+issue-refused d op point a r s = go (issue_case d op point a)
   where
     go : IssueCase d op point a → (issue_of d op point a).client ≡ d
-    go (IssueCase.refused m e) = ap (λ (x : SendAnswer). x.client) e
+    go (IssueCase.refused k e) = ap (λ (x : SendAnswer). x.client) e
     go (IssueCase.issued ok room left e) =
-        let f : Asked (request_for (asking d op point a) (new_call d op point a)) ≡ NotSent n = ap (λ (x : SendAnswer). x.answer) (sym e) ∙ s in
+        let f : Ok (request_for (asking d op point a) (new_call d op point a)) ≡ Err r = ap (λ (x : SendAnswer). x.answer) (sym e) ∙ s in
         impossible cc
 
-pub resend-asked : (d : Client) (c : ℕ) (q : Request) → (resend_of d c).answer ≡ Asked q → Resends d c q
+pub resend-asked : (d : Client) (c : ℕ) (q : Request) → (resend_of d c).answer ≡ Ok q → Resends d c q
 unfolding not_sent sent
 resend-asked d c q s = go (resend_case d c)
   where
     go : ResendCase d c → Resends d c q
-    go (ResendCase.refused e) = let f : NotSent unknown ≡ Asked q = ap (λ (x : SendAnswer). x.answer) (sym e) ∙ s in impossible cc
-    go (ResendCase.resent o e) = let f : Asked (request_for d (call_at d c)) ≡ Asked q = ap (λ (x : SendAnswer). x.answer) (sym e) ∙ s in record { open_call_lem = o; asks = cc }
+    go (ResendCase.refused e) = let f : Err Unknown ≡ Ok q = ap (λ (x : SendAnswer). x.answer) (sym e) ∙ s in impossible cc
+    go (ResendCase.resent o e) = let f : Ok (request_for d (call_at d c)) ≡ Ok q = ap (λ (x : SendAnswer). x.answer) (sym e) ∙ s in record { open_call_lem = o; asks = cc }
 
 pub resend-same : (d : Client) (c : ℕ) → (resend_of d c).client ≡ d
 unfolding not_sent sent
@@ -218,20 +219,20 @@ resend-same d c = go (resend_case d c)
 
 -- ---- numbers
 
-pub start-fresh : (b : List ℕ) → (start_of b).answer ≡ Running → (length (start_of b).client.calls ≡ call_window) × ((start_of b).client.next ≡ 1)
+pub start-fresh : (b : List ℕ) → (start_of b).answer ≡ Ok tt → (length (start_of b).client.calls ≡ call_window) × ((start_of b).client.next ≡ 1)
 unfolding start_of start_with
 start-fresh b = go (as_grant (parse_packet b))
   where
-    go : (g : Option Grant) → (or_else g not_started started).answer ≡ Running → (length (or_else g not_started started).client.calls ≡ call_window) × ((or_else g not_started started).client.next ≡ 1)
+    go : (g : Option Grant) → (or_else g not_started started).answer ≡ Ok tt → (length (or_else g not_started started).client.calls ≡ call_window) × ((or_else g not_started started).client.next ≡ 1)
     go none e = impossible cc
     go (some g) e = (refl, refl)
 
 -- call numbers rise: an issue that is not refused takes next, and the next one is 1 more; nothing else changes it
-pub issue-command : (d : Client) (op point a : ℕ) (q : Request) → (issue_of d op point a).answer ≡ Asked q → q.command ≡ command_of d op point a
+pub issue-command : (d : Client) (op point a : ℕ) (q : Request) → (issue_of d op point a).answer ≡ Ok q → q.command ≡ command_of d op point a
 unfolding request_for new_call with_call with_calls
 issue-command d op point a q s = ap (λ (x : Request). x.command) (issue-asked d op point a q s).asks
 
-pub issue-next : (d : Client) (op point a : ℕ) (q : Request) → (issue_of d op point a).answer ≡ Asked q → (q.command.call ≡ d.next) × ((issue_of d op point a).client.next ≡ suc d.next)
+pub issue-next : (d : Client) (op point a : ℕ) (q : Request) → (issue_of d op point a).answer ≡ Ok q → (q.command.call ≡ d.next) × ((issue_of d op point a).client.next ≡ suc d.next)
 unfolding with_call with_calls
 issue-next d op point a q s = (ap (λ (x : Command). x.call) (issue-command d op point a q s), ap (λ (x : Client). x.next) (issue-asked d op point a q s).after)
 
@@ -240,7 +241,7 @@ unfolding not_sent sent with_call with_calls
 issue-keeps d op point a = go (issue_case d op point a)
   where
     go : IssueCase d op point a → (d.next ≤ (issue_of d op point a).client.next) × ((issue_of d op point a).client.client ≡ d.client)
-    go (IssueCase.refused n e) = rw e (omega arith, refl)
+    go (IssueCase.refused r e) = rw e (omega arith, refl)
     go (IssueCase.issued ok room left e) = rw e (omega arith, refl)
 
 pub receive-next : (d : Client) (p : Packet) → ((receive_with d p).client.next ≡ d.next) × ((receive_with d p).client.client ≡ d.client)
@@ -248,11 +249,11 @@ unfolding not_received closed with_calls with_lease
 receive-next d p = go (receive_case d p)
   where
     go : ReceiveCase d p → ((receive_with d p).client.next ≡ d.next) × ((receive_with d p).client.client ≡ d.client)
-    go (ReceiveCase.refused n e) = rw e (refl, refl)
+    go (ReceiveCase.refused k e) = rw e (refl, refl)
     go (ReceiveCase.completed r q o e) = rw e (refl, refl)
     go (ReceiveCase.denied r q o e) = rw e (refl, refl)
     go (ReceiveCase.extended g q o l e) = rw e (refl, refl)
 
-pub past-byte : (d : Client) (op point a : ℕ) → (ltb 255 op || ltb 255 point) ≡ true → record { client = d; answer = NotSent malformed } ≡ issue_of d op point a
+pub past-byte : (d : Client) (op point a : ℕ) → (ltb 255 op || ltb 255 point) ≡ true → record { client = d; answer = Err refusals.Malformed } ≡ issue_of d op point a
 unfolding issue_of not_sent
 past-byte d op point a e = rw (command-past op point a e) refl

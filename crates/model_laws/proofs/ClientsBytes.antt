@@ -11,6 +11,7 @@ use mathlib.Core.List.{List}
 use Prim.Native.Nat.{ℕ, ◌<◌}
 use native.Mathlib.Omega.{arith}
 use borrow.Author.Tests.{leb-true}
+use Rattle.std.specs.Prelude.{Ok}
 use Rattle.model_laws.specs.Bytes.{Bytes}
 use Rattle.model_laws.specs.Fits.{RequestFits, packet_fits, IsPacket}
 use Rattle.model_laws.proofs.Tests.{and_left}
@@ -22,8 +23,6 @@ use Rattle.model.specs.declared.Client.{Client}
 use Rattle.model.specs.declared.Request.{Request}
 use Rattle.model.specs.declared.Packet.{Packet}
 use Rattle.model.specs.declared.Packet.TheVariants.{Malformed, Requested, Resulted, Refused, Receipted, Noticed, Granted}
-use Rattle.model.specs.declared.Started.TheVariants.{Running}
-use Rattle.model.specs.declared.Sent.TheVariants.{Asked}
 use Rattle.model.specs.Packets.{command_ok, request_ok, grant_ok, request_bytes, packet_bytes, parse_packet}
 use Rattle.model.specs.Clients.{call_at, with_calls, with_call, new_call, request_for, start_with, start_of, issue_of, resend_of, receive_of}
 use Rattle.model_laws.specs.ClientForm.{WellFormed}
@@ -56,7 +55,7 @@ is-packet : (q : Request) → request_ok q ≡ true → RequestFits q → IsPack
 unfolding packet_bytes
 is-packet q ok fits = record { ok = ok; fits = fits; same = refl }
 
-pub issue-packet : {d : Client} → WellFormed d → (op point a : ℕ) (q : Request) → (issue_of d op point a).answer ≡ Asked q → IsPacket (request_bytes q) (Requested q)
+pub issue-packet : {d : Client} → WellFormed d → (op point a : ℕ) (q : Request) → (issue_of d op point a).answer ≡ Ok q → IsPacket (request_bytes q) (Requested q)
 issue-packet {d} w op point a q s =
     let i = issue-asked d op point a q s in
     let ok = issue-ok w op point a q s in
@@ -66,7 +65,7 @@ issue-packet {d} w op point a q s =
     next-after : (c : Client) (o p b : ℕ) → (new_call c o p b).call < (with_call c (new_call c o p b)).next
     next-after c o p b = unfold new_call with_call with_calls in omega arith
 
-pub resend-packet : {d : Client} → WellFormed d → (c : ℕ) (q : Request) → (resend_of d c).answer ≡ Asked q → IsPacket (request_bytes q) (Requested q)
+pub resend-packet : {d : Client} → WellFormed d → (c : ℕ) (q : Request) → (resend_of d c).answer ≡ Ok q → IsPacket (request_bytes q) (Requested q)
 resend-packet {d} w c q s =
     let r = resend-asked d c q s in
     let ok = resend-ok w c q s in
@@ -77,10 +76,10 @@ back : (q : Request) → IsPacket (request_bytes q) (Requested q) → parse_pack
 unfolding packet_bytes
 back q k = packet-back (Requested q) k.ok k.fits
 
-pub issue-back : {d : Client} → WellFormed d → (op point a : ℕ) (q : Request) → (issue_of d op point a).answer ≡ Asked q → parse_packet (request_bytes q) ≡ Requested q
+pub issue-back : {d : Client} → WellFormed d → (op point a : ℕ) (q : Request) → (issue_of d op point a).answer ≡ Ok q → parse_packet (request_bytes q) ≡ Requested q
 issue-back w op point a q s = back q (issue-packet w op point a q s)
 
-pub resend-back : {d : Client} → WellFormed d → (c : ℕ) (q : Request) → (resend_of d c).answer ≡ Asked q → parse_packet (request_bytes q) ≡ Requested q
+pub resend-back : {d : Client} → WellFormed d → (c : ℕ) (q : Request) → (resend_of d c).answer ≡ Ok q → parse_packet (request_bytes q) ≡ Requested q
 resend-back w c q s = back q (resend-packet w c q s)
 
 -- ---- over bytes
@@ -101,11 +100,11 @@ pub receive-kept : {d : Client} → WellFormed d → (b : List ℕ) → Bytes b 
 unfolding receive_of
 receive-kept w b h = receive-well w (parse_packet b) (parsed-fits b h)
 
-pub start-kept : (b : List ℕ) → Bytes b → (start_of b).answer ≡ Running → WellFormed (start_of b).client
+pub start-kept : (b : List ℕ) → Bytes b → (start_of b).answer ≡ Ok tt → WellFormed (start_of b).client
 unfolding start_of start_with
 start-kept b h e = go (parse_packet b) (packet-found b h) e
   where
-    go : (p : Packet) → ((p ≡ Malformed → ⊥) → IsPacket b p) → (start_with p).answer ≡ Running → WellFormed (start_with p).client
+    go : (p : Packet) → ((p ≡ Malformed → ⊥) → IsPacket b p) → (start_with p).answer ≡ Ok tt → WellFormed (start_with p).client
     go Malformed f s = let z : ◌≡◌ {A = ℕ} 0 1 = cc in absurd (omega arith)
     go (Requested q) f s = let z : ◌≡◌ {A = ℕ} 0 1 = cc in absurd (omega arith)
     go (Resulted r) f s = let z : ◌≡◌ {A = ℕ} 0 1 = cc in absurd (omega arith)

@@ -15,6 +15,7 @@ use lib.Dec.{eqb, leb}
 use lib.ListN.{length, get_or, set, replicate, length-set, get_or-replicate}
 use lib.Seq.{get_or-set_same, get_or-set_other}
 use borrow.Author.Tests.{eqb-true, eqb-false, le-leb}
+use Rattle.std.specs.Prelude.{Ok}
 use Rattle.model_laws.specs.Fits.{GrantFits, packet_fits}
 use Rattle.model_laws.proofs.Tests.{and_both, impossible}
 use Rattle.model_laws.proofs.Least.{least-over}
@@ -26,7 +27,6 @@ use Rattle.model.specs.declared.ResultPacket.{ResultPacket}
 use Rattle.model.specs.declared.Grant.{Grant}
 use Rattle.model.specs.declared.Packet.{Packet}
 use Rattle.model.specs.declared.Packet.TheVariants.{Resulted, Granted}
-use Rattle.model.specs.declared.Sent.TheVariants.{Asked}
 use Rattle.model.specs.declared.Received.TheVariants.{Completed}
 use Rattle.model.specs.declared.ReceiveAnswer.{ReceiveAnswer}
 use Rattle.model.specs.Packets.{command_ok, id_ok, done_ok, request_ok}
@@ -76,7 +76,7 @@ set-each P ks j k i h f g = go (eqb i j) refl
 -- an open call stays open, with its data, until a result of it is received
 pub data Stays (d : Client) (p : Packet) (c : ℕ) : Type 0 where
   stays : Open (receive_with d p).client c → call_at (receive_with d p).client c ≡ call_at d c → Stays d p c
-  ends : (r : ResultPacket) → p ≡ Resulted r → r.call ≡ c → (receive_with d p).answer ≡ Completed r → Stays d p c
+  ends : (r : ResultPacket) → p ≡ Resulted r → r.call ≡ c → (receive_with d p).answer ≡ Ok (Completed r) → Stays d p c
 
 -- the lease end never falls
 pub receive-lease : (d : Client) (p : Packet) → d.lease ≤ (receive_with d p).client.lease
@@ -194,7 +194,7 @@ module _ {d : Client} (w : WellFormed d) where
   -- ---- what is open after an operation
 
   -- issue opens next, with the command asked for, and leaves the others as they were
-  pub issue-opens : (op point a : ℕ) (q : Request) → (issue_of d op point a).answer ≡ Asked q
+  pub issue-opens : (op point a : ℕ) (q : Request) → (issue_of d op point a).answer ≡ Ok q
       → Open (issue_of d op point a).client d.next × (call_at (issue_of d op point a).client d.next ≡ new_call d op point a)
   unfolding new_call
   issue-opens op point a q s =
@@ -229,7 +229,7 @@ module _ {d : Client} (w : WellFormed d) where
   unfolding not_received
   receive-stays p c o = go (receive_case d p)
     where
-      on : (r : ResultPacket) → p ≡ Resulted r → Own d r.client r.call r.point → receive_with d p ≡ record { client = closed d r.call; answer = Completed r }
+      on : (r : ResultPacket) → p ≡ Resulted r → Own d r.client r.call r.point → receive_with d p ≡ record { client = closed d r.call; answer = Ok (Completed r) }
           → (b : Bool) → eqb c r.call ≡ b → Stays d p c
       on r q own e true f = ends r q (sym (eqb-true _ _ f)) (ap (λ (x : ReceiveAnswer). x.answer) e)
       on r q own e false f =
@@ -256,11 +256,11 @@ module _ {d : Client} (w : WellFormed d) where
       go (ReceiveCase.extended g q k l e) = rw e (back g.lease)
 
   -- a completed call is closed
-  pub receive_ends : (p : Packet) (r : ResultPacket) → (receive_with d p).answer ≡ Completed r → Open (receive_with d p).client r.call → ⊥
+  pub receive_ends : (p : Packet) (r : ResultPacket) → (receive_with d p).answer ≡ Ok (Completed r) → Open (receive_with d p).client r.call → ⊥
   unfolding not_received
   receive_ends p r s = go (receive_case d p)
     where
-      told : {a : ReceiveAnswer} → receive_with d p ≡ a → a.answer ≡ Completed r
+      told : {a : ReceiveAnswer} → receive_with d p ≡ a → a.answer ≡ Ok (Completed r)
       told e = ap (λ (x : ReceiveAnswer). x.answer) (sym e) ∙ s
 
       go : ReceiveCase d p → Open (receive_with d p).client r.call → ⊥
@@ -292,7 +292,7 @@ module _ {d : Client} (w : WellFormed d) where
       command e p = unfold call_at in w.commands (place_of e) (place_under e) (omega (arith, p.at, p.from))
 
 -- of issue and of resend
-pub issue-ok : {d : Client} → WellFormed d → (op point a : ℕ) (q : Request) → (issue_of d op point a).answer ≡ Asked q → request_ok q ≡ true
+pub issue-ok : {d : Client} → WellFormed d → (op point a : ℕ) (q : Request) → (issue_of d op point a).answer ≡ Ok q → request_ok q ≡ true
 issue-ok {d} w op point a q s =
     let i = issue-asked d op point a q s in
     let n = new_call d op point a in
@@ -302,15 +302,15 @@ issue-ok {d} w op point a q s =
     let v = subst (λ (x : Client). WellFormed x) i.after (issue-well w op point a) in
     rw i.asks (subst (λ (x : OpenCall). request_ok (request_for (with_call d n) x) ≡ true) k (sent-ok v d.next o))
 
-pub resend-ok : {d : Client} → WellFormed d → (c : ℕ) (q : Request) → (resend_of d c).answer ≡ Asked q → request_ok q ≡ true
+pub resend-ok : {d : Client} → WellFormed d → (c : ℕ) (q : Request) → (resend_of d c).answer ≡ Ok q → request_ok q ≡ true
 resend-ok {d} w c q s = let r = resend-asked d c q s in rw r.asks (sent-ok w c r.open_call_lem)
 
 -- done is the first open call of the client that sends, the new one counted
-pub issue-done : (d : Client) (op point a : ℕ) (q : Request) → (issue_of d op point a).answer ≡ Asked q → q.done ≡ first_open (issue_of d op point a).client
+pub issue-done : (d : Client) (op point a : ℕ) (q : Request) → (issue_of d op point a).answer ≡ Ok q → q.done ≡ first_open (issue_of d op point a).client
 unfolding request_for
 issue-done d op point a q s =
     let i = issue-asked d op point a q s in ap (λ (x : Request). x.done) i.asks ∙ ap first_open (sym i.after)
 
-pub resend-done : (d : Client) (c : ℕ) (q : Request) → (resend_of d c).answer ≡ Asked q → q.done ≡ first_open d
+pub resend-done : (d : Client) (c : ℕ) (q : Request) → (resend_of d c).answer ≡ Ok q → q.done ≡ first_open d
 unfolding request_for
 resend-done d c q s = ap (λ (x : Request). x.done) (resend-asked d c q s).asks

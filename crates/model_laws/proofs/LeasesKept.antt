@@ -21,7 +21,10 @@ use native.Mathlib.Omega.{arith}
 use lib.Dec.{eqb, ltb}
 use lib.ListN.{length, length-map, replicate}
 use borrow.Author.Tests.{eqb-true, eqb-false, ltb-false}
+use Rattle.std.specs.Prelude.{Result, Ok}
 use Rattle.model_laws.specs.Bytes.{All}
+use Rattle.model.specs.declared.Refusal.{Refusal}
+use Rattle.model.specs.declared.Refusal.TheVariants.{Malformed, NumbersOut, Unknown, LeasesFull}
 use Rattle.model.specs.declared.Grant.{Grant}
 use Rattle.model.specs.declared.Notice.{Notice}
 use Rattle.model.specs.declared.Lease.{Lease}
@@ -32,7 +35,6 @@ use Rattle.model.specs.declared.Told.TheVariants.{ByGrant, ByNotice}
 use Rattle.model.specs.Tables.{every}
 use Rattle.model.specs.Leases.{no_lease, new_manager, time_at, running_at, lease_end, is_taken, with_new_lease, extended, span_ok, manager, not_told, granted, open_of, renew_of, query_of}
 use Rattle.model.specs.Limits.{last32, lease_count}
-use Rattle.model.specs.Refusals.{malformed, leases_full, numbers_out, unknown}
 use Rattle.model_laws.specs.LeaseForm.{Fresh, Distinct, Placed, WellFormed, Lasts, Covers, Gone, LeaseCall, answer_of, given_time}
 use Rattle.model_laws.proofs.Tests.{both-fit}
 use Rattle.model_laws.proofs.LeaseLists.{pos_of, all_mono, all_entered, all_extended, length-entered, length-extended, running-placed, fresh-running}
@@ -47,7 +49,7 @@ abbrev pub runs : LeaseManager → ℕ → List Lease
 runs m t = running_at (time_at m t) m.leases
 
 pub data Exit (m : LeaseManager) (t : ℕ) (a : LeaseAnswer) : Type 0 where
-  refused : (n : ℕ) → a ≡ not_told m n → Exit m t a
+  refused : (r : Refusal) → a ≡ not_told m r → Exit m t a
   opened : (e : ℕ) → every is_taken (runs m t) ≡ false → m.issued < last32 → time_at m t < e → e ≤ last32
       → a ≡ granted (manager (time_at m t) (suc m.issued) (with_new_lease (record { client = suc m.issued; lease = e }) (runs m t))) (suc m.issued) e
       → Exit m t a
@@ -55,7 +57,7 @@ pub data Exit (m : LeaseManager) (t : ℕ) (a : LeaseAnswer) : Type 0 where
       → a ≡ granted (manager (time_at m t) m.issued (extended x e (runs m t))) x e
       → Exit m t a
   noticed : (x : ℕ) → 1 ≤ x → x ≤ m.issued → lease_end x (runs m t) ≡ 0
-      → a ≡ record { manager = manager (time_at m t) m.issued (runs m t); answer = ByNotice (record { client = x; time = time_at m t }) }
+      → a ≡ record { manager = manager (time_at m t) m.issued (runs m t); answer = Ok (ByNotice (record { client = x; time = time_at m t })) }
       → Exit m t a
   found : (x : ℕ) → 1 ≤ x → x ≤ m.issued → (lease_end x (runs m t) ≡ 0 → ⊥)
       → a ≡ granted (manager (time_at m t) m.issued (runs m t)) x (lease_end x (runs m t))
@@ -72,9 +74,9 @@ open_exit m t span =
     go (span_ok span) (every is_taken (runs m t)) (ltb last32 (suc m.issued) || ltb last32 (time_at m t + span)) refl refl refl
   where
     go : (u v w : Bool) → span_ok span ≡ u → every is_taken (runs m t) ≡ v → (ltb last32 (suc m.issued) || ltb last32 (time_at m t + span)) ≡ w → Exit m t (open_of m t span)
-    go false v w p q r = refused malformed (rw p refl)
-    go true true w p q r = refused leases_full (rw (p, q) refl)
-    go true false true p q r = refused numbers_out (rw (p, q, r) refl)
+    go false v w p q r = refused Malformed (rw p refl)
+    go true true w p q r = refused LeasesFull (rw (p, q) refl)
+    go true false true p q r = refused NumbersOut (rw (p, q, r) refl)
     go true false false p q r =
         let f = both-fit last32 (suc m.issued) (time_at m t + span) r in
         let s = span_from span p in
@@ -85,9 +87,9 @@ unfolding renew_of
 renew_exit m x t span = go (span_ok span) (eqb (lease_end x (runs m t)) 0) (ltb last32 (time_at m t + span)) refl refl refl
   where
     go : (u v w : Bool) → span_ok span ≡ u → eqb (lease_end x (runs m t)) 0 ≡ v → ltb last32 (time_at m t + span) ≡ w → Exit m t (renew_of m x t span)
-    go false v w p q r = refused malformed (rw p refl)
-    go true true w p q r = refused unknown (rw (p, q) refl)
-    go true false true p q r = refused numbers_out (rw (p, q, r) refl)
+    go false v w p q r = refused Malformed (rw p refl)
+    go true true w p q r = refused Unknown (rw (p, q) refl)
+    go true false true p q r = refused NumbersOut (rw (p, q, r) refl)
     go true false false p q r =
         let s = span_from span p in
         renewed x (max (lease_end x (runs m t)) (time_at m t + span)) (eqb-false _ _ q) (omega arith) (omega arith) (omega (arith, ltb-false last32 (time_at m t + span) r)) (rw (p, q, r) refl)
@@ -97,8 +99,8 @@ unfolding query_of
 query_exit m x t = go (eqb x 0) (ltb m.issued x) (eqb (lease_end x (runs m t)) 0) refl refl refl
   where
     go : (u v w : Bool) → eqb x 0 ≡ u → ltb m.issued x ≡ v → eqb (lease_end x (runs m t)) 0 ≡ w → Exit m t (query_of m x t)
-    go true v w p q r = refused unknown (rw p refl)
-    go false true w p q r = refused unknown (rw (p, q) refl)
+    go true v w p q r = refused Unknown (rw p refl)
+    go false true w p q r = refused Unknown (rw (p, q) refl)
     go false false true p q r = noticed x (pos_of x (eqb-false _ _ p)) (ltb-false _ _ q) (eqb-true _ _ r) (rw (p, q, r) refl)
     go false false false p q r = found x (pos_of x (eqb-false _ _ p)) (ltb-false _ _ q) (eqb-false _ _ r) (rw (p, q, r) refl)
 
@@ -180,21 +182,21 @@ module _ {m : LeaseManager} (w : WellFormed m) where
   call-well c z = exit_well (given_time c) (answer_of m c) (call_exit m c) z
 
 -- a grant: its client was issued, its end is within 32 bits
-pub grant-within : {m : LeaseManager} → WellFormed m → (c : LeaseCall) (g : Grant) → (answer_of m c).answer ≡ ByGrant g
+pub grant-within : {m : LeaseManager} → WellFormed m → (c : LeaseCall) (g : Grant) → (answer_of m c).answer ≡ Ok (ByGrant g)
     → (1 ≤ g.client) × (g.client ≤ last32) × (g.lease ≤ last32)
 unfolding not_told granted manager
 grant-within {m} w c g = go (given_time c) (answer_of m c) (call_exit m c)
   where
-    answer_of_lem : {a : LeaseAnswer} {k : LeaseManager} {x e : ℕ} → a ≡ granted k x e → a.answer ≡ ByGrant (record { client = x; lease = e })
+    answer_of_lem : {a : LeaseAnswer} {k : LeaseManager} {x e : ℕ} → a ≡ granted k x e → a.answer ≡ Ok (ByGrant (record { client = x; lease = e }))
     answer_of_lem q = ap (λ (v : LeaseAnswer). v.answer) q
 
-    out : (x e : ℕ) {r : Told} → r ≡ ByGrant (record { client = x; lease = e }) → r ≡ ByGrant g → (1 ≤ x) × (x ≤ last32) × (e ≤ last32)
+    out : (x e : ℕ) {r : Result Told Refusal} → r ≡ Ok (ByGrant (record { client = x; lease = e })) → r ≡ Ok (ByGrant g) → (1 ≤ x) × (x ≤ last32) × (e ≤ last32)
         → (1 ≤ g.client) × (g.client ≤ last32) × (g.lease ≤ last32)
     out x e q s b =
         let z : record { client = x; lease = e } ≡ g = cc in
         subst (λ (v : Grant). (1 ≤ v.client) × (v.client ≤ last32) × (v.lease ≤ last32)) z b
 
-    go : (t : ℕ) (a : LeaseAnswer) → Exit m t a → a.answer ≡ ByGrant g → (1 ≤ g.client) × (g.client ≤ last32) × (g.lease ≤ last32)
+    go : (t : ℕ) (a : LeaseAnswer) → Exit m t a → a.answer ≡ Ok (ByGrant g) → (1 ≤ g.client) × (g.client ≤ last32) × (g.lease ≤ last32)
     go t a (refused n q) s = let f = ap (λ (x : LeaseAnswer). x.answer) (sym q) ∙ s in let z : ◌≡◌ {A = ℕ} 0 1 = cc in absurd (omega arith)
     go t a (opened f u i k l q) s = out (suc m.issued) f (answer_of_lem q) s (omega arith, i, l)
     go t a (renewed y f n u k v q) s =
@@ -231,14 +233,14 @@ call-issued m c = go (given_time c) (answer_of m c) (call_exit m c)
     go t a (found x h k n e) = rw e (omega arith)
 
 -- open grants the number after the latest one
-pub open_number : (m : LeaseManager) (t span : ℕ) (g : Grant) → (open_of m t span).answer ≡ ByGrant g
+pub open_number : (m : LeaseManager) (t span : ℕ) (g : Grant) → (open_of m t span).answer ≡ Ok (ByGrant g)
     → (g.client ≡ suc m.issued) × ((open_of m t span).manager.issued ≡ suc m.issued)
 unfolding open_of not_told granted manager
 open_number m t span g =
     go (span_ok span) (every is_taken (runs m t)) (ltb last32 (suc m.issued) || ltb last32 (time_at m t + span)) refl refl refl
   where
     go : (u v w : Bool) → span_ok span ≡ u → every is_taken (runs m t) ≡ v → (ltb last32 (suc m.issued) || ltb last32 (time_at m t + span)) ≡ w
-        → (open_of m t span).answer ≡ ByGrant g → (g.client ≡ suc m.issued) × ((open_of m t span).manager.issued ≡ suc m.issued)
+        → (open_of m t span).answer ≡ Ok (ByGrant g) → (g.client ≡ suc m.issued) × ((open_of m t span).manager.issued ≡ suc m.issued)
     go false v w p q r = rw p (λ s. let z : ◌≡◌ {A = ℕ} 0 1 = cc in absurd (omega arith))
     go true true w p q r = rw (p, q) (λ s. let z : ◌≡◌ {A = ℕ} 0 1 = cc in absurd (omega arith))
     go true false true p q r = rw (p, q, r) (λ s. let z : ◌≡◌ {A = ℕ} 0 1 = cc in absurd (omega arith))
@@ -269,11 +271,11 @@ call_covers m c x e h p = go (given_time c) (answer_of m c) (call_exit m c)
     go t a (found y g k n q) = rw q (over_runs m t x e h p)
 
 -- and for the grant that it makes
-pub grant_covers : (m : LeaseManager) (c : LeaseCall) (g : Grant) → (answer_of m c).answer ≡ ByGrant g → Covers (answer_of m c).manager g.client g.lease
+pub grant_covers : (m : LeaseManager) (c : LeaseCall) (g : Grant) → (answer_of m c).answer ≡ Ok (ByGrant g) → Covers (answer_of m c).manager g.client g.lease
 unfolding not_told granted manager
 grant_covers m c g s = go (given_time c) (answer_of m c) (call_exit m c) s
   where
-    go : (t : ℕ) (a : LeaseAnswer) → Exit m t a → a.answer ≡ ByGrant g → Covers a.manager g.client g.lease
+    go : (t : ℕ) (a : LeaseAnswer) → Exit m t a → a.answer ≡ Ok (ByGrant g) → Covers a.manager g.client g.lease
     go t a (refused n q) s = let f = ap (λ (x : LeaseAnswer). x.answer) (sym q) ∙ s in let z : ◌≡◌ {A = ℕ} 0 1 = cc in absurd (omega arith)
     go t a (opened f u i k l q) s =
         let r = ap (λ (x : LeaseAnswer). x.answer) (sym q) ∙ s in
@@ -313,14 +315,14 @@ call-gone m c x p = go (given_time c) (answer_of m c) (call_exit m c)
     go t a (found y g k n q) = rw q (record { from = p.from; issued = p.issued; fresh = runs-fresh t })
 
 -- it is never granted one again
-pub gone-grant : (m : LeaseManager) (c : LeaseCall) (g : Grant) → Gone m g.client → (answer_of m c).answer ≡ ByGrant g → ⊥
+pub gone-grant : (m : LeaseManager) (c : LeaseCall) (g : Grant) → Gone m g.client → (answer_of m c).answer ≡ Ok (ByGrant g) → ⊥
 unfolding not_told granted manager
 gone-grant m c g p = go (given_time c) (answer_of m c) (call_exit m c)
   where
     ended : (t y : ℕ) → y ≡ g.client → lease_end y (runs m t) ≡ 0
     ended t y e = rw e (fresh-end g.client (runs m t) (fresh-running (time_at m t) g.client p.from m.leases p.fresh))
 
-    go : (t : ℕ) (a : LeaseAnswer) → Exit m t a → a.answer ≡ ByGrant g → ⊥
+    go : (t : ℕ) (a : LeaseAnswer) → Exit m t a → a.answer ≡ Ok (ByGrant g) → ⊥
     go t a (refused n q) s = let f = ap (λ (x : LeaseAnswer). x.answer) (sym q) ∙ s in let z : ◌≡◌ {A = ℕ} 0 1 = cc in omega arith
     go t a (opened f u i k l q) s =
         let r = ap (λ (x : LeaseAnswer). x.answer) (sym q) ∙ s in
@@ -338,12 +340,12 @@ gone-grant m c g p = go (given_time c) (answer_of m c) (call_exit m c)
         n (ended t y (ap (λ (v : Grant). v.client) z))
 
 -- a notice names such a client, at the manager's time
-pub notice-gone : {m : LeaseManager} → WellFormed m → (c : LeaseCall) (n : Notice) → (answer_of m c).answer ≡ ByNotice n
+pub notice-gone : {m : LeaseManager} → WellFormed m → (c : LeaseCall) (n : Notice) → (answer_of m c).answer ≡ Ok (ByNotice n)
     → Gone (answer_of m c).manager n.client × ((answer_of m c).manager.time ≡ n.time)
 unfolding not_told granted manager
 notice-gone {m} w c n = go (given_time c) (answer_of m c) (call_exit m c)
   where
-    go : (t : ℕ) (a : LeaseAnswer) → Exit m t a → a.answer ≡ ByNotice n → Gone a.manager n.client × (a.manager.time ≡ n.time)
+    go : (t : ℕ) (a : LeaseAnswer) → Exit m t a → a.answer ≡ Ok (ByNotice n) → Gone a.manager n.client × (a.manager.time ≡ n.time)
     go t a (refused k q) s = let f = ap (λ (x : LeaseAnswer). x.answer) (sym q) ∙ s in let z : ◌≡◌ {A = ℕ} 0 1 = cc in absurd (omega arith)
     go t a (opened f u i k l q) s = let r = ap (λ (x : LeaseAnswer). x.answer) (sym q) ∙ s in let z : ◌≡◌ {A = ℕ} 0 1 = cc in absurd (omega arith)
     go t a (renewed y f k u l v q) s = let r = ap (λ (x : LeaseAnswer). x.answer) (sym q) ∙ s in let z : ◌≡◌ {A = ℕ} 0 1 = cc in absurd (omega arith)

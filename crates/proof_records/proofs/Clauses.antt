@@ -12,13 +12,13 @@ use mathlib.Core.List.{List, [], ◌∷◌}
 use mathlib.Core.Option.{none, some}
 use native.Mathlib.Omega.{arith}
 use lib.ListN.{length, take, get_or, get_elem?}
+use Rattle.std.specs.Prelude.{Ok}
 use Rattle.model.specs.Versions.{Versions}
 use Rattle.model.specs.declared.Client.{Client}
 use Rattle.model.specs.declared.Command.{Command}
 use Rattle.model.specs.declared.Request.{Request}
 use Rattle.model.specs.declared.ResultPacket.{ResultPacket}
 use Rattle.model.specs.declared.Packet.TheVariants.{Requested}
-use Rattle.model.specs.declared.Sent.TheVariants.{Asked}
 use Rattle.model.specs.declared.Received.TheVariants.{Completed}
 use Rattle.model.specs.Plan.{plan_of}
 use Rattle.model.specs.Sequential.{Marked, EntryResult}
@@ -53,19 +53,19 @@ use Rattle.proof_records.proofs.Sizes.{chain-bytes, tail-bytes}
 -- ---- matched events, taken apart
 
 module _ {w : World} {v v' : W.World} where
-  issue_on : {x op p b : ℕ} {a : W.Change} → Matched w v v' (R.outside (issue x op p b)) a → (d : Client) (q : Request) → w.clients x ≡ some d → (issue_of d op p b).answer ≡ Asked q
+  issue_on : {x op p b : ℕ} {a : W.Change} → Matched w v v' (R.outside (issue x op p b)) a → (d : Client) (q : Request) → w.clients x ≡ some d → (issue_of d op p b).answer ≡ Ok q
       → a ≡ W.client x (W.issues d op p b)
   unfolding Quiet
   issue_on (M.issued x op p b c r e s) d q f k = rw (some_same e f)
   issue_on (M.other e a h s) d q f k = absurd (h d q f k)
 
   receive_on : {x p : ℕ} {a : W.Change} → Matched w v v' (R.outside (receive x p)) a → (d : Client) (b : List ℕ) (r : ResultPacket) → w.clients x ≡ some d → packet w p ≡ some b
-      → (receive_of d b).answer ≡ Completed r → a ≡ W.client x (W.receives d (record { client = r.client; call = r.call }) r.point (result_of r.result))
+      → (receive_of d b).answer ≡ Ok (Completed r) → a ≡ W.client x (W.receives d (record { client = r.client; call = r.call }) r.point (result_of r.result))
   unfolding Quiet
   receive_on (M.received x p c g s e f k) d b r e' f' k' =
       let i : c ≡ d = some_same e e' in
       let j : g ≡ b = some_same f f' in
-      let z : Completed s ≡ Completed r = sym k ∙ (ap (λ (y : Client). (receive_of y g).answer) i ∙ (ap (λ (y : List ℕ). (receive_of d y).answer) j ∙ k')) in
+      let z : Ok (Completed s) ≡ Ok (Completed r) = sym k ∙ (ap (λ (y : Client). (receive_of y g).answer) i ∙ (ap (λ (y : List ℕ). (receive_of d y).answer) j ∙ k')) in
       let t : s ≡ r = cc in
       rw (i, t)
   receive_on (M.other e a h s) d b r e' f' k = absurd (h d b r e' f' k)

@@ -10,6 +10,8 @@ use mathlib.Core.Option.{Option, none, some}
 use native.Mathlib.Omega.{arith}
 use lib.Dec.{eqb}
 use borrow.Author.Tests.{eq-eqb, le-leb}
+use Rattle.std.specs.Prelude.{Result, Ok, Err}
+use Rattle.model.specs.declared.Refusal.{Refusal}
 use Rattle.model.specs.declared.PlanEntry.{PlanEntry}
 use Rattle.model.specs.declared.Client.{Client}
 use Rattle.model.specs.declared.OpenCall.{OpenCall}
@@ -17,8 +19,6 @@ use Rattle.model.specs.declared.Request.{Request}
 use Rattle.model.specs.declared.ResultPacket.{ResultPacket}
 use Rattle.model.specs.declared.Packet.{Packet}
 use Rattle.model.specs.declared.Packet.TheVariants.{Malformed, Requested, Resulted, Refused, Receipted, Noticed, Granted}
-use Rattle.model.specs.declared.Sent.{Sent}
-use Rattle.model.specs.declared.Sent.TheVariants.{NotSent, Asked}
 use Rattle.model.specs.declared.Received.TheVariants.{Completed}
 use Rattle.model.specs.declared.ReceiveAnswer.{ReceiveAnswer}
 use Rattle.model.specs.Packets.{parse_packet, request_bytes, grant_ok, notice_ok, packet_bytes, grant_bytes, notice_bytes}
@@ -61,8 +61,8 @@ use Rattle.model_laws.proofs.LeasesKept as Kept
 request-good : {b : List ℕ} (q : Request) → IsPacket b (Requested q) → GoodRequest q
 request-good q k = let f : RequestFits q = k.fits in record { ok = k.ok; client = f.client; call = f.call }
 
-not-asked : {A : Type 0} {n : ℕ} {q : Request} {s : Sent} → s ≡ NotSent n → s ≡ Asked q → A
-not-asked {n = n} {q = q} e f = let k : NotSent n ≡ Asked q = sym e ∙ f in let z : ◌≡◌ {A = ℕ} 0 1 = cc in absurd (omega arith)
+not-asked : {A : Type 0} {r : Refusal} {q : Request} {s : Result Request Refusal} → s ≡ Err r → s ≡ Ok q → A
+not-asked {r = r} {q = q} e f = let k : Err r ≡ Ok q = sym e ∙ f in let z : ◌≡◌ {A = ℕ} 0 1 = cc in absurd (omega arith)
 
 own_yes : (d : Client) (x c p : ℕ) → Own d x c p → is_own d x c p ≡ true
 unfolding is_own
@@ -78,16 +78,16 @@ module _ {plan : List PlanEntry} {w : World} {v : W.World} (l : WorldLike plan w
   -- ---- issue
 
   module _ (x op p a : ℕ) where
-    issue-some : (d : Client) → w.clients x ≡ some d → (s : Sent) → (issue_of d op p a).answer ≡ s → Stepped plan w v (R.outside (issue x op p a))
+    issue-some : (d : Client) → w.clients x ≡ some d → (s : Result Request Refusal) → (issue_of d op p a).answer ≡ s → Stepped plan w v (R.outside (issue x op p a))
     unfolding step outside_step sends sent_bytes making Quiet W.client_after Means
-    issue-some d e (NotSent n) s =
+    issue-some d e (Err k) s =
         record {
           change = W.same;
           allowed = P.nothing;
-          like = rw (e, s, issue-refused d op p a n s) (like-same (like-client-same l x d e));
+          like = rw (e, s, issue-refused d op p a k s) (like-same (like-client-same l x d e));
           matched = other (R.outside (issue x op p a)) W.same (λ b q f k. not-asked {q = q} s (rw (some_same e f) k)) tt;
         }
-    issue-some d e (Asked q) s =
+    issue-some d e (Ok q) s =
         let i = issue-asked d op p a q s in
         let t = l.started x d e in
         let g = issue-packet t.well op p a q s in
@@ -116,16 +116,16 @@ module _ {plan : List PlanEntry} {w : World} {v : W.World} (l : WorldLike plan w
   -- ---- resend
 
   module _ (x c : ℕ) where
-    resend-some : (d : Client) → w.clients x ≡ some d → (s : Sent) → (resend_of d c).answer ≡ s → Stepped plan w v (R.outside (resend x c))
+    resend-some : (d : Client) → w.clients x ≡ some d → (s : Result Request Refusal) → (resend_of d c).answer ≡ s → Stepped plan w v (R.outside (resend x c))
     unfolding step outside_step sends sent_bytes making Quiet W.client_after Means
-    resend-some d e (NotSent n) s =
+    resend-some d e (Err k) s =
         record {
           change = W.same;
           allowed = P.nothing;
           like = rw (e, s, resend-same d c) (like-same (like-client-same l x d e));
           matched = other (R.outside (resend x c)) W.same tt tt;
         }
-    resend-some d e (Asked q) s =
+    resend-some d e (Ok q) s =
         let i = resend-asked d c q s in
         let t = l.started x d e in
         let g = resend-packet t.well c q s in
@@ -156,7 +156,7 @@ module _ {plan : List PlanEntry} {w : World} {v : W.World} (l : WorldLike plan w
       handed = l.made b (packet_in_lem w.made n b f)
 
       -- the client is as it was
-      unchanged : (a : ReceiveAnswer) → receive_with d (parse_packet b) ≡ a → a.client ≡ d → ((r : ResultPacket) → a.answer ≡ Completed r → ⊥) → Stepped plan w v (R.outside (receive x n))
+      unchanged : (a : ReceiveAnswer) → receive_with d (parse_packet b) ≡ a → a.client ≡ d → ((r : ResultPacket) → a.answer ≡ Ok (Completed r) → ⊥) → Stepped plan w v (R.outside (receive x n))
       unfolding step outside_step receives receive_of Quiet
       unchanged a q s t =
           record {
@@ -166,7 +166,7 @@ module _ {plan : List PlanEntry} {w : World} {v : W.World} (l : WorldLike plan w
             matched =
                 other (R.outside (receive x n)) W.same
                 (λ d' b' r e' f' k.
-                t r (subst (λ (y : ReceiveAnswer). y.answer ≡ Completed r) q (rw (some_same e e', some_same f f') k))) tt;
+                t r (subst (λ (y : ReceiveAnswer). y.answer ≡ Ok (Completed r)) q (rw (some_same e e', some_same f f') k))) tt;
           }
 
       receive-some : ReceiveCase d (parse_packet b) → Stepped plan w v (R.outside (receive x n))
@@ -198,7 +198,7 @@ module _ {plan : List PlanEntry} {w : World} {v : W.World} (l : WorldLike plan w
             matched =
                 other (R.outside (receive x n)) (W.client x k)
                 (unfold Quiet in λ d' b' r e' f' z.
-                let j = subst (λ (y : ReceiveAnswer). y.answer ≡ Completed r) q (rw (some_same e e', some_same f f') z) in let y : ◌≡◌ {A = ℕ} 0 1 = cc in omega arith) tt;
+                let j = subst (λ (y : ReceiveAnswer). y.answer ≡ Ok (Completed r)) q (rw (some_same e e', some_same f f') z) in let y : ◌≡◌ {A = ℕ} 0 1 = cc in omega arith) tt;
           }
 
     receive-step : Stepped plan w v (R.outside (receive x n))
@@ -240,14 +240,14 @@ module _ {plan : List PlanEntry} {w : World} {v : W.World} (l : WorldLike plan w
         go (some b) f = starts b f (parse_packet b) refl
 
 module _ {m : LeaseManager} (k : WellManaged m) (c : LeaseCall) (h : given_time c ≤ last32) {M : S.Packet → Type 0} where
-  grant-like : (g : Grant) → (answer_of m c).answer ≡ ByGrant g → M (S.grant g.client g.lease) → PacketLike M (grant_bytes g)
+  grant-like : (g : Grant) → (answer_of m c).answer ≡ Ok (ByGrant g) → M (S.grant g.client g.lease) → PacketLike M (grant_bytes g)
   unfolding packet_bytes grant_ok Means
   grant-like g e made =
       let b = grant-within k c g e in
       let f : GrantFits g = record { client = omega (arith, b.1); lease = omega (arith, b.2) } in
       like-packet (Granted g) (record { ok = le-leb 1 g.client b.0; fits = f; same = refl }) (b.0, f, made)
 
-  notice-like : (n : Notice) → (answer_of m c).answer ≡ ByNotice n → M (S.notice n.client n.time) → PacketLike M (notice_bytes notice_kind n)
+  notice-like : (n : Notice) → (answer_of m c).answer ≡ Ok (ByNotice n) → M (S.notice n.client n.time) → PacketLike M (notice_bytes notice_kind n)
   unfolding packet_bytes notice_ok Means
   notice-like n e made =
       let b = notice-gone k c n e in
@@ -277,7 +277,7 @@ module _ {plan : List PlanEntry} {w : World} {v : W.World} (l : WorldLike plan w
     unfolding granted told_bytes W.step
     grants n x t z L =
         let g : Grant = record { client = x; lease = t } in
-        let y : a.answer ≡ ByGrant g = ap (λ (b : LeaseAnswer). b.answer) z in
+        let y : a.answer ≡ Ok (ByGrant g) = ap (λ (b : LeaseAnswer). b.answer) z in
         tells-step (S.grant x t) (rw z L) (rw y (grant-like l.leases c h g y (Memᴰ.head refl)))
 
     lease_exit : (t : ℕ) → Exit w.manager t a → Stepped plan w v (R.outside e)
@@ -296,7 +296,7 @@ module _ {plan : List PlanEntry} {w : World} {v : W.World} (l : WorldLike plan w
     lease_exit t (Kept.noticed x k i r z) =
         let now = max w.manager.time t in
         let n : Notice = record { client = x; time = now } in
-        let y : a.answer ≡ ByNotice n = ap (λ (b : LeaseAnswer). b.answer) z in
+        let y : a.answer ≡ Ok (ByNotice n) = ap (λ (b : LeaseAnswer). b.answer) z in
         tells-step (S.notice x now) (rw z (notices x now (omega arith) r (λ o. omega arith) i)) (rw y (notice-like l.leases c h n y (Memᴰ.head refl)))
     lease_exit t (Kept.found x k i r z) = let now = max w.manager.time t in grants _ x _ z (regrants x now (omega arith) r)
 

@@ -1,7 +1,7 @@
 -- The provisos at one event; what an event over records and the change that follows it have to do with each other, as demand 3 reads them; a
 -- schedule over records, followed event by event by a run of the protocol.
 -- Assumes nothing.
-use Rattle.std.specs.Prelude.{ℕ, ◌≤◌, ◌+◌, suc, ◌≡◌, List, [], ◌∷◌, take}
+use Rattle.std.specs.Prelude.{ℕ, ◌≤◌, ◌+◌, suc, ◌≡◌, List, [], ◌∷◌, take, Ok}
 use Rattle.std.proofs.Math.Option.{none, some}
 use Rattle.model.specs.States.{State}
 use Rattle.model.specs.Clients.{issue_of, receive_of}
@@ -15,7 +15,6 @@ use Rattle.model.specs.declared.Client.{Client}
 use Rattle.model.specs.declared.Request.{Request}
 use Rattle.model.specs.declared.ResultPacket.{ResultPacket}
 use Rattle.model.specs.declared.Packet.TheVariants.{Requested}
-use Rattle.model.specs.declared.Sent.TheVariants.{Asked}
 use Rattle.model.specs.declared.Received.TheVariants.{Completed}
 use Rattle.model.specs.Limits.{head_size}
 use Rattle.model.specs.Packets.{parse_packet}
@@ -94,9 +93,9 @@ Quiet w (R.call c o room) = (p : ℕ) (v : Versions) (q : Request) → o ≡ req
 Quiet w (R.recover c p) = Unit
 Quiet w (R.crash c k) = kept_by (w.servers c) ≡ none
 Quiet w (R.outside (start p)) = Unit
-Quiet w (R.outside (issue x op p a)) = (d : Client) (q : Request) → w.clients x ≡ some d → (issue_of d op p a).answer ≡ Asked q → ⊥
+Quiet w (R.outside (issue x op p a)) = (d : Client) (q : Request) → w.clients x ≡ some d → (issue_of d op p a).answer ≡ Ok q → ⊥
 Quiet w (R.outside (resend x c)) = Unit
-Quiet w (R.outside (receive x p)) = (d : Client) (b : List ℕ) (r : ResultPacket) → w.clients x ≡ some d → packet w p ≡ some b → (receive_of d b).answer ≡ Completed r → ⊥
+Quiet w (R.outside (receive x p)) = (d : Client) (b : List ℕ) (r : ResultPacket) → w.clients x ≡ some d → packet w p ≡ some b → (receive_of d b).answer ≡ Ok (Completed r) → ⊥
 Quiet w (R.outside (open·lease t span)) = Unit
 Quiet w (R.outside (renew x t span)) = Unit
 Quiet w (R.outside (query x t)) = Unit
@@ -105,9 +104,9 @@ pub data Matched (w : World) (v v' : W.World) : Event → W.Change → Type 0 wh
   executed : (c p : ℕ) (vs : Versions) (room : ℕ) (q : Request) (r : S.Result) (n : ℕ) (x : Executed w c p vs room q) → r.time ≡ time_for vs x.state
       → Matched w v v' (R.call c (request vs p) room) (W.server c (W.writes (S.executed (vs.rule q.command.op) q.command q.done r) n))
   cut : (c b j : ℕ) → Cut v v' c b → Matched w v v' (R.crash c b) (W.server c (W.crashes j))
-  issued : (x op p a : ℕ) (d : Client) (q : Request) → w.clients x ≡ some d → (issue_of d op p a).answer ≡ Asked q
+  issued : (x op p a : ℕ) (d : Client) (q : Request) → w.clients x ≡ some d → (issue_of d op p a).answer ≡ Ok q
       → Matched w v v' (R.outside (issue x op p a)) (W.client x (W.issues d op p a))
-  received : (x p : ℕ) (d : Client) (b : List ℕ) (r : ResultPacket) → w.clients x ≡ some d → packet w p ≡ some b → (receive_of d b).answer ≡ Completed r
+  received : (x p : ℕ) (d : Client) (b : List ℕ) (r : ResultPacket) → w.clients x ≡ some d → packet w p ≡ some b → (receive_of d b).answer ≡ Ok (Completed r)
       → Matched w v v' (R.outside (receive x p)) (W.client x (W.receives d (record { client = r.client; call = r.call }) r.point (result_of r.result)))
   other : (e : Event) (a : W.Change) → Quiet w e → Plain a → Matched w v v' e a
 

@@ -8,6 +8,7 @@ use mathlib.Core.Bool.{true}
 use mathlib.Core.List.{List, [], ◌∷◌}
 use mathlib.Core.Option.{some}
 use lib.ListN.{drop, get_elem?}
+use Rattle.std.specs.Prelude.{Ok}
 use Rattle.model.specs.declared.Command.{Command}
 use Rattle.model.specs.declared.Packet.TheVariants.{Requested}
 use Rattle.model.specs.declared.Received.TheVariants.{Completed}
@@ -81,7 +82,7 @@ part-today =
 -- ---- results
 
 abbrev Gets : ℕ → ResultPacket → Type 0
-Gets n r = (receive_of (receiving n) (result_bytes r)).answer ≡ Completed r
+Gets n r = (receive_of (receiving n) (result_bytes r)).answer ≡ Ok (Completed r)
 
 received : Gets 0 first_set_answer × Gets 1 second_set_answer × Gets 2 hand_step_answer × Gets 3 first_part_answer × Gets 4 second_part_answer
 unfolding open_numbers open_packets open_clients

@@ -14,6 +14,7 @@ use mathlib.Core.Option.{Option, none, some}
 use native.Mathlib.Omega.{arith}
 use lib.Dec.{lit<}
 use lib.IntN.{pos}
+use Rattle.std.specs.Prelude.{Ok}
 use Rattle.model.specs.declared.Command.{Command}
 use Rattle.model.specs.declared.Request.{Request}
 use Rattle.model.specs.declared.Packet.TheVariants.{Requested}
@@ -196,7 +197,7 @@ pub store_provisos : Provisos simulator_plan set_and_store
 unfolding set_and_store set_and_store_seen every
 store_provisos = provisos _ _ _ store_trace_is refl
 
-received : (receive_of setter (result_bytes setting_answer)).answer ≡ Completed setting_answer
+received : (receive_of setter (result_bytes setting_answer)).answer ≡ Ok (Completed setting_answer)
 unfolding open_numbers open_packets open_clients
 received = refl
 

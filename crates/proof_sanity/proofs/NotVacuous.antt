@@ -12,6 +12,7 @@ use mathlib.Core.Option.{Option, none, some}
 use native.Mathlib.Omega.{arith}
 use lib.Dec.{lit≤, lit<}
 use lib.ListN.{drop, get_elem?}
+use Rattle.std.specs.Prelude.{Ok}
 use Rattle.model.specs.declared.Client.{Client}
 use Rattle.model.specs.declared.Command.{Command}
 use Rattle.model.specs.declared.Point.{Point}
@@ -19,7 +20,6 @@ use Rattle.model.specs.declared.Request.{Request}
 use Rattle.model.specs.declared.ResultPacket.{ResultPacket}
 use Rattle.model.specs.declared.Packet.TheVariants.{Requested}
 use Rattle.model.specs.declared.Received.TheVariants.{Completed}
-use Rattle.model.specs.declared.Sent.TheVariants.{Asked}
 use mathlib.Core.List.Memᴰ
 use mathlib.Core.List.{List, [], ◌∷◌}
 use Rattle.model.specs.Versions.{Versions, first, second, today}
@@ -64,14 +64,14 @@ unfolding open_numbers open_rules open_packets
 parsed = (refl, refl, refl, refl, refl, refl)
 
 abbrev Gets : Client → ResultPacket → Type 0
-Gets d r = (receive_of d (result_bytes r)).answer ≡ Completed r
+Gets d r = (receive_of d (result_bytes r)).answer ≡ Ok (Completed r)
 
 received : Gets setter setting_answer × Gets (stepper 1) (step_answer 1) × Gets (stepper 2) (step_answer 2) × Gets (stepper 3) (step_answer 3)
     × Gets (far_stepper 4) (far_answer 4 stayed_result) × Gets (far_stepper 5) (far_answer 5 stopped_result)
 unfolding open_numbers open_packets open_clients
 received = (refl, refl, refl, refl, refl, refl)
 
-issued : (issue_of (idle 2 1000 1) 2 5 (half + 1)).answer ≡ Asked (step_asked 1)
+issued : (issue_of (idle 2 1000 1) 2 5 (half + 1)).answer ≡ Ok (step_asked 1)
 unfolding open_rules open_packets open_clients
 issued = refl
 

@@ -8,6 +8,7 @@ use mathlib.Core.Bool.{true}
 use mathlib.Core.List.{[], ◌∷◌}
 use mathlib.Core.Option.{some}
 use lib.ListN.{drop, get_elem?}
+use Rattle.std.specs.Prelude.{Ok}
 use Rattle.model.specs.declared.Client.{Client}
 use Rattle.model.specs.declared.Packet.TheVariants.{Requested, Resulted}
 use Rattle.model.specs.declared.Received.TheVariants.{Completed}
@@ -59,7 +60,7 @@ unfolding open_numbers open_packets
 told-parsed = (refl, refl)
 
 abbrev Gets : Client → ResultPacket → Type 0
-Gets d r = (receive_of d (result_bytes r)).answer ≡ Completed r
+Gets d r = (receive_of d (result_bytes r)).answer ≡ Ok (Completed r)
 
 received : Gets both_open (step_answer 2) × Gets one_open (step_answer 1)
 unfolding open_numbers open_packets open_clients

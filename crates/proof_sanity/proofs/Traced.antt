@@ -22,9 +22,10 @@ use native.Mathlib.Omega.{arith}
 use lib.ListN.{length, take, drop, get_elem?}
 use lib.Dec.{eqb, leb, ltb}
 use borrow.Author.Tests.{eqb-true, leb-true, ltb-true, eq-eqb, ne_eqb}
+use Rattle.std.specs.Prelude.{Result, Ok, Err}
+use Rattle.model.specs.declared.Refusal.{Refusal}
 use Rattle.model.specs.declared.Answer.{Answer}
 use Rattle.model.specs.declared.Client.{Client}
-use Rattle.model.specs.declared.Started.TheVariants.{NotStarted, Running}
 use Rattle.model.specs.Tables.{every}
 use Rattle.model.specs.Versions.{Versions}
 use Rattle.model.specs.Sequential.{Marked, marked_by, one, result_meant}
@@ -42,7 +43,6 @@ use Rattle.model.specs.declared.LeaseAnswer.{LeaseAnswer}
 use Rattle.model.specs.declared.Point.{Point}
 use Rattle.model.specs.declared.SendAnswer.{SendAnswer}
 use Rattle.model.specs.declared.StartAnswer.{StartAnswer}
-use Rattle.model.specs.declared.Started.{Started}
 use Rattle.model.specs.States.{load, point_at}
 use Rattle.model.specs.Refusals.{no_refusal}
 use Rattle.claim.specs.World.{with_server, with_client, with_manager, making, calls, calls_on, found_as, checkpoints, stores, crash_at, starts_as, starts_on, sends, receives, told, step, packet}
@@ -292,9 +292,9 @@ module _ {S : Type 0} (w : WorldOf S) (d : ℕ) where
   unfolding starts_as with_client
   as_servers a = kinds a.answer refl
     where
-      kinds : (k : Started) → a.answer ≡ k → (starts_as a w).servers d ≡ w.servers d
-      kinds (NotStarted n) e = rw e
-      kinds Running e = rw e
+      kinds : (k : Result Unit Refusal) → a.answer ≡ k → (starts_as a w).servers d ≡ w.servers d
+      kinds (Err n) e = rw e
+      kinds (Ok tt) e = rw e
 
   starts-servers : (o : Option (List ℕ)) → (starts_on o w).servers d ≡ w.servers d
   unfolding starts_on
@@ -475,7 +475,7 @@ module _ (plan : List ℕ) (es : List Event) where
         kept = λ j b i x. rw r (kept-after plan p es t e c reach n h j b i x);
       }
 
-  pub completes_seen : (n x p : ℕ) (d : Client) (r : ResultPacket) → At es n (outside (receive x p)) → (receive_of d (result_bytes r)).answer ≡ Completed r
+  pub completes_seen : (n x p : ℕ) (d : Client) (r : ResultPacket) → At es n (outside (receive x p)) → (receive_of d (result_bytes r)).answer ≡ Ok (Completed r)
       → call_seen (after es n) (outside (receive x p)) ≡ record { client = some d; packet = some (result_bytes r); operation = none; size = 0; answer = none; cut = none }
       → Completes es n (command_at d r.call ∷ []) (one (result_meant r.result))
   unfolding call_seen call_with done

@@ -1,45 +1,11 @@
-// Why a call is refused: a type for the numbers of docs/REFERENCE.md; and the answer of a call, by what it came to.
+// The answer of a call, by what it came to: the bytes written, or why it is refused.
 #![tactic(auto)]
 
 ghost use Rattle.std.specs.Prelude.{◌≡◌};
-ghost use Rattle.refusals.specs.Numbers.{number_of, answered, request_answered, denied};
+ghost use Rattle.refusals.specs.Numbers.{answered, request_answered, denied};
 
+pub use model::Refusal;
 use model::{Answer, constants};
-
-// The refusals, each with its number.
-#[derive(Clone, Copy, Debug, PartialEq, Eq)]
-pub enum Refusal {
-    Malformed = constants::MALFORMED as isize,
-    TooShort = constants::TOO_SHORT as isize,
-    NotHeld = constants::NOT_HELD as isize,
-    LeaseOver = constants::LEASE_OVER as isize,
-    UnderFloor = constants::UNDER_FLOOR as isize,
-    OtherCommand = constants::OTHER_COMMAND as isize,
-    NotSynced = constants::NOT_SYNCED as isize,
-    ClientsFull = constants::CLIENTS_FULL as isize,
-    LogFull = constants::LOG_FULL as isize,
-    BadMark = constants::BAD_MARK as isize,
-    WrongDestination = constants::WRONG_DESTINATION as isize,
-    OldMove = constants::OLD_MOVE as isize,
-    AlreadyHeld = constants::ALREADY_HELD as isize,
-    BadLog = constants::BAD_LOG as isize,
-    WindowFull = constants::WINDOW_FULL as isize,
-    NumbersOut = constants::NUMBERS_OUT as isize,
-    Unknown = constants::UNKNOWN as isize,
-    LeasesFull = constants::LEASES_FULL as isize,
-    Unsound = constants::UNSOUND as isize,
-    NotSafe = constants::NOT_SAFE as isize,
-    AlreadyWaiting = constants::ALREADY_WAITING as isize,
-}
-
-impl Refusal {
-    // Its number.
-    pub fn number(self) -> u32
-        ensures { result ≡ number_of self }
-    {
-        self as u32
-    }
-}
 
 // A request that is refused: with a packet of so many bytes.
 #[derive(Clone, Copy)]

@@ -12,16 +12,15 @@ use mathlib.Core.Option.{Option, none, some}
 use native.Mathlib.Omega.{arith}
 use lib.Dec.{eqb}
 use lib.ListN.{get_elem?}
+use Rattle.std.specs.Prelude.{Result, Ok, Err}
+use Rattle.model.specs.declared.Request.{Request}
+use Rattle.model.specs.declared.Refusal.{Refusal}
 use Rattle.model.specs.declared.Client.{Client}
 use Rattle.model.specs.declared.LeaseManager.{LeaseManager}
 use Rattle.model.specs.declared.Told.{Told}
-use Rattle.model.specs.declared.Told.TheVariants.{NotTold, ByGrant, ByNotice}
+use Rattle.model.specs.declared.Told.TheVariants.{ByGrant, ByNotice}
 use Rattle.model.specs.declared.Packet.{Packet}
 use Rattle.model.specs.declared.Packet.TheVariants.{Noticed, Granted}
-use Rattle.model.specs.declared.Started.{Started}
-use Rattle.model.specs.declared.Started.TheVariants.{NotStarted, Running}
-use Rattle.model.specs.declared.Sent.{Sent}
-use Rattle.model.specs.declared.Sent.TheVariants.{NotSent, Asked}
 use Rattle.model.specs.declared.SendAnswer.{SendAnswer}
 use Rattle.model.specs.Choice.{pick}
 use Rattle.model.specs.Packets.{packet_bytes, request_bytes}
@@ -88,9 +87,9 @@ module _ {S : Type 0} {w : WorldOf S} (h : Parties w) where
   parties-starts none k = h
   parties-starts (some b) k = go (start_of b).answer refl
     where
-      go : (s : Started) → (start_of b).answer ≡ s → Parties {S = S} (elim s [ NotStarted n ↦ w | Running ↦ with_client (start_of b).client.client (start_of b).client w ])
-      go (NotStarted n) e = h
-      go Running e = parties-client h (start_of b).client.client (start_of b).client (start-kept b (k b refl) e)
+      go : (s : Result Unit Refusal) → (start_of b).answer ≡ s → Parties {S = S} (elim s [ Err n ↦ w | Ok tt ↦ with_client (start_of b).client.client (start_of b).client w ])
+      go (Err n) e = h
+      go (Ok tt) e = parties-client h (start_of b).client.client (start_of b).client (start-kept b (k b refl) e)
 
   -- a client that sends
   parties-sends : (x : ℕ) (f : Client → SendAnswer) → ((d : Client) → WellFormed d → WellFormed (f d).client × Bytes (sent_bytes (f d).answer))
@@ -101,10 +100,10 @@ module _ {S : Type 0} {w : WorldOf S} (h : Parties w) where
       let y = k d (h.clients x d e) in
       parties-making (parties-client h x (f d).client y.0) (sent_bytes (f d).answer) y.1
 
-  sent-bytes : (s : Sent) → ((q : _) → s ≡ Asked q → Bytes (request_bytes q)) → Bytes (sent_bytes s)
+  sent-bytes : (s : Result Request Refusal) → ((q : _) → s ≡ Ok q → Bytes (request_bytes q)) → Bytes (sent_bytes s)
   unfolding sent_bytes
-  sent-bytes (NotSent n) k = bytes-nil
-  sent-bytes (Asked q) k = k q refl
+  sent-bytes (Err n) k = bytes-nil
+  sent-bytes (Ok q) k = k q refl
 
   parties-issues : (x op p a : ℕ) → Parties (sends x (λ d. issue_of d op p a) (w.clients x) w)
   parties-issues x op p a =
@@ -134,10 +133,10 @@ module _ {S : Type 0} {w : WorldOf S} (h : Parties w) where
       well : Leases.WellFormed (answer_of w.manager c).manager
       well = call-well h.manager c t
 
-      go : (s : Told) → (answer_of w.manager c).answer ≡ s → Bytes (told_bytes s)
-      go (NotTold n) e = bytes-nil
-      go (ByGrant g) e = let b = grant-within h.manager c g e in packet-bytes (Granted g) (record { client = omega (arith, b.1); lease = omega (arith, b.2) })
-      go (ByNotice n) e =
+      go : (s : Result Told Refusal) → (answer_of w.manager c).answer ≡ s → Bytes (told_bytes s)
+      go (Err n) e = bytes-nil
+      go (Ok (ByGrant g)) e = let b = grant-within h.manager c g e in packet-bytes (Granted g) (record { client = omega (arith, b.1); lease = omega (arith, b.2) })
+      go (Ok (ByNotice n)) e =
           let b = notice-gone h.manager c n e in
           packet-bytes (Noticed n) (record { client = omega (arith, b.0.issued, well.numbered); time = omega (arith, b.1, well.timed) })
 

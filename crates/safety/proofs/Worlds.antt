@@ -16,10 +16,10 @@ use native.Mathlib.Omega.{arith}
 use lib.Dec.{eqb}
 use lib.ListN.{length, get_elem?}
 use borrow.Author.Tests.{eqb-true}
+use Rattle.std.specs.Prelude.{Result, Ok, Err}
+use Rattle.model.specs.declared.Refusal.{Refusal}
 use Rattle.model.specs.declared.Client.{Client}
 use Rattle.model.specs.declared.LeaseManager.{LeaseManager}
-use Rattle.model.specs.declared.Started.{Started}
-use Rattle.model.specs.declared.Started.TheVariants.{NotStarted, Running}
 use Rattle.model.specs.declared.StartAnswer.{StartAnswer}
 use Rattle.model.specs.declared.SendAnswer.{SendAnswer}
 use Rattle.model.specs.declared.LeaseAnswer.{LeaseAnswer}
@@ -87,11 +87,11 @@ module _ {plan : List ℕ} {r : R.World} {b : B.World} (l : WorldAlike plan r b)
   unfolding starts_as
   alike-started a = go a.answer
     where
-      go : (s : Started)
-          → WorldAlike plan (elim s [ NotStarted n ↦ r | Running ↦ with_client a.client.client a.client r ])
-          (elim s [ NotStarted n ↦ b | Running ↦ with_client a.client.client a.client b ])
-      go (NotStarted n) = l
-      go Running = alike-client l a.client.client a.client
+      go : (s : Result Unit Refusal)
+          → WorldAlike plan (elim s [ Err n ↦ r | Ok tt ↦ with_client a.client.client a.client r ])
+          (elim s [ Err n ↦ b | Ok tt ↦ with_client a.client.client a.client b ])
+      go (Err n) = l
+      go (Ok tt) = alike-client l a.client.client a.client
 
   alike-starts : (o : Option (List ℕ)) → WorldAlike plan (starts_on o r) (starts_on o b)
   unfolding starts_on

@@ -21,7 +21,7 @@ use Rattle.model.specs.Versions.{today}
 use Rattle.model.specs.Decisions.{timed_by}
 use Rattle.model.specs.Operations.{short, unfit, lent_refusal}
 use Rattle.model.specs.Checkpoints.{AfterCheckpoint, checkpoint_refusal, checkpoint_of}
-use Rattle.refusals.specs.declared.Refusal.{Refusal}
+use Rattle.model.specs.declared.Refusal.{Refusal}
 use Rattle.refusals.specs.Numbers.{number_of, refusal_of, answered}
 use Rattle.refusals.proofs.Numbers.{number-some, exit}
 use Rattle.model_laws.specs.Fits.{Sound}

@@ -26,7 +26,7 @@ use Rattle.model.specs.States.{state_bytes, state_head_bytes, point_bytes, padde
 use Rattle.model.specs.Apply.{founded, founded_point}
 use Rattle.model.specs.Logs.{head_bytes}
 use Rattle.model.specs.Operations.{after, settle, stored, left_unless, found_refusal, found_of}
-use Rattle.refusals.specs.declared.Refusal.{Refusal}
+use Rattle.model.specs.declared.Refusal.{Refusal}
 use Rattle.refusals.specs.Numbers.{number_of, answered}
 use Rattle.refusals.proofs.Numbers.{number-some, exit}
 use Rattle.model_laws.specs.Bytes.{Bytes}

@@ -28,7 +28,7 @@ use Rattle.model.specs.States.{load, sound}
 use Rattle.model.specs.Decisions.{find, is_none}
 use Rattle.model.specs.Operations.{short, unfit, lent_refusal, log_end_of}
 use Rattle.model.specs.Checkpoints.{restored, checkpoint_framed, checkpoint_state, place_in_checkpoint, checkpoint_bad, tail_of, inspect_refusal, inspect_of}
-use Rattle.refusals.specs.declared.Refusal.{Refusal}
+use Rattle.model.specs.declared.Refusal.{Refusal}
 use Rattle.refusals.specs.Numbers.{number_of}
 use Rattle.refusals.proofs.Numbers.{number-some, exit}
 use Rattle.model_laws.specs.Bytes.{Bytes}

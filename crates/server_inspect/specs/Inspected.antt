@@ -7,7 +7,7 @@ use Rattle.model.specs.Choice.{pick, or_else}
 use Rattle.model.specs.Logs.{head_server}
 use Rattle.model.specs.States.{State, load}
 use Rattle.model.specs.Checkpoints.{in_checkpoint, no_place}
-use Rattle.refusals.specs.declared.Refusal.{Refusal}
+use Rattle.model.specs.declared.Refusal.{Refusal}
 use Rattle.refusals.specs.Numbers.{number_of}
 use Rattle.server_memory.specs.Memory.{Fit}
 

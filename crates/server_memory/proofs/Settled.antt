@@ -26,7 +26,7 @@ use Rattle.model.specs.States.{load, sound, state_end}
 use Rattle.model.specs.Decisions.{Decided}
 use Rattle.model.specs.Operations.{After, after, answer_of, short, unfit, settle, stored, lent_refusal}
 use Rattle.model.specs.Refusals.{too_short, unsound, no_refusal}
-use Rattle.refusals.specs.declared.Refusal.{Refusal}
+use Rattle.model.specs.declared.Refusal.{Refusal}
 use Rattle.refusals.specs.Numbers.{number_of, answered}
 use Rattle.refusals.proofs.Numbers.{number-some, exit}
 use Rattle.model_laws.specs.Bytes.{Bytes}

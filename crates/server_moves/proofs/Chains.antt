@@ -32,7 +32,7 @@ use Rattle.model.specs.Versions.{today}
 use Rattle.model.specs.Decisions.{Decided, or_malformed, places_bad, give_refusal, on_give, timed_by, image_for, on_image, on_receipt, release_refusal, decide_release, on_release}
 use Rattle.model.specs.Operations.{answer_of, after, settle, stored, lent_refusal, lent, free_in, give_of, receipt_of, image_of, release_of}
 use Rattle.model.specs.Refusals.{no_refusal, malformed}
-use Rattle.refusals.specs.declared.Refusal.{Refusal}
+use Rattle.model.specs.declared.Refusal.{Refusal}
 use Rattle.refusals.specs.Numbers.{number_of, refusal_of, answered}
 use Rattle.refusals.proofs.Numbers.{number-some, exit}
 use Rattle.model_laws.specs.Bytes.{Bytes}

@@ -25,8 +25,8 @@ use Rattle.model.specs.Apply.{apply_record, apply_took}
 use Rattle.model.specs.Decisions.{or_malformed, take_tests, decide_take, on_take}
 use Rattle.model.specs.Operations.{after, settle, stored, lent_refusal, lent, free_in, take_of}
 use Rattle.model.specs.Refusals.{no_refusal}
-use Rattle.refusals.specs.declared.Refusal.{Refusal}
-use Rattle.refusals.specs.declared.Refusal.TheVariants.{Malformed}
+use Rattle.model.specs.declared.Refusal.{Refusal}
+use Rattle.model.specs.declared.Refusal.TheVariants.{Malformed}
 use Rattle.refusals.proofs.Numbers.{exit}
 use Rattle.refusals.specs.Numbers.{answered}
 use Rattle.model_laws.specs.Bytes.{Bytes}

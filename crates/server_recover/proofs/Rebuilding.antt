@@ -27,8 +27,8 @@ use Rattle.model.specs.States.{State, load, state_bytes, state_end, records_end}
 use Rattle.model.specs.Apply.{founded, with_mark}
 use Rattle.model.specs.Operations.{After, after, answer_of, settle, stored, left_unless, recovered_on, recovered_state, settle_recovered, recover_refusal, recover_of}
 use Rattle.model.specs.Checkpoints.{checkpoint_state, recovered_tail, recover_tail_refusal, recover_tail_of}
-use Rattle.refusals.specs.declared.Refusal.{Refusal}
-use Rattle.refusals.specs.declared.Refusal.TheVariants.{BadLog}
+use Rattle.model.specs.declared.Refusal.{Refusal}
+use Rattle.model.specs.declared.Refusal.TheVariants.{BadLog}
 use Rattle.refusals.specs.Numbers.{number_of, answered}
 use Rattle.refusals.proofs.Numbers.{number-some, exit}
 use Rattle.model_laws.specs.Bytes.{Bytes, part}

@@ -6,8 +6,8 @@ use Rattle.model.specs.Limits.{head_size}
 use Rattle.model.specs.States.{State, load}
 use Rattle.model.specs.Apply.{with_mark}
 use Rattle.model.specs.Operations.{recovered_on}
-use Rattle.refusals.specs.declared.Refusal.{Refusal}
-use Rattle.refusals.specs.declared.Refusal.TheVariants.{BadLog}
+use Rattle.model.specs.declared.Refusal.{Refusal}
+use Rattle.model.specs.declared.Refusal.TheVariants.{BadLog}
 use Rattle.state_rows.specs.Canonical.{Canonical}
 use Rattle.server_recover.specs.Remaining.{StandsAt}
 

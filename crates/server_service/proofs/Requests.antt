@@ -40,7 +40,7 @@ use Rattle.model.specs.Apply.{apply_record, apply_executed}
 use Rattle.model.specs.Decisions.{Decided, timed_by, or_malformed, find, result_of_record, result_for, executed_for, request_refusal, held_refusal, new_refusal, on_held, on_new, on_id, decide_request, denying, on_request}
 use Rattle.model.specs.Operations.{After, answer_of, after, settle, stored, free_in, lent_refusal, lent, request_of}
 use Rattle.model.specs.Refusals.{malformed, no_refusal}
-use Rattle.refusals.specs.declared.Refusal.{Refusal}
+use Rattle.model.specs.declared.Refusal.{Refusal}
 use Rattle.refusals.specs.declared.Denied.{Denied}
 use Rattle.refusals.specs.Numbers.{number_of, denied, request_answered}
 use Rattle.refusals.proofs.Numbers.{number-some, exit}

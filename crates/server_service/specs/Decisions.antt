@@ -14,7 +14,7 @@ use Rattle.model.specs.Versions.{today}
 use Rattle.model.specs.Apply.{apply_executed}
 use Rattle.model.specs.Operations.{stored}
 use Rattle.model.specs.Decisions.{Decided, result_of_record, decide_request, denying}
-use Rattle.refusals.specs.declared.Refusal.{Refusal}
+use Rattle.model.specs.declared.Refusal.{Refusal}
 use Rattle.refusals.specs.Numbers.{number_of}
 use Rattle.server_service.specs.declared.request.Decision.{Decision}
 use Rattle.server_service.specs.declared.request.Decision.TheVariants.{Reply, Execute}

@@ -13,19 +13,20 @@ use borrow.Author.Tests.{eq-eqb, ne_eqb}
 use borrow.Rule.Slice.PartMut.{mid_of, put_mid}
 use Rattle.model.specs.declared.Answer.{Answer}
 use Rattle.model.specs.declared.Request.{Request}
-use Rattle.model.specs.declared.Sent.{Sent}
-use Rattle.model.specs.declared.Sent.TheVariants.{NotSent, Asked}
+use Rattle.model.specs.declared.Refusal.{Refusal}
 use Rattle.model.specs.Numbers.{half, le32, le32_at}
 use Rattle.model.specs.Limits.{greatest_image}
 use Rattle.model.specs.Tables.{written}
 use Rattle.model.specs.Packets.{request_bytes}
 use Rattle.model.specs.Clients.{send_number, sent_bytes}
 use Rattle.model.specs.Simulator.{plain, answered}
-use Rattle.model.specs.Refusals.{no_refusal}
+use Rattle.model.specs.Refusals.{no_refusal, number_of}
+use Rattle.refusals.proofs.Numbers.{number-some}
+use Rattle.std.proofs.Common.{Result, Ok, Err}
 use Rattle.model_laws.proofs.Written.{tail-back, written-append}
 use Rattle.simulator_text.specs.Values.{reply_is}
 use Rattle.simulator_memory.specs.declared.Made.{Made}
-use Rattle.simulator_memory.specs.Store.{row_head, row_size, lesser_of, packet_in, put_in, packets_in, outcome_is, outcome_by, sent_outcome, Room, Sendable, Next}
+use Rattle.simulator_memory.specs.Store.{row_head, row_size, lesser_of, packet_in, put_in, packets_in, outcome_is, outcome_by, sent_outcome, Room, Next}
 use Rattle.simulator_memory.proofs.Rows.{packets-put, length-packets}
 
 pub packet-part : (s : List ℕ) (k : ℕ) {n l : ℕ} → n ≡ le32_at s (row_size * k) → l ≡ lesser_of n greatest_image
@@ -63,19 +64,17 @@ made_by_lem m s t n a out b r h f e p q w =
       record { least = omega arith; most = omega arith },
     )
 
-pub told-sent : (m : Made) (s : List ℕ) (n : ℕ) (a : Sent) {k : ℕ} → a ≡ NotSent k → Sendable a → m.count ≡ n → reply_is m.reply ≡ plain k
+pub told-sent : (m : Made) (s : List ℕ) (n : ℕ) (a : Result Request Refusal) {e : Refusal} {k : ℕ} → a ≡ Err e → k ≡ number_of e → m.count ≡ n → reply_is m.reply ≡ plain k
     → (outcome_is m s ≡ sent_outcome (packets_in s n) a) × Next n m.count
 unfolding outcome_is sent_outcome send_number
-told-sent m s n (NotSent j) {k} e h p q =
-    let i : j ≡ k = cc in
-    (rw (p, q, ne_eqb j 0 h, i) refl, record { least = omega arith; most = omega arith })
-told-sent m s n (Asked x) {k} e h p q = let z : ◌≡◌ {A = ℕ} 0 1 = cc in absurd (omega arith)
+told-sent m s n a {e} is numbered p q =
+    (rw (is, p, q, numbered, ne_eqb (number_of e) no_refusal (number-some e)) refl, record { least = omega arith; most = omega arith })
 
 short : (y : Request) → length (request_bytes y) ≤ greatest_image
 unfolding request_bytes
 short y = omega arith
 
-pub made-sent : (m : Made) (s t : List ℕ) (n : ℕ) (a : Sent) {x : Request} {b : List ℕ} → a ≡ Asked x → Room s n → b ≡ request_bytes x → t ≡ put_in s n b
+pub made-sent : (m : Made) (s t : List ℕ) (n : ℕ) (a : Result Request Refusal) {x : Request} {b : List ℕ} → a ≡ Ok x → Room s n → b ≡ request_bytes x → t ≡ put_in s n b
     → m.count ≡ n + 1 → reply_is m.reply ≡ answered no_refusal (n + 1) half
     → (outcome_is m t ≡ sent_outcome (packets_in s n) a) × Next n m.count
 unfolding outcome_is sent_outcome send_number sent_bytes

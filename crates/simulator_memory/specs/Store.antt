@@ -2,12 +2,12 @@
 -- Assumes nothing.
 use Rattle.std.specs.Prelude.{ℕ, zero, suc, ◌+◌, ◌*◌, ◌≤◌, ◌<◌, ◌≡◌, Bool, ◌||◌, List, [], ◌∷◌, ◌++◌, eqb, ltb, length, take, drop}
 use Rattle.std.specs.Prelude as std
-use Rattle.std.specs.Prelude.{Some, None}
+use Rattle.std.specs.Prelude.{Some, None, Result}
 use Rattle.std.proofs.Math.Option.{Option, none, some}
 use Rattle.std.proofs.Math.ListN.{get_elem?}
 use Rattle.model.specs.declared.Answer.{Answer}
-use Rattle.model.specs.declared.Sent.{Sent}
-use Rattle.model.specs.declared.Sent.TheVariants.{NotSent, Asked}
+use Rattle.model.specs.declared.Request.{Request}
+use Rattle.model.specs.declared.Refusal.{Refusal}
 use Rattle.model.specs.Choice.{pick}
 use Rattle.model.specs.Numbers.{half, le32, le32_at}
 use Rattle.model.specs.Limits.{greatest_image, last32}
@@ -91,12 +91,7 @@ outcome_by ps a out =
     (outcome (ps ++ (take a.wrote out ∷ [])) (simulator.answered a.refusal (suc (length ps)) half))
 
 -- a client's issue or resend
-unfoldable pub sent_outcome : List (List ℕ) → Sent → Outcome
+unfoldable pub sent_outcome : List (List ℕ) → Result Request Refusal → Outcome
 sent_outcome ps a =
     pick (eqb (send_number a) no_refusal) (outcome (ps ++ (sent_bytes a ∷ [])) (simulator.answered no_refusal (suc (length ps)) half))
     (outcome ps (simulator.plain (send_number a)))
-
--- a refusal's number is not 0
-abbrev pub Sendable : Sent → Type 0
-Sendable (NotSent n) = n ≡ no_refusal → ⊥
-Sendable (Asked q) = Unit

@@ -6,10 +6,10 @@ ghost use Rattle.model.specs.Clients.{receive_number, brought};
 ghost use Rattle.model.specs.Simulator.{plain, answered};
 ghost use Rattle.simulator_text.specs.Values.{reply_is};
 ghost use Rattle.simulator_memory.specs.Store.{outside, packets_in, outcome_by, sent_outcome, outcome_is};
-ghost use Rattle.simulator_memory.specs.Store.{Room, Sendable, Next};
+ghost use Rattle.simulator_memory.specs.Store.{Room, Next};
 
 use crate::{Made, packets};
-use model::{Answer, Received, Sent, constants};
+use model::{Answer, Received, Refusal, Request, constants};
 use simulator_text::Reply;
 
 // A refusal, or 0 with nothing made.
@@ -32,18 +32,18 @@ pub fn told(count: u32, number: u32) -> Made
 }
 
 // What a client received: a result's value is shown.
-pub fn received_reply(answer: Received) -> Reply
+pub fn received_reply(answer: Result<Received, Refusal>) -> Reply
     ensures { reply_is result ≡ answered (receive_number answer) 0 (brought answer).result.value }
 {
     match answer {
-        Received::NotReceived(refusal) => plain_reply(refusal),
-        Received::Completed(packet) => Reply {
+        Err(refusal) => plain_reply(refusal.number()),
+        Ok(Received::Completed(packet)) => Reply {
             number: constants::NO_REFUSAL,
             made: 0,
             value: packet.result.value,
         },
-        Received::Denied(_) => plain_reply(constants::NO_REFUSAL),
-        Received::Extended(_) => plain_reply(constants::NO_REFUSAL),
+        Ok(Received::Denied(_)) => plain_reply(constants::NO_REFUSAL),
+        Ok(Received::Extended(_)) => plain_reply(constants::NO_REFUSAL),
     }
 }
 
@@ -87,14 +87,14 @@ pub fn called(store: &mut [u8], count: u32, answer: Answer, out: &[u8]) -> Made
 }
 
 // A client's issue or resend: its number, and the request that it makes.
-pub fn sent(store: &mut [u8], count: u32, answer: Sent) -> Made
-    requires { Room store.old count × Sendable answer }
+pub fn sent(store: &mut [u8], count: u32, answer: Result<Request, Refusal>) -> Made
+    requires { Room store.old count }
     ensures { (outcome_is result store.new ≡ sent_outcome (packets_in store.old count) answer)
         × Next count result.count }
 {
     match answer {
-        Sent::NotSent(refusal) => told(count, refusal),
-        Sent::Asked(q) => {
+        Err(refusal) => told(count, refusal.number()),
+        Ok(q) => {
             let packet = format_packet_writer::request_packet(q);
             packets::put_packet(store, count, &packet);
             made_one(count, constants::NO_REFUSAL)

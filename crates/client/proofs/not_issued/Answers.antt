@@ -3,4 +3,4 @@ use Rattle.client.proofs.Answers.{not-issued}
 use Rattle.client.proofs.not_issued.Goals as goal
 
 pub returns : goal.returns
-returns c = rw c.number.ensures (not-issued _ _ c.requires)
+returns c = not-issued _ _ c.requires

@@ -3,4 +3,4 @@ use Rattle.client.proofs.Answers.{not-received}
 use Rattle.client.proofs.not_received.Goals as goal
 
 pub returns : goal.returns
-returns c = rw c.number.ensures (not-received _ _ _ c.requires)
+returns c = not-received _ _ _ c.requires

@@ -6,4 +6,4 @@ pub returns-then-c-opened : goal.returns-then-c-opened
 returns-then-c-opened c = search resend_open depth 8
 
 pub returns : goal.returns
-returns c = rw c.number.ensures (search resend-unknown depth 8)
+returns c = search resend-unknown depth 8

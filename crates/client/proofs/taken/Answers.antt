@@ -1,7 +1,7 @@
 -- What is left to show of `client::taken`.
 use mathlib.Core.Path.{◌≡◌, sym, ◌∙◌}
 use native.Mathlib.Omega.{arith}
-use Rattle.model.specs.Refusals.{unknown}
+use Rattle.model.specs.declared.Refusal.TheVariants.{Unknown}
 use Rattle.model.specs.Clients.{not_received, receive_with}
 use Rattle.client.proofs.Others.{not_taken}
 use Rattle.client.proofs.Answers.{result_own, refusal-own, grant-later, result-unknown, refusal-unknown, grant-unknown}
@@ -14,7 +14,7 @@ returns-in_default c = let start = c.args in c.not_received.ensures ∙ sym (not
 pub returns-in-Resulted-2 : goal.returns-in-Resulted-2
 returns-in-Resulted-2 c =
     let start = c.args in
-    let unknown : not_received start.d unknown ≡ receive_with start.d start.packet = grind (arith, result-unknown, refusal-unknown, grant-unknown) in
+    let unknown : not_received start.d Unknown ≡ receive_with start.d start.packet = grind (arith, result-unknown, refusal-unknown, grant-unknown) in
     c.not_received-in-Resulted-2.ensures ∙ unknown
 
 pub returns : goal.returns

@@ -1,18 +1,22 @@
 -- What is left to show of `client_c::receive_reply`.
-use mathlib.Core.Path.{refl}
+use borrow.Author.Rules.{rules}
 use Rattle.model.specs.Numbers.{flip}
 use Rattle.model.specs.Clients.{receive_number, brought}
 use Rattle.client_c.specs.Replies.{receive_reply}
 use Rattle.client_c.proofs.receive_reply.Goals as goal
 
-pub returns-in-Completed : goal.returns-in-Completed
+pub returns-in-Err : goal.returns-in-Err
+unfolding receive_reply receive_number brought flip
+returns-in-Err c = search rules
+
+pub returns-in-Ok-Completed : goal.returns-in-Ok-Completed
 unfolding receive_reply receive_number brought
-returns-in-Completed c = rw (c.in-Completed.is, c.flipped.ensures, c.empty_reply-none.ensures) refl
+returns-in-Ok-Completed c = search rules
 
-pub returns-in-Denied : goal.returns-in-Denied
+pub returns-in-Ok-Denied : goal.returns-in-Ok-Denied
 unfolding receive_reply receive_number brought flip
-returns-in-Denied c = rw (c.in-Denied.is, c.empty_reply-none.ensures) refl
+returns-in-Ok-Denied c = search rules
 
-pub returns-in-Extended : goal.returns-in-Extended
+pub returns-in-Ok-Extended : goal.returns-in-Ok-Extended
 unfolding receive_reply receive_number brought flip
-returns-in-Extended c = rw (c.in-Extended.is, c.empty_reply-none.ensures) refl
+returns-in-Ok-Extended c = search rules

@@ -2,8 +2,8 @@
 use Rattle.client_c.proofs.Cases.{reply-none, reply-request}
 use Rattle.client_c.proofs.send_reply.Goals as goal
 
-pub returns-in-NotSent : goal.returns-in-NotSent
-returns-in-NotSent c = rw c.in-NotSent.is (reply-none _)
+pub returns-in-Err : goal.returns-in-Err
+returns-in-Err c = rw c.in-Err.is (reply-none _ c.number.ensures)
 
-pub returns-in-Asked : goal.returns-in-Asked
-returns-in-Asked c = rw c.in-Asked.is (reply-request _ c.request_packet.ensures)
+pub returns-in-Ok : goal.returns-in-Ok
+returns-in-Ok c = rw c.in-Ok.is (reply-request _ c.request_packet.ensures)

@@ -4,4 +4,4 @@ use Rattle.leases.specs.Changes.{no_change}
 use Rattle.leases.proofs.no_change.Goals as goal
 
 pub returns : goal.returns
-returns c = unfold no_change in rw c.number.ensures refl
+returns c = unfold no_change in refl

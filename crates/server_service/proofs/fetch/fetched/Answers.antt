@@ -3,7 +3,7 @@ use mathlib.Core.Path.{◌≡◌, refl, ◌∙◌}
 use native.Mathlib.Omega.{arith}
 use Rattle.model.specs.Decisions.{result_of_record}
 use Rattle.std.specs.Prelude.{Err}
-use Rattle.refusals.specs.declared.Refusal.TheVariants.{Unknown}
+use Rattle.model.specs.declared.Refusal.TheVariants.{Unknown}
 use Rattle.refusals.proofs.Numbers.{exit}
 use Rattle.server_memory.proofs.Settled.{by_refused, by_passed, replied}
 use Rattle.server_service.proofs.Chains.{fetch-none, fetch-at}

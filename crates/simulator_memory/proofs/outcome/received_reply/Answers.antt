@@ -1,20 +1,20 @@
 -- What is left to show of `simulator_memory::outcome::received_reply`.
-use mathlib.Core.Path.{refl}
+use borrow.Author.Rules.{rules}
 use Rattle.model.specs.Clients.{receive_number, brought}
 use Rattle.simulator_memory.proofs.outcome.received_reply.Goals as goal
 
-pub returns-in-NotReceived : goal.returns-in-NotReceived
+pub returns-in-Err : goal.returns-in-Err
 unfolding receive_number brought
-returns-in-NotReceived c = rw c.in-NotReceived.is c.plain_reply.ensures
+returns-in-Err c = search rules
 
-pub returns-in-Completed : goal.returns-in-Completed
+pub returns-in-Ok-Completed : goal.returns-in-Ok-Completed
 unfolding receive_number brought
-returns-in-Completed c = rw c.in-Completed.is refl
+returns-in-Ok-Completed c = search rules
 
-pub returns-in-Denied : goal.returns-in-Denied
+pub returns-in-Ok-Denied : goal.returns-in-Ok-Denied
 unfolding receive_number brought
-returns-in-Denied c = rw c.in-Denied.is c.plain_reply-in-Denied.ensures
+returns-in-Ok-Denied c = search rules
 
-pub returns-in-Extended : goal.returns-in-Extended
+pub returns-in-Ok-Extended : goal.returns-in-Ok-Extended
 unfolding receive_number brought
-returns-in-Extended c = rw c.in-Extended.is c.plain_reply-in-Extended.ensures
+returns-in-Ok-Extended c = search rules
