@@ -112,10 +112,10 @@ fn request_with(d: Client, opened: OpenCall, done: u32) -> Request
 
 // ---- start
 
-fn started(packet: Packet) -> Result<StartFields, Refusal>
+fn started(packet: Option<Packet>) -> Result<StartFields, Refusal>
     ensures { start_by result ≡ start_with packet }
 {
-    let Packet::Granted(grant) = packet else {
+    let Some(Packet::Granted(grant)) = packet else {
         return Err(Refusal::Malformed);
     };
     Ok(StartFields {
@@ -126,14 +126,14 @@ fn started(packet: Packet) -> Result<StartFields, Refusal>
 }
 
 // A grant, parsed; any other packet is malformed to start.
-fn parse_start(packet: &[u8]) -> Packet
+fn parse_start(packet: &[u8]) -> Option<Packet>
     ensures { start_with result ≡ start_of packet.now }
 {
     if packet.len() != GRANT_SIZE {
-        return Packet::Malformed;
+        return None;
     }
     if packet[0] != constants::GRANT_KIND {
-        return Packet::Malformed;
+        return None;
     }
     format_packet_reader::parse_grant(packet)
 }
@@ -224,18 +224,18 @@ pub fn packet_call(packet: &[u8]) -> u32
 }
 
 // A result, a refusal or a grant, parsed; any other packet is malformed to a client.
-fn client_packet(packet: &[u8]) -> Packet
+fn client_packet(packet: &[u8]) -> Option<Packet>
     ensures { result ≡ client_packet packet.now }
 {
     if packet.len() == 0 {
-        return Packet::Malformed;
+        return None;
     }
     match packet[0] {
         constants::FIRST_RESULT_KIND => format_packet_reader::parse_result(packet, false),
         constants::REFUSAL_KIND => format_packet_reader::parse_refusal(packet),
         constants::GRANT_KIND => format_packet_reader::parse_grant(packet),
         constants::RESULT_KIND => format_packet_reader::parse_result(packet, true),
-        0 | 1 | 4 | 5 | 8..=255 => Packet::Malformed,
+        0 | 1 | 4 | 5 | 8..=255 => None,
     }
 }
 
@@ -259,21 +259,21 @@ fn not_received(d: Client, opened: OpenCall, c: u32, refusal: Refusal) -> Receiv
 }
 
 // Only a result closes its call.
-fn taken(d: Client, opened: OpenCall, c: u32, packet: Packet) -> ReceiveChange
+fn taken(d: Client, opened: OpenCall, c: u32, packet: Option<Packet>) -> ReceiveChange
     requires { (opened ≡ call_at d c) × OfCall c packet }
     ensures { received d c result ≡ receive_with d packet }
 {
     let (lease, call, answer) = match packet {
-        Packet::Resulted(r) if is_own(d, opened, r.client, r.call, r.point) => {
+        Some(Packet::Resulted(r)) if is_own(d, opened, r.client, r.call, r.point) => {
             (d.lease, no_call(), Received::Completed(r))
         }
-        Packet::Refused(r) if is_own(d, opened, r.client, r.call, r.point) => {
+        Some(Packet::Refused(r)) if is_own(d, opened, r.client, r.call, r.point) => {
             (d.lease, opened, Received::Denied(r))
         }
-        Packet::Granted(grant) if (grant.client == d.client) & (d.lease <= grant.lease) => {
+        Some(Packet::Granted(grant)) if (grant.client == d.client) & (d.lease <= grant.lease) => {
             (grant.lease, opened, Received::Extended(grant))
         }
-        Packet::Resulted(_) | Packet::Refused(_) | Packet::Granted(_) => {
+        Some(Packet::Resulted(_) | Packet::Refused(_) | Packet::Granted(_)) => {
             return not_received(d, opened, c, Refusal::Unknown);
         }
         _ => return not_received(d, opened, c, Refusal::Malformed),

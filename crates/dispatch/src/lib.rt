@@ -104,7 +104,7 @@ pub fn enqueue(dispatcher: Dispatcher, packet: &[u8]) -> Enqueued
     ensures { result ≡ enqueue_of dispatcher packet.now }
 {
     let parsed = format_packet_reader::parse_packet(packet);
-    let Packet::Requested(q) = parsed else {
+    let Some(Packet::Requested(q)) = parsed else {
         return Enqueued {
             dispatcher,
             number: Refusal::Malformed.number(),

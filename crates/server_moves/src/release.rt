@@ -48,12 +48,12 @@ fn release_by(s: &mut [u8], log: &mut [u8], receipt: Receipt) -> Result<u32, Ref
 }
 
 // By a packet: 1 not a receipt.
-fn release_on(s: &mut [u8], log: &mut [u8], packet: Packet) -> Result<u32, Refusal>
+fn release_on(s: &mut [u8], log: &mut [u8], packet: Option<Packet>) -> Result<u32, Refusal>
     requires { Canonical s.old × ((load s.old).size ≤ length log.old) × Placed packet }
     ensures { after (answered result) s.new log.new []
         ≡ settled_by (λ st free. on_release st free packet) s.old log.old [] }
 {
-    let Packet::Receipted(receipt) = packet else {
+    let Some(Packet::Receipted(receipt)) = packet else {
         return Err(Refusal::Malformed);
     };
     release_by(s, log, receipt)

@@ -24,7 +24,7 @@ use Rattle.model.specs.declared.Request.{Request}
 use Rattle.model.specs.declared.Executed.{Executed}
 use Rattle.model.specs.declared.Completion.{Completion}
 use Rattle.model.specs.declared.Packet.{Packet}
-use Rattle.model.specs.declared.Packet.TheVariants.{Malformed, Requested, Resulted, Refused, Receipted, Noticed, Granted}
+use Rattle.model.specs.declared.Packet.TheVariants.{Requested, Resulted, Refused, Receipted, Noticed, Granted}
 use Rattle.model.specs.contracts.Packet.{the_type}
 use Rattle.model.specs.Choice.{refuse, reply, append, unless_refused}
 use Rattle.model.specs.Versions.{today}
@@ -116,15 +116,15 @@ module _ (st : State) (free : ℕ) (q : Request) {f : Option Completion} (p : f 
 
 -- ---- the whole call
 
-other-packet : (st : State) (free : ℕ) (p : Packet) → OneOf (0 ∷ 2 ∷ 3 ∷ 4 ∷ 5 ∷ 6 ∷ []) (tag_of the_type p) → on_request today st free p ≡ refuse malformed
+other-packet : (st : State) (free : ℕ) (p : Option Packet) → OneOf (0 ∷ 2 ∷ 3 ∷ 4 ∷ 5 ∷ 6 ∷ []) (tag_of the_type p) → on_request today st free p ≡ refuse malformed
 unfolding on_request or_malformed as_request
-other-packet st free Malformed h = refl
-other-packet st free (Requested q) h = absurd (miss (0 ∷ 2 ∷ 3 ∷ 4 ∷ 5 ∷ 6 ∷ []) 1 tt h)
-other-packet st free (Resulted q) h = refl
-other-packet st free (Refused q) h = refl
-other-packet st free (Receipted q) h = refl
-other-packet st free (Noticed n) h = refl
-other-packet st free (Granted q) h = refl
+other-packet st free None h = refl
+other-packet st free (Some (Requested q)) h = absurd (miss (0 ∷ 2 ∷ 3 ∷ 4 ∷ 5 ∷ 6 ∷ []) 1 tt h)
+other-packet st free (Some (Resulted q)) h = refl
+other-packet st free (Some (Refused q)) h = refl
+other-packet st free (Some (Receipted q)) h = refl
+other-packet st free (Some (Noticed n)) h = refl
+other-packet st free (Some (Granted q)) h = refl
 
 module _ (s log out : List ℕ) where
   module _ (packet : List ℕ) where
@@ -133,12 +133,12 @@ module _ (s log out : List ℕ) where
     unfolding request_of lent result_size_of timed_by
     request-is = refl
 
-    pub request-other : {p : Packet} → p ≡ parse_packet packet → OneOf (0 ∷ 2 ∷ 3 ∷ 4 ∷ 5 ∷ 6 ∷ []) (tag_of the_type p)
+    pub request-other : {p : Option Packet} → p ≡ parse_packet packet → OneOf (0 ∷ 2 ∷ 3 ∷ 4 ∷ 5 ∷ 6 ∷ []) (tag_of the_type p)
         → after (answer_of malformed 0) s log out ≡ settle s log out (on_request today (load s) (free_in s log) (parse_packet packet))
     unfolding settle
     request-other {p} e h = rw (← e, other-packet (load s) (free_in s log) p h)
 
-    pub request-one : (q : Request) {p : Packet} {a : After} → p ≡ parse_packet packet → p ≡ Requested q
+    pub request-one : (q : Request) {p : Option Packet} {a : After} → p ≡ parse_packet packet → p ≡ Some (Requested q)
         → a ≡ settle s log out (denying q (decide_request today (load s) (free_in s log) q)) → a ≡ settle s log out (on_request today (load s) (free_in s log) (parse_packet packet))
     unfolding on_request or_malformed as_request
     request-one q e h k = rw (← e, h) k

@@ -161,7 +161,7 @@ pub fn request(s: &mut [u8], log: &mut [u8], packet: &[u8], out: &mut [u8]) -> R
 {
     server_memory::lent_refusal(s, log, out.len(), constants::RESULT_SIZE)?;
     let parsed = format_packet_reader::parse_packet(packet);
-    let Packet::Requested(q) = parsed else {
+    let Some(Packet::Requested(q)) = parsed else {
         return Err(Refusal::Malformed.into());
     };
     requested(s, log, q, out)
