@@ -90,19 +90,21 @@ pub extern "C" fn mantelorris_chamber_start(
     ensures { result ≡ start_reply_in (start_in packet.now
         (record { upper = upper; lower = lower; level1 = level1; level2 = level2; level3 = level3 })) }
 {
-    if (constants::LAST_8 < upper)
-        | ((constants::LAST_8 < lower)
-            | ((constants::LAST_8 < level1)
-                | ((constants::LAST_8 < level2) | (constants::LAST_8 < level3))))
-    {
+    let (Ok(upper), Ok(lower), Ok(level1), Ok(level2), Ok(level3)) = (
+        u8::try_from(upper),
+        u8::try_from(lower),
+        u8::try_from(level1),
+        u8::try_from(level2),
+        u8::try_from(level3),
+    ) else {
         return start_reply(chamber::not_started(Refusal::Malformed.number()));
-    }
+    };
     let points = LockPoints {
-        upper: upper as u8,
-        lower: lower as u8,
-        level1: level1 as u8,
-        level2: level2 as u8,
-        level3: level3 as u8,
+        upper,
+        lower,
+        level1,
+        level2,
+        level3,
     };
     start_reply(chamber::start(packet, points))
 }
@@ -117,15 +119,10 @@ pub extern "C" fn mantelorris_chamber_issue(
 ) -> ChamberSendReply
     ensures { result ≡ send_reply_in (issue_in chamber op point (flip argument)) }
 {
-    if (constants::LAST_8 < op) | (constants::LAST_8 < point) {
+    let (Ok(op), Ok(point)) = (u8::try_from(op), u8::try_from(point)) else {
         return send_reply(chamber::not_sent(chamber, Refusal::Malformed));
-    }
-    let sent = chamber::issue(
-        chamber,
-        op as u8,
-        point as u8,
-        format_numbers::flipped(argument),
-    );
+    };
+    let sent = chamber::issue(chamber, op, point, format_numbers::flipped(argument));
     send_reply(sent)
 }
 

@@ -50,7 +50,7 @@ not_taken d (Some (Noticed n)) h2 h3 h6 = refl
 not_taken d (Some (Granted g)) h2 h3 h6 = absurd (h6 g refl)
 
 -- a packet of one kind is malformed, or has its kind's length
-whole_case : (P : Option Packet → Type 0) (b : List ℕ) (kind : ℕ) (ok : Bool) (p : Option Packet) → P None → (length b ≡ packet_length kind → P p) → P (whole b kind ok p)
+whole_case : (P : Option Packet → Type 0) (b : List ℕ) (kind : ℕ) (ok : Bool) (p : Packet) → P None → (length b ≡ packet_length kind → P (Some p)) → P (whole b kind ok p)
 unfolding whole
 whole_case P b kind ok p m f = choose P (eqb (length b) (packet_length kind)) (λ n. choose P ok (λ t. f (eqb-true _ _ n)) (λ t. m)) (λ n. m)
 

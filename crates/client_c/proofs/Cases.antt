@@ -1,14 +1,16 @@
 -- The reply of each case.
 --     reply-none, reply-request      what issue and resend give
 --     lease-none, lease-grant, lease-notice      what the lease manager gives
---     issued-past                    issue with an op or a point past a byte
+--     past-test, issued-past         issue with an op or a point past a byte
 --     sends, receives, leases        what is stored and replied makes the answer
 -- Assumes nothing.
 use mathlib.Core.Path.{◌≡◌, refl, ap, ◌∙◌}
-use mathlib.Core.Bool.{true, ◌||◌}
+use mathlib.Core.Bool.{Bool, true, false, ◌||◌}
 use mathlib.Core.List.{List}
-use Prim.Native.Nat.{ℕ}
+use Prim.Native.Nat.{ℕ, ◌<◌}
+use native.Mathlib.Omega.{arith}
 use lib.Dec.{ltb}
+use borrow.Author.Tests.{ltb-false}
 use lib.ListN.{set, replicate}
 use Rattle.std.proofs.Common.{Ok, Err}
 use Rattle.model.specs.declared.Request.{Request}
@@ -66,9 +68,18 @@ lease-notice n e = rw e refl
 
 -- ---- what is stored and replied
 
-pub issued-past : (d : Client) (op point a : ℕ) (c : SendChange) → (ltb 255 op || ltb 255 point) ≡ true → issued d c ≡ not_sent d Malformed → issued d c ≡ issue_of d op point a
+-- one of two numbers is past a byte
+pub past-test : (a b : ℕ) → (a < 256 → b < 256 → ⊥) → (ltb 255 a || ltb 255 b) ≡ true
+past-test a b past = go (ltb 255 a) (ltb 255 b) refl refl
+  where
+    go : (u v : Bool) → ltb 255 a ≡ u → ltb 255 b ≡ v → (ltb 255 a || ltb 255 b) ≡ true
+    go true v p q = rw p refl
+    go false true p q = rw (p, q) refl
+    go false false p q = let h = ltb-false 255 a p in let k = ltb-false 255 b q in absurd (past (omega arith) (omega arith))
+
+pub issued-past : (d : Client) (op point a : ℕ) (c : SendChange) → (op < 256 → point < 256 → ⊥) → issued d c ≡ not_sent d Malformed → issued d c ≡ issue_of d op point a
 unfolding not_sent
-issued-past d op point a c past e = e ∙ past-byte d op point a past
+issued-past d op point a c past e = e ∙ past-byte d op point a (past-test op point past)
 
 pub sends : (d : Client) {a : SendAnswer} (c : SendChange) {s : SendReply} → issued d c ≡ a → s ≡ send_reply c.answer
     → (s ≡ send_reply a.answer) × (with_calls d c.next (set d.calls (place_of d.next) c.call) ≡ a.client)

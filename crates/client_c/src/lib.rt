@@ -148,16 +148,10 @@ fn issue_change(d: Client, opened: OpenCall, op: u32, point: u32, argument: u32)
     requires { opened ≡ call_at d d.next }
     ensures { issued d result ≡ issue_of d op point (flip argument) }
 {
-    if (constants::LAST_8 < op) | (constants::LAST_8 < point) {
+    let (Ok(op), Ok(point)) = (u8::try_from(op), u8::try_from(point)) else {
         return client::not_issued(d, opened, Refusal::Malformed);
-    }
-    client::issue_change(
-        d,
-        opened,
-        op as u8,
-        point as u8,
-        format_numbers::flipped(argument),
-    )
+    };
+    client::issue_change(d, opened, op, point, format_numbers::flipped(argument))
 }
 
 // The place of the packet's call.

@@ -204,7 +204,8 @@ fn part_rule(e: PlanEntry, argument: u32) -> CommandResult
 }
 
 // A command's result: outcome, and value and quality after it. An argument outside its op's range changes nothing,
-// outcome 1; set, step and report take any.
+// outcome 1; set, step and report take any. The tests are no guards of their arms: the last arm would then stand for a
+// refused argument too, which is no plainer.
 pub fn checked_rule(e: PlanEntry, op: u8, argument: u32, reading: Reading) -> CommandResult
     ensures { result ≡ checked_rule e op argument reading }
 {

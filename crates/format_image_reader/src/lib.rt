@@ -36,7 +36,8 @@ fn floors_ok(s: &[u8], n: usize) -> bool
     (0..n).all(|i| floor_step(s, LEAST_IMAGE + FLOOR_ROW * i, n - (i + 1)))
 }
 
-// How many of n floors have a client below this one, where the first `below` have.
+// How many of n floors have a client below this one, where the first `below` have. `find` would be no plainer: what it
+// answers past the last floor is n.
 fn next_floor(s: &[u8], n: usize, client: u32, below: usize) -> usize
     requires { (entries_start n ≤ length s.now) × (below ≤ leading client (floors_in s.now n)) }
     ensures { result ≡ leading client (floors_in s.now n) }
@@ -103,7 +104,7 @@ fn entry_step(
 }
 
 // Each of so many records of the point from at, strictly ascending by client, then call; n floors ascend by client, so
-// that the floors are walked once beside the records.
+// that the floors are walked once beside the records. No `all`: a test that moves the cursor j is no pure one.
 fn entries_ok(
     s: &[u8],
     n: usize,

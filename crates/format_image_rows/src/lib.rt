@@ -173,7 +173,7 @@ pub fn entry_row_ok(s: &[u8], k: usize) -> bool
     format_numbers::zero_at(s, k + constants::ENTRY_ZERO)
 }
 
-// The id of the record from k is before that of the next.
+// The id of the record from k is before that of the next. Not as pairs by `<`: no plainer, and that has jumps.
 pub fn id_before(s: &[u8], k: usize, width: usize, timed: bool) -> bool
     requires { (k + entry_row_of timed ≤ length s.now) × (k + width + entry_row_of timed ≤ length s.now) }
     ensures { result ≡ entry_before (image_entry_of timed (drop k s.now))

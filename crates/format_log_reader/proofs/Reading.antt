@@ -1,5 +1,6 @@
 -- Laws of the readers.
 --     size-least, size-timed     an executed record has at least the bytes of the first form; with a time, that time's too
+--     then-pick     a choice between a value and none
 --     parsed     what record_from answers of the log's part is what the record says
 -- Assumes nothing.
 use Prim.Native.Nat.{ℕ, ◌+◌, ◌-◌, ◌≤◌}
@@ -12,6 +13,8 @@ use borrow.Author.Tests.{eqb-true}
 use lib.ListN.{length, take, drop}
 use lib.Seq.{drop-drop}
 use lib.Dec.{eqb}
+use Rattle.std.specs.Prelude.{Option, Some, None}
+use Rattle.std.specs.Bool.{then_some}
 use Rattle.model.specs.Choice.{pick}
 use Rattle.model.specs.Numbers.{byte_at, le32_at, zero_at, zeros3_at}
 use Rattle.model.specs.Limits.{take_head, first_executed_kind, gone_kind, give_kind, take_kind, release_kind, executed_kind, first_executed_size, executed_size}
@@ -24,7 +27,7 @@ use Rattle.format_log_ends.specs.Answers.{extent_from}
 use Rattle.format_log_ends.proofs.Ends.{spans-take, from-spans}
 use Rattle.format_log_reader.specs.declared.Span.{Span}
 use Rattle.format_log_reader.specs.declared.Record.{Record}
-use Rattle.format_log_reader.specs.declared.Record.TheVariants.{Broken, Took}
+use Rattle.format_log_reader.specs.declared.Record.TheVariants.{Took}
 use Rattle.format_log_reader.specs.Answers.{image_in, span_in, record_means, record_placed, Parsed, executed_from, gone_from, give_from, take_from, release_from, record_from}
 
 pub size-least : (timed : Bool) (n : ℕ) → executed_size_of timed ≤ n → first_executed_size ≤ n
@@ -37,13 +40,17 @@ unfolding executed_size_of
 size-timed true n h e = h
 size-timed false n h e = absurd (false≢true e)
 
+pub then-pick : {A : Type 0} (t : Bool) (a : A) → then_some t a ≡ pick t (Some a) None
+then-pick true a = refl
+then-pick false a = refl
+
 -- a choice on both sides
 pick-map : {A B : Type 0} (f : A → B) (t : Bool) {a b : A} {p q : B} → (t ≡ true → f a ≡ p) → f b ≡ q → f (pick t a b) ≡ pick t p q
 pick-map f true h g = h refl
 pick-map f false h g = g
 
-take-means : (log : List ℕ) (z ok : Bool) (p : Span) (i : Image) → record_means log (Took p) ≡ some (took i)
-    → record_means log (pick (z && ok) (Took p) Broken) ≡ pick z (take_parsed (pick ok (some i) none)) none
+take-means : (log : List ℕ) (z ok : Bool) (p : Span) (i : Image) → record_means log (Some (Took p)) ≡ some (took i)
+    → record_means log (pick (z && ok) (Some (Took p)) None) ≡ pick z (take_parsed (pick ok (some i) none)) none
 unfolding record_means take_parsed
 take-means log true true p i e = e
 take-means log true false p i e = refl
@@ -101,7 +108,7 @@ module _ (log : List ℕ) (at n : ℕ) (ext : extent_of (drop at log) ≡ spans 
   unfolding record_from gone_from give_from release_from
   record-placed =
       let t : List ℕ = drop at log in
-      let P : Record → Type 0 = record_placed log at n in
+      let P : Option Record → Type 0 = record_placed log at n in
       choose P (eqb (byte_at t 0) first_executed_kind) (λ k. executed-placed false)
       (λ k1. choose P (eqb (byte_at t 0) gone_kind) (λ k. choose P (zeros3_at t 1 && notice_ok (notice_at t)) (λ u. tt) (λ u. tt))
       (λ k2. choose P (eqb (byte_at t 0) give_kind) (λ k. choose P (zero_at t 3 && give_ok (give_at t)) (λ u. tt) (λ u. tt))
@@ -109,7 +116,7 @@ module _ (log : List ℕ) (at n : ℕ) (ext : extent_of (drop at log) ≡ spans 
       (λ k4. choose P (eqb (byte_at t 0) release_kind) (λ k. choose P (zero_at t 2 && (zero_at t 3 && release_ok (release_at t))) (λ u. tt) (λ u. tt))
       (λ k5. choose P (eqb (byte_at t 0) executed_kind) (λ k. executed-placed true) (λ k6. tt))))))
 
-pub parsed : (log : List ℕ) (at n : ℕ) {r : Record} → extent_from log at ≡ spans n → r ≡ record_from (take (length log - at) (drop at log)) at n → Parsed log at n r
+pub parsed : (log : List ℕ) (at n : ℕ) {r : Option Record} → extent_from log at ≡ spans n → r ≡ record_from (take (length log - at) (drop at log)) at n → Parsed log at n r
 parsed log at n e q =
     let x : extent_of (drop at log) ≡ spans n = from-spans log at n e in
     rw (q, tail-part at log) (record { means = record-means log at n x; placed = record-placed log at n x })

@@ -2,12 +2,10 @@
 #![tactic(auto)]
 
 ghost use Rattle.std.specs.Prelude.{◌≡◌, ◌+◌, ◌*◌, ◌≤◌, ◌<◌, length};
-ghost use Rattle.model.specs.Choice.{pick};
 ghost use Rattle.model.specs.Numbers.{word};
 ghost use Rattle.model.specs.Limits.{gone_size, give_size, take_head, release_size};
 ghost use Rattle.model.specs.Logs.{extent_of, spans};
 ghost use Rattle.model.specs.Logs.{executed_size_of, executed_at, executed_ok, give_at, give_ok, release_at, release_ok};
-ghost use Rattle.format_log_reader.specs.declared.Record.TheVariants.{Broken};
 ghost use Rattle.format_log_ends.specs.Answers.{extent_from};
 ghost use Rattle.format_log_reader.specs.Answers.{Parsed};
 ghost use Rattle.format_log_reader.specs.Answers.{executed_from, gone_from, give_from, take_from, release_from, record_from};
@@ -21,10 +19,9 @@ pub struct Span {
     pub len: usize,
 }
 
-// What a whole record says; a take's image stays at its place in the log.
+// What a whole record says, where it is not broken; a take's image stays at its place in the log.
 #[derive(Clone, Copy)]
 pub enum Record {
-    Broken,
     Executed(Executed),
     Gone(Notice),
     Gave(Give),
@@ -107,48 +104,37 @@ fn release_ok(release: Release) -> bool
     release.point <= constants::LAST_POINT
 }
 
-// What was found, if its zero bytes and fields are as they should be.
-fn checked(ok: bool, found: Record) -> Record
-    ensures { result ≡ pick ok found Broken }
-{
-    if ok { found } else { Record::Broken }
-}
-
-fn executed_from(s: &[u8], timed: bool) -> Record
+// Each of these answers what was found, if its zero bytes and fields are as they should be.
+fn executed_from(s: &[u8], timed: bool) -> Option<Record>
     requires { executed_size_of timed ≤ length s.now }
     ensures { result ≡ executed_from timed s.now }
 {
     let executed = executed_at(s, timed);
-    checked(
-        format_numbers::zeros3_at(s, constants::EXECUTED_ZEROS) & executed_ok(executed),
-        Record::Executed(executed),
-    )
+    let ok = format_numbers::zeros3_at(s, constants::EXECUTED_ZEROS) & executed_ok(executed);
+    ok.then_some(Record::Executed(executed))
 }
 
-fn gone_from(s: &[u8]) -> Record
+fn gone_from(s: &[u8]) -> Option<Record>
     requires { gone_size ≤ length s.now }
     ensures { result ≡ gone_from s.now }
 {
     let notice = format_fields::notice_at(s);
-    checked(
-        format_numbers::zeros3_at(s, constants::NOTICE_ZEROS) & format_fields::notice_ok(notice),
-        Record::Gone(notice),
-    )
+    let ok = format_numbers::zeros3_at(s, constants::NOTICE_ZEROS)
+        & format_fields::notice_ok(notice);
+    ok.then_some(Record::Gone(notice))
 }
 
-fn give_from(s: &[u8]) -> Record
+fn give_from(s: &[u8]) -> Option<Record>
     requires { give_size ≤ length s.now }
     ensures { result ≡ give_from s.now }
 {
     let g = give_at(s);
-    checked(
-        format_numbers::zero_at(s, constants::GIVE_ZERO) & give_ok(g),
-        Record::Gave(g),
-    )
+    let ok = format_numbers::zero_at(s, constants::GIVE_ZERO) & give_ok(g);
+    ok.then_some(Record::Gave(g))
 }
 
 // A take of n bytes at a place of the log; s is the log's part from there, and the image is read in it.
-fn take_from(s: &[u8], at: usize, n: usize) -> Record
+fn take_from(s: &[u8], at: usize, n: usize) -> Option<Record>
     requires { (take_head ≤ n) × (n ≤ length s.now) × (at + n < word * word) }
     ensures { result ≡ take_from s.now at n }
 {
@@ -157,27 +143,22 @@ fn take_from(s: &[u8], at: usize, n: usize) -> Record
         from: at + constants::TAKE_HEAD,
         len: n - constants::TAKE_HEAD,
     };
-    checked(
-        format_numbers::zeros3_at(s, constants::TAKE_ZEROS) & image,
-        Record::Took(place),
-    )
+    let ok = format_numbers::zeros3_at(s, constants::TAKE_ZEROS) & image;
+    ok.then_some(Record::Took(place))
 }
 
-fn release_from(s: &[u8]) -> Record
+fn release_from(s: &[u8]) -> Option<Record>
     requires { release_size ≤ length s.now }
     ensures { result ≡ release_from s.now }
 {
     let release = release_at(s);
-    let ok = release_ok(release);
-    checked(
-        format_numbers::zero_at(s, constants::RELEASE_ZERO)
-            & (format_numbers::zero_at(s, constants::RELEASE_SECOND_ZERO) & ok),
-        Record::Released(release),
-    )
+    let ok = format_numbers::zero_at(s, constants::RELEASE_ZERO)
+        & (format_numbers::zero_at(s, constants::RELEASE_SECOND_ZERO) & release_ok(release));
+    ok.then_some(Record::Released(release))
 }
 
 // The whole record of n bytes at the front of s, the log's part from a place.
-fn record_from(s: &[u8], at: usize, n: usize) -> Record
+fn record_from(s: &[u8], at: usize, n: usize) -> Option<Record>
     requires { (extent_of s.now ≡ spans n) × (at + n < word * word) }
     ensures { result ≡ record_from s.now at n }
 {
@@ -188,12 +169,12 @@ fn record_from(s: &[u8], at: usize, n: usize) -> Record
         constants::TAKE_KIND => take_from(s, at, n),
         constants::RELEASE_KIND => release_from(s),
         constants::EXECUTED_KIND => executed_from(s, true),
-        0 | 7..=255 => Record::Broken,
+        0 | 7..=255 => None,
     }
 }
 
 // The whole record of n bytes at a place of the log.
-pub fn record_at(log: &[u8], at: usize, n: usize) -> Record
+pub fn record_at(log: &[u8], at: usize, n: usize) -> Option<Record>
     requires { extent_from log.now at ≡ spans n }
     ensures { Parsed log.now at n result }
 {

@@ -75,7 +75,7 @@ fn write_take_front(out: &mut [u8], size: u32)
     format_numbers::write_u32(out, constants::TAKE_LENGTH, size);
 }
 
-// ---- appending: a record's writer is lent the log from its length on
+// ---- appending: a record's writer is lent the log from its length on. One function over a closure would be no plainer
 
 pub fn append_executed(log: &mut [u8], at: usize, execution: Executed)
     requires { (execution.timed ≡ true) × (at + executed_size ≤ length log.old) }

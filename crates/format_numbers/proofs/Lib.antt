@@ -2,3 +2,4 @@
 pub mod Past
 pub mod Picks
 pub mod Chains
+pub mod Copies

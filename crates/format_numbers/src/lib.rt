@@ -3,7 +3,7 @@
 #![tactic(auto)]
 
 ghost use Rattle.std.specs.Prelude.{◌≡◌, true, ◌+◌, ◌*◌, ◌≤◌, ◌<◌, max, length};
-ghost use Rattle.model.specs.Numbers.{join32, word, le32_at, le32, le64_at, le64, signed_at, signed32, flip, zero_at, zeros3_at, quad, starts_with, byte_at};
+ghost use Rattle.model.specs.Numbers.{word, le32_at, le32, le64_at, le64, signed_at, signed32, flip, zero_at, zeros3_at, quad, starts_with, byte_at};
 ghost use Rattle.model.specs.Tables.{written};
 ghost use Rattle.model.specs.Plan.{in_range};
 ghost use Rattle.model_laws.specs.Bytes.{part};
@@ -33,7 +33,7 @@ pub fn read_u32(s: &[u8], at: usize) -> u32
     u32::from_le_bytes([s[at], s[at + 1], s[at + 2], s[at + 3]])
 }
 
-// The number in the 8 bytes from at.
+// The number in the 8 bytes from at. It is read as two words, as the model states it: eight bytes would be no plainer.
 pub fn read_u64(s: &[u8], at: usize) -> u64
     requires { at + 8 ≤ length s.now }
     ensures { result ≡ le64_at s.now at }
@@ -49,7 +49,7 @@ pub fn time_at(s: &[u8], timed: bool, at: usize) -> u32
     if timed { read_u32(s, at) } else { 0 }
 }
 
-// Stores 4 bytes from at.
+// Stores 4 bytes from at. They are four arguments, since an array would be no plainer: each caller has four fields.
 pub fn write_4(s: &mut [u8], at: usize, b0: u8, b1: u8, b2: u8, b3: u8)
     requires { at + 4 ≤ length s.old }
     ensures { s.new ≡ written s.old at (quad b0 b1 b2 b3) }
@@ -87,7 +87,7 @@ pub fn write_u64(s: &mut [u8], at: usize, value: u64)
     write_u32(s, at + 4, (value / WORD) as u32);
 }
 
-// Two's complement to v + 2^31, and back.
+// Two's complement to v + 2^31, and back. By cases, as the model states it: a sum that wraps would be no plainer.
 pub fn flipped(v: u32) -> u32
     ensures { result ≡ flip v }
 {
@@ -126,7 +126,8 @@ pub fn zeros3_at(s: &[u8], at: usize) -> bool
     (s[at] == 0) & ((s[at + 1] == 0) & (s[at + 2] == 0))
 }
 
-// The first four bytes are those of magic.
+// The first four bytes are those of magic. Each is compared by itself, and not a part of s by `==`: an edit of the last
+// one must be refused.
 pub fn starts_with(s: &[u8], magic: [u8; 4]) -> bool
     requires { 4 ≤ length s.now }
     ensures { result ≡ starts_with s.now magic }
@@ -134,12 +135,15 @@ pub fn starts_with(s: &[u8], magic: [u8; 4]) -> bool
     (s[0] == magic[0]) & ((s[1] == magic[1]) & ((s[2] == magic[2]) & (s[3] == magic[3])))
 }
 
-// All bytes of src, from the front of out.
+// All bytes of src, from the front of out. No copy_from_slice: its copy calls memmove, and the library needs no C
+// function but memcpy and memset.
 pub fn copy_bytes(out: &mut [u8], src: &[u8])
     requires { length src.now ≤ length out.old }
     ensures { out.new ≡ written out.old 0 src.now }
 {
-    out[..src.len()].copy_from_slice(src);
+    for i in 0..src.len() {
+        out[i] = src[i];
+    }
 }
 
 // n bytes of src from a place, to a place of out.

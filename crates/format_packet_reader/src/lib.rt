@@ -89,7 +89,7 @@ pub fn parse_grant(packet: &[u8]) -> Option<Packet>
 pub fn parse_packet(packet: &[u8]) -> Option<Packet>
     ensures { result ≡ parse_packet packet.now }
 {
-    if packet.len() == 0 {
+    if packet.is_empty() {
         return None;
     }
     match packet[0] {

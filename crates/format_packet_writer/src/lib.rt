@@ -98,7 +98,7 @@ fn write_grant(out: &mut [u8], grant: Grant)
     format_numbers::write_u32(out, constants::GRANT_LEASE, grant.lease);
 }
 
-// ---- by value, for the client and the lease manager
+// ---- by value, for the client and the lease manager. One function over a closure would be no plainer
 
 pub fn request_packet(q: Request) -> [u8; constants::REQUEST_SIZE]
     ensures { result ≡ request_bytes q }

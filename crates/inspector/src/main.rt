@@ -7,7 +7,7 @@
 ghost use Rattle.std.specs.Prelude.{◌≡◌, ◌≤◌, ◌<◌, length, take};
 ghost use Rattle.model.specs.Limits.{record_count, state_size};
 
-use model::{Answer, constants};
+use model::constants;
 use state_rows::state;
 use std::io;
 
@@ -67,12 +67,7 @@ fn record_count(s: &[u8]) -> usize
     requires { length s.now ≡ state_size }
     ensures { result ≤ record_count }
 {
-    let n = state::records_of(s);
-    if n < constants::RECORD_COUNT {
-        n
-    } else {
-        constants::RECORD_COUNT
-    }
+    state::records_of(s).min(constants::RECORD_COUNT)
 }
 
 fn write_records<'a>(
@@ -99,10 +94,10 @@ fn inspect(rt: &(impl Print + Eprint), card: &[u8]) -> io::Result<()> {
     let checkpoint = &card[..end];
     let tail = &card[end..];
     let mut s = state_buffer();
-    let answer: Answer = server_recover::recover_checkpoint::recover_checkpoint(
+    let recovered = server_recover::recover_checkpoint::recover_checkpoint(
         &mut s, checkpoint, tail,
     );
-    if answer.refusal != constants::NO_REFUSAL {
+    if recovered.is_err() {
         return eprintln!(rt; "inspector: no checkpoint with its tail");
     }
     write_records(rt, &s, checkpoint, tail)

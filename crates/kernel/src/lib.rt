@@ -8,11 +8,13 @@ ghost use Rattle.std.specs.Prelude.{◌≡◌, []};
 ghost use Rattle.model.specs.Versions.{today};
 ghost use Rattle.model.specs.Operations.{word_of, found_of, request_of, fetch_of, sync_of, notice_of, give_of, image_of, take_of, receipt_of, release_of, recover_of, log_end_of};
 ghost use Rattle.model.specs.Checkpoints.{checkpoint_of, recover_tail_of, inspect_of};
+ghost use Rattle.refusals.specs.Numbers.{answered};
 ghost use Rattle.dispatch_claim.specs.Dispatcher.{no_waiting, enqueue_of, serve_of};
 ghost use Rattle.kernel.specs.Interface.{version, returned, in_c, checkpoint_returned, checkpoint_in_c, serve_returned, serve_in_c};
 
 use dispatch_claim::{Dispatcher, Enqueued};
 use model::{Answer, LogEnd, Place, constants};
+use refusals::Refusal;
 
 // The interface's version, major * 65,536 + minor.
 const VERSION: u32 = 65543;
@@ -30,6 +32,13 @@ fn word_of(answer: Answer) -> u64
     answer.refusal as u64 + constants::WORD * (answer.wrote as u64)
 }
 
+// What a call came to, in one word.
+fn outcome_word(outcome: Result<u32, Refusal>) -> u64
+    ensures { result ≡ word_of (answered outcome) }
+{
+    word_of(refusals::answer(outcome))
+}
+
 // Founds a server: its first state, and the head of its log.
 #[unsafe(no_mangle)]
 pub extern "C" fn mantelorris_found(
@@ -41,7 +50,7 @@ pub extern "C" fn mantelorris_found(
     ensures { returned result state.new log.new []
         ≡ in_c (found_of state.old log.old plan.now server) }
 {
-    word_of(server_found::found(state, log, plan, server))
+    outcome_word(server_found::found(state, log, plan, server))
 }
 
 // A request packet: executed, answered from its completion record, or refused.
@@ -55,7 +64,7 @@ pub extern "C" fn mantelorris_request(
     ensures { returned result state.new log.new out.new
         ≡ in_c (request_of today state.old log.old packet.now out.old) }
 {
-    word_of(server_service::request::request(state, log, packet, out))
+    word_of(refusals::request_answer(server_service::request::request(state, log, packet, out)))
 }
 
 // The result packet of a completion record.
@@ -70,7 +79,7 @@ pub extern "C" fn mantelorris_fetch(
     ensures { returned result state.now log.now out.new
         ≡ in_c (fetch_of today state.now log.now client call out.old) }
 {
-    word_of(server_service::fetch::fetch(state, log, client, call, out))
+    outcome_word(server_service::fetch::fetch(state, log, client, call, out))
 }
 
 // The log is synced up to the mark.
@@ -79,7 +88,7 @@ pub extern "C" fn mantelorris_sync(state: &mut [u8], log: &[u8], mark: u64) -> u
     ensures { returned result state.new log.now []
         ≡ in_c (sync_of state.old log.now mark) }
 {
-    word_of(server_service::sync::sync(state, log, mark))
+    outcome_word(server_service::sync::sync(state, log, mark))
 }
 
 // A notice packet: a lease has ended.
@@ -88,7 +97,7 @@ pub extern "C" fn mantelorris_notice(state: &mut [u8], log: &mut [u8], packet: &
     ensures { returned result state.new log.new []
         ≡ in_c (notice_of state.old log.old packet.now) }
 {
-    word_of(server_service::notice::notice(state, log, packet))
+    outcome_word(server_service::notice::notice(state, log, packet))
 }
 
 // Gives a point to another server.
@@ -102,7 +111,7 @@ pub extern "C" fn mantelorris_give(
     ensures { returned result state.new log.new []
         ≡ in_c (give_of state.old log.old point destination) }
 {
-    word_of(server_moves::give::give(state, log, point, destination))
+    outcome_word(server_moves::give::give(state, log, point, destination))
 }
 
 // The image of a given point.
@@ -111,7 +120,7 @@ pub extern "C" fn mantelorris_image(state: &[u8], log: &[u8], point: u32, out: &
     ensures { returned result state.now log.now out.new
         ≡ in_c (image_of today state.now log.now point out.old) }
 {
-    word_of(server_moves::image::image(state, log, point, out))
+    outcome_word(server_moves::image::image(state, log, point, out))
 }
 
 // An image: the point is held here.
@@ -120,7 +129,7 @@ pub extern "C" fn mantelorris_take(state: &mut [u8], log: &mut [u8], image: &[u8
     ensures { returned result state.new log.new []
         ≡ in_c (take_of state.old log.old image.now) }
 {
-    word_of(server_moves::take::take(state, log, image))
+    outcome_word(server_moves::take::take(state, log, image))
 }
 
 // The receipt of the latest taken move.
@@ -129,7 +138,7 @@ pub extern "C" fn mantelorris_receipt(state: &[u8], log: &[u8], point: u32, out:
     ensures { returned result state.now log.now out.new
         ≡ in_c (receipt_of state.now log.now point out.old) }
 {
-    word_of(server_moves::receipt::receipt(state, log, point, out))
+    outcome_word(server_moves::receipt::receipt(state, log, point, out))
 }
 
 // A receipt packet: the given point is released.
@@ -138,7 +147,7 @@ pub extern "C" fn mantelorris_release(state: &mut [u8], log: &mut [u8], packet: 
     ensures { returned result state.new log.new []
         ≡ in_c (release_of state.old log.old packet.now) }
 {
-    word_of(server_moves::release::release(state, log, packet))
+    outcome_word(server_moves::release::release(state, log, packet))
 }
 
 // The state of a kept log. The log slice is what was kept, no more.
@@ -147,7 +156,7 @@ pub extern "C" fn mantelorris_recover(state: &mut [u8], log: &[u8], plan: &[u8])
     ensures { returned result state.new log.now []
         ≡ in_c (recover_of state.old log.now plan.now) }
 {
-    word_of(server_recover::recover::recover(state, log, plan))
+    outcome_word(server_recover::recover::recover(state, log, plan))
 }
 
 // The state of a checkpoint and the kept tail that follows it. The tail slice is what was kept, no more.
@@ -160,7 +169,7 @@ pub extern "C" fn mantelorris_recover_checkpoint(
     ensures { returned result state.new tail.now []
         ≡ in_c (recover_tail_of state.old checkpoint.now tail.now) }
 {
-    word_of(server_recover::recover_checkpoint::recover_checkpoint(state, checkpoint, tail))
+    outcome_word(server_recover::recover_checkpoint::recover_checkpoint(state, checkpoint, tail))
 }
 
 // A checkpoint of the state, and the head of the tail that follows it.
@@ -176,7 +185,7 @@ pub extern "C" fn mantelorris_checkpoint(
         ≡ checkpoint_in_c (checkpoint_of today state.old log.now
         checkpoint.old tail.old) }
 {
-    word_of(server_checkpoint::checkpoint(state, log, checkpoint, tail))
+    outcome_word(server_checkpoint::checkpoint(state, log, checkpoint, tail))
 }
 
 // The end of the last whole record of a kept log: the first of recover's two walks.
@@ -240,9 +249,8 @@ pub extern "C" fn mantelorris_serve(
         ≡ serve_in_c (serve_of today dispatcher state.old log.old out.old) }
 {
     let served = dispatch::serve(dispatcher, state, log, out);
-    let next = served.dispatcher;
     ServeReply {
-        dispatcher: next,
+        dispatcher: served.dispatcher,
         answer: word_of(served.answer),
     }
 }

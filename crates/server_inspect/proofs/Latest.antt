@@ -9,9 +9,10 @@ use Prim.Native.Nat.{ℕ, ◌+◌, ◌-◌, ◌*◌, ◌≤◌, ◌<◌}
 use mathlib.Core.Path.{◌≡◌, refl, sym, ap, ◌∙◌}
 use mathlib.Core.Bool.{true}
 use mathlib.Core.List.{List, []}
-use mathlib.Core.Option.{Option, none, some}
+use mathlib.Core.Option.{Option as Maybe, none, some}
 use native.Mathlib.Omega.{arith}
 use denote.Ref.{Bor}
+use Rattle.std.specs.Prelude.{Option, Some}
 use Rattle.std.specs.Prelude.{Some, None}
 use lib.ListN.{length, drop}
 use lib.Dec.{ltb}
@@ -65,11 +66,11 @@ image-place s from x c found {h} {w} {at} {i} {r} e u v p q =
 
 -- ---- one record
 
-says : (log : List ℕ) (at n : ℕ) {r y : Record} → Parsed log at n r → r ≡ y → record_means log y ≡ record_at (drop at log)
+says : (log : List ℕ) (at n : ℕ) {r y : Option Record} → Parsed log at n r → r ≡ y → record_means log y ≡ record_at (drop at log)
 says log at n p e = sym (ap (record_means log) e) ∙ p.means
 
 -- an executed record's bytes are all there
-pub executed_inside : (log : List ℕ) (at n : ℕ) → Bytes log → extent_from log at ≡ spans n → {r : Record} {x : Executed} → Parsed log at n r → r ≡ Performed x
+pub executed_inside : (log : List ℕ) (at n : ℕ) → Bytes log → extent_from log at ≡ spans n → {r : Option Record} {x : Executed} → Parsed log at n r → r ≡ Some (Performed x)
     → at + executed_size_of x.timed ≤ length log
 unfolding record_means record_size
 executed_inside log at n b w {r} {x} p e =
@@ -77,11 +78,11 @@ executed_inside log at n b w {r} {x} p e =
     omega (arith, i.size, from_inside log at n w)
 
 -- a take's image, at its place
-pub image-there : (log : List ℕ) (at n : ℕ) {r : Record} {q : Span} → Parsed log at n r → r ≡ Took q → ImagePlaced log at n q
+pub image-there : (log : List ℕ) (at n : ℕ) {r : Option Record} {q : Span} → Parsed log at n r → r ≡ Some (Took q) → ImagePlaced log at n q
 image-there log at n p e = rw e at p.placed
 
 -- as the log's part that is passed on
-pub image-whole : (log : List ℕ) (at n : ℕ) {r : Record} {q : Span} → Parsed log at n r → r ≡ Took q → at + n ≤ length log → length log < word * word
+pub image-whole : (log : List ℕ) (at n : ℕ) {r : Option Record} {q : Span} → Parsed log at n r → r ≡ Some (Took q) → at + n ≤ length log → length log < word * word
     → (image_ok (part q.from (q.from + q.len - q.from) log) ≡ true) × (q.from + length (part q.from (q.from + q.len - q.from) log) < word * word)
 unfolding span_in
 image-whole log at n {r} {q} p e l z =
@@ -91,11 +92,11 @@ image-whole log at n {r} {q} p e l z =
       omega (arith, i.end, part_count log q.from (q.from + q.len) (omega arith, omega (arith, i.end))),
     )
 
-module _ (log : List ℕ) (at n x c : ℕ) (found : Place) {r : Record} (p : Parsed log at n r) where
-  pub held : {y : Record} → r ≡ y → latest_of x c at (record_means log y) found ≡ latest_of x c at (record_at (drop at log)) found
-  held e = ap (λ (o : Option LogRecord). latest_of x c at o found) (says log at n p e)
+module _ (log : List ℕ) (at n x c : ℕ) (found : Place) {r : Option Record} (p : Parsed log at n r) where
+  pub held : {y : Option Record} → r ≡ y → latest_of x c at (record_means log y) found ≡ latest_of x c at (record_at (drop at log)) found
+  held e = ap (λ (o : Maybe LogRecord). latest_of x c at o found) (says log at n p e)
 
-  module _ {q : Span} (e : r ≡ Took q) where
+  module _ {q : Span} (e : r ≡ Some (Took q)) where
     pub held-image : {v : Place} → v ≡ place_in_image x c q.from (image_in (part q.from (q.from + q.len - q.from) log)) found
         → v ≡ latest_of x c at (record_at (drop at log)) found
     unfolding record_means latest_of place_in_image span_in
@@ -115,9 +116,9 @@ module _ (x c : ℕ) (log : List ℕ) (at : ℕ) (found : Place) where
 
   pub latest-next : (n : ℕ) → extent_from log at ≡ spans n → latest_from x c log at found ≡ latest_from x c log (at + n) (latest_of x c at (record_at (drop at log)) found)
   unfolding latest_from latest_in join_end
-  latest-next n e = ap (λ (w : Option (List ℕ)). or_else w (no_place unknown) (λ es. latest_in x c log at es found)) (ends_from-spans log at n e) ∙ on (ends_from log (at + n))
+  latest-next n e = ap (λ (w : Maybe (List ℕ)). or_else w (no_place unknown) (λ es. latest_in x c log at es found)) (ends_from-spans log at n e) ∙ on (ends_from log (at + n))
     where
-      on : (w : Option (List ℕ)) → or_else (join_end (at + n) w) (no_place unknown) (λ es. latest_in x c log at es found)
+      on : (w : Maybe (List ℕ)) → or_else (join_end (at + n) w) (no_place unknown) (λ es. latest_in x c log at es found)
           ≡ or_else w (no_place unknown) (λ es. latest_in x c log (at + n) es (latest_of x c at (record_at (drop at log)) found))
       on none = refl
       on (some es) = refl

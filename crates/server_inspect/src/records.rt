@@ -117,9 +117,10 @@ fn latest_of(log: &[u8], at: usize, n: usize, client: u32, call: u32, found: Pla
     requires { extent_from log.now at ≡ spans n }
     ensures { result ≡ latest_of client call at (record_at (drop at log.now)) found }
 {
-    let said = format_log_reader::record_at(log, at, n);
+    let Some(said) = format_log_reader::record_at(log, at, n) else {
+        return found;
+    };
     match said {
-        Record::Broken => found,
         Record::Executed(executed) => place_executed(executed, at, client, call, found),
         Record::Gone(notice) => found,
         Record::Gave(g) => found,

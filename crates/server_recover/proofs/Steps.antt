@@ -8,9 +8,10 @@ use Prim.Native.Nat.{ℕ, ◌+◌, ◌-◌, ◌*◌, ◌≤◌, ◌<◌}
 use mathlib.Core.Path.{◌≡◌, refl, sym, ap, ◌∙◌}
 use mathlib.Core.Bool.{Bool, true, false, false≢true}
 use mathlib.Core.List.{List}
-use mathlib.Core.Option.{Option, none, some}
+use mathlib.Core.Option.{Option as Maybe, none, some}
 use native.Mathlib.Omega.{arith}
 use denote.Ref.{Bor}
+use Rattle.std.specs.Prelude.{Option, Some}
 use Rattle.std.specs.Prelude.{Some, None}
 use lib.ListN.{length, drop}
 use Rattle.model.specs.Numbers.{word}
@@ -43,7 +44,7 @@ use Rattle.server_recover.proofs.SecondWalk.{remaining-done, remaining_broken, r
 
 -- ---- what stands at a place
 
-pub said : (log : List ℕ) (at n : ℕ) {x y : Record} → Parsed log at n x → x ≡ y → record_at (drop at log) ≡ record_means log y
+pub said : (log : List ℕ) (at n : ℕ) {x y : Option Record} → Parsed log at n x → x ≡ y → record_at (drop at log) ≡ record_means log y
 said log at n p e = sym p.means ∙ ap (record_means log) e
 
 -- a whole record, well-formed, behind the recorded length
@@ -63,7 +64,7 @@ pub record ImagePart (log : List ℕ) (at n : ℕ) (p : Span) : Type 0 where
   pub says : record_at (drop at log) ≡ some (took (image_between log p.from (p.from + p.len)))
   pub ok : image_ok (part p.from (p.from + p.len - p.from) log) ≡ true
 
-pub image-part : (log : List ℕ) (at n : ℕ) {x : Record} {p : Span} → Parsed log at n x → x ≡ Took p → at + n ≤ length log → ImagePart log at n p
+pub image-part : (log : List ℕ) (at n : ℕ) {x : Option Record} {p : Span} → Parsed log at n x → x ≡ Some (Took p) → at + n ≤ length log → ImagePart log at n p
 unfolding record_means span_in image_in
 image-part log at n {x} {p} h e l =
     let i : ImagePlaced log at n p = rw e at h.placed in
@@ -111,7 +112,7 @@ module _ (s log : List ℕ) (at n : ℕ) (e : extent_from log at ≡ spans n) {t
   stops : t ≡ false → remaining log at (load s) ≡ none
   stops p = go (record_at (drop at log)) refl
     where
-      go : (o : Option LogRecord) → record_at (drop at log) ≡ o → remaining log at (load s) ≡ none
+      go : (o : Maybe LogRecord) → record_at (drop at log) ≡ o → remaining log at (load s) ≡ none
       go none q = remaining_broken log at (load s) n e q
       go (some r) q = remaining_stops log at (load s) n e r q (sym (f ∙ followed r q) ∙ p)
 
@@ -127,7 +128,7 @@ module _ (s log : List ℕ) (at n : ℕ) (e : extent_from log at ≡ spans n) {t
             same = remaining-next log at (load s) n e r q (sym y) ∙ ap (remaining log (at + n)) (sym d.1);
           }
 
-      go : (o : Option LogRecord) → record_at (drop at log) ≡ o → Goes log at s s' (at + n)
+      go : (o : Maybe LogRecord) → record_at (drop at log) ≡ o → Goes log at s s' (at + n)
       go none q = absurd (false≢true (sym (f ∙ followed_none q) ∙ p))
       go (some r) q =
           let y : true ≡ follows (load s) r = sym p ∙ f ∙ followed r q in

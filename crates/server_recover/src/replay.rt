@@ -29,10 +29,11 @@ fn replay_record(s: &mut [u8], log: &[u8], at: usize, n: usize) -> bool
     ensures { RecordReplayedBy (record_at (drop at log.now)) (at + n) s.old s.new
         result }
 {
-    let found = format_log_reader::record_at(log, at, n);
+    let Some(found) = format_log_reader::record_at(log, at, n) else {
+        return false;
+    };
     let end = (at + n) as u64;
     match found {
-        Record::Broken => false,
         Record::Executed(executed) => server_replay::executed::replay_executed(s, executed, end),
         Record::Gone(notice) => server_replay::gone::replay_gone(s, notice, end),
         Record::Gave(g) => server_replay::gave::replay_gave(s, g, end),

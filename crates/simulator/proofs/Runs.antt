@@ -20,7 +20,7 @@ use Rattle.model.specs.States.{state_end}
 use Rattle.model.specs.Tables.{written}
 use Rattle.model.specs.Operations.{answer_of}
 use Rattle.model.specs.Simulator.{Simulator, Line, Reply, step, new_simulator, most_lines, ran, run_lines, line_of, lines_from, lines_of, reply_text, replies_text, answers_of}
-use Rattle.model_laws.proofs.Written.{take-written-run, length-written, tail-part}
+use Rattle.model_laws.proofs.Written.{take-written-run, length-written, tail-part, written-front}
 use Rattle.model_laws.proofs.Tests.{and_left, and_right}
 use Rattle.model.specs.Letters.{line_feed, reply_room}
 use Rattle.simulator_text.specs.Values.{reply_is, first_of, Put}
@@ -151,9 +151,13 @@ simulate_is text page n out p h e =
     let y = printed_answers text page n p h in
     e ∙ ap (λ (l : List ℕ). handed out n l) y.0 ∙ ap (λ (k : ℕ). handed out k (answers_of text)) y.1
 
-pub handed-over : (out page t : List ℕ) (n : ℕ) → n ≤ length out → t ≡ written out 0 (mid_of 0 (n - 0) page) → simulated (answer_of no_refusal n) t ≡ handed out n (take n page)
+pub handed-over : (out page q : List ℕ) (n : ℕ) → n ≤ length out → n ≤ length page → q ≡ take n page
+    → simulated (answer_of no_refusal n) (q ++ drop n out) ≡ handed out n (take n page)
 unfolding handed
-handed-over out page t n h e = let z : n - 0 ≡ n = omega arith in rw (le-ltb (length out) n h, e, z) refl
+handed-over out page q n h m e =
+    let l : length (take n page) ≡ n = length-take-le n page m in
+    let f : written out 0 (take n page) ≡ take n page ++ drop n out = written-front out (take n page) (omega arith) ∙ rw l refl in
+    rw (le-ltb (length out) n h, e, f) refl
 
 pub kept_back : (out : List ℕ) (n : ℕ) (t : List ℕ) → length out < n → simulated (answer_of too_short 0) out ≡ handed out n t
 unfolding handed

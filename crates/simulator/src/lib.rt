@@ -12,10 +12,12 @@ ghost use Rattle.std.specs.Prelude.{◌≡◌, ◌*◌, ◌≤◌, length, take}
 ghost use Rattle.model.specs.Limits.{state_size};
 ghost use Rattle.model.specs.Simulator.{simulator_log, most_lines, new_simulator};
 ghost use Rattle.model.specs.Letters.{reply_room};
+ghost use Rattle.refusals.specs.Numbers.{answered};
 ghost use Rattle.simulator_memory.specs.Store.{row_size};
 ghost use Rattle.simulator.specs.Run.{Printed, simulated, handed, simulate_of};
 
-use model::{Answer, constants};
+use model::constants;
+use refusals::Refusal;
 use simulator_memory::{Memory, packets};
 use simulator_text::{MOST_LINES, Reply, write_reply};
 
@@ -92,28 +94,22 @@ fn answers(text: &[u8], page: &mut [u8]) -> usize
 
 // ---- a schedule
 
-// 2 the output is too short for the page's first n bytes, and is kept; else they are copied.
-fn hand_over(out: &mut [u8], page: &[u8], n: usize) -> Answer
+// Refused where the output is too short for the page's first n bytes, and it is kept; else they are copied.
+fn hand_over(out: &mut [u8], page: &[u8], n: usize) -> Result<u32, Refusal>
     requires { (n ≤ reply_room * most_lines) × (n ≤ length page.now) }
-    ensures { simulated result out.new ≡ handed out.old n (take n page.now) }
+    ensures { simulated (answered result) out.new ≡ handed out.old n (take n page.now) }
 {
     if out.len() < n {
-        return Answer {
-            refusal: constants::TOO_SHORT,
-            wrote: 0,
-        };
+        return Err(Refusal::TooShort);
     }
-    format_numbers::copy_bytes(out, &page[0..n]);
-    Answer {
-        refusal: constants::NO_REFUSAL,
-        wrote: n as u32,
-    }
+    out[..n].copy_from_slice(&page[..n]);
+    Ok(n as u32)
 }
 
-// A schedule's text in, the answers' text out: 2 where the output is too short for them, and nothing is written. PAGE
-// bytes always suffice.
-pub fn simulate(text: &[u8], out: &mut [u8]) -> Answer
-    ensures { simulated result out.new ≡ simulate_of text.now out.old }
+// A schedule's text in, the answers' text out, and how many bytes: refused where the output is too short for them, and
+// nothing is written. PAGE bytes always suffice.
+pub fn simulate(text: &[u8], out: &mut [u8]) -> Result<u32, Refusal>
+    ensures { simulated (answered result) out.new ≡ simulate_of text.now out.old }
 {
     let mut page = blank_page();
     let n = answers(text, &mut page);

@@ -59,6 +59,7 @@ fn run(text: &[u8], page: &mut [u8], lent: &mut Lent, memory: Memory) -> usize
     let mut at = 0;
     let mut n = 0;
     let mut number: u32 = 1;
+    // No plainer with for: the lines end at the 60th or with the text.
     while (number <= MOST_LINES) & (at < text.len()) {
         let turn = run_line(text, page, lent, after, at, n, number);
         after = turn.memory;

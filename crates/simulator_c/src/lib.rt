@@ -9,6 +9,7 @@ ghost use Rattle.simulator_c.specs.Interface.{returned, in_c};
 
 use model::{Answer, constants};
 
+// As in kernel: one function for both C libraries would stand in `refusals`, below every crate of the server.
 fn word_of(answer: Answer) -> u64
     ensures { result ≡ word_of answer }
 {
@@ -20,5 +21,5 @@ fn word_of(answer: Answer) -> u64
 pub extern "C" fn mantelorris_yard(text: &[u8], out: &mut [u8]) -> u64
     ensures { returned result out.new ≡ in_c (simulate_of text.now out.old) }
 {
-    word_of(simulator::simulate(text, out))
+    word_of(refusals::answer(simulator::simulate(text, out)))
 }

@@ -1,6 +1,7 @@
 -- What the loops over the clients' table keep, and what a call in them needs and leaves.
 --     not-below, is_below     the test in the search for a client's place
 --     is-behind, is-there     the client of an index
+--     placed_here, placed_new, stands, stands_not, known_ok     the answer of that search
 --     Moving, moving-..       rows moved up by one, the last but one first
 --     Packing, packing-..     the rows that a test keeps moved to the front
 --     entered-..              a row added, those before it moved up, and the row they leave replaced
@@ -22,6 +23,7 @@ use lib.ListN.{length, get_or, set, take, drop, length-drop, length-append}
 use lib.Seq.{take_all, take-suc, take-take, length-take-le, take_at}
 use lib.Dec.{eqb, ltb}
 use borrow.Author.Tests.{lt-ltb, le-ltb, eq-eqb, ne_eqb}
+use Rattle.std.specs.Prelude.{Result, Ok, Err, is_ok}
 use Rattle.model.specs.declared.Floor.{Floor}
 use Rattle.model.specs.Limits.{client_count, floor_row, least_image}
 use Rattle.model.specs.Choice.{pick}
@@ -40,7 +42,7 @@ use Rattle.model_invariants.proofs.Tests.{ascends}
 use Rattle.state_rows.specs.Canonical.{Canonical}
 use Rattle.state_clients.specs.Places.{no_floor}
 use Rattle.state_clients.proofs.Changed.{Holds, holds-start, holds-next, holds-set, holds-add, holds-drop, holds-canonical, holds-floors, all_drop}
-use Rattle.state_clients.specs.Ordered.{ordered_place, is_at, is_known, inserted, raised_at, moved_up, packed}
+use Rattle.state_clients.specs.Ordered.{ordered_place, placed, is_at, is_known, inserted, raised_at, moved_up, packed}
 use Rattle.state_clients.proofs.Raised as Floors
 
 -- ---- a client's place
@@ -53,13 +55,47 @@ pub is_below : {f g : Floor} {x : ℕ} → f ≡ g → f.client < x → not (ltb
 is_below {f} {g} {x} p q = rw (← p, lt-ltb f.client x q)
 
 -- the client of an index
-pub is-behind : (x i : ℕ) (fs : List Floor) {n : ℕ} → n ≡ length fs → n ≤ i → ltb i n ≡ is_at x i fs
+pub is-behind : (x i : ℕ) (fs : List Floor) → length fs ≤ i → is_at x i fs ≡ false
 unfolding is_at
-is-behind x i fs {n} e h = rw (← e, le-ltb i n h)
+is-behind x i fs h = rw (le-ltb i (length fs) h)
 
-pub is-there : (x i : ℕ) (fs : List Floor) {f : Floor} → i < length fs → f ≡ get_or fs i no_floor → eqb f.client x ≡ is_at x i fs
+pub is-there : (x i : ℕ) (fs : List Floor) {f : Floor} → i < length fs → f ≡ get_or fs i no_floor → is_at x i fs ≡ eqb f.client x
 unfolding is_at
 is-there x i fs h e = rw (lt-ltb i (length fs) h, ← e)
+
+-- where a client stands, or would, and what that says
+module _ (x : ℕ) (fs : List Floor) {i : ℕ} where
+  pub placed_here : i ≡ ordered_place x fs → is_at x i fs ≡ true → Ok i ≡ placed x fs
+  unfolding placed
+  placed_here p q = rw (← p, q)
+
+  pub placed_new : i ≡ ordered_place x fs → is_at x i fs ≡ false → Err i ≡ placed x fs
+  unfolding placed
+  placed_new p q = rw (← p, q)
+
+  pub stands : Ok i ≡ placed x fs → (i ≡ ordered_place x fs) × (true ≡ is_at x i fs)
+  unfolding placed
+  stands e = step (is_at x (ordered_place x fs) fs) refl e
+    where
+      step : (b : Bool) → is_at x (ordered_place x fs) fs ≡ b → Ok i ≡ pick b (Ok (ordered_place x fs)) (Err (ordered_place x fs)) → (i ≡ ordered_place x fs) × (true ≡ is_at x i fs)
+      step true q r = let same : i ≡ ordered_place x fs = cc in (same, rw same (sym q))
+      step false q r = cc
+
+  pub stands_not : Err i ≡ placed x fs → (i ≡ ordered_place x fs) × (false ≡ is_at x i fs)
+  unfolding placed
+  stands_not e = step (is_at x (ordered_place x fs) fs) refl e
+    where
+      step : (b : Bool) → is_at x (ordered_place x fs) fs ≡ b → Err i ≡ pick b (Ok (ordered_place x fs)) (Err (ordered_place x fs)) → (i ≡ ordered_place x fs) × (false ≡ is_at x i fs)
+      step true q r = cc
+      step false q r = let same : i ≡ ordered_place x fs = cc in (same, rw same (sym q))
+
+pub known_ok : (x : ℕ) (fs : List Floor) {r : Result ℕ ℕ} → r ≡ placed x fs → is_ok r ≡ is_known x fs
+unfolding placed is_known
+known_ok x fs p = rw p (step (is_at x (ordered_place x fs) fs))
+  where
+    step : (b : Bool) → is_ok (pick b (Ok (ordered_place x fs)) (Err (ordered_place x fs))) ≡ b
+    step true = refl
+    step false = refl
 
 -- ---- rows moved up by one
 

@@ -1,7 +1,8 @@
 -- Where a client stands among floors, or would; and floors with rows moved.
 -- Assumes nothing.
-use Rattle.std.specs.Prelude.{ℕ, zero, suc, max, ◌≡◌, Bool, ◌&&◌, not, List, [], ◌∷◌, ◌++◌, length, get_or, set, take, drop, eqb, ltb}
+use Rattle.std.specs.Prelude.{ℕ, zero, suc, max, ◌≡◌, Bool, ◌&&◌, not, List, [], ◌∷◌, ◌++◌, length, get_or, set, take, drop, eqb, ltb, Result, Ok, Err}
 use Rattle.model.specs.declared.Floor.{Floor}
+use Rattle.model.specs.Choice.{pick}
 use Rattle.model.specs.Limits.{least_image, floor_row}
 use Rattle.model.specs.Tables.{rows, keep, index_of}
 use Rattle.model.specs.Images.{floor_of_bytes}
@@ -18,6 +19,10 @@ ordered_place x fs = index_of (λ f. not (ltb f.client x)) fs
 -- the client of index i is x
 unfoldable pub is_at : ℕ → ℕ → List Floor → Bool
 is_at x i fs = ltb i (length fs) && eqb (get_or fs i no_floor).client x
+
+-- where the client x stands, or would
+unfoldable pub placed : ℕ → List Floor → Result ℕ ℕ
+placed x fs = let i = ordered_place x fs in pick (is_at x i fs) (Ok i) (Err i)
 
 -- the client x stands in its place
 unfoldable pub is_known : ℕ → List Floor → Bool

@@ -14,7 +14,7 @@ ghost use Rattle.model.specs.Apply.{raise, is_not_client};
 ghost use Rattle.model.specs.Operations.{stored};
 ghost use Rattle.model_laws.specs.Layout.{with_floors};
 ghost use Rattle.state_rows.specs.Canonical.{Canonical};
-ghost use Rattle.state_clients.specs.Ordered.{ordered_place, is_at, is_known, inserted, raised_at, moved_up, PackedBut, merged_by};
+ghost use Rattle.state_clients.specs.Ordered.{placed, is_known, inserted, raised_at, moved_up, PackedBut, merged_by};
 
 use model::Floor;
 use model::constants::{FLOOR_ROW, FLOORS_START, LEAST_IMAGE};
@@ -22,29 +22,21 @@ use state_rows::state;
 
 // ---- where a client stands
 
-// The index of the first client that is not below this one, the number of clients where there is none. A loop of its
-// own beside that of `floors::client_place`: no plainer shared, since the test would be a closure with a law of its
-// own, from which each of the two contracts would have to follow.
-fn place(s: &[u8], client: u32) -> usize
+// The index at which the client stands, or at which it would: that of the first client that is not below it, the number
+// of clients where there is none. A loop of its own beside that of `floors::client_place`: no plainer shared, since the
+// test would be a closure with a law of its own, from which each of the two contracts would have to follow.
+fn place(s: &[u8], client: u32) -> Result<usize, usize>
     requires { Canonical s.now }
-    ensures { result ≡ ordered_place client (load s.now).floors }
+    ensures { result ≡ placed client (load s.now).floors }
 {
     let n = state::clients_of(s);
     for i in 0..n {
         let f = rows::row(s, i);
         if client <= f.client {
-            return i;
+            return if f.client == client { Ok(i) } else { Err(i) };
         }
     }
-    n
-}
-
-// The client of index i is this one.
-fn is_at(s: &[u8], i: usize, client: u32) -> bool
-    requires { Canonical s.now }
-    ensures { result ≡ is_at client i (load s.now).floors }
-{
-    i < state::clients_of(s) && rows::row(s, i).client == client
+    Err(n)
 }
 
 // The client is known.
@@ -52,8 +44,7 @@ pub fn is_known(s: &[u8], client: u32) -> bool
     requires { Canonical s.now }
     ensures { result ≡ is_known client (load s.now).floors }
 {
-    let i = place(s, client);
-    is_at(s, i, client)
+    place(s, client).is_ok()
 }
 
 // ---- a floor raised, a client entered
@@ -107,12 +98,10 @@ pub fn raise(s: &mut [u8], client: u32, floor: u32)
     ensures { s.new ≡ stored s.old
         (with_floors (raise client floor (load s.old).floors) (load s.old)) }
 {
-    let i = place(s, client);
-    if is_at(s, i, client) {
-        raise_at(s, i, client, floor);
-        return;
+    match place(s, client) {
+        Ok(i) => raise_at(s, i, client, floor),
+        Err(i) => insert(s, i, Floor { client, floor }),
     }
-    insert(s, i, Floor { client, floor });
 }
 
 // ---- a client removed

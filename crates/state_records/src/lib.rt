@@ -67,16 +67,18 @@ fn pass(s: &[u8], n: usize, client: u32, call: u32) -> usize
     ensures { Sought (is_id client call) (rows completion_of record_row n
         (drop records_start s.now)) result }
 {
-    for group in 0..n / 8 {
-        let i = 8 * group;
+    let mut i = 0;
+    // no `for` over the groups: tried, and slower by a tenth
+    while i + 8 <= n {
         let k = RECORDS_START + RECORD_ROW * i;
         let first = is_past(s, k, client, call);
         let second = is_past(s, k + 4 * RECORD_ROW, client, call);
         if !(first & second) {
             return i;
         }
+        i += 8;
     }
-    n / 8 * 8
+    i
 }
 
 // The completion record of an id.

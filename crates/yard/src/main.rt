@@ -3,12 +3,11 @@
 // lines end within them, since later lines are not read; else it says so on standard error and answers nothing.
 #![tactic(auto)]
 
-ghost use Rattle.std.specs.Prelude.{◌≡◌, ◌≤◌, ◌+◌, ◌*◌, length};
+ghost use Rattle.std.specs.Prelude.{◌≡◌, ◌+◌, ◌*◌, length};
 ghost use Rattle.model.specs.Simulator.{most_lines};
 ghost use Rattle.model.specs.Letters.{reply_room};
 ghost use Rattle.yard.specs.Input.{longest, holds_all};
 
-use model::Answer;
 use std::io;
 
 // Bytes of an input that is read whole.
@@ -35,21 +34,14 @@ fn holds_all(s: &[u8]) -> bool
     (s.len() <= LONGEST) | simulator_text::is_closed(s)
 }
 
-// The page's bytes that an answer wrote.
-fn written(reply: Answer, page: &[u8]) -> usize
-    ensures { result ≤ length page.now }
-{
-    (reply.wrote as usize).min(page.len())
-}
-
 // Writes the answers of a text.
 fn answer(rt: &(impl Print + Eprint), text: &[u8]) -> io::Result<()> {
     if !holds_all(text) {
         return eprintln!(rt; "yard: the first 60 lines have more than 65536 bytes");
     }
     let mut out = page();
-    let reply: Answer = simulator::simulate(text, &mut out);
-    let n = written(reply, &out);
+    let wrote = simulator::simulate(text, &mut out).unwrap_or(0) as usize;
+    let n = wrote.min(out.len());
     rt.write_all(&out[..n])
 }
 

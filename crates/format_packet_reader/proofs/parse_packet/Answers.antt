@@ -1,13 +1,18 @@
 -- What is left to show of `format_packet_reader::parse_packet`.
+use mathlib.Core.Path.{◌≡◌, sym, ◌∙◌}
 use native.Mathlib.Omega.{arith}
+use lib.ListN.{length}
+use borrow.Author.Tests.{eqb-true}
 use Rattle.format_numbers.proofs.Past.{past}
 use Rattle.format_numbers.proofs.Picks.{picks}
 use Rattle.model.specs.Packets.{parse_packet}
 use Rattle.format_packet_reader.proofs.parse_packet.Goals as goal
 
-pub returns-then-packet-eq0 : goal.returns-then-packet-eq0
+pub returns-then-is_empty : goal.returns-then-is_empty
 unfolding parse_packet
-returns-then-packet-eq0 c = rw (← past c.args.packet.now 0 (omega arith))
+returns-then-is_empty c =
+    let none : length c.args.packet.now ≡ 0 = eqb-true _ 0 (sym c.is_empty.ensures ∙ c.if-is_empty.true) in
+    rw (← past c.args.packet.now 0 (omega arith))
 
 pub returns-in-1 : goal.returns-in-1
 unfolding parse_packet

@@ -3,4 +3,4 @@ use Rattle.kernel.proofs.Words.{checkpoint_in}
 use Rattle.kernel.proofs.mantelorris_checkpoint.Goals as goal
 
 pub returns : goal.returns
-returns c = checkpoint_in c.word_of.ensures c.checkpoint.ensures
+returns c = checkpoint_in c.outcome_word.ensures c.checkpoint.ensures

@@ -3,4 +3,4 @@ use Rattle.kernel.proofs.Words.{returned_in}
 use Rattle.kernel.proofs.mantelorris_give.Goals as goal
 
 pub returns : goal.returns
-returns c = returned_in c.word_of.ensures c.give.ensures
+returns c = returned_in c.outcome_word.ensures c.give.ensures

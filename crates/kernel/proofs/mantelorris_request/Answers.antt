@@ -3,4 +3,4 @@ use Rattle.kernel.proofs.Words.{returned_in}
 use Rattle.kernel.proofs.mantelorris_request.Goals as goal
 
 pub returns : goal.returns
-returns c = returned_in c.word_of.ensures c.request.ensures
+returns c = returned_in c.word_of.ensures (rw c.request_answer.ensures c.request.ensures)

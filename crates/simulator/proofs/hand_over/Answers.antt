@@ -10,4 +10,4 @@ pub overflow_cast-result : goal.overflow_cast-result
 overflow_cast-result c = omega (arith, c.requires.0)
 
 pub returns : goal.returns
-returns c = handed-over _ _ _ _ c.if-out-n.false c.copy_bytes.ensures
+returns c = handed-over _ _ _ _ c.if-out-n.false c.requires.1 c.copy_from_slice.ensures.after

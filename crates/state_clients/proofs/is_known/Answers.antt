@@ -1,10 +1,8 @@
 -- What is left to show of `state_clients::is_known`.
-use Rattle.state_clients.specs.Ordered.{is_at, is_known}
+use mathlib.Core.Path.{◌∙◌}
 use Rattle.model.specs.States.{load}
-use mathlib.Core.Path.{ap, ◌∙◌}
-use Prim.Native.Nat.{ℕ}
+use Rattle.state_clients.proofs.Loops.{known_ok}
 use Rattle.state_clients.proofs.is_known.Goals as goal
 
 pub returns : goal.returns
-unfolding is_known
-returns c = let start = c.args in c.is_at.ensures ∙ ap (λ (k : ℕ). is_at start.client k (load start.s.now).floors) c.place-i.ensures
+returns c = c.is_ok.ensures.value ∙ known_ok c.args.client (load c.args.s.now).floors c.place.ensures

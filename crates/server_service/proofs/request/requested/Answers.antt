@@ -13,9 +13,6 @@ use Rattle.server_service.proofs.Requests.{denies, replies, executes}
 use Rattle.server_service.proofs.Passed.{request-number, request-space, request-timed, request-place, request-room}
 use Rattle.server_service.proofs.request.requested.Goals as goal
 
-pub free_in-free-requires : goal.free_in-free-requires
-free_in-free-requires c = (omega (arith, c.requires.0.long), c.requires.0.logged)
-
 pub request_decision-requires : goal.request_decision-requires
 request_decision-requires c =
     (canonical-sound _ (λ i. (c.slice_known-1.given i).fits) c.requires.0.sound, c.requires.1)
