@@ -47,7 +47,7 @@ LEAVES = {
     'server_recover': 'replay_log rebuild',
     'server_found': 'found_state',
     'server_inspect': 'index_of place_of latest_in',
-    'client': 'issue_change resend_answer receive_change',
+    'client': 'issue_change not_issued resend_answer receive_change',
     'leases': 'stored',
     'simulator_text': 'put_reply',
     'simulator': 'deliver_line server_step client_step step new_simulator run_new',
