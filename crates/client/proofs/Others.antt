@@ -28,26 +28,24 @@ use Rattle.model_laws.proofs.Tests.{choose}
 use Rattle.client.specs.Changes.{packet_call, client_packet, OfCall}
 use Rattle.model.specs.Clients.{not_started, start_with, start_of, not_received, receive_with, receive_of}
 
-pub not-grant : (p : Option Packet) → ((g : Grant) → p ≡ Some (Granted g) → ⊥) → start_with p ≡ not_started
+pub not-grant : (p : Packet) → ((g : Grant) → p ≡ Granted g → ⊥) → start_with (Some p) ≡ not_started
 unfolding start_with
-not-grant None h = refl
-not-grant (Some (Requested q)) h = refl
-not-grant (Some (Resulted r)) h = refl
-not-grant (Some (Refused r)) h = refl
-not-grant (Some (Receipted r)) h = refl
-not-grant (Some (Noticed n)) h = refl
-not-grant (Some (Granted g)) h = absurd (h g refl)
+not-grant (Requested q) h = refl
+not-grant (Resulted r) h = refl
+not-grant (Refused r) h = refl
+not-grant (Receipted r) h = refl
+not-grant (Noticed n) h = refl
+not-grant (Granted g) h = absurd (h g refl)
 
-pub not_taken : (d : Client) (p : Option Packet) → ((r : ResultPacket) → p ≡ Some (Resulted r) → ⊥) → ((r : RefusalPacket) → p ≡ Some (Refused r) → ⊥) → ((g : Grant) → p ≡ Some (Granted g) → ⊥)
-    → receive_with d p ≡ not_received d refusal.Malformed
+pub not_taken : (d : Client) (p : Packet) → ((r : ResultPacket) → p ≡ Resulted r → ⊥) → ((r : RefusalPacket) → p ≡ Refused r → ⊥) → ((g : Grant) → p ≡ Granted g → ⊥)
+    → receive_with d (Some p) ≡ not_received d refusal.Malformed
 unfolding receive_with
-not_taken d None h2 h3 h6 = refl
-not_taken d (Some (Requested q)) h2 h3 h6 = refl
-not_taken d (Some (Resulted r)) h2 h3 h6 = absurd (h2 r refl)
-not_taken d (Some (Refused r)) h2 h3 h6 = absurd (h3 r refl)
-not_taken d (Some (Receipted r)) h2 h3 h6 = refl
-not_taken d (Some (Noticed n)) h2 h3 h6 = refl
-not_taken d (Some (Granted g)) h2 h3 h6 = absurd (h6 g refl)
+not_taken d (Requested q) h2 h3 h6 = refl
+not_taken d (Resulted r) h2 h3 h6 = absurd (h2 r refl)
+not_taken d (Refused r) h2 h3 h6 = absurd (h3 r refl)
+not_taken d (Receipted r) h2 h3 h6 = refl
+not_taken d (Noticed n) h2 h3 h6 = refl
+not_taken d (Granted g) h2 h3 h6 = absurd (h6 g refl)
 
 -- a packet of one kind is malformed, or has its kind's length
 whole_case : (P : Option Packet → Type 0) (b : List ℕ) (kind : ℕ) (ok : Bool) (p : Packet) → P None → (length b ≡ packet_length kind → P (Some p)) → P (whole b kind ok p)

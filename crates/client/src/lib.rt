@@ -3,7 +3,7 @@
 // that one who is lent a client stores that alone.
 #![tactic(auto)]
 
-ghost use Rattle.std.specs.Prelude.{◌≡◌, ◌<◌, length, set};
+ghost use Rattle.std.specs.Prelude.{◌≡◌, ◌<◌, length, set, Some};
 ghost use Rattle.model.specs.Limits.{last32, call_window};
 ghost use Rattle.model.specs.Clients.{no_call, place_of, call_at, least_open, first_open, not_sent, not_received};
 ghost use Rattle.model.specs.Clients.{with_call, start_with, start_of, issue_of, resend_of, is_own, receive_with, receive_of};
@@ -112,10 +112,10 @@ fn request_with(d: Client, opened: OpenCall, done: u32) -> Request
 
 // ---- start
 
-fn started(packet: Option<Packet>) -> Result<StartFields, Refusal>
-    ensures { start_by result ≡ start_with packet }
+fn started(packet: Packet) -> Result<StartFields, Refusal>
+    ensures { start_by result ≡ start_with (Some packet) }
 {
-    let Some(Packet::Granted(grant)) = packet else {
+    let Packet::Granted(grant) = packet else {
         return Err(Refusal::Malformed);
     };
     Ok(StartFields {
@@ -142,7 +142,10 @@ fn parse_start(packet: &[u8]) -> Option<Packet>
 pub fn start_fields(packet: &[u8]) -> Result<StartFields, Refusal>
     ensures { start_by result ≡ start_of packet.now }
 {
-    started(parse_start(packet))
+    let Some(parsed) = parse_start(packet) else {
+        return Err(Refusal::Malformed);
+    };
+    started(parsed)
 }
 
 // ---- issue, resend: opened is what stands at the call's place
@@ -259,21 +262,21 @@ fn not_received(d: Client, opened: OpenCall, c: u32, refusal: Refusal) -> Receiv
 }
 
 // Only a result closes its call.
-fn taken(d: Client, opened: OpenCall, c: u32, packet: Option<Packet>) -> ReceiveChange
-    requires { (opened ≡ call_at d c) × OfCall c packet }
-    ensures { received d c result ≡ receive_with d packet }
+fn taken(d: Client, opened: OpenCall, c: u32, packet: Packet) -> ReceiveChange
+    requires { (opened ≡ call_at d c) × OfCall c (Some packet) }
+    ensures { received d c result ≡ receive_with d (Some packet) }
 {
     let (lease, call, answer) = match packet {
-        Some(Packet::Resulted(r)) if is_own(d, opened, r.client, r.call, r.point) => {
+        Packet::Resulted(r) if is_own(d, opened, r.client, r.call, r.point) => {
             (d.lease, no_call(), Received::Completed(r))
         }
-        Some(Packet::Refused(r)) if is_own(d, opened, r.client, r.call, r.point) => {
+        Packet::Refused(r) if is_own(d, opened, r.client, r.call, r.point) => {
             (d.lease, opened, Received::Denied(r))
         }
-        Some(Packet::Granted(grant)) if (grant.client == d.client) & (d.lease <= grant.lease) => {
+        Packet::Granted(grant) if (grant.client == d.client) & (d.lease <= grant.lease) => {
             (grant.lease, opened, Received::Extended(grant))
         }
-        Some(Packet::Resulted(_) | Packet::Refused(_) | Packet::Granted(_)) => {
+        Packet::Resulted(_) | Packet::Refused(_) | Packet::Granted(_) => {
             return not_received(d, opened, c, Refusal::Unknown);
         }
         _ => return not_received(d, opened, c, Refusal::Malformed),
@@ -291,7 +294,11 @@ pub fn receive_change(d: Client, opened: OpenCall, packet: &[u8]) -> ReceiveChan
     requires { opened ≡ call_at d (packet_call packet.now) }
     ensures { received d (packet_call packet.now) result ≡ receive_of d packet.now }
 {
-    taken(d, opened, packet_call(packet), client_packet(packet))
+    let c = packet_call(packet);
+    let Some(parsed) = client_packet(packet) else {
+        return not_received(d, opened, c, Refusal::Malformed);
+    };
+    taken(d, opened, c, parsed)
 }
 
 // ---- the operations, by value

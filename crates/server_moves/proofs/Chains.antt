@@ -192,24 +192,26 @@ module _ (s log : List ℕ) where
   release_settled p a b e f = rw (e, f, a, b)
 
 -- 1 any other packet
-pub release_other : (s log : List ℕ) (p : Option Packet) → ((r : Receipt) → p ≡ Some (Receipted r) → ⊥) → after (answer_of malformed 0) s log [] ≡ settled_by (λ st free. on_release st free p) s log []
+pub release_other : (s log : List ℕ) (p : Packet) → ((r : Receipt) → p ≡ Receipted r → ⊥) → after (answer_of malformed 0) s log [] ≡ settled_by (λ st free. on_release st free (Some p)) s log []
 unfolding on_release or_malformed as_receipt settle
-release_other s log None h = refl
-release_other s log (Some (Requested q)) h = refl
-release_other s log (Some (Resulted r)) h = refl
-release_other s log (Some (Refused r)) h = refl
-release_other s log (Some (Receipted r)) h = absurd (h r refl)
-release_other s log (Some (Noticed n)) h = refl
-release_other s log (Some (Granted g)) h = refl
+release_other s log (Requested q) h = refl
+release_other s log (Resulted r) h = refl
+release_other s log (Refused r) h = refl
+release_other s log (Receipted r) h = absurd (h r refl)
+release_other s log (Noticed n) h = refl
+release_other s log (Granted g) h = refl
 
-pub release-placed : (b : List ℕ) → Bytes b → {p : Option Packet} → p ≡ parse_packet b → Placed p
-release-placed b h {p} e = go p e
+pub release-none : (s log : List ℕ) → after (answer_of malformed 0) s log [] ≡ settled_by (λ st free. on_release st free None) s log []
+unfolding on_release or_malformed as_receipt settle
+release-none s log = refl
+
+pub release-placed : (b : List ℕ) → Bytes b → {o : Option Packet} {p : Packet} → o ≡ parse_packet b → o ≡ Some p → Placed p
+release-placed b h {p = p} e is = go p (sym is ∙ e)
   where
-    go : (q : Option Packet) → q ≡ parse_packet b → Placed q
-    go None k = tt
-    go (Some (Requested q)) k = tt
-    go (Some (Resulted q)) k = tt
-    go (Some (Refused q)) k = tt
-    go (Some (Receipted q)) k = parsed-receipt b q h (sym k)
-    go (Some (Noticed q)) k = tt
-    go (Some (Granted q)) k = tt
+    go : (q : Packet) → Some q ≡ parse_packet b → Placed q
+    go (Requested q) k = tt
+    go (Resulted q) k = tt
+    go (Refused q) k = tt
+    go (Receipted q) k = parsed-receipt b q h (sym k)
+    go (Noticed q) k = tt
+    go (Granted q) k = tt

@@ -1,7 +1,7 @@
 -- The refusal's number of each call that moves a point, on its lent slices; 0 if it is not refused. Tests as in Operations and
 -- Decisions, in the same order. And the records that a give and a release append.
 -- Assumes nothing.
-use Rattle.std.specs.Prelude.{ℕ, suc, ◌≤◌, List, eqb, ltb, Option, Some, None}
+use Rattle.std.specs.Prelude.{ℕ, suc, ◌≤◌, List, eqb, ltb}
 use Rattle.model.specs.declared.Give.{Give}
 use Rattle.model.specs.declared.Release.{Release}
 use Rattle.model.specs.declared.Packet.{Packet}
@@ -49,11 +49,10 @@ unfoldable pub release_for : State → ℕ → Release
 release_for st p = record { point = p; move_number = (point_at st p).move_number }
 
 -- a packet's point, where a release reads it, is in range
-abbrev pub Placed : Option Packet → Type 0
-Placed None = Unit
-Placed (Some (Requested q)) = Unit
-Placed (Some (Resulted r)) = Unit
-Placed (Some (Refused r)) = Unit
-Placed (Some (Receipted r)) = r.point ≤ last_point
-Placed (Some (Noticed n)) = Unit
-Placed (Some (Granted g)) = Unit
+abbrev pub Placed : Packet → Type 0
+Placed (Requested q) = Unit
+Placed (Resulted r) = Unit
+Placed (Refused r) = Unit
+Placed (Receipted r) = r.point ≤ last_point
+Placed (Noticed n) = Unit
+Placed (Granted g) = Unit
