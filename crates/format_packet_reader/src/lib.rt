@@ -14,7 +14,8 @@ fn parse_request(packet: &[u8]) -> Option<Packet>
         return None;
     }
     let q = format_fields::request_at(packet);
-    let ok = format_numbers::zero_at(packet, constants::REQUEST_ZERO) & format_fields::request_ok(q);
+    let ok = format_numbers::zero_at(packet, constants::REQUEST_ZERO)
+        & format_fields::request_ok(q);
     ok.then_some(Packet::Requested(q))
 }
 
@@ -48,7 +49,8 @@ pub fn parse_refusal(packet: &[u8]) -> Option<Packet>
         return None;
     }
     let denied = format_fields::refusal_at(packet);
-    let ok = format_numbers::zero_at(packet, constants::REFUSAL_ZERO) & format_fields::refusal_ok(denied);
+    let ok = format_numbers::zero_at(packet, constants::REFUSAL_ZERO)
+        & format_fields::refusal_ok(denied);
     ok.then_some(Packet::Refused(denied))
 }
 
@@ -59,7 +61,8 @@ fn parse_receipt(packet: &[u8]) -> Option<Packet>
         return None;
     }
     let receipt = format_fields::receipt_at(packet);
-    let ok = format_numbers::zero_at(packet, constants::RECEIPT_ZERO) & format_fields::receipt_ok(receipt);
+    let ok = format_numbers::zero_at(packet, constants::RECEIPT_ZERO)
+        & format_fields::receipt_ok(receipt);
     ok.then_some(Packet::Receipted(receipt))
 }
 
@@ -70,7 +73,8 @@ fn parse_notice(packet: &[u8]) -> Option<Packet>
         return None;
     }
     let notice = format_fields::notice_at(packet);
-    let ok = format_numbers::zeros3_at(packet, constants::NOTICE_ZEROS) & format_fields::notice_ok(notice);
+    let ok = format_numbers::zeros3_at(packet, constants::NOTICE_ZEROS)
+        & format_fields::notice_ok(notice);
     ok.then_some(Packet::Noticed(notice))
 }
 
@@ -81,7 +85,8 @@ pub fn parse_grant(packet: &[u8]) -> Option<Packet>
         return None;
     }
     let grant = format_fields::grant_at(packet);
-    let ok = format_numbers::zeros3_at(packet, constants::GRANT_ZEROS) & format_fields::grant_ok(grant);
+    let ok = format_numbers::zeros3_at(packet, constants::GRANT_ZEROS)
+        & format_fields::grant_ok(grant);
     ok.then_some(Packet::Granted(grant))
 }
 

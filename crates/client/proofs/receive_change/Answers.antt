@@ -9,7 +9,7 @@ use Rattle.client.proofs.receive_change.Goals as goal
 pub taken-requires : goal.taken-requires
 taken-requires c =
     let of : OfCall (packet_call c.args.packet.now) (Some _) = subst (OfCall (packet_call c.args.packet.now)) (sym c.client_packet.ensures ∙ c.in-Some.is) (of_call _) in
-    (rw c.packet_call-c.ensures c.requires, rw c.packet_call-c.ensures of)
+    (rw c.packet_call-c.ensures c.requires, subst (λ x. OfCall x (Some c.in-Some.parsed)) (sym c.packet_call-c.ensures) of)
 
 pub returns-in_default : goal.returns-in_default
 unfolding receive_with
