@@ -2,7 +2,6 @@
 --     and-true       a test joined with true is itself
 --     role_by, role_some, role-none     the role of a point
 --     at_inside      what stands inside a list does not depend on the default
---     not_completed      an answer of another kind leaves the reads
 --     issue-none, issue_bad, issue_open, issue_unsafe, issue-passed
 -- Assumes nothing.
 use mathlib.Core.Path.{◌≡◌, refl, sym, ◌∙◌}
@@ -19,18 +18,15 @@ use Rattle.std.specs.List.{position, position_or_len}
 use Rattle.std.proofs.lemmas.List.Recursion.{is_position_or_len}
 use Rattle.model.specs.Choice.{pick}
 use Rattle.model.specs.Tables.{index_of}
-use Rattle.model.specs.declared.Received.{Received}
-use Rattle.model.specs.declared.ResultPacket.{ResultPacket}
-use Rattle.model.specs.declared.Received.TheVariants.{NotReceived, Completed, Denied, Extended}
 use Rattle.model.specs.declared.SendAnswer.{SendAnswer}
 use Rattle.model.specs.Packets.{command_ok}
-use Rattle.model.specs.Refusals.{malformed, window_full, not_safe}
+use Rattle.model.specs.declared.Refusal.TheVariants.{Malformed, WindowFull, NotSafe}
 use Rattle.model.specs.Clients.{first_open, issue_of}
 use Rattle.chamber_claim.specs.declared.LockPoints.{LockPoints}
 use Rattle.chamber_claim.specs.declared.Chamber.{Chamber}
 use Rattle.chamber_claim.specs.declared.ChamberSend.{ChamberSend}
 use Rattle.chamber.specs.Roles.{role_of}
-use Rattle.chamber_claim.specs.Chamber.{role_count, lower_gate, lower_level, point_list, role_in, op_ok, is_opening, may_open, reads_by, not_sent_in, sent_in, issue_in}
+use Rattle.chamber_claim.specs.Chamber.{role_count, lower_gate, lower_level, point_list, role_in, op_ok, is_opening, may_open, not_sent_in, sent_in, issue_in}
 
 pub and-true : (t : Bool) → (t && true) ≡ t
 and-true true = refl
@@ -40,13 +36,6 @@ pub at_inside : {A : Type 0} (l : List A) (i : ℕ) (d e : A) → i < length l �
 at_inside [] i d e h = absurd (not-suc-le-zero h)
 at_inside (x ∷ xs) zero d e h = refl
 at_inside (x ∷ xs) (suc i) d e h = at_inside xs i d e (le_of_suc-le-suc h)
-
-pub not_completed : (ch : Chamber) (a : Received) → ((r : ResultPacket) → a ≡ Completed r → ⊥) → reads_by ch a ≡ ch.reads
-unfolding reads_by
-not_completed ch (NotReceived n) h = refl
-not_completed ch (Completed r) h = absurd (h r refl)
-not_completed ch (Denied r) h = refl
-not_completed ch (Extended g) h = refl
 
 -- ---- the role of a point
 
@@ -59,6 +48,7 @@ role-found s p =
     next : (b : Bool) (n : ℕ) → pick b 0 (suc n) ≡ cond b 0 (1 + n)
     next true n = refl
     next false n = omega arith
+
     go : (a b c d e : Bool) → pick a 0 (suc (pick b 0 (suc (pick c 0 (suc (pick d 0 (suc (pick e 0 1)))))))) ≡ pick a 0 (pick b 1 (pick c 2 (pick d 3 (pick e 4 5))))
     go true b c d e = refl
     go false true c d e = refl
@@ -101,23 +91,23 @@ op-none : (i op : ℕ) → role_count ≤ i → op_ok i op ≡ false
 unfolding op_ok
 op-none i op h = rw (lt-leb i lower_gate (omega arith), lt-leb i lower_level (omega arith)) refl
 
-pub issue-none : (ch : Chamber) (op point a : ℕ) → None ≡ role_of ch.points point → {r : ChamberSend} → r ≡ not_sent_in ch malformed → r ≡ issue_in ch op point a
+pub issue-none : (ch : Chamber) (op point a : ℕ) → None ≡ role_of ch.points point → {r : ChamberSend} → r ≡ not_sent_in ch Malformed → r ≡ issue_in ch op point a
 unfolding issue_in
 issue-none ch op point a none e =
     rw (op-none (role_in ch.points point) op (role-none ch.points point none), and-false (command_ok op point a)) e
 
 module _ (ch : Chamber) (op point a : ℕ) {i : ℕ} (role : i ≡ role_in ch.points point) {u v : Bool} (ok : u ≡ command_ok op point a) (fits : v ≡ op_ok i op) {r : ChamberSend} where
-  pub issue_bad : not (u && v) ≡ true → r ≡ not_sent_in ch malformed → r ≡ issue_in ch op point a
+  pub issue_bad : not (u && v) ≡ true → r ≡ not_sent_in ch Malformed → r ≡ issue_in ch op point a
   unfolding issue_in
   issue_bad bad e = rw (← role, ← ok, ← fits, bad) e
 
   module _ (good : not (u && v) ≡ false) {first : ℕ} (least : first ≡ first_open ch.client) where
-    pub issue_open : first < ch.client.next → r ≡ not_sent_in ch window_full → r ≡ issue_in ch op point a
+    pub issue_open : first < ch.client.next → r ≡ not_sent_in ch WindowFull → r ≡ issue_in ch op point a
     unfolding issue_in
     issue_open under e = rw (← role, ← ok, ← fits, good, ← least, lt-ltb _ _ under) e
 
     module _ (none : ch.client.next ≤ first) {o m : Bool} (opening : o ≡ is_opening op a) (may : m ≡ may_open ch i) where
-      pub issue_unsafe : (o && not m) ≡ true → r ≡ not_sent_in ch not_safe → r ≡ issue_in ch op point a
+      pub issue_unsafe : (o && not m) ≡ true → r ≡ not_sent_in ch NotSafe → r ≡ issue_in ch op point a
       unfolding issue_in
       issue_unsafe bad e = rw (← role, ← ok, ← fits, good, ← least, le-ltb _ _ none, ← opening, ← may, bad) e
 

@@ -18,13 +18,12 @@ use Rattle.model_laws.proofs.Tests.{and_left, and_right}
 use Rattle.model_laws.proofs.Clients.{ReceiveCase, receive_case, issue-asked}
 use Rattle.model.specs.declared.Client.{Client}
 use Rattle.model.specs.declared.Request.{Request}
-use Rattle.model.specs.declared.Started.{Started}
-use Rattle.model.specs.declared.Started.TheVariants.{NotStarted, Running}
-use Rattle.model.specs.declared.Sent.TheVariants.{NotSent, Asked}
-use Rattle.model.specs.declared.Received.TheVariants.{NotReceived}
+use Rattle.std.proofs.Common.{Result, Ok, Err}
+use Rattle.model.specs.declared.Refusal.{Refusal}
+use Rattle.model.specs.declared.Refusal.TheVariants.{Malformed, WindowFull}
+use Rattle.model.specs.declared.Refusal.TheVariants as refusal
 use Rattle.model.specs.Limits.{call_window, last32}
 use Rattle.model.specs.Packets.{command_ok, parse_packet}
-use Rattle.model.specs.Refusals.{malformed, window_full, not_safe}
 use Rattle.model.specs.Clients.{first_open, not_sent, sent, start_of, issue_of, resend_of, not_received, receive_of, send_number}
 use Rattle.chamber_claim.specs.declared.LockPoints.{LockPoints}
 use Rattle.chamber_claim.specs.declared.Chamber.{Chamber}
@@ -43,10 +42,10 @@ is_busy ch = ltb (first_open ch.client) ch.client.next
 -- ---- the exits of an issue
 
 pub data IssueExit (ch : Chamber) (op point a : ℕ) : Type 0 where
-  untaken : takes ch op point a ≡ false → issue_in ch op point a ≡ not_sent_in ch malformed → IssueExit ch op point a
-  busy : takes ch op point a ≡ true → is_busy ch ≡ true → issue_in ch op point a ≡ not_sent_in ch window_full → IssueExit ch op point a
+  untaken : takes ch op point a ≡ false → issue_in ch op point a ≡ not_sent_in ch Malformed → IssueExit ch op point a
+  busy : takes ch op point a ≡ true → is_busy ch ≡ true → issue_in ch op point a ≡ not_sent_in ch WindowFull → IssueExit ch op point a
   unsafe : takes ch op point a ≡ true → is_busy ch ≡ false → (is_opening op a && not (may_open ch (role_in ch.points point))) ≡ true
-      → issue_in ch op point a ≡ not_sent_in ch not_safe → IssueExit ch op point a
+      → issue_in ch op point a ≡ not_sent_in ch refusal.NotSafe → IssueExit ch op point a
   allowed : takes ch op point a ≡ true → is_busy ch ≡ false → (is_opening op a && not (may_open ch (role_in ch.points point))) ≡ false
       → issue_in ch op point a ≡ sent_in ch op (issue_of ch.client op point a) → IssueExit ch op point a
 
@@ -62,7 +61,7 @@ issue_exit ch op point a = go (takes ch op point a) (is_busy ch) (is_opening op 
 
 -- ---- as the client
 
-pub issue_as_client : (ch : Chamber) (op point a : ℕ) {q : Request} → (issue_in ch op point a).answer ≡ Asked q
+pub issue_as_client : (ch : Chamber) (op point a : ℕ) {q : Request} → (issue_in ch op point a).answer ≡ Ok q
     → ((issue_in ch op point a).answer ≡ (issue_of ch.client op point a).answer)
     × ((issue_in ch op point a).chamber.client ≡ (issue_of ch.client op point a).client)
 issue_as_client ch op point a {q} e =
@@ -89,7 +88,7 @@ pub record NotSafe (ch : Chamber) (op point a : ℕ) : Type 0 where
   pub not-clear : may_open ch (role_in ch.points point) ≡ false
 
 -- the client does not give 20
-client-not : (d : Client) (op point a : ℕ) → (issue_of d op point a).answer ≡ NotSent not_safe → ⊥
+client-not : (d : Client) (op point a : ℕ) → (issue_of d op point a).answer ≡ Err refusal.NotSafe → ⊥
 unfolding issue_of not_sent sent send_number
 client-not d op point a e = go (command_ok op point a) (leb (first_open d + call_window) d.next) (leb last32 d.next) refl refl refl
   where
@@ -100,7 +99,7 @@ client-not d op point a e = go (command_ok op point a) (leb (first_open d + call
     go true false false p q r = let z = ap send_number (rw (p, q, r) at e) in omega arith
 
 module _ (ch : Chamber) (op point a : ℕ) where
-  not-safe_when : (issue_in ch op point a).answer ≡ NotSent not_safe → NotSafe ch op point a
+  not-safe_when : (issue_in ch op point a).answer ≡ Err refusal.NotSafe → NotSafe ch op point a
   unfolding not_sent_in sent_in send_number
   not-safe_when e = elim (issue_exit ch op point a) [
     | untaken p is ↦ let z = ap send_number (rw is at e) in absurd (omega arith)
@@ -114,25 +113,25 @@ module _ (ch : Chamber) (op point a : ℕ) where
     | allowed p q r is ↦ absurd (client-not ch.client op point a (rw is at e))
   ]
 
-  not-safe-then : NotSafe ch op point a → (issue_in ch op point a).answer ≡ NotSent not_safe
+  not-safe-then : NotSafe ch op point a → (issue_in ch op point a).answer ≡ Err refusal.NotSafe
   unfolding issue_in takes is_busy not_sent_in
   not-safe-then h = rw (h.taken, h.free, h.opening, h.not-clear) refl
 
-  pub issue-not-safe : ((issue_in ch op point a).answer ≡ NotSent not_safe) ↔ NotSafe ch op point a
+  pub issue-not-safe : ((issue_in ch op point a).answer ≡ Err refusal.NotSafe) ↔ NotSafe ch op point a
   issue-not-safe = (not-safe_when, not-safe-then)
 
 -- ---- a refusal leaves the controller as it was
 
-pub start-refused : (packet : List ℕ) (s : LockPoints) {n : ℕ} → (start_in packet s).answer ≡ NotStarted n → (start_in packet s).chamber ≡ no_chamber
+pub start-refused : (packet : List ℕ) (s : LockPoints) {e : Refusal} → (start_in packet s).answer ≡ Err e → (start_in packet s).chamber ≡ no_chamber
 unfolding start_in started_in not_started_in
 start-refused packet s e = go (points_ok s) (start_of packet).answer refl refl
   where
-    go : (u : Bool) (a : Started) → points_ok s ≡ u → (start_of packet).answer ≡ a → (start_in packet s).chamber ≡ no_chamber
+    go : (u : Bool) (a : Result Unit Refusal) → points_ok s ≡ u → (start_of packet).answer ≡ a → (start_in packet s).chamber ≡ no_chamber
     go false a p q = rw p refl
-    go true (NotStarted m) p q = rw (p, q) refl
-    go true Running p q = let e' = rw (p, q) at e in let z : ◌≡◌ {A = ℕ} 0 1 = cc in absurd (omega arith)
+    go true (Err m) p q = rw (p, q) refl
+    go true (Ok tt) p q = let e' = rw (p, q) at e in let z : ◌≡◌ {A = ℕ} 0 1 = cc in absurd (omega arith)
 
-pub receive-refused : (ch : Chamber) (packet : List ℕ) {n : ℕ} → (receive_in ch packet).answer ≡ NotReceived n → (receive_in ch packet).chamber ≡ ch
+pub receive-refused : (ch : Chamber) (packet : List ℕ) {e : Refusal} → (receive_in ch packet).answer ≡ Err e → (receive_in ch packet).chamber ≡ ch
 unfolding receive_in receive_of reads_by not_received
 receive-refused ch packet e = go (receive_case ch.client (parse_packet packet))
   where

@@ -6,7 +6,6 @@
 ghost use Rattle.std.specs.Prelude.{◌≡◌, ◌<◌};
 ghost use Rattle.model.specs.Tables.{every};
 ghost use Rattle.model.specs.Clients.{no_client};
-ghost use Rattle.refusals.specs.Numbers.{number_of};
 ghost use Rattle.chamber.specs.Roles.{role_of};
 ghost use Rattle.chamber_claim.specs.Chamber.{role_count, point_list, all_different, is_point, points_ok, op_ok, no_read, read_at, is_opening};
 ghost use Rattle.chamber_claim.specs.Chamber.{valid_gate, valid_level, near, closed_seen, levels_seen, clear, may_open};
@@ -16,8 +15,7 @@ ghost use Rattle.chamber_claim.specs.Chamber.{not_sent_in, moved_by, sent_in, is
 use chamber_claim::{
     Chamber, ChamberReceive, ChamberSend, ChamberStart, LOCK_POINTS, LatestRead, LockPoints,
 };
-use model::{Client, Received, ResultPacket, SendAnswer, Sent, StartAnswer, Started, constants};
-use refusals::Refusal;
+use model::{Client, Received, Refusal, Request, ResultPacket, SendAnswer, StartAnswer, constants};
 
 // ---- the points of a lock, by their roles
 
@@ -211,12 +209,12 @@ fn no_chamber() -> Chamber
     new_chamber(points, no_client())
 }
 
-pub fn not_started(refusal: u32) -> ChamberStart
+pub fn not_started(refusal: Refusal) -> ChamberStart
     ensures { result ≡ not_started_in refusal }
 {
     ChamberStart {
         chamber: no_chamber(),
-        answer: Started::NotStarted(refusal),
+        answer: Err(refusal),
     }
 }
 
@@ -224,10 +222,10 @@ fn started_in(points: LockPoints, start: StartAnswer) -> ChamberStart
     ensures { result ≡ started_in points start }
 {
     match start.answer {
-        Started::NotStarted(refusal) => not_started(refusal),
-        Started::Running => ChamberStart {
+        Err(refusal) => not_started(refusal),
+        Ok(()) => ChamberStart {
             chamber: new_chamber(points, start.client),
-            answer: Started::Running,
+            answer: Ok(()),
         },
     }
 }
@@ -239,25 +237,25 @@ pub fn start(packet: &[u8], points: LockPoints) -> ChamberStart
     if points_ok(points) {
         return started_in(points, client::start(packet));
     }
-    not_started(Refusal::Malformed.number())
+    not_started(Refusal::Malformed)
 }
 
 // ---- issue
 
 pub fn not_sent(ch: Chamber, refusal: Refusal) -> ChamberSend
-    ensures { result ≡ not_sent_in ch (number_of refusal) }
+    ensures { result ≡ not_sent_in ch refusal }
 {
     ChamberSend {
         chamber: ch,
-        answer: Sent::NotSent(refusal.number()),
+        answer: Err(refusal),
     }
 }
 
 // The last set or part: this one, where it was issued.
-fn moved_by(ch: Chamber, op: u8, answer: Sent) -> u32
+fn moved_by(ch: Chamber, op: u8, answer: Result<Request, Refusal>) -> u32
     ensures { result ≡ moved_by ch op answer }
 {
-    let Sent::Asked(q) = answer else {
+    let Ok(q) = answer else {
         return ch.moved;
     };
     if op == constants::READ_OP {
@@ -343,13 +341,15 @@ fn reads_with(ch: Chamber, packet: ResultPacket) -> [LatestRead; LOCK_POINTS]
     reads
 }
 
-fn reads_by(ch: Chamber, answer: Received) -> [LatestRead; LOCK_POINTS]
+fn reads_by(ch: Chamber, answer: Result<Received, Refusal>) -> [LatestRead; LOCK_POINTS]
     ensures { result ≡ reads_by ch answer }
 {
-    let Received::Completed(packet) = answer else {
-        return ch.reads;
-    };
-    reads_with(ch, packet)
+    match answer {
+        Ok(Received::Completed(packet)) => reads_with(ch, packet),
+        Ok(Received::Denied(_)) => ch.reads,
+        Ok(Received::Extended(_)) => ch.reads,
+        Err(_) => ch.reads,
+    }
 }
 
 // Receive: 1 and 17 as the client.

@@ -8,7 +8,7 @@ use Prim.Native.Nat.{ℕ, ◌<◌}
 use native.Mathlib.Omega.{arith}
 use borrow.Author.Tests.{leb-true}
 use Rattle.model.specs.Limits.{last_point}
-use Rattle.model.specs.Refusals.{malformed}
+use Rattle.model.specs.declared.Refusal.TheVariants.{Malformed}
 use Rattle.model.specs.Tables.{every}
 use Rattle.model_laws.proofs.Tests.{and_left, and_right}
 use Rattle.model_laws.proofs.Commands.{command-past}
@@ -44,16 +44,16 @@ in_range_lem s e =
     let f4 = leb-true s.level3 last_point (and_left (is_point s.level3) _ (and_right (is_point s.level2) _ e3)) in
     record { upper = omega arith; lower = omega arith; level1 = omega arith; level2 = omega arith; level3 = omega arith }
 
-pub points-past : (packet : List ℕ) (s : LockPoints) → (Under 256 s → ⊥) → not_started_in malformed ≡ start_in packet s
+pub points-past : (packet : List ℕ) (s : LockPoints) → (Under 256 s → ⊥) → not_started_in Malformed ≡ start_in packet s
 unfolding start_in points_ok
 points-past packet s past = refused (every is_point (point_list s)) refl
   where
-    refused : (b : Bool) → every is_point (point_list s) ≡ b → not_started_in malformed ≡ start_in packet s
+    refused : (b : Bool) → every is_point (point_list s) ≡ b → not_started_in Malformed ≡ start_in packet s
     refused true f = absurd (past (in_range_lem s f))
     refused false f = rw f refl
 
 -- ---- issue
 
-pub issue-past : (ch : Chamber) (op point a : ℕ) → (op < 256 → point < 256 → ⊥) → not_sent_in ch malformed ≡ issue_in ch op point a
+pub issue-past : (ch : Chamber) (op point a : ℕ) → (op < 256 → point < 256 → ⊥) → not_sent_in ch Malformed ≡ issue_in ch op point a
 unfolding issue_in
 issue-past ch op point a past = rw (command-past op point a (past-test op point past)) refl

@@ -10,8 +10,7 @@ ghost use Rattle.chamber_c.specs.Replies.{start_reply_in, send_reply_in, receive
 
 use chamber_claim::{Chamber, ChamberReceive, ChamberSend, ChamberStart, LockPoints};
 use client_c::{ReceiveReply, SendReply};
-use model::{Started, constants};
-use refusals::Refusal;
+use model::{Refusal, constants};
 
 // ---- what C is given
 
@@ -39,12 +38,12 @@ pub struct ChamberReceiveReply {
 
 // ---- replies
 
-fn start_number(answer: Started) -> u32
+fn start_number(answer: Result<(), Refusal>) -> u32
     ensures { result ≡ start_number answer }
 {
     match answer {
-        Started::NotStarted(refusal) => refusal,
-        Started::Running => constants::NO_REFUSAL,
+        Ok(()) => constants::NO_REFUSAL,
+        Err(refusal) => refusal.number(),
     }
 }
 
@@ -97,7 +96,7 @@ pub extern "C" fn mantelorris_chamber_start(
         u8::try_from(level2),
         u8::try_from(level3),
     ) else {
-        return start_reply(chamber::not_started(Refusal::Malformed.number()));
+        return start_reply(chamber::not_started(Refusal::Malformed));
     };
     let points = LockPoints {
         upper,

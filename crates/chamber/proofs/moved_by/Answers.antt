@@ -10,8 +10,8 @@ returns-in_default c = rw c.in_default.is refl
 
 pub returns-then-op-eq-READ_OP : goal.returns-then-op-eq-READ_OP
 unfolding moved_by
-returns-then-op-eq-READ_OP c = rw (c.in-Asked.is, c.if-op-eq-READ_OP.true) refl
+returns-then-op-eq-READ_OP c = rw (c.in-Ok.is, c.if-op-eq-READ_OP.true) refl
 
 pub returns : goal.returns
 unfolding moved_by
-returns c = rw (c.in-Asked.is, ne_eqb _ _ c.if-op-eq-READ_OP.false) refl
+returns c = rw (c.in-Ok.is, ne_eqb _ _ c.if-op-eq-READ_OP.false) refl

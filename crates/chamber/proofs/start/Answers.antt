@@ -9,4 +9,4 @@ returns-then-points_ok c = rw (← c.points_ok.ensures, c.if-points_ok.true, ←
 
 pub returns : goal.returns
 unfolding start_in
-returns c = rw (← c.points_ok.ensures, c.if-points_ok.false, c.not_started.ensures, c.number.ensures) refl
+returns c = rw (← c.points_ok.ensures, c.if-points_ok.false, c.not_started.ensures) refl

@@ -3,10 +3,10 @@ use mathlib.Core.Path.{refl}
 use Rattle.chamber_claim.specs.Chamber.{started_in}
 use Rattle.chamber.proofs.started_in.Goals as goal
 
-pub returns-in-NotStarted : goal.returns-in-NotStarted
+pub returns-in-Err : goal.returns-in-Err
 unfolding started_in
-returns-in-NotStarted c = rw c.in-NotStarted.is c.not_started.ensures
+returns-in-Err c = rw c.in-Err.is c.not_started.ensures
 
-pub returns-in-Running : goal.returns-in-Running
+pub returns-in-Ok : goal.returns-in-Ok
 unfolding started_in
-returns-in-Running c = rw (c.in-Running.is, c.new_chamber.ensures) refl
+returns-in-Ok c = rw (c.in-Ok.is, c.new_chamber.ensures) refl

@@ -15,7 +15,7 @@ returns-in_default c =
       | in_default-via-in-Ok+in_default w ↦ OkIff-at_err _ _ _ _ c.try_from-2.ensures w.in_default.is-1 fits.lower
       | in_default-via-in_default w ↦ OkIff-at_err _ _ _ _ c.try_from.ensures w.in_default.is-0 fits.upper
     ]) in
-    rw (← past, ← c.number.ensures, ← c.not_started.ensures) c.start_reply.ensures
+    rw (← past, ← c.not_started.ensures) c.start_reply.ensures
 
 pub returns : goal.returns
 returns c =

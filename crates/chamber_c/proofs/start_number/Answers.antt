@@ -1,12 +1,12 @@
 -- What is left to show of `chamber_c::start_number`.
-use mathlib.Core.Path.{refl}
+use borrow.Author.Rules.{rules}
 use Rattle.model.specs.Clients.{start_number}
 use Rattle.chamber_c.proofs.start_number.Goals as goal
 
-pub returns-in-NotStarted : goal.returns-in-NotStarted
+pub returns-in-Ok : goal.returns-in-Ok
 unfolding start_number
-returns-in-NotStarted c = rw c.in-NotStarted.is refl
+returns-in-Ok c = search rules
 
-pub returns-in-Running : goal.returns-in-Running
+pub returns-in-Err : goal.returns-in-Err
 unfolding start_number
-returns-in-Running c = rw c.in-Running.is refl
+returns-in-Err c = search rules
