@@ -46,7 +46,7 @@ LEAVES = {
     'server_service': 'reply',
     'server_recover': 'replay_log rebuild',
     'server_found': 'found_state',
-    'server_inspect': 'index_of place_of latest_in',
+    'server_inspect': 'index_of latest_in',
     'client': 'issue_change not_issued resend_answer receive_change',
     'leases': 'stored',
     'simulator_text': 'put_reply',

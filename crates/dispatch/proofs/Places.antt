@@ -1,18 +1,19 @@
 -- The walks over the places of a dispatcher.
 --     count_most, count-least           how many wait
 --     waits-any                         whether a client's request waits
---     front-long, back-long, moved-end     all move one place to the front
+--     moved-next, moved-end             all move one place to the front
 -- Assumes nothing.
-use Prim.Native.Nat.{ℕ, suc, ◌+◌, ◌≤◌}
-use mathlib.Core.Path.{◌≡◌, refl, sym, ◌∙◌}
+use Prim.Native.Nat.{ℕ, suc, ◌+◌, ◌-◌, ◌≤◌, ◌<◌}
+use mathlib.Core.Path.{◌≡◌, refl, sym, ap, ◌∙◌}
 use mathlib.Core.Bool.{Bool, true, false, ◌||◌}
 use mathlib.Core.List.{List, [], ◌∷◌, ◌++◌}
 use Rattle.std.specs.List.{list_any}
 use Rattle.std.proofs.lemmas.Bool.Decides.{nat_tests}
 use native.Mathlib.Omega.{arith}
+use native.Mathlib.Numerals.{add-one}
 use lib.Dec.{leb, ltb}
 use lib.ListN.{length, get_or, set, take, drop, length-drop, drop_of_length-le}
-use lib.Seq.{length-take-le, take_all, drop-cons, set_at}
+use lib.Seq.{length-take-le, take_all, take-suc, drop-cons, append_snoc, get_or-drop, set_at}
 use borrow.Author.Tests.{leb-true}
 use Rattle.model.specs.Choice.{pick}
 use Rattle.model.specs.Tables.{index_of}
@@ -51,19 +52,25 @@ pub waits-any : (d : Dispatcher) (client : ℕ) → list_any (is_of client) (wai
 unfolding waits
 waits-any d client = any-found (is_of client) (waiting d)
 
--- ---- all move one place to the front
+-- ---- i have moved one place to the front
 
-module _ {A : Type 0} (xs : List A) (i : ℕ) (long : length xs ≡ i + 1) where
-  back : length (drop 1 xs) ≡ i
-  back = omega (arith, length-drop 1 xs)
+abbrev pub moved_by : {A : Type 0} → List A → ℕ → List A
+moved_by xs i = take i (drop 1 xs) ++ drop i xs
 
-  pub front-long : length (take i xs) ≡ i
-  front-long = length-take-le i xs (omega arith)
+module _ {A : Type 0} (xs : List A) (z : A) (i : ℕ) {ys : List A} (moved : ys ≡ moved_by xs i) where
+  pub moved-next : i + 1 < length xs → set ys i (get_or xs (i + 1) z) ≡ moved_by xs (i + 1)
+  moved-next h =
+      let back : List A = drop 1 xs in
+      let l : length back ≡ length xs - 1 = length-drop 1 xs in
+      let e : i + 1 ≡ 1 + i = omega arith in
+      let at : get_or xs (i + 1) z ≡ get_or back i z = ap (λ (k : ℕ). get_or xs k z) e ∙ sym (get_or-drop 1 xs i z) in
+      rw (moved, at, add-one, drop-cons xs i z (omega arith), take-suc back i z (omega arith))
+      (set_at (take i back) (get_or xs i z) (drop (suc i) xs) (get_or back i z) i (length-take-le i back (omega arith))
+      ∙ sym (append_snoc (take i back) (get_or back i z) (drop (suc i) xs)))
 
-  pub back-long : length (take i xs) ≡ length (take i (drop 1 xs))
-  back-long = front-long ∙ sym (length-take-le i (drop 1 xs) (omega (arith, back)))
-
-  pub moved-end : (z : A) {ys : List A} → ys ≡ take i (drop 1 xs) → set (ys ++ drop i xs) i z ≡ drop 1 xs ++ (z ∷ [])
-  moved-end z moved =
-      rw (moved, take_all i (drop 1 xs) (omega (arith, back)), drop-cons xs i z (omega arith), drop_of_length-le xs {i = suc i} (omega arith))
-      (set_at (drop 1 xs) (get_or xs i z) [] z i back)
+  pub moved-end : length xs ≡ i + 1 → set ys i z ≡ drop 1 xs ++ (z ∷ [])
+  moved-end h =
+      let back : List A = drop 1 xs in
+      let l : length back ≡ length xs - 1 = length-drop 1 xs in
+      rw (moved, take_all i back (omega arith), drop-cons xs i z (omega arith), drop_of_length-le xs {i = suc i} (omega arith))
+      (set_at back (get_or xs i z) [] z i (omega arith))

@@ -130,8 +130,11 @@ fn first_waiting(dispatcher: Dispatcher) -> Request
 fn moved_up(requests: [Request; WAITING_PLACES]) -> [Request; WAITING_PLACES]
     ensures { result ≡ drop 1 requests ++ (no_request ∷ []) }
 {
+    // copy_from_slice would call memmove: the library needs no C function but memcpy and memset.
     let mut moved = requests;
-    moved[..LAST_PLACE].copy_from_slice(&requests[1..]);
+    for i in 0..LAST_PLACE {
+        moved[i] = requests[i + 1];
+    }
     moved[LAST_PLACE] = no_request();
     moved
 }

@@ -69,6 +69,8 @@ fn must_clear(now: u32, lease: Lease) -> bool
 
 // ---- the 32 places
 
+// Not inlined: the compiler makes it wide, and three calls of C would have it twice each.
+#[inline(never)]
 fn running_at(now: u32, ls: [Lease; LEASE_COUNT]) -> [Lease; LEASE_COUNT]
     ensures { result ≡ running_at now ls }
 {

@@ -12,8 +12,7 @@ use mathlib.Core.List.{List, []}
 use mathlib.Core.Option.{Option as Maybe, none, some}
 use native.Mathlib.Omega.{arith}
 use denote.Ref.{Bor}
-use Rattle.std.specs.Prelude.{Option, Some}
-use Rattle.std.specs.Prelude.{Some, None}
+use Rattle.std.specs.Prelude.{Option, Some, None}
 use lib.ListN.{length, drop}
 use lib.Dec.{ltb}
 use borrow.Rule.Slice.PartAt.{part_count}

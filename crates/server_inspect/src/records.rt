@@ -57,7 +57,7 @@ pub fn index_of(
 }
 
 // The row of an index of n rows of width bytes from at, or `found` where there is none.
-pub fn place_of(
+pub(crate) fn place_of(
     source: u32,
     at: usize,
     width: usize,

@@ -11,8 +11,7 @@ use mathlib.Core.List.{List}
 use mathlib.Core.Option.{Option as Maybe, none, some}
 use native.Mathlib.Omega.{arith}
 use denote.Ref.{Bor}
-use Rattle.std.specs.Prelude.{Option, Some}
-use Rattle.std.specs.Prelude.{Some, None}
+use Rattle.std.specs.Prelude.{Option, Some, None}
 use lib.ListN.{length, drop}
 use Rattle.model.specs.Numbers.{word}
 use Rattle.model.specs.Images.{image_ok}

@@ -1,15 +1,20 @@
 -- What is left to show of `dispatch::moved_up`.
-use mathlib.Core.Path.{sym}
+use mathlib.Core.Path.{◌≡◌, refl}
+use native.Mathlib.Omega.{arith}
 use borrow.Author.Rules.{rules}
 use Rattle.dispatch_claim.specs.Dispatcher.{no_request}
-use Rattle.dispatch.proofs.Places.{front-long, back-long, moved-end}
+use Rattle.dispatch.proofs.Places.{moved-next, moved-end}
 use Rattle.dispatch.proofs.moved_up.Goals as goal
 
-pub slice_bounds-copy_from_slice-end : goal.slice_bounds-copy_from_slice-end
-slice_bounds-copy_from_slice-end c = sym (front-long c.args.requests 31 (search rules))
+pub loop-i-init : goal.loop-i-init
+loop-i-init c = (search rules, refl)
 
-pub copy_from_slice-requires : goal.copy_from_slice-requires
-copy_from_slice-requires c = back-long c.args.requests 31 (search rules)
+pub loop-i-preserved : goal.loop-i-preserved
+loop-i-preserved c =
+    let l = c.loop-i in (l.invariant.0, moved-next c.args.requests no_request l.i l.invariant.1 (omega arith))
 
 pub returns : goal.returns
-returns c = rw c.no_request.ensures (moved-end c.args.requests 31 (search rules) no_request c.copy_from_slice.ensures.after)
+returns c =
+    let l = c.loop-i in
+    let e : l.i ≡ 31 = omega arith in
+    rw c.no_request.ensures (moved-end c.args.requests no_request 31 (rw e at l.invariant.1) l.invariant.0)
