@@ -158,7 +158,8 @@ asks_for_lem k (Some (Receipted r)) e = untrue e
 asks_for_lem k (Some (Noticed n)) e = untrue e
 asks_for_lem k (Some (Granted g)) e = untrue e
 
-requests_of : (k : Command) (o : Maybe Operation) → requests k o ≡ true → (v : Versions) × (b : List ℕ) × (q : Request) × (o ≡ some (request v b)) × (parse_packet b ≡ Some (Requested q)) × (q.command ≡ k)
+requests_of : (k : Command) (o : Maybe Operation) → requests k o ≡ true
+    → (v : Versions) × (b : List ℕ) × (q : Request) × (o ≡ some (request v b)) × (parse_packet b ≡ Some (Requested q)) × (q.command ≡ k)
 unfolding requests
 requests_of k none e = untrue e
 requests_of k (some (request v b)) e = let z = asks_for_lem k (parse_packet b) e in (v, b, z.0, refl, z.1, z.2)

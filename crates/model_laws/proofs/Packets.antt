@@ -8,7 +8,7 @@
 use Rattle.std.specs.Prelude.{Option, Some, None}
 use Prim.Native.Nat.{ℕ}
 use mathlib.Core.Path.{◌≡◌, refl, sym, ap, ◌∙◌, subst}
-use mathlib.Core.Bool.{Bool, true, false, ◌&&◌, false≢true}
+use mathlib.Core.Bool.{Bool, true, false, ◌&&◌}
 use mathlib.Core.List.{List, [], ◌∷◌}
 use mathlib.Core.Option.{some}
 use native.Mathlib.Omega.{arith}
@@ -35,7 +35,6 @@ use Rattle.model_laws.specs.Codec.{Codec}
 use Rattle.model_laws.specs.Fields.{Field, byte, word32, signed, fixed, Bounded, BoundedAt, Layout, Computes}
 use Rattle.model_laws.specs.Fits.{TimeFits, RequestFits, ResultFits, RefusalFits, ReceiptFits, NoticeFits, GrantFits, packet_fits, packet_ok, kind_of, IsPacket}
 use Rattle.model_laws.proofs.Tests.{and_left, and_right, and_both, choose}
-use Rattle.model_laws.proofs.Numbers.{bytes-nil}
 use Rattle.model_laws.proofs.Fields.{codec}
 
 -- ---- the layouts
