@@ -7,6 +7,7 @@
 --     other-closed      the other gate is closed where an opening stands
 --     chamber_safe      the theorem
 -- Assumes nothing.
+use Rattle.std.specs.Prelude.{Some}
 use Prim.Native.Nat.{ℕ, zero, suc, ◌<◌, ◌≤◌}
 use mathlib.Core.Path.{◌≡◌, refl, sym, ◌∙◌, ap, subst}
 use mathlib.Core.Bool.{Bool, true, false}
@@ -65,7 +66,7 @@ executes-one plan es n c d j m x y =
     let v : x.versions ≡ y.versions = cc in
     let b : some x.bytes ≡ some y.bytes = sym x.delivered ∙ ap (packet (after es n)) p ∙ y.delivered in
     let f : x.bytes ≡ y.bytes = cc in
-    let q : Requested x.asked ≡ Requested y.asked = sym x.parsed ∙ ap parse_packet f ∙ y.parsed in
+    let q : Some (Requested x.asked) ≡ Some (Requested y.asked) = sym x.parsed ∙ ap parse_packet f ∙ y.parsed in
     let r : x.asked ≡ y.asked = cc in
     sym x.its ∙ ap (λ (z : Request). marked_by x.versions z.command) r ∙ rw v y.its
 

@@ -8,20 +8,20 @@ use mathlib.Core.Path.{◌≡◌, refl, sym, ◌∙◌, ap, subst}
 use mathlib.Core.Bool.{Bool, true, false, ◌&&◌, ◌||◌, not}
 use mathlib.Core.List.{List, [], ◌∷◌}
 use mathlib.Core.Logic.{◌⊎◌, inl, inr}
-use mathlib.Core.Option.{Option, none, some}
+use mathlib.Core.Option.{Option as Maybe, none, some}
 use native.Mathlib.Omega.{arith}
 use lib.IntN.{pos}
 use lib.ListN.{take, get_elem?}
 use lib.Dec.{eqb, leb}
 use borrow.Author.Tests.{eqb-true, leb-true, eq-eqb}
-use Rattle.std.specs.Prelude.{Result, Ok, Err}
+use Rattle.std.specs.Prelude.{Result, Ok, Err, Option, Some, None}
 use Rattle.model.specs.declared.Refusal.{Refusal}
 use Rattle.model.specs.declared.Answer.{Answer}
 use Rattle.model.specs.declared.Command.{Command}
 use Rattle.model.specs.declared.Notice.{Notice}
 use Rattle.model.specs.declared.Request.{Request}
 use Rattle.model.specs.declared.Packet.{Packet}
-use Rattle.model.specs.declared.Packet.TheVariants.{Malformed, Requested, Resulted, Refused, Receipted, Noticed, Granted}
+use Rattle.model.specs.declared.Packet.TheVariants.{Requested, Resulted, Refused, Receipted, Noticed, Granted}
 use Rattle.model.specs.Limits.{read_op}
 use Rattle.model.specs.Tables.{every}
 use Rattle.model.specs.Plan.{plan_of}
@@ -59,7 +59,7 @@ impossible e = let z : ◌≡◌ {A = ℕ} 0 1 = cc in absurd (omega arith)
 
 -- ---- single tests
 
-none_of : (o : Option Chamber) (ch : Chamber) → is_none o ≡ true → o ≡ some ch → ⊥
+none_of : (o : Maybe Chamber) (ch : Chamber) → is_none o ≡ true → o ≡ some ch → ⊥
 unfolding is_none
 none_of none ch e q = impossible q
 none_of (some x) ch e q = untrue e
@@ -75,22 +75,22 @@ reads_gate s op p e g = eqb-true op read_op (go (eqb p s.upper) (eqb p s.lower) 
     go false true false a b h = h
     go false false false a b h = elim g [ inl z ↦ untrue (sym a ∙ eq-eqb p s.upper z) | inr z ↦ untrue (sym b ∙ eq-eqb p s.lower z) ]
 
-held_in_lem : (p : ℕ) (o : Option State) → held_in p o ≡ true → (st : State) × (o ≡ some st) × (is_held (point_at st p) ≡ true)
+held_in_lem : (p : ℕ) (o : Maybe State) → held_in p o ≡ true → (st : State) × (o ≡ some st) × (is_held (point_at st p) ≡ true)
 unfolding held_in
 held_in_lem p none e = untrue e
 held_in_lem p (some st) e = (st, refl, e)
 
-notice-is : (x heard : ℕ) (k : Packet) → notice_is x heard k ≡ true → (n : Notice) × (k ≡ Noticed n) × (n.client ≡ x) × (leb n.time heard ≡ true)
+notice-is : (x heard : ℕ) (k : Option Packet) → notice_is x heard k ≡ true → (n : Notice) × (k ≡ Some (Noticed n)) × (n.client ≡ x) × (leb n.time heard ≡ true)
 unfolding notice_is
-notice-is x heard Malformed e = untrue e
-notice-is x heard (Requested q) e = untrue e
-notice-is x heard (Resulted r) e = untrue e
-notice-is x heard (Refused r) e = untrue e
-notice-is x heard (Receipted r) e = untrue e
-notice-is x heard (Noticed n) e = (n, refl, eqb-true _ _ (and_left (eqb n.client x) _ e), and_right (eqb n.client x) _ e)
-notice-is x heard (Granted g) e = untrue e
+notice-is x heard None e = untrue e
+notice-is x heard (Some (Requested q)) e = untrue e
+notice-is x heard (Some (Resulted r)) e = untrue e
+notice-is x heard (Some (Refused r)) e = untrue e
+notice-is x heard (Some (Receipted r)) e = untrue e
+notice-is x heard (Some (Noticed n)) e = (n, refl, eqb-true _ _ (and_left (eqb n.client x) _ e), and_right (eqb n.client x) _ e)
+notice-is x heard (Some (Granted g)) e = untrue e
 
-heard_in_lem : (x : ℕ) (o : Option State) (m : Option (List ℕ)) → heard_in x o m ≡ true
+heard_in_lem : (x : ℕ) (o : Maybe State) (m : Maybe (List ℕ)) → heard_in x o m ≡ true
     → (st : State) × (b : List ℕ) × (o ≡ some st) × (m ≡ some b) × (notice_is x st.heard (parse_packet b) ≡ true)
 unfolding heard_in
 heard_in_lem x none m e = untrue e
@@ -123,7 +123,7 @@ successor-is plan s c k w x p e g =
 
 -- ---- what is looked for
 
-started_as_lem : (s : LockPoints) (x : ℕ) (o : Option (List ℕ)) → starts_in s x o ≡ true
+started_as_lem : (s : LockPoints) (x : ℕ) (o : Maybe (List ℕ)) → starts_in s x o ≡ true
     → (b : List ℕ) × (o ≡ some b) × ((start_in b s).answer ≡ Ok tt) × ((start_in b s).chamber.client.client ≡ x)
 unfolding starts_in started_as
 started_as_lem s x none e = untrue e
@@ -148,17 +148,18 @@ same-command a b e =
     let z : b ≡ record { client = b.client; call = b.call; op = b.op; point = b.point; argument = b.argument } = refl in
     cc
 
-asks_for_lem : (k : Command) (m : Packet) → asks_for k m ≡ true → (q : Request) × (m ≡ Requested q) × (q.command ≡ k)
+asks_for_lem : (k : Command) (m : Option Packet) → asks_for k m ≡ true → (q : Request) × (m ≡ Some (Requested q)) × (q.command ≡ k)
 unfolding asks_for
-asks_for_lem k Malformed e = untrue e
-asks_for_lem k (Requested q) e = (q, refl, same-command q.command k e)
-asks_for_lem k (Resulted r) e = untrue e
-asks_for_lem k (Refused r) e = untrue e
-asks_for_lem k (Receipted r) e = untrue e
-asks_for_lem k (Noticed n) e = untrue e
-asks_for_lem k (Granted g) e = untrue e
+asks_for_lem k None e = untrue e
+asks_for_lem k (Some (Requested q)) e = (q, refl, same-command q.command k e)
+asks_for_lem k (Some (Resulted r)) e = untrue e
+asks_for_lem k (Some (Refused r)) e = untrue e
+asks_for_lem k (Some (Receipted r)) e = untrue e
+asks_for_lem k (Some (Noticed n)) e = untrue e
+asks_for_lem k (Some (Granted g)) e = untrue e
 
-requests_of : (k : Command) (o : Option Operation) → requests k o ≡ true → (v : Versions) × (b : List ℕ) × (q : Request) × (o ≡ some (request v b)) × (parse_packet b ≡ Requested q) × (q.command ≡ k)
+requests_of : (k : Command) (o : Maybe Operation) → requests k o ≡ true
+    → (v : Versions) × (b : List ℕ) × (q : Request) × (o ≡ some (request v b)) × (parse_packet b ≡ Some (Requested q)) × (q.command ≡ k)
 unfolding requests
 requests_of k none e = untrue e
 requests_of k (some (request v b)) e = let z = asks_for_lem k (parse_packet b) e in (v, b, z.0, refl, z.1, z.2)
@@ -171,7 +172,7 @@ requests_of k (some (take_in b)) e = untrue e
 requests_of k (some (receipt p)) e = untrue e
 requests_of k (some (release b)) e = untrue e
 
-silent : (o : Option Answer) → done_silently o ≡ true → o ≡ some (answer_of no_refusal 0)
+silent : (o : Maybe Answer) → done_silently o ≡ true → o ≡ some (answer_of no_refusal 0)
 unfolding done_silently
 silent none e = untrue e
 silent (some a) e =
@@ -301,7 +302,7 @@ module _ (plan : List ℕ) (s : LockPoints) (c k : ℕ) where
     unfolding looked executes_in event_at lock_event done operated AtLock
     executes-there n d p v t m e q =
         let w : World = after es n in
-        let h : Option Operation = handed (packet w) (request v p) in
+        let h : Maybe Operation = handed (packet w) (request v p) in
         let l : (done_silently (operation_done d t (w.servers d) h w).answer && requests m h) ≡ true =
         subst (λ (u : World). (done_silently (operation_done d t (u.servers d) (handed (packet u) (request v p)) u).answer && requests m (handed (packet u) (request v p))) ≡ true) (same-world n)
         (look_part n (kernel (call d (request v p) t)) (executing m) e q) in

@@ -1,11 +1,11 @@
 -- The provisos of a lock's schedule as tests of one event in the site before it, and what is looked for at single events.
 -- Assumes nothing.
-use Rattle.std.specs.Prelude.{ℕ, Bool, true, false, ◌&&◌, ◌||◌, not, List, [], ◌∷◌, eqb, leb, Ok, Err}
-use Rattle.std.proofs.Math.Option.{Option, none, some}
+use Rattle.std.specs.Prelude.{ℕ, Bool, true, false, ◌&&◌, ◌||◌, not, List, [], ◌∷◌, eqb, leb, Ok, Err, Option, Some, None}
+use Rattle.std.proofs.Math.Option.{Option as Maybe, none, some}
 use Rattle.model.specs.declared.Answer.{Answer}
 use Rattle.model.specs.declared.Command.{Command}
 use Rattle.model.specs.declared.Packet.{Packet}
-use Rattle.model.specs.declared.Packet.TheVariants.{Malformed, Requested, Resulted, Refused, Receipted, Noticed, Granted}
+use Rattle.model.specs.declared.Packet.TheVariants.{Requested, Resulted, Refused, Receipted, Noticed, Granted}
 use Rattle.model.specs.Limits.{read_op}
 use Rattle.model.specs.Packets.{parse_packet}
 use Rattle.model.specs.Calls.{Operation, request, fetch, sync, notice, give, image, take_in, receipt, release, handed}
@@ -25,7 +25,7 @@ use Rattle.proof_sanity.specs.Trace.{typed_ok, keeps_ok, done}
 
 -- ---- other clients
 
-unfoldable pub is_none : Option Chamber → Bool
+unfoldable pub is_none : Maybe Chamber → Bool
 is_none none = true
 is_none (some ch) = false
 
@@ -52,27 +52,27 @@ aside_ok s l (outside (query x t)) = true
 
 -- ---- a successor
 
-unfoldable pub held_in : ℕ → Option State → Bool
+unfoldable pub held_in : ℕ → Maybe State → Bool
 held_in p none = false
 held_in p (some st) = is_held (point_at st p)
 
 -- a notice of x with a time not above `heard`
-unfoldable pub notice_is : ℕ → ℕ → Packet → Bool
-notice_is x heard Malformed = false
-notice_is x heard (Requested q) = false
-notice_is x heard (Resulted r) = false
-notice_is x heard (Refused r) = false
-notice_is x heard (Receipted r) = false
-notice_is x heard (Noticed n) = eqb n.client x && leb n.time heard
-notice_is x heard (Granted g) = false
+unfoldable pub notice_is : ℕ → ℕ → Option Packet → Bool
+notice_is x heard None = false
+notice_is x heard (Some (Requested q)) = false
+notice_is x heard (Some (Resulted r)) = false
+notice_is x heard (Some (Refused r)) = false
+notice_is x heard (Some (Receipted r)) = false
+notice_is x heard (Some (Noticed n)) = eqb n.client x && leb n.time heard
+notice_is x heard (Some (Granted g)) = false
 
-unfoldable pub heard_in : ℕ → Option State → Option (List ℕ) → Bool
+unfoldable pub heard_in : ℕ → Maybe State → Maybe (List ℕ) → Bool
 heard_in x none o = false
 heard_in x (some st) none = false
 heard_in x (some st) (some b) = notice_is x st.heard (parse_packet b)
 
 -- client x is fenced off from both gates: server c holds them, and has synced the notice with packet number k
-unfoldable pub successor_ok : List ℕ → LockPoints → ℕ → ℕ → World → Option ℕ → Bool
+unfoldable pub successor_ok : List ℕ → LockPoints → ℕ → ℕ → World → Maybe ℕ → Bool
 successor_ok plan s c k w none = true
 successor_ok plan s c k w (some x) =
     let st = state_given plan (w.servers c) in
@@ -96,11 +96,11 @@ pub data Look : Type 0 where
 unfoldable pub started_as : ℕ → ChamberStart → Bool
 started_as x a = elim a.answer [ Err e ↦ false | Ok tt ↦ eqb a.chamber.client.client x ]
 
-unfoldable pub starts_in : LockPoints → ℕ → Option (List ℕ) → Bool
+unfoldable pub starts_in : LockPoints → ℕ → Maybe (List ℕ) → Bool
 starts_in s x none = false
 starts_in s x (some b) = started_as x (start_in b s)
 
-unfoldable pub done_silently : Option Answer → Bool
+unfoldable pub done_silently : Maybe Answer → Bool
 done_silently none = false
 done_silently (some a) = eqb a.refusal no_refusal && eqb a.wrote 0
 
@@ -108,17 +108,17 @@ unfoldable pub same_command : Command → Command → Bool
 same_command a b =
     eqb a.client b.client && (eqb a.call b.call && (eqb a.op b.op && (eqb a.point b.point && eqb a.argument b.argument)))
 
-unfoldable pub asks_for : Command → Packet → Bool
-asks_for k Malformed = false
-asks_for k (Requested q) = same_command q.command k
-asks_for k (Resulted r) = false
-asks_for k (Refused r) = false
-asks_for k (Receipted r) = false
-asks_for k (Noticed n) = false
-asks_for k (Granted g) = false
+unfoldable pub asks_for : Command → Option Packet → Bool
+asks_for k None = false
+asks_for k (Some (Requested q)) = same_command q.command k
+asks_for k (Some (Resulted r)) = false
+asks_for k (Some (Refused r)) = false
+asks_for k (Some (Receipted r)) = false
+asks_for k (Some (Noticed n)) = false
+asks_for k (Some (Granted g)) = false
 
 -- an operation that asks for the command k
-unfoldable pub requests : Command → Option Operation → Bool
+unfoldable pub requests : Command → Maybe Operation → Bool
 requests k none = false
 requests k (some (request v b)) = asks_for k (parse_packet b)
 requests k (some (fetch v x c)) = false
@@ -131,7 +131,7 @@ requests k (some (receipt p)) = false
 requests k (some (release b)) = false
 
 -- `a` is what an operation answers
-unfoldable pub executes_in : Command → World → Event → Option Answer → Bool
+unfoldable pub executes_in : Command → World → Event → Maybe Answer → Bool
 executes_in k w (found c state log p n) a = false
 executes_in k w (call c o t) a = done_silently a && requests k (handed (packet w) o)
 executes_in k w (inquire c i t) a = false
@@ -149,12 +149,12 @@ begins_in s x w (command y op p a) = false
 begins_in s x w (again y c) = false
 begins_in s x w (hear y n) = false
 
-unfoldable pub looked : LockPoints → World → LockEvent → Event → Option Answer → Look → Bool
+unfoldable pub looked : LockPoints → World → LockEvent → Event → Maybe Answer → Look → Bool
 looked s w o e a nothing = true
 looked s w o e a (starting x) = begins_in s x w o
 looked s w o e a (executing k) = executes_in k w e a
 
-unfoldable pub event_ok : List ℕ → (s : LockPoints) → ℕ → ℕ → Site (lock_product s) → LockEvent → Event → Option Answer → Look → Bool
+unfoldable pub event_ok : List ℕ → (s : LockPoints) → ℕ → ℕ → Site (lock_product s) → LockEvent → Event → Maybe Answer → Look → Bool
 event_ok plan s c k t o e a x =
     (typed_ok e && keeps_ok plan t.world e) && (lock_ok plan s c k t.world t.parts o && looked s t.world o e a x)
 

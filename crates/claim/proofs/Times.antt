@@ -13,7 +13,7 @@ use mathlib.Core.Logic.{◌⊎◌, inl, inr}
 use native.Mathlib.Omega.{arith}
 use lib.Dec.{ltb}
 use borrow.Author.Tests.{ltb-true, ltb-false}
-use Rattle.std.specs.Prelude.{Ok}
+use Rattle.std.specs.Prelude.{Ok, Some}
 use Rattle.model.specs.declared.Client.{Client}
 use Rattle.model.specs.declared.Command.{Command}
 use Rattle.model.specs.declared.Packet.TheVariants.{Resulted}
@@ -90,19 +90,19 @@ module _ (plan : List ℕ) (seen : Account) (order : List OrderEntry) (E : Expla
 
 -- a result that completes a call is of that call
 completed_is : (d : Client) (b : List ℕ) (r : ResultPacket) → (receive_of d b).answer ≡ Ok (Completed r)
-    → (parse_packet b ≡ Resulted r) × (r.client ≡ d.client) × ((call_at d r.call).call ≡ r.call)
+    → (parse_packet b ≡ Some (Resulted r)) × (r.client ≡ d.client) × ((call_at d r.call).call ≡ r.call)
 unfolding receive_of not_received
 completed_is d b r s = go (receive_case d (parse_packet b))
   where
     told : {a : ReceiveAnswer} → receive_with d (parse_packet b) ≡ a → a.answer ≡ Ok (Completed r)
     told e = ap (λ (x : ReceiveAnswer). x.answer) (sym e) ∙ s
 
-    go : ReceiveCase d (parse_packet b) → (parse_packet b ≡ Resulted r) × (r.client ≡ d.client) × ((call_at d r.call).call ≡ r.call)
+    go : ReceiveCase d (parse_packet b) → (parse_packet b ≡ Some (Resulted r)) × (r.client ≡ d.client) × ((call_at d r.call).call ≡ r.call)
     go (Clients.ReceiveCase.refused n e) = let f = told e in impossible cc
     go (Clients.ReceiveCase.completed t q own e) =
         let f = told e in
         let z : t ≡ r = cc in (
-          q ∙ ap Resulted z,
+          q ∙ ap (λ y. Some (Resulted y)) z,
           ap (λ (x : ResultPacket). x.client) (sym z) ∙ own.client-is,
           subst (λ (x : ResultPacket). (call_at d x.call).call ≡ x.call) z own.open_call_lem.at,
         )

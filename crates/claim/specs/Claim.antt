@@ -1,7 +1,7 @@
 -- Demand 3: after every schedule there is one order of all surviving commands, each once, that explains every result and every
 -- final value, in real-time order.
 -- Assumes nothing.
-use Rattle.std.specs.Prelude.{ℕ, suc, ◌+◌, ◌≤◌, ◌<◌, ◌≡◌, ◌↔◌, Ok}
+use Rattle.std.specs.Prelude.{ℕ, suc, ◌+◌, ◌≤◌, ◌<◌, ◌≡◌, ◌↔◌, Ok, Some}
 use mathlib.Core.List.{List, [], ◌∷◌, Memᴰ}
 use Rattle.std.proofs.Math.Option.{Option, none, some}
 use Rattle.model.specs.declared.Reading.{Reading}
@@ -95,7 +95,7 @@ pub record TellsBy {S : Type 0} (w : WorldOf S) (r : ResultPacket) : Type 0 wher
   pub number : ℕ
   pub bytes : List ℕ
   pub made : packet w number ≡ some bytes
-  pub parsed : parse_packet bytes ≡ Resulted r
+  pub parsed : parse_packet bytes ≡ Some (Resulted r)
 
 -- what demand 3 reads of a run: the event that issues commands, that completes them with a result, that executes a command by a version so
 -- that it survives, and the time that it notes; the results told; the state that each server counts with at the end; that Recover accepts what
@@ -188,7 +188,7 @@ module _ (es : List Event) where
     pub delivered : packet (after es n) number ≡ some bytes
     pub answer : (request_of versions (lent_state lent state) (lent_log lent log) bytes lent.out).answer ≡ answer_of no_refusal 0
     pub asked : Request
-    pub parsed : parse_packet bytes ≡ Requested asked
+    pub parsed : parse_packet bytes ≡ Some (Requested asked)
     pub its : marked_by versions asked.command ≡ m
 
   -- event n is a crash of server c that keeps b bytes, counted from the founding: what a checkpoint replaced is kept in it

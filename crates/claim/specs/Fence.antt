@@ -2,7 +2,7 @@
 -- point open has a synced heard time not under that of a client's notice, no command of that client is executed on that point any more, at
 -- any server, whatever crashes and moves follow. Neither speaks of the order; whoever hands a duty from one client (paper: desk) to another rests on both.
 -- Assumes nothing.
-use Rattle.std.specs.Prelude.{ℕ, ◌≤◌, ◌<◌, ◌≡◌, true, List, [], ◌∷◌, take}
+use Rattle.std.specs.Prelude.{ℕ, ◌≤◌, ◌<◌, ◌≡◌, true, List, [], ◌∷◌, take, Some}
 use Rattle.std.proofs.Math.Option.{Option, some}
 use Rattle.model.specs.declared.Command.{Command}
 use Rattle.model.specs.declared.Notice.{Notice}
@@ -22,7 +22,7 @@ pub record NoticedIn {S : Type 0} (w : WorldOf S) (x time : ℕ) : Type 0 where
   pub bytes : List ℕ
   pub made : packet w number ≡ some bytes
   pub notice : Notice
-  pub parsed : parse_packet bytes ≡ Noticed notice
+  pub parsed : parse_packet bytes ≡ Some (Noticed notice)
   pub client : notice.client ≡ x
   pub at : notice.time ≡ time
 

@@ -1,7 +1,7 @@
 -- Demand 3 over states and log records: after every schedule there is one order of all surviving commands, each once, that explains every
 -- result and every final value, in real-time order. The clauses are those of Claim.
 -- Assumes nothing.
-use Rattle.std.specs.Prelude.{ℕ, ◌≡◌, List, []}
+use Rattle.std.specs.Prelude.{ℕ, ◌≡◌, List, [], Some}
 use Rattle.std.proofs.Math.Option.{Option, none, some}
 use Rattle.model.specs.declared.Command.{Command}
 use Rattle.model.specs.declared.Request.{Request}
@@ -48,7 +48,7 @@ module _ (es : List Event) where
     pub no_number : (call_of state log room (λ st free. on_request versions st free (parse_packet bytes))).number ≡ 0
     pub no_packet : (call_of state log room (λ st free. on_request versions st free (parse_packet bytes))).made ≡ []
     pub asked : Request
-    pub parsed : parse_packet bytes ≡ Requested asked
+    pub parsed : parse_packet bytes ≡ Some (Requested asked)
     pub its : marked_by versions asked.command ≡ m
 
   -- event n executes m, and that execution survives

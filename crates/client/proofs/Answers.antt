@@ -5,6 +5,7 @@
 --     resend_open, resend-unknown
 --     not-received, result_own, result-unknown, refusal-own, refusal-unknown, grant-later, grant-unknown
 -- Assumes nothing.
+use Rattle.std.specs.Prelude.{Some}
 use mathlib.Core.Path.{◌≡◌, refl, ap, ◌∙◌, sym, subst}
 use mathlib.Core.Bool.{Bool, true, false, ◌&&◌}
 use Prim.Native.Nat.{ℕ, ◌+◌, ◌≤◌, ◌<◌}
@@ -105,31 +106,31 @@ pub not-received : (d : Client) (c : ℕ) (e : Refusal) {k : OpenCall} → k ≡
 unfolding received not_received
 not-received d c e at = rw (same-call d c at) refl
 
-module _ (d : Client) (c : ℕ) {p : Packet} (of : OfCall c p) {k : OpenCall} (at : k ≡ call_at d c) where
+module _ (d : Client) (c : ℕ) {p : Packet} (of : OfCall c (Some p)) {k : OpenCall} (at : k ≡ call_at d c) where
   pub result_own : (r : ResultPacket) → p ≡ Resulted r → true ≡ is_own d r.client r.call r.point → {l : OpenCall} → l ≡ no_call
-      → received d c (record { lease = d.lease; call = l; answer = Ok (Completed r) }) ≡ receive_with d p
+      → received d c (record { lease = d.lease; call = l; answer = Ok (Completed r) }) ≡ receive_with d (Some p)
   unfolding receive_with receive_result received closed with_calls
-  result_own r is own made = rw (subst (OfCall c) is of, is, ← own, made) refl
+  result_own r is own made = rw (subst (λ x. OfCall c (Some x)) is of, is, ← own, made) refl
 
   pub refusal-own : (r : RefusalPacket) → p ≡ Refused r → true ≡ is_own d r.client r.call r.point
-      → received d c (record { lease = d.lease; call = k; answer = Ok (Denied r) }) ≡ receive_with d p
+      → received d c (record { lease = d.lease; call = k; answer = Ok (Denied r) }) ≡ receive_with d (Some p)
   unfolding receive_with receive_refusal received
   refusal-own r is own = rw (is, ← own, same-call d c at) refl
 
   pub grant-later : (g : Grant) → p ≡ Granted g → (eqb g.client d.client && leb d.lease g.lease) ≡ true
-      → received d c (record { lease = g.lease; call = k; answer = Ok (Extended g) }) ≡ receive_with d p
+      → received d c (record { lease = g.lease; call = k; answer = Ok (Extended g) }) ≡ receive_with d (Some p)
   unfolding receive_with receive_grant received with_lease
   grant-later g is later = rw (is, later, same-call d c at) refl
 
 module _ (d : Client) {p : Packet} where
-  pub result-unknown : (r : ResultPacket) → p ≡ Resulted r → false ≡ is_own d r.client r.call r.point → not_received d Unknown ≡ receive_with d p
+  pub result-unknown : (r : ResultPacket) → p ≡ Resulted r → false ≡ is_own d r.client r.call r.point → not_received d Unknown ≡ receive_with d (Some p)
   unfolding receive_with receive_result
   result-unknown r is own = rw (is, ← own) refl
 
-  pub refusal-unknown : (r : RefusalPacket) → p ≡ Refused r → false ≡ is_own d r.client r.call r.point → not_received d Unknown ≡ receive_with d p
+  pub refusal-unknown : (r : RefusalPacket) → p ≡ Refused r → false ≡ is_own d r.client r.call r.point → not_received d Unknown ≡ receive_with d (Some p)
   unfolding receive_with receive_refusal
   refusal-unknown r is own = rw (is, ← own) refl
 
-  pub grant-unknown : (g : Grant) → p ≡ Granted g → (eqb g.client d.client && leb d.lease g.lease) ≡ false → not_received d Unknown ≡ receive_with d p
+  pub grant-unknown : (g : Grant) → p ≡ Granted g → (eqb g.client d.client && leb d.lease g.lease) ≡ false → not_received d Unknown ≡ receive_with d (Some p)
   unfolding receive_with receive_grant
   grant-unknown g is later = rw (is, later) refl

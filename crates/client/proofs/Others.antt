@@ -4,6 +4,7 @@
 --     of_call      a result and a refusal are of the call that stands in their bytes
 --     receive-same      receive takes a packet as a client parses it
 -- Assumes nothing.
+use Rattle.std.specs.Prelude.{Option, Some, None}
 use mathlib.Core.Path.{◌≡◌, refl, sym}
 use mathlib.Core.Bool.{Bool, true, false}
 use mathlib.Core.List.{List}
@@ -17,7 +18,7 @@ use Rattle.model.specs.declared.Grant.{Grant}
 use Rattle.model.specs.declared.Packet.{Packet}
 use Rattle.model.specs.declared.RefusalPacket.{RefusalPacket}
 use Rattle.model.specs.declared.ResultPacket.{ResultPacket}
-use Rattle.model.specs.declared.Packet.TheVariants.{Malformed, Requested, Resulted, Refused, Receipted, Noticed, Granted}
+use Rattle.model.specs.declared.Packet.TheVariants.{Requested, Resulted, Refused, Receipted, Noticed, Granted}
 use Rattle.model.specs.declared.Refusal.TheVariants as refusal
 use Rattle.model.specs.Numbers.{byte_at, le32_at}
 use Rattle.model.specs.Limits.{request_kind, first_result_kind, result_kind, refusal_kind, receipt_kind, notice_kind, grant_kind, refusal_size, grant_size}
@@ -27,9 +28,8 @@ use Rattle.model_laws.proofs.Tests.{choose}
 use Rattle.client.specs.Changes.{packet_call, client_packet, OfCall}
 use Rattle.model.specs.Clients.{not_started, start_with, start_of, not_received, receive_with, receive_of}
 
-pub not-grant : (p : Packet) → ((g : Grant) → p ≡ Granted g → ⊥) → start_with p ≡ not_started
+pub not-grant : (p : Packet) → ((g : Grant) → p ≡ Granted g → ⊥) → start_with (Some p) ≡ not_started
 unfolding start_with
-not-grant Malformed h = refl
 not-grant (Requested q) h = refl
 not-grant (Resulted r) h = refl
 not-grant (Refused r) h = refl
@@ -38,9 +38,8 @@ not-grant (Noticed n) h = refl
 not-grant (Granted g) h = absurd (h g refl)
 
 pub not_taken : (d : Client) (p : Packet) → ((r : ResultPacket) → p ≡ Resulted r → ⊥) → ((r : RefusalPacket) → p ≡ Refused r → ⊥) → ((g : Grant) → p ≡ Granted g → ⊥)
-    → receive_with d p ≡ not_received d refusal.Malformed
+    → receive_with d (Some p) ≡ not_received d refusal.Malformed
 unfolding receive_with
-not_taken d Malformed h2 h3 h6 = refl
 not_taken d (Requested q) h2 h3 h6 = refl
 not_taken d (Resulted r) h2 h3 h6 = absurd (h2 r refl)
 not_taken d (Refused r) h2 h3 h6 = absurd (h3 r refl)
@@ -49,17 +48,17 @@ not_taken d (Noticed n) h2 h3 h6 = refl
 not_taken d (Granted g) h2 h3 h6 = absurd (h6 g refl)
 
 -- a packet of one kind is malformed, or has its kind's length
-whole_case : (P : Packet → Type 0) (b : List ℕ) (kind : ℕ) (ok : Bool) (p : Packet) → P Malformed → (length b ≡ packet_length kind → P p) → P (whole b kind ok p)
+whole_case : (P : Option Packet → Type 0) (b : List ℕ) (kind : ℕ) (ok : Bool) (p : Packet) → P None → (length b ≡ packet_length kind → P (Some p)) → P (whole b kind ok p)
 unfolding whole
 whole_case P b kind ok p m f = choose P (eqb (length b) (packet_length kind)) (λ n. choose P ok (λ t. f (eqb-true _ _ n)) (λ t. m)) (λ n. m)
 
 -- ---- start
 
-abbrev NotTaken : Packet → Type 0
+abbrev NotTaken : Option Packet → Type 0
 NotTaken p = start_with p ≡ not_started
 
 module _ (b : List ℕ) where
-  pub start-other : (byte_at b 0 ≡ grant_kind → length b ≡ grant_size → ⊥) → start_with Malformed ≡ start_of b
+  pub start-other : (byte_at b 0 ≡ grant_kind → length b ≡ grant_size → ⊥) → start_with None ≡ start_of b
   unfolding start_of start_with parse_packet parse_request parse_result parse_refusal parse_receipt parse_notice parse_grant packet_length
   start-other h =
       sym (choose NotTaken (eqb (byte_at b 0) request_kind) (λ k. whole_case NotTaken b request_kind _ _ refl (λ n. refl))
@@ -92,7 +91,7 @@ module _ (b : List ℕ) where
       (λ k6. choose Is (eqb (byte_at b 0) result_kind) (λ k. whole_case Is b result_kind _ _ tt (λ n. call-there (omega arith))) (λ k7. tt))))
 
   module _ (d : Client) where
-    abbrev NotReceived : Packet → Type 0
+    abbrev NotReceived : Option Packet → Type 0
     NotReceived p = not_received d refusal.Malformed ≡ receive_with d p
 
     abbrev Same : Type 0

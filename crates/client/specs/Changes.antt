@@ -1,11 +1,11 @@
 -- What an operation changes of a client, and the answer that it makes: the next number or the lease end, and what stands at one place.
 -- Assumes nothing.
-use Rattle.std.specs.Prelude.{ℕ, ◌≡◌, true, false, List, Result, Ok, Err, eqb, ltb, length, set, replicate}
+use Rattle.std.specs.Prelude.{ℕ, ◌≡◌, true, false, List, Result, Ok, Err, eqb, ltb, length, set, replicate, Option, Some, None}
 use Rattle.model.specs.declared.OpenCall.{OpenCall}
 use Rattle.model.specs.declared.Client.{Client}
 use Rattle.model.specs.declared.Request.{Request}
 use Rattle.model.specs.declared.Packet.{Packet}
-use Rattle.model.specs.declared.Packet.TheVariants.{Malformed, Requested, Resulted, Refused, Receipted, Noticed, Granted}
+use Rattle.model.specs.declared.Packet.TheVariants.{Requested, Resulted, Refused, Receipted, Noticed, Granted}
 use Rattle.model.specs.declared.StartAnswer.{StartAnswer}
 use Rattle.model.specs.declared.SendAnswer.{SendAnswer}
 use Rattle.model.specs.declared.ReceiveAnswer.{ReceiveAnswer}
@@ -39,22 +39,22 @@ unfoldable pub packet_call : List ℕ → ℕ
 packet_call b = pick (ltb (length b) refusal_size) 0 (le32_at b 8)
 
 -- the result, refusal or grant in bytes; any other packet is malformed to a client
-unfoldable pub client_packet : List ℕ → Packet
+unfoldable pub client_packet : List ℕ → Option Packet
 client_packet b =
     pick (eqb (byte_at b 0) first_result_kind) (parse_result false b)
     (pick (eqb (byte_at b 0) refusal_kind) (parse_refusal b)
     (pick (eqb (byte_at b 0) grant_kind) (parse_grant b)
-    (pick (eqb (byte_at b 0) result_kind) (parse_result true b) Malformed)))
+    (pick (eqb (byte_at b 0) result_kind) (parse_result true b) None)))
 
 -- a packet that is of a call is of the call c
-abbrev pub OfCall : ℕ → Packet → Type 0
-OfCall c Malformed = Unit
-OfCall c (Requested q) = Unit
-OfCall c (Resulted r) = c ≡ r.call
-OfCall c (Refused r) = c ≡ r.call
-OfCall c (Receipted r) = Unit
-OfCall c (Noticed n) = Unit
-OfCall c (Granted g) = Unit
+abbrev pub OfCall : ℕ → Option Packet → Type 0
+OfCall c None = Unit
+OfCall c (Some (Requested q)) = Unit
+OfCall c (Some (Resulted r)) = c ≡ r.call
+OfCall c (Some (Refused r)) = c ≡ r.call
+OfCall c (Some (Receipted r)) = Unit
+OfCall c (Some (Noticed n)) = Unit
+OfCall c (Some (Granted g)) = Unit
 
 -- the answer of an issue that changes the client so
 unfoldable pub issued : Client → SendChange → SendAnswer

@@ -3,7 +3,7 @@
 // that one who is lent a client stores that alone.
 #![tactic(auto)]
 
-ghost use Rattle.std.specs.Prelude.{◌≡◌, ◌<◌, length, set};
+ghost use Rattle.std.specs.Prelude.{◌≡◌, ◌<◌, length, set, Some};
 ghost use Rattle.model.specs.Limits.{last32, call_window};
 ghost use Rattle.model.specs.Clients.{no_call, place_of, call_at, least_open, first_open, not_sent, not_received};
 ghost use Rattle.model.specs.Clients.{with_call, start_with, start_of, issue_of, resend_of, is_own, receive_with, receive_of};
@@ -113,7 +113,7 @@ fn request_with(d: Client, opened: OpenCall, done: u32) -> Request
 // ---- start
 
 fn started(packet: Packet) -> Result<StartFields, Refusal>
-    ensures { start_by result ≡ start_with packet }
+    ensures { start_by result ≡ start_with (Some packet) }
 {
     let Packet::Granted(grant) = packet else {
         return Err(Refusal::Malformed);
@@ -126,14 +126,14 @@ fn started(packet: Packet) -> Result<StartFields, Refusal>
 }
 
 // A grant, parsed; any other packet is malformed to start.
-fn parse_start(packet: &[u8]) -> Packet
+fn parse_start(packet: &[u8]) -> Option<Packet>
     ensures { start_with result ≡ start_of packet.now }
 {
     if packet.len() != GRANT_SIZE {
-        return Packet::Malformed;
+        return None;
     }
     if packet[0] != constants::GRANT_KIND {
-        return Packet::Malformed;
+        return None;
     }
     format_packet_reader::parse_grant(packet)
 }
@@ -142,7 +142,10 @@ fn parse_start(packet: &[u8]) -> Packet
 pub fn start_fields(packet: &[u8]) -> Result<StartFields, Refusal>
     ensures { start_by result ≡ start_of packet.now }
 {
-    started(parse_start(packet))
+    let Some(parsed) = parse_start(packet) else {
+        return Err(Refusal::Malformed);
+    };
+    started(parsed)
 }
 
 // ---- issue, resend: opened is what stands at the call's place
@@ -224,18 +227,18 @@ pub fn packet_call(packet: &[u8]) -> u32
 }
 
 // A result, a refusal or a grant, parsed; any other packet is malformed to a client.
-fn client_packet(packet: &[u8]) -> Packet
+fn client_packet(packet: &[u8]) -> Option<Packet>
     ensures { result ≡ client_packet packet.now }
 {
     if packet.len() == 0 {
-        return Packet::Malformed;
+        return None;
     }
     match packet[0] {
         constants::FIRST_RESULT_KIND => format_packet_reader::parse_result(packet, false),
         constants::REFUSAL_KIND => format_packet_reader::parse_refusal(packet),
         constants::GRANT_KIND => format_packet_reader::parse_grant(packet),
         constants::RESULT_KIND => format_packet_reader::parse_result(packet, true),
-        0 | 1 | 4 | 5 | 8..=255 => Packet::Malformed,
+        0 | 1 | 4 | 5 | 8..=255 => None,
     }
 }
 
@@ -260,8 +263,8 @@ fn not_received(d: Client, opened: OpenCall, c: u32, refusal: Refusal) -> Receiv
 
 // Only a result closes its call.
 fn taken(d: Client, opened: OpenCall, c: u32, packet: Packet) -> ReceiveChange
-    requires { (opened ≡ call_at d c) × OfCall c packet }
-    ensures { received d c result ≡ receive_with d packet }
+    requires { (opened ≡ call_at d c) × OfCall c (Some packet) }
+    ensures { received d c result ≡ receive_with d (Some packet) }
 {
     let (lease, call, answer) = match packet {
         Packet::Resulted(r) if is_own(d, opened, r.client, r.call, r.point) => {
@@ -291,7 +294,11 @@ pub fn receive_change(d: Client, opened: OpenCall, packet: &[u8]) -> ReceiveChan
     requires { opened ≡ call_at d (packet_call packet.now) }
     ensures { received d (packet_call packet.now) result ≡ receive_of d packet.now }
 {
-    taken(d, opened, packet_call(packet), client_packet(packet))
+    let c = packet_call(packet);
+    let Some(parsed) = client_packet(packet) else {
+        return not_received(d, opened, c, Refusal::Malformed);
+    };
+    taken(d, opened, c, parsed)
 }
 
 // ---- the operations, by value

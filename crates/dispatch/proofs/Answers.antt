@@ -3,6 +3,7 @@
 --     not-request, is-request        an enqueued packet
 --     serve-none, serve-first        a serving
 -- Assumes nothing.
+use Rattle.std.specs.Prelude.{Option, Some, None}
 use Prim.Native.Nat.{ℕ, ◌<◌}
 use mathlib.Core.Path.{◌≡◌, refl, sym}
 use mathlib.Core.List.{List, [], ◌∷◌}
@@ -13,7 +14,7 @@ use types.Run.{OneOf, miss}
 use Rattle.model.specs.declared.Answer.{Answer}
 use Rattle.model.specs.declared.Request.{Request}
 use Rattle.model.specs.declared.Packet.{Packet}
-use Rattle.model.specs.declared.Packet.TheVariants.{Malformed, Requested, Resulted, Refused, Receipted, Noticed, Granted}
+use Rattle.model.specs.declared.Packet.TheVariants.{Requested, Resulted, Refused, Receipted, Noticed, Granted}
 use Rattle.model.specs.contracts.Packet.{the_type}
 use Rattle.model.specs.Refusals.{no_refusal, malformed, unknown}
 use Rattle.model.specs.Versions.{today}
@@ -42,24 +43,27 @@ module _ (d : Dispatcher) (q : Request) where
   unfolding enqueue_request
   taken_in_lem e k = rw (← e, k) refl
 
-none_other : (p : Packet) → OneOf (0 ∷ 2 ∷ 3 ∷ 4 ∷ 5 ∷ 6 ∷ []) (tag_of the_type p) → as_request p ≡ none
+none_other : (p : Packet) → OneOf (1 ∷ 2 ∷ 3 ∷ 4 ∷ 5 ∷ []) (tag_of the_type p) → as_request (Some p) ≡ none
 unfolding as_request
-none_other Malformed h = refl
-none_other (Requested q) h = absurd (miss (0 ∷ 2 ∷ 3 ∷ 4 ∷ 5 ∷ 6 ∷ []) 1 tt h)
+none_other (Requested q) h = absurd (miss (1 ∷ 2 ∷ 3 ∷ 4 ∷ 5 ∷ []) 0 tt h)
 none_other (Resulted q) h = refl
 none_other (Refused q) h = refl
 none_other (Receipted q) h = refl
 none_other (Noticed n) h = refl
 none_other (Granted q) h = refl
 
-module _ (d : Dispatcher) (packet : List ℕ) {p : Packet} (e : p ≡ parse_packet packet) where
-  pub not-request : OneOf (0 ∷ 2 ∷ 3 ∷ 4 ∷ 5 ∷ 6 ∷ []) (tag_of the_type p) → enqueued d malformed ≡ enqueue_of d packet
-  unfolding enqueue_of
-  not-request h = rw (← e, none_other p h) refl
-
-  pub is-request : (q : Request) → p ≡ Requested q → {r : Enqueued} → r ≡ enqueue_request d q → r ≡ enqueue_of d packet
+module _ (d : Dispatcher) (packet : List ℕ) {o : Option Packet} (e : o ≡ parse_packet packet) where
+  pub not-packet : o ≡ None → enqueued d malformed ≡ enqueue_of d packet
   unfolding enqueue_of as_request
-  is-request q h k = rw (← e, h) k
+  not-packet is = rw (← e, is) refl
+
+  pub not-request : {p : Packet} → o ≡ Some p → OneOf (1 ∷ 2 ∷ 3 ∷ 4 ∷ 5 ∷ []) (tag_of the_type p) → enqueued d malformed ≡ enqueue_of d packet
+  unfolding enqueue_of
+  not-request {p} is h = rw (← e, is, none_other p h) refl
+
+  pub is-request : (q : Request) {p : Packet} → o ≡ Some p → p ≡ Requested q → {r : Enqueued} → r ≡ enqueue_request d q → r ≡ enqueue_of d packet
+  unfolding enqueue_of as_request
+  is-request q is h k = rw (← e, is, h) k
 
 -- ---- serve
 

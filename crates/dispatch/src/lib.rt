@@ -103,7 +103,12 @@ fn enqueue_request(dispatcher: Dispatcher, q: Request) -> Enqueued
 pub fn enqueue(dispatcher: Dispatcher, packet: &[u8]) -> Enqueued
     ensures { result ≡ enqueue_of dispatcher packet.now }
 {
-    let parsed = format_packet_reader::parse_packet(packet);
+    let Some(parsed) = format_packet_reader::parse_packet(packet) else {
+        return Enqueued {
+            dispatcher,
+            number: Refusal::Malformed.number(),
+        };
+    };
     let Packet::Requested(q) = parsed else {
         return Enqueued {
             dispatcher,

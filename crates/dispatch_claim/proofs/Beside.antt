@@ -2,6 +2,7 @@
 --     Beside                  each number names, among the packets made, the one that waits at its place
 --     beside, first_beside    so it is after every schedule; of who waits first
 -- Assumes nothing.
+use Rattle.std.specs.Prelude.{Some}
 use Prim.Native.Nat.{ℕ, zero, suc}
 use mathlib.Core.Path.{◌≡◌, refl, sym, ◌∙◌, ap}
 use mathlib.Core.Bool.{Bool, true, false}
@@ -33,7 +34,7 @@ pub record Names (w : World) (d : Dispatcher) (i n : ℕ) : Type 0 where
   pub bytes : List ℕ
   pub made : packet w n ≡ some bytes
   pub request : Request
-  pub parsed : parse_packet bytes ≡ Requested request
+  pub parsed : parse_packet bytes ≡ Some (Requested request)
   pub waits : get_elem? (waiting d) i ≡ some request
 
 pub record Beside (w : World) (q : Queue) : Type 0 where
@@ -167,7 +168,7 @@ pub record First (w : World) (q : Queue) : Type 0 where
   pub bytes : List ℕ
   pub made : packet w number ≡ some bytes
   pub request : Request
-  pub parsed : parse_packet bytes ≡ Requested request
+  pub parsed : parse_packet bytes ≡ Some (Requested request)
   pub requests : List Request
   pub waits : waiting q.dispatcher ≡ request ∷ requests
 

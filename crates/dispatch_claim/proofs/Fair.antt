@@ -157,7 +157,7 @@ entered-last d p f e = rw (e.then, waiting-last d e.request f e.room) (last-ther
 
 pub request-again : (d : Dispatcher) (p : List ℕ) → Bytes p → (e : Entered d p) → request_bytes e.request ≡ p
 unfolding packet_bytes
-request-again d p b e = (packet-is p b (Requested e.request) e.parsed (λ z. let y : ◌≡◌ {A = ℕ} 0 1 = cc in absurd (omega arith))).same
+request-again d p b e = (packet-is p b (Requested e.request) e.parsed).same
 
 pub reaches : Reaches
 unfolding Reaches after_call

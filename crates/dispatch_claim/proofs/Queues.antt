@@ -3,6 +3,7 @@
 --     executes_by      what is executed: by such servings, and by the kernel's own requests
 --     reaches-run      a packet that was taken in is Request's in one of the next 32 servings at its server
 -- Assumes nothing.
+use Rattle.std.specs.Prelude.{Some}
 use Prim.Native.Nat.{ℕ, zero, suc, ◌+◌, ◌≤◌, ◌<◌}
 use mathlib.Core.Path.{◌≡◌, refl, sym, ◌∙◌, ap, subst}
 use mathlib.Core.Bool.{Bool, true, false, not}
@@ -61,9 +62,9 @@ module _ (os : List QueueEvent) where
   served-event n c v l a = rw (same-world n) at (event-there queue_product os n (serve c v l) a)
 
   module _ (bytes : MadeBytes os) where
-    again : (n p : ℕ) (b : List ℕ) (q : Request) → packet (after (events os) n) p ≡ some b → parse_packet b ≡ Requested q → request_bytes q ≡ b
+    again : (n p : ℕ) (b : List ℕ) (q : Request) → packet (after (events os) n) p ≡ some b → parse_packet b ≡ Some (Requested q) → request_bytes q ≡ b
     unfolding packet_bytes
-    again n p b q e h = (packet-is b (bytes n p b e) (Requested q) h (λ z. let y : ◌≡◌ {A = ℕ} 0 1 = cc in absurd (omega arith))).same
+    again n p b q e h = (packet-is b (bytes n p b e) (Requested q) h).same
 
     hands : (n c : ℕ) (v : Versions) (l : Lent) → AtQueue os n (serve c v l) → (k : Stored) (state log : List ℕ) → (after (events os) n).servers c ≡ running k state log
         → First (after (events os) n) (queue_at os n c) → Hands os n c v l state log
@@ -124,7 +125,7 @@ module _ (os : List QueueEvent) (bytes : MadeBytes os) (n c : ℕ) (m : Marked) 
       let h = hands os bytes n c x.versions x.lent a x.stored x.state x.log x.up f in
       let i : f.number ≡ x.number = (let y : f.number ∷ f.numbers ≡ x.number ∷ rest = sym f.split ∙ e in cc) in
       let b : f.bytes ≡ x.bytes = (let y : some f.bytes ≡ some x.bytes = sym f.made ∙ rw (sym i) at x.delivered in cc) in
-      let r : f.request ≡ x.asked = (let y : Requested f.request ≡ Requested x.asked = sym f.parsed ∙ rw (sym b) at x.parsed in cc) in
+      let r : f.request ≡ x.asked = (let y : Some (Requested f.request) ≡ Some (Requested x.asked) = sym f.parsed ∙ rw (sym b) at x.parsed in cc) in
       record {
         versions = x.versions;
         lent = x.lent;

@@ -7,6 +7,7 @@
 --     called-formed                          every call keeps the 32 places
 --     called-waiting                         what a call hands over, and then who waits, are those who waited and the one that it takes in
 -- Assumes nothing.
+use Rattle.std.specs.Prelude.{Some}
 use Prim.Native.Nat.{ℕ, zero, suc, min, ◌-◌, ◌≤◌, ◌<◌}
 use mathlib.Core.Path.{◌≡◌, refl, sym, ◌∙◌, ap}
 use mathlib.Core.Bool.{Bool, true, false}
@@ -101,7 +102,7 @@ shifted-count d = omega (arith, most d)
 -- one that is taken in: its request, which waits nowhere else, and there was a place
 pub record Entered (d : Dispatcher) (p : List ℕ) : Type 0 where
   pub request : Request
-  pub parsed : parse_packet p ≡ Requested request
+  pub parsed : parse_packet p ≡ Some (Requested request)
   pub new : waits d request.command.client ≡ false
   pub room : d.count < places
   pub then : enqueue_of d p ≡ enqueued (with_last d request) no_refusal

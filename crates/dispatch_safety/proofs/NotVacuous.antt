@@ -10,7 +10,7 @@ use mathlib.Core.Logic.{◌⊎◌, inl, inr}
 use mathlib.Core.Option.{some}
 use native.Mathlib.Omega.{arith}
 use lib.ListN.{drop, get_elem?}
-use Rattle.std.specs.Prelude.{Ok}
+use Rattle.std.specs.Prelude.{Ok, Some}
 use Rattle.model.specs.declared.Request.{Request}
 use Rattle.model.specs.declared.Packet.TheVariants.{Requested}
 use Rattle.model.specs.declared.Received.TheVariants.{Completed}
@@ -43,7 +43,7 @@ unfolding queued_seen queued_rows every
 provisos = provisos_kept simulator_plan 5 queued_events queued_seen queued_trace_is refl
 
 abbrev Parses : Request → Type 0
-Parses q = parse_packet (request_bytes q) ≡ Requested q
+Parses q = parse_packet (request_bytes q) ≡ Some (Requested q)
 
 parsed : Parses setting_asked × Parses (step_asked 1)
 unfolding open_numbers open_rules open_packets

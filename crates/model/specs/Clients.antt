@@ -1,7 +1,7 @@
 -- The client (paper: desk), values in and values out. It keeps its number, lease end, next call number and the open calls, at
 -- most 16 numbers from the first open one: an open call stands at the place call mod 16. A refusal leaves the client as it was.
 -- Assumes nothing.
-use Rattle.std.specs.Prelude.{ℕ, suc, ◌+◌, ◌%◌, Bool, ◌&&◌, not, List, [], ◌∷◌, get_or, set, replicate, eqb, leb, ltb, Result, Ok, Err}
+use Rattle.std.specs.Prelude.{ℕ, suc, ◌+◌, ◌%◌, Bool, ◌&&◌, not, List, [], ◌∷◌, get_or, set, replicate, eqb, leb, ltb, Result, Ok, Err, Option}
 use Rattle.model.specs.declared.Request.{Request}
 use Rattle.model.specs.declared.ResultPacket.{ResultPacket}
 use Rattle.model.specs.declared.RefusalPacket.{RefusalPacket}
@@ -77,7 +77,7 @@ abbrev pub started : Grant → StartAnswer
 started g =
     record { client = record { client = g.client; lease = g.lease; next = 1; calls = replicate call_window no_call }; answer = Ok tt }
 
-unfoldable pub start_with : Packet → StartAnswer
+unfoldable pub start_with : Option Packet → StartAnswer
 start_with p = or_else (as_grant p) not_started started
 
 unfoldable pub start_of : List ℕ → StartAnswer
@@ -138,7 +138,7 @@ receive_packet d (result r) = receive_result d r
 receive_packet d (refusal r) = receive_refusal d r
 receive_packet d (grant g) = receive_grant d g
 
-unfoldable pub receive_with : Client → Packet → ReceiveAnswer
+unfoldable pub receive_with : Client → Option Packet → ReceiveAnswer
 receive_with d p = or_else (as_client_packet p) (not_received d Malformed) (receive_packet d)
 
 unfoldable pub receive_of : Client → List ℕ → ReceiveAnswer

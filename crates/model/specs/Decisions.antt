@@ -2,8 +2,8 @@
 -- docs/REFERENCE.md; then comes what it does. Recovery asks the same functions. `free` is the space left in the log. The tests of lent
 -- memory (2, 19) stand before these, in Operations.
 -- Assumes nothing.
-use Rattle.std.specs.Prelude.{ℕ, suc, ◌+◌, Bool, true, false, ◌&&◌, ◌||◌, not, List, [], ◌∷◌, map, length, eqb, leb, ltb}
-use Rattle.std.proofs.Math.Option.{Option, none, some}
+use Rattle.std.specs.Prelude.{ℕ, suc, ◌+◌, Bool, true, false, ◌&&◌, ◌||◌, not, List, [], ◌∷◌, map, length, eqb, leb, ltb, Option}
+use Rattle.std.proofs.Math.Option.{Option as Maybe, none, some}
 use Rattle.model.specs.declared.CommandResult.{CommandResult}
 use Rattle.model.specs.declared.Request.{Request}
 use Rattle.model.specs.declared.ResultPacket.{ResultPacket}
@@ -30,11 +30,11 @@ abbrev pub Decided : Type 0
 Decided = Decision LogRecord
 
 -- what is decided on a packet of the kind asked for, or on an image; 1 where there is none
-unfoldable pub or_malformed : {A : Type 0} → Option A → (A → Decided) → Decided
+unfoldable pub or_malformed : {A : Type 0} → Maybe A → (A → Decided) → Decided
 or_malformed o f = or_else o (refuse malformed) f
 
 -- the completion record of an id
-unfoldable pub find : ℕ → ℕ → List Completion → Option Completion
+unfoldable pub find : ℕ → ℕ → List Completion → Maybe Completion
 find x c [] = none
 find x c (r ∷ rs) = pick (is_id x c r) (some r) (find x c rs)
 
@@ -104,7 +104,7 @@ on_new v st free q =
     unless_refused (new_refusal (floor_of q.command.client st.floors) (length st.floors) free (executed_size_of v.timed))
     (append (executed (executed_for v st q)))
 
-unfoldable pub on_id : Versions → State → ℕ → Request → Option Completion → Decided
+unfoldable pub on_id : Versions → State → ℕ → Request → Maybe Completion → Decided
 on_id v st free q none = on_new v st free q
 on_id v st free q (some r) = on_held v st q r
 
@@ -124,7 +124,7 @@ denying q (reply b) = reply b
 denying q (append r) = append r
 denying q (marks m) = marks m
 
-unfoldable pub on_request : Versions → State → ℕ → Packet → Decided
+unfoldable pub on_request : Versions → State → ℕ → Option Packet → Decided
 on_request v st free p = or_malformed (as_request p) (λ q. denying q (decide_request v st free q))
 
 -- ---- Fetch, of an id: 17 it is not held; 7 its record is not synced; else its result packet
@@ -132,7 +132,7 @@ on_request v st free p = or_malformed (as_request p) (λ q. denying q (decide_re
 unfoldable pub fetch_refusal : ℕ → Completion → ℕ
 fetch_refusal mark r = not_synced if not (is_synced mark r.end) else passed
 
-unfoldable pub on_fetched : Versions → State → Option Completion → Decided
+unfoldable pub on_fetched : Versions → State → Maybe Completion → Decided
 on_fetched v st none = refuse unknown
 on_fetched v st (some r) = unless_refused (fetch_refusal st.mark r) (reply (result_bytes (result_of_record (timed_by v st) r)))
 
@@ -158,7 +158,7 @@ notice_refusal floor free =
 unfoldable pub decide_notice : State → ℕ → Notice → Decided
 decide_notice st free n = unless_refused (notice_refusal (floor_of n.client st.floors) free) (append (gone n))
 
-unfoldable pub on_notice : State → ℕ → Packet → Decided
+unfoldable pub on_notice : State → ℕ → Option Packet → Decided
 on_notice st free p = or_malformed (as_notice p) (decide_notice st free)
 
 -- ---- Give (point, destination): 1; 3; 11 destination is this server; 16 move number at its greatest; 9
@@ -253,7 +253,7 @@ take_tests st free i =
 unfoldable pub decide_take : State → ℕ → Image → Decided
 decide_take st free i = unless_refused (take_tests st free i) (append (took i))
 
-unfoldable pub on_take : State → ℕ → Option Image → Decided
+unfoldable pub on_take : State → ℕ → Maybe Image → Decided
 on_take st free o = or_malformed o (decide_take st free)
 
 -- ---- Receipt, of a point: 1 no point; 3 it was never taken; 7 its latest take is not synced; else that take's move
@@ -282,13 +282,13 @@ unfoldable pub decide_release : State → ℕ → ℕ → ℕ → Decided
 decide_release st free p m =
     unless_refused (release_refusal (point_at st p) free m) (append (released (record { point = p; move_number = (point_at st p).move_number })))
 
-unfoldable pub on_release : State → ℕ → Packet → Decided
+unfoldable pub on_release : State → ℕ → Option Packet → Decided
 on_release st free p = or_malformed (as_receipt p) (λ r. decide_release st free r.point r.move_number)
 
 -- ---- Recover: a record follows a state where its operation's tests are passed there, with the lease passed and the free space set to
 -- the record's size
 
-unfoldable pub is_none : Option Completion → Bool
+unfoldable pub is_none : Maybe Completion → Bool
 is_none none = true
 is_none (some r) = false
 

@@ -1,8 +1,8 @@
--- The packets: parse and write. The first byte is the kind; a result has two, without a time of execution and with one. Malformed means another length or kind, a zero byte that is
+-- The packets: parse and write. The first byte is the kind; a result has two, without a time of execution and with one. None is another length or kind, a zero byte that is
 -- not zero, or a field outside its range, the op's argument included.
 -- Assumes nothing.
-use Rattle.std.specs.Prelude.{ℕ, ◌+◌, Bool, true, false, ◌&&◌, List, [], ◌∷◌, ◌++◌, length, get_or, eqb, leb}
-use Rattle.std.proofs.Math.Option.{Option, none, some}
+use Rattle.std.specs.Prelude.{ℕ, ◌+◌, Bool, true, false, ◌&&◌, List, [], ◌∷◌, ◌++◌, length, get_or, eqb, leb, Option, Some, None}
+use Rattle.std.proofs.Math.Option.{Option as Maybe, none, some}
 use Rattle.model.specs.declared.Request.{Request}
 use Rattle.model.specs.declared.ResultPacket.{ResultPacket}
 use Rattle.model.specs.declared.RefusalPacket.{RefusalPacket}
@@ -10,7 +10,7 @@ use Rattle.model.specs.declared.Receipt.{Receipt}
 use Rattle.model.specs.declared.Notice.{Notice}
 use Rattle.model.specs.declared.Grant.{Grant}
 use Rattle.model.specs.declared.Packet.{Packet}
-use Rattle.model.specs.declared.Packet.TheVariants.{Malformed, Requested, Resulted, Refused, Receipted, Noticed, Granted}
+use Rattle.model.specs.declared.Packet.TheVariants.{Requested, Resulted, Refused, Receipted, Noticed, Granted}
 use Rattle.model.specs.Choice.{pick}
 use Rattle.model.specs.Numbers.{byte_at, le32_at, le32, signed_at, signed32, zero_at, zeros3_at, quad}
 use Rattle.model.specs.Rules.{argument_ok}
@@ -146,28 +146,28 @@ grant_bytes g = quad grant_kind 0 0 0 ++ (le32 g.client ++ le32 g.lease)
 -- ---- all kinds
 
 -- a packet of its kind's length whose zero bytes and fields are as they should be
-unfoldable pub whole : List ℕ → ℕ → Bool → Packet → Packet
-whole p kind ok found = pick (eqb (length p) (packet_length kind)) (pick ok found Malformed) Malformed
+unfoldable pub whole : List ℕ → ℕ → Bool → Packet → Option Packet
+whole p kind ok found = pick (eqb (length p) (packet_length kind)) (pick ok (Some found) None) None
 
-unfoldable pub parse_request : List ℕ → Packet
+unfoldable pub parse_request : List ℕ → Option Packet
 parse_request p = whole p request_kind (zero_at p 3 && request_ok (request_at p)) (Requested (request_at p))
 
-unfoldable pub parse_result : Bool → List ℕ → Packet
+unfoldable pub parse_result : Bool → List ℕ → Option Packet
 parse_result timed p = whole p (result_kind_of timed) (result_ok (result_at timed p)) (Resulted (result_at timed p))
 
-unfoldable pub parse_refusal : List ℕ → Packet
+unfoldable pub parse_refusal : List ℕ → Option Packet
 parse_refusal p = whole p refusal_kind (zero_at p 3 && refusal_ok (refusal_at p)) (Refused (refusal_at p))
 
-unfoldable pub parse_receipt : List ℕ → Packet
+unfoldable pub parse_receipt : List ℕ → Option Packet
 parse_receipt p = whole p receipt_kind (zero_at p 3 && receipt_ok (receipt_at p)) (Receipted (receipt_at p))
 
-unfoldable pub parse_notice : List ℕ → Packet
+unfoldable pub parse_notice : List ℕ → Option Packet
 parse_notice p = whole p notice_kind (zeros3_at p 1 && notice_ok (notice_at p)) (Noticed (notice_at p))
 
-unfoldable pub parse_grant : List ℕ → Packet
+unfoldable pub parse_grant : List ℕ → Option Packet
 parse_grant p = whole p grant_kind (zeros3_at p 1 && grant_ok (grant_at p)) (Granted (grant_at p))
 
-unfoldable pub parse_packet : List ℕ → Packet
+unfoldable pub parse_packet : List ℕ → Option Packet
 parse_packet p =
     pick (eqb (byte_at p 0) request_kind) (parse_request p)
     (pick (eqb (byte_at p 0) first_result_kind) (parse_result false p)
@@ -175,11 +175,10 @@ parse_packet p =
     (pick (eqb (byte_at p 0) receipt_kind) (parse_receipt p)
     (pick (eqb (byte_at p 0) notice_kind) (parse_notice p)
     (pick (eqb (byte_at p 0) grant_kind) (parse_grant p)
-    (pick (eqb (byte_at p 0) result_kind) (parse_result true p) Malformed))))))
+    (pick (eqb (byte_at p 0) result_kind) (parse_result true p) None))))))
 
 -- the bytes of a packet
 unfoldable pub packet_bytes : Packet → List ℕ
-packet_bytes Malformed = []
 packet_bytes (Requested q) = request_bytes q
 packet_bytes (Resulted r) = result_bytes r
 packet_bytes (Refused r) = refusal_bytes r
@@ -187,42 +186,42 @@ packet_bytes (Receipted r) = receipt_bytes r
 packet_bytes (Noticed n) = notice_bytes notice_kind n
 packet_bytes (Granted g) = grant_bytes g
 
--- the packet of one kind, none of any other
-unfoldable pub as_request : Packet → Option Request
-as_request Malformed = none
-as_request (Requested q) = some q
-as_request (Resulted r) = none
-as_request (Refused r) = none
-as_request (Receipted r) = none
-as_request (Noticed n) = none
-as_request (Granted g) = none
+-- the packet of one kind, none of any other and of bytes that are none
+unfoldable pub as_request : Option Packet → Maybe Request
+as_request None = none
+as_request (Some (Requested q)) = some q
+as_request (Some (Resulted r)) = none
+as_request (Some (Refused r)) = none
+as_request (Some (Receipted r)) = none
+as_request (Some (Noticed n)) = none
+as_request (Some (Granted g)) = none
 
-unfoldable pub as_receipt : Packet → Option Receipt
-as_receipt Malformed = none
-as_receipt (Requested q) = none
-as_receipt (Resulted r) = none
-as_receipt (Refused r) = none
-as_receipt (Receipted r) = some r
-as_receipt (Noticed n) = none
-as_receipt (Granted g) = none
+unfoldable pub as_receipt : Option Packet → Maybe Receipt
+as_receipt None = none
+as_receipt (Some (Requested q)) = none
+as_receipt (Some (Resulted r)) = none
+as_receipt (Some (Refused r)) = none
+as_receipt (Some (Receipted r)) = some r
+as_receipt (Some (Noticed n)) = none
+as_receipt (Some (Granted g)) = none
 
-unfoldable pub as_notice : Packet → Option Notice
-as_notice Malformed = none
-as_notice (Requested q) = none
-as_notice (Resulted r) = none
-as_notice (Refused r) = none
-as_notice (Receipted r) = none
-as_notice (Noticed n) = some n
-as_notice (Granted g) = none
+unfoldable pub as_notice : Option Packet → Maybe Notice
+as_notice None = none
+as_notice (Some (Requested q)) = none
+as_notice (Some (Resulted r)) = none
+as_notice (Some (Refused r)) = none
+as_notice (Some (Receipted r)) = none
+as_notice (Some (Noticed n)) = some n
+as_notice (Some (Granted g)) = none
 
-abbrev pub as_grant : Packet → Option Grant
-as_grant Malformed = none
-as_grant (Requested q) = none
-as_grant (Resulted r) = none
-as_grant (Refused r) = none
-as_grant (Receipted r) = none
-as_grant (Noticed n) = none
-as_grant (Granted g) = some g
+abbrev pub as_grant : Option Packet → Maybe Grant
+as_grant None = none
+as_grant (Some (Requested q)) = none
+as_grant (Some (Resulted r)) = none
+as_grant (Some (Refused r)) = none
+as_grant (Some (Receipted r)) = none
+as_grant (Some (Noticed n)) = none
+as_grant (Some (Granted g)) = some g
 
 -- the packets that a client receives: kinds 2 and 7, 3 and 6
 pub data ClientPacket : Type 0 where
@@ -230,11 +229,11 @@ pub data ClientPacket : Type 0 where
   refusal : RefusalPacket → ClientPacket
   grant : Grant → ClientPacket
 
-abbrev pub as_client_packet : Packet → Option ClientPacket
-as_client_packet Malformed = none
-as_client_packet (Requested q) = none
-as_client_packet (Resulted r) = some (result r)
-as_client_packet (Refused r) = some (refusal r)
-as_client_packet (Receipted r) = none
-as_client_packet (Noticed n) = none
-as_client_packet (Granted g) = some (grant g)
+abbrev pub as_client_packet : Option Packet → Maybe ClientPacket
+as_client_packet None = none
+as_client_packet (Some (Requested q)) = none
+as_client_packet (Some (Resulted r)) = some (result r)
+as_client_packet (Some (Refused r)) = some (refusal r)
+as_client_packet (Some (Receipted r)) = none
+as_client_packet (Some (Noticed n)) = none
+as_client_packet (Some (Granted g)) = some (grant g)

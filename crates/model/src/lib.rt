@@ -142,10 +142,9 @@ pub struct Grant {
     pub lease: u32,
 }
 
-// What a parser finds: a request, a result in either form, or one of the other four; or that the bytes are none.
+// What a parser finds, if the bytes are a packet: a request, a result in either form, or one of the other four.
 #[derive(Clone, Copy)]
 pub enum Packet {
-    Malformed,
     Requested(Request),
     Resulted(ResultPacket),
     Refused(RefusalPacket),

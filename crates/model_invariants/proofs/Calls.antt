@@ -9,11 +9,12 @@
 --     call-bytes          state and log stay bytes
 --     call_kept           a call on a sound buffer, refused or not, leaves a sound buffer (of the two calls with a checkpoint: TailCalls)
 -- Assumes nothing.
+use Rattle.std.specs.Prelude.{Option}
 use Prim.Native.Nat.{ℕ, ◌+◌, ◌-◌, ◌*◌, ◌≤◌, ◌<◌}
 use mathlib.Core.Path.{◌≡◌, refl, sym, ◌∙◌, ap, subst}
 use mathlib.Core.Bool.{Bool, true, false, ◌||◌, not}
 use mathlib.Core.List.{List, []}
-use mathlib.Core.Option.{Option, none, some}
+use mathlib.Core.Option.{Option as Maybe, none, some}
 use mathlib.Core.Logic.{◌⊎◌, inl, inr}
 use native.Mathlib.Omega.{arith}
 use lib.ListN.{length}
@@ -71,7 +72,7 @@ module _ {A : LogRecord → Type 0} {M : ℕ → Type 0} where
   only_unless : (n : ℕ) {d : Decided} → Only A M d → Only A M (unless_refused n d)
   only_unless n h = unless (Only A M) n (λ k. refuses) h
 
-  only-kind : {B : Type 0} (o : Option B) {f : B → Decided} → ((x : B) → Only A M (f x)) → Only A M (or_malformed o f)
+  only-kind : {B : Type 0} (o : Maybe B) {f : B → Decided} → ((x : B) → Only A M (f x)) → Only A M (or_malformed o f)
   unfolding or_malformed
   only-kind none h = refuses
   only-kind (some x) h = h x
@@ -92,16 +93,16 @@ any_mark : (m : ℕ) → AnyMark m
 unfolding AnyMark
 any_mark m = tt
 
-only-id : (v : Versions) (st : State) (free : ℕ) (q : Request) (o : Option Completion) → Only AnyRecord NoMark (on_id v st free q o)
+only-id : (v : Versions) (st : State) (free : ℕ) (q : Request) (o : Maybe Completion) → Only AnyRecord NoMark (on_id v st free q o)
 unfolding on_id on_new on_held
 only-id v st free q none = only_unless _ (appends (any _))
 only-id v st free q (some r) = only_unless _ replies
 
-only-request : (v : Versions) (st : State) (free : ℕ) (p : Packet) → Only AnyRecord NoMark (on_request v st free p)
+only-request : (v : Versions) (st : State) (free : ℕ) (p : Option Packet) → Only AnyRecord NoMark (on_request v st free p)
 unfolding on_request decide_request
 only-request v st free p = only-kind (as_request p) (λ q. with_packet_lem q (only_unless _ (only-id v st free q (find q.command.client q.command.call st.records))))
 
-only-notice : (st : State) (free : ℕ) (p : Packet) → Only AnyRecord NoMark (on_notice st free p)
+only-notice : (st : State) (free : ℕ) (p : Option Packet) → Only AnyRecord NoMark (on_notice st free p)
 unfolding on_notice decide_notice
 only-notice st free p = only-kind (as_notice p) (λ n. only_unless _ (appends (any _)))
 
@@ -109,15 +110,15 @@ only-give : (st : State) (free p d : ℕ) → Only AnyRecord NoMark (on_give st 
 unfolding on_give
 only-give st free p d = only_unless _ (appends (any _))
 
-only-take : (st : State) (free : ℕ) (o : Option Image) → Only AnyRecord NoMark (on_take st free o)
+only-take : (st : State) (free : ℕ) (o : Maybe Image) → Only AnyRecord NoMark (on_take st free o)
 unfolding on_take decide_take
 only-take st free o = only-kind o (λ i. only_unless _ (appends (any _)))
 
-only-release : (st : State) (free : ℕ) (p : Packet) → Only AnyRecord NoMark (on_release st free p)
+only-release : (st : State) (free : ℕ) (p : Option Packet) → Only AnyRecord NoMark (on_release st free p)
 unfolding on_release decide_release
 only-release st free p = only-kind (as_receipt p) (λ r. only_unless _ (appends (any _)))
 
-only-fetch : (v : Versions) (st : State) (o : Option Completion) → Only NoRecord NoMark (on_fetched v st o)
+only-fetch : (v : Versions) (st : State) (o : Maybe Completion) → Only NoRecord NoMark (on_fetched v st o)
 unfolding on_fetched
 only-fetch v st none = refuses
 only-fetch v st (some r) = only_unless _ replies
@@ -254,7 +255,7 @@ recover_elim P state log plan two one fourteen k =
     let a : After = settle_recovered state log (recovered_state (plan_of plan) log) in
     recover-number (λ (m : ℕ). P (left_unless m state log a)) (length state) plan two one (λ l g. go (recovered_state (plan_of plan) log) refl l g)
   where
-    go : (o : Option State) → recovered_state (plan_of plan) log ≡ o → state_size ≤ length state → plan_ok plan ≡ true → P (settle_recovered state log o)
+    go : (o : Maybe State) → recovered_state (plan_of plan) log ≡ o → state_size ≤ length state → plan_ok plan ≡ true → P (settle_recovered state log o)
     go none r l g = fourteen
     go (some st) r l g = k st l g r
 
@@ -334,7 +335,7 @@ sets-mark (release packet) st free m e = absurd (no_mark (only-release st free (
 unlike : ◌≡◌ {A = ℕ} 0 1 → ⊥
 unlike e = omega arith
 
-module _ {P Q : Type 0} (f : P → Option Q) where
+module _ {P Q : Type 0} (f : P → Maybe Q) where
   -- no request: one that names no packet, and one that names p
   plain_over : (o : OperationOf P) (x y : OperationOf Q) → ((B : Q → Type 0) → Named B x) → ((st : State) → output_size st x ≡ output_size st o) → has_output x ≡ has_output o
       → ((v : Versions) (b : Q) → x ≡ request v b → ⊥)
@@ -351,7 +352,7 @@ module _ {P Q : Type 0} (f : P → Option Q) where
       → or_else (f p) none (λ (b : Q). some (k b)) ≡ some y → HandedOver f o y
   packet-over p o k y h = go (f p) refl
     where
-      go : (u : Option Q) → f p ≡ u → or_else u none (λ (b : Q). some (k b)) ≡ some y → HandedOver f o y
+      go : (u : Maybe Q) → f p ≡ u → or_else u none (λ (b : Q). some (k b)) ≡ some y → HandedOver f o y
       go none q e = absurd (unlike (cc))
       go (some b) q e = let z : k b ≡ y = cc in subst (HandedOver f o) z (h b q)
 

@@ -6,6 +6,7 @@
 --     on_request_lem, on_notice_lem, on_take_lem, on_release_lem             what an operation decides on its packet
 --     chained, from_chained              entries of a log, one after the other
 -- Assumes nothing.
+use Rattle.std.specs.Prelude.{Some}
 use Prim.Native.Nat.{ℕ, ◌*◌, ◌≤◌, ◌<◌}
 use mathlib.Core.Path.{◌≡◌, refl}
 use mathlib.Core.Bool.{true}
@@ -79,23 +80,23 @@ record-good (released r) g = (le-leb _ _ g.point, record { point = omega (arith,
 
 -- ---- packets and images
 
-pub parsed-request : (b : List ℕ) (q : Request) → Bytes b → parse_packet b ≡ Requested q → GoodRequest q
+pub parsed-request : (b : List ℕ) (q : Request) → Bytes b → parse_packet b ≡ Some (Requested q) → GoodRequest q
 parsed-request b q h e =
-    let p : IsPacket b (Requested q) = packet-is b h (Requested q) e (λ k. let z : ◌≡◌ {A = ℕ} 0 1 = cc in omega arith) in
+    let p : IsPacket b (Requested q) = packet-is b h (Requested q) e in
     let f : RequestFits q = p.fits in
     record { ok = p.ok; client = f.client; call = f.call }
 
-pub parsed-notice : (b : List ℕ) (n : Notice) → Bytes b → parse_packet b ≡ Noticed n → GoodNotice n
+pub parsed-notice : (b : List ℕ) (n : Notice) → Bytes b → parse_packet b ≡ Some (Noticed n) → GoodNotice n
 unfolding notice_ok
 parsed-notice b n h e =
-    let p : IsPacket b (Noticed n) = packet-is b h (Noticed n) e (λ k. let z : ◌≡◌ {A = ℕ} 0 1 = cc in omega arith) in
+    let p : IsPacket b (Noticed n) = packet-is b h (Noticed n) e in
     let f : NoticeFits n = p.fits in
     record { ok = leb-true _ _ p.ok; client = f.client; time = f.time }
 
-pub parsed-receipt : (b : List ℕ) (r : Receipt) → Bytes b → parse_packet b ≡ Receipted r → r.point ≤ last_point
+pub parsed-receipt : (b : List ℕ) (r : Receipt) → Bytes b → parse_packet b ≡ Some (Receipted r) → r.point ≤ last_point
 unfolding receipt_ok
 parsed-receipt b r h e =
-    let p : IsPacket b (Receipted r) = packet-is b h (Receipted r) e (λ k. let z : ◌≡◌ {A = ℕ} 0 1 = cc in omega arith) in
+    let p : IsPacket b (Receipted r) = packet-is b h (Receipted r) e in
     ((both (le r.point last_point) (le r.server last_server)).holds p.ok).0
 
 pub parsed-image : (b : List ℕ) (i : Image) → Bytes b → parse_image b ≡ some i → GoodImage i

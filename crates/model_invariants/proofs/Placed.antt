@@ -6,12 +6,13 @@
 --     request-placed, fetch-placed, image-placed, receipt-placed     decisions, where f keeps what is synced
 --     notice-placed, give-placed, take-placed, release-placed        for every f
 -- Assumes nothing.
+use Rattle.std.specs.Prelude.{Option}
 use Prim.Native.Nat.{ℕ, zero, suc, ◌+◌, ◌≤◌, ◌<◌}
 use mathlib.Core.Path.{◌≡◌, refl, sym, ap, ◌∙◌, fun_ext}
 use mathlib.Core.Bool.{Bool, true, false, ◌&&◌, ◌||◌, not}
 use mathlib.Core.List.{List, [], ◌∷◌, ◌++◌, map, map-map, map-id, map-append}
 use mathlib.Core.Option
-use mathlib.Core.Option.{Option, none, some}
+use mathlib.Core.Option.{Option as Maybe, none, some}
 use native.Mathlib.Omega.{arith}
 use lib.ListN.{length, get_or, set, get_or-map}
 use lib.Dec.{eqb, leb}
@@ -167,7 +168,7 @@ find-placed f x c (r ∷ rs) = go (is_id x c r) (find-placed f x c rs)
 
 -- ---- the same records follow
 
-none-placed : (f : ℕ → ℕ) (o : Option Completion) → is_none (Option.map (placed_record f) o) ≡ is_none o
+none-placed : (f : ℕ → ℕ) (o : Maybe Completion) → is_none (Option.map (placed_record f) o) ≡ is_none o
 unfolding is_none
 none-placed f none = refl
 none-placed f (some r) = refl
@@ -305,7 +306,7 @@ apply-placed f z (released r) end st = apply-released f z st r end
 -- ---- decisions
 
 -- decided alike on every packet of the kind asked for
-decided-alike : {A : Type 0} (o : Option A) (h k : A → Decided) → ((x : A) → h x ≡ k x) → or_malformed o h ≡ or_malformed o k
+decided-alike : {A : Type 0} (o : Maybe A) (h k : A → Decided) → ((x : A) → h x ≡ k x) → or_malformed o h ≡ or_malformed o k
 unfolding or_malformed
 decided-alike none h k e = refl
 decided-alike (some x) h k e = e x
@@ -350,7 +351,7 @@ module _ (f : ℕ → ℕ) (st : State) where
     unfolding on_held held_refusal same_command result_of_record placed placed_record
     held-placed v q r = rw (s r.end, timed-placed v)
 
-    id-placed : (v : Versions) (free : ℕ) (q : Request) (o : Option Completion) → on_id v (placed f st) free q (Option.map (placed_record f) o) ≡ on_id v st free q o
+    id-placed : (v : Versions) (free : ℕ) (q : Request) (o : Maybe Completion) → on_id v (placed f st) free q (Option.map (placed_record f) o) ≡ on_id v st free q o
     unfolding on_id
     id-placed v free q none = new_placed v free q
     id-placed v free q (some r) = held-placed v q r
@@ -366,13 +367,13 @@ module _ (f : ℕ → ℕ) (st : State) where
         = ap (on_id v (placed f st) free q) (find-placed f c.client c.call st.records) ∙ id-placed v free q (find c.client c.call st.records) in
         rw (a, b)
 
-    pub request-placed : (v : Versions) (free : ℕ) (p : Packet) → on_request v (placed f st) free p ≡ on_request v st free p
+    pub request-placed : (v : Versions) (free : ℕ) (p : Option Packet) → on_request v (placed f st) free p ≡ on_request v st free p
     unfolding on_request
     request-placed v free p =
         decided-alike (as_request p) (λ (q : Request). denying q (decide_request v (placed f st) free q)) (λ (q : Request). denying q (decide_request v st free q))
         (λ (q : Request). ap (denying q) (decide_placed v free q))
 
-    fetched_placed : (v : Versions) (o : Option Completion) → on_fetched v (placed f st) (Option.map (placed_record f) o) ≡ on_fetched v st o
+    fetched_placed : (v : Versions) (o : Maybe Completion) → on_fetched v (placed f st) (Option.map (placed_record f) o) ≡ on_fetched v st o
     unfolding on_fetched fetch_refusal result_of_record placed placed_record
     fetched_placed v none = refl
     fetched_placed v (some r) = rw (s r.end, timed-placed v)
@@ -407,7 +408,7 @@ module _ (f : ℕ → ℕ) (st : State) where
           let m : (point_at (placed f st) p).taken_move ≡ (point_at st p).taken_move = at-point (λ (x : Point). x.taken_move) f (λ (x : Point). unfold placed_point in refl) st p in
           rw (a, m)
 
-  pub notice-placed : (free : ℕ) (p : Packet) → on_notice (placed f st) free p ≡ on_notice st free p
+  pub notice-placed : (free : ℕ) (p : Option Packet) → on_notice (placed f st) free p ≡ on_notice st free p
   unfolding on_notice decide_notice placed
   notice-placed free p = refl
 
@@ -418,12 +419,12 @@ module _ (f : ℕ → ℕ) (st : State) where
       = λ (x : Point). unless_refused (malformed if places_bad p d else give_refusal x st.server free d) (append (gave (record { point = p; destination = d; move_number = suc x.move_number }))) in
       at-point h f (λ (x : Point). unfold give_refusal placed_point is_held in refl) st p
 
-  pub take-placed : (free : ℕ) (o : Option Image) → on_take (placed f st) free o ≡ on_take st free o
+  pub take-placed : (free : ℕ) (o : Maybe Image) → on_take (placed f st) free o ≡ on_take st free o
   unfolding on_take decide_take
   take-placed free o =
       decided-alike o (decide_take (placed f st) free) (decide_take st free) (λ (i : Image). ap (λ (n : ℕ). unless_refused n (append (took i))) (tests-placed f st free i))
 
-  pub release-placed : (free : ℕ) (p : Packet) → on_release (placed f st) free p ≡ on_release st free p
+  pub release-placed : (free : ℕ) (p : Option Packet) → on_release (placed f st) free p ≡ on_release st free p
   unfolding on_release decide_release
   release-placed free p =
       decided-alike (as_receipt p) (λ (r : Receipt). decide_release (placed f st) free r.point r.move_number) (λ (r : Receipt). decide_release st free r.point r.move_number)

@@ -8,12 +8,13 @@
 --     rebase_any, rebase_rebase, rebased-seen, rebased-whole, rebase_seen     a checkpoint on a tail
 --     seen-zero, seen-founded         before the first checkpoint
 -- Assumes nothing.
+use Rattle.std.specs.Prelude.{Option}
 use Prim.Native.Nat.{ℕ, zero, suc, ◌+◌, ◌-◌, ◌≤◌}
 use mathlib.Core.Path.{◌≡◌, refl, sym, ap, ◌∙◌}
 use mathlib.Core.Bool.{Bool, true, false}
 use mathlib.Core.List.{List, [], ◌∷◌, map, map-map}
 use mathlib.Core.Option
-use mathlib.Core.Option.{Option, none}
+use mathlib.Core.Option.{Option as Maybe, none}
 use native.Mathlib.Omega.{arith}
 use lib.Dec.{leb, ltb}
 use borrow.Author.Tests.{ne_eqb, leb-true, leb-false, le-leb, lt-leb, lt-ltb, le-ltb, ltb-true, ltb-false}
@@ -74,7 +75,7 @@ module _ (b : ℕ) (st : State) (h : b + head_size ≤ st.mark) where
   synced-here : KeepsSynced (local b) st.mark
   synced-here = synced-seen b st.mark h
 
-pub request-seen : (b : ℕ) (v : Versions) (st : State) (free : ℕ) (p : Packet) → b + head_size ≤ st.mark → on_request v (seen_from b st) free p ≡ on_request v st free p
+pub request-seen : (b : ℕ) (v : Versions) (st : State) (free : ℕ) (p : Option Packet) → b + head_size ≤ st.mark → on_request v (seen_from b st) free p ≡ on_request v st free p
 unfolding seen_from
 request-seen b v st free p h = request-placed (local b) st (synced-here b st h) v free p
 
@@ -82,7 +83,7 @@ pub fetch-seen : (b : ℕ) (v : Versions) (st : State) (x c : ℕ) → b + head_
 unfolding seen_from
 fetch-seen b v st x c h = fetch-placed (local b) st (synced-here b st h) v x c
 
-pub notice-seen : (b : ℕ) (st : State) (free : ℕ) (p : Packet) → on_notice (seen_from b st) free p ≡ on_notice st free p
+pub notice-seen : (b : ℕ) (st : State) (free : ℕ) (p : Option Packet) → on_notice (seen_from b st) free p ≡ on_notice st free p
 unfolding seen_from
 notice-seen b st free p = notice-placed (local b) st free p
 
@@ -94,7 +95,7 @@ pub image-seen : (b : ℕ) (v : Versions) (st : State) (p : ℕ) → b + head_si
 unfolding seen_from
 image-seen b v st p h = image-placed (local b) st (synced-here b st h) (local-zero b) v p
 
-pub take-seen : (b : ℕ) (st : State) (free : ℕ) (o : Option Image) → on_take (seen_from b st) free o ≡ on_take st free o
+pub take-seen : (b : ℕ) (st : State) (free : ℕ) (o : Maybe Image) → on_take (seen_from b st) free o ≡ on_take st free o
 unfolding seen_from
 take-seen b st free o = take-placed (local b) st free o
 
@@ -102,7 +103,7 @@ pub receipt-seen : (b : ℕ) (st : State) (p : ℕ) → b + head_size ≤ st.mar
 unfolding seen_from
 receipt-seen b st p h = receipt-placed (local b) st (synced-here b st h) (local-zero b) p
 
-pub release-seen : (b : ℕ) (st : State) (free : ℕ) (p : Packet) → on_release (seen_from b st) free p ≡ on_release st free p
+pub release-seen : (b : ℕ) (st : State) (free : ℕ) (p : Option Packet) → on_release (seen_from b st) free p ≡ on_release st free p
 unfolding seen_from
 release-seen b st free p = release-placed (local b) st free p
 

@@ -14,13 +14,13 @@
 use mathlib.Core.Path.{◌≡◌, refl, sym, ◌∙◌, ap}
 use mathlib.Core.Bool.{Bool, true, false, ◌&&◌, ◌||◌}
 use mathlib.Core.List.{List}
-use mathlib.Core.Option.{Option, none, some}
+use mathlib.Core.Option.{Option as Maybe, none, some}
 use Prim.Native.Nat.{ℕ, suc, ◌+◌, ◌≤◌, ◌<◌}
 use native.Mathlib.Omega.{arith}
 use lib.Dec.{eqb, leb, ltb}
 use lib.ListN.{length, get_or}
 use borrow.Author.Tests.{leb-true, leb-false, eqb-true, le-leb, eq-eqb}
-use Rattle.std.specs.Prelude.{Ok, Err}
+use Rattle.std.specs.Prelude.{Ok, Err, Option, Some, None}
 use Rattle.model.specs.declared.Client.{Client}
 use Rattle.model.specs.declared.Command.{Command}
 use Rattle.model.specs.declared.Request.{Request}
@@ -31,7 +31,7 @@ use Rattle.model.specs.declared.ResultPacket.{ResultPacket}
 use Rattle.model.specs.declared.RefusalPacket.{RefusalPacket}
 use Rattle.model.specs.declared.Grant.{Grant}
 use Rattle.model.specs.declared.Packet.{Packet}
-use Rattle.model.specs.declared.Packet.TheVariants.{Malformed, Requested, Resulted, Refused, Receipted, Noticed, Granted}
+use Rattle.model.specs.declared.Packet.TheVariants.{Requested, Resulted, Refused, Receipted, Noticed, Granted}
 use Rattle.model.specs.declared.Received.TheVariants.{Completed, Denied, Extended}
 use Rattle.model.specs.declared.SendAnswer.{SendAnswer}
 use Rattle.model.specs.Choice.{or_else}
@@ -135,34 +135,34 @@ own_is d client call point e =
     let r = and_right (eqb client d.client) _ e in
     record { client-is = eqb-true _ _ (and_left (eqb client d.client) _ e); open_call_lem = open_is d call (and_left (is_open d call) _ r); point-is = eqb-true _ _ (and_right (is_open d call) _ r) }
 
-pub data ReceiveCase (d : Client) (p : Packet) : Type 0 where
+pub data ReceiveCase (d : Client) (p : Option Packet) : Type 0 where
   refused : (r : Refusal) → receive_with d p ≡ not_received d r → ReceiveCase d p
-  completed : (r : ResultPacket) → p ≡ Resulted r → Own d r.client r.call r.point
+  completed : (r : ResultPacket) → p ≡ Some (Resulted r) → Own d r.client r.call r.point
       → receive_with d p ≡ record { client = closed d r.call; answer = Ok (Completed r) } → ReceiveCase d p
-  denied : (r : RefusalPacket) → p ≡ Refused r → Own d r.client r.call r.point
+  denied : (r : RefusalPacket) → p ≡ Some (Refused r) → Own d r.client r.call r.point
       → receive_with d p ≡ record { client = d; answer = Ok (Denied r) } → ReceiveCase d p
-  extended : (g : Grant) → p ≡ Granted g → g.client ≡ d.client → d.lease ≤ g.lease
+  extended : (g : Grant) → p ≡ Some (Granted g) → g.client ≡ d.client → d.lease ≤ g.lease
       → receive_with d p ≡ record { client = with_lease d g.lease; answer = Ok (Extended g) } → ReceiveCase d p
 
-pub receive_case : (d : Client) (p : Packet) → ReceiveCase d p
+pub receive_case : (d : Client) (p : Option Packet) → ReceiveCase d p
 unfolding receive_with receive_result receive_refusal receive_grant
-receive_case d Malformed = refused refusals.Malformed refl
-receive_case d (Requested q) = refused refusals.Malformed refl
-receive_case d (Resulted r) = go (is_own d r.client r.call r.point) refl
+receive_case d None = refused refusals.Malformed refl
+receive_case d (Some (Requested q)) = refused refusals.Malformed refl
+receive_case d (Some (Resulted r)) = go (is_own d r.client r.call r.point) refl
   where
-    go : (u : Bool) → is_own d r.client r.call r.point ≡ u → ReceiveCase d (Resulted r)
+    go : (u : Bool) → is_own d r.client r.call r.point ≡ u → ReceiveCase d (Some (Resulted r))
     go true e = completed r refl (own_is d _ _ _ e) (rw e refl)
     go false e = refused Unknown (rw e refl)
-receive_case d (Refused r) = go (is_own d r.client r.call r.point) refl
+receive_case d (Some (Refused r)) = go (is_own d r.client r.call r.point) refl
   where
-    go : (u : Bool) → is_own d r.client r.call r.point ≡ u → ReceiveCase d (Refused r)
+    go : (u : Bool) → is_own d r.client r.call r.point ≡ u → ReceiveCase d (Some (Refused r))
     go true e = denied r refl (own_is d _ _ _ e) (rw e refl)
     go false e = refused Unknown (rw e refl)
-receive_case d (Receipted r) = refused refusals.Malformed refl
-receive_case d (Noticed n) = refused refusals.Malformed refl
-receive_case d (Granted g) = go (eqb g.client d.client && leb d.lease g.lease) refl
+receive_case d (Some (Receipted r)) = refused refusals.Malformed refl
+receive_case d (Some (Noticed n)) = refused refusals.Malformed refl
+receive_case d (Some (Granted g)) = go (eqb g.client d.client && leb d.lease g.lease) refl
   where
-    go : (u : Bool) → (eqb g.client d.client && leb d.lease g.lease) ≡ u → ReceiveCase d (Granted g)
+    go : (u : Bool) → (eqb g.client d.client && leb d.lease g.lease) ≡ u → ReceiveCase d (Some (Granted g))
     go true e = extended g refl (eqb-true _ _ (and_left (eqb g.client d.client) _ e)) (leb-true _ _ (and_right (eqb g.client d.client) _ e)) (rw e refl)
     go false e = refused Unknown (rw e refl)
 
@@ -223,7 +223,7 @@ pub start-fresh : (b : List ℕ) → (start_of b).answer ≡ Ok tt → (length (
 unfolding start_of start_with
 start-fresh b = go (as_grant (parse_packet b))
   where
-    go : (g : Option Grant) → (or_else g not_started started).answer ≡ Ok tt → (length (or_else g not_started started).client.calls ≡ call_window) × ((or_else g not_started started).client.next ≡ 1)
+    go : (g : Maybe Grant) → (or_else g not_started started).answer ≡ Ok tt → (length (or_else g not_started started).client.calls ≡ call_window) × ((or_else g not_started started).client.next ≡ 1)
     go none e = impossible cc
     go (some g) e = (refl, refl)
 
@@ -244,7 +244,7 @@ issue-keeps d op point a = go (issue_case d op point a)
     go (IssueCase.refused r e) = rw e (omega arith, refl)
     go (IssueCase.issued ok room left e) = rw e (omega arith, refl)
 
-pub receive-next : (d : Client) (p : Packet) → ((receive_with d p).client.next ≡ d.next) × ((receive_with d p).client.client ≡ d.client)
+pub receive-next : (d : Client) (p : Option Packet) → ((receive_with d p).client.next ≡ d.next) × ((receive_with d p).client.client ≡ d.client)
 unfolding not_received closed with_calls with_lease
 receive-next d p = go (receive_case d p)
   where

@@ -11,20 +11,21 @@ use mathlib.Core.List.{List}
 use Prim.Native.Nat.{ℕ, ◌<◌}
 use native.Mathlib.Omega.{arith}
 use borrow.Author.Tests.{leb-true}
-use Rattle.std.specs.Prelude.{Ok}
+use Rattle.std.specs.Prelude.{Ok, Option, Some, None}
 use Rattle.model_laws.specs.Bytes.{Bytes}
 use Rattle.model_laws.specs.Fits.{RequestFits, packet_fits, IsPacket}
 use Rattle.model_laws.proofs.Tests.{and_left}
 use Rattle.model_laws.proofs.Commands.{command-parts}
-use Rattle.model_laws.proofs.Packets.{packet-back, packet-found}
+use Rattle.model_laws.proofs.Packets.{packet-back, packet-is}
 use Rattle.model_laws.proofs.Clients.{first_under, issue-asked, resend-asked}
 use Rattle.model.specs.declared.OpenCall.{OpenCall}
 use Rattle.model.specs.declared.Client.{Client}
 use Rattle.model.specs.declared.Request.{Request}
+use Rattle.model.specs.declared.Grant.{Grant}
 use Rattle.model.specs.declared.Packet.{Packet}
-use Rattle.model.specs.declared.Packet.TheVariants.{Malformed, Requested, Resulted, Refused, Receipted, Noticed, Granted}
+use Rattle.model.specs.declared.Packet.TheVariants.{Requested, Resulted, Refused, Receipted, Noticed, Granted}
 use Rattle.model.specs.Packets.{command_ok, request_ok, grant_ok, request_bytes, packet_bytes, parse_packet}
-use Rattle.model.specs.Clients.{call_at, with_calls, with_call, new_call, request_for, start_with, start_of, issue_of, resend_of, receive_of}
+use Rattle.model.specs.Clients.{call_at, with_calls, with_call, new_call, request_for, start_with, start_of, issue_of, resend_of, receive_with, receive_of, not_received}
 use Rattle.model_laws.specs.ClientForm.{WellFormed}
 use Rattle.model_laws.proofs.OpenCalls.{open_below_lem}
 use Rattle.model_laws.proofs.ClientsKept.{start-well, receive-well, issue-well, issue-ok, resend-ok}
@@ -72,45 +73,42 @@ resend-packet {d} w c q s =
     let b = open_below_lem w c r.open_call_lem in
     is-packet q ok (rw r.asks (request-fits w (call_at d c) (omega (arith, r.open_call_lem.at)) (subst (λ (x : Request). request_ok x ≡ true) r.asks ok)))
 
-back : (q : Request) → IsPacket (request_bytes q) (Requested q) → parse_packet (request_bytes q) ≡ Requested q
+back : (q : Request) → IsPacket (request_bytes q) (Requested q) → parse_packet (request_bytes q) ≡ Some (Requested q)
 unfolding packet_bytes
 back q k = packet-back (Requested q) k.ok k.fits
 
-pub issue-back : {d : Client} → WellFormed d → (op point a : ℕ) (q : Request) → (issue_of d op point a).answer ≡ Ok q → parse_packet (request_bytes q) ≡ Requested q
+pub issue-back : {d : Client} → WellFormed d → (op point a : ℕ) (q : Request) → (issue_of d op point a).answer ≡ Ok q → parse_packet (request_bytes q) ≡ Some (Requested q)
 issue-back w op point a q s = back q (issue-packet w op point a q s)
 
-pub resend-back : {d : Client} → WellFormed d → (c : ℕ) (q : Request) → (resend_of d c).answer ≡ Ok q → parse_packet (request_bytes q) ≡ Requested q
+pub resend-back : {d : Client} → WellFormed d → (c : ℕ) (q : Request) → (resend_of d c).answer ≡ Ok q → parse_packet (request_bytes q) ≡ Some (Requested q)
 resend-back w c q s = back q (resend-packet w c q s)
 
 -- ---- over bytes
 
-fits_or : (p : Packet) → ((p ≡ Malformed → ⊥) → packet_fits p) → packet_fits p
-fits_or Malformed f = tt
-fits_or (Requested q) f = f (λ e. let z : ◌≡◌ {A = ℕ} 0 1 = cc in omega arith)
-fits_or (Resulted r) f = f (λ e. let z : ◌≡◌ {A = ℕ} 0 1 = cc in omega arith)
-fits_or (Refused r) f = f (λ e. let z : ◌≡◌ {A = ℕ} 0 1 = cc in omega arith)
-fits_or (Receipted r) f = f (λ e. let z : ◌≡◌ {A = ℕ} 0 1 = cc in omega arith)
-fits_or (Noticed n) f = f (λ e. let z : ◌≡◌ {A = ℕ} 0 1 = cc in omega arith)
-fits_or (Granted g) f = f (λ e. let z : ◌≡◌ {A = ℕ} 0 1 = cc in omega arith)
-
-pub parsed-fits : (b : List ℕ) → Bytes b → packet_fits (parse_packet b)
-parsed-fits b h = fits_or (parse_packet b) (λ m. (packet-found b h m).fits)
+pub parsed-fits : (b : List ℕ) → Bytes b → (p : Packet) → parse_packet b ≡ Some p → packet_fits p
+parsed-fits b h p e = (packet-is b h p e).fits
 
 pub receive-kept : {d : Client} → WellFormed d → (b : List ℕ) → Bytes b → WellFormed (receive_of d b).client
-unfolding receive_of
-receive-kept w b h = receive-well w (parse_packet b) (parsed-fits b h)
+unfolding receive_of receive_with not_received
+receive-kept {d} w b h = go (parse_packet b) (parsed-fits b h)
+  where
+    go : (o : Option Packet) → ((p : Packet) → o ≡ Some p → packet_fits p) → WellFormed (receive_with d o).client
+    go None f = w
+    go (Some p) f = receive-well w p (f p refl)
+
+grant-kept : {b : List ℕ} {g : Grant} → IsPacket b (Granted g) → WellFormed (start_with (Some (Granted g))).client
+unfolding grant_ok
+grant-kept {g = g} k = start-well g (leb-true 1 g.client k.ok) k.fits
 
 pub start-kept : (b : List ℕ) → Bytes b → (start_of b).answer ≡ Ok tt → WellFormed (start_of b).client
 unfolding start_of start_with
-start-kept b h e = go (parse_packet b) (packet-found b h) e
+start-kept b h e = go (parse_packet b) (packet-is b h) e
   where
-    go : (p : Packet) → ((p ≡ Malformed → ⊥) → IsPacket b p) → (start_with p).answer ≡ Ok tt → WellFormed (start_with p).client
-    go Malformed f s = let z : ◌≡◌ {A = ℕ} 0 1 = cc in absurd (omega arith)
-    go (Requested q) f s = let z : ◌≡◌ {A = ℕ} 0 1 = cc in absurd (omega arith)
-    go (Resulted r) f s = let z : ◌≡◌ {A = ℕ} 0 1 = cc in absurd (omega arith)
-    go (Refused r) f s = let z : ◌≡◌ {A = ℕ} 0 1 = cc in absurd (omega arith)
-    go (Receipted r) f s = let z : ◌≡◌ {A = ℕ} 0 1 = cc in absurd (omega arith)
-    go (Noticed n) f s = let z : ◌≡◌ {A = ℕ} 0 1 = cc in absurd (omega arith)
-    go (Granted g) f s =
-        let k = f (λ q. let z : ◌≡◌ {A = ℕ} 0 1 = cc in omega arith) in
-        start-well g (leb-true 1 g.client (unfold grant_ok in k.ok)) k.fits
+    go : (o : Option Packet) → ((p : Packet) → o ≡ Some p → IsPacket b p) → (start_with o).answer ≡ Ok tt → WellFormed (start_with o).client
+    go None f s = let z : ◌≡◌ {A = ℕ} 0 1 = cc in absurd (omega arith)
+    go (Some (Requested q)) f s = let z : ◌≡◌ {A = ℕ} 0 1 = cc in absurd (omega arith)
+    go (Some (Resulted r)) f s = let z : ◌≡◌ {A = ℕ} 0 1 = cc in absurd (omega arith)
+    go (Some (Refused r)) f s = let z : ◌≡◌ {A = ℕ} 0 1 = cc in absurd (omega arith)
+    go (Some (Receipted r)) f s = let z : ◌≡◌ {A = ℕ} 0 1 = cc in absurd (omega arith)
+    go (Some (Noticed n)) f s = let z : ◌≡◌ {A = ℕ} 0 1 = cc in absurd (omega arith)
+    go (Some (Granted g)) f s = grant-kept (f (Granted g) refl)

@@ -15,7 +15,7 @@ use lib.Dec.{eqb, leb}
 use lib.ListN.{length, get_or, set, replicate, length-set, get_or-replicate}
 use lib.Seq.{get_or-set_same, get_or-set_other}
 use borrow.Author.Tests.{eqb-true, eqb-false, le-leb}
-use Rattle.std.specs.Prelude.{Ok}
+use Rattle.std.specs.Prelude.{Ok, Option, Some}
 use Rattle.model_laws.specs.Fits.{GrantFits, packet_fits}
 use Rattle.model_laws.proofs.Tests.{and_both, impossible}
 use Rattle.model_laws.proofs.Least.{least-over}
@@ -40,7 +40,7 @@ use Rattle.model_laws.proofs.OpenCalls.{open_below_lem, first-from, issued-at, i
 no_call_in : (i : ℕ) → i < call_window → get_or (replicate call_window no_call) i no_call ≡ no_call
 no_call_in i h = get_or-replicate call_window i no_call no_call h
 
-pub start-well : (g : Grant) → 1 ≤ g.client → GrantFits g → WellFormed (start_with (Granted g)).client
+pub start-well : (g : Grant) → 1 ≤ g.client → GrantFits g → WellFormed (start_with (Some (Granted g))).client
 unfolding start_with
 start-well g p fits = record {
   numbered = p;
@@ -74,12 +74,12 @@ set-each P ks j k i h f g = go (eqb i j) refl
 -- ---- a packet is received
 
 -- an open call stays open, with its data, until a result of it is received
-pub data Stays (d : Client) (p : Packet) (c : ℕ) : Type 0 where
+pub data Stays (d : Client) (p : Option Packet) (c : ℕ) : Type 0 where
   stays : Open (receive_with d p).client c → call_at (receive_with d p).client c ≡ call_at d c → Stays d p c
-  ends : (r : ResultPacket) → p ≡ Resulted r → r.call ≡ c → (receive_with d p).answer ≡ Ok (Completed r) → Stays d p c
+  ends : (r : ResultPacket) → p ≡ Some (Resulted r) → r.call ≡ c → (receive_with d p).answer ≡ Ok (Completed r) → Stays d p c
 
 -- the lease end never falls
-pub receive-lease : (d : Client) (p : Packet) → d.lease ≤ (receive_with d p).client.lease
+pub receive-lease : (d : Client) (p : Option Packet) → d.lease ≤ (receive_with d p).client.lease
 unfolding not_received closed with_calls with_lease
 receive-lease d p = go (receive_case d p)
   where
@@ -181,15 +181,15 @@ module _ {d : Client} (w : WellFormed d) where
       go (IssueCase.refused n e) = rw e w
       go (IssueCase.issued ok room left e) = rw e (with_call-well (new_call d op point a) refl ok room left)
 
-  pub receive-well : (p : Packet) → packet_fits p → WellFormed (receive_with d p).client
+  pub receive-well : (p : Packet) → packet_fits p → WellFormed (receive_with d (Some p)).client
   unfolding not_received
-  receive-well p fits = go (receive_case d p)
+  receive-well p fits = go (receive_case d (Some p))
     where
-      go : ReceiveCase d p → WellFormed (receive_with d p).client
+      go : ReceiveCase d (Some p) → WellFormed (receive_with d (Some p)).client
       go (ReceiveCase.refused n e) = rw e w
       go (ReceiveCase.completed r q o e) = rw e (closed-well r.call)
       go (ReceiveCase.denied r q o e) = rw e w
-      go (ReceiveCase.extended g q o l e) = rw e (with_lease-well g.lease (omega (arith, (subst packet_fits q fits).lease)))
+      go (ReceiveCase.extended g q o l e) = let z : p ≡ Granted g = cc in rw e (with_lease-well g.lease (omega (arith, (subst packet_fits z fits).lease)))
 
   -- ---- what is open after an operation
 
@@ -225,11 +225,11 @@ module _ {d : Client} (w : WellFormed d) where
   unfolding with_lease call_at
   leased_at e c = refl
 
-  pub receive-stays : (p : Packet) (c : ℕ) → Open d c → Stays d p c
+  pub receive-stays : (p : Option Packet) (c : ℕ) → Open d c → Stays d p c
   unfolding not_received
   receive-stays p c o = go (receive_case d p)
     where
-      on : (r : ResultPacket) → p ≡ Resulted r → Own d r.client r.call r.point → receive_with d p ≡ record { client = closed d r.call; answer = Ok (Completed r) }
+      on : (r : ResultPacket) → p ≡ Some (Resulted r) → Own d r.client r.call r.point → receive_with d p ≡ record { client = closed d r.call; answer = Ok (Completed r) }
           → (b : Bool) → eqb c r.call ≡ b → Stays d p c
       on r q own e true f = ends r q (sym (eqb-true _ _ f)) (ap (λ (x : ReceiveAnswer). x.answer) e)
       on r q own e false f =
@@ -242,7 +242,7 @@ module _ {d : Client} (w : WellFormed d) where
       go (ReceiveCase.denied r q own e) = stays (rw e o) (rw e refl)
       go (ReceiveCase.extended g q k l e) = stays (rw e (open_leased g.lease c o)) (rw e (leased_at g.lease c))
 
-  pub receive-only : (p : Packet) (c : ℕ) → Open (receive_with d p).client c → Open d c
+  pub receive-only : (p : Option Packet) (c : ℕ) → Open (receive_with d p).client c → Open d c
   unfolding not_received
   receive-only p c = go (receive_case d p)
     where
@@ -256,7 +256,7 @@ module _ {d : Client} (w : WellFormed d) where
       go (ReceiveCase.extended g q k l e) = rw e (back g.lease)
 
   -- a completed call is closed
-  pub receive_ends : (p : Packet) (r : ResultPacket) → (receive_with d p).answer ≡ Ok (Completed r) → Open (receive_with d p).client r.call → ⊥
+  pub receive_ends : (p : Option Packet) (r : ResultPacket) → (receive_with d p).answer ≡ Ok (Completed r) → Open (receive_with d p).client r.call → ⊥
   unfolding not_received
   receive_ends p r s = go (receive_case d p)
     where

@@ -3,11 +3,12 @@
 --     packet-length, packet-bytes   the length of a packet by kind; its bytes are bytes
 --     packet-back                   what was written is read back, for every well-formed packet that fits
 --     request_of_lem, receipt_of_lem, notice_of_lem     what is of a kind
---     packet-found, packet-is       what parses is well-formed, fits, and is written again; packet-again: the last by itself
+--     packet-is                     what parses is well-formed, fits, and is written again; packet-again: the last by itself
 -- Assumes nothing.
+use Rattle.std.specs.Prelude.{Option, Some, None}
 use Prim.Native.Nat.{ℕ}
 use mathlib.Core.Path.{◌≡◌, refl, sym, ap, ◌∙◌, subst}
-use mathlib.Core.Bool.{Bool, true, false, ◌&&◌, false≢true}
+use mathlib.Core.Bool.{Bool, true, false, ◌&&◌}
 use mathlib.Core.List.{List, [], ◌∷◌}
 use mathlib.Core.Option.{some}
 use native.Mathlib.Omega.{arith}
@@ -22,7 +23,7 @@ use Rattle.model.specs.declared.Receipt.{Receipt}
 use Rattle.model.specs.declared.Notice.{Notice}
 use Rattle.model.specs.declared.Grant.{Grant}
 use Rattle.model.specs.declared.Packet.{Packet}
-use Rattle.model.specs.declared.Packet.TheVariants.{Malformed, Requested, Resulted, Refused, Receipted, Noticed, Granted}
+use Rattle.model.specs.declared.Packet.TheVariants.{Requested, Resulted, Refused, Receipted, Noticed, Granted}
 use Rattle.model.specs.Numbers.{byte_at, zero_at, zeros3_at}
 use Rattle.model.specs.Packets.{packet_length, time_at, time_bytes, result_kind_of, request_at, request_ok, request_bytes, result_at, result_ok, result_bytes, refusal_at, refusal_ok, refusal_bytes}
 use Rattle.model.specs.Packets.{receipt_at, receipt_ok, receipt_bytes, notice_at, notice_ok, notice_bytes, grant_at, grant_ok, grant_bytes, whole}
@@ -34,7 +35,6 @@ use Rattle.model_laws.specs.Codec.{Codec}
 use Rattle.model_laws.specs.Fields.{Field, byte, word32, signed, fixed, Bounded, BoundedAt, Layout, Computes}
 use Rattle.model_laws.specs.Fits.{TimeFits, RequestFits, ResultFits, RefusalFits, ReceiptFits, NoticeFits, GrantFits, packet_fits, packet_ok, kind_of, IsPacket}
 use Rattle.model_laws.proofs.Tests.{and_left, and_right, and_both, choose}
-use Rattle.model_laws.proofs.Numbers.{bytes-nil}
 use Rattle.model_laws.proofs.Fields.{codec}
 
 -- ---- the layouts
@@ -190,7 +190,6 @@ grant_codec = codec grant_computes
 
 pub packet-length : (p : Packet) → length (packet_bytes p) ≡ packet_length (kind_of p)
 unfolding packet_bytes packet_length request_bytes result_bytes refusal_bytes receipt_bytes notice_bytes grant_bytes
-packet-length Malformed = refl
 packet-length (Requested q) = refl
 packet-length (Resulted r) = (result_codec r.timed).enc-width r ∙ result-width r.timed
 packet-length (Refused r) = refl
@@ -201,7 +200,6 @@ packet-length (Granted g) = refl
 -- the bytes of a packet are bytes
 pub packet-bytes : (p : Packet) → packet_fits p → Bytes (packet_bytes p)
 unfolding packet_bytes
-packet-bytes Malformed f = bytes-nil
 packet-bytes (Requested q) f = request_codec.enc-bytes q f
 packet-bytes (Resulted r) f = (result_codec r.timed).enc-bytes r (f, refl)
 packet-bytes (Refused r) f = refusal_codec.enc-bytes r f
@@ -210,15 +208,14 @@ packet-bytes (Noticed n) f = (notice_codec notice_kind refl).enc-bytes n f
 packet-bytes (Granted g) f = grant_codec.enc-bytes g f
 
 -- what was written is read back
-result-parsed : (timed : Bool) (r : ResultPacket) → result_ok r ≡ true → ResultFitsIn timed r → parse_packet (result_bytes (result_in timed r)) ≡ Resulted r
+result-parsed : (timed : Bool) (r : ResultPacket) → result_ok r ≡ true → ResultFitsIn timed r → parse_packet (result_bytes (result_in timed r)) ≡ Some (Resulted r)
 unfolding parse_packet whole packet_length parse_result result_bytes result_kind_of time_bytes
 result-parsed true r ok f = rw ((result_codec true).dec-enc r [] f, ok)
 result-parsed false r ok f = rw ((result_codec false).dec-enc r [] f, ok)
 
-pub packet-back : (p : Packet) → packet_ok p ≡ true → packet_fits p → parse_packet (packet_bytes p) ≡ p
+pub packet-back : (p : Packet) → packet_ok p ≡ true → packet_fits p → parse_packet (packet_bytes p) ≡ Some p
 unfolding packet_bytes parse_packet whole packet_length parse_request parse_refusal parse_receipt parse_notice parse_grant request_bytes refusal_bytes receipt_bytes
     notice_bytes grant_bytes zeros3_at
-packet-back Malformed ok f = absurd (false≢true ok)
 packet-back (Requested q) ok f = rw (request_codec.dec-enc q [] f, ok)
 packet-back (Resulted r) ok f = result-parsed r.timed r ok (f, refl)
 packet-back (Refused r) ok f = rw (refusal_codec.dec-enc r [] f, ok)
@@ -227,15 +224,18 @@ packet-back (Noticed n) ok f = rw ((notice_codec notice_kind refl).dec-enc n [] 
 packet-back (Granted g) ok f = rw (grant_codec.dec-enc g [] f, ok)
 
 -- what parses is well-formed, fits, and is written again: the same bytes
-abbrev Found : List ℕ → Packet → Type 0
-Found b p = (p ≡ Malformed → ⊥) → IsPacket b p
+abbrev Found : List ℕ → Option Packet → Type 0
+Found b o = (p : Packet) → o ≡ Some p → IsPacket b p
+
+nothing : {b : List ℕ} → Found b None
+nothing p e = let z : ◌≡◌ {A = ℕ} 0 1 = cc in absurd (omega arith)
 
 whole-found : (b : List ℕ) (kind : ℕ) (ok : Bool) (p : Packet) → (length b ≡ packet_length kind → ok ≡ true → IsPacket b p) → Found b (whole b kind ok p)
 unfolding whole
 whole-found b kind ok p f =
     choose (Found b) (eqb (length b) (packet_length kind))
-    (λ n. choose (Found b) ok (λ t m. f (eqb-true (length b) (packet_length kind) n) t) (λ t m. absurd (m refl)))
-    (λ n m. absurd (m refl))
+    (λ n. choose (Found b) ok (λ t q e. let z : p ≡ q = cc in subst (IsPacket b) z (f (eqb-true (length b) (packet_length kind) n) t)) (λ t. nothing))
+    (λ n. nothing)
 
 module _ (b : List ℕ) (h : Bytes b) where
   -- of one kind, whose zero bytes pass their test
@@ -280,51 +280,48 @@ module _ (b : List ℕ) (h : Bytes b) where
   grant-found k =
       kind-found grant_codec Granted grant_kind (zeros3_at b 1) grant_ok refl (and_both (eqb (byte_at b 0) grant_kind) (zeros3_at b 1) k) (λ a o f e. record { ok = o; fits = f; same = e })
 
-  pub packet-found : (parse_packet b ≡ Malformed → ⊥) → IsPacket b (parse_packet b)
+  pub packet-is : (p : Packet) → parse_packet b ≡ Some p → IsPacket b p
   unfolding parse_packet result_kind_of
-  packet-found =
+  packet-is =
       choose (Found b) (eqb (byte_at b 0) 1) request-found
       (λ k1. choose (Found b) (eqb (byte_at b 0) 2) (result-found false)
       (λ k2. choose (Found b) (eqb (byte_at b 0) 3) refusal-found
       (λ k3. choose (Found b) (eqb (byte_at b 0) 4) receipt-found
       (λ k4. choose (Found b) (eqb (byte_at b 0) 5) notice-found
       (λ k5. choose (Found b) (eqb (byte_at b 0) 6) grant-found
-      (λ k6. choose (Found b) (eqb (byte_at b 0) 7) (result-found true) (λ k7 m. absurd (m refl))))))))
+      (λ k6. choose (Found b) (eqb (byte_at b 0) 7) (result-found true) (λ k7. nothing)))))))
 
-  pub packet-is : (p : Packet) → parse_packet b ≡ p → (p ≡ Malformed → ⊥) → IsPacket b p
-  packet-is p e m = subst (IsPacket b) e (packet-found (λ q. m (sym e ∙ q)))
-
-  pub packet-again : (parse_packet b ≡ Malformed → ⊥) → packet_bytes (parse_packet b) ≡ b
-  packet-again m = (packet-found m).same
+  pub packet-again : (p : Packet) → parse_packet b ≡ Some p → packet_bytes p ≡ b
+  packet-again p e = (packet-is p e).same
 
 -- ---- one kind
 
-pub request_of_lem : (p : Packet) (q : Request) → as_request p ≡ some q → p ≡ Requested q
+pub request_of_lem : (p : Option Packet) (q : Request) → as_request p ≡ some q → p ≡ Some (Requested q)
 unfolding as_request
-request_of_lem Malformed q e = let z : ◌≡◌ {A = ℕ} 0 1 = cc in absurd (omega arith)
-request_of_lem (Requested x) q e = let z : x ≡ q = cc in ap Requested z
-request_of_lem (Resulted x) q e = let z : ◌≡◌ {A = ℕ} 0 1 = cc in absurd (omega arith)
-request_of_lem (Refused x) q e = let z : ◌≡◌ {A = ℕ} 0 1 = cc in absurd (omega arith)
-request_of_lem (Receipted x) q e = let z : ◌≡◌ {A = ℕ} 0 1 = cc in absurd (omega arith)
-request_of_lem (Noticed x) q e = let z : ◌≡◌ {A = ℕ} 0 1 = cc in absurd (omega arith)
-request_of_lem (Granted x) q e = let z : ◌≡◌ {A = ℕ} 0 1 = cc in absurd (omega arith)
+request_of_lem None q e = let z : ◌≡◌ {A = ℕ} 0 1 = cc in absurd (omega arith)
+request_of_lem (Some (Requested x)) q e = let z : x ≡ q = cc in ap (λ y. Some (Requested y)) z
+request_of_lem (Some (Resulted x)) q e = let z : ◌≡◌ {A = ℕ} 0 1 = cc in absurd (omega arith)
+request_of_lem (Some (Refused x)) q e = let z : ◌≡◌ {A = ℕ} 0 1 = cc in absurd (omega arith)
+request_of_lem (Some (Receipted x)) q e = let z : ◌≡◌ {A = ℕ} 0 1 = cc in absurd (omega arith)
+request_of_lem (Some (Noticed x)) q e = let z : ◌≡◌ {A = ℕ} 0 1 = cc in absurd (omega arith)
+request_of_lem (Some (Granted x)) q e = let z : ◌≡◌ {A = ℕ} 0 1 = cc in absurd (omega arith)
 
-pub receipt_of_lem : (p : Packet) (q : Receipt) → as_receipt p ≡ some q → p ≡ Receipted q
+pub receipt_of_lem : (p : Option Packet) (q : Receipt) → as_receipt p ≡ some q → p ≡ Some (Receipted q)
 unfolding as_receipt
-receipt_of_lem Malformed q e = let z : ◌≡◌ {A = ℕ} 0 1 = cc in absurd (omega arith)
-receipt_of_lem (Requested x) q e = let z : ◌≡◌ {A = ℕ} 0 1 = cc in absurd (omega arith)
-receipt_of_lem (Resulted x) q e = let z : ◌≡◌ {A = ℕ} 0 1 = cc in absurd (omega arith)
-receipt_of_lem (Refused x) q e = let z : ◌≡◌ {A = ℕ} 0 1 = cc in absurd (omega arith)
-receipt_of_lem (Receipted x) q e = let z : x ≡ q = cc in ap Receipted z
-receipt_of_lem (Noticed x) q e = let z : ◌≡◌ {A = ℕ} 0 1 = cc in absurd (omega arith)
-receipt_of_lem (Granted x) q e = let z : ◌≡◌ {A = ℕ} 0 1 = cc in absurd (omega arith)
+receipt_of_lem None q e = let z : ◌≡◌ {A = ℕ} 0 1 = cc in absurd (omega arith)
+receipt_of_lem (Some (Requested x)) q e = let z : ◌≡◌ {A = ℕ} 0 1 = cc in absurd (omega arith)
+receipt_of_lem (Some (Resulted x)) q e = let z : ◌≡◌ {A = ℕ} 0 1 = cc in absurd (omega arith)
+receipt_of_lem (Some (Refused x)) q e = let z : ◌≡◌ {A = ℕ} 0 1 = cc in absurd (omega arith)
+receipt_of_lem (Some (Receipted x)) q e = let z : x ≡ q = cc in ap (λ y. Some (Receipted y)) z
+receipt_of_lem (Some (Noticed x)) q e = let z : ◌≡◌ {A = ℕ} 0 1 = cc in absurd (omega arith)
+receipt_of_lem (Some (Granted x)) q e = let z : ◌≡◌ {A = ℕ} 0 1 = cc in absurd (omega arith)
 
-pub notice_of_lem : (p : Packet) (q : Notice) → as_notice p ≡ some q → p ≡ Noticed q
+pub notice_of_lem : (p : Option Packet) (q : Notice) → as_notice p ≡ some q → p ≡ Some (Noticed q)
 unfolding as_notice
-notice_of_lem Malformed q e = let z : ◌≡◌ {A = ℕ} 0 1 = cc in absurd (omega arith)
-notice_of_lem (Requested x) q e = let z : ◌≡◌ {A = ℕ} 0 1 = cc in absurd (omega arith)
-notice_of_lem (Resulted x) q e = let z : ◌≡◌ {A = ℕ} 0 1 = cc in absurd (omega arith)
-notice_of_lem (Refused x) q e = let z : ◌≡◌ {A = ℕ} 0 1 = cc in absurd (omega arith)
-notice_of_lem (Receipted x) q e = let z : ◌≡◌ {A = ℕ} 0 1 = cc in absurd (omega arith)
-notice_of_lem (Noticed x) q e = let z : x ≡ q = cc in ap Noticed z
-notice_of_lem (Granted x) q e = let z : ◌≡◌ {A = ℕ} 0 1 = cc in absurd (omega arith)
+notice_of_lem None q e = let z : ◌≡◌ {A = ℕ} 0 1 = cc in absurd (omega arith)
+notice_of_lem (Some (Requested x)) q e = let z : ◌≡◌ {A = ℕ} 0 1 = cc in absurd (omega arith)
+notice_of_lem (Some (Resulted x)) q e = let z : ◌≡◌ {A = ℕ} 0 1 = cc in absurd (omega arith)
+notice_of_lem (Some (Refused x)) q e = let z : ◌≡◌ {A = ℕ} 0 1 = cc in absurd (omega arith)
+notice_of_lem (Some (Receipted x)) q e = let z : ◌≡◌ {A = ℕ} 0 1 = cc in absurd (omega arith)
+notice_of_lem (Some (Noticed x)) q e = let z : x ≡ q = cc in ap (λ y. Some (Noticed y)) z
+notice_of_lem (Some (Granted x)) q e = let z : ◌≡◌ {A = ℕ} 0 1 = cc in absurd (omega arith)

@@ -9,7 +9,7 @@ use Rattle.model.specs.declared.Receipt.{Receipt}
 use Rattle.model.specs.declared.Notice.{Notice}
 use Rattle.model.specs.declared.Grant.{Grant}
 use Rattle.model.specs.declared.Packet.{Packet}
-use Rattle.model.specs.declared.Packet.TheVariants.{Malformed, Requested, Resulted, Refused, Receipted, Noticed, Granted}
+use Rattle.model.specs.declared.Packet.TheVariants.{Requested, Resulted, Refused, Receipted, Noticed, Granted}
 use Rattle.model.specs.declared.Floor.{Floor}
 use Rattle.model.specs.declared.ImageEntry.{ImageEntry}
 use Rattle.model.specs.declared.PlanEntry.{PlanEntry}
@@ -73,7 +73,6 @@ pub record GrantFits (g : Grant) : Type 0 where
 -- ---- packets of all kinds
 
 abbrev pub packet_fits : Packet → Type 0
-packet_fits Malformed = Unit
 packet_fits (Requested q) = RequestFits q
 packet_fits (Resulted r) = ResultFits r
 packet_fits (Refused r) = RefusalFits r
@@ -83,7 +82,6 @@ packet_fits (Granted g) = GrantFits g
 
 -- well-formed: of one of the kinds, and its fields in their ranges
 abbrev pub packet_ok : Packet → Bool
-packet_ok Malformed = false
 packet_ok (Requested q) = request_ok q
 packet_ok (Resulted r) = result_ok r
 packet_ok (Refused r) = refusal_ok r
@@ -91,9 +89,8 @@ packet_ok (Receipted r) = receipt_ok r
 packet_ok (Noticed n) = notice_ok n
 packet_ok (Granted g) = grant_ok g
 
--- the kind, 0 for none
+-- the kind
 abbrev pub kind_of : Packet → ℕ
-kind_of Malformed = 0
 kind_of (Requested q) = request_kind
 kind_of (Resulted r) = result_kind_of r.timed
 kind_of (Refused r) = refusal_kind

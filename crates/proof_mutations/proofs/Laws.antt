@@ -4,6 +4,7 @@
 --     imaging-synced, -whole   the give is synced, the image has all of the state;  taking, freeing   move numbers
 --     gone-heard, took-heard, took-floors     what is heard of, and floors;  regained   recovery gives the replay
 -- Assumes nothing.
+use Rattle.std.specs.Prelude.{Some}
 use Prim.Native.Nat.{ℕ, ◌≤◌, ◌<◌, max}
 use mathlib.Core.Path.{◌≡◌, refl, subst}
 use mathlib.Core.List.{List}
@@ -52,7 +53,7 @@ abbrev Held : Versions → State → List ℕ → Type 0
 Held v s c = (x : ℕ) × (k : ℕ) × (r : Completion) × (find x k s.records ≡ some r) × (result_bytes (result_of_record (timed_by v s) r) ≡ c)
 
 module _ {s : State} {free : ℕ} where
-  request-executes : {v : Versions} {b : List ℕ} {r : LogRecord} (q : Request) → parse_packet b ≡ Requested q → Appends s free (request v b) r → Executes s q
+  request-executes : {v : Versions} {b : List ℕ} {r : LogRecord} (q : Request) → parse_packet b ≡ Some (Requested q) → Appends s free (request v b) r → Executes s q
   request-executes q e (Inverse.executes v b z p h l o f d) = let k : z ≡ q = cc in subst (Executes s) k (record { leased = l; over = o; fresh = find-fresh _ _ _ f })
 
   request-tells : {v : Versions} {b c : List ℕ} → Replies s free (request v b) c → Synced s
@@ -75,7 +76,7 @@ module _ (v : Versions) (st : State) (free : ℕ) (b : List ℕ) where
   request_shows e = shows (for_request st) free (request v b) e
 
   -- an execution: the lease end is after heard time, the call is not under the floor, no completion record has its id
-  module _ (q : Request) (p : parse_packet b ≡ Requested q) (r : LogRecord) (e : requests v st free (parse_packet b) ≡ append r) where
+  module _ (q : Request) (p : parse_packet b ≡ Some (Requested q)) (r : LogRecord) (e : requests v st free (parse_packet b) ≡ append r) where
     terms : Executes (for_request st) q
     terms = request-executes q p (request_shows e)
 
@@ -122,7 +123,7 @@ pub taking : (st : State) (free : ℕ) (i : Image) (r : LogRecord) → takes st 
 unfolding takes or_malformed imaged
 taking st free i r e = (take-tests st free _ (unless_appends _ _ e).0).0.newer
 
-pub freeing : (st : State) (free : ℕ) (p : Receipt) (r : LogRecord) → releases st free (Receipted p) ≡ append r → (point_at st p.point).move_number ≤ p.move_number
+pub freeing : (st : State) (free : ℕ) (p : Receipt) (r : LogRecord) → releases st free (Some (Receipted p)) ≡ append r → (point_at st p.point).move_number ≤ p.move_number
 unfolding releases or_malformed as_receipt
 freeing st free p r e = (release-passed st free p.point _ r e).0.newer
 

@@ -1,10 +1,11 @@
 -- The world of this crate is that of `claim` over records, event by event.
 --     same_step, same-run
 -- Assumes nothing.
+use Rattle.std.specs.Prelude.{Option}
 use Prim.Native.Nat.{ℕ, ◌+◌, ◌-◌}
 use mathlib.Core.Path.{◌≡◌, refl, ◌∙◌, ap}
 use mathlib.Core.List.{List, [], ◌∷◌}
-use mathlib.Core.Option.{Option, none, some}
+use mathlib.Core.Option.{Option as Maybe, none, some}
 use lib.Dec.{ltb}
 use Rattle.model.specs.declared.Packet.{Packet}
 use Rattle.model.specs.Choice.{pick, refuse, deny, reply, append, marks}
@@ -49,16 +50,16 @@ module _ (c room : ℕ) where
       (settle-same st log _ ∙ ap (λ (x : Decided). Records.settle st log (pick (ltb room st.size) (refuse unsound) x)) (h st (room - st.size)))
   calls_same d e h (crashed log k mark) w = refl
 
-takes_same : (st : State) (free : ℕ) (o : Option Image) → takes st free o ≡ on_take st free o
+takes_same : (st : State) (free : ℕ) (o : Maybe Image) → takes st free o ≡ on_take st free o
 unfolding takes on_take or_malformed decide_take imaged
 takes_same st free none = refl
 takes_same st free (some i) = refl
 
-releases-same : (st : State) (free : ℕ) (p : Packet) → releases st free p ≡ on_release st free p
+releases-same : (st : State) (free : ℕ) (p : Option Packet) → releases st free p ≡ on_release st free p
 unfolding releases on_release
 releases-same st free p = refl
 
-recovers-same : (c : ℕ) (plan : List ℕ) (o : Option Log) (w : World) → recovers_from c plan o w ≡ Records.recovers_from c plan o w
+recovers-same : (c : ℕ) (plan : List ℕ) (o : Maybe Log) (w : World) → recovers_from c plan o w ≡ Records.recovers_from c plan o w
 unfolding recovers_from regains Records.recovers_from
 recovers-same c plan none w = refl
 recovers-same c plan (some log) w = refl
@@ -75,7 +76,7 @@ decides-same (take_in b) st free = takes_same st free _
 decides-same (receipt p) st free = refl
 decides-same (release b) st free = releases-same st free _
 
-calls_on_same : (c room : ℕ) (o : Option Operation) (w : World) → calls_on c room o w ≡ Records.calls_on c room o w
+calls_on_same : (c room : ℕ) (o : Maybe Operation) (w : World) → calls_on c room o w ≡ Records.calls_on c room o w
 unfolding calls_on Records.calls_on
 calls_on_same c room none w = refl
 calls_on_same c room (some o) w = calls_same c room (decides o) (decision o) (decides-same o) (w.servers c) w

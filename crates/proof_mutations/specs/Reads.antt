@@ -3,8 +3,8 @@
 -- is, and all is `model`'s (proofs/Same.antt). Each edit of must-fail/ puts something else for one part, so that a test, or a part of a
 -- record or of an image, is left out.
 -- Assumes nothing.
-use Rattle.std.specs.Prelude.{ℕ, List}
-use Rattle.std.proofs.Math.Option.{Option}
+use Rattle.std.specs.Prelude.{ℕ, List, Option}
+use Rattle.std.proofs.Math.Option.{Option as Maybe}
 use Rattle.model.specs.declared.Floor.{Floor}
 use Rattle.model.specs.declared.Notice.{Notice}
 use Rattle.model.specs.declared.Completion.{Completion}
@@ -60,7 +60,7 @@ for_fetch st = reading st st.heard st.mark st.floors st.records
 unfoldable pub for_image : State → State
 for_image st = reading st st.heard st.mark st.floors st.records
 
-unfoldable pub requests : Versions → State → ℕ → Packet → Decided
+unfoldable pub requests : Versions → State → ℕ → Option Packet → Decided
 requests v st free p = on_request v (for_request st) free p
 
 unfoldable pub fetches : Versions → State → ℕ → ℕ → Decided
@@ -69,11 +69,11 @@ fetches v st x c = on_fetch v (for_fetch st) x c
 unfoldable pub images : Versions → State → ℕ → Decided
 images v st p = on_image v (for_image st) p
 
-unfoldable pub takes : State → ℕ → Option Image → Decided
+unfoldable pub takes : State → ℕ → Maybe Image → Decided
 takes st free o =
     or_malformed o (λ i. unless_refused (take_tests st free (imaged i i.move_number i.heard i.floors)) (append (took i)))
 
-unfoldable pub releases : State → ℕ → Packet → Decided
+unfoldable pub releases : State → ℕ → Option Packet → Decided
 releases st free p = or_malformed (as_receipt p) (λ r. decide_release st free r.point r.move_number)
 
 -- ---- what is applied, and to what
@@ -101,5 +101,5 @@ unfoldable pub applies : State → Entry → State
 applies st e = applies_record e.item e.end st
 
 -- what Recover gives from a log
-unfoldable pub regains : List ℕ → Log → Option State
+unfoldable pub regains : List ℕ → Log → Maybe State
 regains plan log = recover_of plan log

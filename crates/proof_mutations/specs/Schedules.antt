@@ -1,10 +1,10 @@
 -- Schedules in which a late repeat, a crash or an old image comes; and what is counted at their end.
 -- Assumes nothing.
-use Rattle.std.specs.Prelude.{ℕ, ◌+◌, Bool, true, false, not, ◌&&◌, List, [], ◌∷◌, ◌++◌, eqb, length}
-use Rattle.std.proofs.Math.Option.{Option, none, some}
+use Rattle.std.specs.Prelude.{ℕ, ◌+◌, Bool, true, false, not, ◌&&◌, List, [], ◌∷◌, ◌++◌, eqb, length, Option, Some, None}
+use Rattle.std.proofs.Math.Option.{Option as Maybe, none, some}
 use Rattle.model.specs.declared.Client.{Client}
 use Rattle.model.specs.declared.Packet.{Packet}
-use Rattle.model.specs.declared.Packet.TheVariants.{Malformed, Requested, Resulted, Refused, Receipted, Noticed, Granted}
+use Rattle.model.specs.declared.Packet.TheVariants.{Requested, Resulted, Refused, Receipted, Noticed, Granted}
 use Rattle.model.specs.Choice.{pick}
 use Rattle.model.specs.Numbers.{half}
 use Rattle.model.specs.Tables.{keep}
@@ -250,7 +250,7 @@ is_take (gave g) = false
 is_take (took i) = true
 is_take (released r) = false
 
-unfoldable pub count : (LogRecord → Bool) → Option Log → ℕ
+unfoldable pub count : (LogRecord → Bool) → Maybe Log → ℕ
 count t none = 0
 count t (some log) = length (keep (λ e. t e.item) log.entries)
 
@@ -263,7 +263,7 @@ unfoldable pub takes_of : List Event → ℕ
 takes_of es = count is_take (kept_by ((run es).servers 1))
 
 -- the open calls of client 1: those that are not completed
-unfoldable pub open_in : Option Client → ℕ
+unfoldable pub open_in : Maybe Client → ℕ
 open_in none = 0
 open_in (some d) = length (keep (λ k. not (eqb k.call 0)) d.calls)
 
@@ -271,14 +271,14 @@ unfoldable pub open·calls : List Event → ℕ
 open·calls es = open_in ((run es).clients 1)
 
 -- the times that results of call 1 of client 1 were told with
-unfoldable pub time_in : Packet → List ℕ
-time_in Malformed = []
-time_in (Requested q) = []
-time_in (Resulted r) = pick (eqb r.client 1 && eqb r.call 1) (r.result.time ∷ []) []
-time_in (Refused r) = []
-time_in (Receipted r) = []
-time_in (Noticed n) = []
-time_in (Granted g) = []
+unfoldable pub time_in : Option Packet → List ℕ
+time_in None = []
+time_in (Some (Requested q)) = []
+time_in (Some (Resulted r)) = pick (eqb r.client 1 && eqb r.call 1) (r.result.time ∷ []) []
+time_in (Some (Refused r)) = []
+time_in (Some (Receipted r)) = []
+time_in (Some (Noticed n)) = []
+time_in (Some (Granted g)) = []
 
 unfoldable pub times_in : List (List ℕ) → List ℕ
 times_in [] = []

@@ -12,7 +12,7 @@ use mathlib.Core.List.{List, [], ◌∷◌}
 use mathlib.Core.Option.{none, some}
 use native.Mathlib.Omega.{arith}
 use lib.ListN.{length, take, get_or, get_elem?}
-use Rattle.std.specs.Prelude.{Ok}
+use Rattle.std.specs.Prelude.{Ok, Some}
 use Rattle.model.specs.Versions.{Versions}
 use Rattle.model.specs.declared.Client.{Client}
 use Rattle.model.specs.declared.Command.{Command}
@@ -75,7 +75,7 @@ module _ {w : World} {v v' : W.World} where
   unfolding Quiet
   request_on (M.executed c p vs room k r n X u) q Y =
       let j : X.bytes ≡ Y.bytes = some_same X.delivered Y.delivered in
-      let z : Requested k ≡ Requested q = sym X.parsed ∙ (ap parse_packet j ∙ Y.parsed) in
+      let z : Some (Requested k) ≡ Some (Requested q) = sym X.parsed ∙ (ap parse_packet j ∙ Y.parsed) in
       let t : k ≡ q = cc in
       (r, n, rw t)
   request_on (M.other e a h s) q Y = absurd (h _ _ q refl Y)

@@ -4,6 +4,7 @@
 --     shown, call-shown        every call, on the free space and on the room of the log
 --     found-shown, recover-shown     Found and Recover
 -- Assumes nothing.
+use Rattle.std.specs.Prelude.{Some}
 use Prim.Native.Nat.{ℕ, ◌-◌, ◌≤◌}
 use mathlib.Core.Path.{◌≡◌, refl, ◌∙◌, ap}
 use mathlib.Core.Bool.{Bool, true, false, ◌||◌, not}
@@ -58,7 +59,7 @@ module _ (st : State) (free : ℕ) where
   held-shown v b q x c r f =
       passes (λ d. Shows st free (Calls.request v b) (denying q d)) _ _ (λ k n. (n, (_, refl))) (λ z. Inverse.repeats v b x c r f (held-tests st.mark q r z).1)
 
-  request-shown : (v : Versions) (b : List ℕ) (q : Request) → parse_packet b ≡ Requested q → Shows st free (Calls.request v b) (denying q (decide_request v st free q))
+  request-shown : (v : Versions) (b : List ℕ) (q : Request) → parse_packet b ≡ Some (Requested q) → Shows st free (Calls.request v b) (denying q (decide_request v st free q))
   unfolding decide_request denying on_id on_new
   request-shown v b q p =
       let x = q.command.client in

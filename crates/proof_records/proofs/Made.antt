@@ -3,16 +3,17 @@
 --     like-packet, like-image, like_blank     bytes of a packet, of an image, of a refusal packet
 --     reply-some               what is told has bytes
 -- Assumes nothing.
+use Rattle.std.specs.Prelude.{Option, Some, None}
 use Prim.Native.Nat.{ℕ}
 use mathlib.Core.Path.{◌≡◌, refl, sym, ap, ◌∙◌, subst}
 use mathlib.Core.Bool.{Bool, true, false, ◌&&◌}
 use mathlib.Core.List.{List, [], ◌++◌}
-use mathlib.Core.Option.{Option, none, some}
+use mathlib.Core.Option.{Option as Maybe, none, some}
 use native.Mathlib.Omega.{arith}
 use lib.Dec.{eqb, leb}
 use lib.ListN.{length}
 use Rattle.model.specs.declared.Packet.{Packet}
-use Rattle.model.specs.declared.Packet.TheVariants.{Malformed, Requested, Resulted, Refused, Receipted, Noticed, Granted}
+use Rattle.model.specs.declared.Packet.TheVariants.{Requested, Resulted, Refused, Receipted, Noticed, Granted}
 use Rattle.model.specs.declared.RefusalPacket.{RefusalPacket}
 use Rattle.model.specs.Choice.{pick}
 use Rattle.model.specs.Numbers.{byte_at, zero_at, starts_with}
@@ -38,16 +39,16 @@ pub like-more : {M N : S.Packet → Type 0} → ((p : S.Packet) → M p → N p)
 unfolding Means ImageMeans
 like-more {M} {N} f {b} l = record { packet = packet (parse_packet b) l.packet; image = image (parse_image b) l.image }
   where
-    packet : (x : Packet) → Means M x → Means N x
-    packet Malformed m = tt
-    packet (Requested q) m = (m.0, f _ m.1)
-    packet (Resulted r) m = (m.0, f _ m.1)
-    packet (Refused r) m = tt
-    packet (Receipted r) m = (m.0, f _ m.1)
-    packet (Noticed n) m = (m.0, f _ m.1)
-    packet (Granted g) m = (m.0, m.1, f _ m.2)
+    packet : (x : Option Packet) → Means M x → Means N x
+    packet None m = tt
+    packet (Some (Requested q)) m = (m.0, f _ m.1)
+    packet (Some (Resulted r)) m = (m.0, f _ m.1)
+    packet (Some (Refused r)) m = tt
+    packet (Some (Receipted r)) m = (m.0, f _ m.1)
+    packet (Some (Noticed n)) m = (m.0, f _ m.1)
+    packet (Some (Granted g)) m = (m.0, m.1, f _ m.2)
 
-    image : (o : Option Image) → ImageMeans M o → ImageMeans N o
+    image : (o : Maybe Image) → ImageMeans M o → ImageMeans N o
     image none m = tt
     image (some i) m = (m.0, (m.1.0, m.1.1, f _ m.1.2))
 
@@ -61,7 +62,6 @@ result-opens false = refl
 
 packet-opens : (q : Packet) → eqb (byte_at (packet_bytes q) 0) 77 ≡ false
 unfolding packet_bytes request_bytes result_bytes refusal_bytes receipt_bytes notice_bytes grant_bytes
-packet-opens Malformed = refl
 packet-opens (Requested q) = refl
 packet-opens (Resulted r) = result-opens r.timed
 packet-opens (Refused r) = refl
@@ -93,7 +93,7 @@ image-not s e = rw (framed_not s e) (go (leb least_image (length s)) (leb (lengt
     go false u = refl
 
 module _ {M : S.Packet → Type 0} where
-  pub like-packet : {b : List ℕ} (x : Packet) → IsPacket b x → Means M x → PacketLike M b
+  pub like-packet : {b : List ℕ} (x : Packet) → IsPacket b x → Means M (Some x) → PacketLike M b
   unfolding ImageMeans
   like-packet x k m =
       subst (PacketLike M) k.same
@@ -108,7 +108,7 @@ module _ {M : S.Packet → Type 0} where
         image = rw (image-not b (packet-opens (Refused r))) tt;
       }
     where
-      go : (t u : Bool) (x : RefusalPacket) → Means M (pick t (pick u (Refused x) Malformed) Malformed)
+      go : (t u : Bool) (x : RefusalPacket) → Means M (pick t (pick u (Some (Refused x)) None) None)
       go true true x = tt
       go true false x = tt
       go false u x = tt
@@ -119,7 +119,7 @@ module _ {M : S.Packet → Type 0} where
       record { packet = rw (opens i) tt; image = rw (image-back i (image-fits i G) (image-well i G)) (G, (a, L, m)) }
     where
       -- 77 is no kind of packet
-      opens : (j : Image) → parse_packet (image_bytes j) ≡ Malformed
+      opens : (j : Image) → parse_packet (image_bytes j) ≡ None
       opens j = unfold parse_packet in rw (image-opens j) refl
 
 -- what is told has bytes

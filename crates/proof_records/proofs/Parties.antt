@@ -6,11 +6,11 @@ use mathlib.Core.Path.{◌≡◌, refl, sym, ◌∙◌, ap, subst}
 use mathlib.Core.Bool.{true, ◌&&◌}
 use mathlib.Core.List.Memᴰ
 use mathlib.Core.List.{List}
-use mathlib.Core.Option.{Option, none, some}
+use mathlib.Core.Option.{Option as Maybe, none, some}
 use native.Mathlib.Omega.{arith}
 use lib.Dec.{eqb}
 use borrow.Author.Tests.{eq-eqb, le-leb}
-use Rattle.std.specs.Prelude.{Result, Ok, Err}
+use Rattle.std.specs.Prelude.{Result, Ok, Err, Option, Some, None}
 use Rattle.model.specs.declared.Refusal.{Refusal}
 use Rattle.model.specs.declared.PlanEntry.{PlanEntry}
 use Rattle.model.specs.declared.Client.{Client}
@@ -18,7 +18,7 @@ use Rattle.model.specs.declared.OpenCall.{OpenCall}
 use Rattle.model.specs.declared.Request.{Request}
 use Rattle.model.specs.declared.ResultPacket.{ResultPacket}
 use Rattle.model.specs.declared.Packet.{Packet}
-use Rattle.model.specs.declared.Packet.TheVariants.{Malformed, Requested, Resulted, Refused, Receipted, Noticed, Granted}
+use Rattle.model.specs.declared.Packet.TheVariants.{Requested, Resulted, Refused, Receipted, Noticed, Granted}
 use Rattle.model.specs.declared.Received.TheVariants.{Completed}
 use Rattle.model.specs.declared.ReceiveAnswer.{ReceiveAnswer}
 use Rattle.model.specs.Packets.{parse_packet, request_bytes, grant_ok, notice_ok, packet_bytes, grant_bytes, notice_bytes}
@@ -72,7 +72,7 @@ own_yes d x c p o =
 
 module _ {plan : List PlanEntry} {w : World} {v : W.World} (l : WorldLike plan w v) where
   -- a client as the protocol has it
-  there : {x : ℕ} {o : Option Client} → w.clients x ≡ o → v.clients x ≡ o
+  there : {x : ℕ} {o : Maybe Client} → w.clients x ≡ o → v.clients x ≡ o
   there {x} e = sym (l.clients x) ∙ e
 
   -- ---- issue
@@ -109,7 +109,7 @@ module _ {plan : List PlanEntry} {w : World} {v : W.World} (l : WorldLike plan w
     unfolding step outside_step sends Quiet
     issue-step = go (w.clients x) refl
       where
-        go : (o : Option Client) → w.clients x ≡ o → Stepped plan w v (R.outside (issue x op p a))
+        go : (o : Maybe Client) → w.clients x ≡ o → Stepped plan w v (R.outside (issue x op p a))
         go none e = idle-step l (R.outside (issue x op p a)) (rw e) (λ d q f k. let y : none ≡ some d = sym e ∙ f in let z : ◌≡◌ {A = ℕ} 0 1 = cc in omega arith)
         go (some d) e = issue-some d e (issue_of d op p a).answer refl
 
@@ -143,7 +143,7 @@ module _ {plan : List PlanEntry} {w : World} {v : W.World} (l : WorldLike plan w
     unfolding step outside_step sends Quiet
     resend-step = go (w.clients x) refl
       where
-        go : (o : Option Client) → w.clients x ≡ o → Stepped plan w v (R.outside (resend x c))
+        go : (o : Maybe Client) → w.clients x ≡ o → Stepped plan w v (R.outside (resend x c))
         go none e = idle-step l (R.outside (resend x c)) (rw e) tt
         go (some d) e = resend-some d e (resend_of d c).answer refl
 
@@ -177,8 +177,8 @@ module _ {plan : List PlanEntry} {w : World} {v : W.World} (l : WorldLike plan w
           let m = subst (Means (Made v)) p handed.packet in
           let t = l.started x d e in
           let k = W.receives d (record { client = r.client; call = r.call }) r.point (result_of r.result) in
-          let h : WellFormed (receive_with d (Resulted r)).client = receive-well t.well (Resulted r) m.0 in
-          let g : (receive_with d (Resulted r)).client ≡ closed d r.call = ap (λ (y : Packet). (receive_with d y).client) (sym p) ∙ ap (λ (y : ReceiveAnswer). y.client) q in
+          let h : WellFormed (receive_with d (Some (Resulted r))).client = receive-well t.well (Resulted r) m.0 in
+          let g : (receive_with d (Some (Resulted r))).client ≡ closed d r.call = ap (λ (y : Option Packet). (receive_with d y).client) (sym p) ∙ ap (λ (y : ReceiveAnswer). y.client) q in
           record {
             change = W.client x k;
             allowed = P.receiving x d (record { client = r.client; call = r.call }) r.point (result_of r.result) (there e) m.1 (own_yes d _ _ _ o);
@@ -189,8 +189,8 @@ module _ {plan : List PlanEntry} {w : World} {v : W.World} (l : WorldLike plan w
           let m = subst (Means (Made v)) p handed.packet in
           let t = l.started x d e in
           let k = W.relets d g.lease in
-          let h : WellFormed (receive_with d (Granted g)).client = receive-well t.well (Granted g) m.1 in
-          let y : (receive_with d (Granted g)).client ≡ with_lease d g.lease = ap (λ (y : Packet). (receive_with d y).client) (sym p) ∙ ap (λ (y : ReceiveAnswer). y.client) q in
+          let h : WellFormed (receive_with d (Some (Granted g))).client = receive-well t.well (Granted g) m.1 in
+          let y : (receive_with d (Some (Granted g))).client ≡ with_lease d g.lease = ap (λ (y : Option Packet). (receive_with d y).client) (sym p) ∙ ap (λ (y : ReceiveAnswer). y.client) q in
           record {
             change = W.client x k;
             allowed = P.reletting x d g.lease (there e) (subst (λ (c : ℕ). Made v (S.grant c g.lease)) o m.2);
@@ -205,7 +205,7 @@ module _ {plan : List PlanEntry} {w : World} {v : W.World} (l : WorldLike plan w
     unfolding step outside_step receives Quiet
     receive-step = go (w.clients x) refl (packet w n) refl
       where
-        go : (o : Option Client) → w.clients x ≡ o → (a : Option (List ℕ)) → packet w n ≡ a → Stepped plan w v (R.outside (receive x n))
+        go : (o : Maybe Client) → w.clients x ≡ o → (a : Maybe (List ℕ)) → packet w n ≡ a → Stepped plan w v (R.outside (receive x n))
         go none e a f = idle-step l (R.outside (receive x n)) (rw e) (λ d b r e' f' k. let y : none ≡ some d = sym e ∙ e' in let z : ◌≡◌ {A = ℕ} 0 1 = cc in omega arith)
         go (some d) e none f = idle-step l (R.outside (receive x n)) (rw (e, f)) (λ d' b r e' f' k. let y : none ≡ some b = sym f ∙ f' in let z : ◌≡◌ {A = ℕ} 0 1 = cc in omega arith)
         go (some d) e (some b) f = receive-some d e b f (receive_case d (parse_packet b))
@@ -213,15 +213,15 @@ module _ {plan : List PlanEntry} {w : World} {v : W.World} (l : WorldLike plan w
   -- ---- start
 
   module _ (n : ℕ) (once : StartedOnce w n) where
-    starts : (b : List ℕ) → packet w n ≡ some b → (k : Packet) → parse_packet b ≡ k → Stepped plan w v (R.outside (start n))
+    starts : (b : List ℕ) → packet w n ≡ some b → (k : Option Packet) → parse_packet b ≡ k → Stepped plan w v (R.outside (start n))
     unfolding step outside_step starts_on starts_as start_of start_with Quiet W.client_after Means packet
-    starts b f Malformed q = idle-step l (R.outside (start n)) (rw (f, q)) tt
-    starts b f (Requested r) q = idle-step l (R.outside (start n)) (rw (f, q)) tt
-    starts b f (Resulted r) q = idle-step l (R.outside (start n)) (rw (f, q)) tt
-    starts b f (Refused r) q = idle-step l (R.outside (start n)) (rw (f, q)) tt
-    starts b f (Receipted r) q = idle-step l (R.outside (start n)) (rw (f, q)) tt
-    starts b f (Noticed r) q = idle-step l (R.outside (start n)) (rw (f, q)) tt
-    starts b f (Granted g) q =
+    starts b f None q = idle-step l (R.outside (start n)) (rw (f, q)) tt
+    starts b f (Some (Requested r)) q = idle-step l (R.outside (start n)) (rw (f, q)) tt
+    starts b f (Some (Resulted r)) q = idle-step l (R.outside (start n)) (rw (f, q)) tt
+    starts b f (Some (Refused r)) q = idle-step l (R.outside (start n)) (rw (f, q)) tt
+    starts b f (Some (Receipted r)) q = idle-step l (R.outside (start n)) (rw (f, q)) tt
+    starts b f (Some (Noticed r)) q = idle-step l (R.outside (start n)) (rw (f, q)) tt
+    starts b f (Some (Granted g)) q =
         let m = subst (Means (Made v)) q (l.made b (packet_in_lem w.made n b f)).packet in
         let z : w.clients g.client ≡ none = (rw q at (once b f)) refl in
         record {
@@ -235,7 +235,7 @@ module _ {plan : List PlanEntry} {w : World} {v : W.World} (l : WorldLike plan w
     unfolding step outside_step starts_on Quiet
     start-step = go (packet w n) refl
       where
-        go : (o : Option (List ℕ)) → packet w n ≡ o → Stepped plan w v (R.outside (start n))
+        go : (o : Maybe (List ℕ)) → packet w n ≡ o → Stepped plan w v (R.outside (start n))
         go none f = idle-step l (R.outside (start n)) (rw f) tt
         go (some b) f = starts b f (parse_packet b) refl
 

@@ -1,6 +1,6 @@
 -- What a call of a server that is not refused says of its state, on `model`'s own State: what is appended and told, with what the tests passed leave.
 -- Assumes nothing.
-use Rattle.std.specs.Prelude.{ℕ, suc, ◌≤◌, ◌<◌, ◌≡◌, List, ◌≢◌}
+use Rattle.std.specs.Prelude.{ℕ, suc, ◌≤◌, ◌<◌, ◌≡◌, List, ◌≢◌, Some}
 use Rattle.std.proofs.Math.Option.{none, some}
 use Rattle.model.specs.declared.Request.{Request}
 use Rattle.model.specs.declared.Notice.{Notice}
@@ -20,16 +20,16 @@ use Rattle.model.specs.Calls.{Operation, request, fetch, sync, notice, give, ima
 
 module _ (st : State) (free : ℕ) where
   pub data Appends : Operation → LogRecord → Type 0 where
-    executes : (v : Versions) (b : List ℕ) (q : Request) → parse_packet b ≡ Requested q → (point_at st q.command.point).status ≡ held → st.heard < q.lease
+    executes : (v : Versions) (b : List ℕ) (q : Request) → parse_packet b ≡ Some (Requested q) → (point_at st q.command.point).status ≡ held → st.heard < q.lease
         → floor_of q.command.client st.floors ≤ q.command.call → find q.command.client q.command.call st.records ≡ none
         → decide_request v st free q ≡ append (executed (executed_for v st q)) → Appends (request v b) (executed (executed_for v st q))
-    goes : (b : List ℕ) (n : Notice) → parse_packet b ≡ Noticed n → decide_notice st free n ≡ append (gone n) → Appends (notice b) (gone n)
+    goes : (b : List ℕ) (n : Notice) → parse_packet b ≡ Some (Noticed n) → decide_notice st free n ≡ append (gone n) → Appends (notice b) (gone n)
     gives : (p d : ℕ) → p ≤ last_point → (point_at st p).status ≡ held
         → on_give st free p d ≡ append (gave (record { point = p; destination = d; move_number = suc (point_at st p).move_number }))
         → Appends (give p d) (gave (record { point = p; destination = d; move_number = suc (point_at st p).move_number }))
     takes : (b : List ℕ) (i : Image) → parse_image b ≡ some i → i.destination ≡ st.server → (point_at st i.point).move_number < i.move_number
         → (point_at st i.point).status ≢ held → decide_take st free i ≡ append (took i) → Appends (take_in b) (took i)
-    frees : (b : List ℕ) (r : Receipt) → parse_packet b ≡ Receipted r → (point_at st r.point).status ≡ given → (point_at st r.point).move_number ≤ r.move_number
+    frees : (b : List ℕ) (r : Receipt) → parse_packet b ≡ Some (Receipted r) → (point_at st r.point).status ≡ given → (point_at st r.point).move_number ≤ r.move_number
         → decide_release st free r.point r.move_number ≡ append (released (record { point = r.point; move_number = (point_at st r.point).move_number }))
         → Appends (release b) (released (record { point = r.point; move_number = (point_at st r.point).move_number }))
 

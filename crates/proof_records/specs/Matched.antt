@@ -1,7 +1,7 @@
 -- The provisos at one event; what an event over records and the change that follows it have to do with each other, as demand 3 reads them; a
 -- schedule over records, followed event by event by a run of the protocol.
 -- Assumes nothing.
-use Rattle.std.specs.Prelude.{ℕ, ◌≤◌, ◌+◌, suc, ◌≡◌, List, [], ◌∷◌, take, Ok}
+use Rattle.std.specs.Prelude.{ℕ, ◌≤◌, ◌+◌, suc, ◌≡◌, List, [], ◌∷◌, take, Ok, Some}
 use Rattle.std.proofs.Math.Option.{none, some}
 use Rattle.model.specs.States.{State}
 use Rattle.model.specs.Clients.{issue_of, receive_of}
@@ -50,7 +50,7 @@ NoExecution (S.freed p m) = Unit {0}
 -- on the state st a request writes the execution of its command by its program's version, with the time of execution, and no other call writes
 -- an execution
 pub data Source (st : State) (o : Operation) (a : S.LogRecord) : Type 0 where
-  execution : (v : Versions) (b : List ℕ) (q : Request) (r : S.Result) → o ≡ request v b → parse_packet b ≡ Requested q → r.time ≡ time_for v st
+  execution : (v : Versions) (b : List ℕ) (q : Request) (r : S.Result) → o ≡ request v b → parse_packet b ≡ Some (Requested q) → r.time ≡ time_for v st
       → a ≡ S.executed (v.rule q.command.op) q.command q.done r → Source st o a
   no_execution : ((v : Versions) (b : List ℕ) → o ≡ request v b → ⊥) → NoExecution a → Source st o a
 
@@ -65,7 +65,7 @@ pub record Executed (w : World) (c p : ℕ) (v : Versions) (room : ℕ) (q : Req
   pub delivered : packet w p ≡ some bytes
   pub no_number : (call_of state log room (decision (request v bytes))).number ≡ 0
   pub no_packet : (call_of state log room (decision (request v bytes))).made ≡ []
-  pub parsed : parse_packet bytes ≡ Requested q
+  pub parsed : parse_packet bytes ≡ Some (Requested q)
 
 -- a client's change that issues nothing
 abbrev pub NoIssue : W.ClientChange → Type 0

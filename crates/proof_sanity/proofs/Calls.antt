@@ -10,6 +10,7 @@
 --     executed-decided, executed-passed, executed_admits, executed_terms, executed-result, executed-space, executed-sound, executed-loads,
 --     executed_ready, executed-found, executed-point, executed_admitted     a request that answers 0 and makes no packet
 -- Assumes nothing.
+use Rattle.std.specs.Prelude.{Some}
 use Prim.Native.Nat.{ℕ, ◌+◌, ◌*◌, ◌≤◌, ◌<◌}
 use mathlib.Core.Path.{◌≡◌, refl, sym, ap, ◌∙◌, subst}
 use mathlib.Core.Bool.{Bool, true, ◌&&◌}
@@ -80,7 +81,7 @@ result-front out r l =
     rw (written-front out b (omega (arith, n))) (ap (λ (k : ℕ). take k (b ++ drop (length b) out)) (sym n) ∙ take-append_seam b (drop (length b) out))
 
 -- the packet of a held record is read back
-pub packet_read : (st : State) → Sound st → (r : Completion) → GoodCompletion st.plan st.size r → parse_packet (result_bytes (result_of_record true r)) ≡ Resulted (result_of_record true r)
+pub packet_read : (st : State) → Sound st → (r : Completion) → GoodCompletion st.plan st.size r → parse_packet (result_bytes (result_of_record true r)) ≡ Some (Resulted (result_of_record true r))
 unfolding result_of_record result_ok id_ok packet_bytes
 packet_read st S r G =
     let p = result_of_record true r in
@@ -157,7 +158,7 @@ module _ {state log out : List ℕ} (R : Ready state log out) where
   lent-decides o need h d =
       rw (le-ltb (length state) state_size R.long, le-ltb (length o) need h, R.safe, le-ltb (length log) (load state).size R.recorded)
 
-  pub request-is : (b : List ℕ) (q : Request) → parse_packet b ≡ Requested q → request_of today state log b out ≡ settle state log out (denying q (decide_request today st free q))
+  pub request-is : (b : List ℕ) (q : Request) → parse_packet b ≡ Some (Requested q) → request_of today state log b out ≡ settle state log out (denying q (decide_request today st free q))
   unfolding request_of on_request or_malformed as_request result_size_of timed_by
   request-is b q e =
       ap (settle state log out) (lent-decides out result_size R.output (on_request today st free (parse_packet b)) ∙ ap (on_request today st free) e)
@@ -187,7 +188,7 @@ module _ {state log out : List ℕ} (R : Ready state log out) where
 
   -- ---- an answer with a packet
 
-  pub request-held : (b : List ℕ) (q : Request) → parse_packet b ≡ Requested q → (r : Completion) → find q.command.client q.command.call st.records ≡ some r
+  pub request-held : (b : List ℕ) (q : Request) → parse_packet b ≡ Some (Requested q) → (r : Completion) → find q.command.client q.command.call st.records ≡ some r
       → same_command r q ≡ true → Admits st q → r.end ≤ st.mark
       → request_of today state log b out ≡ after (answer_of no_refusal result_size) state log (written out 0 (result_bytes (result_of_record true r)))
   unfolding settle denying
@@ -221,7 +222,7 @@ module _ {state log out : List ℕ} (R : Ready state log out) where
   is-reply q = unless (IsReply q) _ (no_reply q) (reply-id q (find q.command.client q.command.call st.records) refl)
 
   -- the record whose packet it is, held with the same command
-  pub request_replied : (b : List ℕ) (q : Request) → parse_packet b ≡ Requested q → (request_of today state log b out).answer ≡ answer_of no_refusal result_size
+  pub request_replied : (b : List ℕ) (q : Request) → parse_packet b ≡ Some (Requested q) → (request_of today state log b out).answer ≡ answer_of no_refusal result_size
       → (r : Completion)
       × (find q.command.client q.command.call st.records ≡ some r)
       × (same_command r q ≡ true)

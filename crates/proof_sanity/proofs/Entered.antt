@@ -8,7 +8,7 @@ use mathlib.Core.Bool.{true}
 use mathlib.Core.List.{List, [], ◌∷◌}
 use mathlib.Core.Option.{some}
 use lib.ListN.{drop, get_elem?}
-use Rattle.std.specs.Prelude.{Ok}
+use Rattle.std.specs.Prelude.{Ok, Some}
 use Rattle.model.specs.declared.Command.{Command}
 use Rattle.model.specs.declared.Packet.TheVariants.{Requested}
 use Rattle.model.specs.declared.Received.TheVariants.{Completed}
@@ -43,7 +43,7 @@ provisos = provisos_kept simulator_plan 5 entering entering_seen entering_trace_
 -- ---- executions
 
 abbrev Parses : Command → Type 0
-Parses k = parse_packet (request_bytes (entry_asked k)) ≡ Requested (entry_asked k)
+Parses k = parse_packet (request_bytes (entry_asked k)) ≡ Some (Requested (entry_asked k))
 
 parsed : Parses first_set × Parses second_set × Parses hand_step × Parses first_part × Parses second_part
 unfolding open_numbers open_rules open_packets

@@ -14,7 +14,7 @@ use mathlib.Core.Option.{Option, none, some}
 use native.Mathlib.Omega.{arith}
 use lib.Dec.{lit<}
 use lib.IntN.{pos}
-use Rattle.std.specs.Prelude.{Ok}
+use Rattle.std.specs.Prelude.{Ok, Some}
 use Rattle.model.specs.declared.Command.{Command}
 use Rattle.model.specs.declared.Request.{Request}
 use Rattle.model.specs.declared.Packet.TheVariants.{Requested}
@@ -43,7 +43,7 @@ use Rattle.proof_sanity.specs.Forgetting.{founding_state, given_by, tail_only, c
 use Rattle.proof_sanity.proofs.Traced.{call-at, end-at, down_of, provisos_kept, untouched, survives-seen, completes_seen, executes-only}
 use Rattle.proof_sanity.proofs.Computed.{crash_trace_is, store_trace_is, kept-recovers, stored-recovers, head_alone}
 
-parsed : parse_packet (request_bytes setting_asked) ≡ Requested setting_asked
+parsed : parse_packet (request_bytes setting_asked) ≡ Some (Requested setting_asked)
 unfolding flip le32_at signed_at zeros3_at packet_length argument_range in_arguments argument_ok id_ok done_ok command_ok request_at request_ok request_bytes whole parse_request parse_packet
 parsed = refl
 
@@ -119,7 +119,7 @@ module _ (es : List Event) (rs : List Seen) (x : Ended) (is : trace_from simulat
   unfolding every asks_only requests_only same_bytes request_bytes flip
   only-setting h n c k E =
       let b = executes-only simulator_plan (after_set es) 5 seen is (request_bytes setting_asked) h n c k E in
-      let q : Requested E.asked ≡ Requested setting_asked = sym E.parsed ∙ ap parse_packet b ∙ parsed in
+      let q : Some (Requested E.asked) ≡ Some (Requested setting_asked) = sym E.parsed ∙ ap parse_packet b ∙ parsed in
       let r : E.asked ≡ setting_asked = cc in
       ap (λ (y : Marked). y.command) (sym E.its) ∙ ap (λ (y : Request). y.command) r
 

@@ -12,7 +12,7 @@ use mathlib.Core.Option.{Option, none, some}
 use native.Mathlib.Omega.{arith}
 use lib.Dec.{lit≤, lit<}
 use lib.ListN.{drop, get_elem?}
-use Rattle.std.specs.Prelude.{Ok}
+use Rattle.std.specs.Prelude.{Ok, Some}
 use Rattle.model.specs.declared.Client.{Client}
 use Rattle.model.specs.declared.Command.{Command}
 use Rattle.model.specs.declared.Point.{Point}
@@ -57,7 +57,7 @@ provisos = provisos_kept simulator_plan 5 schedule trace_seen trace_is refl
 
 -- the packets and the clients, by themselves
 abbrev Parses : Request → Type 0
-Parses q = parse_packet (request_bytes q) ≡ Requested q
+Parses q = parse_packet (request_bytes q) ≡ Some (Requested q)
 
 parsed : Parses setting_asked × Parses (step_asked 1) × Parses (step_asked 2) × Parses (step_asked 3) × Parses (far_asked 4) × Parses (far_asked 5)
 unfolding open_numbers open_rules open_packets

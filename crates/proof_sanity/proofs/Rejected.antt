@@ -10,11 +10,12 @@
 --     not-one-result        one fixed result; served-own, set-result: each execution's own result, of a set its value
 --     not_unchanging        one that changes nothing
 -- Assumes nothing.
+use Rattle.std.specs.Prelude.{Option, Some, None}
 use Prim.Native.Nat.{ℕ, ◌+◌, ◌-◌, ◌*◌, ◌≤◌, ◌<◌}
 use mathlib.Core.Path.{◌≡◌, refl, sym, ap, ◌∙◌, subst}
 use mathlib.Core.Bool.{Bool, true, false, ◌&&◌}
 use mathlib.Core.List.{List, [], ◌∷◌, ◌++◌, append_assoc, append-nil}
-use mathlib.Core.Option.{Option, none, some, map}
+use mathlib.Core.Option.{Option as Maybe, none, some, map}
 use mathlib.Core.Logic.{◌≢◌, ◌⊎◌, inl, inr}
 use native.Mathlib.Omega.{arith}
 use lib.ListN.{length, take, drop}
@@ -29,7 +30,7 @@ use Rattle.model.specs.declared.CommandResult.{CommandResult}
 use Rattle.model.specs.declared.ResultPacket.{ResultPacket}
 use Rattle.model.specs.declared.Completion.{Completion}
 use Rattle.model.specs.declared.Packet.{Packet}
-use Rattle.model.specs.declared.Packet.TheVariants.{Malformed, Requested, Resulted, Refused, Receipted, Noticed, Granted}
+use Rattle.model.specs.declared.Packet.TheVariants.{Requested, Resulted, Refused, Receipted, Noticed, Granted}
 use Rattle.model.specs.Choice.{refuse, reply, append, is_passed, unless_refused}
 use Rattle.model.specs.Refusals
 use Rattle.model.specs.Numbers.{word}
@@ -167,7 +168,7 @@ own-results_differ R R' b b' q q' A A' z z' other e =
     let o' = own-result R' b' q' A' z' in
     let r : Completion = o.0 in
     let r' : Completion = o'.0 in
-    let k : Resulted (result_of_record true r) ≡ Resulted (result_of_record true r') = sym o.1.packet ∙ ap parse_packet e ∙ o'.1.packet in
+    let k : Some (Resulted (result_of_record true r)) ≡ Some (Resulted (result_of_record true r')) = sym o.1.packet ∙ ap parse_packet e ∙ o'.1.packet in
     let p : result_of_record true r ≡ result_of_record true r' = cc in
     other (sym o.1.client ∙ ap (λ (x : ResultPacket). x.client) p ∙ o'.1.client) (sym o.1.call ∙ ap (λ (x : ResultPacket). x.call) p ∙ o'.1.call)
 
@@ -175,7 +176,7 @@ own-results_differ R R' b b' q q' A A' z z' other e =
 
 -- for all slices: number 8 or 9 only where its test holds
 module _ (state log out b : List ℕ) (n : ℕ) (low : 8 ≤ n) (high : n ≤ 9)
-    (eight : (q : Request) → parse_packet b ≡ Requested q → n ≡ 8 → (not_known (floor_of q.command.client (load state).floors) && leb client_count (length (load state).floors)) ≡ false)
+    (eight : (q : Request) → parse_packet b ≡ Some (Requested q) → n ≡ 8 → (not_known (floor_of q.command.client (load state).floors) && leb client_count (length (load state).floors)) ≡ false)
     (nine : n ≡ 9 → ltb (free_in state log) executed_size ≡ false) where
   abbrev st : State
   st = load state
@@ -186,7 +187,7 @@ module _ (state log out b : List ℕ) (n : ℕ) (low : 8 ≤ n) (high : n ≤ 9)
   abbrev Other : Decided → Type 0
   Other d = (settle state log out d).answer.refusal ≢ n
 
-  module _ (q : Request) (e : parse_packet b ≡ Requested q) where
+  module _ (q : Request) (e : parse_packet b ≡ Some (Requested q)) where
     abbrev Denied : Decided → Type 0
     Denied d = Other (denying q d)
 
@@ -198,7 +199,7 @@ module _ (state log out b : List ℕ) (n : ℕ) (low : 8 ≤ n) (high : n ≤ 9)
     unfolding unless_refused
     by m d h g = choose Denied (is_passed m) (λ k. g) (λ k. denies m (eqb-false m n h))
 
-    by_id : (o : Option Completion) → Denied (on_id today st free q o)
+    by_id : (o : Maybe Completion) → Denied (on_id today st free q o)
     unfolding on_id on_new on_held settle denying timed_by executed_size_of
     by_id none =
         let c = q.command in
@@ -213,15 +214,15 @@ module _ (state log out b : List ℕ) (n : ℕ) (low : 8 ≤ n) (high : n ≤ 9)
         (request-other (point_at st c.point) (leb q.lease st.heard) (floor_of c.client st.floors) c.call n low high)
         (by_id (find c.client c.call st.records))
 
-  by_packet : (p : Packet) → parse_packet b ≡ p → Other (on_request today st free p)
+  by_packet : (p : Option Packet) → parse_packet b ≡ p → Other (on_request today st free p)
   unfolding on_request or_malformed as_request settle
-  by_packet Malformed e = λ k. omega arith
-  by_packet (Requested q) e = by_tests q e
-  by_packet (Resulted r) e = λ k. omega arith
-  by_packet (Refused r) e = λ k. omega arith
-  by_packet (Receipted r) e = λ k. omega arith
-  by_packet (Noticed r) e = λ k. omega arith
-  by_packet (Granted r) e = λ k. omega arith
+  by_packet None e = λ k. omega arith
+  by_packet (Some (Requested q)) e = by_tests q e
+  by_packet (Some (Resulted r)) e = λ k. omega arith
+  by_packet (Some (Refused r)) e = λ k. omega arith
+  by_packet (Some (Receipted r)) e = λ k. omega arith
+  by_packet (Some (Noticed r)) e = λ k. omega arith
+  by_packet (Some (Granted r)) e = λ k. omega arith
 
   other-number : (request_of today state log b out).answer.refusal ≢ n
   unfolding request_of settle
@@ -229,7 +230,7 @@ module _ (state log out b : List ℕ) (n : ℕ) (low : 8 ≤ n) (high : n ≤ 9)
       lent_elim Other state log out _ (on_request today st free (parse_packet b)) (λ k. omega arith) (λ k. omega arith)
       (λ l s f. by_packet (parse_packet b) refl)
 
-places : (state log b out : List ℕ) (q : Request) → parse_packet b ≡ Requested q
+places : (state log b out : List ℕ) (q : Request) → parse_packet b ≡ Some (Requested q)
     → (floor_of q.command.client (load state).floors ≢ 0) ⊎ (length (load state).floors < client_count)
     → (request_of today state log b out).answer.refusal ≢ Refusals.clients_full
 places state log b out q e h =
@@ -249,7 +250,7 @@ unfolding free_in
 space state log b out h =
     other-number state log out b Refusals.log_full (lit≤ tt) (lit≤ tt) (λ r k t. absurd (omega arith)) (λ t. le-ltb (length log - (load state).size) executed_size (omega (arith, h)))
 
-pub places-and-space : (state log b out : List ℕ) (q : Request) → parse_packet b ≡ Requested q
+pub places-and-space : (state log b out : List ℕ) (q : Request) → parse_packet b ≡ Some (Requested q)
     → ((floor_of q.command.client (load state).floors ≢ 0) ⊎ (length (load state).floors < client_count) → (request_of today state log b out).answer.refusal ≢ Refusals.clients_full)
     × ((load state).size + executed_size ≤ length log → (request_of today state log b out).answer.refusal ≢ Refusals.log_full)
 places-and-space state log b out q e = (places state log b out q e, space state log b out)
@@ -282,7 +283,7 @@ served-own {state} {log} {out} R b q A z =
           ∙ ap parse_packet (result-front out r R.output) ∙ packet_read new S r g;
     })
 
-same-packet : (p p' : ResultPacket) → Resulted p ≡ Resulted p' → p ≡ p'
+same-packet : (p p' : ResultPacket) → Some (Resulted p) ≡ Some (Resulted p') → p ≡ p'
 same-packet p p' e = cc
 
 set-rule : (st : State) (q : Request) → q.command.op ≡ set_op → in_range (entry_at st.plan q.command.point) q.command.argument ≡ true

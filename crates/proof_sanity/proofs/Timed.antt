@@ -8,7 +8,7 @@ use mathlib.Core.Bool.{true}
 use mathlib.Core.List.{[], ◌∷◌}
 use mathlib.Core.Option.{some}
 use lib.ListN.{drop, get_elem?}
-use Rattle.std.specs.Prelude.{Ok}
+use Rattle.std.specs.Prelude.{Ok, Some}
 use Rattle.model.specs.declared.Client.{Client}
 use Rattle.model.specs.declared.Packet.TheVariants.{Requested, Resulted}
 use Rattle.model.specs.declared.Received.TheVariants.{Completed}
@@ -49,13 +49,13 @@ provisos = provisos_kept simulator_plan 5 timed timed_seen timed_trace_is refl
 -- ---- the packets, by themselves
 
 abbrev Parses : Request → Type 0
-Parses q = parse_packet (request_bytes q) ≡ Requested q
+Parses q = parse_packet (request_bytes q) ≡ Some (Requested q)
 
 parsed : Parses (step_asked 1) × Parses second_asked
 unfolding open_numbers open_rules open_packets
 parsed = (refl, refl)
 
-told-parsed : (parse_packet (result_bytes (step_answer 1)) ≡ Resulted (step_answer 1)) × (parse_packet (result_bytes (step_answer 2)) ≡ Resulted (step_answer 2))
+told-parsed : (parse_packet (result_bytes (step_answer 1)) ≡ Some (Resulted (step_answer 1))) × (parse_packet (result_bytes (step_answer 2)) ≡ Some (Resulted (step_answer 2)))
 unfolding open_numbers open_packets
 told-parsed = (refl, refl)
 
@@ -107,7 +107,7 @@ second-noted = let x = noted 15 0 6 today lent_all _ refl second-survives in (x.
 -- ---- results
 
 -- packet p, which event n brings to a client, is the result r
-told_at : (n p : ℕ) (d : Client) (r : ResultPacket) → parse_packet (result_bytes r) ≡ Resulted r → call_seen (after timed n) (outside (receive 2 p)) ≡ (at_client d (some (result_bytes r))).call
+told_at : (n p : ℕ) (d : Client) (r : ResultPacket) → parse_packet (result_bytes r) ≡ Some (Resulted r) → call_seen (after timed n) (outside (receive 2 p)) ≡ (at_client d (some (result_bytes r))).call
     → (t : Tells timed r) × (t.number ≡ p)
 unfolding call_seen call_with done
 told_at n p d r e s = (record { number = p; bytes = result_bytes r; made = packet-stays timed n p (result_bytes r) (ap (λ (x : Call). x.packet) s); parsed = e }, refl)

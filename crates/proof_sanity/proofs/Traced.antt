@@ -22,7 +22,7 @@ use native.Mathlib.Omega.{arith}
 use lib.ListN.{length, take, drop, get_elem?}
 use lib.Dec.{eqb, leb, ltb}
 use borrow.Author.Tests.{eqb-true, leb-true, ltb-true, eq-eqb, ne_eqb}
-use Rattle.std.specs.Prelude.{Result, Ok, Err}
+use Rattle.std.specs.Prelude.{Result, Ok, Err, Some}
 use Rattle.model.specs.declared.Refusal.{Refusal}
 use Rattle.model.specs.declared.Answer.{Answer}
 use Rattle.model.specs.declared.Client.{Client}
@@ -432,7 +432,7 @@ request-packet f v w p b e =
 
 module _ (plan : List ℕ) (es : List Event) where
   -- a request that is executed
-  pub executes-seen : (n c p size : ℕ) (v : Versions) (l : Lent) (q : Request) → At es n (call c (request v p) l) → parse_packet (request_bytes q) ≡ Requested q
+  pub executes-seen : (n c p size : ℕ) (v : Versions) (l : Lent) (q : Request) → At es n (call c (request v p) l) → parse_packet (request_bytes q) ≡ Some (Requested q)
       → call_seen (after es n) (call c (request v p) l)
       ≡ record { client = none; packet = none; operation = some (request v (request_bytes q)); size = size; answer = some (answer_of no_refusal 0); cut = none }
       → Executes es n c (marked_by v q.command)
@@ -464,7 +464,7 @@ module _ (plan : List ℕ) (es : List Event) where
 
   -- and that survives
   pub survives-seen : (p : ℕ) (t : Trace) → trace_from plan p empty_world es ≡ t → (n c m size reach : ℕ) (v : Versions) (l : Lent) (q : Request) → At es n (call c (request v m) l)
-      → parse_packet (request_bytes q) ≡ Requested q
+      → parse_packet (request_bytes q) ≡ Some (Requested q)
       → call_seen (after es n) (call c (request v m) l)
       ≡ record { client = none; packet = none; operation = some (request v (request_bytes q)); size = size; answer = some (answer_of no_refusal 0); cut = none }
       → reach_of ((after es (suc n)).servers c) ≡ reach → every (keeps_many c reach) (drop (suc n) t.rows) ≡ true → SurvivesAt es n (marked_by v q.command)

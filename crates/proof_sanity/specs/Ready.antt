@@ -1,7 +1,7 @@
 -- Lent slices on which a request is refused with neither 2 nor 19, whatever state they hold; what a request that was executed leaves, and a
 -- checkpoint with the recovery from it.
 -- Assumes nothing.
-use Rattle.std.specs.Prelude.{ℕ, ◌+◌, ◌*◌, ◌≤◌, ◌<◌, ◌≡◌, true, List, ◌++◌, length, take}
+use Rattle.std.specs.Prelude.{ℕ, ◌+◌, ◌*◌, ◌≤◌, ◌<◌, ◌≡◌, true, List, ◌++◌, length, take, Some}
 use Rattle.std.proofs.Math.Option.{none, some}
 use Rattle.model.specs.Versions.{today}
 use Rattle.model.specs.declared.CommandResult.{CommandResult}
@@ -31,7 +31,7 @@ pub record Ready (state log out : List ℕ) : Type 0 where
 -- the bytes b are the request q
 pub record Asks (b : List ℕ) (q : Request) : Type 0 where
   pub bytes : Bytes b
-  pub parsed : parse_packet b ≡ Requested q
+  pub parsed : parse_packet b ≡ Some (Requested q)
 
 -- the state and the log after the request q was executed: its id, which was not held, is held, with what the rule made of its
 -- command; its point has that value and quality; the log has 32 bytes more, the executed record
@@ -46,7 +46,7 @@ pub record Changed (state log : List ℕ) (q : Request) (a : After) : Type 0 whe
 -- the answer's packet is that of the record r, which is held for the request's own id, with the request's own command
 pub record Own (state : List ℕ) (q : Request) (a : After) (r : Completion) : Type 0 where
   pub found : find q.command.client q.command.call (load state).records ≡ some r
-  pub packet : parse_packet (take result_size a.out) ≡ Resulted (result_of_record true r)
+  pub packet : parse_packet (take result_size a.out) ≡ Some (Resulted (result_of_record true r))
   pub client : r.command.client ≡ q.command.client
   pub call : r.command.call ≡ q.command.call
   pub op : r.command.op ≡ q.command.op
@@ -64,7 +64,7 @@ pub record Served (b : List ℕ) (q : Request) (r : CommandResult) (out state lo
   pub synced : (sync_of state log (load state).size).answer ≡ answer_of no_refusal 0
   pub answer : (request_of today (sync_of state log (load state).size).state (sync_of state log (load state).size).log b out).answer ≡ answer_of no_refusal result_size
   pub packet : parse_packet (answered_with b out state log)
-      ≡ Resulted (record { client = q.command.client; call = q.command.call; point = q.command.point; result = r; timed = true })
+      ≡ Some (Resulted (record { client = q.command.client; call = q.command.call; point = q.command.point; result = r; timed = true }))
 
 -- a recovery that is not refused holds what the request q executed: its completion record, its point's value and quality, all synced
 pub record Regained (state : List ℕ) (q : Request) (a : After) : Type 0 where

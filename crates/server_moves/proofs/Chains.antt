@@ -14,12 +14,12 @@ use native.Mathlib.Omega.{arith}
 use lib.ListN.{length}
 use lib.Dec.{eqb, ltb}
 use borrow.Author.Tests.{ne_eqb, eqb-true, ltb-false}
-use Rattle.std.specs.Prelude.{Result, Ok}
+use Rattle.std.specs.Prelude.{Result, Ok, Option, Some, None}
 use Rattle.std.specs.Result.{IsErrAnd}
 use Rattle.model.specs.declared.Point.{Point}
 use Rattle.model.specs.declared.Packet.{Packet}
 use Rattle.model.specs.declared.Receipt.{Receipt}
-use Rattle.model.specs.declared.Packet.TheVariants.{Malformed, Requested, Resulted, Refused, Receipted, Noticed, Granted}
+use Rattle.model.specs.declared.Packet.TheVariants.{Requested, Resulted, Refused, Receipted, Noticed, Granted}
 use Rattle.model.specs.Choice.{pick, refuse, reply, append, unless_refused}
 use Rattle.model.specs.Limits.{last_point, last_server, give_size, release_size, receipt_size, greatest_image}
 use Rattle.model.specs.Tables.{written}
@@ -192,9 +192,8 @@ module _ (s log : List ℕ) where
   release_settled p a b e f = rw (e, f, a, b)
 
 -- 1 any other packet
-pub release_other : (s log : List ℕ) (p : Packet) → ((r : Receipt) → p ≡ Receipted r → ⊥) → after (answer_of malformed 0) s log [] ≡ settled_by (λ st free. on_release st free p) s log []
+pub release_other : (s log : List ℕ) (p : Packet) → ((r : Receipt) → p ≡ Receipted r → ⊥) → after (answer_of malformed 0) s log [] ≡ settled_by (λ st free. on_release st free (Some p)) s log []
 unfolding on_release or_malformed as_receipt settle
-release_other s log Malformed h = refl
 release_other s log (Requested q) h = refl
 release_other s log (Resulted r) h = refl
 release_other s log (Refused r) h = refl
@@ -202,11 +201,14 @@ release_other s log (Receipted r) h = absurd (h r refl)
 release_other s log (Noticed n) h = refl
 release_other s log (Granted g) h = refl
 
-pub release-placed : (b : List ℕ) → Bytes b → {p : Packet} → p ≡ parse_packet b → Placed p
-release-placed b h {p} e = go p e
+pub release-none : (s log : List ℕ) → after (answer_of malformed 0) s log [] ≡ settled_by (λ st free. on_release st free None) s log []
+unfolding on_release or_malformed as_receipt settle
+release-none s log = refl
+
+pub release-placed : (b : List ℕ) → Bytes b → {o : Option Packet} {p : Packet} → o ≡ parse_packet b → o ≡ Some p → Placed p
+release-placed b h {p = p} e is = go p (sym is ∙ e)
   where
-    go : (q : Packet) → q ≡ parse_packet b → Placed q
-    go Malformed k = tt
+    go : (q : Packet) → Some q ≡ parse_packet b → Placed q
     go (Requested q) k = tt
     go (Resulted q) k = tt
     go (Refused q) k = tt

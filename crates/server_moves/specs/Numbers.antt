@@ -5,7 +5,7 @@ use Rattle.std.specs.Prelude.{ℕ, suc, ◌≤◌, List, eqb, ltb}
 use Rattle.model.specs.declared.Give.{Give}
 use Rattle.model.specs.declared.Release.{Release}
 use Rattle.model.specs.declared.Packet.{Packet}
-use Rattle.model.specs.declared.Packet.TheVariants.{Malformed, Requested, Resulted, Refused, Receipted, Noticed, Granted}
+use Rattle.model.specs.declared.Packet.TheVariants.{Requested, Resulted, Refused, Receipted, Noticed, Granted}
 use Rattle.model.specs.Choice.{pick, reply, unless_refused}
 use Rattle.model.specs.Refusals.{malformed, no_refusal}
 use Rattle.model.specs.Limits.{last_point}
@@ -50,7 +50,6 @@ release_for st p = record { point = p; move_number = (point_at st p).move_number
 
 -- a packet's point, where a release reads it, is in range
 abbrev pub Placed : Packet → Type 0
-Placed Malformed = Unit
 Placed (Requested q) = Unit
 Placed (Resulted r) = Unit
 Placed (Refused r) = Unit

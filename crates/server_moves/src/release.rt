@@ -1,6 +1,6 @@
 // Release: by a receipt, a given point is released. It answers and leaves its lent slices as its definition says, for
 // all arguments.
-ghost use Rattle.std.specs.Prelude.{◌≡◌, ◌+◌, ◌≤◌, [], length, Ok};
+ghost use Rattle.std.specs.Prelude.{◌≡◌, ◌+◌, ◌≤◌, [], length, Ok, Some};
 ghost use Rattle.model.specs.Choice.{append};
 ghost use Rattle.model.specs.Limits.{last_point, release_size};
 ghost use Rattle.model.specs.Logs.{released};
@@ -51,7 +51,7 @@ fn release_by(s: &mut [u8], log: &mut [u8], receipt: Receipt) -> Result<u32, Ref
 fn release_on(s: &mut [u8], log: &mut [u8], packet: Packet) -> Result<u32, Refusal>
     requires { Canonical s.old × ((load s.old).size ≤ length log.old) × Placed packet }
     ensures { after (answered result) s.new log.new []
-        ≡ settled_by (λ st free. on_release st free packet) s.old log.old [] }
+        ≡ settled_by (λ st free. on_release st free (Some packet)) s.old log.old [] }
 {
     let Packet::Receipted(receipt) = packet else {
         return Err(Refusal::Malformed);
@@ -65,6 +65,8 @@ pub fn release(s: &mut [u8], log: &mut [u8], packet: &[u8]) -> Result<u32, Refus
         ≡ release_of s.old log.old packet.now }
 {
     server_memory::lent_refusal(s, log, 0, 0)?;
-    let parsed = format_packet_reader::parse_packet(packet);
+    let Some(parsed) = format_packet_reader::parse_packet(packet) else {
+        return Err(Refusal::Malformed);
+    };
     release_on(s, log, parsed)
 }

@@ -17,7 +17,7 @@ use Rattle.std.specs.Prelude.{Option, None, Some}
 use Rattle.model.specs.declared.Notice.{Notice}
 use Rattle.model.specs.declared.Completion.{Completion}
 use Rattle.model.specs.declared.Packet.{Packet}
-use Rattle.model.specs.declared.Packet.TheVariants.{Malformed, Requested, Resulted, Refused, Receipted, Noticed, Granted}
+use Rattle.model.specs.declared.Packet.TheVariants.{Requested, Resulted, Refused, Receipted, Noticed, Granted}
 use Rattle.model.specs.contracts.Packet.{the_type}
 use Rattle.model.specs.Choice.{pick, refuse, reply, append, marks, unless_refused}
 use Rattle.model.specs.Versions.{today}
@@ -62,14 +62,13 @@ module _ (s log out : List ℕ) where
 
 -- ---- notice
 
-other-packet : (st : State) (free : ℕ) (p : Packet) → OneOf (0 ∷ 1 ∷ 2 ∷ 3 ∷ 4 ∷ 6 ∷ []) (tag_of the_type p) → on_notice st free p ≡ refuse malformed
+other-packet : (st : State) (free : ℕ) (p : Packet) → OneOf (0 ∷ 1 ∷ 2 ∷ 3 ∷ 5 ∷ []) (tag_of the_type p) → on_notice st free (Some p) ≡ refuse malformed
 unfolding on_notice or_malformed as_notice
-other-packet st free Malformed h = refl
 other-packet st free (Requested q) h = refl
 other-packet st free (Resulted q) h = refl
 other-packet st free (Refused q) h = refl
 other-packet st free (Receipted q) h = refl
-other-packet st free (Noticed n) h = absurd (miss (0 ∷ 1 ∷ 2 ∷ 3 ∷ 4 ∷ 6 ∷ []) 5 tt h)
+other-packet st free (Noticed n) h = absurd (miss (0 ∷ 1 ∷ 2 ∷ 3 ∷ 5 ∷ []) 4 tt h)
 other-packet st free (Granted q) h = refl
 
 -- 0 where the log has space for a gone record
@@ -94,12 +93,17 @@ module _ (s log : List ℕ) where
     unfolding notice_of lent
     notice-is = refl
 
-    pub notice-other : {p : Packet} → p ≡ parse_packet packet → OneOf (0 ∷ 1 ∷ 2 ∷ 3 ∷ 4 ∷ 6 ∷ []) (tag_of the_type p)
+    pub notice-none : {o : Option Packet} → o ≡ parse_packet packet → o ≡ None
+        → after (answer_of malformed 0) s log [] ≡ settle s log [] (on_notice (load s) (free_in s log) (parse_packet packet))
+    unfolding settle on_notice or_malformed as_notice
+    notice-none e is = rw (← e, is) refl
+
+    pub notice-other : {o : Option Packet} {p : Packet} → o ≡ parse_packet packet → o ≡ Some p → OneOf (0 ∷ 1 ∷ 2 ∷ 3 ∷ 5 ∷ []) (tag_of the_type p)
         → after (answer_of malformed 0) s log [] ≡ settle s log [] (on_notice (load s) (free_in s log) (parse_packet packet))
     unfolding settle
-    notice-other {p} e h = rw (← e, other-packet (load s) (free_in s log) p h)
+    notice-other {p = p} e is h = rw (← e, is, other-packet (load s) (free_in s log) p h)
 
-    pub notice-one : (n : Notice) {p : Packet} {a : After} → p ≡ parse_packet packet → p ≡ Noticed n → a ≡ settle s log [] (decide_notice (load s) (free_in s log) n)
+    pub notice-one : (n : Notice) {o : Option Packet} {p : Packet} {a : After} → o ≡ parse_packet packet → o ≡ Some p → p ≡ Noticed n → a ≡ settle s log [] (decide_notice (load s) (free_in s log) n)
         → a ≡ settle s log [] (on_notice (load s) (free_in s log) (parse_packet packet))
     unfolding on_notice or_malformed as_notice
-    notice-one n e h q = rw (← e, h) q
+    notice-one n e is h q = rw (← e, is, h) q

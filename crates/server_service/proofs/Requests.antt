@@ -24,7 +24,7 @@ use Rattle.model.specs.declared.Request.{Request}
 use Rattle.model.specs.declared.Executed.{Executed}
 use Rattle.model.specs.declared.Completion.{Completion}
 use Rattle.model.specs.declared.Packet.{Packet}
-use Rattle.model.specs.declared.Packet.TheVariants.{Malformed, Requested, Resulted, Refused, Receipted, Noticed, Granted}
+use Rattle.model.specs.declared.Packet.TheVariants.{Requested, Resulted, Refused, Receipted, Noticed, Granted}
 use Rattle.model.specs.contracts.Packet.{the_type}
 use Rattle.model.specs.Choice.{refuse, reply, append, unless_refused}
 use Rattle.model.specs.Versions.{today}
@@ -116,10 +116,9 @@ module _ (st : State) (free : ℕ) (q : Request) {f : Option Completion} (p : f 
 
 -- ---- the whole call
 
-other-packet : (st : State) (free : ℕ) (p : Packet) → OneOf (0 ∷ 2 ∷ 3 ∷ 4 ∷ 5 ∷ 6 ∷ []) (tag_of the_type p) → on_request today st free p ≡ refuse malformed
+other-packet : (st : State) (free : ℕ) (p : Packet) → OneOf (1 ∷ 2 ∷ 3 ∷ 4 ∷ 5 ∷ []) (tag_of the_type p) → on_request today st free (Some p) ≡ refuse malformed
 unfolding on_request or_malformed as_request
-other-packet st free Malformed h = refl
-other-packet st free (Requested q) h = absurd (miss (0 ∷ 2 ∷ 3 ∷ 4 ∷ 5 ∷ 6 ∷ []) 1 tt h)
+other-packet st free (Requested q) h = absurd (miss (1 ∷ 2 ∷ 3 ∷ 4 ∷ 5 ∷ []) 0 tt h)
 other-packet st free (Resulted q) h = refl
 other-packet st free (Refused q) h = refl
 other-packet st free (Receipted q) h = refl
@@ -133,15 +132,20 @@ module _ (s log out : List ℕ) where
     unfolding request_of lent result_size_of timed_by
     request-is = refl
 
-    pub request-other : {p : Packet} → p ≡ parse_packet packet → OneOf (0 ∷ 2 ∷ 3 ∷ 4 ∷ 5 ∷ 6 ∷ []) (tag_of the_type p)
+    pub request-none : {o : Option Packet} → o ≡ parse_packet packet → o ≡ None
+        → after (answer_of malformed 0) s log out ≡ settle s log out (on_request today (load s) (free_in s log) (parse_packet packet))
+    unfolding settle on_request or_malformed as_request
+    request-none e is = rw (← e, is) refl
+
+    pub request-other : {o : Option Packet} {p : Packet} → o ≡ parse_packet packet → o ≡ Some p → OneOf (1 ∷ 2 ∷ 3 ∷ 4 ∷ 5 ∷ []) (tag_of the_type p)
         → after (answer_of malformed 0) s log out ≡ settle s log out (on_request today (load s) (free_in s log) (parse_packet packet))
     unfolding settle
-    request-other {p} e h = rw (← e, other-packet (load s) (free_in s log) p h)
+    request-other {p = p} e is h = rw (← e, is, other-packet (load s) (free_in s log) p h)
 
-    pub request-one : (q : Request) {p : Packet} {a : After} → p ≡ parse_packet packet → p ≡ Requested q
+    pub request-one : (q : Request) {o : Option Packet} {p : Packet} {a : After} → o ≡ parse_packet packet → o ≡ Some p → p ≡ Requested q
         → a ≡ settle s log out (denying q (decide_request today (load s) (free_in s log) q)) → a ≡ settle s log out (on_request today (load s) (free_in s log) (parse_packet packet))
     unfolding on_request or_malformed as_request
-    request-one q e h k = rw (← e, h) k
+    request-one q e is h k = rw (← e, is, h) k
 
   -- in the error arm of the `?` on a call that promises the number m: it gave the refusal e, and r is it without a packet
   pub denied_by : (d : Decided) {m : ℕ} (e : Refusal) → number_of e ≡ m → (r : Result ℕ Denied) → IsErrAnd r (λ x. x ≡ denied e 0)

@@ -33,7 +33,9 @@ pub fn notice(s: &mut [u8], log: &mut [u8], packet: &[u8]) -> Result<u32, Refusa
         ≡ notice_of s.old log.old packet.now }
 {
     server_memory::lent_refusal(s, log, 0, 0)?;
-    let parsed = format_packet_reader::parse_packet(packet);
+    let Some(parsed) = format_packet_reader::parse_packet(packet) else {
+        return Err(Refusal::Malformed);
+    };
     let Packet::Noticed(told) = parsed else {
         return Err(Refusal::Malformed);
     };

@@ -160,7 +160,9 @@ pub fn request(s: &mut [u8], log: &mut [u8], packet: &[u8], out: &mut [u8]) -> R
         ≡ request_of today s.old log.old packet.now out.old }
 {
     server_memory::lent_refusal(s, log, out.len(), constants::RESULT_SIZE)?;
-    let parsed = format_packet_reader::parse_packet(packet);
+    let Some(parsed) = format_packet_reader::parse_packet(packet) else {
+        return Err(Refusal::Malformed.into());
+    };
     let Packet::Requested(q) = parsed else {
         return Err(Refusal::Malformed.into());
     };

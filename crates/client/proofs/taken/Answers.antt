@@ -1,4 +1,5 @@
 -- What is left to show of `client::taken`.
+use Rattle.std.specs.Prelude.{Some}
 use mathlib.Core.Path.{◌≡◌, sym, ◌∙◌}
 use native.Mathlib.Omega.{arith}
 use Rattle.model.specs.declared.Refusal.TheVariants.{Unknown}
@@ -14,7 +15,7 @@ returns-in_default c = let start = c.args in c.not_received.ensures ∙ sym (not
 pub returns-in-Resulted-2 : goal.returns-in-Resulted-2
 returns-in-Resulted-2 c =
     let start = c.args in
-    let unknown : not_received start.d Unknown ≡ receive_with start.d start.packet = grind (arith, result-unknown, refusal-unknown, grant-unknown) in
+    let unknown : not_received start.d Unknown ≡ receive_with start.d (Some start.packet) = grind (arith, result-unknown, refusal-unknown, grant-unknown) in
     c.not_received-in-Resulted-2.ensures ∙ unknown
 
 pub returns : goal.returns

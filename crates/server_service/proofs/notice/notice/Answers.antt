@@ -2,7 +2,7 @@
 use mathlib.Core.Path.{sym, ◌∙◌}
 use mathlib.Core.List.{[]}
 use Rattle.server_memory.proofs.Settled.{by_refused, by_passed, passed-fit, passed-canonical}
-use Rattle.server_service.proofs.Chains.{notice-is, notice-other, notice-one}
+use Rattle.server_service.proofs.Chains.{notice-is, notice-none, notice-other, notice-one}
 use borrow.Enum.Refused.{opened}
 use Rattle.server_service.proofs.notice.notice.Goals as goal
 
@@ -16,7 +16,14 @@ pub returns-in_default : goal.returns-in_default
 returns-in_default c =
     let start = c.args in
     by_passed start.s.now start.log.now [] _ c.in_ok-lent_refusal.ensures
-    (notice-other start.s.now start.log.now start.packet.now c.parse_packet-parsed.ensures (opened c.in_default.in_default-own.keys2))
+    (notice-none start.s.now start.log.now start.packet.now c.parse_packet.ensures c.in_default.is)
+    ∙ sym (notice-is start.s.now start.log.now start.packet.now)
+
+pub returns-in_default-parsed : goal.returns-in_default-parsed
+returns-in_default-parsed c =
+    let start = c.args in
+    by_passed start.s.now start.log.now [] _ c.in_ok-lent_refusal.ensures
+    (notice-other start.s.now start.log.now start.packet.now c.parse_packet.ensures c.in-Some.is (opened c.in_default-parsed.in_default-parsed-own.keys2))
     ∙ sym (notice-is start.s.now start.log.now start.packet.now)
 
 pub noticed-requires : goal.noticed-requires
@@ -29,5 +36,5 @@ pub returns : goal.returns
 returns c =
     let start = c.args in
     by_passed start.s.now start.log.now [] _ c.in_ok-lent_refusal.ensures
-    (notice-one start.s.now start.log.now start.packet.now _ c.parse_packet-parsed.ensures c.in-Noticed.is c.noticed.ensures)
+    (notice-one start.s.now start.log.now start.packet.now _ c.parse_packet.ensures c.in-Some.is c.in-Noticed.is c.noticed.ensures)
     ∙ sym (notice-is start.s.now start.log.now start.packet.now)
