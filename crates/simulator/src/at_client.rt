@@ -5,10 +5,10 @@ ghost use Rattle.model.specs.Refusals.{unknown};
 ghost use Rattle.model.specs.Clients.{issue_of};
 ghost use Rattle.model.specs.Simulator.{plain};
 ghost use Rattle.simulator_text.specs.Values.{reply_is};
-ghost use Rattle.simulator_memory.specs.Store.{row_size, packet_in, packets_in, numbered, Room, Sendable};
+ghost use Rattle.simulator_memory.specs.Store.{row_size, packet_in, packets_in, numbered, Room};
 ghost use Rattle.simulator.specs.Attended.{sent_by, receiving, client_ran, Attends, Receives};
 
-use model::{Client, SendAnswer, Sent, constants};
+use model::{Client, Refusal, SendAnswer, constants};
 use simulator_memory::{ClientMade, Made, outcome, packets};
 use simulator_text::ClientLine;
 
@@ -19,14 +19,14 @@ fn issue_by(d: Client, op: u32, point: u32, argument: u32) -> SendAnswer
     if (constants::LAST_8 < op) | (constants::LAST_8 < point) {
         return SendAnswer {
             client: d,
-            answer: Sent::NotSent(constants::MALFORMED),
+            answer: Err(Refusal::Malformed),
         };
     }
     client::issue(d, op as u8, point as u8, argument)
 }
 
 fn send_line(store: &mut [u8], count: u32, send: SendAnswer) -> ClientMade
-    requires { Room store.old count × Sendable send.answer }
+    requires { Room store.old count }
     ensures { Attends (sent_by (packets_in store.old count) send) count result store.new }
 {
     let d = send.client;

@@ -1,6 +1,6 @@
 -- The packet store as the list of packets of the definitions, and what a call leaves of it.
 -- Assumes nothing.
-use Rattle.std.specs.Prelude.{ℕ, zero, suc, ◌+◌, ◌*◌, ◌≤◌, ◌<◌, ◌≡◌, Bool, ◌||◌, List, [], ◌∷◌, ◌++◌, eqb, ltb, length, take, drop}
+use Rattle.std.specs.Prelude.{ℕ, zero, suc, ◌+◌, ◌*◌, ◌≤◌, ◌<◌, Bool, ◌||◌, List, [], ◌∷◌, ◌++◌, eqb, ltb, length, take, drop}
 use Rattle.std.specs.Prelude as std
 use Rattle.std.specs.Prelude.{Some, None, Result}
 use Rattle.std.proofs.Math.Option.{Option, none, some}

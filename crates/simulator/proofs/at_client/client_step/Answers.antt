@@ -1,14 +1,7 @@
 -- What is left to show of `simulator::at_client::client_step`.
-use Rattle.simulator.proofs.Receptions.{issue_sendable, resend_sendable}
 use native.Mathlib.Omega.{arith}
 use Rattle.simulator.specs.Attended.{client_ran}
 use Rattle.simulator.proofs.at_client.client_step.Goals as goal
-
-pub send_line-requires : goal.send_line-requires
-send_line-requires c = (c.requires, rw c.issue_by-sent.ensures (issue_sendable _ _ _ _))
-
-pub send_line-requires-in-Resend : goal.send_line-requires-in-Resend
-send_line-requires-in-Resend c = (c.requires, rw c.resend-sent.ensures (resend_sendable _ _))
 
 pub returns-in-Issue : goal.returns-in-Issue
 unfolding client_ran
