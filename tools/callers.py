@@ -1,6 +1,6 @@
 #!/usr/bin/env python3
 """Names public functions without a caller: each `pub fn` of crates/*/src, those exported to C and `main` apart, must be called by another
-function of the repository. Exits 1 if one is not."""
+function of the repository; a method, which takes self, by its name behind a dot. Exits 1 if one is not."""
 import pathlib
 import re
 import sys
@@ -12,10 +12,11 @@ ALLOWED = {
     name: "by value, for a host in Rattle; C is given what a call changes" for name in ("leases::open_lease", "leases::renew", "leases::query")
 }
 
-HEAD = re.compile(r"^(?P<indent> *)(?P<pub>pub )?(?P<extern>extern \"C\" )?fn (?P<name>\w+)", re.M)
+HEAD = re.compile(r"^(?P<indent> *)(?P<pub>pub )?(?P<extern>extern \"C\" )?fn (?P<name>\w+)(?P<method>\((?:&(?:mut )?)?self\b)?", re.M)
 USE = re.compile(r"^use ([^;]+);", re.M)
 CONTRACT = re.compile(r"^ +(?:requires|ensures|measure|invariant)\b[^{;\n]*\{", re.M)
 CALL = re.compile(r"(?<![\w:.])((?:\w+::)*)(\w+)\s*\(")
+METHOD_CALL = re.compile(r"\.(\w+)\(")
 
 
 def behind(text, at):
@@ -61,11 +62,11 @@ def module_of(path):
 
 
 def functions_of(text):
-    """(name, is public, is exported or main, body) of each function, in order."""
+    """(name, is public, is exported or main, is a method, body) of each function, in order."""
     heads = list(HEAD.finditer(text))
     for head, after in zip(heads, heads[1:] + [None]):
         body = text[head.end() : after.start() if after else len(text)]
-        yield head["name"], bool(head["pub"]), bool(head["extern"]) or head["name"] == "main", body
+        yield head["name"], bool(head["pub"]), bool(head["extern"]) or head["name"] == "main", bool(head["method"]), body
 
 
 def target(module, uses, path, name):
@@ -87,20 +88,24 @@ MODULES = {module_of(path) for path in FILES}
 
 
 def main():
-    public, called = {}, {}
+    public, methods, called = {}, set(), {}
     for path in FILES:
         text, module = code_of(path), module_of(path)
         uses = {name: parts for tree in USE.findall(text) for name, parts in brought(tree).items()}
-        for name, is_public, is_root, body in functions_of(text):
+        for name, is_public, is_root, is_method, body in functions_of(text):
             here = (*module, name)
             if is_public and not is_root:
                 public[here] = path.relative_to(ROOT)
+                methods |= {here} if is_method else set()
+            for callee in METHOD_CALL.findall(body):
+                called.setdefault("." + callee, set()).add(here)
             for where, callee in CALL.findall(body):
                 called.setdefault(target(module, uses, where, callee), set()).add(here)
     bad = 0
     for function, path in sorted(public.items()):
         full = "::".join(function)
-        if not called.get(function, set()) - {function} and full not in ALLOWED:
+        callee = "." + function[-1] if function in methods else function
+        if not called.get(callee, set()) - {function} and full not in ALLOWED:
             print(f"{path}: {full} is public and has no caller")
             bad += 1
     for full in sorted(ALLOWED):
