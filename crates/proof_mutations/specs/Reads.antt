@@ -3,7 +3,8 @@
 -- is, and all is `model`'s (proofs/Same.antt). Each edit of must-fail/ puts something else for one part, so that a test, or a part of a
 -- record or of an image, is left out.
 -- Assumes nothing.
-use Rattle.std.specs.Prelude.{ℕ, List, Option}
+use Rattle.std.specs.Prelude.{ℕ, List}
+use Rattle.std.specs.Prelude.{Option}
 use Rattle.std.proofs.Math.Option.{Option as Maybe}
 use Rattle.model.specs.declared.Floor.{Floor}
 use Rattle.model.specs.declared.Notice.{Notice}
