@@ -42,7 +42,7 @@ def main():
     rows, shown, bad = [], collections.Counter(), []
     for crate in listed():
         for path in sorted(glob.glob('crates/%s/must-fail/*.edit' % crate)):
-            m = re.match(r'# ([^:]+): (\S.*)\n', open(path, encoding='utf-8').read())
+            m = re.match(r'# ([^:\n]+): (\S.*)\n', open(path, encoding='utf-8').read())
             if not m:
                 bad.append('%s: the first line is not # subject: fact' % path)
                 continue

@@ -76,6 +76,6 @@ pub fn run_new(text: &[u8], page: &mut [u8], lent: &mut Lent) -> usize
     ensures kept { SameSlices lent.old lent.new }
     ensures printed { Printed text.now new_simulator page.new result }
 {
-    let memory = crate::start::new_simulator(lent);
+    let memory = crate::start::new_simulator(lent.s0, lent.log0, lent.s1, lent.log1);
     run(text, page, lent, memory)
 }

@@ -3,9 +3,7 @@ ghost use Rattle.std.specs.Prelude.{◌≡◌, List, ℕ, length};
 ghost use Rattle.model.specs.Limits.{state_size};
 ghost use Rattle.model.specs.Simulator.{simulator_plan, simulator_log, simulator_server, simulator_client, new_simulator};
 ghost use Rattle.simulator.specs.Whole.{simulator_in};
-ghost use Rattle.simulator.specs.Lending.{SameSlices};
 
-use crate::Lent;
 use model::{Client, OpenCall, constants};
 use simulator_memory::Memory;
 
@@ -61,16 +59,15 @@ fn new_client(number: u32) -> Client
 }
 
 // Servers 0 and 1 founded, clients 1 and 2 started, no packet.
-pub fn new_simulator(lent: &mut Lent) -> Memory
-    requires { (length lent.old.s0.now ≡ state_size) × (length lent.old.log0.now ≡ simulator_log)
-        × (length lent.old.s1.now ≡ state_size) × (length lent.old.log1.now ≡ simulator_log) }
-    ensures kept { SameSlices lent.old lent.new }
-    ensures new { ((store : List ℕ)
-        → simulator_in lent.new.s0.now lent.new.log0.now lent.new.s1.now lent.new.log1.now store result ≡ new_simulator)
+pub fn new_simulator(s0: &mut [u8], log0: &mut [u8], s1: &mut [u8], log1: &mut [u8]) -> Memory
+    requires { (length s0.old ≡ state_size) × (length log0.old ≡ simulator_log)
+        × (length s1.old ≡ state_size) × (length log1.old ≡ simulator_log) }
+    ensures { ((store : List ℕ)
+        → simulator_in s0.new log0.new s1.new log1.new store result ≡ new_simulator)
         × (result.count ≡ 0) }
 {
-    new_server(lent.s0, lent.log0, 0);
-    new_server(lent.s1, lent.log1, 1);
+    new_server(s0, log0, 0);
+    new_server(s1, log1, 1);
     let c0 = new_client(1);
     let c1 = new_client(2);
     Memory {
