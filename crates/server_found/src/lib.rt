@@ -89,7 +89,8 @@ fn put_plan(s: &mut [u8], plan: &[u8])
     format_numbers::copy_bytes(&mut s[PLAN_START..], plan);
 }
 
-// The state that founding leaves.
+// The state that founding leaves. Not inlined: found and recover would have it twice.
+#[inline(never)]
 pub fn found_state(s: &mut [u8], plan: &[u8], server: u8)
     requires { (state_end ≤ length s.old) × (plan_ok plan.now ≡ true) }
     ensures { s.new ≡ stored s.old (founded (plan_of plan.now) server) }
