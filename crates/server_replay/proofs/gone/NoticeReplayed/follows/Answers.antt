@@ -1,7 +1,7 @@
--- What is left to show of `server_replay::gone::gone_follows`.
+-- What is left to show of `server_replay::gone::NoticeReplayed::follows`.
 use Rattle.model.specs.Decisions.{follows}
 use Rattle.refusals.proofs.Numbers.{ok-passed}
-use Rattle.server_replay.proofs.gone.gone_follows.Goals as goal
+use Rattle.server_replay.proofs.gone.NoticeReplayed.follows.Goals as goal
 
 pub returns : goal.returns
 unfolding follows

@@ -1,7 +1,7 @@
--- What is left to show of `server_replay::released::released_follows`.
+-- What is left to show of `server_replay::released::ReleaseReplayed::follows`.
 use Rattle.model.specs.Decisions.{follows}
 use Rattle.refusals.proofs.Numbers.{ok-passed}
-use Rattle.server_replay.proofs.released.released_follows.Goals as goal
+use Rattle.server_replay.proofs.released.ReleaseReplayed.follows.Goals as goal
 
 pub returns : goal.returns
 unfolding follows

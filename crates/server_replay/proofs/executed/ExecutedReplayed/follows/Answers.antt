@@ -1,8 +1,8 @@
--- What is left to show of `server_replay::executed::executed_follows`.
+-- What is left to show of `server_replay::executed::ExecutedReplayed::follows`.
 use Rattle.model.specs.Decisions.{follows}
 use Rattle.refusals.proofs.Numbers.{ok-passed}
 use Rattle.server_replay.proofs.Rooms.{executed-space}
-use Rattle.server_replay.proofs.executed.executed_follows.Goals as goal
+use Rattle.server_replay.proofs.executed.ExecutedReplayed.follows.Goals as goal
 
 pub returns : goal.returns
 unfolding follows
