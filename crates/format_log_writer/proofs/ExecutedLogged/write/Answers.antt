@@ -1,11 +1,11 @@
--- What is left to show of `format_log_writer::write_executed`.
+-- What is left to show of `format_log_writer::ExecutedLogged::write`.
 use Rattle.model.specs.Packets.{time_bytes}
-use Rattle.model.specs.Logs.{executed_kind_of, executed_bytes}
+use Rattle.model.specs.Logs.{record_bytes, executed_kind_of, executed_bytes}
 use Rattle.model_laws.proofs.Written.{written-sets}
-use Rattle.format_log_writer.proofs.write_executed.Goals as goal
+use Rattle.format_log_writer.proofs.ExecutedLogged.write.Goals as goal
 
 pub returns : goal.returns
-unfolding executed_bytes executed_kind_of time_bytes
+unfolding record_bytes executed_bytes executed_kind_of time_bytes
 returns c =
     rw (
       c.requires.0,
