@@ -21,17 +21,17 @@ pub fn write_head(log: &mut [u8], server: u8)
     format_numbers::write_4(log, constants::HEAD_SERVER, server, 0, 0, 0);
 }
 
-// What stands for a record of a fixed size: how its bytes are written.
+// What stands for a record of the log: how its bytes are written.
 pub trait Logged {
     ghost log_record: { Self → LogRecord };
 
-    ghost size: { ℕ };
+    ghost size: { Self → ℕ };
 
     // Which values may be written.
     ghost can_write: { Self → Type 0 } = { λ _. Unit {0} };
 
     fn write(self, out: &mut [u8])
-        requires { can_write self × (size ≤ length out.old) }
+        requires { can_write self × (size self ≤ length out.old) }
         ensures { out.new ≡ written out.old 0 (record_bytes (log_record self)) };
 }
 
@@ -39,7 +39,7 @@ pub trait Logged {
 impl Logged for Executed {
     ghost log_record = { executed };
 
-    ghost size = { executed_size };
+    ghost size = { λ _. executed_size };
 
     ghost can_write = { λ x. x.timed ≡ true };
 
@@ -72,7 +72,7 @@ impl Logged for Executed {
 impl Logged for Notice {
     ghost log_record = { gone };
 
-    ghost size = { gone_size };
+    ghost size = { λ _. gone_size };
 
     fn write(self, out: &mut [u8]) {
         format_packet_writer::write_notice(out, constants::GONE_KIND, self);
@@ -82,7 +82,7 @@ impl Logged for Notice {
 impl Logged for Give {
     ghost log_record = { gave };
 
-    ghost size = { give_size };
+    ghost size = { λ _. give_size };
 
     fn write(self, out: &mut [u8]) {
         format_numbers::write_4(
@@ -100,7 +100,7 @@ impl Logged for Give {
 impl Logged for Release {
     ghost log_record = { released };
 
-    ghost size = { release_size };
+    ghost size = { λ _. release_size };
 
     fn write(self, out: &mut [u8]) {
         format_numbers::write_4(out, 0, constants::RELEASE_KIND, self.point, 0, 0);
@@ -117,31 +117,39 @@ fn write_take_front(out: &mut [u8], size: u32)
     format_numbers::write_u32(out, constants::TAKE_LENGTH, size);
 }
 
-// ---- appending: a record's writer is lent the log from its length on
-
-pub fn append<R: Logged>(log: &mut [u8], at: usize, item: R)
-    requires { R.can_write item × (at + R.size ≤ length log.old) }
-    ensures { log.new ≡ written log.old at (record_bytes (R.log_record item)) }
+fn write_take(out: &mut [u8], image: &[u8])
+    requires { (image_ok image.now ≡ true) × (take_head + length image.now ≤ length out.old) }
+    ensures { out.new
+        ≡ written out.old 0
+        (record_bytes (took (image_at (image_head_of image.now) image.now))) }
 {
-    item.write(&mut log[at..]);
-}
-
-// The record's 8 bytes, for an image of this size.
-fn append_take_head(log: &mut [u8], at: usize, size: u32)
-    requires { at + take_head ≤ length log.old }
-    ensures { log.new ≡ written log.old at (take_front size) }
-{
-    write_take_front(&mut log[at..], size);
+    write_take_front(out, image.len() as u32);
+    format_numbers::copy_bytes(&mut out[constants::TAKE_HEAD..], image);
 }
 
 // A take of a well-formed image.
-pub fn append_take(log: &mut [u8], at: usize, image: &[u8])
-    requires { (image_ok image.now ≡ true) × (at + take_head + length image.now ≤ length log.old) }
-    ensures { log.new
-        ≡ written log.old at
-        (record_bytes (took (image_at (image_head_of image.now) image.now))) }
+#[derive(Clone, Copy)]
+pub struct Take<'a> {
+    pub image: &'a [u8],
+}
+
+impl<'a> Logged for Take<'a> {
+    ghost log_record = { λ t. took (image_at (image_head_of t.image.now) t.image.now) };
+
+    ghost size = { λ t. take_head + length t.image.now };
+
+    ghost can_write = { λ t. image_ok t.image.now ≡ true };
+
+    fn write(self, out: &mut [u8]) {
+        write_take(out, self.image);
+    }
+}
+
+// ---- appending: a record's writer is lent the log from its length on
+
+pub fn append<R: Logged>(log: &mut [u8], at: usize, item: R)
+    requires { R.can_write item × (at + R.size item ≤ length log.old) }
+    ensures { log.new ≡ written log.old at (record_bytes (R.log_record item)) }
 {
-    append_take_head(log, at, image.len() as u32);
-    let from = at + constants::TAKE_HEAD;
-    format_numbers::copy_bytes(&mut log[from..], image);
+    item.write(&mut log[at..]);
 }
