@@ -2,7 +2,7 @@
 --     ok-most                       a well-formed image has at most 12,592 bytes
 --     took-bytes, took-back         the bytes of a take record of a well-formed image; its image copied behind its 8 bytes
 -- Assumes nothing.
-use Prim.Native.Nat.{ℕ, ◌+◌, ◌-◌, ◌≤◌}
+use Prim.Native.Nat.{ℕ, ◌-◌, ◌≤◌}
 use mathlib.Core.Path.{◌≡◌, sym, ap, ◌∙◌}
 use mathlib.Core.Bool.{true}
 use mathlib.Core.List.{List, ◌++◌}
@@ -31,11 +31,11 @@ took-bytes b h ok =
     let l : image_length i ≡ length b = sym (image-length i) ∙ ap length f.same in
     rw (l, f.same)
 
-pub took-back : (log : List ℕ) (at : ℕ) (b : List ℕ) → Bytes b → image_ok b ≡ true
-    → (let l : List ℕ = written log at (take_front (length b)) in put_mid (at + take_head) (length l - (at + take_head)) l (written (mid_of (at + take_head) (length l - (at + take_head)) l) 0 b))
-    ≡ written log at (record_bytes (took (image_at (image_head_of b) b)))
+pub took-back : (s b : List ℕ) → Bytes b → image_ok b ≡ true
+    → (let l : List ℕ = written s 0 (take_front (length b)) in put_mid take_head (length l - take_head) l (written (mid_of take_head (length l - take_head) l) 0 b))
+    ≡ written s 0 (record_bytes (took (image_at (image_head_of b) b)))
 unfolding take_front
-took-back log at b h ok =
-    tail-back (at + take_head) (written log at (take_front (length b))) b
-    ∙ sym (written-append log at (take_front (length b)) b)
-    ∙ ap (λ (x : List ℕ). written log at x) (sym (took-bytes b h ok))
+took-back s b h ok =
+    tail-back take_head (written s 0 (take_front (length b))) b
+    ∙ sym (written-append s 0 (take_front (length b)) b)
+    ∙ ap (λ (x : List ℕ). written s 0 x) (sym (took-bytes b h ok))

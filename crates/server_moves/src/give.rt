@@ -44,7 +44,7 @@ fn give_done(s: &mut [u8], log: &mut [u8], point: u8, destination: u8)
         destination,
         move_number: x.move_number + 1,
     };
-    format_log_writer::append_give(log, size as usize, g);
+    format_log_writer::append(log, size as usize, g);
     server_apply::apply_gave(s, g, size + constants::GIVE_SIZE_U64);
 }
 

@@ -29,7 +29,7 @@ fn release_done(s: &mut [u8], log: &mut [u8], point: u8)
         point,
         move_number: x.move_number,
     };
-    format_log_writer::append_release(log, size as usize, release);
+    format_log_writer::append(log, size as usize, release);
     server_apply::apply_released(s, release, size + constants::RELEASE_SIZE_U64);
 }
 

@@ -11,6 +11,7 @@ ghost use Rattle.refusals.specs.Numbers.{refusal_of, answered};
 ghost use Rattle.server_memory.specs.Memory.{settled_by};
 ghost use Rattle.server_moves.specs.Taking.{Taking};
 
+use format_log_writer::Take;
 use model::{ImageHead, constants};
 use refusals::Refusal;
 use state_records::ids;
@@ -65,7 +66,7 @@ fn take_done(s: &mut [u8], log: &mut [u8], image: &[u8], h: ImageHead)
         ≡ settle s.old log.old [] (append (took (image_at h image.now))) }
 {
     let size = state::size_of(s);
-    format_log_writer::append_take(log, size as usize, image);
+    format_log_writer::append(log, size as usize, Take { image });
     let end = size + constants::TAKE_HEAD_U64 + image.len() as u64;
     server_apply::took::apply_took(s, image, h, end);
 }

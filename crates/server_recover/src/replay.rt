@@ -34,11 +34,11 @@ fn replay_record(s: &mut [u8], log: &[u8], at: usize, n: usize) -> bool
     };
     let end = (at + n) as u64;
     match found {
-        Record::Executed(executed) => server_replay::executed::replay_executed(s, executed, end),
-        Record::Gone(notice) => server_replay::gone::replay_gone(s, notice, end),
-        Record::Gave(g) => server_replay::gave::replay_gave(s, g, end),
+        Record::Executed(executed) => server_replay::replay(s, executed, end),
+        Record::Gone(notice) => server_replay::replay(s, notice, end),
+        Record::Gave(g) => server_replay::replay(s, g, end),
         Record::Took(span) => replay_image(s, log, span.from, span.from + span.len, end),
-        Record::Released(release) => server_replay::released::replay_released(s, release, end),
+        Record::Released(release) => server_replay::replay(s, release, end),
     }
 }
 

@@ -5,35 +5,32 @@ ghost use Rattle.model.specs.Logs.{executed};
 ghost use Rattle.model.specs.States.{load};
 ghost use Rattle.model.specs.Decisions.{follows};
 ghost use Rattle.state_rows.specs.Canonical.{Canonical};
-ghost use Rattle.server_replay.specs.Standing.{Ready, ReplayedBy};
 
+use crate::Replayed;
 use model::Executed;
 use model::constants::EXECUTED_SIZE;
 use state_records::ids;
 use state_rows::state;
 
-fn executed_follows(s: &[u8], execution: Executed) -> bool
-    requires { Canonical s.now × (execution.command.point ≤ last_point) }
-    ensures { result ≡ follows (load s.now) (executed execution) }
-{
-    let x = state::point_at(s, execution.command.point);
-    let e = state::entry_at(s, execution.command.point);
-    let floor = state_clients::floor_in(s, execution.command.client);
-    let fresh = ids::is_missing(s, execution.command.client, execution.command.call);
-    let clients = state::clients_of(s);
-    let asked = server_decide::request_refusal(x, false, floor, execution.command.call);
-    let new = server_decide::new_refusal(floor, clients, EXECUTED_SIZE);
-    let in_range = format_numbers::in_range(e, execution.result.value);
-    asked.is_ok() & (fresh & (new.is_ok() & in_range))
-}
+impl Replayed for Executed {
+    ghost log_record = { executed };
 
-pub fn replay_executed(s: &mut [u8], execution: Executed, end: u64) -> bool
-    requires { Ready s.old (executed execution) end }
-    ensures { ReplayedBy (executed execution) end s.old s.new result }
-{
-    if !executed_follows(s, execution) {
-        return false;
+    fn follows(self, s: &[u8]) -> bool
+        requires { Canonical s.now × (self.command.point ≤ last_point) }
+        ensures { result ≡ follows (load s.now) (executed self) }
+    {
+        let x = state::point_at(s, self.command.point);
+        let e = state::entry_at(s, self.command.point);
+        let floor = state_clients::floor_in(s, self.command.client);
+        let fresh = ids::is_missing(s, self.command.client, self.command.call);
+        let clients = state::clients_of(s);
+        let asked = server_decide::request_refusal(x, false, floor, self.command.call);
+        let new = server_decide::new_refusal(floor, clients, EXECUTED_SIZE);
+        let in_range = format_numbers::in_range(e, self.result.value);
+        asked.is_ok() & (fresh & (new.is_ok() & in_range))
     }
-    server_apply::apply_executed(s, execution, end);
-    true
+
+    fn apply(self, s: &mut [u8], end: u64) {
+        server_apply::apply_executed(s, self, end);
+    }
 }

@@ -22,7 +22,7 @@ fn noticed(s: &mut [u8], log: &mut [u8], notice: Notice) -> Result<u32, Refusal>
     let free = server_memory::free_in(s, log);
     server_decide::notice_refusal(floor, free)?;
     let size = state::size_of(s);
-    format_log_writer::append_gone(log, size as usize, notice);
+    format_log_writer::append(log, size as usize, notice);
     server_apply::apply_gone(s, notice, size + constants::GONE_SIZE_U64);
     Ok(0)
 }

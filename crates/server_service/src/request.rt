@@ -129,7 +129,7 @@ fn execute(s: &mut [u8], log: &mut [u8], executed: Executed)
     ensures { Executes executed s.old log.old s.new log.new }
 {
     let size = state::size_of(s);
-    format_log_writer::append_executed(log, size as usize, executed);
+    format_log_writer::append(log, size as usize, executed);
     server_apply::apply_executed(s, executed, size + constants::EXECUTED_SIZE_U64);
 }
 

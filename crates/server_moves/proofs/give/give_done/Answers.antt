@@ -12,4 +12,4 @@ overflow_add-g c =
 pub returns : goal.returns
 returns c =
     let a = c.args in give_settled a.s.now a.log.now a.point a.destination c.point_at-x.ensures c.size_of-size.ensures c.apply_gave.ensures
-    c.append_give.ensures
+    c.append.ensures

@@ -3,8 +3,8 @@ use native.Mathlib.Omega.{arith}
 use Rattle.server_moves.proofs.Taken.{take-room, take_bounds, take_settled}
 use Rattle.server_moves.proofs.take.take_done.Goals as goal
 
-pub append_take-requires : goal.append_take-requires
-append_take-requires c =
+pub append-requires : goal.append-requires
+append-requires c =
     let a = c.args in (c.requires.0.ok, omega (arith, c.size_of-size.ensures, take-room a.s.now a.log.now a.image.now a.h c.requires.0 c.requires.1))
 
 pub apply_took-requires : goal.apply_took-requires
@@ -21,4 +21,4 @@ apply_took-requires c =
 pub returns : goal.returns
 returns c =
     let a = c.args in take_settled a.s.now a.log.now a.image.now a.h c.requires.0 c.size_of-size.ensures c.apply_took.ensures
-    c.append_take.ensures
+    c.append.ensures

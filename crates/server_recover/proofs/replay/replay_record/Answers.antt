@@ -40,17 +40,17 @@ replayed-at c r q e = let a = c.args in replayed_by a.s.now a.log.now a.at (c.ar
 pub overflow_add-end : goal.overflow_add-end
 overflow_add-end c = omega (arith, from_inside _ _ _ c.requires.1)
 
-pub replay_executed-requires : goal.replay_executed-requires
+pub replay-requires : goal.replay-requires
 unfolding record_means
-replay_executed-requires c = ready_at (goal.at.replay_executed-requires c).In-Some _ (says (goal.at.replay_executed-requires c).In-Some c.in-Executed.is)
+replay-requires c = ready_at (goal.at.replay-requires c).In-Some _ (says (goal.at.replay-requires c).In-Some c.in-Executed.is)
 
-pub replay_gone-requires : goal.replay_gone-requires
+pub replay-requires-in-Gone : goal.replay-requires-in-Gone
 unfolding record_means
-replay_gone-requires c = ready_at (goal.at.replay_gone-requires c).In-Some _ (says (goal.at.replay_gone-requires c).In-Some c.in-Gone.is)
+replay-requires-in-Gone c = ready_at (goal.at.replay-requires-in-Gone c).In-Some _ (says (goal.at.replay-requires-in-Gone c).In-Some c.in-Gone.is)
 
-pub replay_gave-requires : goal.replay_gave-requires
+pub replay-requires-in-Gave : goal.replay-requires-in-Gave
 unfolding record_means
-replay_gave-requires c = ready_at (goal.at.replay_gave-requires c).In-Some _ (says (goal.at.replay_gave-requires c).In-Some c.in-Gave.is)
+replay-requires-in-Gave c = ready_at (goal.at.replay-requires-in-Gave c).In-Some _ (says (goal.at.replay-requires-in-Gave c).In-Some c.in-Gave.is)
 
 pub overflow_add-span : goal.overflow_add-span
 overflow_add-span c = omega (arith, (image-at (goal.at.overflow_add-span c).In-Some c.in-Took.is).to)
@@ -60,9 +60,9 @@ replay_image-requires c =
     let i = image-at (goal.at.replay_image-requires c).In-Some c.in-Took.is in
     (i.from, i.to, ready_at (goal.at.replay_image-requires c).In-Some _ i.says, i.ok)
 
-pub replay_released-requires : goal.replay_released-requires
+pub replay-requires-in-Released : goal.replay-requires-in-Released
 unfolding record_means
-replay_released-requires c = ready_at (goal.at.replay_released-requires c).In-Some _ (says (goal.at.replay_released-requires c).In-Some c.in-Released.is)
+replay-requires-in-Released c = ready_at (goal.at.replay-requires-in-Released c).In-Some _ (says (goal.at.replay-requires-in-Released c).In-Some c.in-Released.is)
 
 pub returns-in_default : goal.returns-in_default
 unfolding record_means
@@ -72,17 +72,17 @@ returns-in_default c =
 pub returns-in-Executed : goal.returns-in-Executed
 unfolding record_means
 returns-in-Executed c =
-    replayed-at (goal.at.returns-in-Executed c).In-Some _ (says (goal.at.returns-in-Executed c).In-Some c.in-Executed.is) c.replay_executed.ensures
+    replayed-at (goal.at.returns-in-Executed c).In-Some _ (says (goal.at.returns-in-Executed c).In-Some c.in-Executed.is) c.replay.ensures
 
 pub returns-in-Gone : goal.returns-in-Gone
 unfolding record_means
 returns-in-Gone c =
-    replayed-at (goal.at.returns-in-Gone c).In-Some _ (says (goal.at.returns-in-Gone c).In-Some c.in-Gone.is) c.replay_gone.ensures
+    replayed-at (goal.at.returns-in-Gone c).In-Some _ (says (goal.at.returns-in-Gone c).In-Some c.in-Gone.is) c.replay-in-Gone.ensures
 
 pub returns-in-Gave : goal.returns-in-Gave
 unfolding record_means
 returns-in-Gave c =
-    replayed-at (goal.at.returns-in-Gave c).In-Some _ (says (goal.at.returns-in-Gave c).In-Some c.in-Gave.is) c.replay_gave.ensures
+    replayed-at (goal.at.returns-in-Gave c).In-Some _ (says (goal.at.returns-in-Gave c).In-Some c.in-Gave.is) c.replay-in-Gave.ensures
 
 pub returns-in-Took : goal.returns-in-Took
 returns-in-Took c =
@@ -91,4 +91,4 @@ returns-in-Took c =
 pub returns-in-Released : goal.returns-in-Released
 unfolding record_means
 returns-in-Released c =
-    replayed-at (goal.at.returns-in-Released c).In-Some _ (says (goal.at.returns-in-Released c).In-Some c.in-Released.is) c.replay_released.ensures
+    replayed-at (goal.at.returns-in-Released c).In-Some _ (says (goal.at.returns-in-Released c).In-Some c.in-Released.is) c.replay-in-Released.ensures

@@ -16,9 +16,9 @@ returns-in_err-notice_refusal c =
     (by_refused start.s.now start.log.now [] _ _ (c.in_err-notice_refusal.ensures ∙ rw (c.floor_in-floor.ensures, c.free_in-free.ensures)) _
     c.from_residual.ensures.1)
 
-pub append_gone-requires : goal.append_gone-requires
+pub append-requires : goal.append-requires
 unfolding free_in
-append_gone-requires c =
+append-requires c =
     omega (arith, c.requires.1, c.free_in-free.ensures, c.size_of-size.ensures, notice-room _ _ c.in_ok-notice_refusal.ensures)
 
 pub returns : goal.returns
@@ -28,4 +28,4 @@ returns c =
     notice_by start.s.now start.log.now start.notice
     (by_passed start.s.now start.log.now [] _ (c.in_ok-notice_refusal.ensures ∙ rw (c.floor_in-floor.ensures, c.free_in-free.ensures))
     (appended start.s.now start.log.now [] (gone start.notice) (c.apply_gone.ensures ∙ rw c.size_of-size.ensures)
-    (c.append_gone.ensures ∙ rw c.size_of-size.ensures)))
+    (c.append.ensures ∙ rw c.size_of-size.ensures)))
