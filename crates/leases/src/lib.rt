@@ -69,16 +69,14 @@ fn must_clear(now: u32, lease: Lease) -> bool
 
 // ---- the 32 places
 
-// Not inlined: the compiler makes it wide, and three calls of C would have it twice each.
+// The ended leases are cleared. Not inlined: the compiler makes it wide, and three calls of C would have it twice each.
 #[inline(never)]
-fn running_at(now: u32, ls: [Lease; LEASE_COUNT]) -> [Lease; LEASE_COUNT]
-    ensures { result ≡ running_at now ls }
+fn clear_ended(now: u32, ls: &mut [Lease; LEASE_COUNT])
+    ensures { ls.new ≡ running_at now ls.old }
 {
-    let mut out = ls;
-    for lease in &mut out {
+    for lease in ls.iter_mut() {
         *lease = ended_at(now, *lease);
     }
-    out
 }
 
 // Whether any place must be cleared. Without an exit from the loop, so that it is compiled to a few wide steps.
@@ -126,10 +124,11 @@ fn span_ok(span: u32) -> bool
 fn kept_at(m: LeaseManager, ended: bool, now: u32) -> [Lease; LEASE_COUNT]
     ensures { result ≡ kept_at m ended now }
 {
+    let mut leases = m.leases;
     if ended {
-        return running_at(now, m.leases);
+        clear_ended(now, &mut leases);
     }
-    m.leases
+    leases
 }
 
 // What is made of the leases that run. ended: whether they are not those of the manager, since some have ended.
@@ -141,11 +140,12 @@ fn among_running<A, F: FnOnce([Lease; LEASE_COUNT], bool) -> A>(
     requires { F.IsAlwaysCallable make }
     ensures { (ls : List Lease) × (ended : Bool) × RunningAt m now ls ended × F.post make ls ended result }
 {
-    let held = m.leases;
-    if some_ended(now, held) {
-        return make(running_at(now, held), true);
+    let mut held = m.leases;
+    let ended = some_ended(now, held);
+    if ended {
+        clear_ended(now, &mut held);
     }
-    make(held, false)
+    make(held, ended)
 }
 
 // The manager with what changes.

@@ -1,10 +1,15 @@
 -- What is left to show of `leases::among_running`.
-use mathlib.Core.Bool.{true, false}
+use Rattle.leases.specs.Changes.{RunningAt}
 use Rattle.leases.proofs.Answers.{running_in, running_all}
 use Rattle.leases.proofs.among_running.Goals as goal
-
-pub returns-then-some_ended : goal.returns-then-some_ended
-returns-then-some_ended g c = (c.running_at.result, true, running_in _ _ c.running_at.ensures c.some_ended.ensures.1, c.make.ensures)
+use Rattle.leases.proofs.among_running.Goals.{then-ended, else-ended}
 
 pub returns : goal.returns
-returns g c = (c.args.m.leases, false, running_all _ _ (c.some_ended.ensures.0 c.if-some_ended.false) c.some_ended.ensures.1, c.make-2.ensures)
+returns g c =
+    let e = c.some_ended-ended in
+    let run : RunningAt c.args.m c.args.now c.if-ended.held e.result =
+    elim c.if-ended.branch [
+      | then-ended w ↦ rw (w.if-ended.true, w.held-is) (running_in _ _ w.clear_ended.ensures e.ensures.1)
+      | else-ended w ↦ rw (w.if-ended.false, w.held-is) (running_all _ _ (e.ensures.0 w.if-ended.false) e.ensures.1)
+    ]
+    in (c.if-ended.held, e.result, run, c.make.ensures)
