@@ -2,13 +2,13 @@
 --     begun-off, begun-founded      founding for the server of the log's head
 --     tail-off, tail_none, tail-other, begun-tail     the state of a checkpoint, of the same server
 --     ended-standing, no_ends, no_replay, rebuilt_done     what the log gives on it
---     settled, no_state, settled-rebuilt     what is left of the lent state
+--     settled_no, settled_done, rebuilt-canonical, no_state, settled-rebuilt     what is left of the lent state
 --     recover-refused, long-passed, plan-passed, recover-done     the answers of the operation on a log
 --     tail-refused, tail-long, tail-done     and on a checkpoint and its tail
 -- Assumes nothing.
 use Prim.Native.Nat.{ℕ, ◌+◌, ◌≤◌}
 use mathlib.Core.Path.{◌≡◌, refl, sym, ap, ◌∙◌}
-use mathlib.Core.Bool.{Bool, true, false, not}
+use mathlib.Core.Bool.{Bool, true, false, not, false≢true}
 use mathlib.Core.List.{List, []}
 use mathlib.Core.Option.{Option, none, some}
 use native.Mathlib.Omega.{arith}
@@ -16,10 +16,11 @@ use lib.ListN.{length, take}
 use lib.Dec.{eqb, ltb}
 use borrow.Author.Tests.{ltb-false, eq-eqb, ne_eqb, not-false}
 use Rattle.std.specs.Prelude.{Result, Ok, Err}
-use Rattle.std.specs.Result.{IsErrAnd}
+use Rattle.std.specs.Result.{IsErrAnd, is_ok}
+use Rattle.model.specs.declared.Answer.{Answer}
 use Rattle.model.specs.Choice.{pick}
 use Rattle.model.specs.Limits.{state_size, head_size}
-use Rattle.model.specs.Refusals.{malformed, too_short, no_refusal}
+use Rattle.model.specs.Refusals.{malformed, too_short, bad_log, no_refusal}
 use Rattle.model.specs.Tables.{written}
 use Rattle.model.specs.Plan.{plan_ok, plan_of}
 use Rattle.model.specs.Logs.{head_ok, head_server, ends_of}
@@ -45,12 +46,12 @@ use Rattle.model_invariants.proofs.Loaded.{plan-good, loaded_sound}
 use Rattle.model_invariants.proofs.Restored.{checkpoint-size}
 use Rattle.state_rows.proofs.Chains.{canonical-sound, canonical-stored, load_stored, fits-mark}
 use Rattle.state_rows.specs.Canonical.{Canonical}
-use Rattle.state_restore.specs.Restored.{RestoredBy}
+use Rattle.state_restore.specs.Restored.{state_in, RestoredBy}
 use Rattle.state_restore.proofs.Answers.{restored-none, restored-some}
 use Rattle.format_log_ends.specs.Walked.{ends_from}
 use Rattle.server_replay.specs.Standing.{Standing}
 use Rattle.server_recover.specs.Remaining.{remaining_to, remaining, Ended}
-use Rattle.server_recover.specs.Rebuilt.{Begun, marked, Rebuilt}
+use Rattle.server_recover.specs.Rebuilt.{Begun, marked, Rebuilt, settled_state}
 
 -- ---- founding
 
@@ -177,10 +178,24 @@ state-bytes_of s w =
     ∙ ap (λ (x : List ℕ). take (0 + length (state_bytes (load s))) x) (sym w.same)
     ∙ take-written-run s 0 (state_bytes (load s)) (omega (arith, state-within (load s) w.fits, w.long))
 
-pub settled : (state work : List ℕ) {state' : List ℕ} {n : ℕ} → Canonical work → n ≡ length (load work).records → state' ≡ written state 0 (part 0 (records_end n) work)
-    → state' ≡ stored state (load work)
-unfolding stored
-settled state work w e c = rw (c, e, state-bytes_of work w)
+module _ (state work : List ℕ) (t : Bool) where
+  pub settled_no : t ≡ false → after (answer_of bad_log 0) state [] [] ≡ settled_state state [] (state_in t work)
+  unfolding settled_state state_in settle
+  settled_no q = rw q refl
+
+  pub settled_done : {state' : List ℕ} {n : ℕ} → t ≡ true → Canonical work → n ≡ length (load work).records → state' ≡ written state 0 (part 0 (records_end n) work)
+      → after (answer_of no_refusal 0) state' [] [] ≡ settled_state state [] (state_in t work)
+  unfolding settled_state state_in stored
+  settled_done q w e c = rw (q, c, e, state-bytes_of work w)
+
+-- by whether there is one
+pub rebuilt-canonical : {A : Type 0} {o : Option State} {s : List ℕ} {t : Bool} (r : Result A Refusal) → t ≡ is_ok r → Rebuilt o s r → t ≡ true → Canonical s
+rebuilt-canonical (Ok x) e p q = p.rebuilt.1
+rebuilt-canonical (Err x) e p q = absurd (false≢true (sym e ∙ q))
+
+-- with the log as it was
+beside : List ℕ → After → After
+beside log x = after x.answer x.state log x.out
 
 module _ (state log : List ℕ) {o : Option State} where
   -- 14, where a step found no state
@@ -188,10 +203,11 @@ module _ (state log : List ℕ) {o : Option State} where
   unfolding settle_recovered settle
   no_state p r h = rw (exit r h, p.0, p.1)
 
-  pub settled-rebuilt : {A : Type 0} {x : A} {s state' : List ℕ} → Rebuilt o s (Ok x) → state' ≡ stored state (load s)
-      → after (answered (Ok 0)) state' log [] ≡ settle_recovered state log o
-  unfolding settle_recovered marked
-  settled-rebuilt {s = s} p e = rw e (on o p.rebuilt.0)
+  pub settled-rebuilt : {A : Type 0} {t : Bool} (r : Result A Refusal) {s state' : List ℕ} {a : Answer} → t ≡ is_ok r → Rebuilt o s r
+      → after a state' [] [] ≡ settled_state state [] (state_in t s) → after a state' log [] ≡ settle_recovered state log o
+  unfolding settled_state state_in settle_recovered settle marked beside
+  settled-rebuilt (Err x) e p q = rw p.rebuilt.1 (ap (beside log) (rw e at q))
+  settled-rebuilt (Ok x) {s = s} e p q = ap (beside log) (rw e at q) ∙ on o p.rebuilt.0
     where
       on : (u : Option State) → some (load s) ≡ marked u → after (answer_of no_refusal 0) (stored state (load s)) log [] ≡ settle_recovered state log u
       on none q = cc

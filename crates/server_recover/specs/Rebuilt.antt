@@ -1,11 +1,13 @@
--- A recovery begun; and the state that it gives, with the mark at the end of the records.
+-- A recovery begun; the state that it gives, with the mark at the end of the records; and what is left of the lent state.
 -- Assumes nothing.
-use Rattle.std.specs.Prelude.{ℕ, ◌≡◌, List, Result, Ok, Err}
+use Rattle.std.specs.Prelude.{ℕ, ◌≡◌, List, [], Result, Ok, Err}
 use Rattle.std.proofs.Math.Option.{Option, none, some}
+use Rattle.model.specs.Choice.{refuse}
 use Rattle.model.specs.Limits.{head_size}
+use Rattle.model.specs.Refusals.{bad_log, no_refusal}
 use Rattle.model.specs.States.{State, load}
 use Rattle.model.specs.Apply.{with_mark}
-use Rattle.model.specs.Operations.{recovered_on}
+use Rattle.model.specs.Operations.{After, after, answer_of, settle, stored, recovered_on}
 use Rattle.model.specs.declared.Refusal.{Refusal}
 use Rattle.model.specs.declared.Refusal.TheVariants.{BadLog}
 use Rattle.state_rows.specs.Canonical.{Canonical}
@@ -32,3 +34,8 @@ RebuiltAs o s (Err e) = (e ≡ BadLog) × (o ≡ none)
 
 pub record Rebuilt {A : Type 0} (o : Option State) (s : List ℕ) (r : Result A Refusal) : Type 0 where
   pub rebuilt : RebuiltAs o s r
+
+-- 14, or the state in the lent buffer
+unfoldable pub settled_state : List ℕ → List ℕ → Option State → After
+settled_state state log none = settle state log [] (refuse bad_log)
+settled_state state log (some st) = after (answer_of no_refusal 0) (stored state st) log []
