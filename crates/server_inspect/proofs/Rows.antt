@@ -2,7 +2,7 @@
 --     row_id                                  the test of the row at a place
 --     among                                   the place by the index
 --     first_row                               the index, by a search over the indices of the rows
---     below-some, placed-below                what it leaves known, and the place by it
+--     placed-below                            the place by it
 -- Assumes nothing.
 use Prim.Native.Nat.{ℕ, zero, suc, ◌+◌, ◌*◌, ◌≤◌, ◌<◌}
 use mathlib.Core.Path.{◌≡◌, refl}
@@ -11,8 +11,8 @@ use mathlib.Core.List.{List}
 use native.Mathlib.Omega.{arith}
 use native.Mathlib.Nat.{add-zero}
 use native.Mathlib.Numerals.{add-one}
-use borrow.Author.Tests.{lt-ltb, le-ltb, ltb-true}
-use Rattle.std.specs.Prelude.{Option, Some, None, IfSome, MatchOption}
+use borrow.Author.Tests.{lt-ltb, le-ltb}
+use Rattle.std.specs.Prelude.{Option, Some, None, MatchOption}
 use lib.ListN.{drop}
 use lib.Dec.{eqb, ltb}
 use Rattle.model.specs.declared.Place.{Place}
@@ -58,16 +58,10 @@ module _ (t : List ℕ → Bool) (w at n : ℕ) (s : List ℕ) where
       rw (← e, lt-ltb i n h.1)
 
 module _ (n k : ℕ) where
-  pub below-some : {o : Option ℕ} → o ≡ below n k → IfSome o (λ i. i < n)
-  below-some e = rw e (go (ltb k n) refl)
+  pub placed-below : (f : ℕ → Place) (found : Place) {o : Option ℕ} {r : Place} → o ≡ below n k → MatchOption o (r ≡ found) (λ i. r ≡ pick (ltb i n) (f i) found)
+      → r ≡ pick (ltb k n) (f k) found
+  placed-below f found {o} {r} e h = go (ltb k n) refl (rw e at h)
     where
-      go : (b : Bool) → ltb k n ≡ b → IfSome (pick b (Some k) None) (λ i. i < n)
-      go true t = ltb-true k n t
-      go false t = tt
-
-  pub placed-below : (f : ℕ → Place) (found : Place) {o : Option ℕ} {r : Place} → o ≡ below n k → MatchOption o (r ≡ found) (λ i. r ≡ f i) → r ≡ pick (ltb k n) (f k) found
-  placed-below f found {o} {r} e h = go (ltb k n) (rw e at h)
-    where
-      go : (b : Bool) → MatchOption (pick b (Some k) None) (r ≡ found) (λ i. r ≡ f i) → r ≡ pick b (f k) found
-      go true q = q
-      go false q = q
+      go : (b : Bool) → ltb k n ≡ b → MatchOption (pick b (Some k) None) (r ≡ found) (λ i. r ≡ pick (ltb i n) (f i) found) → r ≡ pick b (f k) found
+      go true t q = rw t at q
+      go false t q = q

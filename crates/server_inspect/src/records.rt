@@ -1,5 +1,6 @@
 // The places of an id: among rows of a table, in one record of a log, and the last of them in a whole log.
-ghost use Rattle.std.specs.Prelude.{◌≡◌, true, ◌+◌, ◌*◌, ◌≤◌, ◌<◌, length, drop, IfSome, MatchOption};
+ghost use Rattle.std.specs.Prelude.{◌≡◌, true, ◌+◌, ◌*◌, ◌≤◌, ◌<◌, length, drop, ltb, MatchOption};
+ghost use Rattle.model.specs.Choice.{pick};
 ghost use Rattle.model.specs.Numbers.{word};
 ghost use Rattle.std.proofs.Math.Option.{some};
 ghost use Rattle.model.specs.Limits.{head_size};
@@ -56,8 +57,8 @@ pub fn index_of(
     (0..n).find(|i| is_row_id(s, at + width * *i, client, call))
 }
 
-// The row of an index of n rows of width bytes from at, or `found` where there is none.
-pub(crate) fn place_of(
+// The row of an index of n rows of width bytes from at, or `found` where there is none or the index is none of theirs.
+pub fn place_of(
     source: u32,
     at: usize,
     width: usize,
@@ -65,11 +66,16 @@ pub(crate) fn place_of(
     index: Option<usize>,
     found: Place,
 ) -> Place
-    requires { (at + width * n < word * word) × IfSome index (λ i. i < n) }
-    ensures { MatchOption index (result ≡ found) (λ i. result ≡ place_at source (at + width * i) width) }
+    requires { at + width * n < word * word }
+    ensures { MatchOption index (result ≡ found) (λ i. result ≡ pick (ltb i n) (place_at source (at + width * i) width) found) }
 {
     match index {
-        Some(i) => place_at(source, at + width * i, width),
+        Some(i) => {
+            if i < n {
+                return place_at(source, at + width * i, width);
+            }
+            found
+        }
         None => found,
     }
 }

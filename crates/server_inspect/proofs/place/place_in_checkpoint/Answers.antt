@@ -4,7 +4,7 @@ use native.Mathlib.Omega.{arith}
 use Rattle.model.specs.Checkpoints.{records_of}
 use Rattle.model_laws.proofs.Fronts.{record-width}
 use Rattle.model_laws.proofs.Checkpoints.{framed_is}
-use Rattle.server_inspect.proofs.Rows.{below-some, placed-below}
+use Rattle.server_inspect.proofs.Rows.{placed-below}
 use Rattle.server_inspect.proofs.Holding.{held_nowhere, held-within, held_at}
 use Rattle.server_inspect.proofs.place.place_in_checkpoint.Goals as goal
 
@@ -45,7 +45,7 @@ unfolding records_of
 place_of-requires c =
     let f = framed_is c.args.checkpoint.now (c.requires (omega (arith, c.if-checkpoint-eq0.false))) in
     let w = held-within f (c.records_of-n.ensures ∙ rw c.record_width-width.ensures) c.clients_of-clients.ensures in
-    (rw c.record_width-width.ensures (omega (arith, w)), below-some _ _ c.index_of-i.ensures)
+    rw c.record_width-width.ensures (omega (arith, w))
 
 pub returns : goal.returns
 unfolding records_of

@@ -3,7 +3,7 @@ use mathlib.Core.Path.{refl}
 use native.Mathlib.Omega.{arith}
 use Rattle.model_laws.proofs.Images.{row_least, entries-within}
 use Rattle.format_image_reader.proofs.Whole.{ok-least, ok-size}
-use Rattle.server_inspect.proofs.Rows.{below-some, placed-below}
+use Rattle.server_inspect.proofs.Rows.{placed-below}
 use Rattle.server_inspect.proofs.Latest.{image-place}
 use Rattle.server_inspect.proofs.records.place_in_image.Goals as goal
 
@@ -28,13 +28,10 @@ overflow_add-from c = omega (
 )
 
 pub place_of-requires : goal.place_of-requires
-place_of-requires c = (
-  omega (
-    arith,
-    (entries-within c.head_from-h.result (ok-size c.args.image.now c.requires.0 c.head_from-h.ensures) c.entry_width-width.ensures c.entries_start-at.ensures).1,
-    c.requires.1,
-  ),
-  below-some _ _ c.index_of-i.ensures,
+place_of-requires c = omega (
+  arith,
+  (entries-within c.head_from-h.result (ok-size c.args.image.now c.requires.0 c.head_from-h.ensures) c.entry_width-width.ensures c.entries_start-at.ensures).1,
+  c.requires.1,
 )
 
 pub returns : goal.returns
