@@ -2,12 +2,12 @@
 --     letter_one, letter_other                       the letter of a field
 --     reading-start, -off, -next, -end               the numbers of the fields, one after the other
 --     fields_start, fields_next, fields_end          and of the fields that an iterator gives
---     lines_by                                       the line of a letter and its numbers
+--     lines_by, line_chosen                          the line of a letter and its numbers
 --     argument-none, -minus, -plain                  a signed number
 -- Assumes nothing.
-use Prim.Native.Nat.{ℕ, suc, ◌+◌, ◌≤◌, ◌<◌}
+use Prim.Native.Nat.{ℕ, zero, suc, ◌+◌, ◌≤◌, ◌<◌}
 use mathlib.Core.Path.{◌≡◌, refl, sym, ap, ◌∙◌}
-use mathlib.Core.Bool.{Bool, true, false}
+use mathlib.Core.Bool.{Bool, true, false, ◌&&◌}
 use mathlib.Core.List.{List, [], ◌∷◌, ◌++◌, append_assoc, append-nil}
 use mathlib.Core.Option.{Option, none, some}
 use Rattle.std.specs.Prelude as std
@@ -18,14 +18,14 @@ use Rattle.std.proofs.lemmas.Iterator.{YieldsList}
 use denote.Ref.{Bor}
 use native.Mathlib.Omega.{arith}
 use native.Mathlib.Numerals.{add-one}
-use lib.Dec.{eqb, ltb}
+use lib.Dec.{eqb, leb, ltb}
 use lib.ListN.{length, take, drop, get_or}
 use lib.Seq.{sets}
-use borrow.Author.Tests.{eq-eqb, ne_eqb, eqb-true, ltb-true}
+use borrow.Author.Tests.{eq-eqb, ne_eqb, eqb-true, lt-leb, ltb-true}
 use Rattle.model.specs.Choice.{pick}
 use Rattle.model.specs.Tables.{written}
 use Rattle.model.specs.Simulator as simulator
-use Rattle.model.specs.Simulator.{number_in, argument_in, negative, positive, letter_in, letter_line, line_by, field_in, and_then, numbers_from, fields_from}
+use Rattle.model.specs.Simulator.{number_in, argument_in, negative, positive, letter_in, letter_line, line_by, field_in, and_then, numbers_from, line_with, fields_from}
 use Rattle.model.specs.Letters.{space, minus, issue_letter, sync_letter, give_letter}
 use Rattle.model_laws.proofs.Written.{written-sets, length-written, take-written-run}
 use Rattle.simulator_text.specs.Values.{most_numbers}
@@ -177,6 +177,37 @@ line_by_more c (a ∷ b ∷ d ∷ []) h = absurd (omega arith)
 line_by_more c (a ∷ b ∷ d ∷ e ∷ []) h = absurd (omega arith)
 
 pub ruleset lines_by = (line_by_none, line_by_one, line_by_two, line_by_three, line_by_four, line_by_more)
+
+-- the same as tests one after the other, for four numbers of which the first n are the line's
+abbrev pub chosen : ℕ → ℕ → List ℕ → simulator.Line
+chosen c n ns =
+    pick (eqb n 1 && eqb c sync_letter) (simulator.sync (get_or ns 0 0)) (pick (eqb n 2) (letter_line c (get_or ns 0 0) (get_or ns 1 0))
+    (pick (eqb n 3 && eqb c give_letter) (simulator.give (get_or ns 0 0) (get_or ns 1 0) (get_or ns 2 0))
+    (pick (eqb n 4 && eqb c issue_letter) (simulator.issue (get_or ns 0 0) (get_or ns 1 0) (get_or ns 2 0) (get_or ns 3 0)) simulator.unreadable)))
+
+-- the first n of them, none where there are more
+abbrev pub counted : ℕ → List ℕ → Option (List ℕ)
+counted n ns = pick (leb n most_numbers) (some (take n ns)) none
+
+line_of_four : (c n a b d e : ℕ) → chosen c n (a ∷ b ∷ d ∷ e ∷ []) ≡ line_with c (counted n (a ∷ b ∷ d ∷ e ∷ []))
+unfolding line_with line_by
+line_of_four c zero a b d e = refl
+line_of_four c (suc zero) a b d e = refl
+line_of_four c (suc (suc zero)) a b d e = refl
+line_of_four c (suc (suc (suc zero))) a b d e = refl
+line_of_four c (suc (suc (suc (suc zero)))) a b d e = refl
+line_of_four c (suc (suc (suc (suc (suc n))))) a b d e =
+    let m : ℕ = suc (suc (suc (suc (suc n)))) in
+    let other : (k : ℕ) → k ≤ most_numbers → eqb m k ≡ false = λ k h. ne_eqb m k (λ g. omega arith) in
+    rw (lt-leb m most_numbers (omega arith), other 1 (omega arith), other 2 (omega arith), other 3 (omega arith), other 4 (omega arith)) refl
+
+pub line_chosen : (c n : ℕ) (ns : List ℕ) {l : simulator.Line} → length ns ≡ most_numbers → l ≡ chosen c n ns → l ≡ line_with c (counted n ns)
+line_chosen c n (a ∷ b ∷ d ∷ e ∷ []) h p = p ∙ line_of_four c n a b d e
+line_chosen c n [] h p = absurd (omega arith)
+line_chosen c n (a ∷ []) h p = absurd (omega arith)
+line_chosen c n (a ∷ b ∷ []) h p = absurd (omega arith)
+line_chosen c n (a ∷ b ∷ d ∷ []) h p = absurd (omega arith)
+line_chosen c n (a ∷ b ∷ d ∷ e ∷ g ∷ ns) h p = absurd (omega arith)
 
 -- ---- a signed number
 
