@@ -1,5 +1,7 @@
 -- What is left to show of `chamber_c::mantelorris_chamber_start`.
+use mathlib.Core.Path.{ap, ◌∙◌}
 use Rattle.std.proofs.lemmas.Result.{OkIff-at_ok, OkIff-at_err}
+use Rattle.chamber_c.specs.Replies.{start_reply_in}
 use Rattle.chamber_c.proofs.Past.{five, points-past}
 use Rattle.chamber_c.proofs.mantelorris_chamber_start.Goals.{in_default-via-in-Ok+in-Ok+in-Ok+in-Ok+in_default, in_default-via-in-Ok+in-Ok+in-Ok+in_default, in_default-via-in-Ok+in-Ok+in_default, in_default-via-in-Ok+in_default, in_default-via-in_default}
 use Rattle.chamber_c.proofs.mantelorris_chamber_start.Goals as goal
@@ -25,4 +27,4 @@ returns c =
     let level1 = (OkIff-at_ok _ _ _ _ c.try_from-3.ensures bytes.is-2).1 in
     let level2 = (OkIff-at_ok _ _ _ _ c.try_from-4.ensures bytes.is-3).1 in
     let level3 = (OkIff-at_ok _ _ _ _ c.try_from-5.ensures bytes.is-4).1 in
-    rw (← upper, ← lower, ← level1, ← level2, ← level3, ← c.start.ensures) c.start_reply-2.ensures
+    rw (← upper, ← lower, ← level1, ← level2, ← level3) (c.start_reply-2.ensures ∙ ap start_reply_in c.start.ensures)

@@ -21,4 +21,4 @@ returns-then-holder-end c = rw (c.in_ok-holder.was, ← c.span_ok.ensures, c.if-
 pub returns : goal.returns
 unfolding granted_to grant_to
 returns c =
-    rw (c.in_ok-holder.was, ← c.span_ok.ensures, c.if-not-span_ok.false, ← c.time_at-now.ensures, c.if-holder-end.false, ← c.greater-lease.ensures) refl
+    rw (c.in_ok-holder.was, ← c.span_ok.ensures, c.if-not-span_ok.false, ← c.time_at-now.ensures, c.if-holder-end.false, c.greater-lease.ensures) refl
