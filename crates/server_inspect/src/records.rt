@@ -67,7 +67,8 @@ pub fn place_of(
     found: Place,
 ) -> Place
     requires { at + width * n < word * word }
-    ensures { MatchOption index (result ≡ found) (λ i. result ≡ pick (ltb i n) (place_at source (at + width * i) width) found) }
+    ensures { MatchOption index (result ≡ found)
+        (λ i. result ≡ pick (ltb i n) (place_at source (at + width * i) width) found) }
 {
     match index {
         Some(i) => {
