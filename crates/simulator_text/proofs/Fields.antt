@@ -1,5 +1,6 @@
 -- How a text falls apart, and the numbers in it.
---     first-found, line_feeds_lem           the place of a byte, and the line feeds of a text, in std's words
+--     first-found                           the place of a byte, in std's words
+--     counted_feed, counted-other, counted-end      the line feeds of a text, from a place on
 --     fields-last, fields-parts             the fields of a line, by the place of its first space
 --     fields-split                          and as the parts that `split` gives
 --     lines_next, lines_none                the lines of a text, by the place of its first line feed
@@ -17,12 +18,12 @@ use lib.Dec.{eqb, leb, ltb}
 use lib.ListN.{length, take, drop, get_or, drop_of_length-le}
 use borrow.Rule.Slice.PartMut.{mid_of}
 use lib.Seq.{drop-cons, take_all, append_snoc}
-use borrow.Author.Tests.{lt-leb, le-leb, leb-true, ltb-true, ltb-false}
+use borrow.Author.Tests.{eq-eqb, ne_eqb, lt-leb, le-leb, leb-true, ltb-true, ltb-false}
 use Rattle.std.specs.Prelude as std
 use Rattle.std.specs.Option.{unwrap_or}
-use Rattle.std.specs.List.{position_or_len, count_by, slice_split, onto_first, position}
+use Rattle.std.specs.List.{position_or_len, slice_split, onto_first, position}
 use Rattle.std.proofs.lemmas.List.Splits.{length-slice_split}
-use Rattle.std.proofs.lemmas.List.Recursion.{is_position_or_len, is_count_by}
+use Rattle.std.proofs.lemmas.List.Recursion.{is_position_or_len}
 use Rattle.model.specs.Choice.{pick}
 use Rattle.model.specs.Limits.{last32}
 use Rattle.model.specs.Simulator.{is_digit, digits_from, at_most, number_in, fields_from, line_of, end_line, lines_from}
@@ -35,7 +36,7 @@ pick_is : {A : Type 0} (t : Bool) (a b : A) → pick t a b ≡ cond t a b
 pick_is true a b = refl
 pick_is false a b = refl
 
--- ---- the place of a byte, and the line feeds of a text, in std's words
+-- ---- the place of a byte, in std's words
 
 pub first_of_lem : (x : ℕ) (s : List ℕ) → first_of x s ≡ position_or_len (λ b. eqb b x) s
 unfolding first_of
@@ -58,9 +59,28 @@ first-found x s {o} {n} p q = let e : n ≡ first_of x s = go (ltb (position_or_
         let m : n ≡ length s = p ∙ rw q (rw e refl) in
         omega (arith, first_length x s, first_of_lem x s)
 
-pub line_feeds_lem : (s : List ℕ) → line_feeds s ≡ count_by (λ b. eqb b line_feed) s
+-- ---- line feeds, from a place on: those before it are n
+
+abbrev pub Counted : List ℕ → ℕ → ℕ → Type 0
+Counted s n i = (i ≤ length s) × (n ≤ i) × (n + line_feeds (drop i s) ≡ line_feeds s)
+
+pub counted_feed : (s : List ℕ) (n i : ℕ) → Counted s n i → i < length s → get_or s i 0 ≡ line_feed → Counted s (n + 1) (i + 1)
 unfolding line_feeds
-line_feeds_lem s = is_count_by line_feeds (λ b. eqb b line_feed) refl (λ b t. pick_is (eqb b line_feed) _ _ ∙ ap (λ n. cond (eqb b line_feed) n (line_feeds t)) (omega arith)) s
+counted_feed s n i c h e =
+    let f : line_feeds (drop i s) ≡ suc (line_feeds (drop (i + 1) s)) = rw (add-one, drop-cons s i 0 h, eq-eqb (get_or s i 0) line_feed e) in
+    (omega arith, omega arith, omega arith)
+
+pub counted-other : (s : List ℕ) (n i : ℕ) → Counted s n i → i < length s → (get_or s i 0 ≡ line_feed → ⊥) → Counted s n (i + 1)
+unfolding line_feeds
+counted-other s n i c h e =
+    let f : line_feeds (drop i s) ≡ line_feeds (drop (i + 1) s) = rw (add-one, drop-cons s i 0 h, ne_eqb (get_or s i 0) line_feed e) in
+    (omega arith, omega arith, omega arith)
+
+pub counted-end : (s : List ℕ) (n i : ℕ) → Counted s n i → length s ≤ i → n ≡ line_feeds s
+unfolding line_feeds
+counted-end s n i c h =
+    let f : line_feeds (drop i s) ≡ 0 = rw (drop_of_length-le s h) in
+    omega arith
 
 -- ---- a text cut at a byte x: F f s reads s with f before it
 

@@ -68,11 +68,16 @@ pub fn find(s: &[u8], b: u8) -> usize
 }
 
 // The line feeds of a text.
-#[tactic(auto, using(crate::proofs::Fields::line_feeds_lem))]
 pub fn line_feeds(s: &[u8]) -> usize
     ensures { result ≡ line_feeds s.now }
 {
-    s.iter().filter(|b| **b == b'\n').count()
+    let mut n = 0;
+    for b in s {
+        if *b == b'\n' {
+            n += 1;
+        }
+    }
+    n
 }
 
 // Whether a text has its 60 lines whole: what follows it changes no answer (law `rest-unread` of simulator).
