@@ -2,7 +2,7 @@
 --     letter_one, letter_other                       the letter of a field
 --     reading-start, -off, -next, -end               the numbers of the fields, one after the other
 --     fields_start, fields_next, fields_end          and of the fields that an iterator gives
---     lines_by, line_chosen                          the line of a letter and its numbers
+--     line_chosen, lines_by                          the line of a letter and its numbers
 --     argument-none, -minus, -plain                  a signed number
 -- Assumes nothing.
 use Prim.Native.Nat.{ℕ, zero, suc, ◌+◌, ◌≤◌, ◌<◌}
@@ -20,8 +20,8 @@ use native.Mathlib.Omega.{arith}
 use native.Mathlib.Numerals.{add-one}
 use lib.Dec.{eqb, leb, ltb}
 use lib.ListN.{length, take, drop, get_or}
-use lib.Seq.{sets}
-use borrow.Author.Tests.{eq-eqb, ne_eqb, eqb-true, lt-leb, ltb-true}
+use lib.Seq.{sets, take_all}
+use borrow.Author.Tests.{eq-eqb, ne_eqb, eqb-true, lt-leb, leb-false, ltb-true}
 use Rattle.model.specs.Choice.{pick}
 use Rattle.model.specs.Tables.{written}
 use Rattle.model.specs.Simulator as simulator
@@ -130,84 +130,85 @@ module _ {S : Type 0} {steps : S → std.Option (Bor (List ℕ)) → S → Type 
 
 -- ---- the line of a letter and the numbers behind it
 
-pub line_by_none : (c : ℕ) (ns : List ℕ) → length ns < 1 → line_by c ns ≡ simulator.unreadable
-unfolding line_by
-line_by_none c [] h = refl
-line_by_none c (a ∷ ns) h = absurd (omega arith)
-
-pub line_by_one : (c : ℕ) (ns : List ℕ) → 1 ≤ length ns → length ns < 2 → line_by c ns ≡ pick (eqb c sync_letter) (simulator.sync (get_or ns 0 0)) simulator.unreadable
-unfolding line_by
-line_by_one c (a ∷ []) h l = refl
-line_by_one c [] h l = absurd (omega arith)
-line_by_one c (a ∷ b ∷ ns) h l = absurd (omega arith)
-
-pub line_by_two : (c : ℕ) (ns : List ℕ) → 2 ≤ length ns → length ns < 3 → line_by c ns ≡ letter_line c (get_or ns 0 0) (get_or ns 1 0)
-unfolding line_by
-line_by_two c (a ∷ b ∷ []) h l = refl
-line_by_two c [] h l = absurd (omega arith)
-line_by_two c (a ∷ []) h l = absurd (omega arith)
-line_by_two c (a ∷ b ∷ d ∷ ns) h l = absurd (omega arith)
-
-pub line_by_three : (c : ℕ) (ns : List ℕ) → 3 ≤ length ns → length ns < 4
-    → line_by c ns ≡ pick (eqb c give_letter) (simulator.give (get_or ns 0 0) (get_or ns 1 0) (get_or ns 2 0)) simulator.unreadable
-unfolding line_by
-line_by_three c (a ∷ b ∷ d ∷ []) h l = refl
-line_by_three c [] h l = absurd (omega arith)
-line_by_three c (a ∷ []) h l = absurd (omega arith)
-line_by_three c (a ∷ b ∷ []) h l = absurd (omega arith)
-line_by_three c (a ∷ b ∷ d ∷ e ∷ ns) h l = absurd (omega arith)
-
-pub line_by_four : (c : ℕ) (ns : List ℕ) → 4 ≤ length ns → length ns < 5
-    → line_by c ns ≡ pick (eqb c issue_letter) (simulator.issue (get_or ns 0 0) (get_or ns 1 0) (get_or ns 2 0) (get_or ns 3 0)) simulator.unreadable
-unfolding line_by
-line_by_four c (a ∷ b ∷ d ∷ e ∷ []) h l = refl
-line_by_four c [] h l = absurd (omega arith)
-line_by_four c (a ∷ []) h l = absurd (omega arith)
-line_by_four c (a ∷ b ∷ []) h l = absurd (omega arith)
-line_by_four c (a ∷ b ∷ d ∷ []) h l = absurd (omega arith)
-line_by_four c (a ∷ b ∷ d ∷ e ∷ g ∷ ns) h l = absurd (omega arith)
-
-pub line_by_more : (c : ℕ) (ns : List ℕ) → 5 ≤ length ns → line_by c ns ≡ simulator.unreadable
-unfolding line_by
-line_by_more c (a ∷ b ∷ d ∷ e ∷ g ∷ ns) h = refl
-line_by_more c [] h = absurd (omega arith)
-line_by_more c (a ∷ []) h = absurd (omega arith)
-line_by_more c (a ∷ b ∷ []) h = absurd (omega arith)
-line_by_more c (a ∷ b ∷ d ∷ []) h = absurd (omega arith)
-line_by_more c (a ∷ b ∷ d ∷ e ∷ []) h = absurd (omega arith)
-
-pub ruleset lines_by = (line_by_none, line_by_one, line_by_two, line_by_three, line_by_four, line_by_more)
-
--- the same as tests one after the other, for four numbers of which the first n are the line's
+-- the tests of the code, one after the other, by the count n of the numbers
 abbrev pub chosen : ℕ → ℕ → List ℕ → simulator.Line
 chosen c n ns =
     pick (eqb n 1 && eqb c sync_letter) (simulator.sync (get_or ns 0 0)) (pick (eqb n 2) (letter_line c (get_or ns 0 0) (get_or ns 1 0))
     (pick (eqb n 3 && eqb c give_letter) (simulator.give (get_or ns 0 0) (get_or ns 1 0) (get_or ns 2 0))
     (pick (eqb n 4 && eqb c issue_letter) (simulator.issue (get_or ns 0 0) (get_or ns 1 0) (get_or ns 2 0) (get_or ns 3 0)) simulator.unreadable)))
 
--- the first n of them, none where there are more
+-- the first n of the numbers, none where they are more than a line has
 abbrev pub counted : ℕ → List ℕ → Option (List ℕ)
 counted n ns = pick (leb n most_numbers) (some (take n ns)) none
 
-line_of_four : (c n a b d e : ℕ) → chosen c n (a ∷ b ∷ d ∷ e ∷ []) ≡ line_with c (counted n (a ∷ b ∷ d ∷ e ∷ []))
+first_ones : (c n : ℕ) (ns : List ℕ) → (n ≤ most_numbers → n ≤ length ns) → chosen c n ns ≡ line_with c (counted n ns)
 unfolding line_with line_by
-line_of_four c zero a b d e = refl
-line_of_four c (suc zero) a b d e = refl
-line_of_four c (suc (suc zero)) a b d e = refl
-line_of_four c (suc (suc (suc zero))) a b d e = refl
-line_of_four c (suc (suc (suc (suc zero)))) a b d e = refl
-line_of_four c (suc (suc (suc (suc (suc n))))) a b d e =
+first_ones c zero ns h = refl
+first_ones c (suc zero) (a ∷ ns) h = refl
+first_ones c (suc zero) [] h = absurd (omega (arith, h (omega arith)))
+first_ones c (suc (suc zero)) (a ∷ b ∷ ns) h = refl
+first_ones c (suc (suc zero)) [] h = absurd (omega (arith, h (omega arith)))
+first_ones c (suc (suc zero)) (a ∷ []) h = absurd (omega (arith, h (omega arith)))
+first_ones c (suc (suc (suc zero))) (a ∷ b ∷ d ∷ ns) h = refl
+first_ones c (suc (suc (suc zero))) [] h = absurd (omega (arith, h (omega arith)))
+first_ones c (suc (suc (suc zero))) (a ∷ []) h = absurd (omega (arith, h (omega arith)))
+first_ones c (suc (suc (suc zero))) (a ∷ b ∷ []) h = absurd (omega (arith, h (omega arith)))
+first_ones c (suc (suc (suc (suc zero)))) (a ∷ b ∷ d ∷ e ∷ ns) h = refl
+first_ones c (suc (suc (suc (suc zero)))) [] h = absurd (omega (arith, h (omega arith)))
+first_ones c (suc (suc (suc (suc zero)))) (a ∷ []) h = absurd (omega (arith, h (omega arith)))
+first_ones c (suc (suc (suc (suc zero)))) (a ∷ b ∷ []) h = absurd (omega (arith, h (omega arith)))
+first_ones c (suc (suc (suc (suc zero)))) (a ∷ b ∷ d ∷ []) h = absurd (omega (arith, h (omega arith)))
+first_ones c (suc (suc (suc (suc (suc n))))) ns h =
     let m : ℕ = suc (suc (suc (suc (suc n)))) in
     let other : (k : ℕ) → k ≤ most_numbers → eqb m k ≡ false = λ k h. ne_eqb m k (λ g. omega arith) in
     rw (lt-leb m most_numbers (omega arith), other 1 (omega arith), other 2 (omega arith), other 3 (omega arith), other 4 (omega arith)) refl
 
-pub line_chosen : (c n : ℕ) (ns : List ℕ) {l : simulator.Line} → length ns ≡ most_numbers → l ≡ chosen c n ns → l ≡ line_with c (counted n ns)
-line_chosen c n (a ∷ b ∷ d ∷ e ∷ []) h p = p ∙ line_of_four c n a b d e
-line_chosen c n [] h p = absurd (omega arith)
-line_chosen c n (a ∷ []) h p = absurd (omega arith)
-line_chosen c n (a ∷ b ∷ []) h p = absurd (omega arith)
-line_chosen c n (a ∷ b ∷ d ∷ []) h p = absurd (omega arith)
-line_chosen c n (a ∷ b ∷ d ∷ e ∷ g ∷ ns) h p = absurd (omega arith)
+-- the line of the first n numbers
+pub line_chosen : (c n : ℕ) (ns : List ℕ) {l : simulator.Line} → (n ≤ most_numbers → n ≤ length ns) → l ≡ chosen c n ns → l ≡ line_with c (counted n ns)
+line_chosen c n ns h p = p ∙ first_ones c n ns h
+
+too_many : (c : ℕ) (ns : List ℕ) → most_numbers < length ns → line_by c ns ≡ simulator.unreadable
+unfolding line_by
+too_many c (a ∷ b ∷ d ∷ e ∷ g ∷ ns) h = refl
+too_many c [] h = absurd (omega arith)
+too_many c (a ∷ []) h = absurd (omega arith)
+too_many c (a ∷ b ∷ []) h = absurd (omega arith)
+too_many c (a ∷ b ∷ d ∷ []) h = absurd (omega arith)
+too_many c (a ∷ b ∷ d ∷ e ∷ []) h = absurd (omega arith)
+
+-- and of all, by how many they are
+module _ (c : ℕ) (ns : List ℕ) where
+  chosen_all : chosen c (length ns) ns ≡ line_by c ns
+  unfolding line_with
+  chosen_all = line_chosen c (length ns) ns (λ h. omega arith) refl ∙ go (leb (length ns) most_numbers) refl
+    where
+      go : (t : Bool) → leb (length ns) most_numbers ≡ t → line_with c (pick t (some (take (length ns) ns)) none) ≡ line_by c ns
+      go true e = rw (take_all (length ns) ns (omega arith)) refl
+      go false e = sym (too_many c ns (leb-false (length ns) most_numbers e))
+
+  counts : (n : ℕ) → length ns ≡ n → line_by c ns ≡ chosen c n ns
+  counts n e = sym chosen_all ∙ rw e refl
+
+  pub line_by_none : length ns < 1 → line_by c ns ≡ simulator.unreadable
+  line_by_none h = counts 0 (omega arith)
+
+  pub line_by_one : 1 ≤ length ns → length ns < 2 → line_by c ns ≡ pick (eqb c sync_letter) (simulator.sync (get_or ns 0 0)) simulator.unreadable
+  line_by_one h l = counts 1 (omega arith)
+
+  pub line_by_two : 2 ≤ length ns → length ns < 3 → line_by c ns ≡ letter_line c (get_or ns 0 0) (get_or ns 1 0)
+  line_by_two h l = counts 2 (omega arith)
+
+  pub line_by_three : 3 ≤ length ns → length ns < 4 → line_by c ns ≡ pick (eqb c give_letter) (simulator.give (get_or ns 0 0) (get_or ns 1 0) (get_or ns 2 0)) simulator.unreadable
+  line_by_three h l = counts 3 (omega arith)
+
+  pub line_by_four : 4 ≤ length ns → length ns < 5
+      → line_by c ns ≡ pick (eqb c issue_letter) (simulator.issue (get_or ns 0 0) (get_or ns 1 0) (get_or ns 2 0) (get_or ns 3 0)) simulator.unreadable
+  line_by_four h l = counts 4 (omega arith)
+
+  pub line_by_more : 5 ≤ length ns → line_by c ns ≡ simulator.unreadable
+  line_by_more h = too_many c ns (omega arith)
+
+pub ruleset lines_by = (line_by_none, line_by_one, line_by_two, line_by_three, line_by_four, line_by_more)
 
 -- ---- a signed number
 
