@@ -24,6 +24,7 @@ use Rattle.model.specs.declared.Refusal.TheVariants.{Malformed, WindowFull, NotS
 use Rattle.model.specs.Clients.{first_open, issue_of}
 use Rattle.chamber_claim.specs.declared.LockPoints.{LockPoints}
 use Rattle.chamber_claim.specs.declared.Chamber.{Chamber}
+use Rattle.model.specs.declared.Refusal.{Refusal}
 use Rattle.chamber_claim.specs.declared.ChamberSend.{ChamberSend}
 use Rattle.chamber.specs.Roles.{role_of}
 use Rattle.chamber_claim.specs.Chamber.{role_count, lower_gate, lower_level, point_list, role_in, op_ok, is_opening, may_open, not_sent_in, sent_in, issue_in}
@@ -91,12 +92,12 @@ op-none : (i op : ℕ) → role_count ≤ i → op_ok i op ≡ false
 unfolding op_ok
 op-none i op h = rw (lt-leb i lower_gate (omega arith), lt-leb i lower_level (omega arith)) refl
 
-pub issue-none : (ch : Chamber) (op point a : ℕ) → None ≡ role_of ch.points point → {r : ChamberSend} → r ≡ not_sent_in ch Malformed → r ≡ issue_in ch op point a
+pub issue-none : (ch : Chamber) (op point a : ℕ) → None ≡ role_of ch.points point → {r : ChamberSend Refusal} → r ≡ not_sent_in ch Malformed → r ≡ issue_in ch op point a
 unfolding issue_in
 issue-none ch op point a none e =
     rw (op-none (role_in ch.points point) op (role-none ch.points point none), and-false (command_ok op point a)) e
 
-module _ (ch : Chamber) (op point a : ℕ) {i : ℕ} (role : i ≡ role_in ch.points point) {u v : Bool} (ok : u ≡ command_ok op point a) (fits : v ≡ op_ok i op) {r : ChamberSend} where
+module _ (ch : Chamber) (op point a : ℕ) {i : ℕ} (role : i ≡ role_in ch.points point) {u v : Bool} (ok : u ≡ command_ok op point a) (fits : v ≡ op_ok i op) {r : ChamberSend Refusal} where
   pub issue_bad : not (u && v) ≡ true → r ≡ not_sent_in ch Malformed → r ≡ issue_in ch op point a
   unfolding issue_in
   issue_bad bad e = rw (← role, ← ok, ← fits, bad) e

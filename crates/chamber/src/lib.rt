@@ -209,7 +209,7 @@ fn no_chamber() -> Chamber
     new_chamber(points, no_client())
 }
 
-pub fn not_started(refusal: Refusal) -> ChamberStart
+pub fn not_started<E>(refusal: E) -> ChamberStart<E>
     ensures { result ≡ not_started_in refusal }
 {
     ChamberStart {
@@ -218,7 +218,7 @@ pub fn not_started(refusal: Refusal) -> ChamberStart
     }
 }
 
-fn started_in(points: LockPoints, start: StartAnswer) -> ChamberStart
+fn started_in(points: LockPoints, start: StartAnswer) -> ChamberStart<Refusal>
     ensures { result ≡ started_in points start }
 {
     match start.answer {
@@ -231,7 +231,7 @@ fn started_in(points: LockPoints, start: StartAnswer) -> ChamberStart
 }
 
 // Start: 1 points over 63 or not all different, or not a grant.
-pub fn start(packet: &[u8], points: LockPoints) -> ChamberStart
+pub fn start(packet: &[u8], points: LockPoints) -> ChamberStart<Refusal>
     ensures { result ≡ start_in packet.now points }
 {
     if points_ok(points) {
@@ -242,7 +242,7 @@ pub fn start(packet: &[u8], points: LockPoints) -> ChamberStart
 
 // ---- issue
 
-pub fn not_sent(ch: Chamber, refusal: Refusal) -> ChamberSend
+pub fn not_sent<E>(ch: Chamber, refusal: E) -> ChamberSend<E>
     ensures { result ≡ not_sent_in ch refusal }
 {
     ChamberSend {
@@ -264,7 +264,7 @@ fn moved_by(ch: Chamber, op: u8, answer: Result<Request, Refusal>) -> u32
     q.command.call
 }
 
-fn sent_in(ch: Chamber, op: u8, send: SendAnswer) -> ChamberSend
+fn sent_in(ch: Chamber, op: u8, send: SendAnswer) -> ChamberSend<Refusal>
     ensures { result ≡ sent_in ch op send }
 {
     ChamberSend {
@@ -279,7 +279,7 @@ fn sent_in(ch: Chamber, op: u8, send: SendAnswer) -> ChamberSend
 
 // Issue: 1 no such command, or another op or point; 15 a command is open; 20 an opening whose conditions fail; 16 the
 // last number is used.
-pub fn issue(ch: Chamber, op: u8, point: u8, argument: u32) -> ChamberSend
+pub fn issue(ch: Chamber, op: u8, point: u8, argument: u32) -> ChamberSend<Refusal>
     ensures { result ≡ issue_in ch op point argument }
 {
     let Some(i) = role_of(ch.points, point) else {
@@ -302,7 +302,7 @@ pub fn issue(ch: Chamber, op: u8, point: u8, argument: u32) -> ChamberSend
 // ---- resend
 
 // Resend: 17 call not open. Nothing changes.
-pub fn resend(ch: Chamber, call: u32) -> ChamberSend
+pub fn resend(ch: Chamber, call: u32) -> ChamberSend<Refusal>
     ensures { result ≡ resend_in ch call }
 {
     let sent = client::resend(ch.client, call);

@@ -47,7 +47,7 @@ fn start_number(answer: Result<(), Refusal>) -> u32
     }
 }
 
-fn start_reply(started: ChamberStart) -> ChamberStartReply
+fn start_reply(started: ChamberStart<Refusal>) -> ChamberStartReply
     ensures { result ≡ start_reply_in started }
 {
     ChamberStartReply {
@@ -56,12 +56,12 @@ fn start_reply(started: ChamberStart) -> ChamberStartReply
     }
 }
 
-fn send_reply(sent: ChamberSend) -> ChamberSendReply
+fn send_reply(sent: ChamberSend<Refusal>) -> ChamberSendReply
     ensures { result ≡ send_reply_in sent }
 {
     ChamberSendReply {
         chamber: sent.chamber,
-        reply: client_c::send_reply(sent.answer),
+        reply: client_c::send_reply(client_c::numbered(sent.answer)),
     }
 }
 
@@ -70,7 +70,7 @@ fn receive_reply(received: ChamberReceive) -> ChamberReceiveReply
 {
     ChamberReceiveReply {
         chamber: received.chamber,
-        reply: client_c::receive_reply(received.answer),
+        reply: client_c::receive_reply(client_c::numbered(received.answer)),
     }
 }
 

@@ -15,6 +15,7 @@ use Rattle.model.specs.Packets.{grant_bytes, result_bytes}
 use Rattle.model.specs.Clients.{no_call, start_number, send_number}
 use Rattle.chamber_claim.specs.declared.LockPoints.{LockPoints}
 use Rattle.chamber_claim.specs.declared.Chamber.{Chamber}
+use Rattle.model.specs.declared.Refusal.{Refusal}
 use Rattle.chamber_claim.specs.declared.ChamberSend.{ChamberSend}
 use Rattle.chamber_claim.specs.Chamber.{start_in, issue_in, receive_in}
 use Rattle.chamber_claim.proofs.Opened.{open_chamber}
@@ -28,7 +29,7 @@ pub data Step : Type 0 where
   leaves : ℕ → ℕ → ℕ → Step
 
 -- the result of a command that was sent arrives
-unfoldable pub hears : ChamberSend → ℕ → ℕ → Chamber
+unfoldable pub hears : ChamberSend Refusal → ℕ → ℕ → Chamber
 hears s value quality = elim s.answer [
   | Err n ↦ s.chamber
   | Ok q ↦ (receive_in s.chamber

@@ -156,7 +156,7 @@ unless_not true m e h = not-false m e
 unless_not false m e h = impossible cc
 
 module _ (ch : Chamber) (op p a : ℕ) where
-  data IssueInCase : ChamberSend → Type 0 where
+  data IssueInCase : ChamberSend Refusal → Type 0 where
     refused : (r : Refusal) → IssueInCase (not_sent_in ch r)
     issued : op_ok (role_in ch.points p) op ≡ true → ch.client.next ≤ first_open ch.client → (is_opening op a ≡ true → may_open ch (role_in ch.points p) ≡ true)
         → IssueInCase (sent_in ch op (issue_of ch.client op p a))
@@ -173,20 +173,20 @@ module _ (ch : Chamber) (op p a : ℕ) where
   unfolding not_sent_in sent_in moved_by
   passed q e = go issue_in_case refl
     where
-      go : {z : ChamberSend} → IssueInCase z → z ≡ issue_in ch op p a → Passed ch op p a q
-      go (refused r) f = let k : Err r ≡ Ok q = ap (λ (z : ChamberSend). z.answer) f ∙ e in impossible cc
+      go : {z : ChamberSend Refusal} → IssueInCase z → z ≡ issue_in ch op p a → Passed ch op p a q
+      go (refused r) f = let k : Err r ≡ Ok q = ap (λ (z : ChamberSend Refusal). z.answer) f ∙ e in impossible cc
       go (issued o l y) f =
-          let k : (issue_of ch.client op p a).answer ≡ Ok q = ap (λ (z : ChamberSend). z.answer) f ∙ e in
+          let k : (issue_of ch.client op p a).answer ≡ Ok q = ap (λ (z : ChamberSend Refusal). z.answer) f ∙ e in
           let s = (issue-asked ch.client op p a q k).after in
           let i = issue-command ch.client op p a q k in
-          record { op-is = gate_op _ op o; free = l; safe = y; as_client = k; leaves = ap (λ (z : ChamberSend). z.chamber) (sym f) ∙ rw (k, s, i) refl }
+          record { op-is = gate_op _ op o; free = l; safe = y; as_client = k; leaves = ap (λ (z : ChamberSend Refusal). z.chamber) (sym f) ∙ rw (k, s, i) refl }
 
   -- a refusal leaves the controller
   pub refused-same : (r : Refusal) → (issue_in ch op p a).answer ≡ Err r → (issue_in ch op p a).chamber ≡ ch
   unfolding not_sent_in sent_in moved_by
   refused-same r = go issue_in_case
     where
-      go : {z : ChamberSend} → IssueInCase z → z.answer ≡ Err r → z.chamber ≡ ch
+      go : {z : ChamberSend Refusal} → IssueInCase z → z.answer ≡ Err r → z.chamber ≡ ch
       go (refused m) e = refl
       go (issued o l y) e = rw (e, issue-refused ch.client op p a r e) refl
 

@@ -133,18 +133,18 @@ new_chamber s d = record { client = d; points = s; moved = 0; reads = replicate 
 unfoldable pub no_chamber : Chamber
 no_chamber = new_chamber no_points no_client
 
-unfoldable pub not_started_in : Refusal → ChamberStart
+unfoldable pub not_started_in : {E : Type 0} → E → ChamberStart E
 not_started_in e = record { chamber = no_chamber; answer = Err e }
 
-unfoldable pub started_in : LockPoints → StartAnswer → ChamberStart
+unfoldable pub started_in : LockPoints → StartAnswer → ChamberStart Refusal
 started_in s a = elim a.answer [ Err e ↦ not_started_in e | Ok tt ↦ record { chamber = new_chamber s a.client; answer = Ok tt } ]
 
-unfoldable pub start_in : List ℕ → LockPoints → ChamberStart
+unfoldable pub start_in : List ℕ → LockPoints → ChamberStart Refusal
 start_in packet s = pick (points_ok s) (started_in s (start_of packet)) (not_started_in Malformed)
 
 -- ---- Issue: 1 no such command, or another op or point; 15 a command is open; 20 an opening whose conditions fail; 16 as the client
 
-unfoldable pub not_sent_in : Chamber → Refusal → ChamberSend
+unfoldable pub not_sent_in : {E : Type 0} → Chamber → E → ChamberSend E
 not_sent_in ch e = record { chamber = ch; answer = Err e }
 
 -- a set or part that is issued is the last one
@@ -152,14 +152,14 @@ unfoldable pub moved_by : Chamber → ℕ → Result Request Refusal → ℕ
 moved_by ch op (Err e) = ch.moved
 moved_by ch op (Ok q) = pick (eqb op read_op) ch.moved q.command.call
 
-unfoldable pub sent_in : Chamber → ℕ → SendAnswer → ChamberSend
+unfoldable pub sent_in : Chamber → ℕ → SendAnswer → ChamberSend Refusal
 sent_in ch op s =
     record {
       chamber = record { client = s.client; points = ch.points; moved = moved_by ch op s.answer; reads = ch.reads };
       answer = s.answer;
     }
 
-unfoldable pub issue_in : Chamber → ℕ → ℕ → ℕ → ChamberSend
+unfoldable pub issue_in : Chamber → ℕ → ℕ → ℕ → ChamberSend Refusal
 issue_in ch op point a =
     let i = role_in ch.points point in
     pick (not (command_ok op point a && op_ok i op)) (not_sent_in ch Malformed)
@@ -169,7 +169,7 @@ issue_in ch op point a =
 
 -- ---- Resend: as the client
 
-unfoldable pub resend_in : Chamber → ℕ → ChamberSend
+unfoldable pub resend_in : Chamber → ℕ → ChamberSend Refusal
 resend_in ch c =
     let s = resend_of ch.client c in
     record {

@@ -63,7 +63,7 @@ lock_event s w l (hear x n) = outside (if_there (l.controllers x) (receive x n))
 
 -- ---- the controllers after a call
 
-unfoldable pub starts_as : ChamberStart → Lock → Lock
+unfoldable pub starts_as : ChamberStart Refusal → Lock → Lock
 starts_as a l =
     elim a.answer [
       | Err e ↦ l

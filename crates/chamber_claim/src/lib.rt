@@ -37,16 +37,18 @@ pub struct Chamber {
     pub reads: [LatestRead; LOCK_POINTS],
 }
 
+// E: what refuses, a `Refusal` or any other value.
 #[derive(Clone, Copy)]
-pub struct ChamberStart {
+pub struct ChamberStart<E> {
     pub chamber: Chamber,
-    pub answer: Result<(), Refusal>,
+    pub answer: Result<(), E>,
 }
 
+// E: as above.
 #[derive(Clone, Copy)]
-pub struct ChamberSend {
+pub struct ChamberSend<E> {
     pub chamber: Chamber,
-    pub answer: Result<Request, Refusal>,
+    pub answer: Result<Request, E>,
 }
 
 #[derive(Clone, Copy)]

@@ -18,6 +18,7 @@ use Rattle.claim.specs.Fence.{synced_state}
 use Rattle.claim.specs.Above.{Site}
 use Rattle.chamber_claim.specs.declared.LockPoints.{LockPoints}
 use Rattle.chamber_claim.specs.declared.Chamber.{Chamber}
+use Rattle.model.specs.declared.Refusal.{Refusal}
 use Rattle.chamber_claim.specs.declared.ChamberStart.{ChamberStart}
 use Rattle.chamber_claim.specs.Chamber.{start_in}
 use Rattle.chamber_claim.specs.Lock.{LockEvent, kernel, begin, command, again, hear, Lock, lock_event, lock_after, lock_product}
@@ -93,7 +94,7 @@ pub data Look : Type 0 where
   starting : ℕ → Look  -- the controller of this client starts
   executing : Command → Look  -- this command is executed
 
-unfoldable pub started_as : ℕ → ChamberStart → Bool
+unfoldable pub started_as : ℕ → ChamberStart Refusal → Bool
 started_as x a = elim a.answer [ Err e ↦ false | Ok tt ↦ eqb a.chamber.client.client x ]
 
 unfoldable pub starts_in : LockPoints → ℕ → Maybe (List ℕ) → Bool

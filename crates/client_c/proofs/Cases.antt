@@ -12,7 +12,7 @@ use native.Mathlib.Omega.{arith}
 use lib.Dec.{ltb}
 use borrow.Author.Tests.{ltb-false}
 use lib.ListN.{set, replicate}
-use Rattle.std.proofs.Common.{Ok, Err}
+use Rattle.std.proofs.Common.{Result, Ok, Err}
 use Rattle.model.specs.declared.Request.{Request}
 use Rattle.model.specs.declared.Grant.{Grant}
 use Rattle.model.specs.declared.Notice.{Notice}
@@ -24,7 +24,9 @@ use Rattle.model.specs.declared.LeaseAnswer.{LeaseAnswer}
 use Rattle.model.specs.declared.Told.TheVariants.{ByGrant, ByNotice}
 use Rattle.model.specs.Limits.{notice_kind, grant_kind, request_size, grant_size, notice_size}
 use Rattle.model.specs.Packets.{request_bytes, grant_bytes, notice_bytes}
-use Rattle.model.specs.Clients.{place_of, with_calls, not_sent, send_number, sent_bytes, issue_of}
+use Rattle.model.specs.declared.Received.{Received}
+use Rattle.model.specs.Numbers.{flip}
+use Rattle.model.specs.Clients.{place_of, with_calls, not_sent, send_number, receive_number, brought, sent_bytes, issue_of}
 use Rattle.model.specs.Leases.{told_number, told_bytes}
 use Rattle.model.specs.declared.Refusal.{Refusal}
 use Rattle.model.specs.declared.Refusal.TheVariants.{Malformed}
@@ -38,18 +40,29 @@ use Rattle.client.specs.Changes.{issued, received}
 use Rattle.client_c.specs.declared.SendReply.{SendReply}
 use Rattle.client_c.specs.declared.ReceiveReply.{ReceiveReply}
 use Rattle.client_c.specs.declared.LeaseReply.{LeaseReply}
-use Rattle.client_c.specs.Replies.{filled, sent_call, send_reply, receive_reply, told_kind, lease_reply}
+use Rattle.client_c.specs.Replies.{filled, numbered, sent_call, send_reply, send_reply_by, receive_reply, receive_reply_by, told_kind, lease_reply}
 
 -- ---- issue and resend
 
-pub reply-none : (e : Refusal) {n : ℕ} → n ≡ number_of e → record { number = n; call = 0; length = 0; packet = replicate request_size 0 } ≡ send_reply (Err e)
-unfolding send_reply sent_call send_number sent_bytes filled
-reply-none e is = rw is refl
+pub reply-none : {n m : ℕ} → n ≡ m → record { number = n; call = 0; length = 0; packet = replicate request_size 0 } ≡ send_reply_by (Err m)
+unfolding send_reply_by filled
+reply-none is = rw is refl
 
 pub reply-request : (q : Request) {p : List ℕ} → p ≡ request_bytes q
-    → record { number = no_refusal; call = q.command.call; length = request_size; packet = p } ≡ send_reply (Ok q)
-unfolding send_reply sent_call send_number sent_bytes filled request_bytes
+    → record { number = no_refusal; call = q.command.call; length = request_size; packet = p } ≡ send_reply_by (Ok q)
+unfolding send_reply_by send_reply sent_call send_number sent_bytes filled request_bytes
 reply-request q e = rw e refl
+
+-- by a refusal or by its number
+pub sent_numbered : (a : Result Request Refusal) {o : Result Request ℕ} {s : SendReply} → o ≡ numbered a → s ≡ send_reply_by o → s ≡ send_reply a
+unfolding send_reply_by send_reply sent_call send_number sent_bytes
+sent_numbered (Ok q) p e = rw p at e
+sent_numbered (Err x) p e = rw p at e
+
+pub received_numbered : (a : Result Received Refusal) {o : Result Received ℕ} {r : ReceiveReply} → o ≡ numbered a → r ≡ receive_reply_by o → r ≡ receive_reply a
+unfolding receive_reply_by receive_reply receive_number brought flip
+received_numbered (Ok q) p e = rw p at e
+received_numbered (Err x) p e = rw p at e
 
 -- ---- the lease manager
 

@@ -1,6 +1,6 @@
 -- What the host program in C is given for each answer: the refusal's number, and the values or the packet of its case.
 -- Assumes nothing.
-use Rattle.std.specs.Prelude.{ℕ, ◌-◌, ◌<◌, ◌≡◌, List, ◌++◌, length, replicate, Result, Ok, Err}
+use Rattle.std.specs.Prelude.{ℕ, ◌-◌, ◌<◌, ◌≡◌, List, [], ◌++◌, length, replicate, Result, Ok, Err}
 use Rattle.model.specs.declared.Request.{Request}
 use Rattle.model.specs.declared.Refusal.{Refusal}
 use Rattle.model.specs.declared.Told.{Told}
@@ -8,6 +8,7 @@ use Rattle.model.specs.declared.Told.TheVariants.{ByGrant, ByNotice}
 use Rattle.model.specs.declared.Received.{Received}
 use Rattle.model.specs.declared.StartAnswer.{StartAnswer}
 use Rattle.model.specs.Numbers.{flip}
+use Rattle.model.specs.Refusals.{number_of}
 use Rattle.model.specs.Limits.{call_window, request_size, grant_size, grant_kind, notice_kind}
 use Rattle.model.specs.Clients.{place_of, start_number, send_number, sent_bytes, receive_number, brought}
 use Rattle.model.specs.Leases.{told_number, told_bytes}
@@ -32,6 +33,16 @@ sent_call (Ok q) = q.command.call
 unfoldable pub send_reply : Result Request Refusal → SendReply
 send_reply a = record { number = send_number a; call = sent_call a; length = length (sent_bytes a); packet = filled request_size (sent_bytes a) }
 
+-- an answer by its refusal's number
+abbrev pub numbered : {A : Type 0} → Result A Refusal → Result A ℕ
+numbered (Ok x) = Ok x
+numbered (Err e) = Err (number_of e)
+
+-- the same reply by a number, any number
+unfoldable pub send_reply_by : Result Request ℕ → SendReply
+send_reply_by (Err n) = record { number = n; call = 0; length = 0; packet = filled request_size [] }
+send_reply_by (Ok q) = send_reply (Ok q)
+
 -- what it brings, a value in two's complement
 unfoldable pub receive_reply : Result Received Refusal → ReceiveReply
 receive_reply a =
@@ -48,6 +59,10 @@ receive_reply a =
       refusal = b.refusal;
       time = b.result.time;
     }
+
+unfoldable pub receive_reply_by : Result Received ℕ → ReceiveReply
+receive_reply_by (Err n) = record { number = n; kind = 0; call = 0; value = 0; lease = 0; point = 0; outcome = 0; quality = 0; refusal = 0; time = 0 }
+receive_reply_by (Ok r) = receive_reply (Ok r)
 
 -- i is the place of a packet's call
 abbrev pub Placed : List ℕ → ℕ → Type 0

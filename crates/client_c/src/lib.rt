@@ -9,7 +9,7 @@ ghost use Rattle.model.specs.Clients.{no_call, call_at, start_of, issue_of, rese
 ghost use Rattle.model.specs.Leases.{new_manager, open_of, renew_of, query_of};
 ghost use Rattle.client.specs.Changes.{issued};
 ghost use Rattle.leases.specs.Changes.{answered};
-ghost use Rattle.client_c.specs.Replies.{start_reply, send_reply, receive_reply, Placed, lease_reply};
+ghost use Rattle.client_c.specs.Replies.{start_reply, numbered, send_reply, send_reply_by, receive_reply, receive_reply_by, Placed, lease_reply};
 
 use client::SendChange;
 use leases::LeaseChange;
@@ -64,12 +64,19 @@ pub struct LeaseReply {
 
 // ---- replies, by value
 
-pub fn send_reply(answer: Result<Request, Refusal>) -> SendReply
-    ensures { result ≡ send_reply answer }
+// An answer with its refusal's number in the refusal's place, as C is told it.
+pub fn numbered<A>(answer: Result<A, Refusal>) -> Result<A, u32>
+    ensures { result ≡ numbered answer }
+{
+    answer.map_err(|refusal| refusal.number())
+}
+
+pub fn send_reply(answer: Result<Request, u32>) -> SendReply
+    ensures { result ≡ send_reply_by answer }
 {
     match answer {
-        Err(refusal) => SendReply {
-            number: refusal.number(),
+        Err(number) => SendReply {
+            number,
             call: 0,
             length: 0,
             packet: [0u8; constants::REQUEST_SIZE],
@@ -83,15 +90,12 @@ pub fn send_reply(answer: Result<Request, Refusal>) -> SendReply
     }
 }
 
-pub fn receive_reply(answer: Result<Received, Refusal>) -> ReceiveReply
-    ensures { result ≡ receive_reply answer }
+pub fn receive_reply(answer: Result<Received, u32>) -> ReceiveReply
+    ensures { result ≡ receive_reply_by answer }
 {
     let none = ReceiveReply::default();
     match answer {
-        Err(refusal) => ReceiveReply {
-            number: refusal.number(),
-            ..none
-        },
+        Err(number) => ReceiveReply { number, ..none },
         Ok(Received::Completed(packet)) => ReceiveReply {
             kind: constants::RESULT_KIND_U32,
             call: packet.call,
@@ -213,7 +217,7 @@ pub extern "C" fn mantelorris_issue(d: &mut Client, op: u32, point: u32, argumen
     let change = issue_change(*d, d.calls[i], op, point, argument);
     d.next = change.next;
     d.calls[i] = change.call;
-    send_reply(change.answer)
+    send_reply(numbered(change.answer))
 }
 
 #[unsafe(no_mangle)]
@@ -222,7 +226,7 @@ pub extern "C" fn mantelorris_resend(d: &mut Client, call: u32) -> SendReply
         × (d.new ≡ (resend_of d.old call).client) }
 {
     let i = client::place_of(call);
-    send_reply(client::resend_answer(*d, d.calls[i], call))
+    send_reply(numbered(client::resend_answer(*d, d.calls[i], call)))
 }
 
 #[unsafe(no_mangle)]
@@ -234,7 +238,7 @@ pub extern "C" fn mantelorris_receive(d: &mut Client, packet: &[u8]) -> ReceiveR
     let change = client::receive_change(*d, d.calls[i], packet);
     d.lease = change.lease;
     d.calls[i] = change.call;
-    receive_reply(change.answer)
+    receive_reply(numbered(change.answer))
 }
 
 // ---- for C: the lease manager. It is made once and lent; what changes is stored.

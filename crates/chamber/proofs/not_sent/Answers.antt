@@ -5,4 +5,4 @@ use Rattle.chamber.proofs.not_sent.Goals as goal
 
 pub returns : goal.returns
 unfolding not_sent_in
-returns c = refl
+returns g c = refl

@@ -4,4 +4,4 @@ use Rattle.chamber.proofs.not_started.Goals as goal
 
 pub returns : goal.returns
 unfolding not_started_in
-returns c = cc
+returns g c = cc
